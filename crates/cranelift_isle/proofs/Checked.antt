@@ -1,9 +1,9 @@
 -- Built sets, their errors and what is found in them.
-use Rattle.std.proofs.Common.{◌≡◌, ℕ, Bool, List, [], ◌++◌, slice_get, Some, None, sym, ap, subst, ◌∙◌}
+use Rattle.std.proofs.Common.{◌≡◌, ℕ, Bool, List, [], ◌++◌, map, slice_get, Some, None, sym, ap, subst, ◌∙◌}
 use Rattle.std.proofs.lemmas.List.{map-append}
 use Rattle.isle_model.specs.rules.Program.{Program, kind_of, flags_of, unknown, is_multi}
 use Rattle.isle_model.specs.lists.Tables.{TermEntry}
-use Rattle.isle_model.specs.sites.Overlap.{RuleReport}
+use Rattle.isle_model.specs.sites.Overlap.{RuleReport, check_reports}
 use Rattle.isle_model.specs.sites.SetRules.{reports_of_sets}
 use Rattle.isle_model.specs.claims.Layers.{CheckAnswers}
 use Rattle.isle_model.specs.claims.Refusals.{refusal_of}
@@ -41,14 +41,18 @@ module _ (env : TermEnv) (p : Program) (sets : List (TermId × RuleSet)) (errors
       (built_sets_are_checked_lem p (term_set_views sets) reports built.known built.answers).0
       (nothing_mapped refusal_of (all_reports p (term_set_views sets) reports) (sym views ∙ ap error_views e))
 
+  exactly : error_views all ≡ map refusal_of (check_reports p)
+  exactly =
+      let later = built_sets_are_reported_lem p (term_set_views sets) built.answers.given.terms built.answers.given.built in
+      views ∙ (λ k. report_views (built.answers.reported k ++ later k))
+
   pub something_found : (all ≡ [] → ⊥) → ReportsAreErrors p all
   something_found n = record {
     reports = all_reports p (term_set_views sets) reports;
     are = views;
     reported = (built_sets_are_checked_lem p (term_set_views sets) reports built.known built.answers).1 (λ e. n (nothing_mapped error_view all (views ∙ ap report_views e)));
+    exact = exactly;
   }
 
   pub found_names_rules : NamesRules p (error_views all)
-  found_names_rules =
-      let later = built_sets_are_reported_lem p (term_set_views sets) built.answers.given.terms built.answers.given.built in
-      subst (NamesRules p) (sym (views ∙ (λ k. report_views (built.answers.reported k ++ later k)))) (reports_name_rules p)
+  found_names_rules = subst (NamesRules p) (sym exactly) (reports_name_rules p)

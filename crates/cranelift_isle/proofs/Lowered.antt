@@ -1,5 +1,5 @@
 -- The trees of checked sets, and the errors that there are in place of them, as answers to definitions.
-use Rattle.std.proofs.Common.{◌≡◌, Bool, List, [], ◌∷◌, map, Some, Ok, Err, refl, sym, ap, ◌∙◌, subst}
+use Rattle.std.proofs.Common.{◌≡◌, Bool, List, [], ◌∷◌, map, Some, option_map, Ok, Err, refl, sym, ap, ◌∙◌, subst}
 use Rattle.std.specs.Prelude.{All, Result, slice_index_or}
 use Rattle.std.specs.Global.{Vec}
 use Rattle.std.proofs.lemmas.List.Elements.{All-nil, All-cons, All-head, All-tail}
@@ -10,16 +10,21 @@ use Rattle.isle_base.specs.declared.syntax.Fault.{Fault}
 use Rattle.isle_base.specs.declared.syntax.Fault.TheVariants.{Memory, Errors}
 use Rattle.isle_model.specs.lists.Syntax.{Definition}
 use Rattle.isle_model.specs.lists.TypeTable.{IsValidTypes}
-use Rattle.isle_model.specs.lists.Elaborated.{TypedRules}
+use Rattle.isle_model.specs.lists.Elaborated.{TypedRules, named}
 use Rattle.isle_model.specs.rules.Program.{Program}
 use Rattle.isle_model.specs.sites.RuleSets.{IsBuilt}
-use Rattle.isle_model.specs.claims.Environments.{TypesRead, types_read, IsElaborated, IsRead, TypeEnvironment, AreRulesOf, program_of}
+use Rattle.isle_model.specs.claims.Environments.{TypesRead, types_read, setting_of, IsElaborated, IsRead, TypeEnvironment, AreRulesOf, program_of}
 use Rattle.isle_model.specs.claims.Layers.{own_program, IsAccepted, IsBuiltForSome, CheckAnswers, LoweredTerm, AreLowered, LoweringAnswers, RefusedBy, by_check, BestTreesKeepTheHeadline}
-use Rattle.isle_model.specs.claims.Refusals.{refusal_of, NamesOnlyPassed, PassedInReading, PassedInBuilding}
+use Rattle.isle_model.specs.claims.Refusals.{Refusal, refusal_of, NamesOnlyPassed, PassedInReading, PassedInBuilding, RefusesTypes, RefusesRules}
+use Rattle.isle_model.proofs.Elements.{none_some}
 use Rattle.isle_model.proofs.Mapped.{nothing_mapped}
 use Rattle.isle_laws_trees.specs.NoLimits.{PassedInLowering, in_reading, in_building}
 use Rattle.isle_laws_trees.specs.OneTree.{IsOnlyBest, LoweredTreesAreOnlyBest}
-use Rattle.isle_laws_trees.specs.WholeDemands.{AcceptedDemandsAreWhole}
+use Rattle.isle_laws_trees.specs.OneAnswer.{AreCheckErrors}
+use Rattle.isle_laws_trees.specs.WholeDemands.{AcceptedDemandsAreWhole, AcceptedSetsAreWhole}
+use Rattle.isle_laws_trees.proofs.NoReadLimits.{elaborated_rules_are_within_limits_lem}
+use Rattle.isle_laws_demands.specs.ShadowLaws.{check_errors}
+use Rattle.isle_rules.specs.LimitsNamed.{NamesTypedPastLimits, NamesFirstPastLimits}
 use Rattle.isle_types.specs.declared.ids.TermId.{TermId}
 use Rattle.isle_base.specs.ErrorViews.{error_views}
 use Rattle.isle_rules.specs.ShownEnvs.{environment_shown_by}
@@ -29,7 +34,7 @@ use Rattle.isle_builder.specs.Built.{IsOfElaborated, ShowsElaborated, term_set_v
 use Rattle.cranelift_isle.specs.Checks.{IsChecked, NamesRules, OfErrors, ReportsAreErrors}
 use Rattle.cranelift_isle.proofs.NamedPlaces.{rules_stand}
 use Rattle.cranelift_isle.specs.declared.lower.Lowered.{Lowered}
-use Rattle.cranelift_isle.specs.Lowerings.{set_of_term, AreAccepted, IsLowered, OfAccepted, ChooseAsSource, CollectBags, SharesTests, DemandWhole}
+use Rattle.cranelift_isle.specs.Lowerings.{set_of_term, AreAccepted, IsLowered, OfAccepted, ChooseAsSource, CollectBags, SharesTests, DemandWhole, SetsAreWhole, NamesLackedLimits}
 
 same_rules : (a b : TypedRules) → Some a ≡ Some b → a ≡ b
 same_rules a b e = cc
@@ -135,8 +140,13 @@ module _ {defs : List Definition} {expand : Bool} {env : TermEnv} {types : TypeE
       pub unique : LoweredTreesAreOnlyBest → All (λ t. IsOnlyBest t.set t.tree) ts
       unique one k d h = one p (slice_index_or ts k d) (lowered.lowered k d h)
 
-      pub whole : AcceptedDemandsAreWhole → OfAccepted defs expand (DemandWhole ts)
-      whole all other is k d h = all defs expand other is (slice_index_or ts k d).term
+      pub whole : AcceptedSetsAreWhole → OfAccepted defs expand (SetsAreWhole ts)
+      whole all other is =
+          subst (λ r. SetsAreWhole ts (own_program defs r)) (sym (same_typing other is))
+          (λ k d h. all defs expand rules is_accepted (slice_index_or ts k d).term (slice_index_or ts k d).set (built k d h))
+
+      pub demands : AcceptedDemandsAreWhole → OfAccepted defs expand (DemandWhole ts)
+      demands all other is k d h = all defs expand other is (slice_index_or ts k d).term
 
       pub collected : OfAccepted defs expand (CollectBags ts)
       collected other is = subst (λ r. CollectBags ts (own_program defs r)) (sym (same_typing other is)) (λ k d h. (lowered.lowered k d h).collects)
@@ -152,6 +162,18 @@ module _ {defs : List Definition} {expand : Bool} {env : TermEnv} {types : TypeE
     passed_in_building : NamesOnlyPassed (PassedInLowering defs expand) (error_views es)
     passed_in_building l at is = in_building l at rules is_read (subst (NamesOnlyPassed (PassedInBuilding p)) (sym wrong.are) wrong.reported.limits l at is)
 
+  -- with whatever typed rules the definitions are read, they are these
+  exactly : (es : List Error) → ReportsAreErrors p es → AreCheckErrors defs expand (error_views es)
+  exactly es wrong other also =
+      subst (λ (r : TypedRules). error_views es ≡ check_errors (own_program defs r)) (one_typing (types_read defs) defs expand rules other elaborated also.elaborated) wrong.exact
+
+  -- no rule lacks the limits alone
+  none_lacked : (errors : List Refusal) → NamesLackedLimits defs expand errors
+  none_lacked errors = record {
+    each_rule = λ valid id lacks. absurd (elaborated_rules_are_within_limits_lem (types_read defs) defs expand rules elaborated id lacks.rule lacks.here lacks.none);
+    first_rule = λ valid lack. absurd (none_some rules (sym (ap (option_map (named (setting_of (types_read defs) defs expand))) lack.none) ∙ elaborated.elaborate.typed));
+  }
+
   refused_as : (f : Fault) → IsChecked p (Err f) → Answers {A = Lowered} (Err f) (AreAccepted defs expand) (IsLowered defs expand)
   refused_as (Errors es) c = (some_error es.items c, not_accepted es.items c)
   refused_as (Memory m) c = tt
@@ -159,6 +181,14 @@ module _ {defs : List Definition} {expand : Bool} {env : TermEnv} {types : TypeE
   refused_why : (f : Fault) → IsChecked p (Err f) → OnErrors {A = Lowered} (Err f) (λ es. RefusedBy defs expand (error_views es))
   refused_why (Errors es) c = subst (RefusedBy defs expand) (sym c.are) (by_check rules c.reports is_read c.reported)
   refused_why (Memory m) c = tt
+
+  exact_as : (f : Fault) → IsChecked p (Err f) → OnErrors {A = Lowered} (Err f) (λ es. AreCheckErrors defs expand (error_views es))
+  exact_as (Errors es) c = exactly es.items c
+  exact_as (Memory m) c = tt
+
+  lacked_as : (f : Fault) → OnErrors {A = Lowered} (Err f) (λ es. NamesLackedLimits defs expand (error_views es))
+  lacked_as (Errors es) = none_lacked (error_views es.items)
+  lacked_as (Memory m) = tt
 
   limits_as : (f : Fault) → IsChecked p (Err f) → OnErrors {A = Lowered} (Err f) (λ es. NamesOnlyPassed (PassedInLowering defs expand) (error_views es))
   limits_as (Errors es) c = passed_in_building es.items c
@@ -181,6 +211,12 @@ module _ {defs : List Definition} {expand : Bool} {env : TermEnv} {types : TypeE
     pub why_refused : OnErrors r (λ es. RefusedBy defs expand (error_views es))
     why_refused = subst (λ x. OnErrors x (λ es. RefusedBy defs expand (error_views es))) (sym is) (refused_why f (checked_as (Err f) check))
 
+    pub exact_of_check : OnErrors r (λ es. AreCheckErrors defs expand (error_views es))
+    exact_of_check = subst (λ x. OnErrors x (λ es. AreCheckErrors defs expand (error_views es))) (sym is) (exact_as f (checked_as (Err f) check))
+
+    pub named_of_check : OnErrors r (λ es. NamesLackedLimits defs expand (error_views es))
+    named_of_check = subst (λ x. OnErrors x (λ es. NamesLackedLimits defs expand (error_views es))) (sym is) (lacked_as f)
+
     pub limits_of_check : OnErrors r (λ es. NamesOnlyPassed (PassedInLowering defs expand) (error_views es))
     limits_of_check = subst (λ x. OnErrors x (λ es. NamesOnlyPassed (PassedInLowering defs expand) (error_views es))) (sym is) (limits_as f (checked_as (Err f) check))
 
@@ -192,3 +228,20 @@ errors_so A B (Memory m) P Q give h = tt
 pub passed_in_reading : (defs : List Definition) (expand : Bool) → IsValidTypes defs → (es : List Error) → NamesOnlyPassed (PassedInReading (types_read defs) defs expand) (error_views es)
     → NamesOnlyPassed (PassedInLowering defs expand) (error_views es)
 passed_in_reading defs expand valid es limits l at is = in_reading l at valid (limits l at is)
+
+-- of definitions that aren't read nothing is asked
+pub unread_types : (defs : List Definition) (expand : Bool) (errors : List Refusal) → RefusesTypes defs errors → AreCheckErrors defs expand errors
+unread_types defs expand errors r rules read = absurd (r.not_valid read.types)
+
+pub unread_rules : (defs : List Definition) (expand : Bool) (errors : List Refusal) → RefusesRules (types_read defs) defs expand errors → AreCheckErrors defs expand errors
+unread_rules defs expand errors r rules read = absurd (r.no_rules (rules, read.elaborated))
+
+-- nor of types that aren't valid
+pub no_valid_types : (defs : List Definition) (expand : Bool) (errors : List Refusal) → RefusesTypes defs errors → NamesLackedLimits defs expand errors
+no_valid_types defs expand errors r = record { each_rule = λ valid. absurd (r.not_valid valid); first_rule = λ valid. absurd (r.not_valid valid) }
+
+-- limits that are lacked are named by the errors of rules
+pub lacked_in_reading : (defs : List Definition) (expand : Bool) (A : Type 0) (f : Fault) → OnErrors {A = A} (Err f) (λ es. NamesTypedPastLimits (types_read defs) defs expand (error_views es))
+    → OnErrors {A = A} (Err f) (λ es. NamesFirstPastLimits (types_read defs) defs expand (error_views es)) → OnErrors {A = Lowered} (Err f) (λ es. NamesLackedLimits defs expand (error_views es))
+lacked_in_reading defs expand A (Errors es) each first = record { each_rule = λ valid. each; first_rule = λ valid. first }
+lacked_in_reading defs expand A (Memory m) each first = tt

@@ -12,6 +12,7 @@ use Rattle.isle_model.specs.claims.Refusals.{Refusal, refusal_of}
 use Rattle.isle_types.specs.declared.ids.TermId.{TermId}
 use Rattle.isle_base.specs.ErrorViews.{error_views}
 use Rattle.isle_sets.specs.declared.trie_again.RuleSet.{RuleSet}
+use Rattle.isle_laws_demands.specs.ShadowLaws.{check_errors}
 use Rattle.cranelift_isle.specs.Checks.{IsChecked}
 
 pub named : (P : Program → List Refusal → Type 0) (p : Program) (result : Result (Vec (TermId × RuleSet)) Fault)
@@ -19,3 +20,9 @@ pub named : (P : Program → List Refusal → Type 0) (p : Program) (result : Re
 named P p (Ok sets) law checked = tt
 named P p (Err (Memory e)) law checked = tt
 named P p (Err (Errors es)) law checked = subst (P p) (sym checked.are) (law checked.reports checked.reported)
+
+-- and what holds of exactly those that there are
+pub named_exactly : (P : Program → List Refusal → Type 0) (p : Program) (result : Result (Vec (TermId × RuleSet)) Fault) → P p (check_errors p) → IsChecked p result → OnErrors result (λ es. P p (error_views es))
+named_exactly P p (Ok sets) law checked = tt
+named_exactly P p (Err (Memory e)) law checked = tt
+named_exactly P p (Err (Errors es)) law checked = subst (P p) (sym checked.exact) law

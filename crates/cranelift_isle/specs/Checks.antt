@@ -6,8 +6,9 @@ use Rattle.isle_model.specs.lists.Syntax.{Definition, Position}
 use Rattle.isle_model.specs.lists.Elaborated.{TypedRules}
 use Rattle.isle_model.specs.claims.Environments.{TypesRead, IsElaborated, program_of}
 use Rattle.isle_model.specs.claims.Refusals.{Refusal}
+use Rattle.isle_laws_demands.specs.ShadowLaws.{check_errors}
 use Rattle.isle_base.specs.Answers.{OnErrors}
-use Rattle.isle_model.specs.sites.Overlap.{HasDistinctPositions, RuleReport}
+use Rattle.isle_model.specs.sites.Overlap.{RuleReport}
 use Rattle.isle_model.specs.claims.Layers.{CheckAnswers, CheckReports}
 use Rattle.isle_base.specs.declared.syntax.Error.{Error}
 use Rattle.isle_base.specs.declared.syntax.Fault.{Fault}
@@ -26,11 +27,12 @@ use Rattle.isle_base.specs.Positions.{positions_named}
 abbrev pub env_program : TermEnv → Program
 env_program env = record { types = []; constants = []; terms = term_views env.terms.items; rules = rule_views env.rules.items }
 
--- these errors are what is to be reported of a program
+-- these errors are what is to be reported of a program, exactly and in order, whatever positions its rules have
 pub record ReportsAreErrors (p : Program) (errors : List Error) : Type 0 where
   pub reports : List RuleReport
   pub are : error_views errors ≡ report_views reports
   pub reported : CheckReports p reports
+  pub exact : error_views errors ≡ check_errors p
 
 -- an answer of checking: the built sets, or the errors that there are; want of memory says nothing
 abbrev pub IsChecked : Program → Result (Vec (TermId × RuleSet)) Fault → Type 0
@@ -43,10 +45,6 @@ abbrev pub OfErrors : TermEnv → Result (Vec (TermId × RuleSet)) Fault → (Pr
 OfErrors env result P =
     (e : TypesRead) (defs : List Definition) (expand : Bool) (rules : TypedRules) → IsElaborated e defs expand rules → ShowsElaborated e defs rules env
     → OnErrors result (λ es. P (program_of e defs rules.rules) (error_views es))
-
--- if no two rules stand at one position
-abbrev pub WhereApart : (Program → List Refusal → Type 0) → Program → List Refusal → Type 0
-WhereApart P p errors = HasDistinctPositions p → P p errors
 
 -- where the rules of a program stand
 abbrev pub rule_places : Program → List Position

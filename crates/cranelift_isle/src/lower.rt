@@ -7,18 +7,20 @@ ghost use Rattle.isle_base.specs.SyntaxViews.{definition_views};
 ghost use Rattle.isle_model.specs.claims.Layers.{IsBuiltForSome, RefusedBy};
 ghost use Rattle.isle_model.specs.claims.Refusals.{NamesOnlyPassed};
 ghost use Rattle.isle_laws_trees.specs.NoLimits.{PassedInLowering, PassNoLimit};
+ghost use Rattle.isle_laws_trees.specs.OneAnswer.{AreCheckErrors};
 ghost use Rattle.isle_laws_trees.specs.OneTree.{IsOnlyBest};
 ghost use Rattle.isle_base.specs.ErrorViews.{error_views};
 ghost use Rattle.isle_builder.specs.Built.{term_set_views};
 ghost use Rattle.isle_sets.specs.SiteViews.{set_view};
 ghost use Rattle.isle_serialize.specs.TreeViews.{tree_view};
-ghost use Rattle.cranelift_isle.specs.Lowerings.{lowered_views, set_of_term, AreAccepted, IsLowered, OfAccepted, ChooseAsSource, SharesTests, CollectBags, BindsBeforeAnyUse, DemandWhole, LoweringIsAFunction};
+ghost use Rattle.cranelift_isle.specs.Lowerings.{lowered_views, set_of_term, AreAccepted, IsLowered, OfAccepted, ChooseAsSource, SharesTests, CollectBags, BindsBeforeAnyUse, DemandWhole, SetsAreWhole, NamesLackedLimits, LoweringIsAFunction};
 
 use crate::overlap::check;
 use isle_base::syntax::{Def, Fault};
 use isle_laws_trees::{
-    accepted_demands_are_whole, accepted_pass_no_limit, best_trees_bind_before_use,
-    best_trees_keep_the_headline, best_trees_share_most, lowered_trees_are_only_best,
+    accepted_demands_are_whole, accepted_pass_no_limit, accepted_sets_are_whole,
+    best_trees_bind_before_use, best_trees_keep_the_headline, best_trees_share_most,
+    lowered_trees_are_only_best,
 };
 use isle_rules::TermEnv;
 use isle_serialize::serialize::{Block, serialize};
@@ -75,7 +77,8 @@ impl Drop for Lowered {
 ///
 /// `Fault::Errors` has those of the first pass that refuses the definitions: of `TypeEnv::from_ast` (type errors); of
 /// `TermEnv::from_ast` (type errors, and limits on expansions); or of `check` (rules that can't match, limits on what a
-/// rule makes, overlaps and shadows). `Fault::Memory` where memory is refused.
+/// rule makes, overlaps and shadows). Each rule that lacks nothing but the limits on expansions is named with one of these.
+/// `Fault::Memory` where memory is refused.
 pub fn lower(alloc: Global, defs: &[Def], expand: bool) -> Result<Lowered, Fault>
     // Ok exactly where the definitions are accepted, and then their environments, rule sets and trees
     ensures accepted { Answers result (AreAccepted (definition_views defs.now) expand) (IsLowered (definition_views defs.now) expand) }
@@ -98,11 +101,20 @@ pub fn lower(alloc: Global, defs: &[Def], expand: bool) -> Result<Lowered, Fault
     // what is accepted passes none of the six limits
     ensures within_limits { IfOk result (λ l. PassNoLimit (definition_views defs.now) expand) }
 
-    // the demands of each term's rules are all that follows from what the rules ask
-    ensures whole { IfOk result (λ l. OfAccepted (definition_views defs.now) expand (DemandWhole (lowered_views l.terms.items))) }
+    // each rule of a set asks, at the set's sites, all that follows from what its source rule demands, and nothing else
+    ensures whole { IfOk result (λ l. OfAccepted (definition_views defs.now) expand (SetsAreWhole (lowered_views l.terms.items))) }
+
+    // so do the closed demands of each term's rules
+    ensures demands { IfOk result (λ l. OfAccepted (definition_views defs.now) expand (DemandWhole (lowered_views l.terms.items))) }
 
     // errors say by which pass the definitions are refused, and why
     ensures refused { OnErrors result (λ es. RefusedBy (definition_views defs.now) expand (error_views es)) }
+
+    // where the types are valid, the errors are exactly those of the check, in order, if each rule has a typed rule
+    ensures exact { OnErrors result (λ es. AreCheckErrors (definition_views defs.now) expand (error_views es)) }
+
+    // where the types are valid, a rule that lacks nothing but the limits on expansions is named
+    ensures named { OnErrors result (λ es. NamesLackedLimits (definition_views defs.now) expand (error_views es)) }
 
     // an error names a limit only where a rule passes it
     ensures limits { OnErrors result (λ es. NamesOnlyPassed (PassedInLowering (definition_views defs.now) expand) (error_views es)) }
@@ -111,11 +123,12 @@ pub fn lower(alloc: Global, defs: &[Def], expand: bool) -> Result<Lowered, Fault
     ensures places { OnErrors result (λ es. All (ErrorStandsAt (positions_of (definition_views defs.now))) es) }
 {
     // laws, without code: the best trees of accepted definitions keep the headline, and no set has two; accepted definitions
-    // pass no limit, and the demands of their rules are whole
+    // pass no limit, and the demands of their rules are whole, also in their sets
     best_trees_keep_the_headline();
     lowered_trees_are_only_best();
     accepted_pass_no_limit();
     accepted_demands_are_whole();
+    accepted_sets_are_whole();
     let mut tyenv = TypeEnv::from_ast(alloc, defs)?;
     let termenv = TermEnv::from_ast(alloc, &mut tyenv, defs, expand)?;
     let sets = check(alloc, &termenv)?;
@@ -156,6 +169,10 @@ fn tree_of(alloc: Global, set: &RuleSet) -> Result<Block, AllocError>
 
 /// All that meets what `lower` promises of the same definitions and the same choice to expand is one answer: it shows
 /// equal environments, and each term has the same sites, rules that show the same and the same tree.
-fn lowering_is_a_function()
+///
+/// A law, a function without code. A function that calls it may cite the clause in its proof, as
+/// `c.lowering_is_a_function.ensures`: of two answers that meet the clause `accepted` of `lower`, as `IsLowered`, it gives that
+/// they are one, `AreOneAnswer`.
+pub fn lowering_is_a_function()
     ensures { LoweringIsAFunction }
 {}

@@ -13,7 +13,7 @@ ghost use Rattle.isle_base.specs.ErrorViews.{error_views};
 ghost use Rattle.isle_base.specs.Positions.{HasSingleSpans};
 ghost use Rattle.isle_term_sets.specs.AddedRules.{report_views};
 ghost use Rattle.isle_builder.specs.Built.{IsOfElaborated, ShowsElaborated, WereBuilt, term_set_views};
-ghost use Rattle.cranelift_isle.specs.Checks.{IsChecked, NamesRules, OfErrors, WhereApart, env_program};
+ghost use Rattle.cranelift_isle.specs.Checks.{IsChecked, NamesRules, OfErrors, env_program};
 
 use isle_base::syntax::{Error, Fault};
 use isle_builder::build::build;
@@ -110,15 +110,17 @@ pub fn check(alloc: Global, termenv: &TermEnv) -> Result<Vec<(TermId, RuleSet)>,
     ensures checked { (e : TypesRead) (defs : List Definition) (expand : Bool) (rules : TypedRules) → IsElaborated e defs expand rules → ShowsElaborated e defs rules termenv.now
         → IsChecked (program_of e defs rules.rules) result }
 
-    // each rule that is left out has an error at its position, and each error that says so is of a rule that is left out
+    // each rule that is left out has an error at its position, and each error that says so is of a rule that is left out; if no
+    // two rules stand at one position, a rule that passes a limit has exactly one
     ensures left_out { OfErrors termenv.now result NamesLeftOut }
 
-    // if no two rules stand at one position: each two rules that overlap wrongly stand in exactly one overlap error that lists
-    // one of them first, and its further rules overlap wrongly with its first
-    ensures pairs { OfErrors termenv.now result (WhereApart NamesPairs) }
+    // each two rules that overlap wrongly stand in exactly one overlap error that lists one of them first; each overlap error
+    // lists a rule besides its first, and its further rules overlap wrongly with the first
+    ensures pairs { OfErrors termenv.now result NamesPairs }
 
-    // and each mask is named by exactly one shadow error, which lists exactly the rules that it shadows
-    ensures masks { OfErrors termenv.now result (WhereApart NamesMasks) }
+    // each mask is named by a shadow error, which lists exactly the rules that it shadows; if no two rules stand at one position,
+    // by no other
+    ensures masks { OfErrors termenv.now result NamesMasks }
 
     // an error names only positions of rules, and each of its spans is that of one position
     ensures places { OfErrors termenv.now result NamesRules }

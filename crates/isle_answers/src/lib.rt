@@ -6,7 +6,7 @@ pub mod rows;
 mod rules;
 pub mod run;
 pub mod sample_run;
-mod samples;
+pub mod samples;
 pub mod texts;
 mod trees;
 pub mod words;

@@ -4,7 +4,7 @@ ghost use Rattle.std.specs.Prelude.{◌≡◌, is_some};
 ghost use Rattle.isle_answers.specs.Samples.{has_errors, has_trees, is_sample};
 
 /// The text of the sample with this name, or None where there is no such sample.
-pub(crate) fn sample_text(name: &str) -> Option<&'static str>
+pub fn sample_text(name: &str) -> Option<&'static str>
     ensures { is_some result ≡ is_sample name.now }
 {
     match text_with_trees(name) {

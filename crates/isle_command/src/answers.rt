@@ -2,9 +2,12 @@
 
 use crate::comparison::difference;
 use crate::graphs::graph_of;
+use crate::progress::Teller;
 use crate::words::{Format, Request, Task};
 use cranelift_isle::lower::{Lowered, LoweredTerm, lower};
 use isle_base::syntax::{Def, Fault, Files};
+use isle_calls::calls::answer_to_call;
+use isle_calls::values::Unanswered;
 use isle_explaining::diagnosis::reports_of;
 use isle_explaining::explanation::{explanation, with_rules};
 use isle_explaining::lints::warnings;
@@ -12,10 +15,12 @@ use isle_explaining::stats::stats;
 use isle_json::documents::{document_of_reports, document_of_terms, document_of_warnings};
 use isle_printing::print::{Names, print_term};
 use isle_rendering::layout::push_reports;
+use isle_rendering::lines::file_name;
 use isle_rendering::report::{Label, Level, Report};
 use isle_text::errors::{Problem, ReadFault, TextError};
 use isle_text::read;
 use std::alloc::{AllocError, Global};
+use std::io::Write;
 
 /// What the command answers.
 pub struct Answer {
@@ -37,19 +42,40 @@ impl Drop for Answer {
     }
 }
 
-/// What is answered to files. All errors of the first pass that finds some are told: of reading, one for each file.
-pub fn answer_to(alloc: Global, asked: &Request<'_>, files: &Files) -> Result<Answer, AllocError> {
+/// What is answered to files. All errors of the first pass that finds some are told: of reading, one for each file. It is told
+/// on `err` what is being done, where that is asked for or `err` is a terminal.
+pub fn answer_to<E: Write>(
+    alloc: Global,
+    asked: &Request<'_>,
+    files: &Files,
+    terminal: bool,
+    err: &mut E,
+) -> Result<Answer, AllocError> {
+    let mut teller = Teller::new(asked.progress, terminal, err);
+    let answer = answer_to_texts(alloc, asked, files, &mut teller);
+    teller.end();
+    answer
+}
+
+// The same, by what tells what is being done.
+fn answer_to_texts<E: Write>(
+    alloc: Global,
+    asked: &Request<'_>,
+    files: &Files,
+    teller: &mut Teller<'_, E>,
+) -> Result<Answer, AllocError> {
     let mut defs = Vec::new(alloc);
     let mut reports = Vec::new(alloc);
     for (number, text) in files.texts.iter().enumerate() {
         if !asked.has_trees(number) {
+            teller.tell("reading", file_name(files, number));
             read_text(alloc, number, text, &mut defs, &mut reports)?;
         }
     }
     if !reports.is_empty() {
         return refusal(alloc, asked, files, &reports);
     }
-    answer_to_defs(alloc, asked, files, &defs)
+    answer_to_defs(alloc, asked, files, &defs, teller)
 }
 
 // Reads a text: its definitions are added, or what is wrong with it.
@@ -111,7 +137,7 @@ fn refusal(
         });
     }
     let mut err = String::new(alloc);
-    push_reports(&mut err, files, reports, asked.format.layout())?;
+    push_reports(&mut err, files, reports, asked.layout())?;
     Ok(Answer {
         status: 1,
         out: String::new(alloc),
@@ -120,15 +146,18 @@ fn refusal(
 }
 
 // What is answered to definitions.
-fn answer_to_defs(
+fn answer_to_defs<E: Write>(
     alloc: Global,
     asked: &Request<'_>,
     files: &Files,
     defs: &[Def],
+    teller: &mut Teller<'_, E>,
 ) -> Result<Answer, AllocError> {
+    teller.tell("lowering", "all terms");
     match lower(alloc, defs, asked.expand) {
-        Ok(lowered) => answer_to_lowered(alloc, asked, files, defs, &lowered),
+        Ok(lowered) => answer_to_lowered(alloc, asked, files, defs, &lowered, teller),
         Err(Fault::Errors(errors)) => {
+            teller.tell("explaining", "errors");
             let reports = reports_of(alloc, defs, asked.expand, &errors)?;
             refusal(alloc, asked, files, &reports)
         }
@@ -137,19 +166,24 @@ fn answer_to_defs(
 }
 
 // What is answered to definitions with trees.
-fn answer_to_lowered(
+fn answer_to_lowered<E: Write>(
     alloc: Global,
     asked: &Request<'_>,
     files: &Files,
     defs: &[Def],
     lowered: &Lowered,
+    teller: &mut Teller<'_, E>,
 ) -> Result<Answer, AllocError> {
     match asked.task {
-        Task::Lower => trees(alloc, asked, files, lowered),
-        Task::Check => warned(alloc, asked, files, &warnings(alloc, defs, lowered)?),
+        Task::Lower => trees(alloc, asked, files, lowered, teller),
+        Task::Check => {
+            teller.tell("checking", "all rules");
+            warned(alloc, asked, files, &warnings(alloc, defs, lowered)?)
+        }
         Task::Samples => Ok(accepted(alloc, String::new(alloc))),
         Task::Stats => Ok(accepted(alloc, stats(alloc, lowered)?)),
-        Task::Compare => compared(alloc, asked, files, lowered),
+        Task::Compare => compared(alloc, asked, files, lowered, teller),
+        Task::Run => ran(alloc, asked, lowered),
         Task::Explain => {
             let text = explanation(alloc, files, lowered, asked.rule)?;
             if text.is_empty() {
@@ -186,7 +220,7 @@ fn warned(
     if asked.format == Format::Json {
         out = document_of_warnings(alloc, files, warnings)?;
     } else {
-        push_reports(&mut err, files, warnings, asked.format.layout())?;
+        push_reports(&mut err, files, warnings, asked.layout())?;
     }
     Ok(Answer { status, out, err })
 }
@@ -198,6 +232,33 @@ fn missing(alloc: Global, what: &str, name: &str) -> Result<Answer, AllocError> 
         out: String::new(alloc),
         err: format!(in alloc; "error: there is no {what} `{name}`\n")?,
     })
+}
+
+// The outcome of the call that is asked for, or what is wrong with it.
+fn ran(alloc: Global, asked: &Request<'_>, lowered: &Lowered) -> Result<Answer, AllocError> {
+    let call = call_text(alloc, &asked.call)?;
+    match answer_to_call(alloc, lowered, &call) {
+        Ok(outcome) => Ok(accepted(alloc, format!(in alloc; "{outcome}\n")?)),
+        Err(Unanswered::Call(why)) => Ok(Answer {
+            status: 1,
+            out: String::new(alloc),
+            err: format!(in alloc; "error: {why}\n")?,
+        }),
+        Err(Unanswered::Memory) => Err(AllocError),
+    }
+}
+
+// The text of a call whose words are these, in parentheses where the words have none.
+fn call_text(alloc: Global, words: &[&str]) -> Result<String, AllocError> {
+    let mut text = String::new(alloc);
+    for (i, word) in words.iter().enumerate() {
+        text.push_str(if i == 0 { "" } else { " " })?;
+        text.push_str(word)?;
+    }
+    if text.starts_with('(') {
+        return Ok(text);
+    }
+    format!(in alloc; "({text})")
 }
 
 // The terms that are asked for.
@@ -216,17 +277,18 @@ fn wanted<'a>(
 }
 
 // Where the trees of the last file depart from those of the terms that are asked for.
-fn compared(
+fn compared<E: Write>(
     alloc: Global,
     asked: &Request<'_>,
     files: &Files,
     lowered: &Lowered,
+    teller: &mut Teller<'_, E>,
 ) -> Result<Answer, AllocError> {
     if let Some(name) = missing_term(asked.terms, lowered) {
         return missing(alloc, "term with rules", name);
     }
     let wanted = wanted(alloc, asked, lowered)?;
-    let trees = drawn(alloc, Format::Text, files, lowered, &wanted)?;
+    let trees = drawn(alloc, Format::Text, files, lowered, &wanted, teller)?;
     let (Some(name), Some(text)) = (files.names.last(), files.texts.last()) else {
         return Ok(accepted(alloc, String::new(alloc)));
     };
@@ -240,35 +302,41 @@ fn compared(
 }
 
 // The trees of the terms that are asked for.
-fn trees(
+fn trees<E: Write>(
     alloc: Global,
     asked: &Request<'_>,
     files: &Files,
     lowered: &Lowered,
+    teller: &mut Teller<'_, E>,
 ) -> Result<Answer, AllocError> {
     if let Some(name) = missing_term(asked.terms, lowered) {
         return missing(alloc, "term with rules", name);
     }
     let wanted = wanted(alloc, asked, lowered)?;
     let out = match asked.format {
-        Format::Json => document_of_terms(alloc, files, lowered, &wanted)?,
+        Format::Json => {
+            teller.tell("printing", "all terms");
+            document_of_terms(alloc, files, lowered, &wanted)?
+        }
         Format::Dot | Format::Text | Format::Line => {
-            drawn(alloc, asked.format, files, lowered, &wanted)?
+            drawn(alloc, asked.format, files, lowered, &wanted, teller)?
         }
     };
     Ok(accepted(alloc, out))
 }
 
 // The trees of terms, one after another: as graphs, or in words.
-fn drawn(
+fn drawn<E: Write>(
     alloc: Global,
     format: Format,
     files: &Files,
     lowered: &Lowered,
     terms: &[&LoweredTerm],
+    teller: &mut Teller<'_, E>,
 ) -> Result<String, AllocError> {
     let mut out = String::new(alloc);
     for term in terms {
+        teller.tell("printing", term_name(lowered, term));
         let drawing = match format {
             Format::Dot => graph_of(alloc, files, lowered, term)?,
             Format::Json | Format::Text | Format::Line => tree(alloc, files, lowered, term)?,

@@ -5,5 +5,6 @@ pub mod answers;
 mod comparison;
 mod graphs;
 mod inputs;
+mod progress;
 pub mod run;
 pub mod words;

@@ -10,14 +10,14 @@ use std::io::{Read, Write};
 
 // What the program says of words that ask for nothing.
 const USAGE: &str =
-    "usage: isle lower|check|explain RULE|stats|compare|samples [OPTIONS] FILE.. (isle --help says more)\n";
+    "usage: isle lower|check|explain RULE|stats|compare|run|samples [OPTIONS] FILE.. (isle --help says more)\n";
 
 // The names of the samples.
 const SAMPLES: &str =
     "empty fall types builtin const-eq variant-eq cycle cycle2 cycle3 conflict overlap shadow prio equal below wrap extract surplus endless iflet partial effects unused used multi multi-ext shared ties\n";
 
-/// Runs the command: `words` are its arguments without its own name, `input` is standard input, and the answer is its
-/// status.
+/// Runs the command: `words` are its arguments without its own name, `input` is standard input, `terminal` says whether `err`
+/// is a terminal, on which it is told what is being done, and the answer is its status.
 ///
 /// 0: what is asked is on `out`. 1: what is wrong with the files is on `err`, or on `out` as JSON; or `err` says what there
 /// isn't. 2: the words ask for
@@ -27,11 +27,12 @@ pub fn run<R: std::rt::Files + AllocGlobal, I: Read + Drop, O: Write, E: Write>(
     rt: &R,
     words: &[String],
     input: I,
+    terminal: bool,
     out: &mut O,
     err: &mut E,
 ) -> u8 {
     match asked_by(rt.alloc(), words) {
-        Ok(Some(asked)) => run_request(rt, &asked, input, out, err),
+        Ok(Some(asked)) => run_request(rt, &asked, input, terminal, out, err),
         Ok(None) => end(err, USAGE, 2),
         Err(AllocError) => no_memory(err),
     }
@@ -42,6 +43,7 @@ fn run_request<R: std::rt::Files + AllocGlobal, I: Read + Drop, O: Write, E: Wri
     rt: &R,
     asked: &Request<'_>,
     input: I,
+    terminal: bool,
     out: &mut O,
     err: &mut E,
 ) -> u8 {
@@ -49,7 +51,10 @@ fn run_request<R: std::rt::Files + AllocGlobal, I: Read + Drop, O: Write, E: Wri
         return run_samples(rt.alloc(), asked, out, err);
     }
     match read_files(rt, asked, input) {
-        Ok(files) => write_answer(answer_to(rt.alloc(), asked, &files), out, err),
+        Ok(files) => {
+            let answer = answer_to(rt.alloc(), asked, &files, terminal, err);
+            write_answer(answer, out, err)
+        }
         Err(why) => cannot_read(rt.alloc(), why, err),
     }
 }

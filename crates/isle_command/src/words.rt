@@ -18,6 +18,8 @@ pub enum Task {
     Compare,
     /// The names of the samples, or the trees of one.
     Samples,
+    /// The outcome of a call of a term.
+    Run,
 }
 
 /// The form of an answer.
@@ -34,14 +36,6 @@ pub enum Format {
 }
 
 impl Format {
-    /// How reports are laid out where they are told to a person.
-    pub fn layout(self) -> Layout {
-        match self {
-            Format::Line => Layout::Line,
-            Format::Text | Format::Json | Format::Dot => Layout::Text,
-        }
-    }
-
     // Whether a task has answers of this form.
     fn is_of(self, task: Task) -> bool {
         match self {
@@ -62,14 +56,20 @@ pub struct Request<'a> {
     pub deny: bool,
     /// The form of the answer.
     pub format: Format,
+    /// Whether what is told to a person has a terminal's colours.
+    pub colored: bool,
     /// The names of the terms whose trees are wanted, with commas between them; all where there are none.
     pub terms: Option<&'a str>,
     /// Where files are looked for whose names don't begin with `/`; the empty text for where the command runs.
     pub folder: &'a str,
     /// The rule that is to be explained, by its name, its line, or its file, a colon and its line.
     pub rule: &'a str,
+    /// Whether it is told what is being done.
+    pub progress: bool,
     /// The files, where `-` is standard input, or the sample. The last one has printed trees where they are compared.
     pub files: Vec<&'a str>,
+    /// The words of the call that is to be run.
+    pub call: Vec<&'a str>,
 }
 
 impl<'a> Drop for Request<'a> {
@@ -79,10 +79,13 @@ impl<'a> Drop for Request<'a> {
             expand: _,
             deny: _,
             format: _,
+            colored: _,
             terms: _,
             folder: _,
             rule: _,
+            progress: _,
             files: _,
+            call: _,
         } = self;
     }
 }
@@ -95,23 +98,30 @@ enum Awaited {
     Terms,
     Folder,
     Format,
+    Color,
     // An option or a file.
     Any,
+    // A word of a call.
+    Call,
 }
 
 /// What these words ask, or None where they ask for nothing. They are the name of a task; for `explain` the rule; then
-/// files, the last of `compare` with trees, or for `samples` at most one sample. Everywhere behind the task there may be `--no-expand`, `--terms NAMES`,
-/// `--format text`, `--format line` and `-C FOLDER`; `--deny` for `check`, `--format json` for `lower` and `check`, `--format dot` for `lower`.
+/// files, the last of `compare` with trees, or for `samples` at most one sample; for `run` then `--` and the words of a call, the
+/// term and its arguments. Everywhere behind the task, and before `--`, there may be `--no-expand`, `--progress`, `--terms NAMES`,
+/// `--format text`, `--format line`, `--color always`, `--color never` and `-C FOLDER`; `--deny` for `check`, `--format json` for `lower` and `check`, `--format dot` for `lower`.
 pub fn asked_by<'a>(alloc: Global, words: &'a [String]) -> Result<Option<Request<'a>>, AllocError> {
     let mut asked = Request {
         task: Task::Lower,
         expand: true,
         deny: false,
         format: Format::Text,
+        colored: false,
         terms: None,
         folder: "",
         rule: "",
+        progress: false,
         files: Vec::new(alloc),
+        call: Vec::new(alloc),
     };
     let mut awaited = Awaited::Task;
     for word in words {
@@ -120,7 +130,8 @@ pub fn asked_by<'a>(alloc: Global, words: &'a [String]) -> Result<Option<Request
             None => return Ok(None),
         }
     }
-    if awaited == Awaited::Any && asked.has_files() && asked.format.is_of(asked.task) {
+    let ended = awaited == Awaited::Any || awaited == Awaited::Call;
+    if ended && asked.has_files() && asked.has_call() && asked.format.is_of(asked.task) {
         Ok(Some(asked))
     } else {
         Ok(None)
@@ -133,8 +144,29 @@ impl<'a> Request<'a> {
         match self.task {
             Task::Samples => self.files.len() <= 1,
             Task::Compare => self.files.len() >= 2,
-            Task::Lower | Task::Check | Task::Explain | Task::Stats => !self.files.is_empty(),
+            Task::Lower | Task::Check | Task::Explain | Task::Stats | Task::Run => {
+                !self.files.is_empty()
+            }
         }
+    }
+
+    /// How reports are laid out where they are told to a person.
+    pub fn layout(&self) -> Layout {
+        match self.format {
+            Format::Line => Layout::Line,
+            Format::Text | Format::Json | Format::Dot => {
+                if self.colored {
+                    Layout::Colored
+                } else {
+                    Layout::Text
+                }
+            }
+        }
+    }
+
+    // Whether there is a call exactly where the task wants one.
+    fn has_call(&self) -> bool {
+        self.call.is_empty() != (self.task == Task::Run)
     }
 
     /// Whether the file of a number has printed trees, and no definitions.
@@ -147,6 +179,7 @@ impl<'a> Request<'a> {
         match awaited {
             Awaited::Task => Ok(self.read_task(word)),
             Awaited::Format => Ok(self.read_format(word)),
+            Awaited::Color => Ok(self.read_color(word)),
             Awaited::Any => self.read_any(word),
             Awaited::Rule => {
                 self.rule = word;
@@ -160,6 +193,10 @@ impl<'a> Request<'a> {
                 self.folder = word;
                 Ok(Some(Awaited::Any))
             }
+            Awaited::Call => {
+                self.call.push(word)?;
+                Ok(Some(Awaited::Call))
+            }
         }
     }
 
@@ -172,6 +209,7 @@ impl<'a> Request<'a> {
             "stats" => (Task::Stats, Awaited::Any),
             "compare" => (Task::Compare, Awaited::Any),
             "samples" => (Task::Samples, Awaited::Any),
+            "run" => (Task::Run, Awaited::Any),
             _ => return None,
         };
         self.task = task;
@@ -185,6 +223,16 @@ impl<'a> Request<'a> {
             "line" => Format::Line,
             "json" => Format::Json,
             "dot" => Format::Dot,
+            _ => return None,
+        };
+        Some(Awaited::Any)
+    }
+
+    // Reads when there are colours.
+    fn read_color(&mut self, word: &str) -> Option<Awaited> {
+        self.colored = match word {
+            "always" => true,
+            "never" => false,
             _ => return None,
         };
         Some(Awaited::Any)
@@ -205,8 +253,18 @@ impl<'a> Request<'a> {
                     None
                 })
             }
+            "--progress" => {
+                self.progress = true;
+                Ok(Some(Awaited::Any))
+            }
+            "--" => Ok(if self.task == Task::Run {
+                Some(Awaited::Call)
+            } else {
+                None
+            }),
             "--terms" => Ok(Some(Awaited::Terms)),
             "--format" => Ok(Some(Awaited::Format)),
+            "--color" => Ok(Some(Awaited::Color)),
             "-C" => Ok(Some(Awaited::Folder)),
             _ => self.read_file(word),
         }

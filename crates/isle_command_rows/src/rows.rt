@@ -21,7 +21,7 @@ impl<'a> Drop for Row<'a> {
 ///
 /// A row is a line that begins with `# `, behind it the row's name and the command's words, and the text of the file `a.isle`
 /// below it. A line that begins with `## ` and a name begins another file. The answer is a line with the status, then what goes
-/// to standard output and standard error.
+/// to standard output and standard error, of which what is told with `--progress` comes first.
 pub fn answers(alloc: Global, text: &str) -> Result<String, AllocError> {
     let mut out = String::new(alloc);
     let mut row = begun(alloc, "")?;
@@ -81,9 +81,11 @@ fn push_row(alloc: Global, row: &Row<'_>, out: &mut String) -> Result<(), AllocE
     match asked_by(alloc, &words)? {
         None => out.push_str("status 2\n"),
         Some(asked) => {
-            let answer = answer_to(alloc, &asked, &row.files)?;
+            let mut told = Vec::new(alloc);
+            let answer = answer_to(alloc, &asked, &row.files, false, &mut told)?;
             let status = answer.status;
             write!(out, "status {status}\n")?;
+            out.push_str(&String::from_utf8_lossy(alloc, &told)?)?;
             out.push_str(&answer.out)?;
             out.push_str(&answer.err)
         }

@@ -3,7 +3,7 @@
 use crate::names::{Names, name_of, priority_of, rule_at};
 use crate::sets::{Sets, sets_of};
 use crate::witness::witness;
-use isle_base::syntax::{Def, Error, Fault, Pos, Span};
+use isle_base::syntax::{Def, Error, Fault, Limit, Pos, Span};
 use isle_rendering::report::{Label, Level, Note, Report};
 use isle_sets::trie_again::{Rule, RuleSet};
 use isle_types::TermId;
@@ -58,8 +58,16 @@ fn report_of(
 ) -> Result<Report, AllocError> {
     match error {
         Error::TypeError { msg, span } => simple(alloc, "type", msg, *span),
-        Error::UnreachableError { msg, span } => simple(alloc, "unreachable", msg, *span),
-        Error::LimitError { msg, span, .. } => simple(alloc, "limit", msg, *span),
+        Error::UnreachableError { msg, span } => of_rule(
+            alloc,
+            defs,
+            ("unreachable", msg),
+            *span,
+            "take one of the two demands away, or the rule: no value meets both",
+        ),
+        Error::LimitError { limit, msg, span } => {
+            of_rule(alloc, defs, ("limit", msg), *span, way_below(*limit))
+        }
         Error::OverlapError { rules, .. } => overlap(alloc, defs, sets, rules),
         Error::ShadowedError { shadowed, mask } => shadow(alloc, defs, shadowed, *mask),
     }
@@ -90,6 +98,35 @@ fn simple(
         text,
     })?;
     Ok(report)
+}
+
+// A report of one rule, with what helps.
+fn of_rule(
+    alloc: Global,
+    defs: &[Def],
+    (kind, message): (&'static str, &str),
+    span: Span,
+    help: &str,
+) -> Result<Report, AllocError> {
+    let mut report = begun(alloc, kind, message)?;
+    add_rule(alloc, &mut report, defs, span.from, "", "")?;
+    add_help(alloc, &mut report, help)?;
+    Ok(report)
+}
+
+// What keeps a rule below a limit.
+fn way_below(limit: Limit) -> &'static str {
+    match limit {
+        Limit::Fields =>
+            "split the type: a variant or a struct that patterns look into may have 255 fields",
+        Limit::Outputs => "split the extractor, or have it give a struct",
+        Limit::Arguments => "split the term, or hand some of the arguments over as a struct",
+        Limit::Sites => "split the term, or the rule: all rules of a term share its sites",
+        Limit::Nesting => {
+            "nest fewer uses of internal extractors; a converter whose extractor converts again never ends"
+        }
+        Limit::Expansions => "use fewer internal extractors, or external ones",
+    }
 }
 
 // A report of rules of one priority of which the first overlaps each of the others.

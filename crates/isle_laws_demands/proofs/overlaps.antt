@@ -1,6 +1,7 @@
 -- Rules that overlap or are shadowed, and what is reported of them.
 pub mod Agreements
 pub mod Checked
+pub mod Counted
 pub mod Errors
 pub mod Judged
 pub mod LeftOut

@@ -14,7 +14,7 @@ use Rattle.isle_model.specs.claims.SetMeanings.{WhereServed}
 use Rattle.isle_laws_demands.specs.ReportLaws.{RulesHaveTerms}
 use Rattle.isle_laws_demands.specs.PairLaws.{times}
 
--- the errors that checking answers where positions differ
+-- the errors of a program's check, in order
 abbrev pub check_errors : Program → List Refusal
 check_errors p = map refusal_of (check_reports p)
 
@@ -41,16 +41,16 @@ pub record IsMask (p : Program) (t : ℕ) (m : BuiltRule) : Type 0 where
   pub other : Contains (built_rules p t) shadowed
   pub hides : Shadows m shadowed
 
--- where rules stand at distinct positions, each mask is named by exactly one error, which lists exactly the rules that it
--- shadows, in rule order
+-- each mask is named by an error, which lists exactly the rules that it shadows, in rule order; where rules stand at distinct
+-- positions, by no other
 pub record IsNamedOnce (p : Program) (t : ℕ) (m : BuiltRule) : Type 0 where
   pub listed : List Position
   pub answered : Contains (check_errors p) (shadowing listed m.rule.at)
   pub lists : ListsItsShadowed p t m listed
-  pub once : times (names_mask m.rule.at) (check_errors p) ≡ 1
+  pub once : HasDistinctPositions p → times (names_mask m.rule.at) (check_errors p) ≡ 1
 
 abbrev pub MasksAreNamedOnce : Type 0
-MasksAreNamedOnce = (p : Program) → RulesHaveTerms p → HasDistinctPositions p → (t : ℕ) (m : BuiltRule) → IsMask p t m → IsNamedOnce p t m
+MasksAreNamedOnce = (p : Program) → RulesHaveTerms p → (t : ℕ) (m : BuiltRule) → IsMask p t m → IsNamedOnce p t m
 
 -- an error that names a mask is of one, and lists some rules, those that it shadows
 pub record IsOfMask (p : Program) (listed : List Position) (at : Position) : Type 0 where
@@ -64,7 +64,7 @@ pub record IsOfMask (p : Program) (listed : List Position) (at : Position) : Typ
 abbrev pub OnlyMasksAreNamed : Type 0
 OnlyMasksAreNamed = (p : Program) (listed : List Position) (at : Position) → Contains (check_errors p) (shadowing listed at) → IsOfMask p listed at
 
--- what checking gives where rules can't be told apart is answered as these errors
+-- what may be reported where rules can't be told apart is answered as these errors, where rules stand at distinct positions
 abbrev pub CheckErrorsAreAnswered : Type 0
 CheckErrorsAreAnswered =
     (p : Program) (reports : List RuleReport) → CheckReports p reports → HasDistinctPositions p → map refusal_of reports ≡ check_errors p

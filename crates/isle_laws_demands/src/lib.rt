@@ -514,8 +514,8 @@ pub fn only_wrong_pairs_stand()
     ensures { OnlyWrongPairsStand }
 {}
 
-/// Where rules stand at distinct positions, each built rule that shadows others is the mask of exactly one error of checking,
-/// which lists exactly these, in rule order.
+/// Each built rule that shadows others is the mask of an error of checking, which lists exactly these, in rule order; where
+/// rules stand at distinct positions, of no other.
 #[tactic(auto, using(crate::proofs::overlaps::Shadowed::masks_are_named_once_lem))]
 pub fn masks_are_named_once()
     ensures { MasksAreNamedOnce }
@@ -534,18 +534,19 @@ pub fn check_errors_are_answered()
 {}
 
 /// Of the errors that checking an elaborated list answers: each rule that is left out has one at its position, and each that
-/// says so is of a rule that is left out.
+/// says so is of a rule that is left out. If no two rules stand at one position, a rule that passes a limit has exactly one.
 pub fn check_errors_name_left_out()
     ensures { CheckErrorsNameLeftOut }
 {}
 
-/// If no two rules stand at one position, each two rules that overlap wrongly stand in exactly one overlap error that lists one
-/// of them first, and each further rule of such an error overlaps wrongly with its first.
+/// Each two rules that overlap wrongly stand in exactly one overlap error that lists one of them first; each overlap error
+/// lists a rule besides its first, and each further rule overlaps wrongly with the first.
 pub fn check_errors_name_pairs()
     ensures { CheckErrorsNamePairs }
 {}
 
-/// And each mask is named by exactly one shadow error, which lists exactly the rules that it shadows.
+/// And each mask is named by a shadow error, which lists exactly the rules that it shadows; if no two rules stand at one
+/// position, by no other.
 pub fn check_errors_name_masks()
     ensures { CheckErrorsNameMasks }
 {}

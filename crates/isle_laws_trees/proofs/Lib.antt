@@ -33,3 +33,4 @@ pub mod Soundness
 pub mod Straight
 pub mod WellBuilt
 pub mod WholeDemandsLowered
+pub mod WholeSets

@@ -5,7 +5,7 @@ use Rattle.isle_model.specs.lists.Syntax.{Definition, RuleTree}
 use Rattle.isle_model.specs.lists.Names.{IsDistinct}
 use Rattle.isle_model.specs.lists.TermTable.{rule_trees, term_names_met, decl_names, function_of}
 use Rattle.isle_model.specs.lists.Setting.{Setting, Scope}
-use Rattle.isle_model.specs.lists.Elaborated.{TypedRules, typed_rules, named, most_nested, most_expansions}
+use Rattle.isle_model.specs.lists.Elaborated.{TypedRules, typed_rules, named, few_enough, most_nested, most_expansions}
 use Rattle.isle_model.specs.lists.Elaborates.{ElaboratesRule, ElaboratesRules, no_rule, one_rule}
 use Rattle.isle_model.specs.rules.Typed.{TypedRule}
 use Rattle.isle_model.specs.claims.Environments.{TypesRead, setting_of, IsElaborated}
@@ -16,7 +16,7 @@ use Rattle.isle_laws_lists.specs.FurtherNames.{AreThereAlike}
 use Rattle.isle_laws_lists.proofs.NamesOfTables.{names_of_rules_dont_matter_lem}
 use Rattle.isle_laws_lists.proofs.TypedResults as results
 use Rattle.isle_laws_lists.proofs.TypedRules as typed
-use Rattle.isle_laws_trees.specs.NoLimits.{ElaboratedListsPassNoLimit}
+use Rattle.isle_laws_trees.specs.NoLimits.{ElaboratedRulesAreWithinLimits, ElaboratedListsPassNoLimit}
 
 -- a rule has a derivation within the limits, from these names and more
 pub record Derived (e : Setting) (names : List (List ℕ)) (id : ℕ) (r : RuleTree) : Type 0 where
@@ -79,14 +79,15 @@ module _ (e : TypesRead) (defs : List Definition) (expand : Bool) (rules : Typed
       let k = typed_there s (rule_trees defs) names (typed_rules s 0 (rule_trees defs) names) rules refl h.elaborate.typed in
       derived_at s ((typed.lists_agree s 0 (rule_trees defs) names k.0.rules k.0.names).1 k.1) i r at i (let q : i ≡ 0 + i = omega arith in q)
 
+pub elaborated_rules_are_within_limits_lem : ElaboratedRulesAreWithinLimits
+elaborated_rules_are_within_limits_lem e defs expand rules h id r here none =
+    let d = derived e defs expand rules h id r here in
+    let alike = names_of_rules_dont_matter_lem e defs expand most_nested id r d.more h.readable (d.once (once e defs expand rules h)) in
+    let made = (typed.typed_within_limits (setting_of e defs expand) id r (term_names_met e.known defs ++ d.more) d.rule d.scope d.count).0 (d.made, d.few) in
+    subst₂ (λ a b. AreThereAlike a b) none made alike.1
+
 pub elaborated_lists_pass_no_limit_lem : ElaboratedListsPassNoLimit
 elaborated_lists_pass_no_limit_lem e defs expand rules h _ _ (nesting_passes id w) =
-    let d = derived e defs expand rules h id w.rule w.here in
-    let alike = names_of_rules_dont_matter_lem e defs expand most_nested id w.rule d.more h.readable (d.once (once e defs expand rules h)) in
-    let made = (typed.rules_agree (setting_of e defs expand) most_nested id w.rule (term_names_met e.known defs ++ d.more) d.rule d.scope d.count).0 d.made in
-    absurd (subst₂ (λ a b. AreThereAlike a b) w.none made alike.0)
+    elaborated_rules_are_within_limits_lem e defs expand rules h id w.rule w.here (ap few_enough w.none)
 elaborated_lists_pass_no_limit_lem e defs expand rules h _ _ (expansions_pass id w) =
-    let d = derived e defs expand rules h id w.rule w.here in
-    let alike = names_of_rules_dont_matter_lem e defs expand most_nested id w.rule d.more h.readable (d.once (once e defs expand rules h)) in
-    let made = (typed.typed_within_limits (setting_of e defs expand) id w.rule (term_names_met e.known defs ++ d.more) d.rule d.scope d.count).0 (d.made, d.few) in
-    absurd (subst₂ (λ a b. AreThereAlike a b) (w.none most_nested) made alike.1)
+    elaborated_rules_are_within_limits_lem e defs expand rules h id w.rule w.here (w.none most_nested)

@@ -148,5 +148,9 @@ refused_with defs expand rules read distinct errors (by_check others reports als
     ∙ ap (λ (l : TypedRules). check_errors (own_program defs l)) same
 
 pub refusing_gives_one_lem : RefusingGivesOne
-refusing_gives_one_lem defs expand rules errors others read distinct x y =
-    refused_with defs expand rules read distinct errors x ∙ sym (refused_with defs expand rules read distinct others y)
+refusing_gives_one_lem = record {
+  one = λ defs expand rules errors others read x y. x rules read ∙ sym (y rules read);
+  apart = λ defs expand rules errors read distinct refused other also.
+      (let same : rules ≡ other = typed_once defs expand rules other read also in
+      refused_with defs expand other also (subst (λ (l : TypedRules). HasDistinctPositions (own_program defs l)) same distinct) errors refused);
+}

@@ -11,6 +11,7 @@ use Rattle.isle_model.specs.trees.Best.{IsBestTree}
 use Rattle.isle_model.specs.sites.Overlap.{HasDistinctPositions}
 use Rattle.isle_model.specs.claims.Environments.{TypesRead, TypeEnvironment, TermsShown, TermEnvironment, IsRead, AreTypesOf, AreTermsOf, AreRulesOf}
 use Rattle.isle_model.specs.claims.Refusals.{Refusal}
+use Rattle.isle_laws_demands.specs.ShadowLaws.{check_errors}
 use Rattle.isle_model.specs.claims.Layers.{own_program, IsAccepted, AreBuiltSets, LoweredTerm, LoweringAnswers, RefusedBy, IsBuiltForSome, IsSerialized}
 
 -- two lists have as many elements, and those at one place are related
@@ -87,8 +88,14 @@ LoweringGivesOne =
 abbrev pub NoneIsAcceptedAndRefused : Type 0
 NoneIsAcceptedAndRefused = (defs : List Definition) (expand : Bool) (rules : TypedRules) (errors : List Refusal) → IsAccepted defs expand rules → RefusedBy defs expand errors → ⊥
 
--- definitions that are read, and whose rules stand at distinct positions, are refused with one list of errors
-abbrev pub RefusingGivesOne : Type 0
-RefusingGivesOne =
-    (defs : List Definition) (expand : Bool) (rules : TypedRules) (errors others : List Refusal)
-    → IsRead defs expand rules → HasDistinctPositions (own_program defs rules) → RefusedBy defs expand errors → RefusedBy defs expand others → errors ≡ others
+-- where definitions are read, these are exactly the errors of their check, in order
+abbrev pub AreCheckErrors : List Definition → Bool → List Refusal → Type 0
+AreCheckErrors defs expand errors = (rules : TypedRules) → IsRead defs expand rules → errors ≡ check_errors (own_program defs rules)
+
+-- so definitions that are read are refused with one list of errors. Why they are refused says as much by itself where no two
+-- rules stand at one position
+pub record RefusingGivesOne : Type 0 where
+  pub one : (defs : List Definition) (expand : Bool) (rules : TypedRules) (errors others : List Refusal)
+      → IsRead defs expand rules → AreCheckErrors defs expand errors → AreCheckErrors defs expand others → errors ≡ others
+  pub apart : (defs : List Definition) (expand : Bool) (rules : TypedRules) (errors : List Refusal)
+      → IsRead defs expand rules → HasDistinctPositions (own_program defs rules) → RefusedBy defs expand errors → AreCheckErrors defs expand errors

@@ -12,8 +12,8 @@ ghost use Rattle.isle_model.specs.claims.Layers.{BestTreesKeepTheHeadline};
 ghost use Rattle.isle_laws_trees.specs.Meant.{BestTreesMeanTheirSets};
 ghost use Rattle.isle_laws_trees.specs.OneTree.{BestTreesAreOne, BuiltSetsHaveOneBestTree, LoweredTreesAreOnlyBest};
 ghost use Rattle.isle_laws_trees.specs.OneAnswer.{BestTreesAreOfWhatIsShown, BuiltSetsShowSame, ReadingGivesOne, SerializingGivesOne, BuildingGivesOne, LoweringGivesOne, NoneIsAcceptedAndRefused, RefusingGivesOne};
-ghost use Rattle.isle_laws_trees.specs.NoLimits.{CheckableProgramsPassNoLimit, ElaboratedListsPassNoLimit, AcceptedPassNoLimit};
-ghost use Rattle.isle_laws_trees.specs.WholeDemands.{AcceptedDemandsAreWhole};
+ghost use Rattle.isle_laws_trees.specs.NoLimits.{CheckableProgramsPassNoLimit, ElaboratedRulesAreWithinLimits, ElaboratedListsPassNoLimit, AcceptedPassNoLimit};
+ghost use Rattle.isle_laws_trees.specs.WholeDemands.{AcceptedDemandsAreWhole, AcceptedSetsAreWhole};
 ghost use Rattle.isle_laws_trees.specs.NoLoops.{TreesWithoutCallsHaveNoLoop};
 
 use isle_laws_demands::{
@@ -164,6 +164,11 @@ pub fn checkable_programs_pass_no_limit()
     ensures { CheckableProgramsPassNoLimit }
 {}
 
+/// Each rule of a list that elaborates has a typed rule within the limits on expansions, from the names of the terms.
+pub fn elaborated_rules_are_within_limits()
+    ensures { ElaboratedRulesAreWithinLimits }
+{}
+
 /// No rule of a list that elaborates passes a limit on expansions.
 pub fn elaborated_lists_pass_no_limit()
     ensures { ElaboratedListsPassNoLimit }
@@ -177,6 +182,13 @@ pub fn accepted_pass_no_limit()
 /// The closed demands of each rule of accepted definitions are all that follows from what it demands.
 pub fn accepted_demands_are_whole()
     ensures { AcceptedDemandsAreWhole }
+{
+    built_demands_are_whole();
+}
+
+/// So each rule of their sets asks all that follows from what its source rule demands, and nothing else.
+pub fn accepted_sets_are_whole()
+    ensures { AcceptedSetsAreWhole }
 {
     built_demands_are_whole();
 }
@@ -218,7 +230,8 @@ pub fn none_is_accepted_and_refused()
     ensures { NoneIsAcceptedAndRefused }
 {}
 
-/// Definitions that are read, and whose rules stand at distinct positions, are refused with one list of errors.
+/// Definitions that are read are refused with one list of errors, those of their check; what says why they are refused fixes
+/// it too, where no two rules stand at one position.
 pub fn refusing_gives_one()
     ensures { RefusingGivesOne }
 {}

@@ -1,7 +1,7 @@
 //! How reports are laid out: as rustc's, or each in one line.
 
 use crate::lines::{Line, file_name, file_text, line_at};
-use crate::report::{Label, Note, Report};
+use crate::report::{Label, Level, Note, Report};
 use isle_base::syntax::{Files, Pos};
 use std::alloc::{AllocError, Global};
 
@@ -10,6 +10,8 @@ use std::alloc::{AllocError, Global};
 pub enum Layout {
     /// With the lines that they speak of, and what is meant underlined; an empty line after each.
     Text,
+    /// The same in a terminal's colours: what is told, and the marks, red where they tell of an error's own place, else blue.
+    Colored,
     /// Each in one line: the first place, what it says, the further places, and the notes.
     Line,
 }
@@ -23,7 +25,8 @@ pub fn push_reports(
 ) -> Result<(), AllocError> {
     for report in reports {
         match layout {
-            Layout::Text => push_text(out, files, report)?,
+            Layout::Text => push_text(out, files, report, false)?,
+            Layout::Colored => push_text(out, files, report, true)?,
             Layout::Line => push_line(out, files, report)?,
         }
     }
@@ -52,7 +55,7 @@ fn push_line(out: &mut String, files: &Files, report: &Report) -> Result<(), All
             out.push_str(": ")?;
         }
     }
-    push_head(out, report)?;
+    push_head(out, report, false)?;
     for (i, label) in report.labels.iter().enumerate() {
         if i > 0 {
             push_further(out, files, label)?;
@@ -73,12 +76,46 @@ fn push_further(out: &mut String, files: &Files, label: &Label) -> Result<(), Al
     push_place(out, files, label.pos)
 }
 
+// The codes of a terminal: bold red for errors, bold yellow for warnings, bold blue for further places, bold, and none.
+const RED: &str = "1;31";
+
+const YELLOW: &str = "1;33";
+
+const BLUE: &str = "1;34";
+
+const BOLD: &str = "1";
+
+const PLAIN: &str = "0";
+
+// Adds what turns a terminal to this code, where colours are wanted.
+fn push_code(out: &mut String, code: &str, colored: bool) -> Result<(), AllocError> {
+    if colored {
+        out.push_str("\u{1b}[")?;
+        out.push_str(code)?;
+        out.push('m')?;
+    }
+    Ok(())
+}
+
+// The code of a report's kind, and of the marks at its own place.
+fn code_of(level: Level) -> &'static str {
+    match level {
+        Level::Error => RED,
+        Level::Warning => YELLOW,
+    }
+}
+
 // Adds what a report says.
-fn push_head(out: &mut String, report: &Report) -> Result<(), AllocError> {
+fn push_head(out: &mut String, report: &Report, colored: bool) -> Result<(), AllocError> {
     let word = report.level.word();
     let kind = report.kind;
-    write!(out, "{word}[{kind}]: ")?;
-    out.push_str(&report.message)
+    push_code(out, code_of(report.level), colored)?;
+    write!(out, "{word}[{kind}]")?;
+    push_code(out, PLAIN, colored)?;
+    push_code(out, BOLD, colored)?;
+    out.push_str(": ")?;
+    out.push_str(&report.message)?;
+    push_code(out, PLAIN, colored)
 }
 
 // Adds a note, without the end of its line.
@@ -89,11 +126,16 @@ fn push_note(out: &mut String, note: &Note) -> Result<(), AllocError> {
 }
 
 // Adds a report with the lines that it speaks of, and an empty line.
-fn push_text(out: &mut String, files: &Files, report: &Report) -> Result<(), AllocError> {
-    push_head(out, report)?;
+fn push_text(
+    out: &mut String,
+    files: &Files,
+    report: &Report,
+    colored: bool,
+) -> Result<(), AllocError> {
+    push_head(out, report, colored)?;
     out.push('\n')?;
     let width = number_width(files, report);
-    push_labels(out, files, report, width)?;
+    push_labels(out, files, report, width, colored)?;
     for note in &report.notes {
         push_spaces(out, width)?;
         out.push_str(" = ")?;
@@ -110,6 +152,7 @@ fn push_labels(
     files: &Files,
     report: &Report,
     width: u64,
+    colored: bool,
 ) -> Result<(), AllocError> {
     let Some(first) = report.labels.first() else {
         return Ok(());
@@ -119,8 +162,17 @@ fn push_labels(
     for label in &in_order(*out.allocator(), report, first.pos.file)? {
         let line = line_of(files, label.pos);
         push_source(out, files, label.pos, line, last, width)?;
-        let mark = if label.pos == first.pos { '^' } else { '-' };
-        push_underline(out, line, &label.text, mark, width)?;
+        let (mark, code) = if label.pos == first.pos {
+            ('^', code_of(report.level))
+        } else {
+            ('-', BLUE)
+        };
+        push_bar(out, width, " ")?;
+        push_spaces(out, line.indent())?;
+        push_code(out, code, colored)?;
+        push_marks(out, line, &label.text, mark)?;
+        push_code(out, PLAIN, colored)?;
+        out.push('\n')?;
         last = (label.pos.file, line.number);
     }
     if !report.notes.is_empty() {
@@ -186,22 +238,14 @@ fn push_numbered(out: &mut String, line: Line<'_>, width: u64) -> Result<(), All
     out.push('\n')
 }
 
-// Adds the line below a line of text: marks under what is meant, and what it has to do with the report.
-fn push_underline(
-    out: &mut String,
-    line: Line<'_>,
-    text: &str,
-    mark: char,
-    width: u64,
-) -> Result<(), AllocError> {
-    push_bar(out, width, " ")?;
-    push_spaces(out, line.indent())?;
+// Adds marks below what is meant in a line, and what it has to do with the report.
+fn push_marks(out: &mut String, line: Line<'_>, text: &str, mark: char) -> Result<(), AllocError> {
     push_times(out, mark, line.extent())?;
     if !text.is_empty() {
         out.push(' ')?;
         out.push_str(text)?;
     }
-    out.push('\n')
+    Ok(())
 }
 
 // Adds the bar beside lines of text, where no number stands.

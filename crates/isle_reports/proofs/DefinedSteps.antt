@@ -1,15 +1,17 @@
 -- Whether each term is defined, looked at one after another.
-use Rattle.std.proofs.Common.{◌≡◌, ℕ, ◌+◌, ◌<◌, IsTrue, List, [], ◌∷◌, drop, get_or, length, All, refl, sym, ap, subst, ◌∙◌, inl, inr, ◌⊎◌}
+use Rattle.std.proofs.Common.{◌≡◌, ◌≢◌, ℕ, ◌+◌, ◌<◌, IsTrue, List, [], ◌∷◌, ◌++◌, take, drop, get_or, length, All, refl, sym, ap, subst, ◌∙◌, inl, inr, ◌⊎◌}
 use Rattle.std.proofs.lemmas.List.{at_drop_more}
-use Rattle.std.proofs.lemmas.List.Elements.{All-nil, All-cons, All-head, All-tail}
+use Rattle.std.proofs.lemmas.List.Elements.{All-nil, All-cons, All-head, All-tail, All-append}
 use Rattle.isle_base.specs.declared.syntax.Error.{Error}
 use Rattle.isle_model.specs.lists.Tables.{TermEntry}
 use Rattle.isle_terms.specs.declared.term.Term.{Term}
 use Rattle.isle_terms.specs.TermViews.{term_view, term_views}
 use Rattle.isle_base.specs.Noting.{NotesMore}
-use Rattle.isle_base.proofs.Noted.{both}
+use Rattle.isle_base.specs.Positions.{NotesAt}
+use Rattle.isle_base.proofs.Noted.{both, some_noted}
 use Rattle.isle_reports.specs.Elaborating.{Checks}
-use Rattle.isle_reports.specs.RuleNaming.{is_defined_term, AreDefined}
+use Rattle.isle_reports.specs.RuleNaming.{is_defined_term, AreDefined, IsLeftUndefined, left_undefined}
+use Rattle.isle_reports.proofs.FirstErrors.{may_check, goes_on, IsNoted, BeginsUnless, begins_next, parted, before_next}
 
 abbrev IsDefinedTerm : TermEntry → Type 0
 IsDefinedTerm t = IsTrue (is_defined_term t)
@@ -37,3 +39,22 @@ first_defined all es = inl (refl, λ h. h, λ h. h)
 pub last_defined : (all : List TermEntry) (old new : List Error) → DefinedAt all [] old new → Checks old new (AreDefined all)
 last_defined all old new (inl a) = inl (a.0, a.1 (All-nil IsDefinedTerm))
 last_defined all old new (inr a) = inr a
+
+-- the first term that isn't defined
+module _ (before rest : List TermEntry) (t : TermEntry) (all : List TermEntry) (split : all ≡ before ++ t ∷ rest) (mid new : List Error) (none : mid ≡ []) (right : AreDefined before) (noted : NotesAt (t.at ∷ []) mid new) where
+  left_here : Checks mid new (IsDefinedTerm t) → ((new ≡ []) × AreDefined (before ++ t ∷ [])) ⊎ ((new ≢ []) × IsNoted (IsLeftUndefined all) mid new)
+  left_here (inl c) = inl (c.0 ∙ none, All-append IsDefinedTerm before (t ∷ []) right (All-cons IsDefinedTerm t [] c.1 (All-nil IsDefinedTerm)))
+  left_here (inr c) = inr (some_noted c.0, (t.at ∷ [], left_undefined before t rest split right c.1, noted))
+
+-- the terms before one at a place
+abbrev pub terms_before : List Term → ℕ → List TermEntry
+terms_before terms i = term_views (take i terms)
+
+pub next_begins : (terms : List Term) (i : ℕ) (t : Term) → i < length terms → t ≡ get_or terms i t → (old mid new : List Error) → Checks mid new (IsDefinedTerm (term_view t)) → NotesAt ((term_view t).at ∷ []) mid new
+    → BeginsUnless (IsLeftUndefined (term_views terms)) (AreDefined (terms_before terms i)) old mid → BeginsUnless (IsLeftUndefined (term_views terms)) (AreDefined (terms_before terms (i + 1))) old new
+next_begins terms i t within at old mid new c noted b =
+    let all = term_views terms in
+    let before = terms_before terms i in
+    subst (λ ts. BeginsUnless (IsLeftUndefined all) (AreDefined ts) old new) (sym (before_next term_view terms i t within at))
+    (begins_next (IsLeftUndefined all) (AreDefined before) (AreDefined (before ++ term_view t ∷ [])) old mid new b (goes_on mid new (may_check c))
+    (λ none right. left_here before (term_views (drop (i + 1) terms)) (term_view t) all (parted term_view terms i t within at) mid new none right noted c))

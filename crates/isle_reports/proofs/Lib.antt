@@ -1,4 +1,5 @@
 pub mod Defaults
+pub mod FirstErrors
 mod MapSteps
 mod NameSteps
 mod CountSteps

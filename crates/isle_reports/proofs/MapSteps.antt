@@ -1,5 +1,5 @@
 -- Naming one rule after another.
-use Rattle.std.proofs.Common.{◌≡◌, ℕ, zero, suc, ◌+◌, ◌<◌, Bool, true, false, cond, nat_eq, IsTrue, List, [], ◌∷◌, ◌++◌, length, drop, get_or, Option, Some, None, option_map, is_some, unwrap_or, slice_get, refl, sym, ap, subst, ◌∙◌, arith, inl, inr, ◌⊎◌}
+use Rattle.std.proofs.Common.{◌≡◌, ◌≢◌, ℕ, zero, suc, ◌+◌, ◌<◌, Bool, true, false, cond, nat_eq, IsTrue, Contains, List, [], ◌∷◌, ◌++◌, length, drop, get_or, Option, Some, None, option_map, is_some, unwrap_or, slice_get, refl, sym, ap, subst, ◌∙◌, arith, inl, inr, ◌⊎◌}
 use Rattle.std.specs.Bool.{◌==◌}
 use Rattle.std.specs.List.{cons_option}
 use Rattle.std.proofs.lemmas.Bool.{false≢true, eqb-true, eq-eqb}
@@ -9,6 +9,7 @@ use Rattle.isle_base.specs.declared.syntax.Error.{Error}
 use Rattle.isle_base.specs.Stable.{Entries, look_up}
 use Rattle.isle_model.specs.lists.Names.{IsDistinct}
 use Rattle.isle_model.proofs.Positions.{distinct_nil, distinct_push, twice}
+use Rattle.isle_model.proofs.Members.{member_from_get}
 use Rattle.isle_model.specs.rules.Typed.{TypedRule}
 use Rattle.isle_model.specs.lists.Elaborated.{rule_names, rule_named}
 use Rattle.isle_types.specs.declared.ids.Sym.{Sym}
@@ -16,9 +17,11 @@ use Rattle.isle_types.specs.declared.ids.RuleId.{RuleId}
 use Rattle.isle_types.specs.Envs.{same_symbol, symbol}
 use Rattle.isle_typed.specs.declared.rules.Rule.{Rule}
 use Rattle.isle_typed.specs.RuleViews.{rule_view, rule_views}
-use Rattle.isle_base.specs.Noting.{NotesMore}
-use Rattle.isle_reports.specs.RuleNaming.{rule_in, NamesAs, NamesRule, MapsNames}
-use Rattle.isle_base.proofs.Noted.{both}
+use Rattle.isle_base.specs.Noting.{NotesMore, MayNoteMore}
+use Rattle.isle_base.specs.Positions.{NotesAt}
+use Rattle.isle_reports.specs.RuleNaming.{rule_in, NamesAs, NamesRule, MapsNames, TakesName, takes_name}
+use Rattle.isle_base.proofs.Noted.{both, some_noted}
+use Rattle.isle_reports.proofs.FirstErrors.{goes_on, IsNoted, BeginsUnless, begins_next}
 
 -- whether a rule has the name
 abbrev has_it : Option ℕ → ℕ → Bool
@@ -125,6 +128,13 @@ module _ (all rest : List TypedRule) (r : TypedRule) (before after : Entries Sym
     names_all =
         sym (ap rule_names m.whole) ∙ filter_map-append (λ q. q.name) m.done (r ∷ rest) ∙ ap (λ o. rule_names m.done ++ cons_option o (rule_names rest)) has
 
+    there : IsTrue (is_some (rule_in before name)) → Contains (rule_names m.done) name
+    there some =
+        elim (rule_named m.done name) as (λ o. rule_named m.done name ≡ o → is_some o ≡ true → Contains (rule_names m.done) name) [
+          | None ↦ λ _ h. absurd (false≢true h)
+          | Some i ↦ λ e _. let p = named_place m.done name i e in member_from_get (rule_names m.done) p.0 name p.2
+        ] refl (sym (ap is_some (m.ids name)) ∙ some)
+
     taken : IsTrue (is_some (rule_in before name)) → IsDistinct (rule_names all) → ⊥
     taken some once =
         elim (rule_named m.done name) as (λ o. rule_named m.done name ≡ o → is_some o ≡ true → ⊥) [
@@ -157,3 +167,29 @@ last_named all old new m (inl a) =
     let e : a.1.done ≡ all = sym (append-nil a.1.done) ∙ a.1.whole in
     inl (a.0, subst (λ xs. IsDistinct (rule_names xs)) e a.1.distinct, λ k. a.1.ids k ∙ ap (λ xs. rule_named xs k) e)
 last_named all old new m (inr a) = inr a
+
+-- the first name that is taken
+name_noted : (old new : List Error) (id : ℕ) (o : Option ℕ) (before after : Entries Sym RuleId) → NamesAs old new id o before after → MayNoteMore old new
+name_noted old new id None before after s = inl s.0
+name_noted old new id (Some n) before after (inl s) = inl s.0
+name_noted old new id (Some n) before after (inr s) = inr s.0
+
+module _ (all rest : List TypedRule) (r : TypedRule) (mid new : List Error) (before after : Entries Sym RuleId) (m : Mapping all (r ∷ rest) before) (none : mid ≡ []) (noted : NotesAt (r.at ∷ []) mid new) where
+  name_taken : (o : Option ℕ) → r.name ≡ o → NamesAs mid new r.id o before after → ((new ≡ []) × Unit {0}) ⊎ ((new ≢ []) × IsNoted (TakesName all) mid new)
+  name_taken None e s = inl (s.0 ∙ none, tt)
+  name_taken (Some n) e (inl s) = inl (s.0 ∙ none, tt)
+  name_taken (Some n) e (inr s) = inr (some_noted s.0, (r.at ∷ [], takes_name m.done r rest (sym m.whole) m.distinct n e (there all rest r before after m n e s.1), noted))
+
+mapping_here : (all rest : List TypedRule) (old mid : List Error) (m : Entries Sym RuleId) → MappingAt all rest old mid m → mid ≡ [] → Mapping all rest m
+mapping_here all rest old mid m (inl a) none = a.1
+mapping_here all rest old mid m (inr a) none = absurd (some_noted a.0 none)
+
+pub next_begins : (rules : List Rule) (i : ℕ) (r : Rule) → i < length rules → r ≡ get_or rules i r → (old mid new : List Error) (before after : Entries Sym RuleId) → MappingAt (rule_views rules) (rule_views (drop i rules)) old mid before → NamesRule mid new (rule_view r) before after
+    → NotesAt ((rule_view r).at ∷ []) mid new → BeginsUnless (TakesName (rule_views rules)) (Unit {0}) old mid → BeginsUnless (TakesName (rule_views rules)) (Unit {0}) old new
+next_begins rules i r within at old mid new before after a s noted b =
+    let all = rule_views rules in
+    let left : rule_views (drop i rules) ≡ rule_view r ∷ rule_views (drop (i + 1) rules) =
+    at_drop_more rule_views rules i r within ∙ ap (λ x. rule_view x ∷ rule_views (drop (i + 1) rules)) (sym at) in
+    begins_next (TakesName all) (Unit {0}) (Unit {0}) old mid new b (goes_on mid new (name_noted mid new (rule_view r).id (rule_view r).name before after s))
+    (λ none _. name_taken all (rule_views (drop (i + 1) rules)) (rule_view r) mid new before after
+    (subst (λ rs. Mapping all rs before) left (mapping_here all (rule_views (drop i rules)) old mid before a none)) none noted (rule_view r).name refl s)

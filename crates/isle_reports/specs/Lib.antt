@@ -1,2 +1,3 @@
 pub mod Elaborating
+pub mod FirstErrors
 pub mod RuleNaming

@@ -1,5 +1,5 @@
 -- What naming one rule after another does.
-use Rattle.std.specs.Prelude.{◌≡◌, ℕ, ◌<◌, Bool, ◌||◌, ◌⊎◌, nat_eq, List, length, map, count_by, Option, Some, None, option_map, is_some, slice_get, All, IsTrue, if◌then◌else◌}
+use Rattle.std.specs.Prelude.{◌≡◌, ℕ, ◌<◌, Bool, ◌||◌, ◌⊎◌, nat_eq, List, [], ◌∷◌, ◌++◌, length, map, Contains, count_by, Option, Some, None, option_map, is_some, slice_get, All, IsTrue, if◌then◌else◌}
 use Rattle.std.specs.Bool.{◌==◌}
 use Rattle.isle_base.specs.declared.syntax.Error.{Error}
 use Rattle.isle_base.specs.Stable.{Entries, look_up}
@@ -54,3 +54,12 @@ is_defined_term t = has_constructor_term t || has_extractor_term t
 -- each term has
 abbrev pub AreDefined : List TermEntry → Type 0
 AreDefined terms = All (λ t. IsTrue (is_defined_term t)) terms
+
+-- the first rule with a name that a rule before it has: an error stands at its place
+pub data TakesName (rules : List TypedRule) : List Position → Type 0 where
+  takes_name : (before : List TypedRule) (rule : TypedRule) (after : List TypedRule) → rules ≡ before ++ rule ∷ after → IsDistinct (rule_names before)
+      → (name : ℕ) → rule.name ≡ Some name → Contains (rule_names before) name → TakesName rules (rule.at ∷ [])
+
+-- the first term that nothing makes or takes apart: an error stands where it is declared
+pub data IsLeftUndefined (terms : List TermEntry) : List Position → Type 0 where
+  left_undefined : (before : List TermEntry) (term : TermEntry) (after : List TermEntry) → terms ≡ before ++ term ∷ after → AreDefined before → (IsTrue (is_defined_term term) → ⊥) → IsLeftUndefined terms (term.at ∷ [])

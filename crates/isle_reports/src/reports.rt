@@ -1,7 +1,9 @@
 //! How what is wrong with rules is noted, and the texts of types, for messages.
 
-ghost use Rattle.std.specs.Prelude.{◌≡◌, true, [], ◌∷◌, OnOk};
+ghost use Rattle.std.specs.Prelude.{◌≡◌, true, [], ◌∷◌, ◌++◌, OnOk};
+ghost use Rattle.isle_model.specs.claims.Refusals.{ill_typed};
 ghost use Rattle.isle_reports.specs.Elaborating.{Checks};
+ghost use Rattle.isle_base.specs.ErrorViews.{error_views};
 ghost use Rattle.isle_base.specs.Noting.{NotesMore};
 ghost use Rattle.isle_base.specs.Positions.{NotesAt};
 ghost use Rattle.isle_base.specs.SyntaxViews.{position};
@@ -19,6 +21,7 @@ pub fn report<M: Display + Drop>(
 ) -> Result<(), AllocError>
     ensures noted { OnOk result (NotesMore errors.old.items errors.new.items) }
     ensures places { OnOk result (NotesAt (position pos ∷ []) errors.old.items errors.new.items) }
+    ensures one { OnOk result (error_views errors.new.items ≡ error_views errors.old.items ++ ill_typed (position pos) ∷ []) }
 {
     let msg = String::format(*errors.allocator(), msg)?;
     let span = Span::new_single(pos);
@@ -47,6 +50,7 @@ pub fn check<M: Display + Drop>(
 pub fn report_unmade(errors: &mut Vec<Error>, pos: Pos, name: &str) -> Result<(), AllocError>
     ensures noted { OnOk result (NotesMore errors.old.items errors.new.items) }
     ensures places { OnOk result (NotesAt (position pos ∷ []) errors.old.items errors.new.items) }
+    ensures one { OnOk result (error_views errors.new.items ≡ error_views errors.old.items ++ ill_typed (position pos) ∷ []) }
 {
     let msg = format_args!(
         "term `{name}` cannot be used in an expression because it does not have a constructor"

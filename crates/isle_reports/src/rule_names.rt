@@ -6,7 +6,8 @@ ghost use Rattle.isle_model.specs.lists.Elaborated.{named_rule, named_rules, ter
 ghost use Rattle.isle_model.specs.rules.Typed.{TypedRule};
 ghost use Rattle.isle_terms.specs.TermViews.{term_view, term_views};
 ghost use Rattle.isle_reports.specs.Elaborating.{Checks};
-ghost use Rattle.isle_reports.specs.RuleNaming.{AreCounts, MapsNames, NamesRule, is_defined_term, AreDefined, rules_at, terms_at};
+ghost use Rattle.isle_reports.specs.FirstErrors.{MayBegin};
+ghost use Rattle.isle_reports.specs.RuleNaming.{AreCounts, MapsNames, NamesRule, TakesName, is_defined_term, AreDefined, IsLeftUndefined, rules_at, terms_at};
 ghost use Rattle.isle_typed.specs.RuleViews.{rule_view, rule_views};
 
 use crate::reports::report;
@@ -76,6 +77,7 @@ pub fn map_names(
 ) -> Result<StableMap<Sym, RuleId>, AllocError>
     ensures maps { IfOk result (λ m. MapsNames errors.old.items errors.new.items (rule_views rules.now) m) }
     ensures places { OnOk result (NotesAt (rules_at (rule_views rules.now)) errors.old.items errors.new.items) }
+    ensures first { OnOk result (MayBegin (TakesName (rule_views rules.now)) errors.old.items errors.new.items) }
 {
     let mut rule_map = StableMap::new(alloc);
     for rule in rules {
@@ -113,6 +115,7 @@ pub fn check_defined(
 ) -> Result<(), AllocError>
     ensures checks { OnOk result (Checks errors.old.items errors.new.items (AreDefined (term_views terms.now))) }
     ensures places { OnOk result (NotesAt (terms_at (term_views terms.now)) errors.old.items errors.new.items) }
+    ensures first { OnOk result (MayBegin (IsLeftUndefined (term_views terms.now)) errors.old.items errors.new.items) }
 {
     for term in terms {
         check_term(tyenv, term, errors)?;

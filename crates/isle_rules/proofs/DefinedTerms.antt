@@ -1,16 +1,18 @@
 -- Each declared term of a list has rules, an external constructor or an extractor exactly where each term of its table has
 -- something that makes it or takes it apart.
-use Rattle.std.proofs.Common.{◌≡◌, ℕ, ◌+◌, ◌||◌, Bool, true, false, cond, List, [], ◌∷◌, ◌++◌, map, All, IsTrue, Option, Some, None, option_map, is_some, refl, sym, ap, ◌∙◌}
+use Rattle.std.proofs.Common.{◌≡◌, ℕ, ◌+◌, ◌||◌, Bool, true, false, cond, List, [], ◌∷◌, ◌++◌, map, All, Contains, IsTrue, Option, Some, None, option_map, is_some, refl, sym, ap, subst, ◌∙◌}
 use Rattle.std.proofs.Math.Path.{ap₂}
 use Rattle.std.specs.List.{enumerate_from, find, flat_map}
 use Rattle.std.specs.Str.{bytes_eq}
-use Rattle.std.proofs.lemmas.List.Elements.{All-nil, All-cons, All-head, All-tail, All-append}
-use Rattle.isle_model.specs.lists.Syntax.{DeclTree, ExtractorTree, Definition}
+use Rattle.std.proofs.lemmas.List.Elements.{All-nil, All-cons, All-head, All-tail, All-append, All-contains, Contains-append_right}
+use Rattle.isle_model.specs.lists.Syntax.{Position, DeclTree, ExtractorTree, Definition}
 use Rattle.isle_model.specs.lists.Names.{number, has_name}
 use Rattle.isle_model.specs.lists.Tables.{internal_constructor, external_constructor, internal_extractor, external_extractor, TermEntry}
 use Rattle.isle_model.specs.lists.KnownTypes.{KnownTypes}
 use Rattle.isle_model.specs.lists.TermTable.{ConstructorTree, ExternalTree, decl_trees, constructor_trees, extractor_trees, external_trees, extractor_template, internal_extractors, external_extractors, external_constructors, has_rules, constructor_kind, extractor_kind, decl_as_term, terms_made, terms_in_order, term_names_met, term_table, is_defined, IsDefined, AllDefined}
-use Rattle.isle_reports.specs.RuleNaming.{is_defined_term, AreDefined}
+use Rattle.isle_model.proofs.Members.{in_head}
+use Rattle.isle_reports.specs.RuleNaming.{is_defined_term, AreDefined, IsLeftUndefined, left_undefined}
+use Rattle.isle_rules.specs.RuleBreaches.{IsUndefined, undefined}
 use Rattle.isle_rules.proofs.TemplateUses.{each_made, of_types}
 
 abbrev IsDefinedTerm : TermEntry → Type 0
@@ -81,3 +83,51 @@ module _ (k : KnownTypes) (defs : List Definition) where
 
   pub all_defined : AreDefined (term_table k defs) → AllDefined defs
   all_defined h = back 0 (decl_trees defs) (flat_map terms_made k.types) h
+
+  -- the first term that isn't defined is that of the first declaration of one that isn't
+  record FoundUndefined (ds : List DeclTree) (t : TermEntry) : Type 0 where
+    pub before : List DeclTree
+    pub declared_here : DeclTree
+    pub after : List DeclTree
+    pub split : ds ≡ before ++ declared_here ∷ after
+    pub right : All (IsDefined defs) before
+    pub wrong : IsDefined defs declared_here → ⊥
+    pub place : declared_here.at ≡ t.at
+
+  abbrev made_from : ℕ → List (ℕ → TermEntry) → List TermEntry
+  made_from i fs = map (λ p. p.1 p.0) (enumerate_from i fs)
+
+  found_undefined : (i : ℕ) (ds : List DeclTree) (fs : List (ℕ → TermEntry)) → All Always fs → (before : List TermEntry) (t : TermEntry) (after : List TermEntry) → made_from i (map (decl_as_term k defs names) ds ++ fs) ≡ before ++ t ∷ after
+      → All IsDefinedTerm before → (IsDefinedTerm t → ⊥) → FoundUndefined ds t
+  found_undefined i [] fs always before t after split right wrong =
+      absurd (wrong (All-contains IsDefinedTerm (made_from i fs) t (each_made IsDefinedTerm i fs always) (subst (λ ts. Contains ts t) (sym split) (Contains-append_right before (t ∷ after) t (in_head t after)))))
+  found_undefined i (d ∷ ds) fs always [] t after split right wrong =
+      let here : decl_as_term k defs names d i ≡ t = cc in
+      record {
+        before = [];
+        declared_here = d;
+        after = ds;
+        split = refl;
+        right = All-nil (IsDefined defs);
+        wrong = λ h. wrong (subst IsDefinedTerm here (same_test d i ∙ h));
+        place = ap (λ (u : TermEntry). u.at) here;
+      }
+  found_undefined i (d ∷ ds) fs always (u ∷ before) t after split right wrong =
+      let here : decl_as_term k defs names d i ≡ u = cc in
+      let rest : made_from (i + 1) (map (decl_as_term k defs names) ds ++ fs) ≡ before ++ t ∷ after = cc in
+      let f = found_undefined (i + 1) ds fs always before t after rest (All-tail IsDefinedTerm u before right) wrong in
+      record {
+        before = d ∷ f.before;
+        declared_here = f.declared_here;
+        after = f.after;
+        split = ap (λ xs. d ∷ xs) f.split;
+        right = All-cons (IsDefined defs) d f.before (sym (same_test d i) ∙ subst IsDefinedTerm (sym here) (All-head IsDefinedTerm u before right)) f.right;
+        wrong = f.wrong;
+        place = f.place;
+      }
+
+  pub undefined_declared : (ps : List Position) → IsLeftUndefined (term_table k defs) ps → IsUndefined defs ps
+  undefined_declared ps (left_undefined before t after split right wrong) =
+      let f =
+      found_undefined 0 (decl_trees defs) (flat_map terms_made k.types) (of_types IsDefinedTerm (λ ty v id. refl) (λ name ty fields at id. refl) k.types) before t after split right wrong in
+      subst (λ p. IsUndefined defs (p ∷ [])) f.place (undefined f.before f.declared_here f.after f.split f.right f.wrong)

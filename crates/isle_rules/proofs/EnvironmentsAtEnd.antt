@@ -75,7 +75,7 @@ module _ (e : TypesRead) (r : AreReadable e) (defs : List Definition) where
       let own : AreTermsOf e defs (terms_shown_by env) (environment_view old) = subst (λ t. AreTermsOf e defs t (environment_view old)) (sym shown) a in
       let is : IsSettingOf old env (setting_of e defs expand) = subst (λ b. IsSettingOf old env (setting_of e defs b)) flag (setting_shown e r defs env old own) in
       let inverse : IsInterned old = record { numbered = a.types.inverse.numbered; named = a.types.inverse.named } in
-      reads (setting_of e defs expand) is (terms_named env old (setting_of e defs expand) inverse is (terms_once e r defs env old own))
+      reads (setting_of e defs expand) is (terms_named env old (setting_of e defs expand) inverse is (terms_once e r defs a.valid))
 
   module _ (table : TermTable) (old new : TypeEnv) (a : AreTermsOf e defs (shown_by table) (environment_view old)) (k : Keeps old new) where
     pub left_in_the_end : IsLeftByRefusal e (environment_view new)

@@ -35,6 +35,8 @@ pub mod RulesTyped
 pub mod RuleErrorSteps
 pub mod NamedLimits
 pub mod FirstPastLimits
+pub mod RuleBreachSteps
+pub mod RuleBreaches
 pub mod NamedTerms
 pub mod TemplateUses
 pub mod DefinedTerms

@@ -96,7 +96,7 @@ from_before e old now m longer errors r h =
     }
 
 -- what was noted stays after a definition
-errors_stay : (env : TermEnv) (now : TypeEnv) (d : Definition) (mid after : List Error) → NotesOfDefinition env now d mid after → (e : Setting) → IsSettingOf now env e → (more : List Error) × (after ≡ mid ++ more)
+pub errors_stay : (env : TermEnv) (now : TypeEnv) (d : Definition) (mid after : List Error) → NotesOfDefinition env now d mid after → (e : Setting) → IsSettingOf now env e → (more : List Error) × (after ≡ mid ++ more)
 errors_stay env now (rule_definition r) mid after notes e is = let n = notes e is in (n.more, n.added)
 errors_stay env now (type_definition t) mid after notes e is = ([], notes ∙ sym (append-nil mid))
 errors_stay env now (declaration t) mid after notes e is = ([], notes ∙ sym (append-nil mid))
@@ -109,7 +109,7 @@ errors_stay env now other_definition mid after notes e is = ([], notes ∙ sym (
 abbrev pub rules_before : List Def → ℕ → List RuleTree
 rules_before defs i = rule_trees (S.definition_views (take i defs))
 
-one_more : (defs : List Def) (i : ℕ) (d : Def) → i < length defs → d ≡ get_or defs i d → rules_before defs (i + 1) ≡ rules_before defs i ++ rule_of (S.definition_view d)
+pub one_more : (defs : List Def) (i : ℕ) (d : Def) → i < length defs → d ≡ get_or defs i d → rules_before defs (i + 1) ≡ rules_before defs i ++ rule_of (S.definition_view d)
 one_more defs i d within at =
     ap (λ ds. rule_trees (S.definition_views ds)) (take_more defs i d within ∙ ap (λ x. take i defs ++ x ∷ []) (sym at))
     ∙ ap (flat_map rule_of) (map-append S.definition_view (take i defs) (d ∷ []))

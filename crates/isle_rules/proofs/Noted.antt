@@ -1,5 +1,5 @@
 -- Errors noted after errors.
-use Rattle.std.proofs.Common.{List, ◌∷◌, ◌++◌, ◌≡◌, [], String, ap, inl, inr}
+use Rattle.std.proofs.Common.{List, ◌∷◌, ◌++◌, ◌≡◌, [], String, ap}
 use Rattle.std.specs.declared.alloc.Global.{Global}
 use Rattle.isle_model.specs.claims.Refusals.{past_limit}
 use Rattle.isle_base.specs.SyntaxViews.{position}
@@ -9,15 +9,9 @@ use Rattle.isle_base.specs.declared.syntax.Limit.{Limit}
 use Rattle.isle_base.specs.declared.syntax.Pos.{Pos}
 use Rattle.isle_base.specs.declared.syntax.Span.{Span}
 use Rattle.isle_base.specs.ErrorViews.{limit_view}
-use Rattle.isle_reports.specs.Elaborating.{Checks}
-use Rattle.isle_base.specs.Noting.{MayNoteMore}
 use Rattle.isle_rules.specs.RuleLists.{NotesLimit}
 pub use Rattle.isle_base.proofs.Noted.{some_noted, both, may_both, still_plain}
-
--- what a check notes
-pub may_check : {a b : List Error} {P : Type 0} → Checks a b P → MayNoteMore a b
-may_check (inl ok) = inl ok.0
-may_check (inr wrong) = inr wrong.0
+pub use Rattle.isle_reports.proofs.FirstErrors.{may_check}
 
 -- a limit that is noted
 pub limit_noted : (l : Limit) (at : Pos) (msg : String Global) (span : Span) → span.from ≡ at → (old new : List Error) → new ≡ old ++ LimitError l msg span ∷ [] → NotesLimit l at old new

@@ -1,4 +1,4 @@
--- Errors that stand at positions of what is read, or of terms: from a part to the whole, and one step after another.
+-- Errors that stand at positions of what is read, or of templates: from a part to the whole, and one step after another.
 use Rattle.std.proofs.Common.{ℕ, List, [], ◌∷◌, ◌++◌, Result, Ok, Err, ap, inl, inr}
 use Rattle.std.proofs.lemmas.List.Elements.{Contains-append_cases}
 use Rattle.isle_model.specs.lists.Syntax.{Position}
@@ -13,25 +13,24 @@ use Rattle.isle_rules.specs.declared.typing.progress.Stop.TheVariants.{Memory, N
 use Rattle.isle_rules.specs.declared.typing.progress.Progress.{Progress}
 use Rattle.isle_rules.specs.Progress.{Counts}
 use Rattle.isle_rules.specs.RuleLists.{NotesStop}
-use Rattle.isle_rules.specs.RulePositions.{with_terms, KeepsPlaced, StaysPlaced}
-use Rattle.isle_terms.specs.TermPositions.{terms_positions}
+use Rattle.isle_rules.specs.RulePositions.{templates_positions, with_templates, KeepsPlaced, StaysPlaced}
 
 pub among_joined : (ps qs rs : List Position) → OccurAmong ps rs → OccurAmong qs rs → OccurAmong (ps ++ qs) rs
 among_joined ps qs rs a b p c = elim (Contains-append_cases ps qs p c) [ inl l ↦ a p l | inr r ↦ b p r ]
 
--- those of a part, and of the terms, are among those of the whole and of the terms
-pub among_with : (env : TermEnv) (ps qs : List Position) → OccurAmong ps qs → OccurAmong (with_terms env ps) (with_terms env qs)
+-- those of a part, and of the templates, are among those of the whole and of the templates
+pub among_with : (env : TermEnv) (ps qs : List Position) → OccurAmong ps qs → OccurAmong (with_templates env ps) (with_templates env qs)
 among_with env ps qs a =
-    let terms = terms_positions (term_views env.terms.items) in
-    among_joined ps terms (with_terms env qs) (among_both ps qs (with_terms env qs) a (among_left qs terms)) (among_right qs terms)
+    let templates = templates_positions env.expand_internal_extractors (term_views env.terms.items) in
+    among_joined ps templates (with_templates env qs) (among_both ps qs (with_templates env qs) a (among_left qs templates)) (among_right qs templates)
 
-pub among_here : (env : TermEnv) (ps qs : List Position) → OccurAmong ps qs → OccurAmong ps (with_terms env qs)
-among_here env ps qs a = among_both ps qs (with_terms env qs) a (among_left qs (terms_positions (term_views env.terms.items)))
+pub among_here : (env : TermEnv) (ps qs : List Position) → OccurAmong ps qs → OccurAmong ps (with_templates env qs)
+among_here env ps qs a = among_both ps qs (with_templates env qs) a (among_left qs (templates_positions env.expand_internal_extractors (term_views env.terms.items)))
 
--- what is among those of the whole and of the terms already
-pub among_made : (env : TermEnv) (ps qs : List Position) → OccurAmong ps (with_terms env qs) → OccurAmong (with_terms env ps) (with_terms env qs)
+-- what is among those of the whole and of the templates already
+pub among_made : (env : TermEnv) (ps qs : List Position) → OccurAmong ps (with_templates env qs) → OccurAmong (with_templates env ps) (with_templates env qs)
 among_made env ps qs a =
-    among_joined ps (terms_positions (term_views env.terms.items)) (with_terms env qs) a (among_right qs (terms_positions (term_views env.terms.items)))
+    among_joined ps (templates_positions env.expand_internal_extractors (term_views env.terms.items)) (with_templates env qs) a (among_right qs (templates_positions env.expand_internal_extractors (term_views env.terms.items)))
 
 keeps_among : (ps qs : List Position) (a b : List Error) (stop : Stop) → OccurAmong ps qs → KeepsPlaced ps a b stop → KeepsPlaced qs a b stop
 keeps_among ps qs a b (Memory e) h n = n
@@ -53,8 +52,8 @@ module _ {X : Type 0} where
   stays_after ps a b c (Err stop) m n = keeps_after ps a b c stop m n
 
   -- what stands at the first position
-  pub stays_head : (env : TermEnv) (p : Position) (ps : List Position) (a b : List Error) (r : Result X Stop) → StaysPlaced (p ∷ []) a b r → StaysPlaced (with_terms env (p ∷ ps)) a b r
-  stays_head env p ps a b r n = stays_among (p ∷ []) (with_terms env (p ∷ ps)) a b r (among_here env (p ∷ []) (p ∷ ps) (among_first p ps)) n
+  pub stays_head : (env : TermEnv) (p : Position) (ps : List Position) (a b : List Error) (r : Result X Stop) → StaysPlaced (p ∷ []) a b r → StaysPlaced (with_templates env (p ∷ ps)) a b r
+  stays_head env p ps a b r n = stays_among (p ∷ []) (with_templates env (p ∷ ps)) a b r (among_here env (p ∷ []) (p ∷ ps) (among_first p ps)) n
 
   -- one step after another, each of a part
   pub stays_step : (ps qs all : List Position) (a b c : List Error) (r : Result X Stop) → OccurAmong ps all → OccurAmong qs all → NotesAt ps a b → StaysPlaced qs b c r → StaysPlaced all a c r

@@ -12,7 +12,6 @@ use Rattle.isle_terms.specs.TermViews.{term_views}
 use Rattle.isle_terms.specs.Whole.{shown_by}
 use Rattle.isle_rules.specs.declared.term_env.TermEnv.{TermEnv}
 use Rattle.isle_rules.specs.ShownEnvs.{terms_shown_by}
-use Rattle.isle_rules.specs.RulePositions.{with_terms}
 use Rattle.isle_terms.specs.TermPositions.{terms_positions}
 use Rattle.isle_types.specs.TypePositions.{types_positions}
 use Rattle.isle_rules.proofs.Placed.{among_joined}
@@ -20,11 +19,11 @@ use Rattle.isle_rules.proofs.TermPlaces.{terms_inside}
 
 -- at positions of the definitions and of the types, since the terms are those of the list
 pub stand_in_the_end : (read : TypesRead) (defs : List Definition) (table : TermTable) (names : TypeEnvironment) → AreTermsOf read defs (shown_by table) names → (env : TermEnv) → terms_shown_by env ≡ shown_by table
-    → (types : List TypeEntry) → types ≡ read.known.types → (es : List Error) → NotesAt (with_terms env (positions_of defs)) [] es → All (ErrorStandsAt (positions_of defs ++ types_positions types)) es
+    → (types : List TypeEntry) → types ≡ read.known.types → (es : List Error) → NotesAt (positions_of defs ++ terms_positions (term_views env.terms.items)) [] es → All (ErrorStandsAt (positions_of defs ++ types_positions types)) es
 stand_in_the_end read defs table names terms env shows types is es noted =
     let all = positions_of defs ++ types_positions types in
     let same : term_views env.terms.items ≡ term_table read.known defs = ap (λ s. s.terms) shows ∙ terms.rows.table in
     let of_terms : OccurAmong (terms_positions (term_views env.terms.items)) all =
     subst (λ ts. OccurAmong (terms_positions ts) all) (sym same) (subst (λ ts. OccurAmong (terms_positions (term_table read.known defs)) (positions_of defs ++ types_positions ts)) (sym is) (terms_inside read.known defs)) in
     all_stand all es
-    (notes_among (with_terms env (positions_of defs)) all [] es (among_joined (positions_of defs) (terms_positions (term_views env.terms.items)) all (among_left (positions_of defs) (types_positions types)) of_terms) noted)
+    (notes_among (positions_of defs ++ terms_positions (term_views env.terms.items)) all [] es (among_joined (positions_of defs) (terms_positions (term_views env.terms.items)) all (among_left (positions_of defs) (types_positions types)) of_terms) noted)

@@ -1,5 +1,5 @@
 -- Why reading the rules of a list is refused, and which limits its errors name: those that a rule passed.
-use Rattle.std.proofs.Common.{◌≡◌, ◌≢◌, All, Bool, List, [], None, refl, sym, subst, inl, inr}
+use Rattle.std.proofs.Common.{◌≡◌, ◌≢◌, ℕ, All, Bool, List, [], None, refl, sym, subst, inl, inr}
 use Rattle.std.proofs.lemmas.List.Elements.{All-contains, All-weaker}
 use Rattle.std.specs.Prelude.{Result, Ok, Err, IsErr, IsErrAnd}
 use Rattle.isle_base.specs.Answers.{NoLimit, OnErrors, limit_of}
@@ -8,7 +8,7 @@ use Rattle.isle_base.specs.declared.syntax.Fault.TheVariants.{Errors, Memory}
 use Rattle.isle_base.specs.declared.syntax.Error.{Error}
 use Rattle.isle_base.specs.Stable.{Entries}
 use Rattle.isle_model.specs.lists.Syntax.{Position, RuleTree, Definition}
-use Rattle.isle_model.specs.lists.TermTable.{rule_trees, term_names_met}
+use Rattle.isle_model.specs.lists.TermTable.{rule_trees, term_names_met, term_table}
 use Rattle.isle_model.specs.claims.Environments.{TypesRead, AreReadable, HasTypedRules, setting_of, AreTermsOf}
 use Rattle.isle_model.specs.claims.Refusals.{NamedLimit, Refusal, ill_typed, unreachable, overlapping, shadowing, past_limit, NamesOnlyPassed, PassedInReading, IsIllTyped, IsOfReading, RefusesTerms, RefusesRules}
 use Rattle.isle_model.specs.rules.Typed.{TypedRule}
@@ -25,7 +25,11 @@ use Rattle.isle_base.specs.ErrorViews.{error_views}
 use Rattle.isle_base.specs.Noting.{MayNoteMore}
 use Rattle.isle_rules.specs.LimitsNamed.{NamesPastLimits, NamesTypedPastLimits, NamesFirstPastLimits}
 use Rattle.isle_rules.specs.RuleErrors.{NotesOfRules, IsOfRules}
-use Rattle.isle_reports.specs.RuleNaming.{MapsNames}
+use Rattle.isle_reports.specs.RuleNaming.{MapsNames, AreDefined, IsLeftUndefined}
+use Rattle.isle_reports.proofs.FirstErrors.{begins_as}
+use Rattle.isle_terms.specs.TermBreaches.{FirstBreaksTerms}
+use Rattle.isle_rules.specs.RuleBreaches.{BreaksReading, BeginsWrong, BreaksRules, of_terms, of_rules, FirstBreaksRules}
+use Rattle.isle_rules.proofs.RuleBreaches.{of_list}
 use Rattle.isle_rules.specs.ShownEnvs.{terms_shown_by}
 use Rattle.isle_rules.specs.Translating.{IsSettingOf}
 use Rattle.isle_rules.proofs.NamedLimits.{each_named}
@@ -55,7 +59,7 @@ module _ (e : TypesRead) (r : AreReadable e) (defs : List Definition) (table : T
   inverse = record { numbered = a.types.inverse.numbered; named = a.types.inverse.named }
 
   terms : AreTermsNamed (setting_of e defs expand) (term_names_met e.known defs)
-  terms = subst (AreTermsNamed (setting_of e defs expand)) a.types.names (terms_named env old (setting_of e defs expand) inverse is (terms_once e r defs env old own))
+  terms = subst (AreTermsNamed (setting_of e defs expand)) a.types.names (terms_named env old (setting_of e defs expand) inverse is (terms_once e r defs a.valid))
 
   module _ (notes : NotesOfRules env old (rule_trees defs) [] errors) where
     pub limits_named : NamesOnlyPassed (PassedInReading e defs expand) (error_views errors)
@@ -63,6 +67,18 @@ module _ (e : TypesRead) (r : AreReadable e) (defs : List Definition) (table : T
 
     pub refused_by_rules : errors ≢ [] → (HasTypedRules e defs expand → ⊥) → RefusesRules e defs expand (error_views errors)
     refused_by_rules = refuses_rules e defs expand r a.valid terms env old is a.types.names errors errors notes (inl refl)
+
+  -- where there are errors the first stands at something that is broken
+  pub first_broken : BeginsWrong env old (rule_trees defs) [] errors → errors ≢ [] → FirstBreaksRules e defs expand errors
+  first_broken begins some =
+      let s = setting_of e defs expand in
+      let trees = rule_trees defs in
+      let table = term_table e.known defs in
+      let Tables : List (List ℕ) → List Position → Type 0 = λ ns. BreaksReading (AreDefined table) (IsLeftUndefined table) s trees ns in
+      elim (begins s is (subst (AreTermsNamed s) (sym a.types.names) terms) refl) [
+        | inl none ↦ absurd (some none)
+        | inr b ↦ begins_as (Tables (names_of old)) (BreaksRules e defs expand) (λ ps w. of_rules a.valid ps (of_list e defs expand ps (subst (λ ns. Tables ns ps) a.types.names w))) errors b
+      ]
 
   pub past_limits_named : NamesPastLimits env old (rule_trees defs) errors → NamesTypedPastLimits e defs expand (error_views errors)
   past_limits_named named = each_named e defs expand r terms env old is a.types.names errors named
@@ -106,3 +122,7 @@ refused_without_terms e defs expand errors t = record {
 
 pub refused_by_terms : {X : Type 0} (e : TypesRead) (defs : List Definition) (expand : Bool) (r : Result X Fault) (f : Fault) → IsErr r × IsErrAnd r (λ y. y ≡ f) → OnErrors {A = TermTable} (Err f) (λ es. RefusesTerms e defs (error_views es)) → OnErrors r (λ es. RefusesRules e defs expand (error_views es))
 refused_by_terms e defs expand r f h n = passed_on (λ es. RefusesTerms e defs (error_views es)) (λ es. RefusesRules e defs expand (error_views es)) (λ es t. refused_without_terms e defs expand (error_views es) t) r f h n
+
+pub broken_by_terms : {X : Type 0} (e : TypesRead) (defs : List Definition) (expand : Bool) (r : Result X Fault) (f : Fault) → IsErr r × IsErrAnd r (λ y. y ≡ f) → OnErrors {A = TermTable} (Err f) (FirstBreaksTerms e.known defs) → OnErrors r (FirstBreaksRules e defs expand)
+broken_by_terms e defs expand r f h n =
+    passed_on (FirstBreaksTerms e.known defs) (FirstBreaksRules e defs expand) (λ es t. record { first = t.first; rest = t.rest; is = t.is; positions = t.positions; wrong = of_terms t.positions t.breaks; stands = t.stands }) r f h n

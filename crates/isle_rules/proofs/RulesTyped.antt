@@ -45,10 +45,10 @@ module _ (env : TermEnv) (old mid : TypeEnv) (inv : IsInterned mid) (keeps : Kee
   same_use : (u : Position × Name) → is_made (entry_named (number (names_of old) u.1.text) e.terms) ≡ is_made (found_term env mid u.1.text)
   same_use u = ap is_made (sym (same_entry e (names_of old) k (names_of mid) kept u.1.text) ∙ found_named env mid inv u.1.text e (keep_setting env old mid e keeps is))
 
-  made_uses : (uses : List (Position × Name)) → AreFoundMade env mid uses → AreMadeUses e (names_of old) uses
+  pub made_uses : (uses : List (Position × Name)) → AreFoundMade env mid uses → AreMadeUses e (names_of old) uses
   made_uses uses h = All-weaker IsFoundMade IsMade (λ u m. same_use u ∙ m) uses h
 
-  found_uses : (uses : List (Position × Name)) → AreMadeUses e (names_of old) uses → AreFoundMade env mid uses
+  pub found_uses : (uses : List (Position × Name)) → AreMadeUses e (names_of old) uses → AreFoundMade env mid uses
   found_uses uses h = All-weaker IsMade IsFoundMade (λ u m. sym (same_use u) ∙ m) uses h
 
   abbrev IsMadeRule : RuleTree → Type 0

@@ -1,5 +1,5 @@
 -- The tables that the terms of a list were read into are those that its rules are typed by.
-use Rattle.std.proofs.Common.{◌≡◌, ◌==◌, ℕ, ◌+◌, ◌<◌, true, false, cond, List, [], ◌∷◌, ◌++◌, length, map, All, IsTrue, Contains, Option, Some, None, slice_get, refl, sym, ap, subst, ◌∙◌, inl, inr, eqb-true}
+use Rattle.std.proofs.Common.{◌≡◌, ◌==◌, ℕ, ◌+◌, ◌<◌, Bool, true, false, cond, List, [], ◌∷◌, ◌++◌, length, map, All, IsTrue, Contains, Option, Some, None, slice_get, refl, sym, ap, subst, ◌∙◌, inl, inr, eqb-true}
 use Rattle.std.specs.List.{cons_option, enumerate_from, filter_map, flat_map, position_from}
 use Rattle.std.proofs.lemmas.Bool.{cases_Bool, cond-false}
 use Rattle.std.proofs.lemmas.List.Elements.{All-nil, All-cons, All-head, All-tail, All-append, All-contains, All-weaker}
@@ -9,13 +9,13 @@ use Rattle.isle_model.specs.lists.Names.{number, has_name, IsDistinct}
 use Rattle.isle_model.specs.lists.Tables.{TermEntry}
 use Rattle.isle_model.specs.lists.KnownTypes.{KnownTypes}
 use Rattle.isle_model.specs.lists.Setting.{entry_named}
-use Rattle.isle_model.specs.lists.TermTable.{decl_names, function_of, made_by, term_names, term_names_met, term_table}
+use Rattle.isle_model.specs.lists.TermTable.{decl_names, function_of, made_by, term_names, term_names_met, term_table, IsValidTerms}
 use Rattle.isle_model.specs.rules.Meaning.{look}
 use Rattle.isle_model.specs.rules.Outcome.{then_option}
 use Rattle.isle_model.specs.claims.Environments.{TypesRead, IsReadAs, AreReadable, setting_of, numbered, terms_by_name, environment_of, with_read_names, AreTermsOf}
 use Rattle.isle_model.proofs.Mapped.{get_mapped}
-use Rattle.isle_model.proofs.Members.{get_within, in_head, in_tail, get_from_member, member_from_get, all_members}
-use Rattle.isle_model.proofs.Names.{found, has_at, at_number, has_left, has_kept, has_met, get_kept, number_below}
+use Rattle.isle_model.proofs.Members.{get_within, in_head, in_tail, in_map, get_from_member, member_from_get, all_members}
+use Rattle.isle_model.proofs.Names.{distinct_names, found, has_at, at_number, has_left, has_kept, has_met, get_kept, number_below}
 use Rattle.isle_laws_lists.proofs.TermLaws.{terms_have_names_lem, terms_stand_at_ids_lem}
 use Rattle.isle_laws_lists.proofs.TypesStay.{types_are_shown_lem, types_stay_lem}
 use Rattle.isle_types.specs.declared.type_env.TypeEnv.{TypeEnv}
@@ -25,6 +25,8 @@ use Rattle.isle_terms.proofs.TypesStaying.{with_names_more}
 use Rattle.isle_rules.specs.declared.term_env.TermEnv.{TermEnv}
 use Rattle.isle_rules.specs.ShownEnvs.{terms_shown_by}
 use Rattle.isle_rules.specs.Translating.{IsSettingOf, IsWholeTemplate}
+use Rattle.isle_rules.specs.Constructors.{AreTermsNamed}
+use Rattle.isle_rules.proofs.NamedTerms.{found_at}
 use Rattle.isle_rules.proofs.TemplateUses.{templates_are_whole}
 
 -- 1. look-ups
@@ -95,7 +97,33 @@ module _ (k : KnownTypes) (defs : List Definition) where
   still_below : (n : ℕ) → n < length k.names → n < length (term_names_met k defs)
   still_below n l = let y = get_within k.names n l in slice_get_within (term_names_met k defs) n y.0 (get_kept k.names further n y.0 y.1)
 
--- 3. the tables
+-- 3. the numbers of the names of terms
+module _ (e : TypesRead) (r : AreReadable e) (defs : List Definition) where
+  abbrev numbers_met : List (List ℕ)
+  numbers_met = term_names_met e.known defs
+
+  term_numbers : All (λ n. n < length numbers_met) (map (λ t. t.name) (term_table e.known defs))
+  term_numbers = subst (All (λ n. n < length numbers_met)) (sym (terms_have_names_lem.0 e.known defs r.well_formed)) (all_below numbers_met (term_names e.known defs) (terms_met e.known defs))
+
+  -- they differ, since the names do
+  pub terms_once : IsValidTerms e.known defs → IsDistinct (map (λ t. t.name) (term_table e.known defs))
+  terms_once valid = subst IsDistinct (sym (terms_have_names_lem.0 e.known defs r.well_formed)) (λ j l n p q.
+      let x = get_mapped (number numbers_met) (term_names e.known defs) j n p in
+      let y = get_mapped (number numbers_met) (term_names e.known defs) l n q in
+      let here = All-contains (λ z. has_name numbers_met z ≡ true) (term_names e.known defs) x.0 (terms_met e.known defs) (member_from_get (term_names e.known defs) j x.0 x.1) in
+      let there = All-contains (λ z. has_name numbers_met z ≡ true) (term_names e.known defs) y.0 (terms_met e.known defs) (member_from_get (term_names e.known defs) l y.0 y.1) in
+      let same : y.0 ≡ x.0 = at_number numbers_met x.0 y.0 (ap (slice_get numbers_met) (x.2 ∙ sym y.2) ∙ found numbers_met y.0 there) in
+      valid.distinct j l x.0 x.1 (y.1 ∙ ap Some same))
+
+  -- so each is found by its own
+  pub table_named : (expand : Bool) → IsValidTerms e.known defs → AreTermsNamed (setting_of e defs expand) numbers_met
+  table_named expand valid = record {
+    met = λ k t h. All-contains (λ n. n < length numbers_met) (map (λ t. t.name) (term_table e.known defs)) t.name term_numbers (in_map (λ t. t.name) (term_table e.known defs) t (member_from_get (term_table e.known defs) k t h));
+    found = λ k t h. found_at (term_table e.known defs) k t (terms_once valid) h;
+    once = distinct_names e.known.names (decl_names defs ++ flat_map function_of defs) r.well_formed.names_distinct;
+  }
+
+-- 4. the tables
 module _ (e : TypesRead) (r : AreReadable e) (defs : List Definition) (env : TermEnv) (tyenv : TypeEnv) (a : AreTermsOf e defs (terms_shown_by env) (environment_view tyenv)) where
   abbrev met : List (List ℕ)
   met = term_names_met e.known defs
@@ -115,9 +143,6 @@ module _ (e : TypesRead) (r : AreReadable e) (defs : List Definition) (env : Ter
       (types_stay_lem e (environment_of e) (environment_view tyenv) more.0 r (types_are_shown_lem e r) (subst (λ ns. IsReadAs (environment_view tyenv) (with_read_names e ns)) more.1 a.types)).1 k
       ∙ look_place (number e.known.names) 0 e.known.type_names k
 
-  term_numbers : All (λ n. n < length met) (map (λ t. t.name) (term_table e.known defs))
-  term_numbers = subst (All (λ n. n < length met)) (sym (terms_have_names_lem.0 e.known defs r.well_formed)) (all_below met (term_names e.known defs) (terms_met e.known defs))
-
   at_ids : (t : TermEntry) → Contains (term_table e.known defs) t → slice_get (term_table e.known defs) t.id ≡ Some t
   at_ids t c = let g = get_from_member (term_table e.known defs) t c in ap (slice_get (term_table e.known defs)) (terms_stand_at_ids_lem e.known defs g.0 t g.1) ∙ g.1
 
@@ -135,16 +160,6 @@ module _ (e : TypesRead) (r : AreReadable e) (defs : List Definition) (env : Ter
     expand = refl;
     types_met = λ k ty h. below k (looked_key (λ n. n < length met) (numbered met e.known.type_names) k ty (numbered_below met 0 e.known.type_names types_met) (sym (a.types.look_ups k) ∙ h));
     constants_met = λ k ty h. below k (looked_key (λ n. n < length met) e.constants k ty (All-weaker (λ (c : ℕ × ℕ). c.0 < length e.known.names) (λ (c : ℕ × ℕ). c.0 < length met) (λ c l. still_below e.known defs c.0 l) e.constants r.names_of_constants) (sym (a.types.constants k) ∙ h));
-    terms_met = λ k id h. below k (looked_key (λ n. n < length met) (terms_by_name (term_table e.known defs)) k id (named_below (length met) (term_table e.known defs) term_numbers) (sym (a.rows.look_ups k) ∙ h));
+    terms_met = λ k id h. below k (looked_key (λ n. n < length met) (terms_by_name (term_table e.known defs)) k id (named_below (length met) (term_table e.known defs) (term_numbers e r defs)) (sym (a.rows.look_ups k) ∙ h));
     templates = λ k t h. All-contains IsWholeTemplate (term_table e.known defs) t (templates_are_whole e.known defs a.valid) (member_from_get (term_table e.known defs) k t h);
   }
-
-  -- the terms have different numbers, since they have different names
-  pub terms_once : IsDistinct (map (λ t. t.name) (term_table e.known defs))
-  terms_once = subst IsDistinct (sym (terms_have_names_lem.0 e.known defs r.well_formed)) (λ j l n p q.
-      let x = get_mapped (number met) (term_names e.known defs) j n p in
-      let y = get_mapped (number met) (term_names e.known defs) l n q in
-      let here = All-contains (λ z. has_name met z ≡ true) (term_names e.known defs) x.0 (terms_met e.known defs) (member_from_get (term_names e.known defs) j x.0 x.1) in
-      let there = All-contains (λ z. has_name met z ≡ true) (term_names e.known defs) y.0 (terms_met e.known defs) (member_from_get (term_names e.known defs) l y.0 y.1) in
-      let same : y.0 ≡ x.0 = at_number met x.0 y.0 (ap (slice_get met) (x.2 ∙ sym y.2) ∙ found met y.0 there) in
-      a.valid.distinct j l x.0 x.1 (y.1 ∙ ap Some same))

@@ -1,8 +1,7 @@
--- Where what takes the place of a use stands: at positions of the use, or of terms.
-use Rattle.std.proofs.Common.{◌≡◌, ℕ, zero, suc, true, false, cond, List, [], ◌∷◌, ◌++◌, Option, Some, None, Contains, slice_get, option_and_then, refl, sym, ap, subst, ◌∙◌, inl, inr}
+-- Where what takes the place of a use stands: at positions of the use, or of templates.
+use Rattle.std.proofs.Common.{◌≡◌, ℕ, zero, suc, Bool, true, false, cond, List, [], ◌∷◌, ◌++◌, Option, Some, None, Contains, slice_get, option_and_then, refl, sym, subst, inl, inr}
 use Rattle.std.proofs.lemmas.Option.{none-some, same_Some}
-use Rattle.std.proofs.lemmas.List.Elements.{Contains-append_left}
-use Rattle.isle_model.specs.lists.Syntax.{Position, Name, PatternTree, var_pattern, bind_pattern, bool_pattern, int_pattern, prim_pattern, term_pattern, wildcard_pattern, and_pattern, macro_arg, PatternTrees, no_pattern, pattern_and, pattern_list, ExprTree, expr_and, no_expr}
+use Rattle.isle_model.specs.lists.Syntax.{Position, Name, PatternTree, var_pattern, bind_pattern, bool_pattern, int_pattern, prim_pattern, term_pattern, wildcard_pattern, and_pattern, macro_arg, PatternTrees, no_pattern, pattern_and, pattern_list, ExprTree}
 use Rattle.isle_model.specs.lists.Tables.{ExtractorEntry, internal_extractor, external_extractor, TermKindEntry, variant_term, struct_term, declared_term, TermEntry}
 use Rattle.isle_model.specs.lists.Expansions.{substituted, all_substituted}
 use Rattle.isle_model.specs.lists.Setting.{entry_template, kind_template}
@@ -17,7 +16,7 @@ use Rattle.isle_rules.specs.declared.term_env.TermEnv.{TermEnv}
 use Rattle.isle_rules.specs.TermEnvs.{term_in_env}
 use Rattle.isle_rules.specs.PatternUses.{found_term, found_template, inside_term}
 use Rattle.isle_rules.specs.ExprUses.{inside_call}
-use Rattle.isle_rules.specs.RulePositions.{with_terms}
+use Rattle.isle_rules.specs.RulePositions.{template_positions, templates_positions, with_templates}
 use Rattle.isle_terms.specs.TermPositions.{taken_positions, kind_positions, entry_positions, terms_positions}
 use Rattle.isle_rules.proofs.PatternSizes.{mapped_gives, with_gives}
 use Rattle.isle_rules.proofs.Placed.{among_joined, among_here}
@@ -86,30 +85,45 @@ of_kind (variant_term variant) p h = absurd (none-some p h)
 of_kind struct_term p h = absurd (none-some p h)
 of_kind (declared_term flags constructor_kind extractor_kind) p h = of_extractor extractor_kind p h
 
+-- and so those of all templates are among those of the terms
+of_template : (expand : Bool) (k : TermKindEntry) → OccurAmong (template_positions (cond expand (kind_template k) None)) (kind_positions k)
+of_template false k = among_nothing (kind_positions k)
+of_template true k =
+    elim (kind_template k) as (λ o. kind_template k ≡ o → OccurAmong (template_positions o) (kind_positions k)) [
+      | None ↦ λ _. among_nothing (kind_positions k)
+      | Some p ↦ λ h. of_kind k p h
+    ] refl
+
+pub templates_inside : (expand : Bool) (ts : List TermEntry) → OccurAmong (templates_positions expand ts) (terms_positions ts)
+templates_inside expand [] = among_nothing []
+templates_inside expand (t ∷ ts) =
+    let own = template_positions (cond expand (kind_template t.kind) None) in
+    let all = entry_positions t ++ terms_positions ts in
+    among_joined own (templates_positions expand ts) all
+    (among_both own (kind_positions t.kind) all (of_template expand t.kind) (among_both (kind_positions t.kind) (entry_positions t) all (among_rest t.at (kind_positions t.kind)) (among_left (entry_positions t) (terms_positions ts))))
+    (among_both (templates_positions expand ts) (terms_positions ts) all (templates_inside expand ts) (among_right (entry_positions t) (terms_positions ts)))
+
 module _ (env : TermEnv) (tyenv : TypeEnv) (name : Name) (args : PatternTrees) (at : Position) where
   abbrev whole : PatternTree
   whole = term_pattern name args at
 
   -- the template of a term, with the arguments
   pub expanded_places : (t : TermEntry) → Some t ≡ found_term env tyenv name.text → (template : PatternTree) → Some template ≡ found_template env t → (made : PatternTree) → Some made ≡ substituted (pattern_list args) template
-      → OccurAmong (pattern_positions made) (with_terms env (pattern_positions whole))
+      → OccurAmong (pattern_positions made) (with_templates env (pattern_positions whole))
   expanded_places t known template there made is_made =
       let terms = term_views env.terms.items in
       let place = then_some (option_and_then (term_in_env env) (symbol_of tyenv name.text)) (slice_get terms) t (sym known) in
-      let kind_is : kind_template t.kind ≡ Some template =
-      elim (env.expand_internal_extractors) as (λ b. Some template ≡ cond b (kind_template t.kind) None → kind_template t.kind ≡ Some template) [ true ↦ λ k. sym k | false ↦ λ k. absurd (none-some template (sym k)) ] there in
-      let of_term : OccurAmong (pattern_positions template) (terms_positions terms) =
-      among_both (pattern_positions template) (entry_positions t) (terms_positions terms)
-      (among_both (pattern_positions template) (kind_positions t.kind) (entry_positions t) (of_kind t.kind template kind_is) (among_rest t.at (kind_positions t.kind)))
-      (among_each entry_positions terms t (member_from_get terms place.0 t place.2)) in
+      let templates = templates_positions env.expand_internal_extractors terms in
+      let of_term : OccurAmong (pattern_positions template) templates =
+      subst (λ o. OccurAmong (template_positions o) templates) (sym there) (among_each (λ u. template_positions (found_template env u)) terms t (member_from_get terms place.0 t place.2)) in
       let args_inside : OccurAmong (patterns_positions args) (pattern_positions whole) = λ p c. in_tail at p (name.at ∷ patterns_positions args) (in_tail name.at p (patterns_positions args) c) in
-      substituted_places (pattern_list args) (with_terms env (pattern_positions whole))
+      substituted_places (pattern_list args) (with_templates env (pattern_positions whole))
       (λ i p h. among_here env (pattern_positions p) (pattern_positions whole) (among_both (pattern_positions p) (patterns_positions args) (pattern_positions whole) (part_places args i p h) args_inside))
       template made (sym is_made)
-      (among_both (pattern_positions template) (terms_positions terms) (with_terms env (pattern_positions whole)) of_term (among_right (pattern_positions whole) (terms_positions terms)))
+      (among_both (pattern_positions template) templates (with_templates env (pattern_positions whole)) of_term (among_right (pattern_positions whole) templates))
 
 -- a pattern inside a converter's use, at a position of its own
-pub converted_places : (env : TermEnv) (tyenv : TypeEnv) (by : TermEntry) (at : Position) (p : PatternTree) → Contains (pattern_positions p) at → OccurAmong (pattern_positions (inside_term tyenv by at p)) (with_terms env (pattern_positions p))
+pub converted_places : (env : TermEnv) (tyenv : TypeEnv) (by : TermEntry) (at : Position) (p : PatternTree) → Contains (pattern_positions p) at → OccurAmong (pattern_positions (inside_term tyenv by at p)) (with_templates env (pattern_positions p))
 converted_places env tyenv by at p here =
     let inside = pattern_positions p in
     among_here env (pattern_positions (inside_term tyenv by at p)) inside

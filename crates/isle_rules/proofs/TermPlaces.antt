@@ -1,5 +1,5 @@
 -- The positions of the terms of a list of definitions are those of the definitions, and of the types that they are read with.
-use Rattle.std.proofs.Common.{◌≡◌, ℕ, ◌+◌, Bool, true, false, cond, List, [], ◌∷◌, ◌++◌, Option, Some, None, Contains, map, option_map, refl, sym, ap, subst, ◌∙◌, inl, inr}
+use Rattle.std.proofs.Common.{◌≡◌, ℕ, ◌+◌, Bool, true, false, cond, List, [], ◌∷◌, ◌++◌, Option, Some, None, Contains, map, option_map, refl, sym, subst, ◌∙◌, inl, inr}
 use Rattle.std.specs.List.{flat_map, find, enumerate_from, position_from}
 use Rattle.std.specs.Str.{bytes_eq}
 use Rattle.std.proofs.lemmas.Bool.{cases_Bool, cond-true, cond-false}
@@ -7,16 +7,16 @@ use Rattle.std.proofs.lemmas.List.Elements.{Contains-append_cases}
 use Rattle.std.proofs.lemmas.Option.{none-some, same_Some}
 use Rattle.isle_model.specs.lists.Syntax.{Position, Name, PatternTree, var_pattern, bind_pattern, bool_pattern, int_pattern, prim_pattern, term_pattern, wildcard_pattern, and_pattern, macro_arg, PatternTrees, no_pattern, pattern_and, DeclTree, ExtractorTree, Definition, type_definition, declaration, extractor_definition, converter_definition, rule_definition, extern_definition, other_definition, extern_constructor, extern_extractor, extern_const}
 use Rattle.isle_model.specs.lists.Names.{number, has_name}
-use Rattle.isle_model.specs.lists.Tables.{TypeEntry, builtin_type, primitive_type, enum_type, struct_type, ExtractorEntry, internal_extractor, external_extractor, TermEntry}
+use Rattle.isle_model.specs.lists.Tables.{TypeEntry, builtin_type, primitive_type, enum_type, struct_type, internal_extractor, external_extractor, TermEntry}
 use Rattle.isle_model.specs.lists.KnownTypes.{KnownTypes}
 use Rattle.isle_model.specs.lists.TermTable.{ExternalTree, decl_of, decl_trees, extractor_of, extractor_trees, external_extractor_of, external_trees, internal_extractors, argument_or, binding_or, template, templates, extractor_template, extractor_kind, decl_as_term, variant_as_term, struct_as_term, terms_made, terms_in_order, term_table, term_names_met}
-use Rattle.isle_model.proofs.Members.{nothing_in, in_head, in_tail, in_alone, in_cases, in_map, from_map, from_flat_map}
+use Rattle.isle_model.proofs.Members.{nothing_in, in_head, in_tail, in_alone, in_map, from_map, from_flat_map}
 use Rattle.isle_base.specs.Positions.{OccurAmong, pattern_positions, patterns_positions, name_positions, extractor_positions, definition_positions, positions_of}
 use Rattle.isle_base.proofs.Positioned.{among_same, among_both, among_left, among_right, among_rest, among_first, among_one, among_each}
 use Rattle.isle_terms.specs.TermPositions.{taken_positions, entry_positions, terms_positions}
 use Rattle.isle_types.specs.TypePositions.{entry_positions as type_entry_positions, types_positions}
 use Rattle.isle_rules.proofs.Placed.{among_joined}
-use Rattle.isle_rules.proofs.SubstitutedPlaces.{among_one_more, among_nothing}
+use Rattle.isle_rules.proofs.SubstitutedPlaces.{among_nothing}
 use Rattle.isle_rules.proofs.PartPlaces.{among_both_first}
 
 -- a template has positions of the pattern that it is made of

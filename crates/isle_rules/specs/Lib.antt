@@ -11,6 +11,7 @@ pub mod RuleLists
 pub mod RuleErrors
 pub mod LimitsNamed
 pub mod RulePositions
+pub mod RuleBreaches
 pub mod Constructors
 pub mod ShownEnvs
 pub mod RulesRead

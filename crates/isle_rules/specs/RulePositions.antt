@@ -1,11 +1,13 @@
--- The positions that terms have, and where the errors stand that are noted while a rule is read: at positions of what is read,
--- or at those of terms, whose templates take the place of their uses.
-use Rattle.std.specs.Prelude.{◌≡◌, List, [], ◌∷◌, ◌++◌, map, Option, Some, None, Result, Ok, Err, ⊤}
-use Rattle.isle_model.specs.lists.Syntax.{Position}
+-- Where the errors stand that are noted while a rule is read: at positions of what is read, or at those of the templates of
+-- terms, which take the place of their uses.
+use Rattle.std.specs.Prelude.{◌≡◌, Bool, List, [], ◌++◌, Option, Some, None, Result, Ok, Err, ⊤, if◌then◌else◌}
+use Rattle.std.specs.List.{flat_map}
+use Rattle.isle_model.specs.lists.Syntax.{Position, PatternTree}
+use Rattle.isle_model.specs.lists.Tables.{TermEntry}
+use Rattle.isle_model.specs.lists.Setting.{kind_template}
 use Rattle.isle_base.specs.declared.syntax.Error.{Error}
 use Rattle.isle_base.specs.Positions.{NotesAt, OccurAmong, pattern_positions, expr_positions}
 use Rattle.isle_base.specs.SyntaxViews.{position, pattern_view, expr_view}
-use Rattle.isle_terms.specs.TermPositions.{terms_positions}
 use Rattle.isle_terms.specs.TermViews.{term_views}
 use Rattle.isle_typed.specs.declared.rules.Rule.{Rule}
 use Rattle.isle_rules.specs.declared.term_env.TermEnv.{TermEnv}
@@ -18,9 +20,18 @@ use Rattle.isle_rules.specs.declared.typing.expr_uses.VarUse.TheVariants as V
 use Rattle.isle_rules.specs.declared.typing.expr_uses.CallUse.{CallUse}
 use Rattle.isle_rules.specs.declared.typing.expr_uses.CallUse.TheVariants as C
 
--- positions, and those of all terms
-abbrev pub with_terms : TermEnv → List Position → List Position
-with_terms env ps = ps ++ terms_positions (term_views env.terms.items)
+-- the positions of a template, where there is one
+abbrev pub template_positions : Option PatternTree → List Position
+template_positions None = []
+template_positions (Some p) = pattern_positions p
+
+-- those of the templates that take the places of terms in patterns: of none, where internal extractors aren't expanded
+abbrev pub templates_positions : Bool → List TermEntry → List Position
+templates_positions expand ts = flat_map (λ t. template_positions (if expand then kind_template t.kind else None)) ts
+
+-- positions, and those of the templates
+abbrev pub with_templates : TermEnv → List Position → List Position
+with_templates env ps = ps ++ templates_positions env.expand_internal_extractors (term_views env.terms.items)
 
 -- the errors that were noted before a limit was passed stand at some of these positions; want of memory says nothing
 abbrev pub KeepsPlaced : List Position → List Error → List Error → Stop → Type 0

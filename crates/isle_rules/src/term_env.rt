@@ -13,6 +13,7 @@ ghost use Rattle.isle_types.specs.TypeViews.{type_views};
 ghost use Rattle.isle_terms.specs.Whole.{shown_by};
 ghost use Rattle.isle_base.specs.ErrorViews.{error_views};
 ghost use Rattle.isle_rules.specs.LimitsNamed.{NamesTypedPastLimits, NamesFirstPastLimits};
+ghost use Rattle.isle_rules.specs.RuleBreaches.{FirstBreaksRules};
 ghost use Rattle.isle_rules.specs.ShownEnvs.{terms_shown_by, environment_shown_by};
 ghost use Rattle.isle_types.specs.TypePositions.{types_positions};
 ghost use Rattle.isle_rules.specs.TermEnvs.{term_in_env, rule_in_env, variant_term_in};
@@ -60,7 +61,9 @@ impl TermEnv {
     /// external constructor and extractor; then each use of a term without a constructor in an expression.
     /// Each rule that lacks nothing but the limits on expansions is named with one of these.
     /// `Memory` where memory is refused. Each error stands at positions that occur in the definitions or that the types of
-    /// `tyenv` keep.
+    /// `tyenv` keep. The first error stands where a condition of this is broken: where the terms are valid, at the first rule
+    /// that can't be typed, or in a template that is expanded; where all can, at the first rule whose name is taken; else at the
+    /// first declaration of a term that isn't defined; else at the first rule that uses a term without a constructor.
     pub fn from_ast(
         alloc: Global,
         tyenv: &mut TypeEnv,
@@ -78,6 +81,7 @@ impl TermEnv {
         ensures first { OnErrors result (λ es. NamesFirstPastLimits read (definition_views defs.now) expand_internal_extractors (error_views es)) }
         ensures refused { OnErrors result (λ es. RefusesRules read (definition_views defs.now) expand_internal_extractors (error_views es)) }
         ensures places { OnErrors result (All (ErrorStandsAt (positions_of (definition_views defs.now) ++ types_positions read.known.types))) }
+        ensures breach { OnErrors result (FirstBreaksRules read (definition_views defs.now) expand_internal_extractors) }
     {
         let table = TermTable::from_ast(alloc, tyenv, defs)?;
         let mut env = TermEnv::with_terms(alloc, table, expand_internal_extractors);

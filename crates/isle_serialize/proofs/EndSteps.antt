@@ -14,7 +14,7 @@ use Rattle.isle_model.specs.trees.Places as Places
 use Rattle.isle_model.specs.trees.Places.{return_uses, bind_order, after_step}
 use Rattle.isle_model.specs.trees.Tests.{is_lower}
 use Rattle.isle_model.specs.trees.Best.{comes_first, descend}
-use Rattle.isle_model.proofs.Members.{in_filter, each_passes, all_pass}
+use Rattle.isle_model.proofs.Members.{nothing_in, in_filter, each_passes, all_pass}
 use Rattle.isle_laws_trees.proofs.Covers.{prio_at, not_lower_at_least, at_least_not_lower, descend_rest}
 use Rattle.isle_sets.specs.Listings.{ascends}
 use Rattle.isle_serialize.specs.declared.around.Around.{Around}
@@ -25,7 +25,7 @@ use Rattle.isle_serialize.specs.TreeViews.{check_view, steps_view}
 use Rattle.isle_serialize.proofs.Ascents.{ascends_head, ascends_kept, ascends_tail}
 use Rattle.isle_serialize.proofs.Growth.{no_ends, end_more, ends_alike}
 use Rattle.isle_serialize.proofs.InsideSteps.{inside_alike}
-use Rattle.isle_serialize.proofs.StepsJoined.{step_joined, join_end}
+use Rattle.isle_serialize.proofs.StepsJoined.{step_joined, steps_joined}
 
 -- 1. a stable sort by descending priority of rules that ascend
 module _ (rules : List SetRule) where
@@ -109,7 +109,13 @@ module _ (set : SiteSet) (start : Places.Around) (order : List ℕ) where
       let whole = far (step s.bind_order.items (return_of (slice_get set.rules n)) t) (subst (λ h. AreEnds set ar h (step s.bind_order.items (return_of (slice_get set.rules n)) t)) (sym cons) more) in
       subst (AreEnds set start order) (sym (ap (λ xs. join (steps_view xs) t) e ∙ step_joined steps s t ∙ ap (λ c. join (steps_view steps) (step s.bind_order.items c t)) check)) whole
 
-  pub returns_whole : (ar : Places.Around) (k : ℕ) (steps : List EvalStep) → length order ≤ k → EndsSoFar ar k steps → AreEnds set start order (steps_view steps)
-  returns_whole ar k steps l far =
-      let a = far no_step (subst (λ h. AreEnds set ar h no_step) (sym (drop_of_length-le order l)) (no_ends set ar)) in
-      subst (AreEnds set start order) (join_end (steps_view steps)) a
+  -- behind the last one no rule is left
+  pub return_last : descend set.rules order ≡ true → (ar : Places.Around) (k n : ℕ) (steps all : List EvalStep) (s : EvalStep) → k < length order → length order ≤ suc k → n ≡ get_or order k 0 → all ≡ steps ++ s ∷ []
+      → s.bind_order.items ≡ bind_order set.sites ar (return_uses (slice_get set.rules n)) → check_view s.check ≡ return_of (slice_get set.rules n) → EndsSoFar ar k steps → AreEnds set start order (steps_view all)
+  return_last down ar k n steps all s l over g e binds check far =
+      let cons : drop k order ≡ n ∷ [] = drop-cons order k 0 l ∙ ap (λ m. m ∷ drop (suc k) order) (sym g) ∙ ap (λ rest. n ∷ rest) (drop_of_length-le order over) in
+      let behind = no_ends set (after_step set ar (m_return n)) in
+      let more = end_more set ar (n ∷ []) [] n s.bind_order.items no_step (IsPermutation-refl (n ∷ [])) (λ j c. absurd (nothing_in j c)) binds behind in
+      let this = step s.bind_order.items (return_of (slice_get set.rules n)) no_step in
+      let whole = far this (subst (λ h. AreEnds set ar h this) (sym cons) more) in
+      subst (AreEnds set start order) (sym (ap steps_view e ∙ steps_joined steps (s ∷ []) ∙ ap (λ c. join (steps_view steps) (step s.bind_order.items c no_step)) check)) whole

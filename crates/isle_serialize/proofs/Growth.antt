@@ -50,7 +50,7 @@ module _ (xs ys : List ℕ) (moved : IsPermutation xs ys) where
 pub some_moved : (xs ys : List ℕ) → IsPermutation xs ys → xs ≢ [] → ys ≢ []
 some_moved xs ys m h e = h (nil_from_length xs (sym (length_permutation xs ys m) ∙ ap length e))
 
-all_kept : (p : ℕ → Bool) (xs : List ℕ) → ((x : ℕ) → Contains xs x → p x ≡ true) → filter p xs ≡ xs
+pub all_kept : {X : Type 0} (p : X → Bool) (xs : List X) → ((x : X) → Contains xs x → p x ≡ true) → filter p xs ≡ xs
 all_kept p [] h = refl
 all_kept p (x ∷ xs) h = cond-true (p x) (x ∷ filter p xs) (filter p xs) (h x (in_head x xs)) ∙ ap (λ l. x ∷ l) (all_kept p xs (λ y c. h y (in_tail x y xs c)))
 

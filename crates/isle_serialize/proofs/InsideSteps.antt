@@ -1,5 +1,5 @@
 -- What is kept of a place says the same as what is around it, inside tests too.
-use Rattle.std.proofs.Common.{◌≡◌, ◌==◌, ◌||◌, ℕ, not, List, [], ◌∷◌, ◌++◌, Option, Some, slice_get, flat_map, filter, refl, sym, ap, ◌∙◌, inl, inr, eqb-true}
+use Rattle.std.proofs.Common.{◌≡◌, ◌==◌, ◌||◌, ℕ, not, List, [], ◌∷◌, ◌++◌, Option, Some, slice_get, flat_map, filter, refl, sym, ap, ◌∙◌, subst, inl, inr, eqb-true}
 use Rattle.std.proofs.lemmas.Bool.{cases_Bool, cond-true, cond-false, or_cases, or_right}
 use Rattle.std.proofs.lemmas.List.{append_assoc, append-nil}
 use Rattle.isle_model.specs.sites.Sites.{iterator_site, Constraint, SiteSet, sources_at}
@@ -9,7 +9,7 @@ use Rattle.isle_model.specs.trees.Places.{is_in, all_below, field_sites, in_arm,
 use Rattle.isle_laws_trees.proofs.Passing.{sources_there}
 use Rattle.isle_laws_demands.proofs.overlaps.Overlaps.{bool_same}
 use Rattle.isle_serialize.specs.declared.around.Around.{Around}
-use Rattle.isle_serialize.specs.AroundViews.{around_view, IsInside, after_uses, arm_around, loop_around}
+use Rattle.isle_serialize.specs.AroundViews.{around_view, IsInside, after_uses, AreEmitted, where_emitted, where_joined, brings, arm_around, loop_around}
 use Rattle.isle_serialize.proofs.Alike.{Alike}
 use Rattle.isle_serialize.proofs.Tables.{is_in_append}
 
@@ -19,6 +19,24 @@ inside_alike a ar h = record { sources = λ s. ap (is_in s) h.sources; joined = 
 module _ (set : SiteSet) (around : Around) where
   abbrev ar : Places.Around
   ar = around_view around
+
+  -- where the emitted sites are those after a step
+  module _ (used emitted : List ℕ) (h : AreEmitted set ar used emitted) where
+    pub emitted_inside : IsInside (where_emitted ar emitted) (after_uses set ar used)
+    emitted_inside = record { sources = refl; joined = refl; brought = refl; emitted = h }
+
+    pub brought_inside : (a : Around) (s : ℕ) (sites : List ℕ) → around_view a ≡ brings (where_emitted ar emitted) s sites → IsInside (around_view a) (brings (after_uses set ar used) s sites)
+    brought_inside a s sites e =
+        subst (λ k. IsInside k (brings (after_uses set ar used) s sites)) (sym e)
+        (record {
+          sources = refl;
+          joined = refl;
+          brought = refl;
+          emitted = λ t. is_in_append t sites emitted ∙ ap (λ b. is_in t sites || b) (h t) ∙ sym (is_in_append t sites (all_below set.sites used ++ ar.emitted));
+        })
+
+  pub joined_inside : (x y : ℕ) (emitted : List ℕ) → AreEmitted set ar (x ∷ (y ∷ [])) emitted → (a : Around) → around_view a ≡ where_joined (where_emitted ar emitted) x y → IsInside (around_view a) (in_equal set ar x y)
+  joined_inside x y emitted h a e = subst (λ k. IsInside k (in_equal set ar x y)) (sym e) (record { sources = refl; joined = refl; brought = refl; emitted = h })
 
   -- in an arm, whatever its constraint
   pub arm_inside : (a : Around) (s : ℕ) (c : Constraint) (fields : List (Option ℕ)) → IsInside (around_view a) (arm_around set ar s fields) → Alike (around_view a) (in_arm set ar s c fields)

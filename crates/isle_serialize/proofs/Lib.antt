@@ -18,5 +18,6 @@ pub mod InsideSteps
 pub mod EndSteps
 pub mod Untried
 pub mod PlaceSteps
+pub mod ArmRuns
 pub mod ArmSteps
 pub mod WholeTrees

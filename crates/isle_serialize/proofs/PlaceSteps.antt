@@ -66,21 +66,20 @@ module _ (set : SiteSet) where
         some_length [] g = absurd (g refl)
         some_length (x ∷ xs) g = omega arith
 
-  pub untried_after : (around : Around) (here : List ℕ) (next : NextTest) → IsNextTest set (around_view around) here next → untried n (around_view next.after) ≡ untried n (around_view around)
-  untried_after around here next h =
-      untried_same n (around_view around) (around_view next.after) (λ s. ap (is_in s) h.after.sources) h.after.joined
+  pub untried_after : (around after : Around) (used : List ℕ) → IsInside (around_view after) (after_uses set (around_view around) used) → untried n (around_view after) ≡ untried n (around_view around)
+  untried_after around after used i = untried_same n (around_view around) (around_view after) (λ s. ap (is_in s) i.sources) i.joined
 
   -- 2. the tree that grows by it
   module _ (around : Around) (here : List ℕ) where
     abbrev at : Places.Around
     at = around_view around
 
-    pub test_more : (next : NextTest) (check : Check) (tree : Tree) → IsNextTest set at here next → IsBestBody set at (test_view next.test) next.covered.items check
-        → IsBestFrom set (around_view next.after) next.others.items tree → IsBestFrom set at here (step next.binds.items check tree)
-    test_more next check tree h body rest = by (test_view next.test) refl
+    pub test_more : (next : NextTest) (after : Around) (check : Check) (tree : Tree) → IsNextTest set at here next → IsInside (around_view after) (after_uses set at (test_emits set (test_view next.test))) → IsBestBody set at (test_view next.test) next.covered.items check
+        → IsBestFrom set (around_view after) next.others.items tree → IsBestFrom set at here (step next.binds.items check tree)
+    test_more next after check tree h inside body rest = by (test_view next.test) refl
       where
-        left : (t : Test) → test_view next.test ≡ t → IsBestFrom set (around_view next.after) (filter (λ i. not (is_covered set.rules here t i)) here) tree
-        left t e = subst (λ l. IsBestFrom set (around_view next.after) l tree) (h.others ∙ ap (λ u. filter (λ i. not (is_covered set.rules here u i)) here) e) rest
+        left : (t : Test) → test_view next.test ≡ t → IsBestFrom set (around_view after) (filter (λ i. not (is_covered set.rules here t i)) here) tree
+        left t e = subst (λ l. IsBestFrom set (around_view after) l tree) (h.others ∙ ap (λ u. filter (λ i. not (is_covered set.rules here u i)) here) e) rest
 
         held : (t : Test) → test_view next.test ≡ t → IsBestBody set at t (cover set.rules here t) check
         held t e = subst (λ u. IsBestBody set at u (cover set.rules here u) check) e (subst (λ l. IsBestBody set at (test_view next.test) l check) h.covered body)
@@ -88,49 +87,50 @@ module _ (set : SiteSet) where
         binds : (t : Test) → test_view next.test ≡ t → next.binds.items ≡ bind_order set.sites at (test_sites t)
         binds t e = h.binds ∙ ap (λ u. bind_order set.sites at (test_sites u)) e
 
-        after : (t : Test) → test_view next.test ≡ t → IsInside (around_view next.after) (after_uses set at (test_emits set t))
-        after t e = subst (λ u. IsInside (around_view next.after) (after_uses set at (test_emits set u))) e h.after
+        behind : (t : Test) → test_view next.test ≡ t → IsInside (around_view after) (after_uses set at (test_emits set t))
+        behind t e = subst (λ u. IsInside (around_view after) (after_uses set at (test_emits set u))) e inside
 
         by : (t : Test) → test_view next.test ≡ t → IsBestFrom set at here (step next.binds.items check tree)
         by (match_test s) e =
             let b = held (match_test s) e in
             let chosen = subst (λ u. IsChosen set at here (Some u)) e h.chosen in
-            let behind = from_alike set (around_view next.after) (after_step set at (m_match s m_no_arm)) (filter (λ i. not (is_covered set.rules here (match_test s) i)) here) tree
-            (inside_alike next.after (after_step set at (m_match s m_no_arm)) (inside_match s (after (match_test s) e))) (left (match_test s) e) in
+            let rest_best = from_alike set (around_view after) (after_step set at (m_match s m_no_arm)) (filter (λ i. not (is_covered set.rules here (match_test s) i)) here) tree
+            (inside_alike after (after_step set at (m_match s m_no_arm)) (inside_match s (behind (match_test s) e))) (left (match_test s) e) in
             subst (λ c. IsBestFrom set at here (step next.binds.items c tree)) (sym b.1)
-            (match_more set at here s next.binds.items b.0 tree chosen.0 chosen.1 (binds (match_test s) e) b.2 behind)
+            (match_more set at here s next.binds.items b.0 tree chosen.0 chosen.1 (binds (match_test s) e) b.2 rest_best)
           where
-            inside_match : (s : ℕ) → IsInside (around_view next.after) (after_uses set at (s ∷ [])) → IsInside (around_view next.after) (after_step set at (m_match s m_no_arm))
+            inside_match : (s : ℕ) → IsInside (around_view after) (after_uses set at (s ∷ [])) → IsInside (around_view after) (after_step set at (m_match s m_no_arm))
             inside_match s i = record { sources = i.sources; joined = i.joined; brought = i.brought; emitted = i.emitted }
         by (equal_test x y) e =
             let b = held (equal_test x y) e in
             let chosen = subst (λ u. IsChosen set at here (Some u)) e h.chosen in
-            let behind = from_alike set (around_view next.after) (after_step set at (m_equal x y m_no_step)) (filter (λ i. not (is_covered set.rules here (equal_test x y) i)) here) tree
-            (inside_alike next.after (after_step set at (m_equal x y m_no_step)) (inside_pair x y (after (equal_test x y) e))) (left (equal_test x y) e) in
+            let rest_best = from_alike set (around_view after) (after_step set at (m_equal x y m_no_step)) (filter (λ i. not (is_covered set.rules here (equal_test x y) i)) here) tree
+            (inside_alike after (after_step set at (m_equal x y m_no_step)) (inside_pair x y (behind (equal_test x y) e))) (left (equal_test x y) e) in
             subst (λ c. IsBestFrom set at here (step next.binds.items c tree)) (sym b.1)
-            (equal_more set at here x y next.binds.items b.0 tree chosen.0 chosen.1 (binds (equal_test x y) e) b.2 behind)
+            (equal_more set at here x y next.binds.items b.0 tree chosen.0 chosen.1 (binds (equal_test x y) e) b.2 rest_best)
           where
-            inside_pair : (x y : ℕ) → IsInside (around_view next.after) (after_uses set at (x ∷ (y ∷ []))) → IsInside (around_view next.after) (after_step set at (m_equal x y m_no_step))
+            inside_pair : (x y : ℕ) → IsInside (around_view after) (after_uses set at (x ∷ (y ∷ []))) → IsInside (around_view after) (after_step set at (m_equal x y m_no_step))
             inside_pair x y i = record { sources = i.sources; joined = i.joined; brought = i.brought; emitted = i.emitted }
         by (loop_test s) e =
             let b = held (loop_test s) e in
             let chosen = subst (λ u. IsChosen set at here (Some u)) e h.chosen in
             let there = b.3 in
-            let behind = from_alike set (around_view next.after) (after_step set at (m_loop b.0 m_no_step)) (filter (λ i. not (is_covered set.rules here (loop_test s) i)) here) tree
-            (loop_after set around s b.0 there next.after (after (loop_test s) e)) (left (loop_test s) e) in
+            let rest_best = from_alike set (around_view after) (after_step set at (m_loop b.0 m_no_step)) (filter (λ i. not (is_covered set.rules here (loop_test s) i)) here) tree
+            (loop_after set around s b.0 there after (behind (loop_test s) e)) (left (loop_test s) e) in
             subst (λ c. IsBestFrom set at here (step next.binds.items c tree)) (sym b.2)
-            (loop_more set at here s b.0 next.binds.items b.1 tree there chosen.0 chosen.1 (binds (loop_test s) e ∙ ap (bind_order set.sites at) (sym (sources_there set b.0 s there))) b.4 behind)
+            (loop_more set at here s b.0 next.binds.items b.1 tree there chosen.0 chosen.1 (binds (loop_test s) e ∙ ap (bind_order set.sites at) (sym (sources_there set b.0 s there))) b.4 rest_best)
 
   -- 3. the steps of a block
   module _ (start : Places.Around) (here : List ℕ) where
-    pub block_more : (around : Around) (left : List ℕ) (next : NextTest) (steps more : List EvalStep) (s : EvalStep) → IsNextTest set (around_view around) left next
+    pub block_more : (around after : Around) (left : List ℕ) (next : NextTest) (steps more : List EvalStep) (s : EvalStep) → IsNextTest set (around_view around) left next
+        → IsInside (around_view after) (after_uses set (around_view around) (test_emits set (test_view next.test)))
         → s.bind_order.items ≡ next.binds.items → IsBestBody set (around_view around) (test_view next.test) next.covered.items (check_view s.check) → more ≡ steps ++ s ∷ []
-        → BlockGrows set start here (around_view around) left steps → BlockGrows set start here (around_view next.after) next.others.items more
-    block_more around left next steps more s h binds body e g = record {
+        → BlockGrows set start here (around_view around) left steps → BlockGrows set start here (around_view after) next.others.items more
+    block_more around after left next steps more s h inside binds body e g = record {
       ordered = others_ordered (around_view around) left next h g.ordered;
-      as_many = untried_after around left next h ∙ g.as_many;
+      as_many = untried_after around after (test_emits set (test_view next.test)) inside ∙ g.as_many;
       far = λ t b. subst (IsBestFrom set start here) (sym (ap (λ xs. join (steps_view xs) t) e ∙ step_joined steps s t ∙ ap (λ bs. join (steps_view steps) (step bs (check_view s.check) t)) binds))
-          (g.far (step next.binds.items (check_view s.check) t) (test_more around left next (check_view s.check) t h body b));
+          (g.far (step next.binds.items (check_view s.check) t) (test_more around left next after (check_view s.check) t h inside body b));
     }
 
     pub block_whole : (ar : Places.Around) (left : List ℕ) (steps ends all : List EvalStep) → IsChosen set ar left None → AreEnds set ar left (steps_view ends) → all ≡ steps ++ ends

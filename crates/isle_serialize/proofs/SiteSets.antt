@@ -43,6 +43,10 @@ has_others_more old new x same h s =
     ∙ ap (λ b. is_in s old.few.items || b) (h s)
     ∙ others_more (x == s) (is_in s old.few.items) (contains ◌==◌ old.others s)
 
+-- a few alone
+pub few_alone : (set : SmallSet) (xs : List ℕ) → set.few.items ≡ xs → ((s : ℕ) → contains ◌==◌ set.others s ≡ false) → IsSetOf xs set
+few_alone set xs e none s = ap (λ l. is_in s l || contains ◌==◌ set.others s) e ∙ ap (λ b. is_in s xs || b) (none s) ∙ or_false (is_in s xs)
+
 -- one more site
 pub set_more : (xs : List ℕ) (i x : ℕ) (old new : SmallSet) → i < length xs → x ≡ get_or xs i x → ((s : ℕ) → has new s ≡ (if x == s then true else has old s))
     → IsSetOf (take i xs) old → IsSetOf (take (i + 1) xs) new

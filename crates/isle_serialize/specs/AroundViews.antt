@@ -61,6 +61,18 @@ pub record IsInside (kept ar : Places.Around) : Type 0 where
 abbrev pub after_uses : SiteSet → Places.Around → List ℕ → Places.Around
 after_uses set ar used = record { tested = ar.tested; joined = ar.joined; looped = ar.looped; brought = ar.brought; emitted = all_below set.sites used ++ ar.emitted }
 
+-- these sites are the emitted ones after a step that uses some
+abbrev pub AreEmitted : SiteSet → Places.Around → List ℕ → List ℕ → Type 0
+AreEmitted set ar used sites = (s : ℕ) → is_in s sites ≡ is_in s (all_below set.sites used ++ ar.emitted)
+
+-- the same place, where these sites are emitted
+abbrev pub where_emitted : Places.Around → List ℕ → Places.Around
+where_emitted ar sites = record { tested = ar.tested; joined = ar.joined; looped = ar.looped; brought = ar.brought; emitted = sites }
+
+-- the same place, where two sites are joined too
+abbrev pub where_joined : Places.Around → ℕ → ℕ → Places.Around
+where_joined ar a b = record { tested = ar.tested; joined = (a, b) ∷ ar.joined; looped = ar.looped; brought = ar.brought; emitted = ar.emitted }
+
 -- around the body of an arm or a loop of this source, which brings these sites
 abbrev pub brings : Places.Around → ℕ → List ℕ → Places.Around
 brings ar s sites = record { tested = []; joined = ar.joined; looped = s ∷ ar.looped; brought = sites ++ ar.brought; emitted = sites ++ ar.emitted }

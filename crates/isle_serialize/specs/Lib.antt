@@ -5,3 +5,4 @@ pub mod Bars
 pub mod Opened
 pub mod Growing
 pub mod FieldTests
+pub mod Turns

@@ -1,20 +1,31 @@
 //! The arms of a match: one for each constraint that some rule asks of its source, by ascending constraints.
 
-ghost use Rattle.std.specs.Prelude.{◌≡◌, ℕ, not, IfOk, option_map};
-ghost use Rattle.std.specs.List.{filter};
+ghost use Rattle.std.specs.Prelude.{◌≡◌, ◌≤◌, ◌∷◌, [], IfOk, drop, length, option_map};
+ghost use Rattle.std.specs.List.{filter, prefix_len};
+ghost use Rattle.std.specs.Ordering.{is_lt};
 ghost use Rattle.isle_model.specs.trees.Sound as Sound;
 ghost use Rattle.isle_sets.specs.SiteViews.{constraint_view, set_view};
-ghost use Rattle.isle_serialize.specs.AroundViews.{around_view};
+ghost use Rattle.isle_serialize.specs.AroundViews.{around_view, AreEmitted};
 ghost use Rattle.isle_serialize.specs.FieldTests.{AreFields};
-ghost use Rattle.isle_serialize.specs.Growing as Growing;
-ghost use Rattle.isle_serialize.specs.Growing.{CanGrow, IsLeastAsked, IsNextArmOf};
+ghost use Rattle.isle_serialize.specs.Growing.{CanGrow};
+ghost use Rattle.isle_serialize.specs.Turns as Turns;
+ghost use Rattle.isle_serialize.specs.Turns.{numbers, asks_that, AreInTurn, AreTurns, IsNextArmOf};
 
 use crate::around::Around;
 use crate::fields::{Fields, fields_of};
 use crate::inside::in_arm;
-use crate::parts::part;
 use isle_sets::trie_again::{BindingId, Constraint, RuleSet};
 use std::alloc::{AllocError, Global};
+use std::cmp::Ordering;
+
+/// A rule that asks something of the source of a match.
+#[derive(Clone, Copy, Debug)]
+pub struct Asked {
+    /// The rule's number.
+    pub number: usize,
+    /// What it asks.
+    pub constraint: Constraint,
+}
 
 /// An arm of a match, but for its body.
 #[derive(Debug, Drop)]
@@ -25,15 +36,13 @@ pub struct NextArm {
     pub fields: Vec<Option<BindingId>>,
     /// The rules that ask it.
     pub asking: Vec<usize>,
-    /// The other rules: they are left for the arms behind it.
-    pub others: Vec<usize>,
     /// What stands around the arm's body.
     pub inside: Around,
 }
 
 // What the rule of a number asks of a site.
 fn asked_at(set: &RuleSet, source: BindingId, number: usize) -> Option<Constraint>
-    ensures { option_map constraint_view result ≡ Growing.asked_at (set_view set.now).rules source number }
+    ensures { option_map constraint_view result ≡ Turns.asked_at (set_view set.now).rules source number }
 {
     match set.rules.get(number) {
         Some(rule) => rule.get_constraint(source),
@@ -41,90 +50,117 @@ fn asked_at(set: &RuleSet, source: BindingId, number: usize) -> Option<Constrain
     }
 }
 
-// Whether a constraint comes before another.
-fn comes_before(constraint: Constraint, other: Constraint) -> bool
-    ensures { result ≡ Sound.comes_before (constraint_view constraint) (constraint_view other) }
-{
-    constraint < other
-}
-
-// The lesser one of two constraints, if there is one.
-fn lesser(least: Option<Constraint>, asked: Option<Constraint>) -> Option<Constraint>
-    ensures { option_map constraint_view result ≡ Growing.lesser (option_map constraint_view least) (option_map constraint_view asked) }
-{
-    match (least, asked) {
-        (Some(a), Some(b)) => Some(if comes_before(b, a) { b } else { a }),
-        (None, other) => other,
-        (some, None) => some,
-    }
-}
-
-// The least constraint that some of these rules ask of a site.
-fn least_asked(set: &RuleSet, source: BindingId, here: &[usize]) -> Option<Constraint>
-    ensures { IsLeastAsked (set_view set.now).rules source here.now (option_map constraint_view result) }
-{
-    let mut least = None;
-    for number in here {
-        least = lesser(least, asked_at(set, source, *number));
-    }
-    least
-}
-
-// Whether the rule of a number asks this of a site.
-fn asks(set: &RuleSet, source: BindingId, constraint: &Constraint, number: usize) -> bool
-    ensures { result ≡ Growing.asks (set_view set.now).rules source (constraint_view constraint.now) number }
-{
-    match asked_at(set, source, number) {
-        Some(asked) => asked == *constraint,
-        None => false,
-    }
-}
-
-// The rules that ask this of a site, and those that don't.
-fn parted(
+// What each of these rules asks of a site, but for those that ask nothing.
+fn all_asked(
     alloc: Global,
     set: &RuleSet,
     source: BindingId,
-    constraint: Constraint,
     here: &[usize],
-) -> Result<(Vec<usize>, Vec<usize>), AllocError>
-    ensures asking { IfOk result (λ p. p.0.items ≡ filter (Growing.asks (set_view set.now).rules source (constraint_view constraint)) here.now) }
-    ensures others { IfOk result (λ p. p.1.items ≡ filter (λ i. not (Growing.asks (set_view set.now).rules source (constraint_view constraint) i)) here.now) }
+) -> Result<Vec<Asked>, AllocError>
+    ensures each { IfOk result (λ v. Turns.AreAsked (set_view set.now).rules source v.items) }
+    ensures numbers { IfOk result (λ v. numbers v.items ≡ filter (Turns.asks_some (set_view set.now).rules source) here.now) }
 {
-    let mut asking = Vec::new(alloc);
-    let mut others = Vec::new(alloc);
+    let mut turns = Vec::with_capacity(alloc, here.len())?;
     for number in here {
-        let asks = asks(set, source, &constraint, *number);
-        part(&mut asking, &mut others, *number, asks)?;
+        if let Some(constraint) = asked_at(set, source, *number) {
+            turns.push(Asked {
+                number: *number,
+                constraint,
+            })?;
+        }
     }
-    Ok((asking, others))
+    Ok(turns)
 }
 
-/// The next arm of a match, of the least constraint that some of these rules ask of its source, and none where none of
-/// them asks any.
+// How two constraints are ordered.
+fn by_constraint(a: &Asked, b: &Asked) -> Ordering
+    ensures { is_lt result ≡ Turns.is_ahead a.now b.now }
+{
+    a.constraint.cmp(&b.constraint)
+}
+
+/// What these rules ask of a site, by ascending constraints: a constraint's rules stand one behind another, and in the
+/// order in which they stand here.
+pub fn asked_in_turn(
+    alloc: Global,
+    set: &RuleSet,
+    source: BindingId,
+    here: &[usize],
+) -> Result<Vec<Asked>, AllocError>
+    ensures { IfOk result (λ v. AreInTurn (set_view set.now).rules source here.now v.items) }
+{
+    let mut turns = all_asked(alloc, set, source, here)?;
+    turns.sort_by(|a, b| by_constraint(a, b))?;
+    Ok(turns)
+}
+
+// Whether one asks that.
+fn asks(asked: &Asked, constraint: &Constraint) -> bool
+    ensures { result ≡ asks_that (constraint_view constraint.now) asked.now }
+{
+    asked.constraint == *constraint
+}
+
+// How many at the head of these ask that.
+fn run_len(turns: &[Asked], constraint: &Constraint) -> usize
+    ensures value { result ≡ prefix_len (asks_that (constraint_view constraint.now)) turns.now }
+    ensures within { result ≤ length turns.now }
+{
+    turns
+        .iter()
+        .take_while(|asked| asks(asked, constraint))
+        .count()
+}
+
+// The rules of these.
+fn numbers_of(alloc: Global, turns: &[Asked]) -> Result<Vec<usize>, AllocError>
+    ensures { IfOk result (λ v. v.items ≡ numbers turns.now) }
+{
+    let mut rules = Vec::with_capacity(alloc, turns.len())?;
+    for asked in turns {
+        rules.push(asked.number)?;
+    }
+    Ok(rules)
+}
+
+/// Those behind the first of these.
+pub fn behind(turns: &[Asked], count: usize) -> &[Asked]
+    ensures { result.now ≡ drop count turns.now }
+{
+    match turns.get(count..) {
+        Some(rest) => rest,
+        None => &[],
+    }
+}
+
+/// The next arm of a match, of the least constraint of those that are left, and none where none is left.
 pub fn next_arm(
     alloc: Global,
     set: &RuleSet,
     fields: &Fields,
     around: &Around,
+    emitted: &[BindingId],
     source: BindingId,
-    here: &[usize],
+    left: &[Asked],
 ) -> Result<Option<NextArm>, AllocError>
     requires set { CanGrow (set_view set.now) }
     requires fields { AreFields (set_view set.now).sites fields.now }
-    ensures { IfOk result (λ o. IsNextArmOf (set_view set.now) (around_view around.now) source here.now o) }
+    requires turns { AreTurns (set_view set.now).rules source left.now }
+    requires emitted { AreEmitted (set_view set.now) (around_view around.now) (source ∷ []) emitted.now }
+    ensures { IfOk result (λ o. IsNextArmOf (set_view set.now) (around_view around.now) source (numbers left.now) o) }
 {
-    let Some(constraint) = least_asked(set, source, here) else {
+    let Some(first) = left.first() else {
         return Ok(None);
     };
+    let constraint = first.constraint;
     let fields = fields_of(alloc, set, fields, source, &constraint)?;
-    let (asking, others) = parted(alloc, set, source, constraint, here)?;
-    let inside = in_arm(alloc, set, around, source, &fields)?;
+    let count = run_len(left, &constraint);
+    let asking = numbers_of(alloc, &left[..count])?;
+    let inside = in_arm(alloc, around, emitted, source, &fields)?;
     Ok(Some(NextArm {
         constraint,
         fields,
         asking,
-        others,
         inside,
     }))
 }

@@ -5,7 +5,7 @@ ghost use Rattle.isle_model.specs.trees.Places.{nothing_around, class, is_in, jo
 ghost use Rattle.isle_sets.specs.SiteViews.{site_view};
 ghost use Rattle.isle_serialize.specs.AroundViews.{around_view, sites_of_pairs, name_in, IsKnown, IsNaming, IsSetOf};
 
-use crate::small_set::SmallSet;
+use crate::small_set::{FEW, SmallSet};
 use isle_sets::trie_again::{Binding, BindingId};
 use std::alloc::{AllocError, Global};
 
@@ -69,6 +69,9 @@ pub fn known_of(alloc: Global, around: &Around) -> Result<Known, AllocError>
 pub fn set_of(alloc: Global, sites: &[BindingId]) -> Result<SmallSet, AllocError>
     ensures { IfOk result (IsSetOf sites.now) }
 {
+    if sites.len() <= FEW {
+        return SmallSet::of_few(alloc, sites);
+    }
     let mut set = SmallSet::new(alloc);
     for site in sites {
         set.insert(*site)?;

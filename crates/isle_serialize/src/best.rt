@@ -1,16 +1,16 @@
 //! The best tree of a set: at each place the greatest test is made, for exactly the rules that it covers.
 
-ghost use Rattle.std.specs.Prelude.{◌≡◌, ◌≤◌, None, IfOk, IsTrue, length};
+ghost use Rattle.std.specs.Prelude.{◌≡◌, ◌≤◌, ◌∷◌, [], None, IfOk, IsTrue, length};
 ghost use Rattle.isle_model.specs.trees.Best.{descend};
 ghost use Rattle.isle_model.specs.trees.Tests as Tests;
 ghost use Rattle.isle_sets.specs.SiteViews.{set_view};
-ghost use Rattle.isle_serialize.specs.AroundViews.{around_view};
+ghost use Rattle.isle_serialize.specs.AroundViews.{around_view, AreEmitted};
 ghost use Rattle.isle_serialize.specs.FieldTests.{AreFields};
-ghost use Rattle.isle_serialize.specs.Growing.{AreBestArms, CanGrow, IsBestBody, IsBestFrom, IsStepOf};
+ghost use Rattle.isle_serialize.specs.Growing.{AreBestArms, CanGrow, IsBestBody, IsBestFrom, IsStepOf, test_emits};
 ghost use Rattle.isle_serialize.specs.TestViews.{test_view};
 ghost use Rattle.isle_serialize.specs.TreeViews.{arms_view, check_view, tree_view};
 
-use crate::arms::next_arm;
+use crate::arms::{asked_in_turn, behind, next_arm};
 use crate::around::Around;
 use crate::ends::returns_of;
 use crate::fields::Fields;
@@ -40,12 +40,21 @@ pub fn block_of(
     let mut left = here;
     let mut around = around;
     while let Some(next) = next_test(alloc, set, &around, &left)? {
-        let check = check_of(alloc, set, fields, &around, next.test, next.covered)?;
+        let emitted = next.emitted;
+        let check = check_of(
+            alloc,
+            set,
+            fields,
+            &around,
+            &emitted,
+            next.test,
+            next.covered,
+        )?;
         steps.push(EvalStep {
             bind_order: next.binds,
             check,
         })?;
-        around = next.after;
+        around.emitted = emitted;
         left = next.others;
     }
     let mut ends = returns_of(alloc, set, left, around)?;
@@ -60,6 +69,7 @@ fn check_of(
     set: &RuleSet,
     fields: &Fields,
     around: &Around,
+    emitted: &[BindingId],
     test: Test,
     here: Vec<usize>,
 ) -> Result<ControlFlow, AllocError>
@@ -67,15 +77,16 @@ fn check_of(
     requires fields { AreFields (set_view set.now).sites fields.now }
     requires order { IsTrue (descend (set_view set.now).rules here.items) }
     requires step { IsStepOf (set_view set.now) (around_view around.now) (test_view test) here.items }
+    requires emitted { AreEmitted (set_view set.now) (around_view around.now) (test_emits (set_view set.now) (test_view test)) emitted.now }
     ensures { IfOk result (λ check. IsBestBody (set_view set.now) (around_view around.now) (test_view test) here.items (check_view check)) }
 {
     match test {
         Test::Match { source } => Ok(ControlFlow::Match {
             source,
-            arms: arms_of(alloc, set, fields, around, source, here)?,
+            arms: arms_of(alloc, set, fields, around, emitted, source, here)?,
         }),
         Test::Equal { a, b } => {
-            let inside = in_equal(alloc, set, around, a, b)?;
+            let inside = in_equal(alloc, around, emitted, a, b)?;
             Ok(ControlFlow::Equal {
                 a,
                 b,
@@ -84,7 +95,7 @@ fn check_of(
         }
         Test::Loop { source } => {
             let result = pick_of(set, fields, source);
-            let inside = in_loop(alloc, set, around, source, result)?;
+            let inside = in_loop(alloc, around, emitted, source, result)?;
             Ok(ControlFlow::Loop {
                 result,
                 body: block_of(alloc, set, fields, here, inside)?,
@@ -100,6 +111,7 @@ fn arms_of(
     set: &RuleSet,
     fields: &Fields,
     around: &Around,
+    emitted: &[BindingId],
     source: BindingId,
     here: Vec<usize>,
 ) -> Result<Vec<MatchArm>, AllocError>
@@ -107,17 +119,20 @@ fn arms_of(
     requires fields { AreFields (set_view set.now).sites fields.now }
     requires order { IsTrue (descend (set_view set.now).rules here.items) }
     requires step { IsStepOf (set_view set.now) (around_view around.now) (Tests.match_test source) here.items }
+    requires emitted { AreEmitted (set_view set.now) (around_view around.now) (source ∷ []) emitted.now }
     ensures { IfOk result (λ v. AreBestArms (set_view set.now) (around_view around.now) source None here.items (arms_view v.items)) }
 {
+    let turns = asked_in_turn(alloc, set, source, &here)?;
     let mut arms = Vec::new(alloc);
-    let mut left = here;
-    while let Some(next) = next_arm(alloc, set, fields, around, source, &left)? {
+    let mut left = behind(&turns, 0);
+    while let Some(next) = next_arm(alloc, set, fields, around, emitted, source, left)? {
+        let asking = next.asking.len();
         arms.push(MatchArm {
             constraint: next.constraint,
             bindings: next.fields,
             body: block_of(alloc, set, fields, next.asking, next.inside)?,
         })?;
-        left = next.others;
+        left = behind(left, asking);
     }
     Ok(arms)
 }

@@ -6,9 +6,9 @@ ghost use Rattle.isle_model.specs.sites.Sites.{sources_at};
 ghost use Rattle.isle_model.specs.trees.Places as Places;
 ghost use Rattle.isle_model.specs.trees.Places.{each_after, is_in, is_in_place, listed_below};
 ghost use Rattle.isle_sets.specs.SiteViews.{site_view, set_view};
-ghost use Rattle.isle_serialize.specs.AroundViews.{around_view, AreSettled};
+ghost use Rattle.isle_serialize.specs.AroundViews.{around_view, AreSettled, IsSetOf};
 
-use crate::around::{Around, set_of};
+use crate::around::Around;
 use crate::parts::keep;
 use crate::small_set::SmallSet;
 use isle_sets::trie_again::{Binding, BindingId, RuleSet};
@@ -62,20 +62,22 @@ fn list_below(
     Ok(())
 }
 
-/// The sites below these, down to some that are emitted, in the order in which they are made of one another.
+/// The sites below these, down to some that are emitted, in the order in which they are made of one another. They are
+/// added to the set of the emitted ones.
 pub fn all_listed(
     alloc: Global,
     set: &RuleSet,
     emitted: &[BindingId],
+    settled: &mut SmallSet,
     sites: &[BindingId],
 ) -> Result<Vec<BindingId>, AllocError>
-    requires { (s a : ℕ) → Contains (sources_at (set_view set.now).sites s) a → a < s }
+    requires sources { (s a : ℕ) → Contains (sources_at (set_view set.now).sites s) a → a < s }
+    requires settled { IsSetOf emitted.now settled.old }
     ensures { IfOk result (λ v. v.items ≡ each_after (λ done s. listed_below (suc s) (set_view set.now).sites emitted.now done s) [] sites.now) }
 {
-    let mut settled = set_of(alloc, emitted)?;
     let mut listed = Vec::new(alloc);
     for site in sites {
-        list_below(alloc, set, emitted, *site, &mut settled, &mut listed)?;
+        list_below(alloc, set, emitted, *site, settled, &mut listed)?;
     }
     Ok(listed)
 }
@@ -112,17 +114,20 @@ fn is_bound(set: &RuleSet, site: BindingId) -> bool
     }
 }
 
-/// What is bound before a step that uses these sites: what isn't emitted, each once, sources first and left to right.
+/// What is bound before a step that uses these sites: what isn't emitted, each once, sources first and left to right. It is
+/// added to the set of what is emitted.
 pub fn bind_order(
     alloc: Global,
     set: &RuleSet,
     around: &Around,
+    settled: &mut SmallSet,
     sites: &[BindingId],
 ) -> Result<Vec<BindingId>, AllocError>
-    requires { (s a : ℕ) → Contains (sources_at (set_view set.now).sites s) a → a < s }
+    requires sources { (s a : ℕ) → Contains (sources_at (set_view set.now).sites s) a → a < s }
+    requires settled { IsSetOf around.now.emitted.items settled.old }
     ensures { IfOk result (λ v. v.items ≡ Places.bind_order (set_view set.now).sites (around_view around.now) sites.now) }
 {
-    let listed = all_listed(alloc, set, &around.emitted, sites)?;
+    let listed = all_listed(alloc, set, &around.emitted, settled, sites)?;
     let mut bound = Vec::new(alloc);
     for site in &listed {
         keep(&mut bound, *site, is_bound(set, *site))?;
@@ -140,5 +145,6 @@ pub fn all_below(
     requires { (s a : ℕ) → Contains (sources_at (set_view set.now).sites s) a → a < s }
     ensures { IfOk result (λ v. (x : ℕ) → is_in x v.items ≡ is_in x (Places.all_below (set_view set.now).sites sites.now)) }
 {
-    all_listed(alloc, set, &[], sites)
+    let mut settled = SmallSet::new(alloc);
+    all_listed(alloc, set, &[], &mut settled, sites)
 }

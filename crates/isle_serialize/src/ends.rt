@@ -3,17 +3,19 @@
 ghost use Rattle.std.specs.Prelude.{◌≡◌, ◌<◌, ℕ, IsTrue, None, Some, Contains, IfOk, slice_get};
 ghost use Rattle.isle_model.specs.sites.Sites.{sources_at};
 ghost use Rattle.isle_model.specs.trees.Best.{descend};
+ghost use Rattle.isle_model.specs.trees.Places as Places;
 ghost use Rattle.isle_model.specs.trees.Places.{return_uses};
 ghost use Rattle.isle_model.specs.trees.Trees as Trees;
 ghost use Rattle.isle_sets.specs.SiteViews.{set_rule_view, set_view};
-ghost use Rattle.isle_serialize.specs.AroundViews.{around_view};
+ghost use Rattle.isle_serialize.specs.AroundViews.{around_view, IsSetOf};
 ghost use Rattle.isle_serialize.specs.Growing.{AreEnds};
 ghost use Rattle.isle_serialize.specs.TreeViews.{check_view, steps_view};
 
-use crate::around::Around;
+use crate::around::{Around, set_of};
 use crate::binds::bind_order;
-use crate::inside::after_step;
+use crate::inside::emitted_after;
 use crate::serialize::{ControlFlow, EvalStep};
+use crate::small_set::SmallSet;
 use isle_base::syntax::Pos;
 use isle_sets::trie_again::{BindingId, Rule, RuleSet};
 use std::alloc::{AllocError, Global};
@@ -63,7 +65,29 @@ fn return_of(set: &RuleSet, number: usize) -> ControlFlow
     }
 }
 
-/// The returns of these rules, which stand in order, each with its impure calls and its result bound.
+// The step that returns by a rule, which uses these sites, where a set of what is emitted is at hand.
+fn return_step(
+    alloc: Global,
+    set: &RuleSet,
+    around: &Around,
+    settled: SmallSet,
+    number: usize,
+    used: &[BindingId],
+) -> Result<EvalStep, AllocError>
+    requires sources { (s a : ℕ) → Contains (sources_at (set_view set.now).sites s) a → a < s }
+    requires settled { IsSetOf around.now.emitted.items settled }
+    ensures binds { IfOk result (λ s. s.bind_order.items ≡ Places.bind_order (set_view set.now).sites (around_view around.now) used.now) }
+    ensures check { IfOk result (λ s. check_view s.check ≡ Trees.return_of (slice_get (set_view set.now).rules number)) }
+{
+    let mut settled = settled;
+    Ok(EvalStep {
+        bind_order: bind_order(alloc, set, around, &mut settled, used)?,
+        check: return_of(set, number),
+    })
+}
+
+/// The returns of these rules, which stand in order, each with its impure calls and its result bound. What the last one
+/// emits isn't listed.
 pub fn returns_of(
     alloc: Global,
     set: &RuleSet,
@@ -74,15 +98,20 @@ pub fn returns_of(
     requires order { IsTrue (descend (set_view set.now).rules here.items) }
     ensures { IfOk result (λ v. AreEnds (set_view set.now) (around_view around) here.items (steps_view v.items)) }
 {
-    let mut steps = Vec::new(alloc);
+    let mut steps = Vec::with_capacity(alloc, here.len())?;
+    let Some((last, earlier)) = here.split_last() else {
+        return Ok(steps);
+    };
     let mut around = around;
-    for number in &here {
+    for number in earlier {
         let used = used_by(alloc, set, *number)?;
-        steps.push(EvalStep {
-            bind_order: bind_order(alloc, set, &around, &used)?,
-            check: return_of(set, *number),
-        })?;
-        around = after_step(alloc, set, &around, &used)?;
+        let settled = set_of(alloc, &around.emitted)?;
+        let emitted = emitted_after(alloc, set, &around.emitted, &settled, &used)?;
+        steps.push(return_step(alloc, set, &around, settled, *number, &used)?)?;
+        around.emitted = emitted;
     }
+    let used = used_by(alloc, set, *last)?;
+    let settled = set_of(alloc, &around.emitted)?;
+    steps.push(return_step(alloc, set, &around, settled, *last, &used)?)?;
     Ok(steps)
 }

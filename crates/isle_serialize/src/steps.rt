@@ -4,7 +4,7 @@ ghost use Rattle.std.specs.Prelude.{◌≡◌, ◌<◌, ℕ, Some, Contains, IfO
 ghost use Rattle.isle_model.specs.sites.Sites.{iterator_site, sources_at};
 ghost use Rattle.isle_model.specs.trees.Best.{descend};
 ghost use Rattle.isle_sets.specs.SiteViews.{set_view};
-ghost use Rattle.isle_serialize.specs.AroundViews.{around_view, after_uses, IsInside, IsKnown};
+ghost use Rattle.isle_serialize.specs.AroundViews.{around_view, AreEmitted, IsKnown};
 ghost use Rattle.isle_serialize.specs.FieldTests.{AreFields};
 ghost use Rattle.isle_serialize.specs.Growing.{test_sites, test_emits, CanGrow, IsNext};
 ghost use Rattle.isle_serialize.specs.TestViews.{test_view, AreUseful, IsChosen};
@@ -12,7 +12,7 @@ ghost use Rattle.isle_serialize.specs.TestViews.{test_view, AreUseful, IsChosen}
 use crate::around::{Around, Known, known_of};
 use crate::binds::{bind_order, sources_of};
 use crate::fields::{Fields, iterator_of};
-use crate::inside::after_step;
+use crate::inside::emitted_after;
 use crate::open::useful_tests;
 use crate::tests::{Test, greatest_of, parted};
 use isle_sets::trie_again::{BindingId, RuleSet};
@@ -29,8 +29,8 @@ pub struct NextTest {
     pub covered: Vec<usize>,
     /// The other rules of the place: they are left for the steps behind it.
     pub others: Vec<usize>,
-    /// What stands around the steps behind it.
-    pub after: Around,
+    /// The sites that are emitted after it.
+    pub emitted: Vec<BindingId>,
 }
 
 // The sites that a step of a test uses.
@@ -48,21 +48,38 @@ fn sites_of(alloc: Global, test: &Test) -> Result<Vec<BindingId>, AllocError>
     Ok(sites)
 }
 
-// Around the steps after a test's.
-fn after_test(
+// The sites that are emitted once these are used too.
+fn used_too(
     alloc: Global,
     set: &RuleSet,
     around: &Around,
+    known: &Known,
+    used: &[BindingId],
+) -> Result<Vec<BindingId>, AllocError>
+    requires known { IsKnown (around_view around.now) known.now }
+    requires sources { (s a : ℕ) → Contains (sources_at (set_view set.now).sites s) a → a < s }
+    ensures { IfOk result (λ v. AreEmitted (set_view set.now) (around_view around.now) used.now v.items) }
+{
+    emitted_after(alloc, set, &around.emitted, &known.emitted, used)
+}
+
+// The sites that are emitted after a test.
+fn emitted_by(
+    alloc: Global,
+    set: &RuleSet,
+    around: &Around,
+    known: &Known,
     test: &Test,
-) -> Result<Around, AllocError>
-    requires { (s a : ℕ) → Contains (sources_at (set_view set.now).sites s) a → a < s }
-    ensures { IfOk result (λ r. IsInside (around_view r) (after_uses (set_view set.now) (around_view around.now) (test_emits (set_view set.now) (test_view test.now)))) }
+) -> Result<Vec<BindingId>, AllocError>
+    requires known { IsKnown (around_view around.now) known.now }
+    requires sources { (s a : ℕ) → Contains (sources_at (set_view set.now).sites s) a → a < s }
+    ensures { IfOk result (λ v. AreEmitted (set_view set.now) (around_view around.now) (test_emits (set_view set.now) (test_view test.now)) v.items) }
 {
     match test {
-        Test::Match { source } => after_step(alloc, set, around, &[*source]),
-        Test::Equal { a, b } => after_step(alloc, set, around, &[*a, *b]),
+        Test::Match { source } => used_too(alloc, set, around, known, &[*source]),
+        Test::Equal { a, b } => used_too(alloc, set, around, known, &[*a, *b]),
         // the call itself may be bound again, so that its sources alone are emitted
-        Test::Loop { source } => after_step(alloc, set, around, sources_of(set, *source)),
+        Test::Loop { source } => used_too(alloc, set, around, known, sources_of(set, *source)),
     }
 }
 
@@ -90,15 +107,16 @@ fn chosen_test(
     alloc: Global,
     set: &RuleSet,
     around: &Around,
+    known: &Known,
     here: &[usize],
 ) -> Result<Option<Test>, AllocError>
+    requires known { IsKnown (around_view around.now) known.now }
     requires set { CanGrow (set_view set.now) }
     requires order { IsTrue (descend (set_view set.now).rules here.now) }
     ensures { IfOk result (λ o. IsChosen (set_view set.now) (around_view around.now) here.now (option_map test_view o)) }
 {
-    let known = known_of(alloc, around)?;
-    let tests = useful_tests(alloc, set, around, &known, here)?;
-    Ok(chosen_of(set, around, &known, here, &tests))
+    let tests = useful_tests(alloc, set, around, known, here)?;
+    Ok(chosen_of(set, around, known, here, &tests))
 }
 
 /// The test that is made next at a place with these rules, and none where the place is an end.
@@ -112,17 +130,23 @@ pub fn next_test(
     requires order { IsTrue (descend (set_view set.now).rules here.now) }
     ensures { IfOk result (λ o. IsNext (set_view set.now) (around_view around.now) here.now o) }
 {
-    let Some(test) = chosen_test(alloc, set, around, here)? else {
+    if here.is_empty() {
+        return Ok(None);
+    }
+    let known = known_of(alloc, around)?;
+    let Some(test) = chosen_test(alloc, set, around, &known, here)? else {
         return Ok(None);
     };
     let sites = sites_of(alloc, &test)?;
     let (covered, others) = parted(alloc, set, here, &test)?;
+    let emitted = emitted_by(alloc, set, around, &known, &test)?;
+    let mut settled = known.emitted;
     Ok(Some(NextTest {
         test,
-        binds: bind_order(alloc, set, around, &sites)?,
+        binds: bind_order(alloc, set, around, &mut settled, &sites)?,
         covered,
         others,
-        after: after_test(alloc, set, around, &test)?,
+        emitted,
     }))
 }
 

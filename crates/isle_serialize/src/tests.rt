@@ -162,8 +162,8 @@ fn parted_at(
     ensures reaching { IfOk result (λ p. p.0.items ≡ filter (Bars.is_at_bar (set_view set.now).rules (test_view test.now) bar) here.now) }
     ensures others { IfOk result (λ p. p.1.items ≡ filter (λ i. not (Bars.is_at_bar (set_view set.now).rules (test_view test.now) bar i)) here.now) }
 {
-    let mut reaching = Vec::new(alloc);
-    let mut others = Vec::new(alloc);
+    let mut reaching = Vec::with_capacity(alloc, here.len())?;
+    let mut others = Vec::with_capacity(alloc, here.len())?;
     for number in here {
         let reaches = is_at_bar(set, test, bar, *number);
         part(&mut reaching, &mut others, *number, reaches)?;

@@ -1,25 +1,26 @@
 -- Reading converters by types that are handed in, one definition after another.
-use Rattle.std.proofs.Common.{◌≡◌, ◌==◌, ◌&&◌, ℕ, zero, suc, ◌+◌, ◌<◌, Bool, true, false, cond, List, [], ◌∷◌, ◌++◌, length, take, drop, get_or, map, slice_get, None, Some, is_some, unwrap_or, option_map, All, refl, sym, ap, subst, ◌∙◌, inl, inr, eqb-true}
+use Rattle.std.proofs.Common.{◌≡◌, ◌==◌, ◌&&◌, ℕ, zero, suc, ◌+◌, ◌<◌, Bool, true, false, cond, List, [], ◌∷◌, ◌++◌, length, take, drop, get_or, map, slice_get, None, Some, is_some, unwrap_or, option_map, All, refl, sym, ap, subst, ◌∙◌, inl, inr, eqb-true, Contains}
 use Rattle.std.proofs.Math.Path.{ap₂}
 use Rattle.std.proofs.lemmas.Bool.{false≢true}
 use Rattle.std.proofs.lemmas.Bool.Decides.{Decides-eqb}
 use Rattle.std.proofs.lemmas.List.{append-nil, map-append}
 use Rattle.std.proofs.lemmas.List.Concat.{flat_map-append}
-use Rattle.std.proofs.lemmas.List.Elements.{All-push}
-use Rattle.std.proofs.lemmas.Option.{same_Some, slice_get_within, slice_get-map}
+use Rattle.std.proofs.lemmas.List.Elements.{All-contains, All-push}
+use Rattle.std.proofs.lemmas.Option.{same_Some, slice_get-map}
+use Rattle.isle_model.proofs.Members.{in_map, member_from_get}
 use Rattle.isle_model.proofs.Mapped.{mapped_some}
 use Rattle.isle_model.specs.lists.Syntax.{Name, ConverterTree, Definition, type_definition, declaration, extractor_definition, converter_definition, rule_definition, extern_definition, other_definition}
 use Rattle.isle_model.specs.lists.Names.{IsDistinct}
 use Rattle.isle_model.specs.rules.Meaning.{look}
 use Rattle.isle_model.specs.lists.TypeTable.{IsKnownType}
 use Rattle.isle_model.specs.lists.KnownTypes.{type_named, known_type}
-use Rattle.isle_model.specs.lists.TermTable.{decl_names, rule_trees, extractor_trees, converter_of, converter_trees, converted_pairs, term_named, known_term, IsKnownTerm, IsKnownConverter, IsValidTerms}
+use Rattle.isle_model.specs.lists.TermTable.{decl_names, rule_trees, extractor_trees, converter_of, converter_trees, converted_pairs, term_named, known_term, IsKnownTerm, IsKnownConverter}
 use Rattle.isle_model.specs.claims.Environments.{TypesRead, AreReadable, IsLeftByRefusal}
-use Rattle.isle_model.proofs.Positions.{distinct_push, twice}
-use Rattle.isle_laws_lists.proofs.Converters.{converters_stand_once_lem}
+use Rattle.isle_model.proofs.Positions.{distinct_push}
 use Rattle.isle_base.specs.declared.syntax.Def.{Def}
 use Rattle.isle_base.specs.declared.syntax.Error.{Error}
 use Rattle.isle_base.specs.Stable.{Entries, look_up}
+use Rattle.isle_base.specs.Positions.{definition_positions}
 use Rattle.isle_base.specs.SyntaxViews.{definition_view, definition_views}
 use Rattle.isle_types.specs.declared.type_env.TypeEnv.{TypeEnv}
 use Rattle.isle_types.specs.Envs.{same_symbol, symbol, type_of_name}
@@ -30,12 +31,14 @@ use Rattle.isle_terms.specs.TermTables.{same_types}
 use Rattle.isle_terms.specs.declared.term_table.TermTable.{TermTable}
 use Rattle.isle_terms.specs.TermViews.{term_views}
 use Rattle.isle_terms.specs.Reading.{IsWithin, term_of_name}
+use Rattle.isle_terms.specs.TermBreaches.{BeginsAt, BreaksConverter, unknown_converter, second_converter, by_converter}
 use Rattle.isle_terms.specs.Stages.{constructor_after}
 use Rattle.isle_terms.specs.Signing.{ReadsTerms}
 use Rattle.isle_terms.specs.Converting.{type_by_id, converter_at, pair_of, converter_entry, template_after, ConvertersRead, Converts, IsWrongConverter, ReadsIfConverter}
-use Rattle.isle_terms.proofs.Declaring.{at_middle, taken_next, around}
+use Rattle.isle_terms.proofs.Declaring.{taken_next, around}
 use Rattle.isle_terms.proofs.Noting.{step}
 use Rattle.isle_terms.proofs.Standing.{term_is}
+use Rattle.isle_terms.proofs.TemplateSteps.{one_name}
 use Rattle.isle_terms.proofs.TypesStaying.{left_interned, type_is}
 
 -- what is looked up in a list with one more entry
@@ -86,13 +89,7 @@ pair_is k i o h =
       | false ↦ λ e g. absurd (false≢true g)
     ] refl h
 
-pair_same : (p q : ℕ × ℕ) → p.0 ≡ q.0 → p.1 ≡ q.1 → p ≡ q
-pair_same p q a b = ap (λ n. (n, p.1)) a ∙ ap (λ n. (q.0, n)) b
-
 module _ (e : TypesRead) (readable : AreReadable e) (defs read rest : List Definition) (c : ConverterTree) (whole : defs ≡ read ++ converter_definition c ∷ rest) (env : TypeEnv) (old : TermTable) (left : IsLeftByRefusal e (environment_view env)) (s : ConvertersRead e defs read env old) where
-  trees : converter_trees defs ≡ converter_trees read ++ c ∷ converter_trees rest
-  trees = ap converter_trees whole ∙ flat_map-append converter_of read (converter_definition c ∷ rest)
-
   more : converter_trees (read ++ converter_definition c ∷ []) ≡ converter_trees read ++ c ∷ []
   more = flat_map-append converter_of read (converter_definition c ∷ [])
 
@@ -162,34 +159,32 @@ module _ (e : TypesRead) (readable : AreReadable e) (defs read rest : List Defin
       conversions = λ i o. answers i o ∙ ap (λ x. look (is_pair i o) (map entry (converter_trees read) ++ x ∷ [])) (sym same_entry) ∙ ap (look (is_pair i o)) (sym (map-append entry (converter_trees read) (c ∷ [])) ∙ ap (map entry) (sym more));
     }
 
-  abbrev keys : ConverterTree → ℕ × ℕ
-  keys d = (entry d).0
+  named_is : (n : Name) → IsKnownType e.known.type_names n → type_named e.known n.text ≡ Some (known_type e.known n)
+  named_is n h = elim (type_named e.known n.text) as (λ o. is_some o ≡ true → o ≡ Some (unwrap_or o 0)) [
+    | None ↦ λ g. absurd (false≢true g)
+    | Some i ↦ λ _. refl
+  ] h
 
-  keys_of : (cs : List ConverterTree) → map (λ (x : (ℕ × ℕ) × ℕ). x.0) (map entry cs) ≡ map keys cs
-  keys_of [] = refl
-  keys_of (d ∷ ds) = ap (λ l. keys d ∷ l) (keys_of ds)
+  -- types of one id have one name
+  one_type : (a b : Name) (ty : ℕ) → IsKnownType e.known.type_names a → known_type e.known a ≡ ty → type_of_name env b.text ≡ Some ty → a.text ≡ b.text
+  one_type a b ty known is found = one_name e.known.type_names a.text b.text ty (named_is a known ∙ ap Some is) (sym (type_of b) ∙ found)
 
-  there : (j : ℕ) (d : ConverterTree) → slice_get (converter_trees read) j ≡ Some d → keys d ≡ keys c → slice_get (map keys (converter_trees read)) j ≡ Some (keys c)
-  there j d h same = slice_get-map keys (converter_trees read) j ∙ ap (option_map keys) h ∙ ap Some same
+  -- a converter before that converts types of these ids
+  converted_before : (d : ConverterTree) → Contains (converter_trees read) d → (i o : ℕ) → known_type e.known d.inner_ty ≡ i → known_type e.known d.outer_ty ≡ o → type_of_name env c.inner_ty.text ≡ Some i → type_of_name env c.outer_ty.text ≡ Some o
+      → Contains (converted_pairs read) (pair_of c)
+  converted_before d there i o first second inner outer =
+      let known = All-contains (IsKnownConverter e.known defs) (converter_trees read) d s.known there in
+      let same : pair_of d ≡ pair_of c = ap (λ x. (x, d.outer_ty.text)) (one_type d.inner_ty c.inner_ty i known.1 first inner) ∙ ap (λ y. (c.inner_ty.text, y)) (one_type d.outer_ty c.outer_ty o known.2 second outer) in
+      subst (Contains (converted_pairs read)) same (in_map pair_of (converter_trees read) d there)
 
-  known_if_valid : IsValidTerms e.known defs → IsKnownConverter e.known defs c
-  known_if_valid v = at_middle (IsKnownConverter e.known defs) (converter_trees read) c (converter_trees rest) (converter_trees defs) trees v.known_converters
-
-  pub converter_wrong : IsWrongConverter c env old → IsValidTerms e.known defs → ⊥
-  converter_wrong (inl none) v = false≢true (sym (ap is_some (sym (type_of c.inner_ty) ∙ none)) ∙ (known_if_valid v).1)
-  converter_wrong (inr (inl none)) v = false≢true (sym (ap is_some (sym (type_of c.outer_ty) ∙ none)) ∙ (known_if_valid v).2)
-  converter_wrong (inr (inr (inl none))) v = false≢true (sym (ap is_some (sym (term_of c.term) ∙ none)) ∙ (known_if_valid v).0)
-  converter_wrong (inr (inr (inr m))) v =
-      let inner = known_is c.inner_ty m.inner m.inner_is in
-      let outer = known_is c.outer_ty m.outer m.outer_is in
+  pub converter_wrong : IsWrongConverter c env old → BreaksConverter e.known defs read c
+  converter_wrong (inl none) = unknown_converter (λ k. false≢true (sym (ap is_some (sym (type_of c.inner_ty) ∙ none)) ∙ k.1))
+  converter_wrong (inr (inl none)) = unknown_converter (λ k. false≢true (sym (ap is_some (sym (type_of c.outer_ty) ∙ none)) ∙ k.2))
+  converter_wrong (inr (inr (inl none))) = unknown_converter (λ k. false≢true (sym (ap is_some (sym (term_of c.term) ∙ none)) ∙ k.0))
+  converter_wrong (inr (inr (inr m))) =
       let found = look_passed entry (is_pair m.inner m.outer) (converter_trees read) m.id (sym (s.conversions m.inner m.outer) ∙ m.taken) in
       let is = pair_is (entry found.1).0 m.inner m.outer found.3 in
-      let same : (entry found.1).0 ≡ (entry c).0 = pair_same (entry found.1).0 (entry c).0 (is.0 ∙ sym inner.0) (is.1 ∙ sym outer.0) in
-      let once : IsDistinct (map keys (converter_trees defs)) = subst IsDistinct (keys_of (converter_trees defs)) (converters_stand_once_lem e.known defs v) in
-      twice (map keys (converter_trees read)) (map keys (converter_trees rest)) (map keys (converter_trees defs)) (keys c) found.0 once
-      (sym (ap (map keys) trees ∙ map-append keys (converter_trees read) (c ∷ converter_trees rest)))
-      (slice_get_within (map keys (converter_trees read)) found.0 (keys c) (there found.0 found.1 found.2 same))
-      (there found.0 found.1 found.2 same)
+      second_converter (converted_before found.1 (member_from_get (converter_trees read) found.0 found.1 found.2) m.inner m.outer is.0 is.1 m.inner_is m.outer_is)
 
 module _ (e : TypesRead) (readable : AreReadable e) (defs read rest : List Definition) (env : TypeEnv) (table table' : TermTable) (es es' : List Error) (w : IsWithin table') where
   other : (d : Definition) → converter_of d ≡ [] → (es' ≡ es) × (table' ≡ table) → ReadsTerms e defs (ConvertersRead e defs read) env table es → ReadsTerms e defs (ConvertersRead e defs (read ++ d ∷ [])) env table' es'
@@ -203,28 +198,28 @@ module _ (e : TypesRead) (readable : AreReadable e) (defs read rest : List Defin
       } in
       step e defs (ConvertersRead e defs read) (ConvertersRead e defs (read ++ d ∷ [])) env env table table' es es' (Unit {0}) ⊥ s.left w (inl (same.0, tt))
       (λ h _. subst (ConvertersRead e defs (read ++ d ∷ []) env) (sym same.1) (go h))
-      (λ h x _. x) s
+      (λ h x. absurd x) s
 
-  next : (d : Definition) → defs ≡ read ++ d ∷ rest → ReadsIfConverter d env table es table' es' → ReadsTerms e defs (ConvertersRead e defs read) env table es → ReadsTerms e defs (ConvertersRead e defs (read ++ d ∷ [])) env table' es'
-  next (converter_definition c) whole a s =
+  next : (d : Definition) → defs ≡ read ++ d ∷ rest → ReadsIfConverter d env table es table' es' → BeginsAt (definition_positions d) es es' → ReadsTerms e defs (ConvertersRead e defs read) env table es → ReadsTerms e defs (ConvertersRead e defs (read ++ d ∷ [])) env table' es'
+  next (converter_definition c) whole a b s =
       step e defs (ConvertersRead e defs read) (ConvertersRead e defs (read ++ converter_definition c ∷ [])) env env table table' es es' (Converts c env table table') (IsWrongConverter c env table) s.left w a
       (λ h x. converter_right e readable defs read rest c whole env table s.left h table' x)
-      (λ h x v. converter_wrong e readable defs read rest c whole env table s.left h x v) s
-  next (declaration d) whole a s = other (declaration d) refl a s
-  next (type_definition d) whole a s = other (type_definition d) refl a s
-  next (extractor_definition d) whole a s = other (extractor_definition d) refl a s
-  next (rule_definition d) whole a s = other (rule_definition d) refl a s
-  next (extern_definition d) whole a s = other (extern_definition d) refl a s
-  next other_definition whole a s = other other_definition refl a s
+      (λ h x. record { positions = definition_positions (converter_definition c); breaks = by_converter read rest c whole (converter_wrong e readable defs read rest c whole env table s.left h x); begins = b }) s
+  next (declaration d) whole a b s = other (declaration d) refl a s
+  next (type_definition d) whole a b s = other (type_definition d) refl a s
+  next (extractor_definition d) whole a b s = other (extractor_definition d) refl a s
+  next (rule_definition d) whole a b s = other (rule_definition d) refl a s
+  next (extern_definition d) whole a b s = other (extern_definition d) refl a s
+  next other_definition whole a b s = other other_definition refl a s
 
 -- after the definition at i
 pub next_converter : (e : TypesRead) → AreReadable e → (defs : List Def) (i : ℕ) (d : Def) → i < length defs → d ≡ get_or defs i d → (env : TypeEnv) (table table' : TermTable) (es es' : List Error) → IsWithin table'
-    → ReadsIfConverter (definition_view d) env table es table' es'
+    → ReadsIfConverter (definition_view d) env table es table' es' → BeginsAt (definition_positions (definition_view d)) es es'
     → ReadsTerms e (definition_views defs) (ConvertersRead e (definition_views defs) (definition_views (take i defs))) env table es
     → ReadsTerms e (definition_views defs) (ConvertersRead e (definition_views defs) (definition_views (take (i + 1) defs))) env table' es'
-next_converter e r defs i d within here env table table' es es' w a s =
+next_converter e r defs i d within here env table table' es es' w a b s =
     subst (λ ds. ReadsTerms e (definition_views defs) (ConvertersRead e (definition_views defs) ds) env table' es') (sym (taken_next defs i d within here))
-    (next e r (definition_views defs) (definition_views (take i defs)) (definition_views (drop (i + 1) defs)) env table table' es es' w (definition_view d) (around defs i d within here) a s)
+    (next e r (definition_views defs) (definition_views (take i defs)) (definition_views (drop (i + 1) defs)) env table table' es es' w (definition_view d) (around defs i d within here) a b s)
 
 -- what is looked up at a pair of types, after one more
 pub read_conversions : (old new : Entries (TypeId × TypeId) TermId) (a b : TypeId) (t : TermId) → ((x : TypeId × TypeId) → look_up same_types new x ≡ cond (same_types (a, b) x) (Some t) (look_up same_types old x))

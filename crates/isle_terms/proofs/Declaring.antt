@@ -1,6 +1,6 @@
 -- Reading declarations by types that are handed in, one definition after another.
-use Rattle.std.proofs.Common.{◌≡◌, ◌&&◌, ℕ, ◌+◌, ◌<◌, Bool, true, false, not, cond, nat_eq, Contains, List, [], ◌∷◌, ◌++◌, ◌⊎◌, length, take, drop, get_or, map, slice_get, None, Some, is_some, unwrap_or, All, IsTrue, refl, sym, ap, subst, ◌∙◌, arith, inl, inr, ⊎_elim}
-use Rattle.std.specs.List.{enumerate_from, filter_map, flat_map}
+use Rattle.std.proofs.Common.{◌≡◌, ◌&&◌, ℕ, ◌+◌, ◌<◌, Bool, true, false, not, cond, nat_eq, Contains, List, [], ◌∷◌, ◌++◌, ◌⊎◌, length, take, drop, get_or, map, None, Some, is_some, unwrap_or, All, IsTrue, refl, sym, ap, subst, ◌∙◌, arith, inl, inr, ⊎_elim}
+use Rattle.std.specs.List.{enumerate_from, flat_map}
 use Rattle.std.proofs.lemmas.Bool.{false≢true}
 use Rattle.std.proofs.lemmas.List.{append_assoc, append-nil, at_drop_more, take_more, take-append-drop, length_push, length-map, map-append}
 use Rattle.std.proofs.lemmas.List.Concat.{flat_map-append}
@@ -9,22 +9,26 @@ use Rattle.std.proofs.lemmas.List.Elements.{All-nil, All-cons, All-push, All-con
 use Rattle.isle_model.specs.lists.Syntax.{Name, DeclTree, Definition, type_definition, declaration, extractor_definition, converter_definition, rule_definition, extern_definition, other_definition}
 use Rattle.isle_model.specs.lists.Names.{number, with_name, with_names}
 use Rattle.isle_model.specs.lists.Tables.{TermEntry}
-use Rattle.isle_model.specs.lists.TypeTable.{IsKnownType}
+use Rattle.isle_model.specs.lists.TypeTable.{place_from, IsKnownType}
 use Rattle.isle_model.specs.lists.KnownTypes.{KnownTypes, type_named, known_type}
-use Rattle.isle_model.specs.lists.TermTable.{decl_of, decl_trees, decl_names, function_of, term_names, term_names_met, made_by, HasKnownArguments, HasKnownResult, IsNotBothMultiAndPartial, IsValidTerms}
+use Rattle.isle_model.specs.lists.TermTable.{decl_of, decl_trees, decl_names, function_of, term_names_met, HasKnownArguments, HasKnownResult, IsNotBothMultiAndPartial}
 use Rattle.isle_model.specs.claims.Environments.{TypesRead, AreReadable, IsLeftByRefusal}
-use Rattle.isle_model.proofs.FirstPlaces.{distinct_push, twice}
+use Rattle.isle_model.proofs.FirstPlaces.{distinct_push, place_there}
 use Rattle.isle_model.proofs.Members.{member_from_get}
 use Rattle.isle_model.proofs.Names.{number_stays, with_names_append}
 use Rattle.isle_model.proofs.Positions.{get_middle}
 use Rattle.isle_base.specs.declared.syntax.Def.{Def}
 use Rattle.isle_base.specs.declared.syntax.Error.{Error}
+use Rattle.isle_base.specs.Noting.{MayNoteMore}
+use Rattle.isle_base.specs.Positions.{declaration_positions, definition_positions}
 use Rattle.isle_base.specs.SyntaxViews.{definition_view, definition_views}
+use Rattle.isle_base.proofs.Noted.{may_both}
 use Rattle.isle_types.specs.declared.type_env.TypeEnv.{TypeEnv}
 use Rattle.isle_types.specs.Envs.{names_of, symbol_of, type_of_name, IsInterned}
 use Rattle.isle_types.specs.EnvViews.{environment_view}
 use Rattle.isle_types.specs.VariantReading.{ReportsIf}
 use Rattle.isle_terms.specs.declared.term_table.TermTable.{TermTable}
+use Rattle.isle_terms.specs.TermBreaches.{BeginsAt, BreaksDeclaration, name_taken, both_marks, unknown_argument, unknown_result, by_declaration}
 use Rattle.isle_terms.specs.TermTables.{term_at}
 use Rattle.isle_terms.specs.TermViews.{term_view, term_views}
 use Rattle.isle_terms.specs.Reading.{IsWithin, Interns, MayIntern, HaveTypes, HasUnknown, IsKnownInEnv, AddsTerm, IsTakenByTerm, IsFreeOrReported, AddsOrReports, signature_entry}
@@ -32,7 +36,8 @@ use Rattle.isle_terms.specs.Stages.{place_among}
 use Rattle.isle_terms.specs.Signing.{ReadsTerms, with_ids, declared_alone, HoldsTerms, AreRightDeclarations, Declaring, Declares, IsWrongDeclaration, ReadsDeclaration, ReadsIfDeclared, Notes}
 use Rattle.isle_terms.proofs.Finding.{at_number, finds_next}
 use Rattle.isle_terms.proofs.TypesStaying.{left_more, type_is, may_intern}
-use Rattle.isle_terms.proofs.Noting.{both_note, if_noted, notes_as, step}
+use Rattle.isle_terms.proofs.Breaches.{begins_both}
+use Rattle.isle_terms.proofs.Noting.{both_note, if_noted, may_note, notes_as, step}
 
 -- one more term, with the next id
 pub one_more : (i n : ℕ) (fs : List (ℕ → TermEntry)) (f : ℕ → TermEntry) → i + length fs ≡ n → with_ids i (fs ++ f ∷ []) ≡ with_ids i fs ++ f n ∷ []
@@ -43,8 +48,9 @@ one_more i n (g ∷ fs) f e = ap (λ l. g i ∷ l) (one_more (i + 1) n fs f (ome
 pub at_middle : {X : Type 0} (P : X → Type 0) (xs : List X) (x : X) (ys zs : List X) → zs ≡ xs ++ x ∷ ys → All P zs → P x
 at_middle P xs x ys zs e a = All-contains P zs x a (subst (λ l. Contains l x) (sym e) (member_from_get (xs ++ x ∷ ys) (length xs) x (get_middle xs x ys)))
 
-both_marks : (d : DeclTree) → (d.multi && d.partial) ≡ true → IsNotBothMultiAndPartial d → ⊥
-both_marks d both h = false≢true (sym (ap not both) ∙ h)
+-- a text that has a place is there
+pub place_member : (ts : List (List ℕ)) (x : List ℕ) (k : ℕ) → place_from 0 x ts ≡ Some k → Contains ts x
+place_member ts x k h = let t = place_there 0 ts x k h in member_from_get ts t.0 x t.2
 
 -- a term is added by a name that was none's
 module _ (e : TypesRead) (met named : List (List ℕ)) (fs : List (ℕ → TermEntry)) (env : TypeEnv) (table : TermTable) (s : HoldsTerms e met named fs env table) (x : List ℕ) (f : ℕ → TermEntry) (met' : List (List ℕ)) (new : TypeEnv) (table' : TermTable) where
@@ -106,11 +112,9 @@ module _ (e : TypesRead) (r : AreReadable e) (env : TypeEnv) (left : IsLeftByRef
       let more = all_known_of ns ts rest in
       (ap (λ z. z ∷ ts) one.0 ∙ ap (λ zs. known_type k n ∷ zs) more.0, All-cons (IsKnownType k.type_names) n ns one.1 more.1)
 
-  unknown_wrong : (d : DeclTree) → HasUnknown d env → HasKnownArguments k d → HasKnownResult k d → ⊥
-  unknown_wrong d u args result =
-      ⊎_elim
-      (λ a. a (All-weaker (IsKnownType k.type_names) (IsKnownInEnv env) was_known d.arg_tys args))
-      (λ none. false≢true (subst (λ o. is_some o ≡ true) none (was_known d.ret_ty result))) u
+  unknown_wrong : (before : List Definition) (d : DeclTree) → HasUnknown d env → BreaksDeclaration k before d
+  unknown_wrong before d (inl a) = unknown_argument (λ args. a (All-weaker (IsKnownType k.type_names) (IsKnownInEnv env) was_known d.arg_tys args))
+  unknown_wrong before d (inr none) = unknown_result (λ result. false≢true (subst (λ o. is_some o ≡ true) none (was_known d.ret_ty result)))
 
 module _ (e : TypesRead) (r : AreReadable e) (defs read rest : List Definition) (d : DeclTree) (whole : defs ≡ read ++ declaration d ∷ rest) (old : TypeEnv) (table : TermTable) (left : IsLeftByRefusal e (environment_view old)) (s : Declaring e defs read old table) (new : TypeEnv) (n : Interns d.term.text old new) where
   trees : decl_trees defs ≡ decl_trees read ++ d ∷ decl_trees rest
@@ -125,15 +129,10 @@ module _ (e : TypesRead) (r : AreReadable e) (defs read rest : List Definition) 
   place_here : term_at table (number (names_of old) d.term.text) ≡ place_among (decl_names read) d.term.text
   place_here = at_number (names_of old) (term_at table) (place_among (decl_names read)) s.has.finds d.term.text
 
-  pub wrong : IsWrongDeclaration d old new table → IsValidTerms e.known defs → ⊥
-  wrong w v =
-      ⊎_elim
-      (λ taken. twice (decl_names read) (decl_names rest ++ filter_map (slice_get e.known.names) (flat_map made_by e.known.types)) (term_names e.known defs) d.term.text taken.id v.distinct
-      (sym (append_assoc (decl_names read) (d.term.text ∷ decl_names rest) (filter_map (slice_get e.known.names) (flat_map made_by e.known.types))) ∙ ap (λ l. l ++ filter_map (slice_get e.known.names) (flat_map made_by e.known.types)) (sym names))
-      (sym place_here ∙ taken.taken))
-      (λ u. ⊎_elim
-      (λ both. both_marks d both (at_middle IsNotBothMultiAndPartial (decl_trees read) d (decl_trees rest) (decl_trees defs) trees v.marks))
-      (λ unknown. unknown_wrong e r new left_new d unknown (at_middle (HasKnownArguments e.known) (decl_trees read) d (decl_trees rest) (decl_trees defs) trees v.types_of_arguments) (at_middle (HasKnownResult e.known) (decl_trees read) d (decl_trees rest) (decl_trees defs) trees v.types_of_results)) u) w
+  pub wrong : IsWrongDeclaration d old new table → BreaksDeclaration e.known read d
+  wrong (inl taken) = name_taken (place_member (decl_names read) d.term.text taken.id (sym place_here ∙ taken.taken))
+  wrong (inr (inl both)) = both_marks (λ h. false≢true (sym (ap not both) ∙ h))
+  wrong (inr (inr unknown)) = unknown_wrong e r new left_new read d unknown
 
   module _ (table' : TermTable) (a : Declares d old new table table') where
     same_number : number (names_of old) d.term.text ≡ number (term_names_met e.known defs) d.term.text
@@ -188,6 +187,16 @@ declaration_read d old new table table' es one two es' n f m a =
           (λ w. ⊎_elim (λ u. ⊎_elim (λ t. inl t) (λ m. inr (inl m)) u) (λ x. inr (inr x)) w) all;
     }
 
+-- what is noted of it begins at it
+pub declaration_begins : (d : DeclTree) (new : TypeEnv) (table table' : TermTable) (name : ℕ) (es one two es' : List Error) → IsFreeOrReported name table es one → ReportsIf (d.multi && d.partial) one two → AddsOrReports d new name table table' two es'
+    → BeginsAt (declaration_positions d) es one → BeginsAt (declaration_positions d) one two → BeginsAt (declaration_positions d) two es' → BeginsAt (declaration_positions d) es es'
+declaration_begins d new table table' name es one two es' f m a x y z =
+    let b : Bool = d.multi && d.partial in
+    let first : MayNoteMore es one = may_note (term_at table name ≡ None) (IsTakenByTerm name table) es one f in
+    let second : MayNoteMore one two = may_note (b ≡ false) (b ≡ true) one two (if_noted b one two m) in
+    let third : MayNoteMore two es' = may_note (AddsTerm d new name table table') (HasUnknown d new) two es' a in
+    begins_both (declaration_positions d) es two es' (may_both es one two first second) (begins_both (declaration_positions d) es one two first x second y) third z
+
 -- the definitions before one, and after it
 module _ (defs : List Def) (i : ℕ) (d : Def) (within : i < length defs) (here : d ≡ get_or defs i d) where
   pub taken_next : definition_views (take (i + 1) defs) ≡ definition_views (take i defs) ++ definition_view d ∷ []
@@ -209,25 +218,25 @@ module _ (e : TypesRead) (r : AreReadable e) (defs read rest : List Definition) 
       } in
       step e defs (Declaring e defs read) (Declaring e defs (read ++ d ∷ [])) old new table table' es es' (Unit {0}) ⊥ (left_more e r old s.left new m) w (inl (same.0, tt))
       (λ h _. subst (λ env. Declaring e defs (read ++ d ∷ []) env table') (sym same.1) (subst (Declaring e defs (read ++ d ∷ []) old) (sym same.2) (go h)))
-      (λ h x _. x) s
+      (λ h x. absurd x) s
 
-  pub next : (d : Definition) → defs ≡ read ++ d ∷ rest → ReadsIfDeclared d old table es new table' es' → ReadsTerms e defs (Declaring e defs read) old table es → ReadsTerms e defs (Declaring e defs (read ++ d ∷ [])) new table' es'
-  next (declaration d) whole a s =
+  pub next : (d : Definition) → defs ≡ read ++ d ∷ rest → ReadsIfDeclared d old table es new table' es' → BeginsAt (definition_positions d) es es' → ReadsTerms e defs (Declaring e defs read) old table es → ReadsTerms e defs (Declaring e defs (read ++ d ∷ [])) new table' es'
+  next (declaration d) whole a b s =
       step e defs (Declaring e defs read) (Declaring e defs (read ++ declaration d ∷ [])) old new table table' es es' (Declares d old new table table') (IsWrongDeclaration d old new table) (left_more e r old s.left new m) w a.reads
       (λ h x. right e r defs read rest d whole old table s.left h new a.interns table' x)
-      (λ h x v. wrong e r defs read rest d whole old table s.left h new a.interns x v) s
-  next (type_definition d) whole a s = other (type_definition d) refl a s
-  next (extractor_definition d) whole a s = other (extractor_definition d) refl a s
-  next (converter_definition d) whole a s = other (converter_definition d) refl a s
-  next (rule_definition d) whole a s = other (rule_definition d) refl a s
-  next (extern_definition d) whole a s = other (extern_definition d) refl a s
-  next other_definition whole a s = other other_definition refl a s
+      (λ h x. record { positions = definition_positions (declaration d); breaks = by_declaration read rest d whole (wrong e r defs read rest d whole old table s.left h new a.interns x); begins = b }) s
+  next (type_definition d) whole a b s = other (type_definition d) refl a s
+  next (extractor_definition d) whole a b s = other (extractor_definition d) refl a s
+  next (converter_definition d) whole a b s = other (converter_definition d) refl a s
+  next (rule_definition d) whole a b s = other (rule_definition d) refl a s
+  next (extern_definition d) whole a b s = other (extern_definition d) refl a s
+  next other_definition whole a b s = other other_definition refl a s
 
 -- after the definition at i
 pub next_declaration : (e : TypesRead) → AreReadable e → (defs : List Def) (i : ℕ) (d : Def) → i < length defs → d ≡ get_or defs i d → (old new : TypeEnv) (table table' : TermTable) (es es' : List Error) → MayIntern old new → IsWithin table'
-    → ReadsIfDeclared (definition_view d) old table es new table' es'
+    → ReadsIfDeclared (definition_view d) old table es new table' es' → BeginsAt (definition_positions (definition_view d)) es es'
     → ReadsTerms e (definition_views defs) (Declaring e (definition_views defs) (definition_views (take i defs))) old table es
     → ReadsTerms e (definition_views defs) (Declaring e (definition_views defs) (definition_views (take (i + 1) defs))) new table' es'
-next_declaration e r defs i d within here old new table table' es es' m w a s =
+next_declaration e r defs i d within here old new table table' es es' m w a b s =
     subst (λ ds. ReadsTerms e (definition_views defs) (Declaring e (definition_views defs) ds) new table' es') (sym (taken_next defs i d within here))
-    (next e r (definition_views defs) (definition_views (take i defs)) (definition_views (drop (i + 1) defs)) old new table table' es es' m w (definition_view d) (around defs i d within here) a s)
+    (next e r (definition_views defs) (definition_views (take i defs)) (definition_views (drop (i + 1) defs)) old new table table' es es' m w (definition_view d) (around defs i d within here) a b s)

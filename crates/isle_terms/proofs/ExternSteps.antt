@@ -6,23 +6,24 @@ use Rattle.std.proofs.lemmas.Bool.{false≢true}
 use Rattle.std.proofs.lemmas.List.{append_assoc, append-nil, map-append}
 use Rattle.std.proofs.lemmas.List.Concat.{flat_map-append}
 use Rattle.std.proofs.lemmas.List.Elements.{All-push, Contains-append_left, Contains-append_right, Contains-append_cases}
-use Rattle.std.proofs.lemmas.Option.{slice_get_within}
 use Rattle.isle_model.specs.lists.Syntax.{Name, Position, ExtractorTree, Definition, type_definition, declaration, extractor_definition, converter_definition, rule_definition, extern_definition, other_definition, extern_constructor, extern_extractor, extern_const}
 use Rattle.isle_model.specs.lists.Names.{number, has_name, with_name, with_names, IsDistinct}
 use Rattle.isle_model.specs.lists.Tables.{ConstructorEntry, internal_constructor, external_constructor, ExtractorEntry, internal_extractor, external_extractor, TermKindEntry, variant_term, struct_term, declared_term, TermEntry}
-use Rattle.isle_model.specs.lists.TermTable.{ConstructorTree, ExternalTree, decl_flags, decl_names, function_of, external_constructor_of, external_extractor_of, constructor_trees, external_trees, extractor_trees, internal_extractors, external_extractors, extractor_template, has_rules, term_names_met, IsDeclaredTerm, IsWithoutRules, IsValidTerms}
+use Rattle.isle_model.specs.lists.TermTable.{ConstructorTree, ExternalTree, decl_flags, decl_names, function_of, external_constructor_of, external_extractor_of, constructor_trees, external_trees, extractor_trees, internal_extractors, extractor_template, has_rules, term_names_met, IsDeclaredTerm, IsWithoutRules}
 use Rattle.isle_model.specs.claims.Environments.{TypesRead, AreReadable, IsLeftByRefusal}
 use Rattle.isle_model.proofs.Members.{member_from_get, get_from_member}
 use Rattle.isle_model.proofs.Names.{found, absent, number_stays, with_names_append}
-use Rattle.isle_model.proofs.Positions.{distinct_push, twice}
+use Rattle.isle_model.proofs.Positions.{distinct_push}
 use Rattle.isle_base.specs.declared.syntax.Def.{Def}
 use Rattle.isle_base.specs.declared.syntax.Error.{Error}
 use Rattle.isle_base.specs.Stable.{look_up}
+use Rattle.isle_base.specs.Positions.{definition_positions}
 use Rattle.isle_base.specs.SyntaxViews.{definition_view, definition_views}
 use Rattle.isle_types.specs.declared.type_env.TypeEnv.{TypeEnv}
 use Rattle.isle_types.specs.Envs.{names_of, IsInterned}
 use Rattle.isle_types.specs.EnvViews.{environment_view}
 use Rattle.isle_terms.specs.declared.term_table.TermTable.{TermTable}
+use Rattle.isle_terms.specs.TermBreaches.{BeginsAt, BreaksConstructor, constructor_of_none, beside_rules, second_constructor, BreaksExternal, external_of_none, second_taker, by_constructor, by_external}
 use Rattle.isle_terms.specs.TermTables.{same_types}
 use Rattle.isle_terms.specs.Reading.{IsWithin, Interns, MayIntern, term_of_name}
 use Rattle.isle_terms.specs.Signing.{ReadsTerms, declared_so_far}
@@ -30,7 +31,7 @@ use Rattle.isle_terms.specs.Standing.{Stand, is_declared_kind}
 use Rattle.isle_terms.specs.Converting.{type_by_id}
 use Rattle.isle_terms.specs.Externing.{lacks_constructor, lacks_extractor, made_by_this, taken_by_this, with_kind, ChangesKind, HasOtherKind}
 use Rattle.isle_terms.specs.ExternStages.{function_after, external_after, AreRightConstructors, AreRightExternals, ExternsRead, ReadsIfExtern}
-use Rattle.isle_terms.proofs.Declaring.{at_middle, taken_next, around}
+use Rattle.isle_terms.proofs.Declaring.{taken_next, around}
 use Rattle.isle_terms.proofs.FirstOfTerm.{known_other, known_new, not_known, was_known, none_stands}
 use Rattle.isle_terms.proofs.Noting.{step}
 use Rattle.isle_terms.proofs.Standing.{entry_found, nothing_found, stands_on, stands_named}
@@ -58,7 +59,7 @@ abbrev extracted_by : ExternalTree → List ℕ
 extracted_by t = t.term.text
 
 -- an external constructor is read while all terms stand
-module _ (e : TypesRead) (defs : List Definition) (cs rest : List ConstructorTree) (c : ConstructorTree) (trees : constructor_trees defs ≡ cs ++ c ∷ rest) (met : List (List ℕ)) (taken : List ℕ → Option ExtractorEntry) (env : TypeEnv) (table : TermTable) (i : IsInterned env) (s : Stand e defs met (function_after e defs cs) taken env table) (r : AreRightConstructors defs cs) where
+module _ (e : TypesRead) (defs : List Definition) (cs : List ConstructorTree) (c : ConstructorTree) (met : List (List ℕ)) (taken : List ℕ → Option ExtractorEntry) (env : TypeEnv) (table : TermTable) (i : IsInterned env) (s : Stand e defs met (function_after e defs cs) taken env table) (r : AreRightConstructors defs cs) where
   abbrev function_entry : ConstructorTree → ConstructorEntry
   function_entry t = external_constructor (number (term_names_met e.known defs) t.function.text)
 
@@ -84,26 +85,22 @@ module _ (e : TypesRead) (defs : List Definition) (cs rest : List ConstructorTre
             )
       ]
 
-  constructor_declared : IsValidTerms e.known defs → IsDeclaredTerm defs c.term
-  constructor_declared v = at_middle (λ t. IsDeclaredTerm defs t.term) cs c rest (constructor_trees defs) trees v.terms_of_constructors
-
-  pub constructor_wrong : (term_of_name env table c.term ≡ None) ⊎ HasOtherKind lacks_constructor c.term env table → IsValidTerms e.known defs → ⊥
-  constructor_wrong (inl none) v =
-      false≢true (sym (ap is_some (nothing_found e defs met (function_after e defs cs) taken env table i s c.term none)) ∙ constructor_declared v)
-  constructor_wrong (inr m) v =
+  pub constructor_wrong : (term_of_name env table c.term ≡ None) ⊎ HasOtherKind lacks_constructor c.term env table → (before : List Definition) → constructor_trees before ≡ cs → BreaksConstructor defs before c
+  constructor_wrong (inl none) before so_far =
+      constructor_of_none (λ declared. false≢true (sym (ap is_some (nothing_found e defs met (function_after e defs cs) taken env table i s c.term none)) ∙ declared))
+  constructor_wrong (inr m) before so_far =
       elim (entry_found e defs met (function_after e defs cs) taken env table i s c.term m.id m.entry m.found m.at) [
-        | inr q ↦ false≢true (sym (ap is_some q.0) ∙ constructor_declared v)
+        | inr q ↦ constructor_of_none (λ declared. false≢true (sym (ap is_some q.0) ∙ declared))
         | inl q ↦
             let fails : not (is_some (function_after e defs cs c.term.text)) ≡ false = ap (λ x. not (is_some (function_after e defs cs x))) (sym q.2) ∙ ap (λ (t : TermEntry). lacks_constructor t.kind) (sym q.4) ∙ m.fails in
             elim (was_known constructed_by (has_rules defs) by_rules function_entry cs c.term.text fails) [
-              | inl rules ↦ false≢true (sym (ap not rules) ∙ at_middle (IsWithoutRules defs) cs c rest (constructor_trees defs) trees v.rules_or_function)
-              | inr there ↦ twice (map constructed_by cs) (map constructed_by rest) (map constructed_by (constructor_trees defs)) c.term.text there.0 v.one_constructor
-                  (sym (ap (map constructed_by) trees ∙ map-append constructed_by cs (c ∷ rest))) (slice_get_within (map constructed_by cs) there.0 c.term.text there.1) there.1
+              | inl rules ↦ beside_rules (λ without. false≢true (sym (ap not rules) ∙ without))
+              | inr there ↦ second_constructor (subst (λ l. Contains (map constructed_by l) c.term.text) (sym so_far) (member_from_get (map constructed_by cs) there.0 c.term.text there.1))
             ]
       ]
 
 -- an external extractor is read while all terms stand
-module _ (e : TypesRead) (defs : List Definition) (ts rest : List ExternalTree) (t : ExternalTree) (trees : external_trees defs ≡ ts ++ t ∷ rest) (met : List (List ℕ)) (made : List ℕ → Option ConstructorEntry) (env : TypeEnv) (table : TermTable) (i : IsInterned env) (s : Stand e defs met made (external_after e defs ts) env table) (r : AreRightExternals defs ts) where
+module _ (e : TypesRead) (defs : List Definition) (ts : List ExternalTree) (t : ExternalTree) (met : List (List ℕ)) (made : List ℕ → Option ConstructorEntry) (env : TypeEnv) (table : TermTable) (i : IsInterned env) (s : Stand e defs met made (external_after e defs ts) env table) (r : AreRightExternals defs ts) where
   abbrev external_entry : ExternalTree → ExtractorEntry
   external_entry u = external_extractor (number (term_names_met e.known defs) u.function.text) u.infallible u.at
 
@@ -147,32 +144,18 @@ module _ (e : TypesRead) (defs : List Definition) (ts rest : List ExternalTree) 
             | inr b ↦ let g = get_from_member (map extracted_by ts) t.term.text b in none_stands extracted_by has_template by_template external_entry ts t.term.text free g.0 g.1
           ]
 
-  external_declared : IsValidTerms e.known defs → IsDeclaredTerm defs t.term
-  external_declared v = at_middle (λ u. IsDeclaredTerm defs u.term) ts t rest (external_trees defs) trees v.terms_of_externals
-
-  all_extracted : (internal_extractors defs ++ map extracted_by ts) ++ t.term.text ∷ map extracted_by rest ≡ internal_extractors defs ++ external_extractors defs
-  all_extracted =
-      append_assoc (internal_extractors defs) (map extracted_by ts) (t.term.text ∷ map extracted_by rest)
-      ∙ ap (λ l. internal_extractors defs ++ l) (sym (ap (map extracted_by) trees ∙ map-append extracted_by ts (t ∷ rest)))
-
-  stands_before : Contains (internal_extractors defs ++ map extracted_by ts) t.term.text → IsValidTerms e.known defs → ⊥
-  stands_before c v =
-      let g = get_from_member (internal_extractors defs ++ map extracted_by ts) t.term.text c in
-      twice (internal_extractors defs ++ map extracted_by ts) (map extracted_by rest) (internal_extractors defs ++ external_extractors defs) t.term.text g.0 v.one_extractor all_extracted
-      (slice_get_within (internal_extractors defs ++ map extracted_by ts) g.0 t.term.text g.1) g.1
-
-  pub external_wrong : (term_of_name env table t.term ≡ None) ⊎ HasOtherKind lacks_extractor t.term env table → IsValidTerms e.known defs → ⊥
-  external_wrong (inl none) v =
-      false≢true (sym (ap is_some (nothing_found e defs met made (external_after e defs ts) env table i s t.term none)) ∙ external_declared v)
-  external_wrong (inr m) v =
+  pub external_wrong : (term_of_name env table t.term ≡ None) ⊎ HasOtherKind lacks_extractor t.term env table → (before : List Definition) → external_trees before ≡ ts → BreaksExternal defs before t
+  external_wrong (inl none) before so_far =
+      external_of_none (λ declared. false≢true (sym (ap is_some (nothing_found e defs met made (external_after e defs ts) env table i s t.term none)) ∙ declared))
+  external_wrong (inr m) before so_far =
       elim (entry_found e defs met made (external_after e defs ts) env table i s t.term m.id m.entry m.found m.at) [
-        | inr q ↦ false≢true (sym (ap is_some q.0) ∙ external_declared v)
+        | inr q ↦ external_of_none (λ declared. false≢true (sym (ap is_some q.0) ∙ declared))
         | inl q ↦
             let fails : not (is_some (external_after e defs ts t.term.text)) ≡ false = ap (λ x. not (is_some (external_after e defs ts x))) (sym q.2) ∙ ap (λ (u : TermEntry). lacks_extractor u.kind) (sym q.4) ∙ m.fails in
-            elim (was_known extracted_by has_template by_template external_entry ts t.term.text fails) [
-              | inl template ↦ stands_before (Contains-append_left (internal_extractors defs) (map extracted_by ts) t.term.text (member_from_get (internal_extractors defs) (number (internal_extractors defs) t.term.text) t.term.text (found (internal_extractors defs) t.term.text template))) v
-              | inr there ↦ stands_before (Contains-append_right (internal_extractors defs) (map extracted_by ts) t.term.text (member_from_get (map extracted_by ts) there.0 t.term.text there.1)) v
-            ]
+            second_taker (subst (λ l. Contains (internal_extractors defs ++ map extracted_by l) t.term.text) (sym so_far) (elim (was_known extracted_by has_template by_template external_entry ts t.term.text fails) [
+              | inl template ↦ Contains-append_left (internal_extractors defs) (map extracted_by ts) t.term.text (member_from_get (internal_extractors defs) (number (internal_extractors defs) t.term.text) t.term.text (found (internal_extractors defs) t.term.text template))
+              | inr there ↦ Contains-append_right (internal_extractors defs) (map extracted_by ts) t.term.text (member_from_get (map extracted_by ts) there.0 t.term.text there.1)
+            ]))
       ]
 
 -- the name of a function is met, and nothing else
@@ -211,14 +194,13 @@ module _ (e : TypesRead) (readable : AreReadable e) (defs read rest : List Defin
       } in
       step e defs (ExternsRead e defs read) (ExternsRead e defs (read ++ d ∷ [])) old new table table' es es' (Unit {0}) ⊥ (left_more e readable old s.left new m) w (inl (same.0, tt))
       (λ h _. subst (λ env. ExternsRead e defs (read ++ d ∷ []) env table') (sym same.1) (subst (ExternsRead e defs (read ++ d ∷ []) old) (sym same.2) (go h)))
-      (λ h x _. x) s
+      (λ h x. absurd x) s
 
-  constructor : (term function : Name) (at : Position) → defs ≡ read ++ extern_definition (extern_constructor term function at) ∷ rest → ReadsIfExtern (extern_definition (extern_constructor term function at)) old table es new table' es'
+  constructor : (term function : Name) (at : Position) → defs ≡ read ++ extern_definition (extern_constructor term function at) ∷ rest → ReadsIfExtern (extern_definition (extern_constructor term function at)) old table es new table' es' → BeginsAt (definition_positions (extern_definition (extern_constructor term function at))) es es'
       → ReadsTerms e defs (ExternsRead e defs read) old table es → ReadsTerms e defs (ExternsRead e defs (read ++ extern_definition (extern_constructor term function at) ∷ [])) new table' es'
-  constructor term function at whole a s =
+  constructor term function at whole a b s =
       let d : Definition = extern_definition (extern_constructor term function at) in
       let c : ConstructorTree = record { term = term; function = function } in
-      let trees : constructor_trees defs ≡ constructor_trees read ++ c ∷ constructor_trees rest = ap constructor_trees whole ∙ flat_map-append external_constructor_of read (d ∷ rest) in
       let more : constructor_trees (read ++ d ∷ []) ≡ constructor_trees read ++ c ∷ [] = flat_map-append external_constructor_of read (d ∷ []) in
       let same : external_trees (read ++ d ∷ []) ≡ external_trees read = flat_map-append external_extractor_of read (d ∷ []) ∙ append-nil (external_trees read) in
       let met : List (List ℕ) = decl_names defs ++ flat_map function_of (read ++ d ∷ []) in
@@ -229,7 +211,7 @@ module _ (e : TypesRead) (readable : AreReadable e) (defs read rest : List Defin
       (left_more e readable old s.left new m) w a.1
       (λ h x.
       let y = subst (λ k. ChangesKind lacks_constructor (made_by_this (external_constructor k)) term new table table') (number_is h) x in
-      let r = constructor_right e defs (constructor_trees read) (constructor_trees rest) c trees met taken new table a.0.inverse (stand h) h.constructors table' y in
+      let r = constructor_right e defs (constructor_trees read) c met taken new table a.0.inverse (stand h) h.constructors table' y in
       record {
         stand = subst (λ l. Stand e defs met (function_after e defs l) (external_after e defs (external_trees (read ++ d ∷ []))) new table') (sym more)
             (subst (λ l. Stand e defs met (function_after e defs (constructor_trees read ++ c ∷ [])) (external_after e defs l) new table') (sym same) r.0);
@@ -237,14 +219,13 @@ module _ (e : TypesRead) (readable : AreReadable e) (defs read rest : List Defin
         externals = subst (AreRightExternals defs) (sym same) h.externals;
         conversions = λ i o. ap (λ m. option_map (λ t. t.0) (look_up same_types m (type_by_id i, type_by_id o))) x.changes.converters ∙ h.conversions i o;
       })
-      (λ h x v. constructor_wrong e defs (constructor_trees read) (constructor_trees rest) c trees met taken new table a.0.inverse (stand h) h.constructors x v) s
+      (λ h x. record { positions = definition_positions d; breaks = by_constructor read rest term function at whole (constructor_wrong e defs (constructor_trees read) c met taken new table a.0.inverse (stand h) h.constructors x read refl); begins = b }) s
 
-  extractor : (term function : Name) (at : Position) (infallible : Bool) → defs ≡ read ++ extern_definition (extern_extractor term function at infallible) ∷ rest → ReadsIfExtern (extern_definition (extern_extractor term function at infallible)) old table es new table' es'
+  extractor : (term function : Name) (at : Position) (infallible : Bool) → defs ≡ read ++ extern_definition (extern_extractor term function at infallible) ∷ rest → ReadsIfExtern (extern_definition (extern_extractor term function at infallible)) old table es new table' es' → BeginsAt (definition_positions (extern_definition (extern_extractor term function at infallible))) es es'
       → ReadsTerms e defs (ExternsRead e defs read) old table es → ReadsTerms e defs (ExternsRead e defs (read ++ extern_definition (extern_extractor term function at infallible) ∷ [])) new table' es'
-  extractor term function at infallible whole a s =
+  extractor term function at infallible whole a b s =
       let d : Definition = extern_definition (extern_extractor term function at infallible) in
       let t : ExternalTree = record { term = term; function = function; infallible = infallible; at = at } in
-      let trees : external_trees defs ≡ external_trees read ++ t ∷ external_trees rest = ap external_trees whole ∙ flat_map-append external_extractor_of read (d ∷ rest) in
       let more : external_trees (read ++ d ∷ []) ≡ external_trees read ++ t ∷ [] = flat_map-append external_extractor_of read (d ∷ []) in
       let same : constructor_trees (read ++ d ∷ []) ≡ constructor_trees read = flat_map-append external_constructor_of read (d ∷ []) ∙ append-nil (constructor_trees read) in
       let met : List (List ℕ) = decl_names defs ++ flat_map function_of (read ++ d ∷ []) in
@@ -255,7 +236,7 @@ module _ (e : TypesRead) (readable : AreReadable e) (defs read rest : List Defin
       (left_more e readable old s.left new m) w a.1
       (λ h x.
       let y = subst (λ k. ChangesKind lacks_extractor (taken_by_this (external_extractor k infallible at)) term new table table') (number_is h) x in
-      let r = external_right e defs (external_trees read) (external_trees rest) t trees met made new table a.0.inverse (stand h) h.externals table' y in
+      let r = external_right e defs (external_trees read) t met made new table a.0.inverse (stand h) h.externals table' y in
       record {
         stand = subst (λ l. Stand e defs met (function_after e defs (constructor_trees (read ++ d ∷ []))) (external_after e defs l) new table') (sym more)
             (subst (λ l. Stand e defs met (function_after e defs l) (external_after e defs (external_trees read ++ t ∷ [])) new table') (sym same) r.0);
@@ -263,24 +244,24 @@ module _ (e : TypesRead) (readable : AreReadable e) (defs read rest : List Defin
         externals = subst (AreRightExternals defs) (sym more) r.1;
         conversions = λ i o. ap (λ m. option_map (λ t. t.0) (look_up same_types m (type_by_id i, type_by_id o))) x.changes.converters ∙ h.conversions i o;
       })
-      (λ h x v. external_wrong e defs (external_trees read) (external_trees rest) t trees met made new table a.0.inverse (stand h) h.externals x v) s
+      (λ h x. record { positions = definition_positions d; breaks = by_external read rest t whole (external_wrong e defs (external_trees read) t met made new table a.0.inverse (stand h) h.externals x read refl); begins = b }) s
 
-  pub next : (d : Definition) → defs ≡ read ++ d ∷ rest → ReadsIfExtern d old table es new table' es' → ReadsTerms e defs (ExternsRead e defs read) old table es → ReadsTerms e defs (ExternsRead e defs (read ++ d ∷ [])) new table' es'
-  next (extern_definition (extern_constructor term function at)) whole a s = constructor term function at whole a s
-  next (extern_definition (extern_extractor term function at infallible)) whole a s = extractor term function at infallible whole a s
-  next (extern_definition (extern_const name ty at)) whole a s = other (extern_definition (extern_const name ty at)) refl refl refl a s
-  next (declaration d) whole a s = other (declaration d) refl refl refl a s
-  next (type_definition d) whole a s = other (type_definition d) refl refl refl a s
-  next (extractor_definition d) whole a s = other (extractor_definition d) refl refl refl a s
-  next (converter_definition d) whole a s = other (converter_definition d) refl refl refl a s
-  next (rule_definition d) whole a s = other (rule_definition d) refl refl refl a s
-  next other_definition whole a s = other other_definition refl refl refl a s
+  pub next : (d : Definition) → defs ≡ read ++ d ∷ rest → ReadsIfExtern d old table es new table' es' → BeginsAt (definition_positions d) es es' → ReadsTerms e defs (ExternsRead e defs read) old table es → ReadsTerms e defs (ExternsRead e defs (read ++ d ∷ [])) new table' es'
+  next (extern_definition (extern_constructor term function at)) whole a b s = constructor term function at whole a b s
+  next (extern_definition (extern_extractor term function at infallible)) whole a b s = extractor term function at infallible whole a b s
+  next (extern_definition (extern_const name ty at)) whole a b s = other (extern_definition (extern_const name ty at)) refl refl refl a s
+  next (declaration d) whole a b s = other (declaration d) refl refl refl a s
+  next (type_definition d) whole a b s = other (type_definition d) refl refl refl a s
+  next (extractor_definition d) whole a b s = other (extractor_definition d) refl refl refl a s
+  next (converter_definition d) whole a b s = other (converter_definition d) refl refl refl a s
+  next (rule_definition d) whole a b s = other (rule_definition d) refl refl refl a s
+  next other_definition whole a b s = other other_definition refl refl refl a s
 
 -- after the definition at i
 pub next_extern : (e : TypesRead) → AreReadable e → (defs : List Def) (i : ℕ) (d : Def) → i < length defs → d ≡ get_or defs i d → (old new : TypeEnv) (table table' : TermTable) (es es' : List Error) → MayIntern old new → IsWithin table'
-    → ReadsIfExtern (definition_view d) old table es new table' es'
+    → ReadsIfExtern (definition_view d) old table es new table' es' → BeginsAt (definition_positions (definition_view d)) es es'
     → ReadsTerms e (definition_views defs) (ExternsRead e (definition_views defs) (definition_views (take i defs))) old table es
     → ReadsTerms e (definition_views defs) (ExternsRead e (definition_views defs) (definition_views (take (i + 1) defs))) new table' es'
-next_extern e r defs i d within here old new table table' es es' m w a s =
+next_extern e r defs i d within here old new table table' es es' m w a b s =
     subst (λ ds. ReadsTerms e (definition_views defs) (ExternsRead e (definition_views defs) ds) new table' es') (sym (taken_next defs i d within here))
-    (next e r (definition_views defs) (definition_views (take i defs)) (definition_views (drop (i + 1) defs)) old new table table' es es' m w (definition_view d) (around defs i d within here) a s)
+    (next e r (definition_views defs) (definition_views (take i defs)) (definition_views (drop (i + 1) defs)) old new table table' es es' m w (definition_view d) (around defs i d within here) a b s)

@@ -3,6 +3,7 @@ pub mod Rooting
 pub mod TermMaps
 pub mod Arguments
 pub mod TypesStaying
+pub mod Breaches
 pub mod Noting
 pub mod Declaring
 pub mod Making
@@ -21,3 +22,4 @@ pub mod Marks
 pub mod Recursion
 pub mod Whole
 pub mod PlacesNoted
+pub mod Broken

@@ -1,16 +1,15 @@
 -- Adding the terms that types make.
-use Rattle.std.proofs.Common.{◌≡◌, nat_eq, cond, ℕ, ◌+◌, ◌<◌, true, false, List, [], ◌∷◌, ◌++◌, length, take, drop, get_or, map, slice_get, Option, None, Some, is_some, option_map, refl, sym, ap, subst, ◌∙◌, arith, inl, inr}
+use Rattle.std.proofs.Common.{◌≡◌, nat_eq, cond, ℕ, ◌+◌, ◌<◌, true, false, List, [], ◌∷◌, ◌++◌, length, take, drop, get_or, map, slice_get, Option, None, Some, is_some, option_map, Contains, refl, sym, ap, subst, ◌∙◌, arith, inl, inr}
 use Rattle.std.specs.List.{flat_map, cons_option}
 use Rattle.std.proofs.lemmas.List.{append_assoc, append-nil, at_drop_more, take_more, take-append-drop, map-append, length-map, length_push}
 use Rattle.std.proofs.lemmas.List.Concat.{flat_map-append}
-use Rattle.std.proofs.lemmas.List.Elements.{filter_map-append}
+use Rattle.std.proofs.lemmas.List.Elements.{Contains-append_left, filter_map-append}
 use Rattle.std.proofs.lemmas.Option.{same_Some, slice_get-get_or}
 use Rattle.isle_model.specs.lists.Names.{number, has_name, with_name, IsDistinct}
 use Rattle.isle_model.specs.rules.Values.{field_types}
-use Rattle.isle_model.specs.lists.Tables.{FieldEntries, unit_entries, struct_entries, tuple_entries, TermEntry}
+use Rattle.isle_model.specs.lists.Tables.{TypeEntry, FieldEntries, unit_entries, struct_entries, tuple_entries, TermEntry}
 use Rattle.isle_model.specs.lists.TermTable.{made_by, terms_made, variant_as_term}
 use Rattle.isle_model.specs.claims.Environments.{TypesRead}
-use Rattle.isle_model.proofs.FirstPlaces.{twice}
 use Rattle.isle_model.proofs.Joined.{all_left, all_right}
 use Rattle.isle_model.proofs.Names.{found, has_at, known_name, get_kept}
 use Rattle.isle_model.proofs.Positions.{get_front}
@@ -19,8 +18,9 @@ use Rattle.isle_types.specs.declared.type_env.TypeEnv.{TypeEnv}
 use Rattle.isle_types.specs.declared.types.Type as T
 use Rattle.isle_types.specs.declared.types.Variant.{Variant}
 use Rattle.isle_types.specs.Envs.{names_of, symbol_of, IsInterned}
-use Rattle.isle_base.specs.Noting.{NotesMore}
+use Rattle.isle_base.specs.Noting.{MayNoteMore, NotesMore}
 use Rattle.isle_types.specs.Types.{entry_field_types}
+use Rattle.isle_types.specs.TypePositions.{entry_positions}
 use Rattle.isle_types.specs.TypeViews.{type_view, type_views, variant_view}
 use Rattle.isle_types.proofs.Inverse.{inverse_distinct}
 use Rattle.isle_base.proofs.Noted.{both}
@@ -29,9 +29,11 @@ use Rattle.isle_terms.specs.declared.term.Term.{Term}
 use Rattle.isle_terms.specs.Reading.{IsWithin}
 use Rattle.isle_terms.specs.TermTables.{term_at}
 use Rattle.isle_terms.specs.TermViews.{term_view, term_views}
+use Rattle.isle_terms.specs.TermBreaches.{BeginsAt}
 use Rattle.isle_terms.specs.Stages.{place_among}
-use Rattle.isle_terms.specs.Signing.{HoldsTerms, texts_at, NumbersAreMet, PushesTerm, GrowsBy, AreTaken, AddsMade}
-use Rattle.isle_terms.proofs.Declaring.{adds_term}
+use Rattle.isle_terms.specs.Signing.{HoldsTerms, texts_at, NumbersAreMet, PushesTerm, GrowsBy, AreTaken, AddsMade, AddsAllMade, TakesNames}
+use Rattle.isle_terms.proofs.Breaches.{begins_before}
+use Rattle.isle_terms.proofs.Declaring.{adds_term, place_member}
 use Rattle.isle_terms.proofs.Finding.{at_number}
 
 pub types_of_fields : (fs : FieldEntries) → entry_field_types fs ≡ field_types fs
@@ -53,10 +55,14 @@ distinct_left xs ys once j k x p q = once j k x (get_front xs ys j x p) (get_fro
 texts_more : (e : TypesRead) (xs ys : List ℕ) → texts_at e (xs ++ ys) ≡ texts_at e xs ++ texts_at e ys
 texts_more e xs ys = filter_map-append (slice_get e.known.names) xs ys
 
-abbrev met_left : (e : TypesRead) (xs ys : List ℕ) → NumbersAreMet e (xs ++ ys) → NumbersAreMet e xs
+-- names of numbers, behind those of others
+pub texts_behind : (e : TypesRead) (named : List (List ℕ)) (xs ys : List ℕ) → (named ++ texts_at e xs) ++ texts_at e ys ≡ named ++ texts_at e (xs ++ ys)
+texts_behind e named xs ys = append_assoc named (texts_at e xs) (texts_at e ys) ∙ ap (λ l. named ++ l) (sym (texts_more e xs ys))
+
+abbrev pub met_left : (e : TypesRead) (xs ys : List ℕ) → NumbersAreMet e (xs ++ ys) → NumbersAreMet e xs
 met_left e xs ys m = all_left (λ n. n < length e.known.names) xs ys m
 
-abbrev met_right : (e : TypesRead) (xs ys : List ℕ) → NumbersAreMet e (xs ++ ys) → NumbersAreMet e ys
+abbrev pub met_right : (e : TypesRead) (xs ys : List ℕ) → NumbersAreMet e (xs ++ ys) → NumbersAreMet e ys
 met_right e xs ys m = all_right (λ n. n < length e.known.names) xs ys m
 
 pub grows_nothing : (a : TermTable) → GrowsBy [] [] a a
@@ -67,18 +73,21 @@ pub grows_more : (xs ys : List ℕ) (gs hs : List (ℕ → TermEntry)) (a b c : 
 grows_more xs ys gs hs a b c g h e met named fs env i m s =
     let first = g e met named fs env i (met_left e xs ys m) s in
     let second = h e met (named ++ texts_at e xs) (fs ++ gs) env i (met_right e xs ys m) first in
-    subst (λ ns. HoldsTerms e met ns (fs ++ (gs ++ hs)) env c) (append_assoc named (texts_at e xs) (texts_at e ys) ∙ ap (λ l. named ++ l) (sym (texts_more e xs ys)))
+    subst (λ ns. HoldsTerms e met ns (fs ++ (gs ++ hs)) env c) (texts_behind e named xs ys)
     (subst (λ l. HoldsTerms e met ((named ++ texts_at e xs) ++ texts_at e ys) l env c) (append_assoc fs gs hs) second)
 
-pub taken_first : (xs ys : List ℕ) (a : TermTable) → AreTaken xs a → AreTaken (xs ++ ys) a
-taken_first xs ys a t e met named fs env i m s once =
-    t e met named fs env i (met_left e xs ys m) s
-    (distinct_left (named ++ texts_at e xs) (texts_at e ys) (subst IsDistinct (ap (λ l. named ++ l) (texts_more e xs ys) ∙ sym (append_assoc named (texts_at e xs) (texts_at e ys))) once))
-
 pub taken_later : (xs ys : List ℕ) (gs : List (ℕ → TermEntry)) (a b : TermTable) → GrowsBy xs gs a b → AreTaken ys b → AreTaken (xs ++ ys) a
-taken_later xs ys gs a b g t e met named fs env i m s once =
-    t e met (named ++ texts_at e xs) (fs ++ gs) env i (met_right e xs ys m) (g e met named fs env i (met_left e xs ys m) s)
-    (subst IsDistinct (ap (λ l. named ++ l) (texts_more e xs ys) ∙ sym (append_assoc named (texts_at e xs) (texts_at e ys))) once)
+taken_later xs ys gs a b g t e met named fs env i m s =
+    let later = t e met (named ++ texts_at e xs) (fs ++ gs) env i (met_right e xs ys m) (g e met named fs env i (met_left e xs ys m) s) in
+    record {
+      earlier = xs ++ later.earlier;
+      number = later.number;
+      later = later.later;
+      is = ap (λ l. xs ++ l) later.is ∙ sym (append_assoc xs later.earlier (later.number ∷ later.later));
+      name = later.name;
+      name_is = later.name_is;
+      taken = subst (λ l. Contains l later.name) (texts_behind e named xs later.earlier) later.taken;
+    }
 
 -- what stands at a number that was met
 module _ (e : TypesRead) (met named : List (List ℕ)) (fs : List (ℕ → TermEntry)) (env : TypeEnv) (i : IsInterned env) (n : ℕ) (within : n < length e.known.names) (table : TermTable) (s : HoldsTerms e met named fs env table) where
@@ -111,38 +120,54 @@ grows_one n f old new free p e met named fs env i m s =
     (adds_term e met named fs env old s x f met env new s.names (same_names e met named fs env i n m.0 old s) i (rw num free) (λ k. rw num (p.ids k)) p.terms p.converters)
 
 pub taken_one : (n : ℕ) (ys : List ℕ) (id : ℕ) (old : TermTable) → term_at old n ≡ Some id → AreTaken (n ∷ ys) old
-taken_one n ys id old taken e met named fs env i m s once =
+taken_one n ys id old taken e met named fs env i m s =
     let x : List ℕ = get_or e.known.names n [] in
-    let there : texts_at e (n ∷ ys) ≡ x ∷ texts_at e ys = ap (λ o. cons_option o (texts_at e ys)) (here e met named fs env i n m.0 old s) in
-    twice named (texts_at e ys) (named ++ x ∷ texts_at e ys) x id (subst (λ l. IsDistinct (named ++ l)) there once) refl (sym (place_is e met named fs env i n m.0 old s) ∙ taken)
+    record {
+      earlier = [];
+      number = n;
+      later = ys;
+      is = refl;
+      name = x;
+      name_is = here e met named fs env i n m.0 old s;
+      taken = Contains-append_left named [] x (place_member named x id (sym (place_is e met named fs env i n m.0 old s) ∙ taken));
+    }
 
--- terms are added, and then others
-pub adds_both : (xs ys : List ℕ) (gs hs : List (ℕ → TermEntry)) (a b c : TermTable) (es mid es' : List Error) → AddsMade xs gs a es b mid → AddsMade ys hs b mid c es' → AddsMade (xs ++ ys) (gs ++ hs) a es c es'
-adds_both xs ys gs hs a b c es mid es' (inl p) (inl q) = inl (q.0 ∙ p.0, grows_more xs ys gs hs a b c p.1 q.1)
-adds_both xs ys gs hs a b c es mid es' (inl p) (inr q) = inr (subst (λ l. NotesMore l es') p.0 q.0, taken_later xs ys gs a b p.1 q.1)
-adds_both xs ys gs hs a b c es mid es' (inr p) (inl q) = inr (subst (NotesMore es) (sym q.0) p.0, taken_first xs ys a p.1)
-adds_both xs ys gs hs a b c es mid es' (inr p) (inr q) = inr (both es mid es' p.0 q.0, taken_first xs ys a p.1)
+-- one more type that makes none whose name is taken
+takes_before : (types : List TypeEntry) (t : TypeEntry) (old : TermTable) (es es' es'' : List Error) → MayNoteMore es' es'' → NotesMore es es' → TakesNames types old es es' → TakesNames (types ++ t ∷ []) old es es''
+takes_before types t old es es' es'' more some p = record {
+  before = p.before;
+  entry = p.entry;
+  after = p.after ++ t ∷ [];
+  whole = ap (λ l. l ++ t ∷ []) p.whole ∙ append_assoc p.before (p.entry ∷ p.after) (t ∷ []);
+  mid = p.mid;
+  grows = p.grows;
+  taken = p.taken;
+  begins = begins_before (entry_positions p.entry) es es' es'' some p.begins more;
+}
 
-abbrev pub numbers_of : List T.Type → List ℕ
-numbers_of ts = flat_map made_by (type_views ts)
-
-abbrev pub entries_of : List T.Type → List (ℕ → TermEntry)
-entries_of ts = flat_map terms_made (type_views ts)
+-- the terms of some types are added, and then those of the next one
+adds_next : (types : List TypeEntry) (t : TypeEntry) (a b c : TermTable) (es mid es' : List Error) → AddsMade (made_by t) (terms_made t) b mid c es' → BeginsAt (entry_positions t) mid es' → AddsAllMade types a es b mid → AddsAllMade (types ++ t ∷ []) a es c es'
+adds_next types t a b c es mid es' (inl q) begun (inl p) =
+    let numbers = flat_map-append made_by types (t ∷ []) ∙ ap (λ l. flat_map made_by types ++ l) (append-nil (made_by t)) in
+    let entries = flat_map-append terms_made types (t ∷ []) ∙ ap (λ l. flat_map terms_made types ++ l) (append-nil (terms_made t)) in
+    inl (
+      q.0 ∙ p.0,
+      subst (λ ns. GrowsBy ns (flat_map terms_made (types ++ t ∷ [])) a c) (sym numbers) (subst (λ gs. GrowsBy (flat_map made_by types ++ made_by t) gs a c) (sym entries)
+          (grows_more (flat_map made_by types) (made_by t) (flat_map terms_made types) (terms_made t) a b c p.1 q.1)),
+    )
+adds_next types t a b c es mid es' (inr q) begun (inl p) =
+    inr (subst (λ l. NotesMore l es') p.0 q.0, record { before = types; entry = t; after = []; whole = refl; mid = b; grows = p.1; taken = q.1; begins = subst (λ l. BeginsAt (entry_positions t) l es') p.0 begun })
+adds_next types t a b c es mid es' (inl q) begun (inr p) = inr (subst (NotesMore es) (sym q.0) p.0, takes_before types t a es mid es' (inl q.0) p.0 p.1)
+adds_next types t a b c es mid es' (inr q) begun (inr p) = inr (both es mid es' p.0 q.0, takes_before types t a es mid es' (inr q.0) p.0 p.1)
 
 -- of one more type
 module _ (types : List T.Type) (i : ℕ) (t : T.Type) (within : i < length types) (at : t ≡ get_or types i t) where
   views : type_views (take (i + 1) types) ≡ type_views (take i types) ++ type_view t ∷ []
   views = ap type_views (take_more types i t within ∙ ap (λ x. take i types ++ x ∷ []) (sym at)) ∙ map-append type_view (take i types) (t ∷ [])
 
-  more_by : {X : Type 0} (f : _ → List X) → flat_map f (type_views (take (i + 1) types)) ≡ flat_map f (type_views (take i types)) ++ f (type_view t)
-  more_by f = ap (flat_map f) views ∙ flat_map-append f (type_views (take i types)) (type_view t ∷ []) ∙ ap (λ l. flat_map f (type_views (take i types)) ++ l) (append-nil (f (type_view t)))
-
-  pub next_made : (a b c : TermTable) (es mid es' : List Error) → AddsMade (made_by (type_view t)) (terms_made (type_view t)) b mid c es' → AddsMade (numbers_of (take i types)) (entries_of (take i types)) a es b mid
-      → AddsMade (numbers_of (take (i + 1) types)) (entries_of (take (i + 1) types)) a es c es'
-  next_made a b c es mid es' q p =
-      subst (λ ns. AddsMade ns (entries_of (take (i + 1) types)) a es c es') (sym (more_by made_by))
-      (subst (λ gs. AddsMade (numbers_of (take i types) ++ made_by (type_view t)) gs a es c es') (sym (more_by terms_made))
-      (adds_both (numbers_of (take i types)) (made_by (type_view t)) (entries_of (take i types)) (terms_made (type_view t)) a b c es mid es' p q))
+  pub next_made : (a b c : TermTable) (es mid es' : List Error) → AddsMade (made_by (type_view t)) (terms_made (type_view t)) b mid c es' → BeginsAt (entry_positions (type_view t)) mid es' → AddsAllMade (type_views (take i types)) a es b mid
+      → AddsAllMade (type_views (take (i + 1) types)) a es c es'
+  next_made a b c es mid es' q begun p = subst (λ l. AddsAllMade l a es c es') (sym views) (adds_next (type_views (take i types)) (type_view t) a b c es mid es' q begun p)
 
 abbrev pub variant_numbers_of : List Variant → List ℕ
 variant_numbers_of vs = map (λ v. v.full_name) (map variant_view vs)

@@ -1,17 +1,18 @@
 -- What was noted, and what that says, one step after another.
-use Rattle.std.proofs.Common.{◌≡◌, Bool, true, false, List, ◌⊎◌, refl, sym, subst, ◌∙◌, inl, inr, ⊎_elim}
+use Rattle.std.proofs.Common.{◌≡◌, Bool, true, false, OnOk, Result, Ok, Err, List, ◌⊎◌, refl, sym, subst, ◌∙◌, inl, inr, ⊎_elim}
 use Rattle.isle_model.specs.lists.Syntax.{Definition}
-use Rattle.isle_model.specs.lists.TermTable.{IsValidTerms}
 use Rattle.isle_model.specs.claims.Environments.{TypesRead, IsLeftByRefusal}
 use Rattle.isle_base.specs.declared.syntax.Error.{Error}
 use Rattle.isle_types.specs.declared.type_env.TypeEnv.{TypeEnv}
 use Rattle.isle_types.specs.EnvViews.{environment_view}
-use Rattle.isle_base.specs.Noting.{NotesMore}
+use Rattle.isle_base.specs.Noting.{MayNoteMore, NotesMore}
 use Rattle.isle_types.specs.VariantReading.{ReportsIf}
-use Rattle.isle_base.proofs.Noted.{some_noted, both, still_ill_typed}
+use Rattle.isle_base.proofs.Noted.{both, still_ill_typed}
 use Rattle.isle_terms.specs.declared.term_table.TermTable.{TermTable}
 use Rattle.isle_terms.specs.Reading.{IsWithin}
+use Rattle.isle_terms.specs.TermBreaches.{FirstBreaksTerms}
 use Rattle.isle_terms.specs.Signing.{Notes, ReadsTerms}
+use Rattle.isle_terms.proofs.Breaches.{Breach, first_found, first_stays}
 
 -- one thing after another
 pub both_note : (A B W V : Type 0) (es mid es' : List Error) → Notes es mid A W → Notes mid es' B V → Notes es es' (A × B) (W ⊎ V)
@@ -25,28 +26,38 @@ pub notes_as : (A B W V : Type 0) (es es' : List Error) → (A → B) → (W →
 notes_as A B W V es es' f g (inl a) = inl (a.0, f a.1)
 notes_as A B W V es es' f g (inr a) = inr (a.0, g a.1)
 
+-- something may have been noted
+pub may_note : (A W : Type 0) (es es' : List Error) → Notes es es' A W → MayNoteMore es es'
+may_note A W es es' (inl a) = inl a.0
+may_note A W es es' (inr a) = inr a.0
+
 pub if_noted : (b : Bool) (es es' : List Error) → ReportsIf b es es' → Notes es es' (b ≡ false) (b ≡ true)
 if_noted true es es' h = inr (h, refl)
 if_noted false es es' h = inl (h, refl)
 
--- what was right so far makes the next thing right, or the definitions have no term table
+-- what was right so far makes the next thing right, or the first error stands where a condition is broken
 pub step : (e : TypesRead) (defs : List Definition) (A B : TypeEnv → TermTable → Type 0) (old new : TypeEnv) (table table' : TermTable) (es es' : List Error) (Right Wrong : Type 0)
     → IsLeftByRefusal e (environment_view new) → IsWithin table' → Notes es es' Right Wrong
-    → (A old table → Right → B new table') → (A old table → Wrong → IsValidTerms e.known defs → ⊥)
+    → (A old table → Right → B new table') → (A old table → Wrong → Breach e.known defs es es')
     → ReadsTerms e defs A old table es → ReadsTerms e defs B new table' es'
 step e defs A B old new table table' es es' Right Wrong left within (inl a) right wrong s = record {
   left = left;
   within = within;
   ill_typed = rw a.0 s.ill_typed;
-  so_far = ⊎_elim (λ r. inl (a.0 ∙ r.0, right r.1 a.1)) (λ w. inr (rw a.0 w.0, w.1)) s.so_far;
+  so_far = ⊎_elim (λ r. inl (a.0 ∙ r.0, right r.1 a.1)) (λ f. inr (subst (FirstBreaksTerms e.known defs) (sym a.0) f)) s.so_far;
 }
 step e defs A B old new table table' es es' Right Wrong left within (inr a) right wrong s = record {
   left = left;
   within = within;
   ill_typed = still_ill_typed a.0 s.ill_typed;
-  so_far = inr (some_noted a.0, ⊎_elim (λ r. wrong r.1 a.1) (λ w. w.1) s.so_far);
+  so_far = inr (⊎_elim (λ r. first_found e.known defs es es' r.0 a.0 (wrong r.1 a.1)) (first_stays e.known defs es es' a.0) s.so_far);
 }
 
 -- what is right so far, said in other words
 pub reads_as : (e : TypesRead) (defs : List Definition) (A B : TypeEnv → TermTable → Type 0) (env : TypeEnv) (table : TermTable) (es : List Error) → (A env table → B env table) → ReadsTerms e defs A env table es → ReadsTerms e defs B env table es
 reads_as e defs A B env table es f s = record { left = s.left; within = s.within; ill_typed = s.ill_typed; so_far = ⊎_elim (λ r. inl (r.0, f r.1)) (λ w. inr w) s.so_far }
+
+-- two facts of what was answered
+pub both_ok : {T E : Type 0} (r : Result T E) (A B C : Type 0) → (A → B → C) → OnOk r A → OnOk r B → OnOk r C
+both_ok (Ok x) A B C f a b = f a b
+both_ok (Err x) A B C f a b = tt

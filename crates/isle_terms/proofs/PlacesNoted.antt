@@ -1,6 +1,6 @@
 -- Errors that stand at the positions of a definition or at those that a table keeps, and the positions that a table keeps
 -- after a step.
-use Rattle.std.proofs.Common.{◌≡◌, ◌⊎◌, ℕ, zero, suc, ◌+◌, ◌<◌, Option, Some, None, Bor, OnOk, Result, Ok, Err, List, [], ◌∷◌, ◌++◌, Contains, length, get_or, map, slice_get, refl, sym, ap, subst, ◌∙◌, inl, inr}
+use Rattle.std.proofs.Common.{◌≡◌, ◌⊎◌, ℕ, zero, suc, ◌<◌, Option, Some, None, Bor, OnOk, Result, Ok, Err, List, [], ◌∷◌, ◌++◌, Contains, length, get_or, map, slice_get, refl, sym, ap, subst, ◌∙◌, inl, inr}
 use Rattle.std.proofs.Math.ListN.{set}
 use Rattle.std.proofs.lemmas.List.{map-append}
 use Rattle.std.proofs.lemmas.Option.{same_Some}
@@ -266,13 +266,14 @@ mutual
   templates_among args (pattern_and p ps) = among_sides (pattern_positions (template args p)) (patterns_positions (templates args ps)) (pattern_positions p) (patterns_positions ps) (template_among args p) (templates_among args ps)
 
 -- those of its pattern are among those of an extractor
-pub pattern_among : (x : ExtractorTree) (rest : List Position) → OccurAmong (pattern_positions x.template) (extractor_positions x ++ rest)
-pattern_among x rest =
+pub pattern_in_extractor : (x : ExtractorTree) → OccurAmong (pattern_positions x.template) (extractor_positions x)
+pattern_in_extractor x =
     let ps : List Position = pattern_positions x.template in
     let args : List Position = map (λ n. n.at) x.args in
-    among_both ps (extractor_positions x) (extractor_positions x ++ rest)
-    (among_both ps (args ++ ps) (extractor_positions x) (among_right args ps) (among_both (args ++ ps) (x.term.at ∷ args ++ ps) (extractor_positions x) (among_rest x.term.at (args ++ ps)) (among_rest x.at (x.term.at ∷ args ++ ps))))
-    (among_left (extractor_positions x) rest)
+    among_both ps (args ++ ps) (extractor_positions x) (among_right args ps) (among_both (args ++ ps) (x.term.at ∷ args ++ ps) (extractor_positions x) (among_rest x.term.at (args ++ ps)) (among_rest x.at (x.term.at ∷ args ++ ps)))
+
+pub pattern_among : (x : ExtractorTree) (rest : List Position) → OccurAmong (pattern_positions x.template) (extractor_positions x ++ rest)
+pattern_among x rest = among_both (pattern_positions x.template) (extractor_positions x) (extractor_positions x ++ rest) (pattern_in_extractor x) (among_left (extractor_positions x) rest)
 
 pub template_in_extractor : (x : ExtractorTree) → OccurAmong (pattern_positions (extractor_template x)) (extractor_positions x)
 template_in_extractor x =
@@ -437,8 +438,11 @@ pub placed_on : {R E : Type 0} (r : Result R E) (ps qs : List Position) (table :
 placed_on r ps qs table a h = on_ok_weaker r (placed_among ps qs table a) h
 
 -- parts of an extractor
+pub extractor_there : (x : ExtractorTree) → OccurAmong (x.at ∷ []) (extractor_positions x)
+extractor_there x = among_first x.at (x.term.at ∷ map (λ n. n.at) x.args ++ pattern_positions x.template)
+
 pub extractor_at : (x : ExtractorTree) (rest : List Position) → OccurAmong (x.at ∷ []) (extractor_positions x ++ rest)
-extractor_at x rest = among_one x.at (extractor_positions x ++ rest) (Contains-append_left (extractor_positions x) rest x.at (in_head x.at (x.term.at ∷ map (λ n. n.at) x.args ++ pattern_positions x.template)))
+extractor_at x rest = among_both (x.at ∷ []) (extractor_positions x) (extractor_positions x ++ rest) (extractor_there x) (among_left (extractor_positions x) rest)
 
 pub extractor_noted : (x : ExtractorTree) (rest : List Position) (a b c : List Error) → NotesAt (pattern_positions x.template) a b → NotesAt (x.at ∷ rest) b c → NotesAt (extractor_positions x ++ rest) a c
 extractor_noted x rest a b c first second =
@@ -446,8 +450,11 @@ extractor_noted x rest a b c first second =
     notes_parts (pattern_positions x.template) (x.at ∷ rest) ps a b c (pattern_among x rest) (among_join (x.at ∷ []) rest ps (extractor_at x rest) (among_right (extractor_positions x) rest)) first second
 
 -- a macro argument in the pattern of an extractor
+pub argument_there : (x : ExtractorTree) (qs : List (Pos × ℕ)) (a : Pos × ℕ) → map (λ (y : Pos × ℕ). position y.0) qs ≡ argument_places x.template → slice_get qs 0 ≡ Some a → OccurAmong (position a.0 ∷ []) (extractor_positions x)
+argument_there x qs a h first = among_one (position a.0) (extractor_positions x) (pattern_in_extractor x (position a.0) (first_argument qs a x.template h first))
+
 pub argument_noted : (x : ExtractorTree) (rest : List Position) (qs : List (Pos × ℕ)) (a : Pos × ℕ) → map (λ (y : Pos × ℕ). position y.0) qs ≡ argument_places x.template → slice_get qs 0 ≡ Some a → OccurAmong (position a.0 ∷ []) (extractor_positions x ++ rest)
-argument_noted x rest qs a h first = among_one (position a.0) (extractor_positions x ++ rest) (pattern_among x rest (position a.0) (first_argument qs a x.template h first))
+argument_noted x rest qs a h first = among_both (position a.0 ∷ []) (extractor_positions x) (extractor_positions x ++ rest) (argument_there x qs a h first) (among_left (extractor_positions x) rest)
 
 -- the recursion that is looked for last
 pub recursion_noted : (ps : List Position) (table : TermTable) (a b c : List Error) → NotesAt ps a b → IsPlacedAmong ps table → NotesAt (table_positions table) b c → NotesAt ps a c

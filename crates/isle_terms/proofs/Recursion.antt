@@ -1,31 +1,38 @@
 -- What the search for recursion among templates says of a list of definitions.
-use Rattle.std.proofs.Common.{◌≡◌, ◌==◌, ℕ, zero, suc, ◌+◌, ◌<◌, Bool, true, false, cond, List, [], ◌∷◌, ◌⊎◌, length, slice_get, Option, None, Some, is_some, option_map, Contains, Vec, refl, sym, ap, subst, ◌∙◌, eqb-true, arith, inl, inr, ⊎_elim}
-use Rattle.std.specs.List.{find, filter_map, flat_map}
+use Rattle.std.proofs.Common.{◌≡◌, ◌==◌, ℕ, zero, suc, ◌+◌, ◌<◌, Bool, true, false, cond, List, [], ◌∷◌, ◌⊎◌, length, map, slice_get, Option, None, Some, is_some, option_map, Contains, Vec, refl, sym, ap, subst, ◌∙◌, eqb-true, arith, inl, inr, ⊎_elim}
+use Rattle.std.specs.List.{find, filter_map, flat_map, position_from}
 use Rattle.std.specs.Str.{bytes_eq}
 use Rattle.std.specs.declared.alloc.Global.{Global}
 use Rattle.std.proofs.lemmas.Bool.{false≢true}
 use Rattle.std.proofs.lemmas.Bool.Decides.{Decides-eqb}
 use Rattle.std.proofs.lemmas.List.Elements.{All-nil, All-contains}
 use Rattle.std.proofs.lemmas.Option.{same_Some}
-use Rattle.isle_model.specs.lists.Syntax.{Name, ExtractorTree, Definition}
-use Rattle.isle_model.specs.lists.Tables.{ConstructorEntry, ExtractorEntry, internal_extractor, TermEntry}
-use Rattle.isle_model.specs.lists.TermTable.{decl_names, rule_trees, extractor_trees, extractor_template, terms_in, term_names, term_named, made_by, IsDeclaredTerm, IsKnownTerm, NamesKnownTerms, Uses, Reaches, directly, through, IsAcyclic}
+use Rattle.isle_model.specs.lists.Syntax.{Position, Name, PatternTree, var_pattern, bind_pattern, bool_pattern, int_pattern, prim_pattern, term_pattern, wildcard_pattern, and_pattern, macro_arg, ExtractorTree, Definition}
+use Rattle.isle_model.specs.lists.Tables.{ConstructorEntry, ExtractorEntry, internal_extractor, declared_term, TermEntry, Flags}
+use Rattle.isle_model.specs.lists.TermTable.{argument_or, binding_or, decl_flags, decl_names, rule_trees, template, extractor_trees, extractor_template, terms_in, term_names, term_named, made_by, IsDeclaredTerm, IsKnownTerm, NamesKnownTerms, Uses, Reaches, directly, through, IsAcyclic}
 use Rattle.isle_model.specs.claims.Environments.{TypesRead, AreReadable, IsLeftByRefusal}
-use Rattle.isle_model.proofs.Bytes.{same_self}
-use Rattle.isle_model.proofs.Members.{in_cases, in_map, from_map}
+use Rattle.isle_model.proofs.Bytes.{same_bytes, same_self}
+use Rattle.isle_model.proofs.Members.{in_cases, in_head, in_tail, in_map, from_map}
 use Rattle.isle_base.specs.declared.syntax.Error.{Error}
+use Rattle.isle_base.specs.Noting.{NotesMore}
+use Rattle.isle_base.specs.Patterns.{pattern_position}
 use Rattle.isle_types.specs.declared.ids.TermId.{TermId}
 use Rattle.isle_types.specs.declared.type_env.TypeEnv.{TypeEnv}
 use Rattle.isle_types.specs.Envs.{IsInterned}
 use Rattle.isle_types.specs.EnvViews.{environment_view}
 use Rattle.isle_terms.specs.declared.term_table.TermTable.{TermTable}
 use Rattle.isle_terms.specs.Reading.{term_of_name}
+use Rattle.isle_terms.specs.TermBreaches.{BeginsAt, by_recursion}
+use Rattle.isle_terms.specs.TermPositions.{taker_template, template_place}
+use Rattle.isle_terms.specs.TermViews.{term_views}
 use Rattle.isle_terms.specs.Stages.{constructor_after}
 use Rattle.isle_terms.specs.Signing.{Notes, ReadsTerms}
 use Rattle.isle_terms.specs.Converting.{template_after}
 use Rattle.isle_terms.specs.Templating.{callees_of, AreCallees, AreRightExtractors, CallsAreOf, TemplatesRead}
-use Rattle.isle_terms.specs.Recursion.{all_end, AreWithin, by_one, by_more, Comes, ComesBack, EndsBelow, ExtractorsRead, HasEnd, HaveTemplates, has_template, is_template}
-use Rattle.isle_terms.proofs.Noting.{both_note, notes_as, step}
+use Rattle.isle_terms.specs.Recursion.{all_end, AreWithin, by_one, by_more, Comes, EndsBelow, ExtractorsRead, HasEnd, HaveTemplates, NotesReturn, has_template, is_template}
+use Rattle.isle_base.proofs.Noted.{both}
+use Rattle.isle_terms.proofs.Breaches.{begins_before, Breach}
+use Rattle.isle_terms.proofs.Noting.{step}
 use Rattle.isle_terms.proofs.Standing.{entry_found, no_place, term_is}
 use Rattle.isle_terms.proofs.TemplateSteps.{one_name}
 use Rattle.isle_terms.proofs.TypesStaying.{left_interned}
@@ -55,21 +62,22 @@ pub back_calls : (cs : Callees) {t : ℕ} → Comes cs t t → (u : ℕ) × Cont
 back_calls cs c = let r = first_call cs c in (r.0, r.1)
 
 -- one more root
-pub next_root_ends : (table : TermTable) (cs : Callees) (n : ℕ) (first es es' : List Error) → Notes es es' (HaveTemplates table cs → HasEnd cs n) (ComesBack cs) → Notes first es (EndsBelow table cs n) (ComesBack cs) → Notes first es' (EndsBelow table cs (n + 1)) (ComesBack cs)
-next_root_ends table cs n first es es' a s =
-    let Here : Type 0 = HaveTemplates table cs → HasEnd cs n in
-    notes_as (EndsBelow table cs n × Here) (EndsBelow table cs (n + 1)) (ComesBack cs ⊎ ComesBack cs) (ComesBack cs) first es' right (λ w. ⊎_elim (λ x. x) (λ x. x) w)
-    (both_note (EndsBelow table cs n) Here (ComesBack cs) (ComesBack cs) first es es' s a)
+next_ends : (table : TermTable) (cs : Callees) (n : ℕ) → EndsBelow table cs n → (HaveTemplates table cs → HasEnd cs n) → EndsBelow table cs (n + 1)
+next_ends table cs n below here h t l =
+    elim (t == n) as (λ b. (t == n) ≡ b → HasEnd cs t) [
+      | true ↦ λ e. subst (HasEnd cs) (sym (eqb-true t n e)) (here h)
+      | false ↦ λ e. below h t (other_below t n l e)
+    ] refl
   where
-    right : EndsBelow table cs n × (HaveTemplates table cs → HasEnd cs n) → EndsBelow table cs (n + 1)
-    right p h t l =
-        elim (t == n) as (λ b. (t == n) ≡ b → HasEnd cs t) [
-          | true ↦ λ e. subst (HasEnd cs) (sym (eqb-true t n e)) (p.1 h)
-          | false ↦ λ e. p.0 h t (other_below t n l e)
-        ] refl
-      where
-        other_below : (t n : ℕ) → t < n + 1 → (t == n) ≡ false → t < n
-        other_below t n l e = let d : (t ≡ n → ⊥) = λ s. false≢true (sym e ∙ (Decides-eqb t n).1 s) in omega (arith, l, d)
+    other_below : (t n : ℕ) → t < n + 1 → (t == n) ≡ false → t < n
+    other_below t n l e = let d : (t ≡ n → ⊥) = λ s. false≢true (sym e ∙ (Decides-eqb t n).1 s) in omega (arith, l, d)
+
+pub next_root_ends : (table : TermTable) (cs : Callees) (n : ℕ) (first es es' : List Error) → Notes es es' (HaveTemplates table cs → HasEnd cs n) (NotesReturn table cs es es') → Notes first es (EndsBelow table cs n) (NotesReturn table cs first es) → Notes first es' (EndsBelow table cs (n + 1)) (NotesReturn table cs first es')
+next_root_ends table cs n first es es' (inl a) (inl s) = inl (a.0 ∙ s.0, next_ends table cs n s.1 a.1)
+next_root_ends table cs n first es es' (inl a) (inr s) = inr (subst (NotesMore first) (sym a.0) s.0, subst (NotesReturn table cs first) (sym a.0) s.1)
+next_root_ends table cs n first es es' (inr a) (inl s) = inr (subst (λ l. NotesMore l es') s.0 a.0, subst (λ l. NotesReturn table cs l es') s.0 a.1)
+next_root_ends table cs n first es es' (inr a) (inr s) =
+    inr (both first es es' s.0 a.0, record { at = s.1.at; back = s.1.back; begins = begins_before (s.1.at ∷ []) first es es' s.0 s.1.begins (inr a.0) })
 
 -- what calls are, by names
 module _ (e : TypesRead) (defs : List Definition) (cs : Callees) (r : AreRightExtractors e defs (extractor_trees defs)) (c : CallsAreOf e defs (extractor_trees defs) cs) where
@@ -136,11 +144,51 @@ module _ (e : TypesRead) (defs : List Definition) (cs : Callees) (r : AreRightEx
       let same : k.definition.term.text ≡ l.1 = one_name (term_names e.known defs) k.definition.term.text l.1 m k.of_term l.3 in
       (l.0, k.name.text, l.2, k.is_term, goes_on l.4 (record { definition = k.definition; there = k.there; of_term = same; calls = in_map (λ (n : Name). n.text) (terms_in k.definition.template) k.name k.calls }))
 
-  back_cyclic : ComesBack cs → IsAcyclic defs → ⊥
-  back_cyclic b acyclic =
-      let l = comes_reaches b.comes in
-      let same : l.1 ≡ l.0 = one_name (term_names e.known defs) l.1 l.0 b.term l.3 l.2 in
-      acyclic l.0 (subst (Reaches defs l.0) same l.4)
+  -- a term that comes back is that of an extractor
+  back_reaches : (t : ℕ) → Comes cs t t → (k : ExtractorTree) × Contains (extractor_trees defs) k × (named k.term.text ≡ Some t) × Reaches defs k.term.text k.term.text
+  back_reaches t b =
+      let l = comes_reaches b in
+      let f = first_call cs b in
+      let k = c.said t f.0 f.1 in
+      let start : l.0 ≡ k.definition.term.text = one_name (term_names e.known defs) l.0 k.definition.term.text t l.2 k.of_term in
+      let end : l.1 ≡ k.definition.term.text = one_name (term_names e.known defs) l.1 k.definition.term.text t l.3 k.of_term in
+      (k.definition, k.there, k.of_term, subst (λ x. Reaches defs x k.definition.term.text) start (subst (Reaches defs l.0) end l.4))
+
+-- a template stands where its pattern does
+argument_position : (o : Option ℕ) (at : Position) (p : PatternTree) → pattern_position p ≡ at → pattern_position (argument_or o at p) ≡ at
+argument_position None at p h = h
+argument_position (Some i) at p h = refl
+
+binding_position : (o : Option ℕ) (name : Name) (p : PatternTree) (at : Position) → pattern_position (binding_or o name p at) ≡ at
+binding_position o name (wildcard_pattern w) at = argument_position o at (bind_pattern name (wildcard_pattern w) at) refl
+binding_position o name (var_pattern v q) at = refl
+binding_position o name (bind_pattern v p q) at = refl
+binding_position o name (bool_pattern b q) at = refl
+binding_position o name (int_pattern z q) at = refl
+binding_position o name (prim_pattern v q) at = refl
+binding_position o name (term_pattern v ps q) at = refl
+binding_position o name (and_pattern ps q) at = refl
+binding_position o name (macro_arg i q) at = refl
+
+template_position : (args : List (List ℕ)) (p : PatternTree) → pattern_position (template args p) ≡ pattern_position p
+template_position args (var_pattern name at) = argument_position (position_from (bytes_eq name.text) 0 args) at (var_pattern name at) refl
+template_position args (bind_pattern name p at) = binding_position (position_from (bytes_eq name.text) 0 args) name (template args p) at
+template_position args (bool_pattern b at) = refl
+template_position args (int_pattern z at) = refl
+template_position args (prim_pattern name at) = refl
+template_position args (term_pattern term ps at) = refl
+template_position args (wildcard_pattern at) = refl
+template_position args (and_pattern ps at) = refl
+template_position args (macro_arg i at) = refl
+
+-- the extractor whose pattern stands where the template of a term does
+template_at : (es : List ExtractorTree) (x : List ℕ) (at : Position) → taker_template (template_after es x) ≡ Some at → (y : ExtractorTree) × Contains es y × (y.term.text ≡ x) × (pattern_position y.template ≡ at)
+template_at [] x at h = absurd (cc)
+template_at (z ∷ zs) x at h =
+    elim (bytes_eq z.term.text x) as (λ b. bytes_eq z.term.text x ≡ b → taker_template (option_map (λ y. internal_extractor (extractor_template y)) (cond b (Some z) (find (λ y. bytes_eq y.term.text x) zs))) ≡ Some at → (y : ExtractorTree) × Contains (z ∷ zs) y × (y.term.text ≡ x) × (pattern_position y.template ≡ at)) [
+      | true ↦ λ e g. (z, in_head z zs, same_bytes z.term.text x e, sym (template_position (map (λ n. n.text) z.args) z.template) ∙ same_Some (pattern_position (extractor_template z)) at g)
+      | false ↦ λ e g. (let r = template_at zs x at g in (r.0, in_tail z r.0 zs r.1, r.2, r.3))
+    ] refl h
 
 -- each term that names one has a template, where all is right
 found_some : (es : List ExtractorTree) (x : ExtractorTree) → Contains es x → is_template (template_after es x.term.text) ≡ true
@@ -156,26 +204,46 @@ found_some es x h = of_found (found_in es h)
     of_found : (y : ExtractorTree) × (find (λ y. bytes_eq y.term.text x.term.text) es ≡ Some y) → is_template (template_after es x.term.text) ≡ true
     of_found p = ap (λ o. is_template (option_map (λ y. internal_extractor (extractor_template y)) o)) p.1
 
-have_templates : (e : TypesRead) → AreReadable e → (defs : List Definition) (cs : Callees) (env : TypeEnv) (table : TermTable) → IsLeftByRefusal e (environment_view env) → TemplatesRead e defs defs cs env table → HaveTemplates table cs
-have_templates e readable defs cs env table left s t u entry h at =
-    let k = s.calls.said t u h in
+-- the entry of a term that has an extractor
+extractor_entry : (e : TypesRead) → AreReadable e → (defs : List Definition) (cs : Callees) (env : TypeEnv) (table : TermTable) → IsLeftByRefusal e (environment_view env) → TemplatesRead e defs defs cs env table
+    → (t : ℕ) (k : ExtractorTree) → Contains (extractor_trees defs) k → term_named e.known defs k.term.text ≡ Some t → (entry : TermEntry) → slice_get (term_views table.terms.items) t ≡ Some entry
+    → (flags : Flags) × (made : Option ConstructorEntry) × (entry.kind ≡ declared_term flags made (template_after (extractor_trees defs) k.term.text))
+extractor_entry e readable defs cs env table left s t k there of_term entry at =
     let interned : IsInterned env = left_interned e readable env left in
     let made : List ℕ → Option ConstructorEntry = constructor_after (rule_trees defs) in
     let taken : List ℕ → Option ExtractorEntry = template_after (extractor_trees defs) in
-    let found : term_of_name env table k.definition.term ≡ Some t = term_is e defs (decl_names defs) made taken env table interned s.stand k.definition.term ∙ k.of_term in
-    let declared : IsDeclaredTerm defs k.definition.term = All-contains (λ y. IsDeclaredTerm defs y.term) (extractor_trees defs) k.definition s.right.terms k.there in
-    elim (entry_found e defs (decl_names defs) made taken env table interned s.stand k.definition.term t entry found at) [
-      | inl q ↦ ap (λ (x : TermEntry). has_template x.kind) q.4 ∙ ap (λ y. is_template (taken y)) q.2 ∙ found_some (extractor_trees defs) k.definition k.there
+    let found : term_of_name env table k.term ≡ Some t = term_is e defs (decl_names defs) made taken env table interned s.stand k.term ∙ of_term in
+    let declared : IsDeclaredTerm defs k.term = All-contains (λ y. IsDeclaredTerm defs y.term) (extractor_trees defs) k s.right.terms there in
+    elim (entry_found e defs (decl_names defs) made taken env table interned s.stand k.term t entry found at) [
+      | inl q ↦ (decl_flags q.0, made q.0.term.text, ap (λ (x : TermEntry). x.kind) q.4 ∙ ap (λ y. declared_term (decl_flags q.0) (made q.0.term.text) (taken y)) q.2)
       | inr q ↦ absurd (false≢true (sym (ap is_some q.0) ∙ declared))
     ]
 
+have_templates : (e : TypesRead) → AreReadable e → (defs : List Definition) (cs : Callees) (env : TypeEnv) (table : TermTable) → IsLeftByRefusal e (environment_view env) → TemplatesRead e defs defs cs env table → HaveTemplates table cs
+have_templates e readable defs cs env table left s t u entry h at =
+    let k = s.calls.said t u h in
+    let r = extractor_entry e readable defs cs env table left s t k.definition k.there k.of_term entry at in
+    ap has_template r.2 ∙ found_some (extractor_trees defs) k.definition k.there
+
+-- a term that comes back to itself is that of an extractor whose pattern stands there
+return_broken : (e : TypesRead) → AreReadable e → (defs : List Definition) (cs : Callees) (env : TypeEnv) (table : TermTable) (es es' : List Error) → IsLeftByRefusal e (environment_view env) → TemplatesRead e defs defs cs env table → NotesReturn table cs es es' → Breach e.known defs es es'
+return_broken e readable defs cs env table es es' left s r =
+    let b = back_reaches e defs cs s.right s.calls r.back.term r.back.comes in
+    let k = extractor_entry e readable defs cs env table left s r.back.term b.0 b.1 b.2 r.back.entry r.back.entry_is in
+    let y = template_at (extractor_trees defs) b.0.term.text r.at (sym (ap template_place k.2) ∙ r.back.place) in
+    record {
+      positions = pattern_position y.0.template ∷ [];
+      breaks = by_recursion y.0 y.1 (subst (λ x. Reaches defs x x) (sym y.2) b.3);
+      begins = subst (λ p. BeginsAt (p ∷ []) es es') (sym y.3) r.begins;
+    }
+
 -- the search after all extractors
 pub searched : (e : TypesRead) → AreReadable e → (defs : List Definition) (cs : Callees) (env : TypeEnv) (table : TermTable) (es es' : List Error) (b : Bool)
-    → Notes es es' (EndsBelow table cs (length cs)) (ComesBack cs)
+    → Notes es es' (EndsBelow table cs (length cs)) (NotesReturn table cs es es')
     → ReadsTerms e defs (λ env table. (b ≡ true) × TemplatesRead e defs defs cs env table) env table es
     → ReadsTerms e defs (ExtractorsRead e defs) env table es'
 searched e readable defs cs env table es es' b a s =
-    step e defs (λ env table. (b ≡ true) × TemplatesRead e defs defs cs env table) (ExtractorsRead e defs) env env table table es es' (EndsBelow table cs (length cs)) (ComesBack cs) s.left s.within a
+    step e defs (λ env table. (b ≡ true) × TemplatesRead e defs defs cs env table) (ExtractorsRead e defs) env env table table es es' (EndsBelow table cs (length cs)) (NotesReturn table cs es es') s.left s.within a
     (λ h ends. record {
       stand = h.1.stand;
       roots = h.1.roots;
@@ -183,7 +251,7 @@ searched e readable defs cs env table es es' b a s =
       acyclic = ends_acyclic e defs cs h.1.right h.1.calls (ends (have_templates e readable defs cs env table s.left h.1));
       converters = h.1.converters;
     })
-    (λ h back v. back_cyclic e defs cs h.1.right h.1.calls back v.acyclic) s
+    (λ h r. return_broken e readable defs cs env table es es' s.left h.1 r) s
 
 pub no_some : {X : Type 0} (o : Option X) → ((x : X) → o ≡ Some x → ⊥) → is_some o ≡ true → ⊥
 no_some None h e = false≢true e

@@ -7,30 +7,29 @@ use Rattle.std.proofs.lemmas.List.Elements.{All-push}
 use Rattle.isle_model.specs.lists.Syntax.{Name, RuleTree, Definition, type_definition, declaration, extractor_definition, converter_definition, rule_definition, extern_definition, other_definition}
 use Rattle.isle_model.specs.rules.Outcome.{then_option}
 use Rattle.isle_model.specs.lists.Tables.{ConstructorEntry, ExtractorEntry, declared_term}
-use Rattle.isle_model.specs.lists.TermTable.{decl_flags, decl_names, rule_of, rule_trees, term_id, term_names_met, root_name, is_declared, HasDeclaredRoot, IsValidTerms}
+use Rattle.isle_model.specs.lists.TermTable.{decl_flags, decl_names, rule_of, rule_trees, term_id, term_names_met, root_name, is_declared, HasDeclaredRoot}
 use Rattle.isle_model.specs.claims.Environments.{TypesRead, AreReadable, IsLeftByRefusal}
 use Rattle.isle_model.proofs.Options.{then_some}
 use Rattle.isle_base.specs.declared.syntax.Def.{Def}
 use Rattle.isle_base.specs.declared.syntax.Error.{Error}
+use Rattle.isle_base.specs.Positions.{definition_positions}
 use Rattle.isle_base.specs.SyntaxViews.{definition_view, definition_views}
 use Rattle.isle_types.specs.declared.type_env.TypeEnv.{TypeEnv}
 use Rattle.isle_types.specs.Envs.{IsInterned}
 use Rattle.isle_types.specs.EnvViews.{environment_view}
 use Rattle.isle_terms.specs.declared.term_table.TermTable.{TermTable}
 use Rattle.isle_terms.specs.Reading.{IsWithin, internal_entry, root_term_id, term_of_name}
+use Rattle.isle_terms.specs.TermBreaches.{BeginsAt, by_rule}
 use Rattle.isle_terms.specs.Stages.{constructor_after}
 use Rattle.isle_terms.specs.Signing.{ReadsTerms, declared_so_far}
 use Rattle.isle_terms.specs.Standing.{Stand, RootsRead, IsOfDeclared, IsOfMade, ReadsIfRule}
-use Rattle.isle_terms.proofs.Declaring.{at_middle, taken_next, around}
+use Rattle.isle_terms.proofs.Declaring.{taken_next, around}
 use Rattle.isle_terms.proofs.Noting.{step}
 use Rattle.isle_terms.proofs.Rooting.{same_constructor, new_constructor}
 use Rattle.isle_terms.proofs.Standing.{declared_found, made_found, nothing_found, stands_on}
 use Rattle.isle_terms.proofs.TypesStaying.{left_interned}
 
 module _ (e : TypesRead) (defs read rest : List Definition) (r : RuleTree) (whole : defs ≡ read ++ rule_definition r ∷ rest) (env : TypeEnv) (old : TermTable) (left : IsLeftByRefusal e (environment_view env)) (readable : AreReadable e) (s : RootsRead e defs read env old) where
-  trees : rule_trees defs ≡ rule_trees read ++ r ∷ rule_trees rest
-  trees = ap rule_trees whole ∙ flat_map-append rule_of read (rule_definition r ∷ rest)
-
   more : rule_trees (read ++ rule_definition r ∷ []) ≡ rule_trees read ++ r ∷ []
   more = flat_map-append rule_of read (rule_definition r ∷ [])
 
@@ -61,20 +60,17 @@ module _ (e : TypesRead) (defs read rest : List Definition) (r : RuleTree) (whol
         converters = rw d.changes.converters s.converters;
       }
 
-  declared_root : IsValidTerms e.known defs → HasDeclaredRoot defs r
-  declared_root v = at_middle (HasDeclaredRoot defs) (rule_trees read) r (rule_trees rest) (rule_trees defs) trees v.roots
-
   unrooted : (o : Option Name) → then_option o (term_of_name env old) ≡ None → is_declared defs o ≡ false
   unrooted None h = refl
   unrooted (Some n) h = ap is_some (nothing_found e defs (decl_names defs) before nothing env old interned s.stand n h)
 
-  pub rule_unrooted : (root_term_id env old r ≡ None) ⊎ IsOfMade r env old → IsValidTerms e.known defs → ⊥
-  rule_unrooted (inl none) v = false≢true (sym (unrooted (root_name r.pattern) none) ∙ declared_root v)
-  rule_unrooted (inr m) v =
+  pub rule_unrooted : (root_term_id env old r ≡ None) ⊎ IsOfMade r env old → HasDeclaredRoot defs r → ⊥
+  rule_unrooted (inl none) rooted = false≢true (sym (unrooted (root_name r.pattern) none) ∙ rooted)
+  rule_unrooted (inr m) rooted =
       let named = then_some (root_name r.pattern) (term_of_name env old) m.id m.root in
       let none : term_id defs named.0.text ≡ None = made_found e defs (decl_names defs) before nothing env old interned s.stand named.0 m.id m.entry named.2 m.at m.made in
       let other : is_declared defs (root_name r.pattern) ≡ false = ap (is_declared defs) named.1 ∙ ap is_some none in
-      false≢true (sym other ∙ declared_root v)
+      false≢true (sym other ∙ rooted)
 
 module _ (e : TypesRead) (readable : AreReadable e) (defs read rest : List Definition) (env : TypeEnv) (table table' : TermTable) (es es' : List Error) (w : IsWithin table') where
   other : (d : Definition) → rule_of d ≡ [] → (es' ≡ es) × (table' ≡ table) → ReadsTerms e defs (RootsRead e defs read) env table es → ReadsTerms e defs (RootsRead e defs (read ++ d ∷ [])) env table' es'
@@ -87,25 +83,25 @@ module _ (e : TypesRead) (readable : AreReadable e) (defs read rest : List Defin
       } in
       step e defs (RootsRead e defs read) (RootsRead e defs (read ++ d ∷ [])) env env table table' es es' (Unit {0}) ⊥ s.left w (inl (same.0, tt))
       (λ h _. subst (RootsRead e defs (read ++ d ∷ []) env) (sym same.1) (go h))
-      (λ h x _. x) s
+      (λ h x. absurd x) s
 
-  next : (d : Definition) → defs ≡ read ++ d ∷ rest → ReadsIfRule d env table es table' es' → ReadsTerms e defs (RootsRead e defs read) env table es → ReadsTerms e defs (RootsRead e defs (read ++ d ∷ [])) env table' es'
-  next (rule_definition r) whole a s =
+  next : (d : Definition) → defs ≡ read ++ d ∷ rest → ReadsIfRule d env table es table' es' → BeginsAt (definition_positions d) es es' → ReadsTerms e defs (RootsRead e defs read) env table es → ReadsTerms e defs (RootsRead e defs (read ++ d ∷ [])) env table' es'
+  next (rule_definition r) whole a b s =
       step e defs (RootsRead e defs read) (RootsRead e defs (read ++ rule_definition r ∷ [])) env env table table' es es' (IsOfDeclared r env table table') ((root_term_id env table r ≡ None) ⊎ IsOfMade r env table) s.left w a
       (λ h x. rule_rooted e defs read rest r whole env table s.left readable h table' x)
-      (λ h x v. rule_unrooted e defs read rest r whole env table s.left readable h x v) s
-  next (declaration d) whole a s = other (declaration d) refl a s
-  next (type_definition d) whole a s = other (type_definition d) refl a s
-  next (extractor_definition d) whole a s = other (extractor_definition d) refl a s
-  next (converter_definition d) whole a s = other (converter_definition d) refl a s
-  next (extern_definition d) whole a s = other (extern_definition d) refl a s
-  next other_definition whole a s = other other_definition refl a s
+      (λ h x. record { positions = definition_positions (rule_definition r); breaks = by_rule read rest r whole (rule_unrooted e defs read rest r whole env table s.left readable h x); begins = b }) s
+  next (declaration d) whole a b s = other (declaration d) refl a s
+  next (type_definition d) whole a b s = other (type_definition d) refl a s
+  next (extractor_definition d) whole a b s = other (extractor_definition d) refl a s
+  next (converter_definition d) whole a b s = other (converter_definition d) refl a s
+  next (extern_definition d) whole a b s = other (extern_definition d) refl a s
+  next other_definition whole a b s = other other_definition refl a s
 
 -- after the definition at i
 pub next_rule_root : (e : TypesRead) → AreReadable e → (defs : List Def) (i : ℕ) (d : Def) → i < length defs → d ≡ get_or defs i d → (env : TypeEnv) (table table' : TermTable) (es es' : List Error) → IsWithin table'
-    → ReadsIfRule (definition_view d) env table es table' es'
+    → ReadsIfRule (definition_view d) env table es table' es' → BeginsAt (definition_positions (definition_view d)) es es'
     → ReadsTerms e (definition_views defs) (RootsRead e (definition_views defs) (definition_views (take i defs))) env table es
     → ReadsTerms e (definition_views defs) (RootsRead e (definition_views defs) (definition_views (take (i + 1) defs))) env table' es'
-next_rule_root e r defs i d within here env table table' es es' w a s =
+next_rule_root e r defs i d within here env table table' es es' w a b s =
     subst (λ ds. ReadsTerms e (definition_views defs) (RootsRead e (definition_views defs) ds) env table' es') (sym (taken_next defs i d within here))
-    (next e r (definition_views defs) (definition_views (take i defs)) (definition_views (drop (i + 1) defs)) env table table' es es' w (definition_view d) (around defs i d within here) a s)
+    (next e r (definition_views defs) (definition_views (take i defs)) (definition_views (drop (i + 1) defs)) env table table' es es' w (definition_view d) (around defs i d within here) a b s)

@@ -1,5 +1,5 @@
 -- The terms and the arguments that the pattern of an internal extractor names.
-use Rattle.std.proofs.Common.{◌≡◌, ℕ, ◌+◌, ◌<◌, ◌≤◌, List, [], ◌∷◌, ◌++◌, ◌⊎◌, length, take, get_or, map, Option, None, Some, is_some, All, Bor, Contains, IsTrue, refl, sym, ap, subst, ◌∙◌, arith, ⊎_elim}
+use Rattle.std.proofs.Common.{◌≡◌, ℕ, ◌+◌, ◌<◌, ◌≤◌, List, [], ◌∷◌, ◌++◌, ◌⊎◌, length, take, get_or, map, Option, None, Some, is_some, All, Bor, Contains, IsTrue, sym, ap, subst, ◌∙◌, arith, ⊎_elim}
 use Rattle.std.proofs.lemmas.Bool.{false≢true}
 use Rattle.std.proofs.lemmas.List.{map-append, take_more}
 use Rattle.std.proofs.lemmas.List.Elements.{All-cons, All-nil, All-contains, All-map, All-weaker, Contains-get_or}

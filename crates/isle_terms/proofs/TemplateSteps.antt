@@ -9,19 +9,20 @@ use Rattle.std.proofs.lemmas.List.{append-nil, length-map, map-append}
 use Rattle.std.proofs.lemmas.List.Concat.{flat_map-append}
 use Rattle.std.proofs.lemmas.List.Elements.{All-push, All-weaker, Contains-append_left, Contains-push, Contains-push_cases}
 use Rattle.std.proofs.lemmas.List.Sorted.{Contains-permutation, IsPermutation-sym}
-use Rattle.std.proofs.lemmas.Option.{same_Some, slice_get_within}
+use Rattle.std.proofs.lemmas.Option.{same_Some}
 use Rattle.isle_model.specs.lists.Syntax.{Name, DeclTree, ExtractorTree, Definition, type_definition, declaration, extractor_definition, converter_definition, rule_definition, extern_definition, other_definition}
 use Rattle.isle_model.specs.lists.Names.{IsDistinct}
 use Rattle.isle_model.specs.lists.Tables.{ConstructorEntry, ExtractorEntry, internal_extractor, TermKindEntry, variant_term, struct_term, declared_term, TermEntry}
 use Rattle.isle_model.specs.lists.TypeTable.{place_from}
 use Rattle.isle_model.specs.lists.KnownTypes.{known_type}
-use Rattle.isle_model.specs.lists.TermTable.{decl_flags, decl_names, decl_named, decl_trees, rule_trees, extractor_of, extractor_trees, extractor_template, external_extractors, internal_extractors, terms_in, arguments_in, argument_count, term_names, term_names_met, term_named, is_declared_multi, IsDeclaredTerm, IsKnownTerm, IsOfPlainTerm, NamesKnownTerms, HoldsNoMacroArg, UsesDeclaredArguments, IsValidTerms}
+use Rattle.isle_model.specs.lists.TermTable.{decl_flags, decl_names, decl_named, decl_trees, rule_trees, extractor_of, extractor_trees, extractor_template, terms_in, arguments_in, argument_count, term_names, term_names_met, term_named, is_declared_multi, IsDeclaredTerm, IsKnownTerm, IsOfPlainTerm, NamesKnownTerms, HoldsNoMacroArg, UsesDeclaredArguments}
 use Rattle.isle_model.specs.claims.Environments.{TypesRead, AreReadable, IsLeftByRefusal}
 use Rattle.isle_model.proofs.FirstPlaces.{place_next}
-use Rattle.isle_model.proofs.Members.{in_map, get_from_member}
-use Rattle.isle_model.proofs.Positions.{distinct_push, twice}
+use Rattle.isle_model.proofs.Members.{in_map, get_from_member, member_from_get}
+use Rattle.isle_model.proofs.Positions.{distinct_push}
 use Rattle.isle_base.specs.declared.syntax.Def.{Def}
 use Rattle.isle_base.specs.declared.syntax.Error.{Error}
+use Rattle.isle_base.specs.Positions.{definition_positions}
 use Rattle.isle_base.specs.SyntaxViews.{definition_view, definition_views}
 use Rattle.isle_types.specs.declared.ids.TermId.{TermId}
 use Rattle.isle_types.specs.declared.type_env.TypeEnv.{TypeEnv}
@@ -29,6 +30,7 @@ use Rattle.isle_types.specs.Envs.{IsInterned}
 use Rattle.isle_types.specs.EnvViews.{environment_view}
 use Rattle.isle_terms.specs.declared.term_table.TermTable.{TermTable}
 use Rattle.isle_terms.specs.Reading.{IsWithin, term_of_name}
+use Rattle.isle_terms.specs.TermBreaches.{BeginsAt, BreaksExtractor, extractor_of_none, second_extractor, extractor_of_multi, unknown_term, holds_macro_arg, argument_past, by_extractor}
 use Rattle.isle_terms.specs.Stages.{constructor_after, place_among}
 use Rattle.isle_terms.specs.Signing.{ReadsTerms, declared_so_far}
 use Rattle.isle_terms.specs.Standing.{Stand, is_declared_kind}
@@ -36,9 +38,8 @@ use Rattle.isle_terms.specs.Converting.{template_after}
 use Rattle.isle_terms.specs.Externing.{taken_by_this, with_kind}
 use Rattle.isle_terms.specs.Templating.{callees_of, may_have_template, AreArguments, AreRightExtractors, CallsAreOf, IsCall, IsExtractor, IsFoundTerm, IsWrongOfTerm, ReadsIfTemplate, TemplatesRead}
 use Rattle.isle_terms.proofs.Changing.{place_at}
-use Rattle.isle_terms.proofs.Declaring.{at_middle, taken_next, around}
+use Rattle.isle_terms.proofs.Declaring.{taken_next, around}
 use Rattle.isle_terms.proofs.FirstOfTerm.{known_other, known_new, not_known, was_known, none_stands}
-use Rattle.isle_terms.proofs.Making.{distinct_left}
 use Rattle.isle_terms.proofs.Noting.{step}
 use Rattle.isle_terms.proofs.Rooting.{one_before}
 use Rattle.isle_terms.proofs.Standing.{entry_found, nothing_found, stands_on, term_is}
@@ -94,9 +95,6 @@ one_name names x y t h g =
 module _ (e : TypesRead) (readable : AreReadable e) (defs read rest : List Definition) (x : ExtractorTree) (whole : defs ≡ read ++ extractor_definition x ∷ rest) (env : TypeEnv) (old : TermTable) (callees : List (Vec TermId Global)) (left : IsLeftByRefusal e (environment_view env)) (s : TemplatesRead e defs read callees env old) where
   abbrev seen : List ExtractorTree
   seen = extractor_trees read
-
-  trees : extractor_trees defs ≡ seen ++ x ∷ extractor_trees rest
-  trees = ap extractor_trees whole ∙ flat_map-append extractor_of read (extractor_definition x ∷ rest)
 
   more : extractor_trees (read ++ extractor_definition x ∷ []) ≡ seen ++ x ∷ []
   more = flat_map-append extractor_of read (extractor_definition x ∷ [])
@@ -214,43 +212,33 @@ module _ (e : TypesRead) (readable : AreReadable e) (defs read rest : List Defin
               converters = rw a.is.takes.changes.converters s.converters;
             }
 
-  declared : IsValidTerms e.known defs → IsDeclaredTerm defs x.term
-  declared v = at_middle (λ y. IsDeclaredTerm defs y.term) seen x (extractor_trees rest) (extractor_trees defs) trees v.terms_of_extractors
-
-  twice_extracted : (j : ℕ) → slice_get (map extracted_by seen) j ≡ Some x.term.text → IsValidTerms e.known defs → ⊥
-  twice_extracted j h v =
-      twice (map extracted_by seen) (map extracted_by (extractor_trees rest)) (internal_extractors defs) x.term.text j (distinct_left (internal_extractors defs) (external_extractors defs) v.one_extractor)
-      (sym (ap (map extracted_by) trees ∙ map-append extracted_by seen (x ∷ extractor_trees rest))) (slice_get_within (map extracted_by seen) j x.term.text h) h
-
   cant_take : (id : ℕ) (entry : TermEntry) (d : DeclTree) → slice_get (decl_trees defs) id ≡ Some d → d.term.text ≡ x.term.text → place_among (decl_names defs) x.term.text ≡ Some id → entry ≡ entry_so_far d id
-      → (may_have_template entry.kind ≡ false) ⊎ (AreArguments (length entry.arg_tys) (arguments_in (extractor_template x)) → ⊥) → IsValidTerms e.known defs → ⊥
-  cant_take id entry d at text place is (inl f) v =
+      → (may_have_template entry.kind ≡ false) ⊎ (AreArguments (length entry.arg_tys) (arguments_in (extractor_template x)) → ⊥) → BreaksExtractor e.known defs read x
+  cant_take id entry d at text place is (inl f) =
       let either : (not (is_some (taken d.term.text)) && not d.multi) ≡ false = ap (λ (t : TermEntry). may_have_template t.kind) (sym is) ∙ f in
       elim (and_fails (not (is_some (taken d.term.text))) (not d.multi) either) [
         | inl known ↦
             let there = was_known extracted_by nowhere by_nothing template_entry seen x.term.text (ap (λ y. not (is_some (taken y))) (sym text) ∙ known) in
             elim there [
-              | inl h ↦ false≢true h
-              | inr h ↦ twice_extracted h.0 h.1 v
+              | inl h ↦ absurd (false≢true h)
+              | inr h ↦ second_extractor (member_from_get (map extracted_by seen) h.0 x.term.text h.1)
             ]
-        | inr multi ↦ false≢true (sym (ap not (multi_is id d at place) ∙ multi) ∙ at_middle (IsOfPlainTerm defs) seen x (extractor_trees rest) (extractor_trees defs) trees v.plain_terms)
+        | inr multi ↦ extractor_of_multi (λ plain. false≢true (sym (ap not (multi_is id d at place) ∙ multi) ∙ plain))
       ]
-  cant_take id entry d at text place is (inr past) v =
+  cant_take id entry d at text place is (inr past) =
       let count : argument_count defs x.term.text ≡ length entry.arg_tys = count_is id d at place ∙ ap (λ (t : TermEntry). length t.arg_tys) (sym is) in
-      past (subst (λ n. AreArguments n (arguments_in (extractor_template x))) count (at_middle (UsesDeclaredArguments defs) seen x (extractor_trees rest) (extractor_trees defs) trees v.declared_arguments))
+      argument_past (λ all. past (subst (λ n. AreArguments n (arguments_in (extractor_template x))) count all))
 
-  template_wrong : (term_of_name env old x.term ≡ None) ⊎ IsWrongOfTerm x env old → IsValidTerms e.known defs → ⊥
-  template_wrong (inl none) v = false≢true (sym (ap is_some (nothing_found e defs (decl_names defs) made taken env old interned s.stand x.term none)) ∙ declared v)
-  template_wrong (inr m) v =
+  template_wrong : (term_of_name env old x.term ≡ None) ⊎ IsWrongOfTerm x env old → BreaksExtractor e.known defs read x
+  template_wrong (inl none) = extractor_of_none (λ declared. false≢true (sym (ap is_some (nothing_found e defs (decl_names defs) made taken env old interned s.stand x.term none)) ∙ declared))
+  template_wrong (inr m) =
       elim m.wrong [
-        | inl macro_arg ↦ macro_arg (at_middle HoldsNoMacroArg seen x (extractor_trees rest) (extractor_trees defs) trees v.no_macro_args)
+        | inl macro_arg ↦ holds_macro_arg macro_arg
         | inr w ↦ elim w [
-          | inl unknown ↦
-              unknown (All-weaker (IsKnownTerm e.known defs) (IsFoundTerm env old) (λ n h. ap is_some (term_of n) ∙ h) (terms_in x.template)
-              (at_middle (NamesKnownTerms e.known defs) seen x (extractor_trees rest) (extractor_trees defs) trees v.known_terms))
+          | inl unknown ↦ unknown_term (λ known. unknown (All-weaker (IsKnownTerm e.known defs) (IsFoundTerm env old) (λ n h. ap is_some (term_of n) ∙ h) (terms_in x.template) known))
           | inr c ↦ elim (entry_found e defs (decl_names defs) made taken env old interned s.stand x.term m.id c.entry m.found c.at) [
-            | inr q ↦ false≢true (sym (ap is_some q.0) ∙ declared v)
-            | inl q ↦ cant_take m.id c.entry q.0 q.1 q.2 q.3 q.4 c.fails v
+            | inr q ↦ extractor_of_none (λ declared. false≢true (sym (ap is_some q.0) ∙ declared))
+            | inl q ↦ cant_take m.id c.entry q.0 q.1 q.2 q.3 q.4 c.fails
           ]
         ]
       ]
@@ -271,25 +259,25 @@ module _ (e : TypesRead) (readable : AreReadable e) (defs read rest : List Defin
       } in
       step e defs (TemplatesRead e defs read callees) (Goes d) env env table table' es es' (Unit {0}) ⊥ s.left w (inl (same.0, tt))
       (λ h _. (same.3, subst (λ cs. TemplatesRead e defs (read ++ d ∷ []) cs env table') (sym same.2) (subst (TemplatesRead e defs (read ++ d ∷ []) callees env) (sym same.1) (go h))))
-      (λ h x _. x) s
+      (λ h x. absurd x) s
 
-  next : (d : Definition) → defs ≡ read ++ d ∷ rest → ReadsIfTemplate d env table callees es table' callees' es' b → ReadsTerms e defs (TemplatesRead e defs read callees) env table es → ReadsTerms e defs (Goes d) env table' es'
-  next (extractor_definition x) whole a s =
+  next : (d : Definition) → defs ≡ read ++ d ∷ rest → ReadsIfTemplate d env table callees es table' callees' es' b → BeginsAt (definition_positions d) es es' → ReadsTerms e defs (TemplatesRead e defs read callees) env table es → ReadsTerms e defs (Goes d) env table' es'
+  next (extractor_definition x) whole a f s =
       step e defs (TemplatesRead e defs read callees) (Goes (extractor_definition x)) env env table table' es es' ((b ≡ true) × IsExtractor x env table table' callees callees') ((term_of_name env table x.term ≡ None) ⊎ IsWrongOfTerm x env table) s.left w a
       (λ h r. (r.0, template_right e readable defs read rest x whole env table callees s.left h table' callees' r.1))
-      (λ h r v. template_wrong e readable defs read rest x whole env table callees s.left h r v) s
-  next (declaration d) whole a s = other (declaration d) refl a s
-  next (type_definition d) whole a s = other (type_definition d) refl a s
-  next (converter_definition d) whole a s = other (converter_definition d) refl a s
-  next (rule_definition d) whole a s = other (rule_definition d) refl a s
-  next (extern_definition d) whole a s = other (extern_definition d) refl a s
-  next other_definition whole a s = other other_definition refl a s
+      (λ h r. record { positions = definition_positions (extractor_definition x); breaks = by_extractor read rest x whole (template_wrong e readable defs read rest x whole env table callees s.left h r); begins = f }) s
+  next (declaration d) whole a f s = other (declaration d) refl a s
+  next (type_definition d) whole a f s = other (type_definition d) refl a s
+  next (converter_definition d) whole a f s = other (converter_definition d) refl a s
+  next (rule_definition d) whole a f s = other (rule_definition d) refl a s
+  next (extern_definition d) whole a f s = other (extern_definition d) refl a s
+  next other_definition whole a f s = other other_definition refl a s
 
 -- after the definition at i
 pub next_template : (e : TypesRead) → AreReadable e → (defs : List Def) (i : ℕ) (d : Def) → i < length defs → d ≡ get_or defs i d → (env : TypeEnv) (table table' : TermTable) (callees callees' : List (Vec TermId Global)) (es es' : List Error) (b : Bool) → IsWithin table'
-    → ReadsIfTemplate (definition_view d) env table callees es table' callees' es' b
+    → ReadsIfTemplate (definition_view d) env table callees es table' callees' es' b → BeginsAt (definition_positions (definition_view d)) es es'
     → ReadsTerms e (definition_views defs) (TemplatesRead e (definition_views defs) (definition_views (take i defs)) callees) env table es
     → ReadsTerms e (definition_views defs) (λ env table. (b ≡ true) × TemplatesRead e (definition_views defs) (definition_views (take (i + 1) defs)) callees' env table) env table' es'
-next_template e r defs i d within here env table table' callees callees' es es' b w a s =
+next_template e r defs i d within here env table table' callees callees' es es' b w a f s =
     subst (λ ds. ReadsTerms e (definition_views defs) (λ env table. (b ≡ true) × TemplatesRead e (definition_views defs) ds callees' env table) env table' es') (sym (taken_next defs i d within here))
-    (next e r (definition_views defs) (definition_views (take i defs)) (definition_views (drop (i + 1) defs)) env table table' callees callees' es es' b w (definition_view d) (around defs i d within here) a s)
+    (next e r (definition_views defs) (definition_views (take i defs)) (definition_views (drop (i + 1) defs)) env table table' callees callees' es es' b w (definition_view d) (around defs i d within here) a f s)

@@ -1,5 +1,5 @@
 -- Names that are met leave the types that are read with.
-use Rattle.std.proofs.Common.{◌≡◌, ◌==◌, Result, Ok, Err, OnOk, OnErr, ℕ, ◌+◌, true, false, cond, List, [], ◌∷◌, ◌++◌, None, slice_get, option_map, Contains, IsTrue, length, refl, sym, ap, subst, ◌∙◌}
+use Rattle.std.proofs.Common.{◌≡◌, ◌==◌, Result, Ok, Err, OnOk, OnErr, ℕ, true, false, cond, List, [], ◌∷◌, ◌++◌, None, slice_get, option_map, Contains, IsTrue, length, refl, sym, ap, subst, ◌∙◌}
 use Rattle.std.proofs.lemmas.Bool.{false≢true}
 use Rattle.std.proofs.lemmas.List.{append_assoc, append-nil}
 use Rattle.std.proofs.lemmas.List.Elements.{All-contains}

@@ -1,9 +1,10 @@
 -- From one group of the reading of terms to the next one, and what stands at the end.
-use Rattle.std.proofs.Common.{◌≡◌, ◌==◌, ◌||◌, ℕ, suc, ◌+◌, ◌<◌, true, false, cond, List, [], ◌∷◌, ◌++◌, length, map, slice_get, Option, None, Some, option_map, Contains, OnOk, Result, Ok, Err, refl, sym, ap, subst, ◌∙◌, arith, inl, ⊎_elim}
+use Rattle.std.proofs.Common.{◌≡◌, ◌==◌, ◌||◌, ℕ, suc, ◌+◌, ◌<◌, true, false, cond, List, [], ◌∷◌, ◌++◌, length, map, slice_get, Option, None, Some, option_map, Contains, refl, sym, ap, subst, ◌∙◌, arith, inl, ⊎_elim}
 use Rattle.std.specs.List.{cons_option, enumerate_from, filter_map, find, flat_map}
 use Rattle.std.specs.Str.{bytes_eq}
 use Rattle.std.proofs.lemmas.Bool.{false≢true}
 use Rattle.std.proofs.lemmas.List.{append-nil}
+use Rattle.std.proofs.lemmas.List.Concat.{flat_map-append}
 use Rattle.std.proofs.lemmas.List.Elements.{All-nil, Contains-append_cases, recursion_from_All}
 use Rattle.isle_laws_lists.proofs.LooksByNumber.{nothing_then, numbered_from}
 use Rattle.isle_model.specs.lists.Syntax.{DeclTree, ExtractorTree, Definition}
@@ -23,20 +24,25 @@ use Rattle.isle_base.specs.Noting.{AreIllTyped}
 use Rattle.isle_base.proofs.Noted.{forms_of, some_views}
 use Rattle.isle_base.specs.declared.syntax.Error.{Error}
 use Rattle.isle_types.specs.declared.type_env.TypeEnv.{TypeEnv}
-use Rattle.isle_types.specs.Envs.{names_of}
+use Rattle.isle_types.specs.Envs.{names_of, IsInterned}
 use Rattle.isle_types.specs.EnvViews.{environment_view}
+use Rattle.isle_types.specs.TypePositions.{entry_positions}
 use Rattle.isle_types.specs.TypeViews.{type_views}
 use Rattle.isle_terms.specs.declared.term_table.TermTable.{TermTable}
+use Rattle.isle_terms.specs.TermBreaches.{by_made, FirstBreaksTerms}
 use Rattle.isle_terms.specs.TermTables.{term_at}
 use Rattle.isle_terms.specs.TermViews.{term_view}
 use Rattle.isle_terms.specs.Reading.{IsWithin}
 use Rattle.isle_terms.specs.Stages.{HasNoConverter, constructor_after, place_among}
-use Rattle.isle_terms.specs.Signing.{with_ids, declared_so_far, declared_alone, AddsMade, AreTaken, Declaring, GrowsBy, NumbersAreMet, ReadsTerms}
+use Rattle.isle_terms.specs.Signing.{with_ids, declared_so_far, declared_alone, texts_at, AddsAllMade, Declaring, GrowsBy, NumbersAreMet, ReadsTerms, TakesNames}
 use Rattle.isle_terms.specs.Standing.{RootsRead}
 use Rattle.isle_terms.specs.Converting.{type_by_id, ConvertersRead, template_after}
 use Rattle.isle_terms.specs.ExternStages.{external_after, function_after, ExternsRead}
 use Rattle.isle_terms.specs.Recursion.{ExtractorsRead}
 use Rattle.isle_terms.specs.Whole.{shown_by}
+use Rattle.isle_terms.proofs.Breaches.{Breach}
+use Rattle.isle_terms.proofs.Broken.{breaks_invalid}
+use Rattle.isle_terms.proofs.Making.{met_left, met_right, texts_behind}
 use Rattle.isle_terms.proofs.Noting.{reads_as, step}
 use Rattle.isle_terms.proofs.TypesStaying.{left_distinct, left_interned}
 
@@ -66,27 +72,55 @@ first_declared e defs env table es r terms ids converters none = record {
 made_met : (e : TypesRead) → IsWellFormed e.known → NumbersAreMet e (flat_map made_by e.known.types)
 made_met e w = all_made_only (λ n. n < length e.known.names) e.known.types (recursion_from_All (λ n. n < length e.known.names) (flat_map entry_numbers e.known.types) w.numbers_in_range)
 
+-- a type whose terms have a name that is taken
+made_broken : (e : TypesRead) → AreReadable e → (defs : List Definition) (env : TypeEnv) (old : TermTable) (es es' : List Error) → IsInterned env → Declaring e defs defs env old → TakesNames e.known.types old es es' → Breach e.known defs es es'
+made_broken e readable defs env old es es' i h t =
+    let front : List ℕ = flat_map made_by t.before in
+    let numbers = ap (flat_map made_by) t.whole ∙ flat_map-append made_by t.before (t.entry ∷ t.after) in
+    let met : NumbersAreMet e (front ++ (made_by t.entry ++ flat_map made_by t.after)) = subst (NumbersAreMet e) numbers (made_met e readable.well_formed) in
+    let met_here : NumbersAreMet e (made_by t.entry) = met_left e (made_by t.entry) (flat_map made_by t.after) (met_right e front (made_by t.entry ++ flat_map made_by t.after) met) in
+    let names : List (List ℕ) = decl_names defs in
+    let fs : List (ℕ → TermEntry) = map (declared_alone e defs) (decl_trees defs) in
+    let grown = t.grows e names names fs env i (met_left e front (made_by t.entry ++ flat_map made_by t.after) met) h.has in
+    let b = t.taken e names (names ++ texts_at e front) (fs ++ flat_map terms_made t.before) env i met_here grown in
+    record {
+      positions = entry_positions t.entry;
+      breaks = by_made t.before t.after t.entry t.whole (record {
+        earlier = b.earlier;
+        number = b.number;
+        later = b.later;
+        makes = b.is;
+        name = b.name;
+        name_is = b.name_is;
+        taken = subst (λ l. Contains l b.name) (texts_behind e names front b.earlier) b.taken;
+      });
+      begins = t.begins;
+    }
+
 -- after the terms that types make
 pub made_after : (e : TypesRead) → AreReadable e → (defs : List Definition) (env : TypeEnv) (table table' : TermTable) (es es' : List Error) → IsWithin table'
-    → AddsMade (flat_map made_by (type_views env.types.items)) (flat_map terms_made (type_views env.types.items)) table es table' es'
+    → AddsAllMade (type_views env.types.items) table es table' es'
     → ReadsTerms e defs (Declaring e defs defs) env table es → ReadsTerms e defs (RootsRead e defs []) env table' es'
 made_after e readable defs env table table' es es' w a s =
     let ts : List TypeEntry = e.known.types in
-    let b : AddsMade (flat_map made_by ts) (flat_map terms_made ts) table es table' es' = subst (λ l. AddsMade (flat_map made_by l) (flat_map terms_made l) table es table' es') s.left.types.types a in
-    let met : NumbersAreMet e (flat_map made_by ts) = made_met e readable.well_formed in
-    step e defs (Declaring e defs defs) (RootsRead e defs []) env env table table' es es' (GrowsBy (flat_map made_by ts) (flat_map terms_made ts) table table') (AreTaken (flat_map made_by ts) table) s.left w b
+    let b : AddsAllMade ts table es table' es' = subst (λ l. AddsAllMade l table es table' es') s.left.types.types a in
+    let interned : IsInterned env = left_interned e readable env s.left in
+    step e defs (Declaring e defs defs) (RootsRead e defs []) env env table table' es es' (GrowsBy (flat_map made_by ts) (flat_map terms_made ts) table table') (TakesNames ts table es es') s.left w b
     (λ h g.
-    let grown = g e (decl_names defs) (decl_names defs) (map (declared_alone e defs) (decl_trees defs)) env (left_interned e readable env s.left) met h.has in
+    let grown = g e (decl_names defs) (decl_names defs) (map (declared_alone e defs) (decl_trees defs)) env interned (made_met e readable.well_formed) h.has in
     record {
       stand = record { names = grown.names; finds = grown.finds; distinct = grown.distinct; right = h.right; terms = grown.terms };
       roots = All-nil _;
       converters = grown.converters;
     })
-    (λ h t v. t e (decl_names defs) (decl_names defs) (map (declared_alone e defs) (decl_trees defs)) env (left_interned e readable env s.left) met h.has v.distinct) s
+    (λ h t. made_broken e readable defs env table es es' interned h t) s
+
+not_first : (es : List Error) (first : Error) (rest : List Error) → es ≡ [] → es ≡ first ∷ rest → ⊥
+not_first es first rest none is = let both : [] ≡ first ∷ rest = sym none ∙ is in absurd (cc)
 
 -- what is right where nothing was noted
 pub right_now : (e : TypesRead) (defs : List Definition) (A : TypeEnv → TermTable → Type 0) (env : TypeEnv) (table : TermTable) (es : List Error) → ReadsTerms e defs A env table es → es ≡ [] → A env table
-right_now e defs A env table es s none = ⊎_elim (λ r. r.1) (λ w. absurd (w.0 none)) s.so_far
+right_now e defs A env table es s none = ⊎_elim (λ r. r.1) (λ f. absurd (not_first es f.first f.rest none f.is)) s.so_far
 
 same_entries : (f g : DeclTree → ℕ → TermEntry) (fs : List (ℕ → TermEntry)) → ((d : DeclTree) (i : ℕ) → f d i ≡ g d i) → (n : ℕ) (ds : List DeclTree) → with_ids n (map f ds ++ fs) ≡ with_ids n (map g ds ++ fs)
 same_entries f g fs h n [] = refl
@@ -203,13 +237,18 @@ all_read e readable defs env old table before left x cr s = (valid, record { val
     types : IsReadAs (environment_view env) (with_read_names e (term_names_met e.known defs))
     types = subst (λ ns. IsReadAs (environment_view env) (with_read_names e ns)) (sym left.types.names ∙ s.stand.names) left.types
 
--- errors after one of the groups: why the definitions are refused
+-- errors after one of the groups: the first one stands where a condition is broken
+pub first_broken : (e : TypesRead) (defs : List Definition) (A : TypeEnv → TermTable → Type 0) (env : TypeEnv) (table : TermTable) (es : List Error) → ReadsTerms e defs A env table es → (length es ≡ 0 → ⊥) → FirstBreaksTerms e.known defs es
+first_broken e defs A env table es s some = ⊎_elim (λ r. absurd (some (ap length r.0))) (λ f. f) s.so_far
+
+-- so there are some, and the definitions aren't valid
+pub not_read : (e : TypesRead) (defs : List Definition) (A : TypeEnv → TermTable → Type 0) (env : TypeEnv) (table : TermTable) (es : List Error) → ReadsTerms e defs A env table es → (length es ≡ 0 → ⊥) → (es ≡ [] → ⊥) × (IsValidTerms e.known defs → ⊥)
+not_read e defs A env table es s some =
+    let first = first_broken e defs A env table es s some in
+    (λ none. some (ap length none), breaks_invalid e.known defs first.positions first.breaks)
+
+-- and are refused
 pub why_refused : (e : TypesRead) (defs : List Definition) (A : TypeEnv → TermTable → Type 0) (env : TypeEnv) (table : TermTable) (es : List Error) → ReadsTerms e defs A env table es → (length es ≡ 0 → ⊥) → RefusesTerms e defs (error_views es)
 why_refused e defs A env table es s some =
-    let noted : es ≡ [] → ⊥ = λ none. some (ap length none) in
-    record { some_error = some_views es noted; forms = forms_of es s.ill_typed; not_valid = ⊎_elim (λ r. absurd (noted r.0)) (λ w. w.1) s.so_far }
-
--- two facts of what was answered
-pub both_ok : {T E : Type 0} (r : Result T E) (A B C : Type 0) → (A → B → C) → OnOk r A → OnOk r B → OnOk r C
-both_ok (Ok x) A B C f a b = f a b
-both_ok (Err x) A B C f a b = tt
+    let n = not_read e defs A env table es s some in
+    record { some_error = some_views es n.0; forms = forms_of es s.ill_typed; not_valid = n.1 }

@@ -13,3 +13,4 @@ pub mod Templating
 pub mod Recursion
 pub mod Whole
 pub mod TermPositions
+pub mod TermBreaches

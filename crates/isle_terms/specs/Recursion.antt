@@ -1,16 +1,19 @@
 -- Whether templates come back to themselves, by the terms that each names, and how far the search for it is.
 use Rattle.std.specs.Prelude.{◌≡◌, ℕ, ◌+◌, ◌-◌, ◌<◌, ◌⊎◌, Bool, true, false, nat_eq, cond, List, [], ◌∷◌, ◌++◌, length, map, take, replicate, set, sum_by, Option, None, Some, All, Contains, IfSome, slice_get, Vec, ⊤}
 use Rattle.std.specs.declared.alloc.Global.{Global}
-use Rattle.isle_model.specs.lists.Syntax.{Definition}
+use Rattle.isle_model.specs.lists.Syntax.{Position, Definition}
 use Rattle.isle_model.specs.lists.Tables.{ExtractorEntry, internal_extractor, external_extractor, TermKindEntry, variant_term, struct_term, declared_term, TermEntry}
 use Rattle.isle_model.specs.lists.TermTable.{decl_names, rule_trees, extractor_trees, HasDeclaredRoot, IsAcyclic}
 use Rattle.isle_model.specs.claims.Environments.{TypesRead}
+use Rattle.isle_base.specs.declared.syntax.Error.{Error}
 use Rattle.isle_types.specs.declared.ids.TermId.{TermId}
 use Rattle.isle_types.specs.declared.type_env.TypeEnv.{TypeEnv}
 use Rattle.isle_terms.specs.declared.reading.recursion.Mark.{Mark}
 use Rattle.isle_terms.specs.declared.reading.recursion.Mark.TheVariants.{Unmet, Met, Ends}
 use Rattle.isle_terms.specs.declared.reading.recursion.Search.{Search}
 use Rattle.isle_terms.specs.declared.term_table.TermTable.{TermTable}
+use Rattle.isle_terms.specs.TermBreaches.{BeginsAt}
+use Rattle.isle_terms.specs.TermPositions.{template_place}
 use Rattle.isle_terms.specs.TermViews.{term_views}
 use Rattle.isle_terms.specs.Stages.{HasNoConverter, constructor_after}
 use Rattle.isle_terms.specs.Standing.{Stand}
@@ -26,10 +29,19 @@ pub data Comes (callees : List (Vec TermId Global)) : ℕ → ℕ → Type 0 whe
 pub data HasEnd (callees : List (Vec TermId Global)) : ℕ → Type 0 where
   all_end : {t : ℕ} → ((u : ℕ) → Contains (callees_of callees t) u → HasEnd callees u) → HasEnd callees t
 
--- a term comes back to itself
-pub record ComesBack (callees : List (Vec TermId Global)) : Type 0 where
+-- a term comes back to itself, and its template stands here
+pub record ComesBack (table : TermTable) (callees : List (Vec TermId Global)) (at : Position) : Type 0 where
   pub term : ℕ
   pub comes : Comes callees term term
+  pub entry : TermEntry
+  pub entry_is : slice_get (term_views table.terms.items) term ≡ Some entry
+  pub place : template_place entry.kind ≡ Some at
+
+-- where there was no error, the first one now stands at the template of a term that comes back to itself
+pub record NotesReturn (table : TermTable) (callees : List (Vec TermId Global)) (es es' : List Error) : Type 0 where
+  pub at : Position
+  pub back : ComesBack table callees at
+  pub begins : BeginsAt (at ∷ []) es es'
 
 -- the terms that are named are told of too
 abbrev pub AreWithin : List (Vec TermId Global) → Type 0

@@ -1,13 +1,13 @@
 -- How far the reading of terms by types that are handed in is, while the terms themselves are collected: the declared ones,
 -- and those that types make.
-use Rattle.std.specs.Prelude.{◌≡◌, ◌≢◌, ℕ, ◌<◌, ◌&&◌, true, nat_eq, if◌then◌else◌, List, [], ◌∷◌, ◌++◌, ◌⊎◌, length, map, Option, None, Some, All, slice_get}
-use Rattle.std.specs.List.{enumerate_from, filter_map, AllByRecursion}
+use Rattle.std.specs.Prelude.{◌≡◌, ℕ, ◌<◌, ◌&&◌, true, nat_eq, if◌then◌else◌, List, [], ◌∷◌, ◌++◌, ◌⊎◌, length, map, Option, None, Some, All, Contains, slice_get}
+use Rattle.std.specs.List.{enumerate_from, filter_map, flat_map, AllByRecursion}
 use Rattle.isle_model.specs.lists.Syntax.{Position, DeclTree, Definition, declaration}
 use Rattle.isle_model.specs.lists.Names.{number, with_names, IsDistinct}
-use Rattle.isle_model.specs.lists.Tables.{FieldEntries, ConstructorEntry, ExtractorEntry, TermKindEntry, declared_term, TermEntry}
+use Rattle.isle_model.specs.lists.Tables.{FieldEntries, TypeEntry, ConstructorEntry, ExtractorEntry, TermKindEntry, declared_term, TermEntry}
 use Rattle.isle_model.specs.rules.Values.{field_types}
 use Rattle.isle_model.specs.lists.KnownTypes.{KnownTypes, known_type}
-use Rattle.isle_model.specs.lists.TermTable.{decl_trees, decl_names, decl_flags, term_names_met, HasKnownArguments, HasKnownResult, IsNotBothMultiAndPartial, IsValidTerms}
+use Rattle.isle_model.specs.lists.TermTable.{decl_trees, decl_names, decl_flags, made_by, term_names_met, terms_made, HasKnownArguments, HasKnownResult, IsNotBothMultiAndPartial}
 use Rattle.isle_model.specs.claims.Environments.{TypesRead, IsLeftByRefusal}
 use Rattle.isle_base.specs.declared.syntax.Error.{Error}
 use Rattle.isle_types.specs.declared.type_env.TypeEnv.{TypeEnv}
@@ -15,6 +15,8 @@ use Rattle.isle_types.specs.Envs.{names_of, IsInterned}
 use Rattle.isle_types.specs.EnvViews.{environment_view}
 use Rattle.isle_base.specs.Noting.{AreIllTyped, NotesMore}
 use Rattle.isle_terms.specs.declared.term_table.TermTable.{TermTable}
+use Rattle.isle_types.specs.TypePositions.{entry_positions}
+use Rattle.isle_terms.specs.TermBreaches.{BeginsAt, FirstBreaksTerms}
 use Rattle.isle_terms.specs.TermTables.{term_at}
 use Rattle.isle_terms.specs.TermViews.{term_views}
 use Rattle.isle_terms.specs.Reading.{IsWithin, Interns, AddsTerm, IsTakenByTerm, HasUnknown}
@@ -24,9 +26,9 @@ use Rattle.isle_terms.specs.Stages.{Finds, place_among, HasNoConverter}
 abbrev pub Notes : List Error → List Error → Type 0 → Type 0 → Type 0
 Notes es es' Right Wrong = ((es' ≡ es) × Right) ⊎ (NotesMore es es' × Wrong)
 
--- there is no error so far, or the definitions, read with these types, have no term table
+-- there is no error so far, or the first one stands where a condition is broken
 abbrev pub SoFarByTypes : KnownTypes → List Definition → List Error → Type 0 → Type 0
-SoFarByTypes k defs es Right = ((es ≡ []) × Right) ⊎ ((es ≢ []) × (IsValidTerms k defs → ⊥))
+SoFarByTypes k defs es Right = ((es ≡ []) × Right) ⊎ FirstBreaksTerms k defs es
 
 -- names were met and all else of the types stays; looked-up terms are terms of the table; each error says that
 -- something isn't right; and where there is no error the table is right so far
@@ -121,12 +123,38 @@ GrowsBy numbers gs old new =
     (e : TypesRead) (met named : List (List ℕ)) (fs : List (ℕ → TermEntry)) (env : TypeEnv) → IsInterned env → NumbersAreMet e numbers
     → HoldsTerms e met named fs env old → HoldsTerms e met (named ++ texts_at e numbers) (fs ++ gs) env new
 
+-- one of the names of these numbers is among those before, or stands twice among them
+pub record StandsTwice (e : TypesRead) (named : List (List ℕ)) (numbers : List ℕ) : Type 0 where
+  pub earlier : List ℕ
+  pub number : ℕ
+  pub later : List ℕ
+  pub is : numbers ≡ earlier ++ number ∷ later
+  pub name : List ℕ
+  pub name_is : slice_get e.known.names number ≡ Some name
+  pub taken : Contains (named ++ texts_at e earlier) name
+
 -- one of the names of these numbers is a term's already, or stands twice among them
 abbrev pub AreTaken : List ℕ → TermTable → Type 0
 AreTaken numbers old =
     (e : TypesRead) (met named : List (List ℕ)) (fs : List (ℕ → TermEntry)) (env : TypeEnv) → IsInterned env → NumbersAreMet e numbers
-    → HoldsTerms e met named fs env old → IsDistinct (named ++ texts_at e numbers) → ⊥
+    → HoldsTerms e met named fs env old → StandsTwice e named numbers
 
 -- the terms that a type makes are added, or one has a name that is taken
 abbrev pub AddsMade : List ℕ → List (ℕ → TermEntry) → TermTable → List Error → TermTable → List Error → Type 0
 AddsMade numbers gs old es new es' = Notes es es' (GrowsBy numbers gs old new) (AreTaken numbers old)
+
+-- after the terms of some of these types are added, the next one makes a term whose name is taken, and the first error stands
+-- at that type
+pub record TakesNames (types : List TypeEntry) (old : TermTable) (es es' : List Error) : Type 0 where
+  pub before : List TypeEntry
+  pub entry : TypeEntry
+  pub after : List TypeEntry
+  pub whole : types ≡ before ++ entry ∷ after
+  pub mid : TermTable
+  pub grows : GrowsBy (flat_map made_by before) (flat_map terms_made before) old mid
+  pub taken : AreTaken (made_by entry) mid
+  pub begins : BeginsAt (entry_positions entry) es es'
+
+-- the terms that these types make are added, or one has a name that is taken
+abbrev pub AddsAllMade : List TypeEntry → TermTable → List Error → TermTable → List Error → Type 0
+AddsAllMade types old es new es' = Notes es es' (GrowsBy (flat_map made_by types) (flat_map terms_made types) old new) (TakesNames types old es es')

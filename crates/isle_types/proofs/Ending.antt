@@ -17,7 +17,9 @@ use Rattle.isle_laws_lists.proofs.TypeLaws.{names_later, type_names_distinct, la
 use Rattle.isle_types.specs.declared.type_env.TypeEnv.{TypeEnv}
 use Rattle.isle_types.specs.Envs.{symbol_of, IsInterned}
 use Rattle.isle_types.specs.Stages.{names_in_types, constant_names, last_type, TypingConstants, ReadsConstants}
+use Rattle.isle_types.specs.TypeBreaches.{FirstBreaksTypes}
 use Rattle.isle_types.specs.TypeTables.{SeesTypes}
+use Rattle.isle_types.proofs.FirstBreaches.{first_invalid}
 use Rattle.isle_types.proofs.RightTypes.{types_valid}
 
 -- no constant has a number past the names
@@ -64,11 +66,18 @@ module _ (defs : List Definition) (env : TypeEnv) where
   }
 
   module _ (es : List Error) (s : ReadsConstants defs [] env es) where
+    no_first : es ≡ [] → FirstBreaksTypes defs es → ⊥
+    no_first none first = absurd (let some = sym none ∙ first.is in cc)
+
     pub at_ok : es ≡ [] → IsValidTypes defs × SeesTypes env defs (type_names_met defs)
-    at_ok none = ⊎_elim (λ right. (valid_of right.1, sees_of right.1 s.inverse)) (λ wrong. absurd (wrong.0 none)) s.so_far
+    at_ok none = ⊎_elim (λ right. (valid_of right.1, sees_of right.1 s.inverse)) (λ first. absurd (no_first none first)) s.so_far
+
+    -- the first error stands at a definition that breaks a condition
+    pub at_breach : es ≢ [] → FirstBreaksTypes defs es
+    at_breach some = ⊎_elim (λ right. absurd (some right.0)) (λ first. first) s.so_far
 
     pub at_err : es ≢ [] → IsValidTypes defs → ⊥
-    at_err some v = ⊎_elim (λ right. some right.0) (λ wrong. wrong.1 v) s.so_far
+    at_err some v = first_invalid defs es (at_breach some) v
 
     pub why_refused : es ≢ [] → RefusesTypes defs (error_views es)
     why_refused some = record { some_error = some_views es some; forms = forms_of es s.ill_typed; not_valid = at_err some }

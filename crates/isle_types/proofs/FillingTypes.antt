@@ -1,28 +1,32 @@
 -- Reading what the types are, one definition after another.
-use Rattle.std.proofs.Common.{◌≡◌, ◌≢◌, ℕ, zero, suc, ◌+◌, ◌<◌, List, [], ◌∷◌, ◌++◌, length, drop, get_or, map, All, IsTrue, refl, sym, ap, subst, ◌∙◌, inl, inr, ◌⊎◌, ⊎_elim}
+use Rattle.std.proofs.Common.{◌≡◌, ℕ, zero, suc, ◌+◌, ◌<◌, List, [], ◌∷◌, ◌++◌, length, drop, get_or, map, All, Contains, IsTrue, refl, sym, ap, subst, ◌∙◌, inl, inr, ◌⊎◌, ⊎_elim}
 use Rattle.std.specs.List.{flat_map}
 use Rattle.std.proofs.lemmas.List.{append_assoc, append-nil, at_drop_more, length_push, length-map, map_push, map-append}
-use Rattle.std.proofs.lemmas.List.Elements.{All-nil, All-cons, All-head, All-tail}
+use Rattle.std.proofs.lemmas.List.Elements.{All-nil, All-cons, All-head}
 use Rattle.isle_model.specs.lists.Syntax.{TypeTree, Definition, type_definition, declaration, extractor_definition, converter_definition, rule_definition, extern_definition, other_definition}
 use Rattle.isle_model.specs.lists.Names.{has_name, with_names, IsDistinct}
 use Rattle.isle_model.specs.lists.Tables.{TypeEntry}
-use Rattle.isle_model.specs.lists.TypeTable.{builtin_names, type_of, type_trees, type_names, all_type_names, names_inside, type_names_met, type_entry, type_table, IsValidTypes}
+use Rattle.isle_model.specs.lists.TypeTable.{builtin_names, type_of, type_trees, type_names, all_type_names, names_inside, type_names_met, type_entry, type_table}
 use Rattle.isle_base.specs.declared.syntax.Def.{Def}
 use Rattle.isle_base.specs.declared.syntax.Error.{Error}
 use Rattle.isle_base.specs.SyntaxViews.{definition_view, definition_views}
-use Rattle.isle_base.proofs.Noted.{some_noted, still_ill_typed}
+use Rattle.isle_base.proofs.Noted.{still_ill_typed}
 use Rattle.isle_types.specs.declared.type_env.TypeEnv.{TypeEnv}
 use Rattle.isle_types.specs.declared.types.Type as T
 use Rattle.isle_types.specs.Envs.{names_of, IsInterned}
 use Rattle.isle_base.specs.Noting.{AreIllTyped, NotesMore, MayNoteMore}
+use Rattle.isle_base.specs.Positions.{NotesAt, definition_positions}
 use Rattle.isle_types.specs.Reading.{MeetsNames, IsRightType}
 use Rattle.isle_types.specs.Stages.{Sees, SoFarOfTypes, Naming, NamesTypes, names_in_types, constant_names, entries_from, AreMet, Filling, FillsTypes}
+use Rattle.isle_types.specs.TypeBreaches.{isnt_right, FirstBreaksTypes}
 use Rattle.isle_types.specs.TypeViews.{type_view, type_views}
 use Rattle.isle_types.specs.VariantReading.{FillsType, FillsDefinition}
 use Rattle.isle_types.proofs.EntriesStay.{AllMet, met_more, met_self, type_stays}
 use Rattle.isle_types.proofs.NamesMet.{sees_after}
-use Rattle.isle_types.proofs.RightTypes.{all_left, all_right, types_right}
+use Rattle.isle_types.proofs.RightTypes.{all_left, all_right}
+use Rattle.isle_model.proofs.Members.{in_map}
 use Rattle.isle_model.proofs.Names.{with_names_append}
+use Rattle.isle_types.proofs.FirstBreaches.{first_noted, first_stays}
 use Rattle.isle_types.proofs.SoFar.{reads_on}
 
 -- one more entry, where what follows depends on how many there are
@@ -77,11 +81,7 @@ module _ (defs rest : List Definition) (t : TypeTree) (old : TypeEnv) (n : Filli
       names = names_left;
       types = push_entry (type_views old.types.items) (type_views new.types.items) _ _ (λ k. entries_from defs k (type_trees rest)) (type_table defs) f.types same_entry n.types;
       right = λ h. n.right (All-cons (IsRightType defs) t (type_trees rest) f.right h);
-      left = λ h. All-tail (IsRightType defs) t (type_trees rest) (n.left h);
     }
-
-  pub fill_wrong : (IsRightType defs t → ⊥) → IsValidTypes defs → ⊥
-  fill_wrong w v = w (All-head (IsRightType defs) t (type_trees rest) (n.left (types_right defs v)))
 
 -- after a definition that isn't one of a type
 fill_other : (defs rest rest' : List Definition) (env : TypeEnv) → type_trees rest' ≡ type_trees rest → Filling defs rest env → Filling defs rest' env
@@ -92,38 +92,37 @@ fill_other defs rest rest' env same n = record {
   names = ap (λ ts. with_names (names_of env) (flat_map (λ t. names_inside t.name.text t.value) ts ++ constant_names defs)) same ∙ n.names;
   types = ap (λ ts. type_views env.types.items ++ entries_from defs (length (type_views env.types.items)) ts) same ∙ n.types;
   right = λ h. n.right (subst (All (IsRightType defs)) same h);
-  left = λ h. subst (All (IsRightType defs)) (sym same) (n.left h);
 }
 
 -- what a definition leaves, where nothing was wrong before it
 abbrev Leaves : List Definition → List Definition → TypeEnv → List Error → Type 0
 Leaves defs rest new es' = SoFarOfTypes defs es' (Filling defs rest new)
 
-leave_type : (defs rest : List Definition) (t : TypeTree) (old new : TypeEnv) (es es' : List Error) → es ≡ [] → Filling defs (type_definition t ∷ rest) old → AreMet old (t.name.text ∷ []) → ((es' ≡ es) × FillsType defs t old new) ⊎ (NotesMore es es' × (IsRightType defs t → ⊥)) → Leaves defs rest new es'
-leave_type defs rest t old new es es' none n own (inl a) =
+leave_type : (defs rest : List Definition) (t : TypeTree) → Contains defs (type_definition t) → (old new : TypeEnv) (es es' : List Error) → es ≡ [] → NotesAt (definition_positions (type_definition t)) es es' → Filling defs (type_definition t ∷ rest) old → AreMet old (t.name.text ∷ []) → ((es' ≡ es) × FillsType defs t old new) ⊎ (NotesMore es es' × (IsRightType defs t → ⊥)) → Leaves defs rest new es'
+leave_type defs rest t here old new es es' none notes n own (inl a) =
     inl (a.0 ∙ none, fill_right defs rest t old n (All-head (λ x. IsTrue (has_name (names_of old) x)) t.name.text [] own) new a.1)
-leave_type defs rest t old new es es' none n own (inr a) = inr (some_noted a.0, fill_wrong defs rest t old n a.1)
+leave_type defs rest t here old new es es' none notes n own (inr a) = inr (first_noted defs (type_definition t) es es' none a.0 notes (isnt_right t here a.1))
 
 leave_other : (defs rest : List Definition) (d : Definition) (old new : TypeEnv) (es es' : List Error) → type_trees rest ≡ type_trees (d ∷ rest) → es ≡ [] → Filling defs (d ∷ rest) old → (es' ≡ es) × (new ≡ old) → Leaves defs rest new es'
 leave_other defs rest d old new es es' same none n a =
     inl (a.0 ∙ none, subst (Filling defs rest) (sym a.1) (fill_other defs (d ∷ rest) rest old same n))
 
-leave : (defs rest : List Definition) (d : Definition) (old new : TypeEnv) (es es' : List Error) → es ≡ [] → Filling defs (d ∷ rest) old → AreMet old (type_names (d ∷ [])) → FillsDefinition defs d old es new es' → Leaves defs rest new es'
-leave defs rest (type_definition t) old new es es' none n own a = leave_type defs rest t old new es es' none n own a
-leave defs rest (declaration d) old new es es' none n own a = leave_other defs rest (declaration d) old new es es' refl none n a
-leave defs rest (extractor_definition d) old new es es' none n own a = leave_other defs rest (extractor_definition d) old new es es' refl none n a
-leave defs rest (converter_definition d) old new es es' none n own a = leave_other defs rest (converter_definition d) old new es es' refl none n a
-leave defs rest (rule_definition d) old new es es' none n own a = leave_other defs rest (rule_definition d) old new es es' refl none n a
-leave defs rest (extern_definition d) old new es es' none n own a = leave_other defs rest (extern_definition d) old new es es' refl none n a
-leave defs rest other_definition old new es es' none n own a = leave_other defs rest other_definition old new es es' refl none n a
+leave : (defs rest : List Definition) (d : Definition) → Contains defs d → (old new : TypeEnv) (es es' : List Error) → es ≡ [] → NotesAt (definition_positions d) es es' → Filling defs (d ∷ rest) old → AreMet old (type_names (d ∷ [])) → FillsDefinition defs d old es new es' → Leaves defs rest new es'
+leave defs rest (type_definition t) here old new es es' none notes n own a = leave_type defs rest t here old new es es' none notes n own a
+leave defs rest (declaration d) here old new es es' none notes n own a = leave_other defs rest (declaration d) old new es es' refl none n a
+leave defs rest (extractor_definition d) here old new es es' none notes n own a = leave_other defs rest (extractor_definition d) old new es es' refl none n a
+leave defs rest (converter_definition d) here old new es es' none notes n own a = leave_other defs rest (converter_definition d) old new es es' refl none n a
+leave defs rest (rule_definition d) here old new es es' none notes n own a = leave_other defs rest (rule_definition d) old new es es' refl none n a
+leave defs rest (extern_definition d) here old new es es' none notes n own a = leave_other defs rest (extern_definition d) old new es es' refl none n a
+leave defs rest other_definition here old new es es' none notes n own a = leave_other defs rest other_definition old new es es' refl none n a
 
 ill_typed_after : (es es' : List Error) → MayNoteMore es es' → AreIllTyped es → AreIllTyped es'
 ill_typed_after es es' (inl e) h = subst AreIllTyped (sym e) h
 ill_typed_after es es' (inr r) h = still_ill_typed r h
 
-some_after : (es es' : List Error) → MayNoteMore es es' → es ≢ [] → es' ≢ []
-some_after es es' (inl e) h = λ none. h (sym e ∙ none)
-some_after es es' (inr r) h = some_noted r
+first_after : (defs : List Definition) (es es' : List Error) → MayNoteMore es es' → FirstBreaksTypes defs es → FirstBreaksTypes defs es'
+first_after defs es es' (inl e) b = subst (FirstBreaksTypes defs) (sym e) b
+first_after defs es es' (inr r) b = first_stays defs es es' r b
 
 -- the names of the types of the definitions from a place on were met, where all were
 module _ (env : TypeEnv) where
@@ -148,8 +147,8 @@ module _ (env : TypeEnv) where
       met_from i defs (all_right Met (named (definition_view d)) (type_names (definition_views defs)) (split (definition_view d) (definition_views defs) h))
 
 -- after the definition at i
-pub next_type : (defs : List Def) (i : ℕ) (d : Def) → i < length defs → d ≡ get_or defs i d → (old new : TypeEnv) (es es' : List Error) → IsInterned new → FillsTypes (definition_views defs) (definition_views (drop i defs)) old es → MayNoteMore es es' → ((all : List Definition) → Sees old (all_type_names all) → AreMet old (type_names (definition_view d ∷ [])) → FillsDefinition all (definition_view d) old es new es') → FillsTypes (definition_views defs) (definition_views (drop (i + 1) defs)) new es'
-next_type defs i d within at old new es es' inverse s noted step =
+pub next_type : (defs : List Def) (i : ℕ) (d : Def) → i < length defs → d ≡ get_or defs i d → (old new : TypeEnv) (es es' : List Error) → IsInterned new → FillsTypes (definition_views defs) (definition_views (drop i defs)) old es → MayNoteMore es es' → NotesAt (definition_positions (definition_view d)) es es' → ((all : List Definition) → Sees old (all_type_names all) → AreMet old (type_names (definition_view d ∷ [])) → FillsDefinition all (definition_view d) old es new es') → FillsTypes (definition_views defs) (definition_views (drop (i + 1) defs)) new es'
+next_type defs i d within at old new es es' inverse s noted notes step =
     let rest = definition_views (drop (i + 1) defs) in
     let left : definition_views (drop i defs) ≡ definition_view d ∷ rest =
     at_drop_more definition_views defs i d within ∙ ap (λ x. definition_view x ∷ rest) (sym at) in
@@ -163,8 +162,8 @@ next_type defs i d within at old new es es' inverse s noted step =
           let all : AreMet old (type_names (definition_views defs)) = all_right (Met old) builtin_names (type_names (definition_views defs)) right.1.met in
           let here : AreMet old (type_names (definition_view d ∷ rest)) = subst (λ ds. AreMet old (type_names ds)) left (met_from old i defs all) in
           let own = met_first old (definition_view d) rest here in
-          leave (definition_views defs) rest (definition_view d) old new es es' right.0 right.1 own (step (definition_views defs) right.1.sees own))
-          (λ wrong. inr (some_after es es' noted wrong.0, wrong.1)) before;
+          leave (definition_views defs) rest (definition_view d) (in_map definition_view defs d (i, within, sym at)) old new es es' right.0 notes right.1 own (step (definition_views defs) right.1.sees own))
+          (λ wrong. inr (first_after (definition_views defs) es es' noted wrong)) before;
     }
 
 start : (defs : List Definition) (env : TypeEnv) → Naming defs [] env → Filling defs defs env
@@ -180,7 +179,6 @@ start defs env n =
           ∙ ap (with_names builtin_names) (sym (append_assoc (type_names defs) (names_in_types defs) (constant_names defs)));
       types = ap (λ es. es ++ entries_from defs (length es) (type_trees defs)) n.types;
       right = λ h. h;
-      left = λ h. h;
     }
 
 -- before the first definition

@@ -23,3 +23,4 @@ pub mod FillingTypes
 pub mod Reducing
 pub mod PlacesNoted
 pub mod TablePositions
+pub mod FirstBreaches

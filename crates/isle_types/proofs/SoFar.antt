@@ -1,13 +1,15 @@
 -- Reading goes on from one environment to the next: nothing was noted, or an error was.
 use Rattle.std.proofs.Common.{◌≡◌, List, sym, subst, ◌∙◌, inl, inr, ⊎_elim}
 use Rattle.isle_model.specs.lists.Syntax.{Definition}
-use Rattle.isle_model.specs.lists.TypeTable.{IsValidTypes}
 use Rattle.isle_base.specs.declared.syntax.Error.{Error}
 use Rattle.isle_types.specs.declared.type_env.TypeEnv.{TypeEnv}
-use Rattle.isle_base.proofs.Noted.{some_noted, still_ill_typed}
+use Rattle.isle_base.proofs.Noted.{still_ill_typed}
 use Rattle.isle_types.specs.Envs.{IsInterned}
 use Rattle.isle_base.specs.Noting.{NotesMore}
+use Rattle.isle_base.specs.Positions.{NotesAt, definition_positions}
 use Rattle.isle_types.specs.Stages.{ReadsSoFar}
+use Rattle.isle_types.specs.TypeBreaches.{BreaksTypes, FirstBreaksTypes}
+use Rattle.isle_types.proofs.FirstBreaches.{first_noted, first_stays}
 
 module _ (defs : List Definition) (A B : TypeEnv → Type 0) (old new : TypeEnv) (es es' : List Error) (i : IsInterned new) where
   -- what was right of the old environment makes this right of the new one
@@ -15,15 +17,15 @@ module _ (defs : List Definition) (A B : TypeEnv → Type 0) (old new : TypeEnv)
   reads_on same right s = record {
     inverse = i;
     ill_typed = rw same s.ill_typed;
-    so_far = ⊎_elim (λ r. inl (same ∙ r.0, right r.1)) (λ wrong. inr (rw same wrong.0, wrong.1)) s.so_far;
+    so_far = ⊎_elim (λ r. inl (same ∙ r.0, right r.1)) (λ wrong. inr (subst (FirstBreaksTypes defs) (sym same) wrong)) s.so_far;
   }
 
-  -- where the old environment was right, the definitions have no type table
-  pub reads_wrong : NotesMore es es' → (A old → IsValidTypes defs → ⊥) → ReadsSoFar defs A old es → ReadsSoFar defs B new es'
-  reads_wrong noted wrong s = record {
+  -- where the old environment was right, this definition breaks a condition
+  pub reads_wrong : (d : Definition) → NotesMore es es' → NotesAt (definition_positions d) es es' → (A old → BreaksTypes defs d) → ReadsSoFar defs A old es → ReadsSoFar defs B new es'
+  reads_wrong d noted notes breaks s = record {
     inverse = i;
     ill_typed = still_ill_typed noted s.ill_typed;
-    so_far = inr (some_noted noted, ⊎_elim (λ r. wrong r.1) (λ w. w.1) s.so_far);
+    so_far = inr (⊎_elim (λ r. first_noted defs d es es' r.0 noted notes (breaks r.1)) (first_stays defs es es' noted) s.so_far);
   }
 
 -- nothing was noted, and the environment is the same

@@ -12,3 +12,4 @@ pub mod ConstantReading
 pub mod EnvViews
 pub mod IntRanges
 pub mod TypePositions
+pub mod TypeBreaches

@@ -1,12 +1,12 @@
 -- How far the reading of a list of definitions is.
-use Rattle.std.specs.Prelude.{◌≡◌, ◌≢◌, ℕ, false, List, [], ◌++◌, ◌⊎◌, length, map, reverse, Option, None, option_map, slice_get, All, IsTrue}
+use Rattle.std.specs.Prelude.{◌≡◌, ℕ, false, List, [], ◌++◌, ◌⊎◌, length, map, reverse, Option, None, option_map, slice_get, All, IsTrue}
 use Rattle.std.specs.List.{find, flat_map, enumerate_from}
 use Rattle.std.specs.Str.{bytes_eq}
 use Rattle.isle_model.specs.lists.Syntax.{TypeTree, Definition}
 use Rattle.isle_model.specs.lists.Names.{has_name, with_names, IsDistinct}
 use Rattle.isle_model.specs.rules.Outcome.{then_option}
 use Rattle.isle_model.specs.lists.Tables.{TypeEntry, builtin_type}
-use Rattle.isle_model.specs.lists.TypeTable.{builtin_names, type_trees, type_names, all_type_names, names_inside, ConstantTree, constant_trees, type_names_met, type_id, type_or_first, type_of_number, place_from, IsOfKnownType, IsValidTypes, builtin_from, type_entry, type_table}
+use Rattle.isle_model.specs.lists.TypeTable.{builtin_names, type_trees, type_names, all_type_names, names_inside, ConstantTree, constant_trees, type_names_met, type_id, type_or_first, type_of_number, place_from, IsOfKnownType, builtin_from, type_entry, type_table}
 use Rattle.isle_base.specs.declared.syntax.Error.{Error}
 use Rattle.isle_base.specs.Noting.{AreIllTyped}
 use Rattle.isle_base.specs.Stable.{entry_count}
@@ -15,6 +15,7 @@ use Rattle.isle_types.specs.declared.type_env.TypeEnv.{TypeEnv}
 use Rattle.isle_types.specs.Builtin.{builtin_name, builtin_place}
 use Rattle.isle_types.specs.Envs.{names_of, type_at, constant_at, IsInterned}
 use Rattle.isle_types.specs.Reading.{IsRightType}
+use Rattle.isle_types.specs.TypeBreaches.{FirstBreaksTypes}
 use Rattle.isle_types.specs.TypeViews.{type_views}
 
 -- the types have these names, in the order of their numbers, and no constant was read
@@ -25,9 +26,9 @@ pub record Sees (env : TypeEnv) (types : List (List ℕ)) : Type 0 where
   pub constants : (k : ℕ) → constant_at env k ≡ None
   pub errors : env.errors.items ≡ []
 
--- there is no error so far, or the definitions have no type table
+-- there is no error so far, or the first one stands at a definition that breaks a condition
 abbrev pub SoFarOfTypes : List Definition → List Error → Type 0 → Type 0
-SoFarOfTypes defs es Right = ((es ≡ []) × Right) ⊎ ((es ≢ []) × (IsValidTypes defs → ⊥))
+SoFarOfTypes defs es Right = ((es ≡ []) × Right) ⊎ FirstBreaksTypes defs es
 
 -- each name has its number, each error says that something isn't right, and where there is no error the environment is right so far
 pub record ReadsSoFar (defs : List Definition) (Right : TypeEnv → Type 0) (env : TypeEnv) (es : List Error) : Type 0 where
@@ -79,7 +80,6 @@ pub record Filling (defs rest : List Definition) (env : TypeEnv) : Type 0 where
   pub names : with_names (names_of env) (names_in_types rest ++ constant_names defs) ≡ type_names_met defs
   pub types : type_views env.types.items ++ entries_from defs (length (type_views env.types.items)) (type_trees rest) ≡ type_table defs
   pub right : All (IsRightType defs) (type_trees rest) → All (IsRightType defs) (type_trees defs)
-  pub left : All (IsRightType defs) (type_trees defs) → All (IsRightType defs) (type_trees rest)
 
 -- such types are read
 abbrev pub FillsTypes : List Definition → List Definition → TypeEnv → List Error → Type 0
@@ -102,7 +102,6 @@ pub record TypingConstants (defs rest : List Definition) (env : TypeEnv) : Type 
   pub whole : read ++ constant_trees rest ≡ constant_trees defs
   pub constants : (k : ℕ) → constant_at env k ≡ then_option (slice_get (type_names_met defs) k) (last_type defs read)
   pub of_known : All (IsOfKnownType defs) (constant_trees rest) → All (IsOfKnownType defs) (constant_trees defs)
-  pub left : All (IsOfKnownType defs) (constant_trees defs) → All (IsOfKnownType defs) (constant_trees rest)
 
 -- such constants are read
 abbrev pub ReadsConstants : List Definition → List Definition → TypeEnv → List Error → Type 0

@@ -17,6 +17,7 @@ ghost use Rattle.isle_base.specs.Noting.{NotesMore};
 ghost use Rattle.isle_base.specs.Positions.{ErrorStandsAt, NotesAt, definition_positions, positions_of};
 ghost use Rattle.isle_types.specs.Reading.{AddsBuiltin, NamesType, NamesDefinition};
 ghost use Rattle.isle_types.specs.Stages.{Booting, NamesTypes};
+ghost use Rattle.isle_types.specs.TypeBreaches.{FirstBreaksTypes};
 ghost use Rattle.isle_types.specs.TypeTables.{SeesTypes};
 
 mod constants;
@@ -56,8 +57,8 @@ impl TypeEnv {
     /// `Errors` has what is wrong, each with its place, which is one in the definitions: all types are looked
     /// at, and the first error ends the work on one type. A type whose name is another type's, a primitive
     /// type that is marked `extern` or `nodebug`, another type that is marked both, two variants of an enum or
-    /// two fields of a list with one name, a field or a constant of an unknown type. `Memory` where memory is
-    /// refused.
+    /// two fields of a list with one name, a field or a constant of an unknown type. The first error stands at
+    /// a definition that breaks one of these conditions. `Memory` where memory is refused.
     ///
     /// The table that is answered is well formed: terms and rules can be read with it.
     pub fn from_ast(alloc: Global, defs: &[Def]) -> Result<TypeEnv, Fault>
@@ -66,6 +67,7 @@ impl TypeEnv {
         ensures no_limit { NoLimit result }
         ensures refused { OnErrors result (λ es. RefusesTypes (definition_views defs.now) (error_views es)) }
         ensures places { OnErrors result (All (ErrorStandsAt (positions_of (definition_views defs.now)))) }
+        ensures breach { OnErrors result (FirstBreaksTypes (definition_views defs.now)) }
         ensures shown { IfOk result (λ env. AreTypesOf (definition_views defs.now) (environment_view env)) }
         ensures well_formed { IfOk result (λ env. IsWellFormedEnvironment (environment_view env)) }
     {

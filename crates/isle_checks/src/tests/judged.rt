@@ -1,5 +1,7 @@
-// Trees of generated definitions, judged; and trees that the judge refuses.
+// Trees of generated definitions and of samples, judged; and trees that the judge refuses.
+use crate::tests::samples::TREES;
 use cranelift_isle::lower::{Lowered, LoweredTerm, lower};
+use isle_answers::samples::sample_text;
 use isle_base::syntax;
 use isle_base::syntax::Pos;
 use isle_judge::generated::{FORMS, list};
@@ -66,39 +68,58 @@ fn judge_both_ways(
     Ok(())
 }
 
-// Judges a hundred lists, of which 40 or more have a tree.
-fn judge_hundred(rt: &impl Abort, alloc: Global, first: u64) -> Result<(), Fail> {
+// Judges a hundred lists, which have so many trees of few sites: as many as upstream's have.
+fn judge_hundred(rt: &impl Abort, alloc: Global, first: u64, trees: usize) -> Result<(), Fail> {
     let mut count = 0usize;
     for number in first..first.saturating_add(100) {
         count = count.saturating_add(judged(rt, alloc, number)?);
     }
-    assert!(rt; count >= 40, "{count} trees");
+    assert_eq!(rt; count, trees);
     Ok(())
 }
 
 #[test]
 fn lists_below_100_have_best_trees(rt: HostRuntime) -> Result<(), Fail> {
-    judge_hundred(&rt, rt.alloc(), 0)
+    judge_hundred(&rt, rt.alloc(), 0, 61)
 }
 
 #[test]
 fn lists_from_100_have_best_trees(rt: HostRuntime) -> Result<(), Fail> {
-    judge_hundred(&rt, rt.alloc(), 100)
+    judge_hundred(&rt, rt.alloc(), 100, 55)
 }
 
 #[test]
 fn lists_from_200_have_best_trees(rt: HostRuntime) -> Result<(), Fail> {
-    judge_hundred(&rt, rt.alloc(), 200)
+    judge_hundred(&rt, rt.alloc(), 200, 58)
 }
 
 #[test]
 fn lists_from_300_have_best_trees(rt: HostRuntime) -> Result<(), Fail> {
-    judge_hundred(&rt, rt.alloc(), 300)
+    judge_hundred(&rt, rt.alloc(), 300, 61)
 }
 
 #[test]
 fn lists_from_400_have_best_trees(rt: HostRuntime) -> Result<(), Fail> {
-    judge_hundred(&rt, rt.alloc(), 400)
+    judge_hundred(&rt, rt.alloc(), 400, 60)
+}
+
+// The samples with trees have 15 terms.
+#[test]
+fn samples_have_best_trees(rt: HostRuntime) -> Result<(), Fail> {
+    let alloc = rt.alloc();
+    let mut count = 0usize;
+    for (name, _) in TREES {
+        let Some(text) = sample_text(name) else {
+            return Err(Fail::from("no such sample"));
+        };
+        let mut lowered = accepted(&rt, alloc, text)?;
+        for term in &mut lowered.terms {
+            judge_both_ways(&rt, alloc, 0, term)?;
+            count = count.saturating_add(1);
+        }
+    }
+    assert_eq!(rt; count, 15);
+    Ok(())
 }
 
 // A further term that uses the lists' multi extractor: in an argument, or in an if-let.
@@ -115,7 +136,7 @@ fn accepts(alloc: Global, number: u64, more: &str) -> Result<bool, Fail> {
     Ok(lowered(alloc, &text)?.is_some())
 }
 
-// Behind accepted lists, of which there are 20 or more.
+// Behind accepted lists, of which there are 42, as upstream accepts.
 #[test]
 fn multi_extractors_stand_in_multi_terms_alone(rt: HostRuntime) -> Result<(), Fail> {
     let alloc = rt.alloc();
@@ -128,7 +149,7 @@ fn multi_extractors_stand_in_multi_terms_alone(rt: HostRuntime) -> Result<(), Fa
             count = count.saturating_add(1);
         }
     }
-    assert!(rt; count >= 20, "{count} lists");
+    assert_eq!(rt; count, 42);
     Ok(())
 }
 

@@ -5,7 +5,7 @@ use std::process::Abort;
 use std::test::Fail;
 
 // The samples whose definitions are accepted, with their trees.
-const TREES: [(&str, &str); 17] = [
+pub const TREES: [(&str, &str); 17] = [
     ("empty", ""),
     (
         "fall",

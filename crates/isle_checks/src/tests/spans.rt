@@ -88,3 +88,32 @@ fn errors_name_single_places(rt: HostRuntime) -> Result<(), Fail> {
     }
     Ok(())
 }
+
+// A term of more arguments than a rule may have, with a rule for it, and where the rule begins.
+fn with_arguments(alloc: Global, count: usize) -> Result<(String, usize), AllocError> {
+    let mut text = String::from_str(alloc, "(decl f (")?;
+    for _ in 0..count {
+        text.push_str("u8 ")?;
+    }
+    text.push_str(") u8)\n")?;
+    let begin = text.len();
+    text.push_str("(rule (f")?;
+    for _ in 0..count {
+        text.push_str(" _")?;
+    }
+    text.push_str(") 1)")?;
+    Ok((text, begin))
+}
+
+// A limit is named at the rule that passes it, and that is one place too.
+#[test]
+fn limits_name_single_places(rt: HostRuntime) -> Result<(), Fail> {
+    let alloc = rt.alloc();
+    let (text, offset) = with_arguments(alloc, 257)?;
+    let places = places(&rt, alloc, 2, text.as_str())?;
+    assert_eq!(&rt; places.len(), 1);
+    for place in &places {
+        assert_eq!(&rt; *place, Span::new_single(Pos { file: 2, offset }));
+    }
+    Ok(())
+}

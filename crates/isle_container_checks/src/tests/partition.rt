@@ -182,3 +182,22 @@ fn a_long_chain(rt: HostRuntime) -> Result<(), Fail> {
     assert_eq!(rt; sets.remove_set_of(5_000)?.len(), 10_001);
     Ok(())
 }
+
+// Sets of numbers, joined and taken away.
+#[test]
+fn numbers(rt: HostRuntime) -> Result<(), Fail> {
+    let mut sets: DisjointSets<u32> = DisjointSets::new(rt.alloc());
+    for (x, y) in [(1, 2), (1, 3), (2, 4)] {
+        sets.merge(x, y)?;
+    }
+    assert!(rt; sets.find(3).is_some() && sets.find(3) == sets.find(4));
+    assert!(rt; sets.find(10).is_none() && sets.len() == 4);
+    let members = sets.remove_set_of(4)?;
+    assert!(rt; members.iter().copied().eq(1..5));
+    assert!(rt; sets.remove_set_of(1)?.is_empty() && sets.is_empty());
+    for (x, y) in [(1, 2), (3, 4), (3, 5)] {
+        sets.merge(x, y)?;
+    }
+    assert!(rt; sets.len() == 5 && !sets.in_same_set(2, 3));
+    Ok(())
+}

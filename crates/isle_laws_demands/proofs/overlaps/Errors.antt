@@ -1,10 +1,10 @@
 -- What the errors that checking answers name.
-use Rattle.std.proofs.Common.{◌≡◌, ℕ, ◌+◌, Bool, true, false, List, [], ◌∷◌, ◌++◌, map, Contains, refl, sym, ap, ◌∙◌, subst, inl, inr}
+use Rattle.std.proofs.Common.{◌≡◌, ◌+◌, ◌≤◌, Bool, true, false, List, [], ◌∷◌, length, map, Contains, refl, sym, ap, ◌∙◌, subst, inl, inr, arith}
 use Rattle.std.proofs.lemmas.Bool.{false≢true}
 use Rattle.std.proofs.lemmas.List.Elements.{All-contains}
 use Rattle.isle_model.specs.lists.Syntax.{Position}
 use Rattle.isle_model.specs.rules.Program.{Program}
-use Rattle.isle_model.specs.sites.Overlap.{HasDistinctPositions, OverlapReport, RuleReport, limit_passed, not_reached, rules_overlap, rule_shadows, report_position, build_reports, check_reports}
+use Rattle.isle_model.specs.sites.Overlap.{wrong_overlaps, OverlapReport, RuleReport, limit_passed, not_reached, rules_overlap, rule_shadows, report_position, build_reports, check_reports}
 use Rattle.isle_model.specs.claims.Environments.{program_of}
 use Rattle.isle_model.specs.claims.Refusals.{Refusal, overlapping, shadowing, refusal_of}
 use Rattle.isle_model.specs.claims.Layers.{is_left_out, CheckReports}
@@ -12,11 +12,13 @@ use Rattle.isle_model.proofs.Elements.{In, in_from_contains, contains_from_in, i
 use Rattle.isle_laws_demands.specs.ErrorLaws.{SaysLeftOut, NamesLeftOut, names_both, NamesPairs, NamesMasks, CheckErrorsNameLeftOut, CheckErrorsNamePairs, CheckErrorsNameMasks}
 use Rattle.isle_laws_demands.specs.PairLaws.{lists_both, one_if, times}
 use Rattle.isle_laws_demands.specs.ReportLaws.{RulesHaveTerms, OverlapAt}
-use Rattle.isle_laws_demands.specs.ShadowLaws.{names_mask, shadowed_by, check_errors}
+use Rattle.isle_laws_demands.specs.ShadowLaws.{check_errors}
+use Rattle.isle_laws_demands.proofs.overlaps.Counted.{said_once}
 use Rattle.isle_laws_demands.proofs.overlaps.Judged.{elaborated_rules_have_terms_lem}
 use Rattle.isle_laws_demands.proofs.overlaps.LeftOut.{build_reports_are_left_out, left_out_rules_are_reported_lem}
-use Rattle.isle_laws_demands.proofs.overlaps.Pairs.{times_map, wrong_pairs_stand_once_lem, only_wrong_pairs_stand_lem}
-use Rattle.isle_laws_demands.proofs.overlaps.Shadowed.{masks_are_named_once_lem, only_masks_are_named_lem, check_errors_are_answered_lem}
+use Rattle.isle_laws_demands.proofs.overlaps.Listed.{reports_list}
+use Rattle.isle_laws_demands.proofs.overlaps.Pairs.{times_map, overlap_reported, wrong_pairs_stand_once_lem, only_wrong_pairs_stand_lem}
+use Rattle.isle_laws_demands.proofs.overlaps.Shadowed.{masks_are_named_once_lem, only_masks_are_named_lem}
 
 -- 1. rules that are left out
 said : (x : RuleReport) → is_left_out x ≡ true → SaysLeftOut (report_position x) (refusal_of x)
@@ -52,6 +54,7 @@ module _ (p : Program) (reports : List RuleReport) (c : CheckReports p reports) 
               record { place = law.place; rule = law.rule; out = law.out; here = sym law.at ∙ q.1 }
           | inr j ↦ absurd (false≢true (sym (All-contains (λ r. is_left_out r ≡ false) c.later y.0 c.others (contains_from_in c.later y.0 j)) ∙ q.0))
         ]);
+    once = λ distinct. said_once p reports c distinct;
   }
 
 -- 2. wrong overlaps
@@ -90,47 +93,65 @@ of_overlap (not_reached why at) first others e = absurd (false≢true (ap is_ove
 of_overlap (rules_overlap r) first others e = record { report = r; is = refl; begins = ap (first_in first) e; lists = ap others_in e }
 of_overlap (rule_shadows r) first others e = absurd (false≢true (ap is_overlapping e))
 
-module _ (p : Program) (reports : List RuleReport) (terms : RulesHaveTerms p) (distinct : HasDistinctPositions p) (c : CheckReports p reports) where
-  all_reports : reports ≡ check_reports p
-  all_reports = c.all ∙ ap (λ l. build_reports p ++ l) (c.fixed distinct)
+-- an overlap error is of some report
+pub record IsOfSomeOverlap (x : RuleReport) (rules : List Position) : Type 0 where
+  pub report : OverlapReport
+  pub is : x ≡ rules_overlap report
+  pub lists : rules ≡ report.first ∷ report.others
 
-  pub names_pairs : NamesPairs p (map refusal_of reports)
+abbrev rules_in : Refusal → List Position
+rules_in (overlapping rules) = rules
+rules_in _ = []
+
+of_some_overlap : (x : RuleReport) (rules : List Position) → refusal_of x ≡ overlapping rules → IsOfSomeOverlap x rules
+of_some_overlap (limit_passed l at) rules e = absurd (false≢true (ap is_overlapping e))
+of_some_overlap (not_reached why at) rules e = absurd (false≢true (ap is_overlapping e))
+of_some_overlap (rules_overlap r) rules e = record { report = r; is = refl; lists = sym (ap rules_in e) }
+of_some_overlap (rule_shadows r) rules e = absurd (false≢true (ap is_overlapping e))
+
+some_listed : (xs : List Position) (b : Position) → In xs b → 1 ≤ length xs
+some_listed [] b i = absurd i
+some_listed (x ∷ xs) b i = omega arith
+
+module _ (p : Program) (terms : RulesHaveTerms p) where
+  pub names_pairs : NamesPairs p (check_errors p)
   names_pairs = record {
     once = λ t i j o.
         (let a = o.first.rule.at in
         let b = o.second.rule.at in
-        times_map (names_both a b) refusal_of reports ∙ times_same (λ x. names_both a b (refusal_of x)) (lists_both a b) (lists_same a b) reports
-        ∙ ap (times (lists_both a b)) all_reports ∙ wrong_pairs_stand_once_lem p terms t i j o);
+        times_map (names_both a b) refusal_of (check_reports p) ∙ times_same (λ x. names_both a b (refusal_of x)) (lists_both a b) (lists_same a b) (check_reports p)
+        ∙ wrong_pairs_stand_once_lem p terms t i j o);
     only = λ first others at i j.
-        (let x = in_map refusal_of reports (overlapping (first ∷ others)) (in_from_contains (map refusal_of reports) (overlapping (first ∷ others)) i) in
+        (let x = in_map refusal_of (check_reports p) (overlapping (first ∷ others)) (in_from_contains (check_errors p) (overlapping (first ∷ others)) i) in
         let w = of_overlap x.0 first others x.2 in
-        let there : In (check_reports p) (rules_overlap w.report) = subst (In (check_reports p)) w.is (subst (λ l. In l x.0) all_reports x.1) in
+        let there : In (check_reports p) (rules_overlap w.report) = subst (In (check_reports p)) w.is x.1 in
         subst (λ q. OverlapAt p q at) w.begins
         (only_wrong_pairs_stand_lem p w.report at (contains_from_in (check_reports p) (rules_overlap w.report) there) (subst (λ l. Contains l at) (sym w.lists) j)));
+    two = λ rules i.
+        (let x = in_map refusal_of (check_reports p) (overlapping rules) (in_from_contains (check_errors p) (overlapping rules) i) in
+        let w = of_some_overlap x.0 rules x.2 in
+        let listed = reports_list (length (wrong_overlaps p)) (wrong_overlaps p) w.report (overlap_reported p w.report (subst (In (check_reports p)) w.is x.1)) in
+        let some = some_listed w.report.others listed.0 listed.1 in
+        subst (λ (l : List Position). 2 ≤ length l) (sym w.lists) (omega (arith, some)));
   }
 
   -- 3. masks
-  same_errors : map refusal_of reports ≡ check_errors p
-  same_errors = check_errors_are_answered_lem p reports c distinct
-
-  pub names_masks : NamesMasks p (map refusal_of reports)
+  pub names_masks : NamesMasks p (check_errors p)
   names_masks = record {
     each_mask = λ t m is.
-        (let w = masks_are_named_once_lem p terms distinct t m is in
+        (let w = masks_are_named_once_lem p terms t m is in
         record {
-          answered = subst (λ l. Contains l (shadowing (shadowed_by p t m) m.rule.at)) (sym same_errors) (subst (λ l. Contains (check_errors p) (shadowing l m.rule.at)) w.lists.in_order w.answered);
-          once = ap (times (names_mask m.rule.at)) same_errors ∙ w.once;
+          answered = subst (λ l. Contains (check_errors p) (shadowing l m.rule.at)) w.lists.in_order w.answered;
+          once = w.once;
         });
-    only = λ listed at i. only_masks_are_named_lem p listed at (subst (λ l. Contains l (shadowing listed at)) same_errors i);
+    only = λ listed at i. only_masks_are_named_lem p listed at i;
   }
 
 pub check_errors_name_left_out_lem : CheckErrorsNameLeftOut
 check_errors_name_left_out_lem e defs expand rules reports is c = names_left_out (program_of e defs rules.rules) reports c
 
 pub check_errors_name_pairs_lem : CheckErrorsNamePairs
-check_errors_name_pairs_lem e defs expand rules reports is c distinct =
-    names_pairs (program_of e defs rules.rules) reports (elaborated_rules_have_terms_lem e defs expand rules is) distinct c
+check_errors_name_pairs_lem e defs expand rules is = names_pairs (program_of e defs rules.rules) (elaborated_rules_have_terms_lem e defs expand rules is)
 
 pub check_errors_name_masks_lem : CheckErrorsNameMasks
-check_errors_name_masks_lem e defs expand rules reports is c distinct =
-    names_masks (program_of e defs rules.rules) reports (elaborated_rules_have_terms_lem e defs expand rules is) distinct c
+check_errors_name_masks_lem e defs expand rules is = names_masks (program_of e defs rules.rules) (elaborated_rules_have_terms_lem e defs expand rules is)

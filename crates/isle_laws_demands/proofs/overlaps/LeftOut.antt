@@ -98,6 +98,10 @@ module _ (p : Program) where
       let w = in_map (λ why. not_reached why r.at) (reported (sites_wanted p before r) (demands_of p r)) x i in
       ap is_left_out (sym w.2)
 
+  -- those of one rule stand at it
+  pub reports_of_rule : (before : List SiteTerm) (r : TypedRule) (x : RuleReport) → In (build_reports_of p before r) x → (is_left_out x ≡ true) × (report_position x ≡ r.at)
+  reports_of_rule before r x i = (left_out_of before r (first_limit p before r) x i, (own before r (first_limit p before r) x i).0)
+
   all_left_out : (done rs : List TypedRule) (x : RuleReport) → In (build_reports_after p done rs) x → is_left_out x ≡ true
   all_left_out done [] x i = absurd i
   all_left_out done (r ∷ rs) x i =

@@ -146,6 +146,20 @@ first_has e es =
           ]
     ]
 
+-- each report lists a rule besides its first
+pub reports_list : (n : ℕ) (pairs : List (Position × Position)) (r : OverlapReport) → In (overlap_reports_in n pairs) r → (b : Position) × In r.others b
+reports_list n [] r i = absurd i
+reports_list zero (e ∷ es) r i = absurd i
+reports_list (suc n) (e ∷ es) r (inl same) =
+    let at = rule_first e es in
+    let x = first_has e es in (
+      other_end at x.0,
+      subst (λ (q : OverlapReport). In q.others (other_end at x.0)) same
+          (in_ascending (map (other_end at) (filter (has_end at) (e ∷ es))) (other_end at x.0)
+          (map_in (other_end at) (filter (has_end at) (e ∷ es)) x.0 (filter_from (has_end at) (e ∷ es) x.0 x.1 x.2))),
+    )
+reports_list (suc n) (e ∷ es) r (inr i) = reports_list n (left_over (rule_first e es) (e ∷ es)) r i
+
 pub no_longer : {X : Type 0} (f : X → Bool) (xs : List X) → length (filter f xs) ≤ length xs
 no_longer f [] = omega arith
 no_longer f (x ∷ xs) =

@@ -13,7 +13,7 @@ use Rattle.isle_model.proofs.Elements.{In, in_from_contains, contains_from_in, s
 use Rattle.isle_laws_demands.proofs.overlaps.Reported.{built_of, compared_means, masked_means, masked_there}
 
 -- no key of a list comes again
-abbrev Apart : {X K : Type 0} → (X → K) → List X → Type 0
+abbrev pub Apart : {X K : Type 0} → (X → K) → List X → Type 0
 Apart h [] = Unit {0}
 Apart {X = X} h (x ∷ xs) = ((y : X) → In xs y → h y ≡ h x → ⊥) × Apart h xs
 
@@ -46,7 +46,7 @@ apart_places h (z ∷ xs) a zero (suc k) x y e f g = absurd (a.0 y (in_slice xs 
 apart_places h (z ∷ xs) a (suc j) zero x y e f g = absurd (a.0 x (in_slice xs j x e) (g ∙ ap h (sym (some_is z y f))))
 apart_places h (z ∷ xs) a (suc j) (suc k) x y e f g = ap suc (apart_places h xs a.1 j k x y e f g)
 
-distinct_apart : {X K : Type 0} (h : X → K) (xs : List X) → IsDistinct (map h xs) → Apart h xs
+pub distinct_apart : {X K : Type 0} (h : X → K) (xs : List X) → IsDistinct (map h xs) → Apart h xs
 distinct_apart h [] d = tt
 distinct_apart h (x ∷ xs) d = (
   λ y i e.

@@ -4,6 +4,7 @@ use Rattle.std.proofs.lemmas.Bool.{cases_Bool, cond-true, cond-false, and_parts,
 use Rattle.std.proofs.lemmas.Option.{none-some, same_Some}
 use Rattle.std.proofs.Math.Nat.{zero-add}
 use Rattle.isle_model.specs.lists.Syntax.{Position}
+use Rattle.isle_model.specs.rules.Program.{Program}
 use Rattle.isle_model.specs.sites.Overlap.{OverlapReport, RuleReport, limit_passed, not_reached, rules_overlap, rule_shadows, report_position, position_eq, position_lt, with_report, by_position, overlap_reports, wrong_overlaps, shadow_reports, build_reports, overlap_and_shadow_reports, check_reports}
 use Rattle.isle_model.specs.claims.Layers.{is_left_out}
 use Rattle.isle_model.proofs.Elements.{In, in_from_contains, contains_from_in, in_slice, in_either, in_map, or_split, or_left, or_right}
@@ -157,19 +158,24 @@ wrong_pairs_stand_once_lem p terms t i j o =
     ∙ one_passes (both_in a b) overlaps once.place once.report once.here (both_from a b once.report once.lists) (λ n y e h. once.only n y e (both_means a b y h)))
     ∙ ap (λ k. 1 + k) (times_map (lists_both a b) rule_shadows shadows ∙ never shadows)
 
-pub only_wrong_pairs_stand_lem : OnlyWrongPairsStand
-only_wrong_pairs_stand_lem p r at c d =
+-- an overlap report of checking is one of the wrong overlaps
+pub overlap_reported : (p : Program) (r : OverlapReport) → In (check_reports p) (rules_overlap r) → In (overlap_reports (wrong_overlaps p)) r
+overlap_reported p r c =
     let overlaps = overlap_reports (wrong_overlaps p) in
     let shadows = shadow_reports p in
-    elim (in_either (build_reports p) (overlap_and_shadow_reports p) (rules_overlap r) (in_from_contains (check_reports p) (rules_overlap r) c)) [
+    elim (in_either (build_reports p) (overlap_and_shadow_reports p) (rules_overlap r) c) [
       | inl i ↦ absurd (false≢true (build_reports_are_left_out p (rules_overlap r) i))
       | inr i ↦ elim (in_either (map rules_overlap overlaps) (map rule_shadows shadows) (rules_overlap r) (sorted_in (map rules_overlap overlaps ++ map rule_shadows shadows) (rules_overlap r) i)) [
         | inl j ↦
             let w = in_map rules_overlap overlaps (rules_overlap r) j in
             let same : w.0 ≡ r = ap (overlap_in r) w.2 in
-            listed_rules_overlap_lem p r at (contains_from_in overlaps r (subst (In overlaps) same w.1)) d
+            subst (In overlaps) same w.1
         | inr j ↦
             let w = in_map rule_shadows shadows (rules_overlap r) j in
             absurd (false≢true (ap is_overlap w.2))
       ]
     ]
+
+pub only_wrong_pairs_stand_lem : OnlyWrongPairsStand
+only_wrong_pairs_stand_lem p r at c d =
+    listed_rules_overlap_lem p r at (contains_from_in (overlap_reports (wrong_overlaps p)) r (overlap_reported p r (in_from_contains (check_reports p) (rules_overlap r) c))) d

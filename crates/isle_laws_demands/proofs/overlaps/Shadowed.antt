@@ -15,7 +15,7 @@ use Rattle.isle_laws_demands.proofs.overlaps.LeftOut.{build_reports_are_left_out
 use Rattle.isle_laws_demands.proofs.overlaps.Listed.{position_means, position_same}
 use Rattle.isle_laws_demands.proofs.overlaps.Masks.{masks_are_reported_once_lem}
 use Rattle.isle_laws_demands.proofs.overlaps.Pairs.{none_pass, one_passes, times_append, times_map, never, times_sorted, sorted_in, in_sorted}
-use Rattle.isle_laws_demands.proofs.overlaps.Reported.{masked_means}
+use Rattle.isle_laws_demands.proofs.overlaps.Reported.{masked_means, masked_there}
 
 -- an error that names a mask is a shadow report's
 abbrev listed_in : Refusal → List Position
@@ -56,24 +56,26 @@ module _ (p : Program) (t : ℕ) (m : BuiltRule) where
   }
 
 pub masks_are_named_once_lem : MasksAreNamedOnce
-masks_are_named_once_lem p terms distinct t m mask =
+masks_are_named_once_lem p terms t m mask =
     let at = m.rule.at in
     let overlaps = overlap_reports (wrong_overlaps p) in
     let shades = shadow_reports p in
     let later = map rules_overlap overlaps ++ map rule_shadows shades in
     let named : RuleReport → Bool = λ x. names_mask at (refusal_of x) in
-    let once = masks_are_reported_once_lem p terms distinct t m mask.shadowed mask.one_result mask.built mask.other mask.hides in
     let report : ShadowReport = record { mask = at; shadowed = shadowed_by p t m } in
+    let listed : In shades report =
+    masked_there p terms t m mask.shadowed mask.one_result (in_from_contains (built_rules p t) m mask.built) (in_from_contains (built_rules p t) mask.shadowed mask.other) mask.hides in
     let there : In (check_reports p) (rule_shadows report) =
     in_right (build_reports p) (overlap_and_shadow_reports p) (rule_shadows report)
     (in_sorted later (rule_shadows report)
     (in_right (map rules_overlap overlaps) (map rule_shadows shades) (rule_shadows report)
-    (map_in rule_shadows shades report (in_slice shades once.place report once.here)))) in
+    (map_in rule_shadows shades report listed))) in
     record {
       listed = shadowed_by p t m;
       answered = contains_from_in (map refusal_of (check_reports p)) (shadowing (shadowed_by p t m) at) (map_in refusal_of (check_reports p) (rule_shadows report) there);
       lists = lists_shadowed p t m (shadowed_by p t m) refl;
-      once =
+      once = λ distinct.
+          (let once = masks_are_reported_once_lem p terms distinct t m mask.shadowed mask.one_result mask.built mask.other mask.hides in
           times_map (names_mask at) refusal_of (check_reports p)
           ∙ times_append named (build_reports p) (overlap_and_shadow_reports p)
           ∙ ap (λ k. k + times named (overlap_and_shadow_reports p))
@@ -85,7 +87,7 @@ masks_are_named_once_lem p terms distinct t m mask =
           ∙ zero-add (times named (map rule_shadows shades))
           ∙ times_map named rule_shadows shades
           ∙ one_passes (λ s. position_eq s.mask at) shades once.place report once.here (position_same at at refl)
-          (λ n y e h. once.only n y e (position_means y.mask at h));
+          (λ n y e h. once.only n y e (position_means y.mask at h)));
     }
 
 pub only_masks_are_named_lem : OnlyMasksAreNamed

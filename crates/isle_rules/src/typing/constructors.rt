@@ -7,7 +7,9 @@ ghost use Rattle.isle_base.specs.Places.{term_view};
 ghost use Rattle.isle_base.specs.SyntaxViews.{position, definition_view, definition_views, expr_view, iflet_view, rule_view};
 ghost use Rattle.isle_model.specs.lists.TermTable.{rule_trees};
 ghost use Rattle.isle_rules.specs.Constructors.{is_made, uses_of_rule, uses_of_definition, AreFoundMade};
+ghost use Rattle.isle_rules.specs.RuleBreaches.{UsesUnmade};
 ghost use Rattle.isle_reports.specs.Elaborating.{Checks};
+ghost use Rattle.isle_reports.specs.FirstErrors.{MayBegin};
 ghost use Rattle.isle_rules.specs.PatternUses.{found_term};
 ghost use Rattle.isle_base.specs.Positions.{NotesAt, expr_positions, iflet_positions, rule_positions, definition_positions, positions_of};
 
@@ -131,6 +133,7 @@ impl TermEnv {
     ) -> Result<(), AllocError>
         ensures checks { OnOk result (Checks errors.old.items errors.new.items (AreFoundMade self.now tyenv.now (flat_map uses_of_rule (rule_trees (definition_views defs.now))))) }
         ensures places { OnOk result (NotesAt (positions_of (definition_views defs.now)) errors.old.items errors.new.items) }
+        ensures breach { OnOk result (MayBegin (UsesUnmade (AreFoundMade self.now tyenv.now) (rule_trees (definition_views defs.now))) errors.old.items errors.new.items) }
     {
         for def in defs {
             self.check_definition(tyenv, errors, def)?;

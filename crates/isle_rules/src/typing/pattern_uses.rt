@@ -13,7 +13,7 @@ ghost use Rattle.isle_rules.specs.Progress.{Remains};
 ghost use Rattle.isle_rules.specs.PatternUses.{found_term, found_converter, found_template, inside_term, UsesTerm};
 ghost use Rattle.isle_rules.specs.Translating.{standing};
 ghost use Rattle.isle_base.specs.Positions.{NotesAt, pattern_positions};
-ghost use Rattle.isle_rules.specs.RulePositions.{with_terms, StaysPlaced, ExpandsAmong};
+ghost use Rattle.isle_rules.specs.RulePositions.{with_templates, StaysPlaced, ExpandsAmong};
 
 use crate::term_env::TermEnv;
 use crate::typing::progress::{Progress, Stop};
@@ -92,7 +92,7 @@ impl TermEnv {
         requires whole { pattern_view whole.now ≡ term_pattern (name_view sym.now) (pattern_views args.now) (position pos) }
         ensures uses { UsesTerm self.now (standing tyenv.now work.old) (standing tyenv.now work.new) nesting multi (pattern_view whole.now) (pattern_views args.now) expected_ty.0 result }
         ensures places { StaysPlaced (position pos ∷ []) work.old.errors.items work.new.errors.items result }
-        ensures among { ExpandsAmong (with_terms self.now (pattern_positions (pattern_view whole.now))) result }
+        ensures among { ExpandsAmong (with_templates self.now (pattern_positions (pattern_view whole.now))) result }
     {
         let Some(term) = self.find_term(tyenv, sym) else {
             report_unknown(&mut work.errors, pos, sym)?;

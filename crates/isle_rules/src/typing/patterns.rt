@@ -8,7 +8,7 @@ ghost use Rattle.isle_typed.specs.PatternViews.{pattern_view, pattern_views, pat
 ghost use Rattle.isle_rules.specs.PatternReadings.{pattern_reading, parts_reading, each_reading};
 ghost use Rattle.isle_rules.specs.Translating.{standing, Keeps, StaysNoted, MayTranslate, Translates};
 ghost use Rattle.isle_base.specs.Positions.{pattern_positions, patterns_positions};
-ghost use Rattle.isle_rules.specs.RulePositions.{with_terms, StaysPlaced};
+ghost use Rattle.isle_rules.specs.RulePositions.{with_templates, StaysPlaced};
 
 use crate::term_env::TermEnv;
 use crate::typing::pattern_uses::PatternUse;
@@ -39,7 +39,7 @@ impl TermEnv {
         ensures keeps { Keeps tyenv.old tyenv.new }
         ensures made { MayTranslate self.now (standing tyenv.old work.old) (standing tyenv.new work.new) nesting
             (pattern_reading multi (S.pattern_view pat.now) expected_ty.0) pattern_view result }
-        ensures places { StaysPlaced (with_terms self.now (pattern_positions (S.pattern_view pat.now))) work.old.errors.items work.new.errors.items result }
+        ensures places { StaysPlaced (with_templates self.now (pattern_positions (S.pattern_view pat.now))) work.old.errors.items work.new.errors.items result }
     {
         match pat {
             syntax::Pattern::Var { var, pos } => {
@@ -124,7 +124,7 @@ impl TermEnv {
             → Translates self.now (standing tyenv.old work.old) (standing tyenv.new work.new) nesting
             (parts_reading multi (S.pattern_views args.now) (map (λ t. t.0) tys.now)) (λ v. pattern_parts (pattern_views v.items)) result }
         ensures errors { StaysNoted (standing tyenv.old work.old) (standing tyenv.new work.new) result }
-        ensures places { StaysPlaced (with_terms self.now (patterns_positions (S.pattern_views args.now))) work.old.errors.items work.new.errors.items result }
+        ensures places { StaysPlaced (with_templates self.now (patterns_positions (S.pattern_views args.now))) work.old.errors.items work.new.errors.items result }
     {
         let count = args.len().min(tys.len());
         let mut parts = Vec::with_capacity(*self.terms.allocator(), count)?;
@@ -150,7 +150,7 @@ impl TermEnv {
         ensures keeps { Keeps tyenv.old tyenv.new }
         ensures made { Translates self.now (standing tyenv.old work.old) (standing tyenv.new work.new) nesting
             (each_reading multi (S.pattern_views subpats.now) expected_ty.0) (λ v. pattern_parts (pattern_views v.items)) result }
-        ensures places { StaysPlaced (with_terms self.now (patterns_positions (S.pattern_views subpats.now))) work.old.errors.items work.new.errors.items result }
+        ensures places { StaysPlaced (with_templates self.now (patterns_positions (S.pattern_views subpats.now))) work.old.errors.items work.new.errors.items result }
     {
         let mut parts = Vec::with_capacity(*self.terms.allocator(), subpats.len())?;
         for subpat in subpats {

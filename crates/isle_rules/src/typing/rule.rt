@@ -11,7 +11,7 @@ ghost use Rattle.isle_rules.specs.RuleReadings.{rule_reading, sides_view, scope_
 ghost use Rattle.isle_typed.specs.RuleViews.{rule_view};
 ghost use Rattle.isle_rules.specs.Translating.{standing, Keeps, MayTranslate};
 ghost use Rattle.isle_base.specs.Positions.{NotesAt, rule_positions};
-ghost use Rattle.isle_rules.specs.RulePositions.{with_terms, StaysPlaced, StandsIf};
+ghost use Rattle.isle_rules.specs.RulePositions.{with_templates, StaysPlaced, StandsIf};
 
 use crate::term_env::TermEnv;
 use crate::typing::progress::{Progress, Stop};
@@ -44,7 +44,7 @@ impl TermEnv {
         ensures keeps { Keeps tyenv.old tyenv.new }
         ensures made { MayTranslate self.now (standing tyenv.old work.old) (standing tyenv.new work.new) nesting
             (rule_reading (S.rule_view rule.now) id.0) rule_view result }
-        ensures places { StaysPlaced (with_terms self.now (rule_positions (S.rule_view rule.now))) work.old.errors.items work.new.errors.items result }
+        ensures places { StaysPlaced (with_templates self.now (rule_positions (S.rule_view rule.now))) work.old.errors.items work.new.errors.items result }
         ensures stands { IfOk result (StandsIf (S.position rule.now.pos)) }
     {
         let Some(sym) = rule.pattern.root_term() else {

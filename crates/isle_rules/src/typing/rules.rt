@@ -5,12 +5,13 @@ ghost use Rattle.isle_base.specs.SyntaxViews.{position, definition_view, definit
 ghost use Rattle.isle_model.specs.lists.TermTable.{rule_of, rule_trees};
 ghost use Rattle.isle_types.specs.Envs.{IsInterned};
 ghost use Rattle.isle_rules.specs.LimitsNamed.{NamesPastLimits};
+ghost use Rattle.isle_rules.specs.RuleBreaches.{BeginsUntyped};
 ghost use Rattle.isle_rules.specs.RuleErrors.{NotesOfRules, NotesOfDefinition};
 ghost use Rattle.isle_rules.specs.RuleLists.{CollectsRule, CollectsNext, CollectsRules};
 ghost use Rattle.isle_typed.specs.RuleViews.{rule_view, rule_views};
 ghost use Rattle.isle_rules.specs.Translating.{Keeps};
 ghost use Rattle.isle_base.specs.Positions.{NotesAt, OccurAmong, rule_positions, definition_positions, positions_of};
-ghost use Rattle.isle_rules.specs.RulePositions.{with_terms, StandsIf};
+ghost use Rattle.isle_rules.specs.RulePositions.{with_templates, StandsIf};
 ghost use Rattle.isle_reports.specs.RuleNaming.{rules_at};
 
 use crate::term_env::TermEnv;
@@ -37,7 +38,7 @@ impl TermEnv {
         requires { IsInterned tyenv.old }
         ensures keeps { Keeps tyenv.old tyenv.new }
         ensures ends { IfOk result (λ o. CollectsRule self.now tyenv.old tyenv.new work.old.errors.items work.new.errors.items id.0 rule.now (option_map rule_view o)) }
-        ensures places { OnOk result (NotesAt (with_terms self.now (rule_positions (tree_view rule.now))) work.old.errors.items work.new.errors.items) }
+        ensures places { OnOk result (NotesAt (with_templates self.now (rule_positions (tree_view rule.now))) work.old.errors.items work.new.errors.items) }
         ensures stands { IfOk result (StandsIf (position rule.now.pos)) }
     {
         work.begin();
@@ -63,7 +64,7 @@ impl TermEnv {
         ensures reads { OnOk result (CollectsNext self.now tyenv.old tyenv.new work.old.errors.items work.new.errors.items (definition_view def.now) rules.old.items rules.new.items) }
         ensures notes { OnOk result (NotesOfDefinition self.now tyenv.old (definition_view def.now) work.old.errors.items work.new.errors.items) }
         ensures named { OnOk result (NamesPastLimits self.now tyenv.old (rule_of (definition_view def.now)) work.new.errors.items) }
-        ensures places { OnOk result (NotesAt (with_terms self.now (definition_positions (definition_view def.now))) work.old.errors.items work.new.errors.items) }
+        ensures places { OnOk result (NotesAt (with_templates self.now (definition_positions (definition_view def.now))) work.old.errors.items work.new.errors.items) }
         ensures stand { OnOk result (OccurAmong (rules_at (rule_views rules.new.items)) (rules_at (rule_views rules.old.items) ++ definition_positions (definition_view def.now))) }
     {
         let Def::Rule(rule) = def else {
@@ -95,7 +96,8 @@ impl TermEnv {
         ensures reads { IfOk result (λ v. CollectsRules self.now tyenv.old tyenv.new work.old.errors.items work.new.errors.items (rule_trees (definition_views defs.now)) (rule_views v.items)) }
         ensures notes { OnOk result (NotesOfRules self.now tyenv.old (rule_trees (definition_views defs.now)) work.old.errors.items work.new.errors.items) }
         ensures named { OnOk result (NamesPastLimits self.now tyenv.old (rule_trees (definition_views defs.now)) work.new.errors.items) }
-        ensures places { OnOk result (NotesAt (with_terms self.now (positions_of (definition_views defs.now))) work.old.errors.items work.new.errors.items) }
+        ensures places { OnOk result (NotesAt (with_templates self.now (positions_of (definition_views defs.now))) work.old.errors.items work.new.errors.items) }
+        ensures breach { OnOk result (BeginsUntyped self.now tyenv.old (rule_trees (definition_views defs.now)) work.old.errors.items work.new.errors.items) }
         ensures stand { IfOk result (λ v. OccurAmong (rules_at (rule_views v.items)) (positions_of (definition_views defs.now))) }
     {
         let mut rules = Vec::with_capacity(*self.terms.allocator(), defs.len())?;

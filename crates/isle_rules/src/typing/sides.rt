@@ -13,7 +13,7 @@ ghost use Rattle.isle_typed.specs.RuleViews.{iflet_view};
 ghost use Rattle.isle_rules.specs.Translating.{standing, Keeps, MayTranslate, Translates};
 ghost use Rattle.std.specs.List.{flat_map};
 ghost use Rattle.isle_base.specs.Positions.{patterns_positions, iflet_positions, rule_positions};
-ghost use Rattle.isle_rules.specs.RulePositions.{with_terms, StaysPlaced};
+ghost use Rattle.isle_rules.specs.RulePositions.{with_templates, StaysPlaced};
 
 use crate::term_env::TermEnv;
 use crate::typing::progress::{Progress, Stop};
@@ -52,7 +52,7 @@ impl TermEnv {
         ensures keeps { Keeps tyenv.old tyenv.new }
         ensures made { MayTranslate self.now (standing tyenv.old work.old) (standing tyenv.new work.new) nesting
             (iflet_reading (S.iflet_view iflet.now) (flags_view flags)) iflet_view result }
-        ensures places { StaysPlaced (with_terms self.now (iflet_positions (S.iflet_view iflet.now))) work.old.errors.items work.new.errors.items result }
+        ensures places { StaysPlaced (with_templates self.now (iflet_positions (S.iflet_view iflet.now))) work.old.errors.items work.new.errors.items result }
     {
         let value = self.translate_expr(tyenv, work, &iflet.expr, None, flags.on_lhs(), nesting)?;
         let Some(rhs) = value else {
@@ -83,7 +83,7 @@ impl TermEnv {
         ensures keeps { Keeps tyenv.old tyenv.new }
         ensures made { Translates self.now (standing tyenv.old work.old) (standing tyenv.new work.new) nesting
             (iflets_reading (map S.iflet_view iflets.now) (flags_view flags)) (λ v. map iflet_view v.items) result }
-        ensures places { StaysPlaced (with_terms self.now (flat_map iflet_positions (map S.iflet_view iflets.now))) work.old.errors.items work.new.errors.items result }
+        ensures places { StaysPlaced (with_templates self.now (flat_map iflet_positions (map S.iflet_view iflets.now))) work.old.errors.items work.new.errors.items result }
     {
         let mut made = Vec::new(*self.terms.allocator());
         for iflet in iflets {
@@ -109,7 +109,7 @@ impl TermEnv {
         ensures keeps { Keeps tyenv.old tyenv.new }
         ensures made { Translates self.now (standing tyenv.old work.old) (standing tyenv.new work.new) nesting
             (parts_reading multi (S.pattern_views args.now) (map (λ t. t.0) tys.now)) (λ v. pattern_parts (pattern_views v.items)) result }
-        ensures places { StaysPlaced (with_terms self.now (S.position pos ∷ patterns_positions (S.pattern_views args.now))) work.old.errors.items work.new.errors.items result }
+        ensures places { StaysPlaced (with_templates self.now (S.position pos ∷ patterns_positions (S.pattern_views args.now))) work.old.errors.items work.new.errors.items result }
     {
         check_count(&mut work.errors, pos, sym, args.len(), tys.len())?;
         self.translate_args(tyenv, work, args, tys, multi, nesting)
@@ -136,7 +136,7 @@ impl TermEnv {
         ensures keeps { Keeps tyenv.old tyenv.new }
         ensures made { MayTranslate self.now (standing tyenv.old work.old) (standing tyenv.new work.new) nesting
             (sides_reading (S.rule_view rule.now) (flags_view flags) (term_view term.now)) sides_view result }
-        ensures places { StaysPlaced (with_terms self.now (rule_positions (S.rule_view rule.now))) work.old.errors.items work.new.errors.items result }
+        ensures places { StaysPlaced (with_templates self.now (rule_positions (S.rule_view rule.now))) work.old.errors.items work.new.errors.items result }
     {
         let tys = term.arg_tys.as_slice();
         let parts = self.translate_root(

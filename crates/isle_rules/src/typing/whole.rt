@@ -1,16 +1,18 @@
 //! How all rules of a list are read by its terms.
 
-ghost use Rattle.std.specs.Prelude.{◌≡◌, [], IfOk};
+ghost use Rattle.std.specs.Prelude.{◌≡◌, [], ◌++◌, IfOk};
 ghost use Rattle.isle_base.specs.SyntaxViews.{definition_views};
 ghost use Rattle.isle_model.specs.lists.TermTable.{rule_trees};
 ghost use Rattle.isle_types.specs.Envs.{IsInterned};
 ghost use Rattle.isle_rules.specs.LimitsNamed.{NamesPastLimits};
+ghost use Rattle.isle_rules.specs.RuleBreaches.{BeginsWrong};
 ghost use Rattle.isle_rules.specs.RuleErrors.{NotesOfRules};
 ghost use Rattle.isle_rules.specs.RulesRead.{ReadsRules};
 ghost use Rattle.isle_rules.specs.ShownEnvs.{terms_shown_by};
 ghost use Rattle.isle_rules.specs.Translating.{Keeps};
 ghost use Rattle.isle_base.specs.Positions.{NotesAt, positions_of};
-ghost use Rattle.isle_rules.specs.RulePositions.{with_terms};
+ghost use Rattle.isle_terms.specs.TermPositions.{terms_positions};
+ghost use Rattle.isle_terms.specs.TermViews.{term_views};
 
 use crate::term_env::TermEnv;
 use crate::typing::progress::Progress;
@@ -38,7 +40,8 @@ impl TermEnv {
         ensures reads { IfOk result (λ v. ReadsRules self.old tyenv.old tyenv.new (definition_views defs.now) self.new v.items) }
         ensures notes { IfOk result (λ v. NotesOfRules self.old tyenv.old (rule_trees (definition_views defs.now)) [] v.items) }
         ensures named { IfOk result (λ v. NamesPastLimits self.old tyenv.old (rule_trees (definition_views defs.now)) v.items) }
-        ensures places { IfOk result (λ v. NotesAt (with_terms self.old (positions_of (definition_views defs.now))) [] v.items) }
+        ensures breach { IfOk result (λ v. BeginsWrong self.old tyenv.old (rule_trees (definition_views defs.now)) [] v.items) }
+        ensures places { IfOk result (λ v. NotesAt (positions_of (definition_views defs.now) ++ terms_positions (term_views self.old.terms.items)) [] v.items) }
     {
         let alloc = *self.terms.allocator();
         let mut work = Progress::new(alloc, Vec::new(alloc));

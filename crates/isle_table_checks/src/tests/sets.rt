@@ -13,7 +13,7 @@ use isle_builder::build::build;
 use isle_printing::errors::error_lines;
 use isle_printing::places::Places;
 use isle_rules::TermEnv;
-use isle_sets::trie_again::{Binding, BindingId, Constraint, Overlap, Rule, RuleSet};
+use isle_sets::trie_again::{Binding, BindingId, Constraint, Overlap, Rule, RuleSet, TupleIndex};
 use isle_text::read;
 use isle_types::{TermId, Type, TypeEnv, TypeId, VariantId};
 use std::alloc::{AllocError, Global};
@@ -221,5 +221,13 @@ fn as_many_sites_as_may_be(rt: HostRuntime) -> Result<(), Fail> {
             }]
         )
     );
+    Ok(())
+}
+
+// Numbers of sites have 16 bits, those of fields 8.
+#[test]
+fn numbers_past_the_greatest(rt: HostRuntime) -> Result<(), Fail> {
+    assert!(&rt; TupleIndex::try_from(255).is_ok() && TupleIndex::try_from(256).is_err());
+    assert!(&rt; BindingId::try_from(65535).is_ok() && BindingId::try_from(65536).is_err());
     Ok(())
 }

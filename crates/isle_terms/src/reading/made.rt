@@ -1,7 +1,6 @@
 //! How the terms that types make are read: one for each variant of an enum, and one for a struct.
 
 ghost use Rattle.std.specs.Prelude.{◌∷◌, ◌++◌, [], OnOk, map};
-ghost use Rattle.std.specs.List.{flat_map};
 ghost use Rattle.isle_model.specs.lists.TermTable.{made_by, terms_made, variant_as_term, struct_as_term};
 ghost use Rattle.isle_base.specs.Positions.{NotesAt};
 ghost use Rattle.isle_base.specs.SyntaxViews.{position};
@@ -9,7 +8,7 @@ ghost use Rattle.isle_types.specs.TypeViews.{fields_view, type_view, type_views,
 ghost use Rattle.isle_base.specs.Noting.{NotesMore};
 ghost use Rattle.isle_terms.specs.Reading.{IsWithin};
 ghost use Rattle.isle_terms.specs.TermViews.{kind_view};
-ghost use Rattle.isle_terms.specs.Signing.{AddsMade, PushesTerm, made_entry};
+ghost use Rattle.isle_terms.specs.Signing.{AddsAllMade, AddsMade, PushesTerm, made_entry};
 ghost use Rattle.isle_terms.specs.TermPositions.{table_positions, variants_positions, IsPlacedAmong};
 ghost use Rattle.isle_types.specs.TypePositions.{entry_positions as type_entry_positions, types_positions};
 
@@ -28,7 +27,7 @@ impl TermTable {
     ) -> Result<(), AllocError>
         requires { IsWithin self.old }
         ensures within { OnOk result (IsWithin self.new) }
-        ensures adds { OnOk result (AddsMade (flat_map made_by (type_views tyenv.now.types.items)) (flat_map terms_made (type_views tyenv.now.types.items)) self.old errors.old.items self.new errors.new.items) }
+        ensures adds { OnOk result (AddsAllMade (type_views tyenv.now.types.items) self.old errors.old.items self.new errors.new.items) }
         ensures places { OnOk result (NotesAt (types_positions (type_views tyenv.now.types.items)) errors.old.items errors.new.items) }
         ensures placed { OnOk result (IsPlacedAmong (types_positions (type_views tyenv.now.types.items) ++ table_positions self.old) self.new) }
     {

@@ -13,6 +13,7 @@ ghost use Rattle.isle_terms.specs.Recursion.{ExtractorsRead};
 ghost use Rattle.isle_terms.specs.Signing.{Declaring, ReadsTerms};
 ghost use Rattle.isle_terms.specs.Stages.{HasNoConverter};
 ghost use Rattle.isle_terms.specs.Standing.{RootsRead};
+ghost use Rattle.isle_terms.specs.TermBreaches.{FirstBreaksTerms};
 ghost use Rattle.isle_terms.specs.TermTables.{term_at};
 ghost use Rattle.isle_terms.specs.Whole.{shown_by};
 ghost use Rattle.isle_terms.specs.TermPositions.{table_positions, IsPlacedAmong};
@@ -33,8 +34,10 @@ impl TermTable {
     ///
     /// `Errors` has all that is wrong in the first of four groups in which something is: declarations and the
     /// terms that types make; rules' terms and internal extractors; converters; external functions. `Memory`
-    /// where memory is refused. Each error stands at positions that occur in the definitions or that the types of `tyenv`
-    /// keep, and so do all positions that the table keeps.
+    /// where memory is refused. The first error stands at a definition that breaks a condition of validity, of two that
+    /// have one name at the later one, or at a type that makes a term whose name is taken. Each error stands at
+    /// positions that occur in the definitions or that the types of `tyenv` keep, and so do all positions that the table
+    /// keeps.
     pub fn from_ast(alloc: Global, tyenv: &mut TypeEnv, defs: &[Def]) -> Result<TermTable, Fault>
         ghost read: { TypesRead }
         requires readable { AreReadable read }
@@ -44,6 +47,7 @@ impl TermTable {
         ensures left { OnErr result (IsLeftByRefusal read (environment_view tyenv.new)) }
         ensures no_limit { NoLimit result }
         ensures refused { OnErrors result (λ es. RefusesTerms read (definition_views defs.now) (error_views es)) }
+        ensures breach { OnErrors result (FirstBreaksTerms read.known (definition_views defs.now)) }
         ensures places { OnErrors result (All (ErrorStandsAt (positions_of (definition_views defs.now) ++ types_positions read.known.types))) }
         ensures placed { IfOk result (IsPlacedAmong (positions_of (definition_views defs.now) ++ types_positions read.known.types)) }
     {

@@ -8,14 +8,15 @@ use Rattle.isle_model.specs.lists.TypeTable.{type_table}
 use Rattle.isle_model.specs.claims.Layers.{RefusedBy, by_types, by_rules}
 use Rattle.isle_model.specs.claims.Refusals.{NamesOnlyPassed, PassedInReading, RefusesTypes, RefusesRules}
 use Rattle.isle_laws_trees.specs.NoLimits.{PassedInLowering}
+use Rattle.isle_laws_trees.specs.OneAnswer.{AreCheckErrors}
 use Rattle.isle_types.specs.TypePositions.{types_positions}
 use Rattle.isle_types.specs.declared.type_env.TypeEnv.{TypeEnv}
 use Rattle.isle_base.specs.ErrorViews.{error_views}
 use Rattle.isle_rules.specs.declared.term_env.TermEnv.{TermEnv}
 use Rattle.isle_rules.proofs.RuleErrorSteps.{no_limit_named}
 use Rattle.cranelift_isle.specs.declared.lower.Lowered.{Lowered}
-use Rattle.cranelift_isle.specs.Lowerings.{lowered_views}
-use Rattle.cranelift_isle.proofs.Lowered.{were_read, of_elaborated, accepted, built_for_some, answers, chosen, unique, whole, collected, refused_by_check, why_refused, limits_of_check, stand_of_check, errors_so, passed_in_reading}
+use Rattle.cranelift_isle.specs.Lowerings.{lowered_views, NamesLackedLimits}
+use Rattle.cranelift_isle.proofs.Lowered.{were_read, of_elaborated, accepted, built_for_some, answers, chosen, unique, whole, demands, collected, refused_by_check, why_refused, exact_of_check, named_of_check, limits_of_check, stand_of_check, errors_so, passed_in_reading, unread_types, unread_rules, no_valid_types, lacked_in_reading}
 use Rattle.cranelift_isle.proofs.NamedPlaces.{with_types_among}
 use Rattle.cranelift_isle.proofs.lower.lower.Goals as goal
 
@@ -66,6 +67,13 @@ returns-clause-whole c =
     let read = were_read (definition_views c.args.defs.now) c.args.expand c.in_ok-termenv.termenv _ c.in_ok-tyenv.ensures.shown.valid c.in_ok-termenv.ensures.answers.1 in
     let terms = c.in_ok-terms in
     whole read c.in_ok-sets.sets c.in_ok-sets.ensures.checked
+    c.best_trees_keep_the_headline.ensures (lowered_views terms.terms.items) terms.ensures.same terms.ensures.shared c.accepted_sets_are_whole.ensures
+
+pub returns-clause-demands : goal.returns-clause-demands
+returns-clause-demands c =
+    let read = were_read (definition_views c.args.defs.now) c.args.expand c.in_ok-termenv.termenv _ c.in_ok-tyenv.ensures.shown.valid c.in_ok-termenv.ensures.answers.1 in
+    let terms = c.in_ok-terms in
+    demands read c.in_ok-sets.sets c.in_ok-sets.ensures.checked
     c.best_trees_keep_the_headline.ensures (lowered_views terms.terms.items) terms.ensures.same terms.ensures.shared c.accepted_demands_are_whole.ensures
 
 pub returns-clause-within_limits : goal.returns-clause-within_limits
@@ -95,6 +103,34 @@ returns-in_err-tyenv-clause-places c =
     let e : c.from_residual.result ≡ Err c.in_err-tyenv.field-0.0 = search rules in
     subst (λ r. OnErrors r P) (sym e) (errors_so Lowered TypeEnv c.in_err-tyenv.field-0.0 P P (λ es h. h) c.in_err-tyenv.ensures.places)
 
+pub returns-in_err-tyenv-clause-exact : goal.returns-in_err-tyenv-clause-exact
+returns-in_err-tyenv-clause-exact c =
+    let defs = definition_views c.args.defs.now in
+    let e : c.from_residual.result ≡ Err c.in_err-tyenv.field-0.0 = search rules in
+    subst (λ r. OnErrors r (λ es. AreCheckErrors defs c.args.expand (error_views es))) (sym e)
+    (errors_so Lowered TypeEnv c.in_err-tyenv.field-0.0 (λ es. RefusesTypes defs (error_views es)) (λ es. AreCheckErrors defs c.args.expand (error_views es)) (λ es r. unread_types defs c.args.expand (error_views es) r) c.in_err-tyenv.ensures.refused)
+
+pub returns-in_err-tyenv-clause-named : goal.returns-in_err-tyenv-clause-named
+returns-in_err-tyenv-clause-named c =
+    let defs = definition_views c.args.defs.now in
+    let e : c.from_residual.result ≡ Err c.in_err-tyenv.field-0.0 = search rules in
+    subst (λ r. OnErrors r (λ es. NamesLackedLimits defs c.args.expand (error_views es))) (sym e)
+    (errors_so Lowered TypeEnv c.in_err-tyenv.field-0.0 (λ es. RefusesTypes defs (error_views es)) (λ es. NamesLackedLimits defs c.args.expand (error_views es)) (λ es r. no_valid_types defs c.args.expand (error_views es) r) c.in_err-tyenv.ensures.refused)
+
+pub returns-in_err-termenv-clause-exact : goal.returns-in_err-termenv-clause-exact
+returns-in_err-termenv-clause-exact c =
+    let defs = definition_views c.args.defs.now in
+    let e : c.from_residual-in_err-termenv.result ≡ Err c.in_err-termenv.field-0.0 = search rules in
+    subst (λ r. OnErrors r (λ es. AreCheckErrors defs c.args.expand (error_views es))) (sym e)
+    (errors_so Lowered TermEnv c.in_err-termenv.field-0.0 (λ es. RefusesRules (types_read defs) defs c.args.expand (error_views es)) (λ es. AreCheckErrors defs c.args.expand (error_views es)) (λ es r. unread_rules defs c.args.expand (error_views es) r) c.in_err-termenv.ensures.refused)
+
+pub returns-in_err-termenv-clause-named : goal.returns-in_err-termenv-clause-named
+returns-in_err-termenv-clause-named c =
+    let defs = definition_views c.args.defs.now in
+    let e : c.from_residual-in_err-termenv.result ≡ Err c.in_err-termenv.field-0.0 = search rules in
+    subst (λ r. OnErrors r (λ es. NamesLackedLimits defs c.args.expand (error_views es))) (sym e)
+    (lacked_in_reading defs c.args.expand TermEnv c.in_err-termenv.field-0.0 c.in_err-termenv.ensures.named c.in_err-termenv.ensures.first)
+
 pub returns-in_err-termenv-clause-limits : goal.returns-in_err-termenv-clause-limits
 returns-in_err-termenv-clause-limits c =
     let defs = definition_views c.args.defs.now in
@@ -122,6 +158,16 @@ pub returns-in_err-sets-clause-accepted : goal.returns-in_err-sets-clause-accept
 returns-in_err-sets-clause-accepted c =
     let read = were_read (definition_views c.args.defs.now) c.args.expand c.in_ok-termenv.termenv _ c.in_ok-tyenv.ensures.shown.valid c.in_ok-termenv.ensures.answers.1 in
     refused_by_check read c.from_residual-in_err-sets.result c.in_err-sets.field-0.0 (search rules) c.in_err-sets.ensures.checked
+
+pub returns-in_err-sets-clause-exact : goal.returns-in_err-sets-clause-exact
+returns-in_err-sets-clause-exact c =
+    let read = were_read (definition_views c.args.defs.now) c.args.expand c.in_ok-termenv.termenv _ c.in_ok-tyenv.ensures.shown.valid c.in_ok-termenv.ensures.answers.1 in
+    exact_of_check read c.from_residual-in_err-sets.result c.in_err-sets.field-0.0 (search rules) c.in_err-sets.ensures.checked
+
+pub returns-in_err-sets-clause-named : goal.returns-in_err-sets-clause-named
+returns-in_err-sets-clause-named c =
+    let read = were_read (definition_views c.args.defs.now) c.args.expand c.in_ok-termenv.termenv _ c.in_ok-tyenv.ensures.shown.valid c.in_ok-termenv.ensures.answers.1 in
+    named_of_check read c.from_residual-in_err-sets.result c.in_err-sets.field-0.0 (search rules) c.in_err-sets.ensures.checked
 
 pub returns-in_err-sets-clause-limits : goal.returns-in_err-sets-clause-limits
 returns-in_err-sets-clause-limits c =

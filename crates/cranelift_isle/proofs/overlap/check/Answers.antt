@@ -1,8 +1,7 @@
 use Rattle.isle_model.specs.sites.Overlap.{build_reports}
 use Rattle.isle_model.specs.claims.Environments.{program_of}
 use Rattle.isle_laws_demands.specs.ErrorLaws.{NamesLeftOut, NamesPairs, NamesMasks}
-use Rattle.cranelift_isle.specs.Checks.{WhereApart}
-use Rattle.cranelift_isle.proofs.NamedErrors.{named}
+use Rattle.cranelift_isle.proofs.NamedErrors.{named, named_exactly}
 use Rattle.cranelift_isle.proofs.overlap.check.Goals as goal
 
 pub returns : goal.returns
@@ -15,11 +14,11 @@ returns c = record {
       (c.check_built.ensures.checked p (build_reports p) (c.in_ok-sets.ensures.built e defs expand rules is shown));
   pairs = λ e defs expand rules is shown.
       let p = program_of e defs rules.rules in
-      named (WhereApart NamesPairs) p c.check_built.result (λ reports. c.check_errors_name_pairs.ensures e defs expand rules reports is)
+      named_exactly NamesPairs p c.check_built.result (c.check_errors_name_pairs.ensures e defs expand rules is)
       (c.check_built.ensures.checked p (build_reports p) (c.in_ok-sets.ensures.built e defs expand rules is shown));
   masks = λ e defs expand rules is shown.
       let p = program_of e defs rules.rules in
-      named (WhereApart NamesMasks) p c.check_built.result (λ reports. c.check_errors_name_masks.ensures e defs expand rules reports is)
+      named_exactly NamesMasks p c.check_built.result (c.check_errors_name_masks.ensures e defs expand rules is)
       (c.check_built.ensures.checked p (build_reports p) (c.in_ok-sets.ensures.built e defs expand rules is shown));
   places = λ e defs expand rules is shown.
       let p = program_of e defs rules.rules in c.check_built.ensures.places p (build_reports p) (c.in_ok-sets.ensures.built e defs expand rules is shown);

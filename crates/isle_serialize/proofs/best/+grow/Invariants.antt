@@ -21,8 +21,8 @@ invariant-block_of-loop-around l = BlockGrows (set_view l.set) (around_view l.fn
 abbrev pub decreases-block_of-loop-around : goal.decreases-block_of-loop-around
 decreases-block_of-loop-around l = length l.left.items
 
-abbrev pub invariant-arms_of-loop-left : goal.invariant-arms_of-loop-left
-invariant-arms_of-loop-left l = ArmsGrow (set_view l.set) (around_view l.around) l.source l.fn.here.items l.left.items l.arms.items
+abbrev pub invariant-arms_of-loop-arms : goal.invariant-arms_of-loop-arms
+invariant-arms_of-loop-arms l = ArmsGrow (set_view l.set) (around_view l.around) l.source l.here.items l.left l.arms.items
 
-abbrev pub decreases-arms_of-loop-left : goal.decreases-arms_of-loop-left
-decreases-arms_of-loop-left l = length l.left.items
+abbrev pub decreases-arms_of-loop-arms : goal.decreases-arms_of-loop-arms
+decreases-arms_of-loop-arms l = length l.left

@@ -9,7 +9,7 @@ use Rattle.isle_serialize.proofs.binds.all_listed.Goals as goal
 
 pub loop-site-init : goal.loop-site-init
 loop-site-init c = record {
-  settled = subst (λ l. AreSettled c.args.emitted.now l c.in_ok-settled.settled) (sym c.new-listed.ensures.items) (settled_first c.args.emitted.now c.in_ok-settled.settled c.in_ok-settled.ensures);
+  settled = subst (λ l. AreSettled c.args.emitted.now l c.args.settled.now) (sym c.new-listed.ensures.items) (settled_first c.args.emitted.now c.args.settled.now c.requires.settled);
   listed = c.new-listed.ensures.items;
 }
 

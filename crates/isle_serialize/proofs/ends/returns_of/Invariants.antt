@@ -4,4 +4,4 @@ use Rattle.isle_serialize.proofs.EndSteps.{EndsSoFar}
 use Rattle.isle_serialize.proofs.ends.returns_of.Given as goal
 
 abbrev pub invariant-loop-number : goal.invariant-loop-number
-invariant-loop-number l = EndsSoFar (set_view l.set) (around_view l.fn.around) l.number-items (around_view l.around) l.number-index l.steps.items
+invariant-loop-number l = EndsSoFar (set_view l.set) (around_view l.fn.around) l.fn.here.items (around_view l.around) l.number-index l.steps.items

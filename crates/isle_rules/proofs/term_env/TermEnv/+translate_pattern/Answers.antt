@@ -19,8 +19,8 @@ use Rattle.isle_rules.proofs.PatternForms.{seen_bind, seen_term, seen_and, any_u
 use Rattle.isle_rules.proofs.Readings.{stop_is, stop_keeps, stays_on, may_report, keep_none, keep_on, made_done, made_stops, expanded_done}
 use Rattle.isle_base.specs.Positions.{OccurAmong, pattern_positions, patterns_positions}
 use Rattle.isle_base.proofs.Positioned.{among_same, among_first, notes_among, notes_nothing}
-use Rattle.isle_rules.specs.RulePositions.{with_terms}
-use Rattle.isle_rules.proofs.Placed.{among_with, among_here, among_made, stays_head, stays_among, stays_step, stop_among, stop_step, notes_step}
+use Rattle.isle_rules.specs.RulePositions.{with_templates}
+use Rattle.isle_rules.proofs.Placed.{among_with, among_here, among_made, stays_head, stays_step, stop_among, stop_step, notes_step}
 use Rattle.isle_rules.proofs.PartPlaces.{bind_inside, term_inside, and_inside, part_inside}
 use Rattle.isle_rules.proofs.term_env.TermEnv.+translate_pattern.Goals as goal
 
@@ -194,8 +194,8 @@ translate_args-loop-i-preserved t c =
       (
           let whole = patterns_positions (S.pattern_views c.args.args.now) in
           let part = pattern_positions (S.pattern_view c.index-args-i.result) in
-          notes_step (with_terms c.args.self.now whole) (with_terms c.args.self.now part) (with_terms c.args.self.now whole) c.args.work.now.errors.items c.loop-i.work.errors.items c.translate_pattern.new.work.errors.items
-          (among_same (with_terms c.args.self.now whole)) (among_with c.args.self.now part whole (part_inside c.args.args.now c.loop-i.i c.index-args-i.result w c.index-args-i.is)) c.loop-i.invariant.2 c.in_ok-part.ensures.places
+          notes_step (with_templates c.args.self.now whole) (with_templates c.args.self.now part) (with_templates c.args.self.now whole) c.args.work.now.errors.items c.loop-i.work.errors.items c.translate_pattern.new.work.errors.items
+          (among_same (with_templates c.args.self.now whole)) (among_with c.args.self.now part whole (part_inside c.args.args.now c.loop-i.i c.index-args-i.result w c.index-args-i.is)) c.loop-i.invariant.2 c.in_ok-part.ensures.places
           ),
     )
 
@@ -224,8 +224,8 @@ translate_each-loop-subpat-preserved t c =
       (
           let whole = patterns_positions (S.pattern_views c.args.subpats.now) in
           let part = pattern_positions (S.pattern_view c.subpat-item.result) in
-          notes_step (with_terms c.args.self.now whole) (with_terms c.args.self.now part) (with_terms c.args.self.now whole) c.args.work.now.errors.items c.loop-subpat.work.errors.items c.translate_pattern.new.work.errors.items
-          (among_same (with_terms c.args.self.now whole)) (among_with c.args.self.now part whole (part_inside c.args.subpats.now c.loop-subpat.subpat-index c.subpat-item.result c.loop-subpat-test.true c.subpat-item.is)) c.loop-subpat.invariant.2 c.in_ok-part.ensures.places
+          notes_step (with_templates c.args.self.now whole) (with_templates c.args.self.now part) (with_templates c.args.self.now whole) c.args.work.now.errors.items c.loop-subpat.work.errors.items c.translate_pattern.new.work.errors.items
+          (among_same (with_templates c.args.self.now whole)) (among_with c.args.self.now part whole (part_inside c.args.subpats.now c.loop-subpat.subpat-index c.subpat-item.result c.loop-subpat-test.true c.subpat-item.is)) c.loop-subpat.invariant.2 c.in_ok-part.ensures.places
           ),
     )
 
@@ -235,8 +235,8 @@ translate_args-returns-in_err-part-clause-places t c =
     let whole = patterns_positions (S.pattern_views c.args.args.now) in
     let part = pattern_positions (S.pattern_view c.index-args-i.result) in
     rw (stop_is c.from_residual-in_err-part.result c.in_err-part.field-0.0 c.from_residual-in_err-part.ensures)
-    (stop_step (with_terms c.args.self.now whole) (with_terms c.args.self.now part) (with_terms c.args.self.now whole) c.args.work.now.errors.items c.loop-i.work.errors.items c.translate_pattern.new.work.errors.items c.in_err-part.field-0.0
-    (among_same (with_terms c.args.self.now whole)) (among_with c.args.self.now part whole (part_inside c.args.args.now c.loop-i.i c.index-args-i.result w c.index-args-i.is)) c.loop-i.invariant.2 c.in_err-part.ensures.places)
+    (stop_step (with_templates c.args.self.now whole) (with_templates c.args.self.now part) (with_templates c.args.self.now whole) c.args.work.now.errors.items c.loop-i.work.errors.items c.translate_pattern.new.work.errors.items c.in_err-part.field-0.0
+    (among_same (with_templates c.args.self.now whole)) (among_with c.args.self.now part whole (part_inside c.args.args.now c.loop-i.i c.index-args-i.result w c.index-args-i.is)) c.loop-i.invariant.2 c.in_err-part.ensures.places)
 
 pub translate_args-returns-clause-places : goal.translate_args-returns-clause-places
 translate_args-returns-clause-places t c = c.loop-i.invariant.2
@@ -246,8 +246,8 @@ translate_each-returns-in_err-part-clause-places t c =
     let whole = patterns_positions (S.pattern_views c.args.subpats.now) in
     let part = pattern_positions (S.pattern_view c.subpat-item.result) in
     rw (stop_is c.from_residual-in_err-part.result c.in_err-part.field-0.0 c.from_residual-in_err-part.ensures)
-    (stop_step (with_terms c.args.self.now whole) (with_terms c.args.self.now part) (with_terms c.args.self.now whole) c.args.work.now.errors.items c.loop-subpat.work.errors.items c.translate_pattern.new.work.errors.items c.in_err-part.field-0.0
-    (among_same (with_terms c.args.self.now whole)) (among_with c.args.self.now part whole (part_inside c.args.subpats.now c.loop-subpat.subpat-index c.subpat-item.result c.loop-subpat-test.true c.subpat-item.is)) c.loop-subpat.invariant.2 c.in_err-part.ensures.places)
+    (stop_step (with_templates c.args.self.now whole) (with_templates c.args.self.now part) (with_templates c.args.self.now whole) c.args.work.now.errors.items c.loop-subpat.work.errors.items c.translate_pattern.new.work.errors.items c.in_err-part.field-0.0
+    (among_same (with_templates c.args.self.now whole)) (among_with c.args.self.now part whole (part_inside c.args.subpats.now c.loop-subpat.subpat-index c.subpat-item.result c.loop-subpat-test.true c.subpat-item.is)) c.loop-subpat.invariant.2 c.in_err-part.ensures.places)
 
 pub translate_each-returns-clause-places : goal.translate_each-returns-clause-places
 translate_each-returns-clause-places t c = c.loop-subpat.invariant.2
@@ -280,27 +280,27 @@ translate_pattern-returns-in_err-made-in-BindPattern-clause-places t c =
     let name = S.name_view c.in-BindPattern.var in
     let of = S.pattern_view c.deref.result.now in
     let at = S.position c.in-BindPattern.pos in
-    let inside : OccurAmong (with_terms c.args.self.now (pattern_positions of)) (with_terms c.args.self.now (pattern_positions (bind_pattern name of at))) = among_with c.args.self.now (pattern_positions of) (pattern_positions (bind_pattern name of at)) (bind_inside name of at) in
+    let inside : OccurAmong (with_templates c.args.self.now (pattern_positions of)) (with_templates c.args.self.now (pattern_positions (bind_pattern name of at))) = among_with c.args.self.now (pattern_positions of) (pattern_positions (bind_pattern name of at)) (bind_inside name of at) in
     rw (stop_is c.from_residual.result c.in_err-made-in-BindPattern.field-0.0 c.from_residual.ensures, seen_bind c.args.pat.now c.in-BindPattern.var c.in-BindPattern.subpat c.in-BindPattern.pos c.deref.result.now c.in-BindPattern.is c.deref.ensures)
-    (stop_among (with_terms c.args.self.now (pattern_positions of)) (with_terms c.args.self.now (pattern_positions (bind_pattern name of at))) c.args.work.now.errors.items c.translate_pattern.new.work.errors.items c.in_err-made-in-BindPattern.field-0.0 inside c.in_err-made-in-BindPattern.ensures.places)
+    (stop_among (with_templates c.args.self.now (pattern_positions of)) (with_templates c.args.self.now (pattern_positions (bind_pattern name of at))) c.args.work.now.errors.items c.translate_pattern.new.work.errors.items c.in_err-made-in-BindPattern.field-0.0 inside c.in_err-made-in-BindPattern.ensures.places)
 
 pub translate_pattern-returns-in_default-clause-places : goal.translate_pattern-returns-in_default-clause-places
 translate_pattern-returns-in_default-clause-places t c =
     let name = S.name_view c.in-BindPattern.var in
     let of = S.pattern_view c.deref.result.now in
     let at = S.position c.in-BindPattern.pos in
-    let inside : OccurAmong (with_terms c.args.self.now (pattern_positions of)) (with_terms c.args.self.now (pattern_positions (bind_pattern name of at))) = among_with c.args.self.now (pattern_positions of) (pattern_positions (bind_pattern name of at)) (bind_inside name of at) in
+    let inside : OccurAmong (with_templates c.args.self.now (pattern_positions of)) (with_templates c.args.self.now (pattern_positions (bind_pattern name of at))) = among_with c.args.self.now (pattern_positions of) (pattern_positions (bind_pattern name of at)) (bind_inside name of at) in
     rw (seen_bind c.args.pat.now c.in-BindPattern.var c.in-BindPattern.subpat c.in-BindPattern.pos c.deref.result.now c.in-BindPattern.is c.deref.ensures)
-    (notes_among (with_terms c.args.self.now (pattern_positions of)) (with_terms c.args.self.now (pattern_positions (bind_pattern name of at))) c.args.work.now.errors.items c.translate_pattern.new.work.errors.items inside c.in_ok-made-in-BindPattern.ensures.places)
+    (notes_among (with_templates c.args.self.now (pattern_positions of)) (with_templates c.args.self.now (pattern_positions (bind_pattern name of at))) c.args.work.now.errors.items c.translate_pattern.new.work.errors.items inside c.in_ok-made-in-BindPattern.ensures.places)
 
 pub translate_pattern-returns-in-Some-clause-places : goal.translate_pattern-returns-in-Some-clause-places
 translate_pattern-returns-in-Some-clause-places t c =
     let name = S.name_view c.in-BindPattern.var in
     let of = S.pattern_view c.deref.result.now in
     let at = S.position c.in-BindPattern.pos in
-    let inside : OccurAmong (with_terms c.args.self.now (pattern_positions of)) (with_terms c.args.self.now (pattern_positions (bind_pattern name of at))) = among_with c.args.self.now (pattern_positions of) (pattern_positions (bind_pattern name of at)) (bind_inside name of at) in
+    let inside : OccurAmong (with_templates c.args.self.now (pattern_positions of)) (with_templates c.args.self.now (pattern_positions (bind_pattern name of at))) = among_with c.args.self.now (pattern_positions of) (pattern_positions (bind_pattern name of at)) (bind_inside name of at) in
     rw (seen_bind c.args.pat.now c.in-BindPattern.var c.in-BindPattern.subpat c.in-BindPattern.pos c.deref.result.now c.in-BindPattern.is c.deref.ensures)
-    (stays_step (with_terms c.args.self.now (pattern_positions of)) (at ∷ []) (with_terms c.args.self.now (pattern_positions (bind_pattern name of at))) c.args.work.now.errors.items c.translate_pattern.new.work.errors.items c.bind_around.new.work.errors.items c.bind_around.result
+    (stays_step (with_templates c.args.self.now (pattern_positions of)) (at ∷ []) (with_templates c.args.self.now (pattern_positions (bind_pattern name of at))) c.args.work.now.errors.items c.translate_pattern.new.work.errors.items c.bind_around.new.work.errors.items c.bind_around.result
     inside (among_here c.args.self.now (at ∷ []) (pattern_positions (bind_pattern name of at)) (among_first at (name.at ∷ pattern_positions of))) c.in_ok-made-in-BindPattern.ensures.places c.bind_around.ensures.places)
 
 pub translate_pattern-returns-in_err-use_in_pattern-in-Term-clause-places : goal.translate_pattern-returns-in_err-use_in_pattern-in-Term-clause-places
@@ -309,7 +309,7 @@ translate_pattern-returns-in_err-use_in_pattern-in-Term-clause-places t c =
     let args = S.pattern_views c.deref-in-Term.result.now in
     let at = S.position c.in-Term.pos in
     let whole : List Position = pattern_positions (term_pattern name args at) in
-    let all = with_terms c.args.self.now whole in
+    let all = with_templates c.args.self.now whole in
     let here : OccurAmong (at ∷ []) all = among_here c.args.self.now (at ∷ []) whole (among_first at (name.at ∷ patterns_positions args)) in
     rw (stop_is c.from_residual-in_err-use_in_pattern-in-Term.result c.in_err-use_in_pattern-in-Term.field-0.0 c.from_residual-in_err-use_in_pattern-in-Term.ensures, seen_term c.args.pat.now c.in-Term.sym c.in-Term.args c.in-Term.pos c.deref-in-Term.result.now c.in-Term.is c.deref-in-Term.ensures.value)
     (stop_among (at ∷ []) all c.args.work.now.errors.items c.use_in_pattern.new.work.errors.items c.in_err-use_in_pattern-in-Term.field-0.0 here c.in_err-use_in_pattern-in-Term.ensures.places)
@@ -320,7 +320,7 @@ translate_pattern-returns-in-Wrong-clause-places t c =
     let args = S.pattern_views c.deref-in-Term.result.now in
     let at = S.position c.in-Term.pos in
     let whole : List Position = pattern_positions (term_pattern name args at) in
-    let all = with_terms c.args.self.now whole in
+    let all = with_templates c.args.self.now whole in
     let here : OccurAmong (at ∷ []) all = among_here c.args.self.now (at ∷ []) whole (among_first at (name.at ∷ patterns_positions args)) in
     rw (seen_term c.args.pat.now c.in-Term.sym c.in-Term.args c.in-Term.pos c.deref-in-Term.result.now c.in-Term.is c.deref-in-Term.ensures.value) (notes_among (at ∷ []) all c.args.work.now.errors.items c.use_in_pattern.new.work.errors.items here c.in_ok-use_in_pattern-in-Term.ensures.places)
 
@@ -330,12 +330,12 @@ translate_pattern-returns-in-Expansion-clause-places t c =
     let args = S.pattern_views c.deref-in-Term.result.now in
     let at = S.position c.in-Term.pos in
     let whole : List Position = pattern_positions (term_pattern name args at) in
-    let all = with_terms c.args.self.now whole in
+    let all = with_templates c.args.self.now whole in
     let here : OccurAmong (at ∷ []) all = among_here c.args.self.now (at ∷ []) whole (among_first at (name.at ∷ patterns_positions args)) in
     let made = pattern_positions (S.pattern_view c.in-Expansion.made) in
     let inside : OccurAmong made all = rw (seen_term c.args.pat.now c.in-Term.sym c.in-Term.args c.in-Term.pos c.deref-in-Term.result.now c.in-Term.is c.deref-in-Term.ensures.value) at (rw c.in-Expansion.is at c.in_ok-use_in_pattern-in-Term.ensures.among) in
     rw (seen_term c.args.pat.now c.in-Term.sym c.in-Term.args c.in-Term.pos c.deref-in-Term.result.now c.in-Term.is c.deref-in-Term.ensures.value)
-    (stays_step (at ∷ []) (with_terms c.args.self.now made) all c.args.work.now.errors.items c.use_in_pattern.new.work.errors.items c.translate_pattern-in-Expansion.new.work.errors.items c.translate_pattern-in-Expansion.result
+    (stays_step (at ∷ []) (with_templates c.args.self.now made) all c.args.work.now.errors.items c.use_in_pattern.new.work.errors.items c.translate_pattern-in-Expansion.new.work.errors.items c.translate_pattern-in-Expansion.result
     here (among_made c.args.self.now made whole inside) c.in_ok-use_in_pattern-in-Term.ensures.places c.translate_pattern-in-Expansion.ensures.places)
 
 pub translate_pattern-returns-in_err-parts-in-Parts-clause-places : goal.translate_pattern-returns-in_err-parts-in-Parts-clause-places
@@ -344,10 +344,10 @@ translate_pattern-returns-in_err-parts-in-Parts-clause-places t c =
     let args = S.pattern_views c.deref-in-Term.result.now in
     let at = S.position c.in-Term.pos in
     let whole : List Position = pattern_positions (term_pattern name args at) in
-    let all = with_terms c.args.self.now whole in
+    let all = with_templates c.args.self.now whole in
     let here : OccurAmong (at ∷ []) all = among_here c.args.self.now (at ∷ []) whole (among_first at (name.at ∷ patterns_positions args)) in
     let same : c.deref-in-Parts.result.now ≡ c.deref-in-Term.result.now = c.deref-in-Parts.ensures.value ∙ sym c.deref-in-Term.ensures.value in
-    let parts = with_terms c.args.self.now (patterns_positions args) in
+    let parts = with_templates c.args.self.now (patterns_positions args) in
     let inside : OccurAmong parts all = among_with c.args.self.now (patterns_positions args) whole (term_inside name args at) in
     let placed = rw same at c.in_err-parts-in-Parts.ensures.places in
     rw (stop_is c.from_residual-in_err-parts-in-Parts.result c.in_err-parts-in-Parts.field-0.0 c.from_residual-in_err-parts-in-Parts.ensures, seen_term c.args.pat.now c.in-Term.sym c.in-Term.args c.in-Term.pos c.deref-in-Term.result.now c.in-Term.is c.deref-in-Term.ensures.value)
@@ -359,10 +359,10 @@ translate_pattern-returns-in_ok-parts-in-Parts-clause-places t c =
     let args = S.pattern_views c.deref-in-Term.result.now in
     let at = S.position c.in-Term.pos in
     let whole : List Position = pattern_positions (term_pattern name args at) in
-    let all = with_terms c.args.self.now whole in
+    let all = with_templates c.args.self.now whole in
     let here : OccurAmong (at ∷ []) all = among_here c.args.self.now (at ∷ []) whole (among_first at (name.at ∷ patterns_positions args)) in
     let same : c.deref-in-Parts.result.now ≡ c.deref-in-Term.result.now = c.deref-in-Parts.ensures.value ∙ sym c.deref-in-Term.ensures.value in
-    let parts = with_terms c.args.self.now (patterns_positions args) in
+    let parts = with_templates c.args.self.now (patterns_positions args) in
     let inside : OccurAmong parts all = among_with c.args.self.now (patterns_positions args) whole (term_inside name args at) in
     let placed = rw same at c.in_ok-parts-in-Parts.ensures.places in
     rw (seen_term c.args.pat.now c.in-Term.sym c.in-Term.args c.in-Term.pos c.deref-in-Term.result.now c.in-Term.is c.deref-in-Term.ensures.value)
@@ -372,13 +372,13 @@ pub translate_pattern-returns-in_err-parts-in-And-clause-places : goal.translate
 translate_pattern-returns-in_err-parts-in-And-clause-places t c =
     let parts = S.pattern_views c.deref-in-And.result.now in
     let at = S.position c.in-And.pos in
-    let inside : OccurAmong (with_terms c.args.self.now (patterns_positions parts)) (with_terms c.args.self.now (pattern_positions (and_pattern parts at))) = among_with c.args.self.now (patterns_positions parts) (pattern_positions (and_pattern parts at)) (and_inside parts at) in
+    let inside : OccurAmong (with_templates c.args.self.now (patterns_positions parts)) (with_templates c.args.self.now (pattern_positions (and_pattern parts at))) = among_with c.args.self.now (patterns_positions parts) (pattern_positions (and_pattern parts at)) (and_inside parts at) in
     rw (stop_is c.from_residual-in_err-parts-in-And.result c.in_err-parts-in-And.field-0.0 c.from_residual-in_err-parts-in-And.ensures, seen_and c.args.pat.now c.in-And.subpats c.in-And.pos c.deref-in-And.result.now c.in-And.is c.deref-in-And.ensures.value)
-    (stop_among (with_terms c.args.self.now (patterns_positions parts)) (with_terms c.args.self.now (pattern_positions (and_pattern parts at))) c.args.work.now.errors.items c.translate_each.new.work.errors.items c.in_err-parts-in-And.field-0.0 inside c.in_err-parts-in-And.ensures.places)
+    (stop_among (with_templates c.args.self.now (patterns_positions parts)) (with_templates c.args.self.now (pattern_positions (and_pattern parts at))) c.args.work.now.errors.items c.translate_each.new.work.errors.items c.in_err-parts-in-And.field-0.0 inside c.in_err-parts-in-And.ensures.places)
 
 pub translate_pattern-returns-in_ok-parts-in-And-clause-places : goal.translate_pattern-returns-in_ok-parts-in-And-clause-places
 translate_pattern-returns-in_ok-parts-in-And-clause-places t c =
     let parts = S.pattern_views c.deref-in-And.result.now in
     let at = S.position c.in-And.pos in
-    let inside : OccurAmong (with_terms c.args.self.now (patterns_positions parts)) (with_terms c.args.self.now (pattern_positions (and_pattern parts at))) = among_with c.args.self.now (patterns_positions parts) (pattern_positions (and_pattern parts at)) (and_inside parts at) in
-    rw (seen_and c.args.pat.now c.in-And.subpats c.in-And.pos c.deref-in-And.result.now c.in-And.is c.deref-in-And.ensures.value) (notes_among (with_terms c.args.self.now (patterns_positions parts)) (with_terms c.args.self.now (pattern_positions (and_pattern parts at))) c.args.work.now.errors.items c.translate_each.new.work.errors.items inside c.in_ok-parts-in-And.ensures.places)
+    let inside : OccurAmong (with_templates c.args.self.now (patterns_positions parts)) (with_templates c.args.self.now (pattern_positions (and_pattern parts at))) = among_with c.args.self.now (patterns_positions parts) (pattern_positions (and_pattern parts at)) (and_inside parts at) in
+    rw (seen_and c.args.pat.now c.in-And.subpats c.in-And.pos c.deref-in-And.result.now c.in-And.is c.deref-in-And.ensures.value) (notes_among (with_templates c.args.self.now (patterns_positions parts)) (with_templates c.args.self.now (pattern_positions (and_pattern parts at))) c.args.work.now.errors.items c.translate_each.new.work.errors.items inside c.in_ok-parts-in-And.ensures.places)

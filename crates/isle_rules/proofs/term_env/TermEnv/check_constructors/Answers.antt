@@ -6,6 +6,8 @@ use Rattle.isle_model.specs.lists.Syntax.{Position, Name}
 use Rattle.isle_model.specs.lists.TermTable.{rule_trees}
 use Rattle.isle_rules.specs.Constructors.{is_made, uses_of_rule, uses_of_definition}
 use Rattle.isle_rules.specs.PatternUses.{found_term}
+use Rattle.isle_rules.proofs.NamedLimits.{rules_before}
+use Rattle.isle_rules.proofs.RuleBreachSteps.{first_used, next_used, last_used}
 use Rattle.isle_rules.proofs.CheckedUses.{checked_first, checked_next, checked_last, left_at, uses_split}
 use Rattle.isle_base.specs.Positions.{definition_positions, positions_of}
 use Rattle.isle_base.proofs.Positioned.{among_same, notes_nothing}
@@ -14,7 +16,7 @@ use Rattle.isle_rules.proofs.PartPlaces.{each_inside}
 use Rattle.isle_rules.proofs.term_env.TermEnv.check_constructors.Goals as goal
 
 pub loop-def-init : goal.loop-def-init
-loop-def-init c = (checked_first (λ (u : Position × Name). IsTrue (is_made (found_term c.args.self.now c.args.tyenv.now u.1.text))) _ _, notes_nothing _ _ _ refl)
+loop-def-init c = (checked_first (λ (u : Position × Name). IsTrue (is_made (found_term c.args.self.now c.args.tyenv.now u.1.text))) _ _, notes_nothing _ _ _ refl, first_used c.args.self.now c.args.tyenv.now (rule_trees (definition_views c.args.defs.now)) c.args.errors.now.items)
 
 pub loop-def-preserved : goal.loop-def-preserved
 loop-def-preserved c = (
@@ -27,6 +29,8 @@ loop-def-preserved c = (
       notes_step all one all c.args.errors.now.items c.loop-def.errors.items c.check_definition.new.errors.items (among_same all)
       (each_inside definition_positions definition_view c.args.defs.now c.loop-def.def-index c.def-item.result c.loop-def-test.true c.def-item.is) c.loop-def.invariant.1 c.in_ok-check_definition.ensures.places
       ),
+  next_used c.args.self.now c.args.tyenv.now c.args.errors.now.items c.loop-def.errors.items c.check_definition.new.errors.items c.args.defs.now c.loop-def.def-index c.def-item.result c.loop-def-test.true c.def-item.is
+      c.loop-def.invariant.2 c.in_ok-check_definition.ensures.checks c.in_ok-check_definition.ensures.places,
 )
 
 pub returns-clause-checks : goal.returns-clause-checks
@@ -36,3 +40,7 @@ returns-clause-checks c =
 pub returns-clause-places : goal.returns-clause-places
 returns-clause-places c =
     c.loop-def.invariant.1
+
+pub returns-clause-breach : goal.returns-clause-breach
+returns-clause-breach c =
+    last_used c.args.self.now c.args.tyenv.now (rule_trees (definition_views c.args.defs.now)) (rules_before c.args.defs.now c.loop-def.def-index) c.args.errors.now.items c.loop-def.errors.items c.loop-def.invariant.2

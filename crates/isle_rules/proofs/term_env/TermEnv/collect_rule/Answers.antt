@@ -3,7 +3,7 @@ use Rattle.isle_rules.proofs.RuleEnds.{at_end, at_stop}
 use Rattle.std.proofs.Common.{[], ◌∷◌}
 use Rattle.isle_base.specs.SyntaxViews.{rule_view}
 use Rattle.isle_base.specs.Positions.{OccurAmong, rule_positions}
-use Rattle.isle_rules.specs.RulePositions.{with_terms}
+use Rattle.isle_rules.specs.RulePositions.{with_templates}
 use Rattle.isle_rules.proofs.Placed.{among_here, stop_noted}
 use Rattle.isle_rules.proofs.PartPlaces.{rule_at}
 use Rattle.isle_rules.proofs.term_env.TermEnv.collect_rule.Goals as goal
@@ -26,7 +26,7 @@ pub returns-in_ok-report-in-Err-clause-places : goal.returns-in_ok-report-in-Err
 returns-in_ok-report-in-Err-clause-places c =
     let env = c.args.self.now in
     let tree = rule_view c.args.rule.now in
-    let all = with_terms env (rule_positions tree) in
+    let all = with_templates env (rule_positions tree) in
     let here : OccurAmong (tree.at ∷ []) all = among_here env (tree.at ∷ []) (rule_positions tree) (rule_at tree) in
     rw (← c.begin.ensures.errors)
     (stop_noted (tree.at ∷ []) all c.begin.new.self.errors.items c.translate_rule.new.work.errors.items c.report.new.errors.items c.args.rule.now.pos c.in-Err.stop here c.in-Err.ensures.places c.in_ok-report-in-Err.ensures.places c.in_ok-report-in-Err.ensures.noted)

@@ -4,12 +4,13 @@ use Rattle.isle_model.specs.lists.TermTable.{rule_trees}
 use Rattle.isle_base.specs.Positions.{NotesAt, OccurAmong, positions_of}
 use Rattle.isle_typed.specs.RuleViews.{rule_views}
 use Rattle.isle_reports.specs.RuleNaming.{rules_at}
-use Rattle.isle_rules.specs.RulePositions.{with_terms}
+use Rattle.isle_rules.specs.RulePositions.{with_templates}
 use Rattle.isle_rules.specs.LimitsNamed.{NamesPastLimits}
 use Rattle.isle_rules.specs.RuleErrors.{NotesOfRules}
 use Rattle.isle_rules.specs.Translating.{Keeps}
 use Rattle.isle_rules.proofs.NamedLimits.{rules_before}
 use Rattle.isle_rules.proofs.RuleListSteps.{ReadingAt}
+use Rattle.isle_rules.proofs.RuleBreachSteps.{TypedUpTo}
 use Rattle.isle_rules.proofs.term_env.TermEnv.collect_rules.Given as goal
 
 abbrev pub invariant-loop-def : goal.invariant-loop-def
@@ -18,5 +19,6 @@ invariant-loop-def l =
     × ReadingAt l.self l.fn.tyenv l.tyenv l.fn.work.errors.items l.work.errors.items (rule_trees (definition_views l.defs)) (rule_trees (definition_views (drop l.def-index l.defs))) l.rules.items
     × NotesOfRules l.self l.fn.tyenv (rule_trees (definition_views l.defs)) l.fn.work.errors.items l.work.errors.items
     × NamesPastLimits l.self l.fn.tyenv (rules_before l.defs l.def-index) l.work.errors.items
-    × NotesAt (with_terms l.self (positions_of (definition_views l.defs))) l.fn.work.errors.items l.work.errors.items
+    × NotesAt (with_templates l.self (positions_of (definition_views l.defs))) l.fn.work.errors.items l.work.errors.items
     × OccurAmong (rules_at (rule_views l.rules.items)) (positions_of (definition_views l.defs))
+    × TypedUpTo l.self l.fn.tyenv l.tyenv (rule_trees (definition_views l.defs)) (rules_before l.defs l.def-index) l.rules.items l.fn.work.errors.items l.work.errors.items

@@ -7,7 +7,7 @@ use Rattle.isle_types.specs.TypePositions.{types_positions}
 use Rattle.isle_base.specs.ErrorViews.{error_views}
 use Rattle.isle_rules.specs.RulesRead.{rules_of}
 use Rattle.isle_rules.proofs.FirstPastLimits.{first_named}
-use Rattle.isle_rules.proofs.RulesRefused.{passed_on, limits_named, named_by_none, past_limits_named, no_rule_to_name, no_first_to_name, refused_by_rules, refused_by_terms}
+use Rattle.isle_rules.proofs.RulesRefused.{passed_on, limits_named, named_by_none, past_limits_named, no_rule_to_name, no_first_to_name, refused_by_rules, refused_by_terms, first_broken, broken_by_terms}
 use Rattle.isle_rules.proofs.EnvironmentsAtEnd.{left_in_the_end, all_read, could_be_read, whatever, is_nothing, is_something, wrong_in_the_end, right_in_the_end, read_by_terms}
 use Rattle.isle_rules.proofs.PlacesAtEnd.{stand_in_the_end}
 use Rattle.isle_rules.proofs.term_env.TermEnv.from_ast.Goals as goal
@@ -84,3 +84,12 @@ pub returns-in_err-table-clause-places : goal.returns-in_err-table-clause-places
 returns-in_err-table-clause-places g c =
     let all = positions_of (definition_views c.args.defs.now) ++ types_positions g.read.known.types in
     passed_on (All (ErrorStandsAt all)) (All (ErrorStandsAt all)) (λ es h. h) c.from_residual.result c.in_err-table.field-0.0 c.from_residual.ensures c.in_err-table.ensures.places
+
+pub returns-then-not-is_empty-clause-breach : goal.returns-then-not-is_empty-clause-breach
+returns-then-not-is_empty-clause-breach g c =
+    first_broken g.read c.requires.0 (definition_views c.args.defs.now) c.in_ok-table.table c.from_ast.new.tyenv c.in_ok-table.ensures.answers.1 c.with_terms-env.result c.with_terms-env.ensures.terms c.args.expand_internal_extractors c.with_terms-env.ensures.expand
+    c.in_ok-errors.errors.items c.in_ok-errors.ensures.breach (is_something c.in_ok-errors.errors.len c.is_empty.result c.in_ok-errors.errors.items c.in_ok-errors.errors.ok.0 c.is_empty.ensures c.if-not-is_empty.true)
+
+pub returns-in_err-table-clause-breach : goal.returns-in_err-table-clause-breach
+returns-in_err-table-clause-breach g c =
+    broken_by_terms g.read (definition_views c.args.defs.now) c.args.expand_internal_extractors c.from_residual.result c.in_err-table.field-0.0 c.from_residual.ensures c.in_err-table.ensures.breach

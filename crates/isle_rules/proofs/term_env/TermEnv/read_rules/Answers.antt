@@ -1,22 +1,27 @@
-use Rattle.std.proofs.Common.{ap, subst, ◌∙◌, ◌≡◌, [], sym}
+use Rattle.std.proofs.Common.{ap, subst, ◌∙◌, ◌≡◌, [], ◌++◌, sym, inl, inr}
 use Rattle.isle_base.specs.SyntaxViews.{definition_views}
 use Rattle.isle_model.specs.lists.Elaborated.{named_rules}
 use Rattle.isle_model.specs.lists.TermTable.{rule_trees}
 use Rattle.isle_terms.specs.TermViews.{term_views}
 use Rattle.isle_reports.specs.Elaborating.{Checks}
 use Rattle.isle_rules.specs.RuleLists.{CollectsRules}
-use Rattle.isle_reports.specs.RuleNaming.{MapsNames, AreDefined, rules_at, terms_at}
+use Rattle.isle_reports.specs.RuleNaming.{MapsNames, TakesName, AreDefined, IsLeftUndefined, rules_at, terms_at}
 use Rattle.isle_typed.specs.RuleViews.{rule_views}
+use Rattle.isle_reports.specs.FirstErrors.{MayBegin}
+use Rattle.isle_reports.proofs.FirstErrors.{goes_on}
+use Rattle.isle_rules.specs.RuleBreaches.{BeginsUntyped}
+use Rattle.isle_rules.proofs.RuleBreaches.{stages, once_mapped, right_checked}
 use Rattle.isle_rules.specs.RuleErrors.{NotesOfRules}
 use Rattle.isle_rules.proofs.NamedLimits.{named_to_the_end}
 use Rattle.isle_rules.proofs.RulesRefused.{mapped_noted, noted_to_the_end}
 use Rattle.isle_rules.proofs.Noted.{may_both, may_check}
 use Rattle.isle_rules.proofs.RulesAtEnd.{rules_end}
 use Rattle.isle_base.specs.Positions.{NotesAt, OccurAmong, positions_of}
-use Rattle.isle_base.proofs.Positioned.{among_same, among_both, among_right}
-use Rattle.isle_rules.specs.RulePositions.{with_terms}
+use Rattle.isle_base.proofs.Positioned.{among_same, among_both, among_left, among_right}
+use Rattle.isle_rules.specs.RulePositions.{templates_positions, with_templates}
 use Rattle.isle_terms.specs.TermPositions.{terms_positions}
-use Rattle.isle_rules.proofs.Placed.{among_here, notes_step}
+use Rattle.isle_rules.proofs.Placed.{among_joined, notes_step}
+use Rattle.isle_rules.proofs.SubstitutedPlaces.{templates_inside}
 use Rattle.isle_rules.proofs.PartPlaces.{named_places, declared_inside}
 use Rattle.isle_rules.proofs.term_env.TermEnv.read_rules.Goals as goal
 
@@ -69,26 +74,60 @@ returns-clause-named c =
     named_to_the_end env old (rule_trees defs) found last c.in_ok-rules.ensures.named
     (may_both found named last names (may_both named defined last (may_check c.in_ok-check_defined.ensures.checks) (may_check c.in_ok-check_constructors.ensures.checks)))
 
-pub returns-clause-places : goal.returns-clause-places
-returns-clause-places c =
+pub returns-clause-breach : goal.returns-clause-breach
+returns-clause-breach c e is k none =
+    let trees = rule_trees (definition_views c.args.defs.now) in
     let env = c.args.self.now in
-    let defs = positions_of (definition_views c.args.defs.now) in
-    let all = with_terms env defs in
+    let old = c.args.tyenv.now in
+    let new = c.collect_rules.new.tyenv in
     let typed = c.in_ok-rules.rules.items in
     let found = c.collect_rules.new.work.errors.items in
     let named = c.map_names.new.errors.items in
     let defined = c.check_defined.new.errors.items in
     let last = c.check_constructors.new.errors.items in
-    let read = subst (λ es. NotesAt all es found) (c.new-work.ensures.errors ∙ c.new.ensures.items) c.in_ok-rules.ensures.places in
+    let nothing = c.new-work.ensures.errors ∙ c.new.ensures.items in
+    let all = named_rules e.terms (rule_views typed) in
+    let read = subst (λ es. CollectsRules env old new es found trees (rule_views typed)) nothing c.in_ok-rules.ensures.reads in
+    let first = subst (λ es. BeginsUntyped env old trees es found) nothing c.in_ok-rules.ensures.breach in
+    let by_name = c.in_ok-rule_map.rule_map in
+    let rules = rule_views c.deref-2.result.now in
+    let same : rules ≡ all =
+    ap rule_views c.deref-2.ensures.value ∙ c.in_ok-name_rules.ensures.names ∙ ap (λ ts. named_rules (term_views ts) (rule_views typed)) c.deref.ensures.value ∙ ap (λ ts. named_rules ts (rule_views typed)) is.terms in
+    let replaced = ap (λ v. v.items) c.replace-errors.ensures.value in
+    let mapped = subst (λ es. MapsNames es named rules by_name) replaced c.in_ok-rule_map.ensures.maps in
+    let second = subst (λ es. MayBegin (TakesName rules) es named) replaced c.in_ok-rule_map.ensures.first in
+    let third = subst (λ ts. MayBegin (IsLeftUndefined (term_views ts)) named defined) c.deref-3.ensures.value c.in_ok-check_defined.ensures.first in
+    let checked = subst (λ ts. Checks named defined (AreDefined ts)) (ap term_views c.deref-3.ensures.value ∙ is.terms) c.in_ok-check_defined.ensures.checks in
+    stages env old new c.in_ok-rules.ensures.keeps trees typed e is k found named defined last (elim (read e is) [ inl a ↦ inl a.1 | inr b ↦ inr b.0 ])
+    (first e is) (goes_on found named (mapped_noted found named rules by_name mapped)) (subst (λ rs. MayBegin (TakesName rs) found named) same second) (once_mapped found named rules all by_name same mapped)
+    (goes_on named defined (may_check checked)) third (right_checked named defined checked)
+    (goes_on defined last (may_check c.in_ok-check_constructors.ensures.checks)) c.in_ok-check_constructors.ensures.breach
+
+pub returns-clause-places : goal.returns-clause-places
+returns-clause-places c =
+    let env = c.args.self.now in
+    let defs = positions_of (definition_views c.args.defs.now) in
+    let entries = term_views env.terms.items in
+    let all = defs ++ terms_positions entries in
+    let of_rules = with_templates env defs in
+    let typed = c.in_ok-rules.rules.items in
+    let found = c.collect_rules.new.work.errors.items in
+    let named = c.map_names.new.errors.items in
+    let defined = c.check_defined.new.errors.items in
+    let last = c.check_constructors.new.errors.items in
+    let inside : OccurAmong of_rules all =
+    among_joined defs (templates_positions env.expand_internal_extractors entries) all (among_left defs (terms_positions entries))
+    (among_both (templates_positions env.expand_internal_extractors entries) (terms_positions entries) all (templates_inside env.expand_internal_extractors entries) (among_right defs (terms_positions entries))) in
+    let read = subst (λ es. NotesAt of_rules es found) (c.new-work.ensures.errors ∙ c.new.ensures.items) c.in_ok-rules.ensures.places in
     let rules = rules_at (rule_views c.deref-2.result.now) in
     let same : rules ≡ rules_at (rule_views typed) =
     ap (λ rs. rules_at (rule_views rs)) c.deref-2.ensures.value ∙ ap rules_at c.in_ok-name_rules.ensures.names ∙ named_places (term_views c.deref.result.now) (rule_views typed) in
-    let at_rules : OccurAmong rules all = subst (λ ps. OccurAmong ps all) (sym same) (among_here env (rules_at (rule_views typed)) defs c.in_ok-rules.ensures.stand) in
+    let at_rules : OccurAmong rules all = subst (λ ps. OccurAmong ps all) (sym same) (among_both (rules_at (rule_views typed)) defs all c.in_ok-rules.ensures.stand (among_left defs (terms_positions entries))) in
     let mapped = subst (λ es. NotesAt rules es named) (ap (λ v. v.items) c.replace-errors.ensures.value) c.in_ok-rule_map.ensures.places in
     let terms = terms_at (term_views c.deref-3.result.now) in
     let at_terms : OccurAmong terms all =
     subst (λ ts. OccurAmong (terms_at (term_views ts)) all) (sym c.deref-3.ensures.value)
-    (among_both (terms_at (term_views env.terms.items)) (terms_positions (term_views env.terms.items)) all (declared_inside (term_views env.terms.items)) (among_right defs (terms_positions (term_views env.terms.items)))) in
-    let by_name = notes_step all rules all [] found named (among_same all) at_rules read mapped in
+    (among_both (terms_at entries) (terms_positions entries) all (declared_inside entries) (among_right defs (terms_positions entries))) in
+    let by_name = notes_step of_rules rules all [] found named inside at_rules read mapped in
     let by_terms = notes_step all terms all [] named defined (among_same all) at_terms by_name c.in_ok-check_defined.ensures.places in
-    notes_step all defs all [] defined last (among_same all) (among_here env defs defs (among_same defs)) by_terms c.in_ok-check_constructors.ensures.places
+    notes_step all defs all [] defined last (among_same all) (among_left defs (terms_positions entries)) by_terms c.in_ok-check_constructors.ensures.places

@@ -12,7 +12,7 @@ use Rattle.isle_rules.specs.Translating.{standing}
 use Rattle.isle_rules.proofs.Readings.{stop_is, first_stops, first_reported, then_stops, then_reported, then_done}
 use Rattle.isle_base.specs.Positions.{OccurAmong, pattern_positions, expr_positions, iflet_positions}
 use Rattle.isle_base.proofs.Positioned.{notes_among}
-use Rattle.isle_rules.specs.RulePositions.{with_terms}
+use Rattle.isle_rules.specs.RulePositions.{with_templates}
 use Rattle.isle_rules.proofs.Placed.{among_here, among_with, stop_among, stop_step, notes_step}
 use Rattle.isle_rules.proofs.PartPlaces.{given_inside, taken_inside}
 use Rattle.isle_rules.proofs.term_env.TermEnv.translate_iflet.Goals as goal
@@ -61,7 +61,7 @@ pub returns-in_err-value-clause-places : goal.returns-in_err-value-clause-places
 returns-in_err-value-clause-places c =
     let env = c.args.self.now in
     let tree = S.iflet_view c.args.iflet.now in
-    let all = with_terms env (iflet_positions tree) in
+    let all = with_templates env (iflet_positions tree) in
     let first = expr_positions tree.expr in
     let inside : OccurAmong first all = among_here env first (iflet_positions tree) (given_inside tree) in
     rw (stop_is c.from_residual.result c.in_err-value.field-0.0 c.from_residual.ensures)
@@ -71,7 +71,7 @@ pub returns-in_default-clause-places : goal.returns-in_default-clause-places
 returns-in_default-clause-places c =
     let env = c.args.self.now in
     let tree = S.iflet_view c.args.iflet.now in
-    let all = with_terms env (iflet_positions tree) in
+    let all = with_templates env (iflet_positions tree) in
     let first = expr_positions tree.expr in
     let inside : OccurAmong first all = among_here env first (iflet_positions tree) (given_inside tree) in
     notes_among first all c.args.work.now.errors.items c.translate_expr.new.work.errors.items inside c.in_ok-value.ensures.places
@@ -80,10 +80,10 @@ pub returns-in_err-taken-clause-places : goal.returns-in_err-taken-clause-places
 returns-in_err-taken-clause-places c =
     let env = c.args.self.now in
     let tree = S.iflet_view c.args.iflet.now in
-    let all = with_terms env (iflet_positions tree) in
+    let all = with_templates env (iflet_positions tree) in
     let first = expr_positions tree.expr in
     let inside : OccurAmong first all = among_here env first (iflet_positions tree) (given_inside tree) in
-    let second = with_terms env (pattern_positions tree.pattern) in
+    let second = with_templates env (pattern_positions tree.pattern) in
     let taken : OccurAmong second all = among_with env (pattern_positions tree.pattern) (iflet_positions tree) (taken_inside tree) in
     rw (stop_is c.from_residual-in_err-taken.result c.in_err-taken.field-0.0 c.from_residual-in_err-taken.ensures)
     (stop_step first second all c.args.work.now.errors.items c.translate_expr.new.work.errors.items c.translate_pattern.new.work.errors.items c.in_err-taken.field-0.0 inside taken c.in_ok-value.ensures.places c.in_err-taken.ensures.places)
@@ -92,10 +92,10 @@ pub returns-in_default-taken-clause-places : goal.returns-in_default-taken-claus
 returns-in_default-taken-clause-places c =
     let env = c.args.self.now in
     let tree = S.iflet_view c.args.iflet.now in
-    let all = with_terms env (iflet_positions tree) in
+    let all = with_templates env (iflet_positions tree) in
     let first = expr_positions tree.expr in
     let inside : OccurAmong first all = among_here env first (iflet_positions tree) (given_inside tree) in
-    let second = with_terms env (pattern_positions tree.pattern) in
+    let second = with_templates env (pattern_positions tree.pattern) in
     let taken : OccurAmong second all = among_with env (pattern_positions tree.pattern) (iflet_positions tree) (taken_inside tree) in
     notes_step first second all c.args.work.now.errors.items c.translate_expr.new.work.errors.items c.translate_pattern.new.work.errors.items inside taken c.in_ok-value.ensures.places c.in_ok-taken.ensures.places
 
@@ -103,9 +103,9 @@ pub returns-clause-places : goal.returns-clause-places
 returns-clause-places c =
     let env = c.args.self.now in
     let tree = S.iflet_view c.args.iflet.now in
-    let all = with_terms env (iflet_positions tree) in
+    let all = with_templates env (iflet_positions tree) in
     let first = expr_positions tree.expr in
     let inside : OccurAmong first all = among_here env first (iflet_positions tree) (given_inside tree) in
-    let second = with_terms env (pattern_positions tree.pattern) in
+    let second = with_templates env (pattern_positions tree.pattern) in
     let taken : OccurAmong second all = among_with env (pattern_positions tree.pattern) (iflet_positions tree) (taken_inside tree) in
     notes_step first second all c.args.work.now.errors.items c.translate_expr.new.work.errors.items c.translate_pattern.new.work.errors.items inside taken c.in_ok-value.ensures.places c.in_ok-taken.ensures.places

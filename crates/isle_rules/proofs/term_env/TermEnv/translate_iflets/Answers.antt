@@ -7,7 +7,7 @@ use Rattle.std.proofs.Common.{map, refl}
 use Rattle.std.specs.List.{flat_map}
 use Rattle.isle_base.specs.Positions.{OccurAmong, iflet_positions}
 use Rattle.isle_base.proofs.Positioned.{among_same, notes_nothing}
-use Rattle.isle_rules.specs.RulePositions.{with_terms}
+use Rattle.isle_rules.specs.RulePositions.{with_templates}
 use Rattle.isle_rules.proofs.Placed.{among_with, stop_step, notes_step}
 use Rattle.isle_rules.proofs.PartPlaces.{each_inside}
 use Rattle.isle_rules.proofs.term_env.TermEnv.translate_iflets.Goals as goal
@@ -34,8 +34,8 @@ loop-iflet-preserved c =
           let env = c.args.self.now in
           let part = iflet_positions (S.iflet_view c.iflet-item.result) in
           let parts = flat_map iflet_positions (map S.iflet_view c.args.iflets.now) in
-          let inside : OccurAmong (with_terms env part) (with_terms env parts) = among_with env part parts (each_inside iflet_positions S.iflet_view c.args.iflets.now c.loop-iflet.iflet-index c.iflet-item.result c.loop-iflet-test.true c.iflet-item.is) in
-          notes_step (with_terms env parts) (with_terms env part) (with_terms env parts) c.args.work.now.errors.items c.loop-iflet.work.errors.items c.translate_iflet.new.work.errors.items (among_same (with_terms env parts)) inside c.loop-iflet.invariant.2 c.in_ok-one.ensures.places
+          let inside : OccurAmong (with_templates env part) (with_templates env parts) = among_with env part parts (each_inside iflet_positions S.iflet_view c.args.iflets.now c.loop-iflet.iflet-index c.iflet-item.result c.loop-iflet-test.true c.iflet-item.is) in
+          notes_step (with_templates env parts) (with_templates env part) (with_templates env parts) c.args.work.now.errors.items c.loop-iflet.work.errors.items c.translate_iflet.new.work.errors.items (among_same (with_templates env parts)) inside c.loop-iflet.invariant.2 c.in_ok-one.ensures.places
           ),
     )
 
@@ -44,9 +44,9 @@ returns-in_err-one-clause-places c =
     let env = c.args.self.now in
     let part = iflet_positions (S.iflet_view c.iflet-item.result) in
     let parts = flat_map iflet_positions (map S.iflet_view c.args.iflets.now) in
-    let inside : OccurAmong (with_terms env part) (with_terms env parts) = among_with env part parts (each_inside iflet_positions S.iflet_view c.args.iflets.now c.loop-iflet.iflet-index c.iflet-item.result c.loop-iflet-test.true c.iflet-item.is) in
+    let inside : OccurAmong (with_templates env part) (with_templates env parts) = among_with env part parts (each_inside iflet_positions S.iflet_view c.args.iflets.now c.loop-iflet.iflet-index c.iflet-item.result c.loop-iflet-test.true c.iflet-item.is) in
     rw (stop_is c.from_residual.result c.in_err-one.field-0.0 c.from_residual.ensures)
-    (stop_step (with_terms env parts) (with_terms env part) (with_terms env parts) c.args.work.now.errors.items c.loop-iflet.work.errors.items c.translate_iflet.new.work.errors.items c.in_err-one.field-0.0 (among_same (with_terms env parts)) inside c.loop-iflet.invariant.2 c.in_err-one.ensures.places)
+    (stop_step (with_templates env parts) (with_templates env part) (with_templates env parts) c.args.work.now.errors.items c.loop-iflet.work.errors.items c.translate_iflet.new.work.errors.items c.in_err-one.field-0.0 (among_same (with_templates env parts)) inside c.loop-iflet.invariant.2 c.in_err-one.ensures.places)
 
 pub returns-clause-places : goal.returns-clause-places
 returns-clause-places c =

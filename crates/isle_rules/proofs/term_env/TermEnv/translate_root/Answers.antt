@@ -4,7 +4,7 @@ use Rattle.isle_rules.specs.Translating.{standing}
 use Rattle.isle_rules.proofs.IfLetLists.{counted_args}
 use Rattle.isle_base.specs.Positions.{patterns_positions}
 use Rattle.isle_base.proofs.Positioned.{among_first, among_rest}
-use Rattle.isle_rules.specs.RulePositions.{with_terms}
+use Rattle.isle_rules.specs.RulePositions.{with_templates}
 use Rattle.isle_rules.proofs.Placed.{among_here, among_with, stays_step}
 use Rattle.isle_rules.proofs.term_env.TermEnv.translate_root.Goals as goal
 
@@ -18,5 +18,5 @@ returns-clause-places c =
     let env = c.args.self.now in
     let at = S.position c.args.pos in
     let args = patterns_positions (S.pattern_views c.args.args.now) in
-    stays_step (at ∷ []) (with_terms env args) (with_terms env (at ∷ args)) c.args.work.now.errors.items c.check_count.new.errors.items c.translate_args.new.work.errors.items c.translate_args.result (among_here env (at ∷ []) (at ∷ args) (among_first at args)) (among_with env args (at ∷ args) (among_rest at args))
+    stays_step (at ∷ []) (with_templates env args) (with_templates env (at ∷ args)) c.args.work.now.errors.items c.check_count.new.errors.items c.translate_args.new.work.errors.items c.translate_args.result (among_here env (at ∷ []) (at ∷ args) (among_first at args)) (among_with env args (at ∷ args) (among_rest at args))
     c.in_ok-check_count.ensures.places c.translate_args.ensures.places

@@ -8,7 +8,7 @@ use Rattle.isle_rules.proofs.Readings.{stop_is}
 use Rattle.isle_rules.proofs.RuleForms.{no_root, no_term, not_declared, no_sides, rule_stops, rule_done}
 use Rattle.isle_base.specs.Positions.{OccurAmong, rule_positions}
 use Rattle.isle_base.proofs.Positioned.{among_same, notes_among}
-use Rattle.isle_rules.specs.RulePositions.{with_terms}
+use Rattle.isle_rules.specs.RulePositions.{with_templates}
 use Rattle.isle_rules.proofs.Placed.{among_here, notes_step}
 use Rattle.isle_rules.proofs.PartPlaces.{rule_at}
 use Rattle.isle_rules.proofs.term_env.TermEnv.translate_rule.Goals as goal
@@ -47,7 +47,7 @@ pub returns-in_default-clause-places : goal.returns-in_default-clause-places
 returns-in_default-clause-places c =
     let env = c.args.self.now in
     let tree = S.rule_view c.args.rule.now in
-    let all = with_terms env (rule_positions tree) in
+    let all = with_templates env (rule_positions tree) in
     let here : OccurAmong (tree.at ∷ []) all = among_here env (tree.at ∷ []) (rule_positions tree) (rule_at tree) in
     notes_among (tree.at ∷ []) all c.args.work.now.errors.items c.report.new.errors.items here c.in_ok-report.ensures.places
 
@@ -55,7 +55,7 @@ pub returns-in_default-find_term-clause-places : goal.returns-in_default-find_te
 returns-in_default-find_term-clause-places c =
     let env = c.args.self.now in
     let tree = S.rule_view c.args.rule.now in
-    let all = with_terms env (rule_positions tree) in
+    let all = with_templates env (rule_positions tree) in
     let here : OccurAmong (tree.at ∷ []) all = among_here env (tree.at ∷ []) (rule_positions tree) (rule_at tree) in
     notes_among (tree.at ∷ []) all c.args.work.now.errors.items c.report-in_default-find_term.new.errors.items here c.in_ok-report-2.ensures.places
 
@@ -63,7 +63,7 @@ pub returns-in_default-flags_of-clause-places : goal.returns-in_default-flags_of
 returns-in_default-flags_of-clause-places c =
     let env = c.args.self.now in
     let tree = S.rule_view c.args.rule.now in
-    let all = with_terms env (rule_positions tree) in
+    let all = with_templates env (rule_positions tree) in
     let here : OccurAmong (tree.at ∷ []) all = among_here env (tree.at ∷ []) (rule_positions tree) (rule_at tree) in
     notes_among (tree.at ∷ []) all c.args.work.now.errors.items c.report-in_default-flags_of.new.errors.items here c.in_ok-report-3.ensures.places
 
@@ -79,7 +79,7 @@ pub returns-clause-places : goal.returns-clause-places
 returns-clause-places c =
     let env = c.args.self.now in
     let tree = S.rule_view c.args.rule.now in
-    let all = with_terms env (rule_positions tree) in
+    let all = with_templates env (rule_positions tree) in
     let here : OccurAmong (tree.at ∷ []) all = among_here env (tree.at ∷ []) (rule_positions tree) (rule_at tree) in
     notes_step all (tree.at ∷ []) all c.args.work.now.errors.items c.translate_sides.new.work.errors.items c.check_priority.new.errors.items (among_same all) here c.in_ok-made.ensures.places c.in_ok-check_priority.ensures.places
 

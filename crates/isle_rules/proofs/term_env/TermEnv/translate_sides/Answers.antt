@@ -11,7 +11,7 @@ use Rattle.std.specs.List.{flat_map}
 use Rattle.isle_model.specs.lists.Syntax.{Position}
 use Rattle.isle_base.specs.Positions.{OccurAmong, patterns_positions, expr_positions, iflet_positions, rule_positions}
 use Rattle.isle_base.proofs.Positioned.{among_same}
-use Rattle.isle_rules.specs.RulePositions.{with_terms}
+use Rattle.isle_rules.specs.RulePositions.{with_templates}
 use Rattle.isle_rules.proofs.Placed.{among_here, among_with, stop_among, stop_step, notes_step}
 use Rattle.isle_rules.proofs.PartPlaces.{rule_root, rule_iflets, rule_value}
 use Rattle.isle_rules.proofs.term_env.TermEnv.translate_sides.Goals as goal
@@ -59,36 +59,36 @@ pub returns-in_err-parts-clause-places : goal.returns-in_err-parts-clause-places
 returns-in_err-parts-clause-places c =
     let env = c.args.self.now in
     let tree = S.rule_view c.args.rule.now in
-    let all = with_terms env (rule_positions tree) in
+    let all = with_templates env (rule_positions tree) in
     let args : List Position = tree.at ∷ patterns_positions (S.pattern_views c.args.args.now) in
-    let first : OccurAmong (with_terms env args) all = among_with env args (rule_positions tree) (rule_root tree (S.pattern_views c.args.args.now) c.requires.root) in
+    let first : OccurAmong (with_templates env args) all = among_with env args (rule_positions tree) (rule_root tree (S.pattern_views c.args.args.now) c.requires.root) in
     rw (stop_is c.from_residual.result c.in_err-parts.field-0.0 c.from_residual.ensures)
-    (stop_among (with_terms env args) all c.args.work.now.errors.items c.translate_root.new.work.errors.items c.in_err-parts.field-0.0 first c.in_err-parts.ensures.places)
+    (stop_among (with_templates env args) all c.args.work.now.errors.items c.translate_root.new.work.errors.items c.in_err-parts.field-0.0 first c.in_err-parts.ensures.places)
 
 pub returns-in_err-iflets-clause-places : goal.returns-in_err-iflets-clause-places
 returns-in_err-iflets-clause-places c =
     let env = c.args.self.now in
     let tree = S.rule_view c.args.rule.now in
-    let all = with_terms env (rule_positions tree) in
+    let all = with_templates env (rule_positions tree) in
     let args : List Position = tree.at ∷ patterns_positions (S.pattern_views c.args.args.now) in
-    let first : OccurAmong (with_terms env args) all = among_with env args (rule_positions tree) (rule_root tree (S.pattern_views c.args.args.now) c.requires.root) in
+    let first : OccurAmong (with_templates env args) all = among_with env args (rule_positions tree) (rule_root tree (S.pattern_views c.args.args.now) c.requires.root) in
     let iflets = flat_map iflet_positions (map S.iflet_view c.args.rule.now.iflets.items) in
-    let second : OccurAmong (with_terms env iflets) all = among_with env iflets (rule_positions tree) (rule_iflets tree) in
+    let second : OccurAmong (with_templates env iflets) all = among_with env iflets (rule_positions tree) (rule_iflets tree) in
     rw (stop_is c.from_residual-in_err-iflets.result c.in_err-iflets.field-0.0 c.from_residual-in_err-iflets.ensures)
-    (stop_step (with_terms env args) (with_terms env iflets) all c.args.work.now.errors.items c.translate_root.new.work.errors.items c.translate_iflets.new.work.errors.items c.in_err-iflets.field-0.0 first second c.in_ok-parts.ensures.places (rw c.deref.ensures.value at c.in_err-iflets.ensures.places))
+    (stop_step (with_templates env args) (with_templates env iflets) all c.args.work.now.errors.items c.translate_root.new.work.errors.items c.translate_iflets.new.work.errors.items c.in_err-iflets.field-0.0 first second c.in_ok-parts.ensures.places (rw c.deref.ensures.value at c.in_err-iflets.ensures.places))
 
 pub returns-in_err-value-clause-places : goal.returns-in_err-value-clause-places
 returns-in_err-value-clause-places c =
     let env = c.args.self.now in
     let tree = S.rule_view c.args.rule.now in
-    let all = with_terms env (rule_positions tree) in
+    let all = with_templates env (rule_positions tree) in
     let args : List Position = tree.at ∷ patterns_positions (S.pattern_views c.args.args.now) in
-    let first : OccurAmong (with_terms env args) all = among_with env args (rule_positions tree) (rule_root tree (S.pattern_views c.args.args.now) c.requires.root) in
+    let first : OccurAmong (with_templates env args) all = among_with env args (rule_positions tree) (rule_root tree (S.pattern_views c.args.args.now) c.requires.root) in
     let iflets = flat_map iflet_positions (map S.iflet_view c.args.rule.now.iflets.items) in
-    let second : OccurAmong (with_terms env iflets) all = among_with env iflets (rule_positions tree) (rule_iflets tree) in
+    let second : OccurAmong (with_templates env iflets) all = among_with env iflets (rule_positions tree) (rule_iflets tree) in
     let value = expr_positions tree.expr in
     let third : OccurAmong value all = among_here env value (rule_positions tree) (rule_value tree) in
-    let before = notes_step (with_terms env args) (with_terms env iflets) all c.args.work.now.errors.items c.translate_root.new.work.errors.items c.translate_iflets.new.work.errors.items first second c.in_ok-parts.ensures.places (rw c.deref.ensures.value at c.in_ok-iflets.ensures.places) in
+    let before = notes_step (with_templates env args) (with_templates env iflets) all c.args.work.now.errors.items c.translate_root.new.work.errors.items c.translate_iflets.new.work.errors.items first second c.in_ok-parts.ensures.places (rw c.deref.ensures.value at c.in_ok-iflets.ensures.places) in
     rw (stop_is c.from_residual-in_err-value.result c.in_err-value.field-0.0 c.from_residual-in_err-value.ensures)
     (stop_step all value all c.args.work.now.errors.items c.translate_iflets.new.work.errors.items c.translate_expr.new.work.errors.items c.in_err-value.field-0.0 (among_same all) third before c.in_err-value.ensures.places)
 
@@ -96,26 +96,26 @@ pub returns-in_default-clause-places : goal.returns-in_default-clause-places
 returns-in_default-clause-places c =
     let env = c.args.self.now in
     let tree = S.rule_view c.args.rule.now in
-    let all = with_terms env (rule_positions tree) in
+    let all = with_templates env (rule_positions tree) in
     let args : List Position = tree.at ∷ patterns_positions (S.pattern_views c.args.args.now) in
-    let first : OccurAmong (with_terms env args) all = among_with env args (rule_positions tree) (rule_root tree (S.pattern_views c.args.args.now) c.requires.root) in
+    let first : OccurAmong (with_templates env args) all = among_with env args (rule_positions tree) (rule_root tree (S.pattern_views c.args.args.now) c.requires.root) in
     let iflets = flat_map iflet_positions (map S.iflet_view c.args.rule.now.iflets.items) in
-    let second : OccurAmong (with_terms env iflets) all = among_with env iflets (rule_positions tree) (rule_iflets tree) in
+    let second : OccurAmong (with_templates env iflets) all = among_with env iflets (rule_positions tree) (rule_iflets tree) in
     let value = expr_positions tree.expr in
     let third : OccurAmong value all = among_here env value (rule_positions tree) (rule_value tree) in
-    let before = notes_step (with_terms env args) (with_terms env iflets) all c.args.work.now.errors.items c.translate_root.new.work.errors.items c.translate_iflets.new.work.errors.items first second c.in_ok-parts.ensures.places (rw c.deref.ensures.value at c.in_ok-iflets.ensures.places) in
+    let before = notes_step (with_templates env args) (with_templates env iflets) all c.args.work.now.errors.items c.translate_root.new.work.errors.items c.translate_iflets.new.work.errors.items first second c.in_ok-parts.ensures.places (rw c.deref.ensures.value at c.in_ok-iflets.ensures.places) in
     notes_step all value all c.args.work.now.errors.items c.translate_iflets.new.work.errors.items c.translate_expr.new.work.errors.items (among_same all) third before c.in_ok-value.ensures.places
 
 pub returns-clause-places : goal.returns-clause-places
 returns-clause-places c =
     let env = c.args.self.now in
     let tree = S.rule_view c.args.rule.now in
-    let all = with_terms env (rule_positions tree) in
+    let all = with_templates env (rule_positions tree) in
     let args : List Position = tree.at ∷ patterns_positions (S.pattern_views c.args.args.now) in
-    let first : OccurAmong (with_terms env args) all = among_with env args (rule_positions tree) (rule_root tree (S.pattern_views c.args.args.now) c.requires.root) in
+    let first : OccurAmong (with_templates env args) all = among_with env args (rule_positions tree) (rule_root tree (S.pattern_views c.args.args.now) c.requires.root) in
     let iflets = flat_map iflet_positions (map S.iflet_view c.args.rule.now.iflets.items) in
-    let second : OccurAmong (with_terms env iflets) all = among_with env iflets (rule_positions tree) (rule_iflets tree) in
+    let second : OccurAmong (with_templates env iflets) all = among_with env iflets (rule_positions tree) (rule_iflets tree) in
     let value = expr_positions tree.expr in
     let third : OccurAmong value all = among_here env value (rule_positions tree) (rule_value tree) in
-    let before = notes_step (with_terms env args) (with_terms env iflets) all c.args.work.now.errors.items c.translate_root.new.work.errors.items c.translate_iflets.new.work.errors.items first second c.in_ok-parts.ensures.places (rw c.deref.ensures.value at c.in_ok-iflets.ensures.places) in
+    let before = notes_step (with_templates env args) (with_templates env iflets) all c.args.work.now.errors.items c.translate_root.new.work.errors.items c.translate_iflets.new.work.errors.items first second c.in_ok-parts.ensures.places (rw c.deref.ensures.value at c.in_ok-iflets.ensures.places) in
     notes_step all value all c.args.work.now.errors.items c.translate_iflets.new.work.errors.items c.translate_expr.new.work.errors.items (among_same all) third before c.in_ok-value.ensures.places

@@ -1,3 +1,4 @@
+use Rattle.isle_terms.proofs.Breaches.{begins_noted}
 use Rattle.std.proofs.Common.{rules}
 use Rattle.isle_terms.specs.TermViews.{term_view}
 use Rattle.isle_terms.proofs.PlacesNoted.{entry_taken, entry_first}
@@ -13,3 +14,9 @@ returns-in_ok-report_name-in-EnumVariant-clause-places c = entry_first _ (term_v
 
 pub returns-in_ok-report_name-in-Struct-clause-places : goal.returns-in_ok-report_name-in-Struct-clause-places
 returns-in_ok-report_name-in-Struct-clause-places c = entry_first _ (term_view c.args.entry.now) _ _ c.in_ok-report_name-in-Struct.ensures.places
+
+pub returns-in_ok-report_name-in-EnumVariant-clause-begins : goal.returns-in_ok-report_name-in-EnumVariant-clause-begins
+returns-in_ok-report_name-in-EnumVariant-clause-begins c = begins_noted _ _ _ c.in_ok-report_name-in-EnumVariant.ensures.places
+
+pub returns-in_ok-report_name-in-Struct-clause-begins : goal.returns-in_ok-report_name-in-Struct-clause-begins
+returns-in_ok-report_name-in-Struct-clause-begins c = begins_noted _ _ _ c.in_ok-report_name-in-Struct.ensures.places

@@ -1,3 +1,5 @@
+use Rattle.isle_terms.proofs.Breaches.{begins_before, begins_noted}
+use Rattle.std.proofs.Common.{inr}
 use Rattle.std.proofs.lemmas.Result.{on_ok_weaker}
 use Rattle.isle_base.proofs.Noted.{both}
 use Rattle.isle_terms.specs.TermPositions.{taker_places}
@@ -9,3 +11,6 @@ returns-clause-noted c = on_ok_weaker c.report-2.result (λ r. both _ _ _ c.in_o
 
 pub returns-clause-places : goal.returns-clause-places
 returns-clause-places c = on_ok_weaker c.report-2.result (λ r. notes_earlier _ _ (taker_places c.args.earlier.now) _ _ _ c.place_of.ensures.there c.in_ok-report.ensures.places r) c.report-2.ensures.places
+
+pub returns-clause-begins : goal.returns-clause-begins
+returns-clause-begins c = on_ok_weaker c.report-2.result (λ r. begins_before _ _ _ _ c.in_ok-report.ensures.noted (begins_noted _ _ _ c.in_ok-report.ensures.places) (inr r)) c.report-2.ensures.noted

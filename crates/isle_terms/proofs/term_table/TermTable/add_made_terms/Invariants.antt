@@ -1,16 +1,14 @@
 use Rattle.std.proofs.Common.{◌++◌, take}
-use Rattle.std.specs.List.{flat_map}
-use Rattle.isle_model.specs.lists.TermTable.{made_by, terms_made}
 use Rattle.isle_base.specs.Positions.{NotesAt}
 use Rattle.isle_types.specs.TypeViews.{type_views}
 use Rattle.isle_terms.specs.Reading.{IsWithin}
 use Rattle.isle_terms.specs.TermPositions.{table_positions, IsPlacedAmong}
 use Rattle.isle_types.specs.TypePositions.{types_positions}
-use Rattle.isle_terms.specs.Signing.{AddsMade}
+use Rattle.isle_terms.specs.Signing.{AddsAllMade}
 use Rattle.isle_terms.proofs.term_table.TermTable.add_made_terms.Given as goal
 
 abbrev pub invariant-loop-ty : goal.invariant-loop-ty
 invariant-loop-ty l =
-    IsWithin l.self × AddsMade (flat_map made_by (type_views (take l.ty-index l.tyenv.types.items))) (flat_map terms_made (type_views (take l.ty-index l.tyenv.types.items))) l.initial.self l.initial.errors.items l.self l.errors.items
+    IsWithin l.self × AddsAllMade (type_views (take l.ty-index l.tyenv.types.items)) l.initial.self l.initial.errors.items l.self l.errors.items
     × NotesAt (types_positions (type_views l.tyenv.types.items)) l.initial.errors.items l.errors.items
     × IsPlacedAmong (types_positions (type_views l.tyenv.types.items) ++ table_positions l.initial.self) l.self

@@ -1,8 +1,11 @@
 use Rattle.std.proofs.Common.{◌≡◌, ◌∙◌, get_or, Some, option_map, sym, ap, inr}
 use Rattle.std.proofs.lemmas.Result.{on_ok_weaker}
 use Rattle.isle_base.proofs.Noted.{both}
+use Rattle.isle_base.proofs.Positioned.{among_one}
+use Rattle.isle_base.specs.Positions.{declaration_positions}
+use Rattle.isle_terms.proofs.Breaches.{begins_among, begins_before, begins_noted}
 use Rattle.isle_base.specs.SyntaxViews.{decl_view}
-use Rattle.isle_terms.proofs.PlacesNoted.{declared_before}
+use Rattle.isle_terms.proofs.PlacesNoted.{declaration_there, declared_before}
 use Rattle.isle_terms.specs.TermTables.{term_at}
 use Rattle.isle_terms.proofs.term_table.TermTable.check_free.Goals as goal
 
@@ -26,3 +29,9 @@ returns-clause-places c =
     let here : entry ≡ get_or items id entry = c.index-2.ensures ∙ ap (λ k. get_or items k entry) c.index.ensures in
     on_ok_weaker c.report_name-2.result (λ r.
     declared_before d c.args.self.now id entry (c.requires c.args.name.0 id taken) here _ _ _ c.in_ok-report_name.ensures.places r) c.report_name-2.ensures.places
+
+pub returns-clause-begins : goal.returns-clause-begins
+returns-clause-begins c =
+    let d = decl_view c.args.decl.now in
+    let one = begins_among _ (declaration_positions d) _ _ (among_one d.at (declaration_positions d) (declaration_there d)) (begins_noted _ _ _ c.in_ok-report_name.ensures.places) in
+    on_ok_weaker c.report_name-2.result (λ r. begins_before _ _ _ _ c.in_ok-report_name.ensures.noted one (inr r)) c.report_name-2.ensures.noted

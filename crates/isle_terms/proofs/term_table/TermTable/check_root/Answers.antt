@@ -1,8 +1,10 @@
-use Rattle.std.proofs.Common.{◌≡◌, ◌<◌, get_or, length, refl, ap, subst, sym, ◌∙◌, inl}
+use Rattle.std.proofs.Common.{◌≡◌, ◌<◌, get_or, length, refl, ap, subst, sym, ◌∙◌, inl, inr}
 use Rattle.isle_terms.specs.Recursion.{IsWayBack}
 use Rattle.isle_terms.specs.TermViews.{term_view}
 use Rattle.isle_terms.proofs.Changing.{view_at}
 use Rattle.isle_base.specs.SyntaxViews.{position}
+use Rattle.isle_terms.proofs.Breaches.{begins_noted}
+use Rattle.isle_terms.proofs.Noting.{both_ok}
 use Rattle.isle_terms.proofs.PlacesNoted.{noted_among, template_there}
 use Rattle.isle_terms.proofs.Marks.{said_of_some}
 use Rattle.isle_terms.proofs.Recursion.{within_all, no_some, back_calls}
@@ -37,3 +39,22 @@ returns-clause-places c =
     let value : entry ≡ get_or items r.0 entry = c.index-2.ensures ∙ ap (λ k. get_or items k entry) c.index.ensures in
     let at = position c.in-Some-template_pos.pos in
     noted_among c.report_recursion.result _ _ _ _ (template_there c.args.self.now r.0 entry within value at (sym c.in-Some-template_pos.ensures.place)) c.report_recursion.ensures.places
+
+pub returns-clause-notes : goal.returns-clause-notes
+returns-clause-notes c =
+    let cs = c.args.callees.now in
+    let r = c.in-Some.repeated in
+    let items = c.args.self.now.terms.items in
+    let entry = c.index-2.result.now in
+    let way : IsWayBack cs c.args.root c.walk.new.self r = said_of_some c.in_ok-repeated.field-0 _ _ r c.in-Some.is c.in_ok-repeated.ensures in
+    let within : r.0 < length items = subst (λ n. r.0 < n) c.requires.callees.count way.there in
+    let value : entry ≡ get_or items r.0 entry = c.index-2.ensures ∙ ap (λ k. get_or items k entry) c.index.ensures in
+    both_ok c.report_recursion.result _ _ _ (λ n p.
+    inr (
+      n,
+      record {
+        at = position c.in-Some-template_pos.pos;
+        back = record { term = r.0; comes = way.comes; entry = term_view entry; entry_is = view_at items r.0 entry entry within value; place = sym c.in-Some-template_pos.ensures.place };
+        begins = begins_noted _ _ _ p;
+      },
+    )) c.report_recursion.ensures.noted c.report_recursion.ensures.places

@@ -9,7 +9,7 @@ use Rattle.isle_terms.specs.Recursion.{ExtractorsRead}
 use Rattle.isle_base.proofs.Positioned.{all_stand, among_left}
 use Rattle.isle_types.specs.TypePositions.{types_positions}
 use Rattle.isle_terms.proofs.PlacesNoted.{begun, converters_so_far, step_so_far}
-use Rattle.isle_terms.proofs.Whole.{first_converter, first_declared, first_extern, right_now, all_read, why_refused}
+use Rattle.isle_terms.proofs.Whole.{first_converter, first_declared, first_extern, first_broken, not_read, right_now, all_read, why_refused}
 use Rattle.isle_terms.proofs.term_table.TermTable.from_ast.Goals as goal
 
 pub read_signatures-requires : goal.read_signatures-requires
@@ -129,3 +129,27 @@ returns-clause-placed g c =
 
 pub returns-then-not-is_empty-clause-no_limit : goal.returns-then-not-is_empty-clause-no_limit
 returns-then-not-is_empty-clause-no_limit g c = name_no_limit _ c.in_ok-read_signatures.ensures.reads.ill_typed
+
+pub returns-then-not-is_empty-clause-breach : goal.returns-then-not-is_empty-clause-breach
+returns-then-not-is_empty-clause-breach g c = first_broken g.read _ _ _ _ _ c.in_ok-read_signatures.ensures.reads (search rules)
+
+pub returns-then-not-is_empty-2-clause-breach : goal.returns-then-not-is_empty-2-clause-breach
+returns-then-not-is_empty-2-clause-breach g c = first_broken g.read _ _ _ _ _ c.in_ok-read_definitions.ensures.reads (search rules)
+
+pub returns-then-not-is_empty-3-clause-breach : goal.returns-then-not-is_empty-3-clause-breach
+returns-then-not-is_empty-3-clause-breach g c = first_broken g.read _ _ _ _ _ c.in_ok-read_converters.ensures.reads (search rules)
+
+pub returns-then-not-is_empty-4-clause-breach : goal.returns-then-not-is_empty-4-clause-breach
+returns-then-not-is_empty-4-clause-breach g c = first_broken g.read _ _ _ _ _ c.in_ok-read_externs.ensures.reads (search rules)
+
+pub returns-then-not-is_empty-clause-answers : goal.returns-then-not-is_empty-clause-answers
+returns-then-not-is_empty-clause-answers g c = not_read g.read _ _ _ _ _ c.in_ok-read_signatures.ensures.reads (search rules)
+
+pub returns-then-not-is_empty-2-clause-answers : goal.returns-then-not-is_empty-2-clause-answers
+returns-then-not-is_empty-2-clause-answers g c = not_read g.read _ _ _ _ _ c.in_ok-read_definitions.ensures.reads (search rules)
+
+pub returns-then-not-is_empty-3-clause-answers : goal.returns-then-not-is_empty-3-clause-answers
+returns-then-not-is_empty-3-clause-answers g c = not_read g.read _ _ _ _ _ c.in_ok-read_converters.ensures.reads (search rules)
+
+pub returns-then-not-is_empty-4-clause-answers : goal.returns-then-not-is_empty-4-clause-answers
+returns-then-not-is_empty-4-clause-answers g c = not_read g.read _ _ _ _ _ c.in_ok-read_externs.ensures.reads (search rules)

@@ -1,13 +1,14 @@
 use Rattle.std.proofs.Common.{refl, ◌∙◌, rules}
 use Rattle.isle_base.proofs.Positioned.{notes_nothing}
 use Rattle.isle_terms.proofs.ConverterSteps.{next_converter}
+use Rattle.isle_terms.proofs.Breaches.{begins_noted}
 use Rattle.isle_terms.proofs.PlacesNoted.{next_noted}
 use Rattle.isle_terms.proofs.term_table.TermTable.read_converters.Goals as goal
 
 pub loop-def-preserved : goal.loop-def-preserved
 loop-def-preserved g c =
     let a = c.in_ok-read_if_converter.ensures in (
-      next_converter _ c.requires.0 c.args.defs.now c.loop-def.def-index c.def-item.result (search rules) c.def-item.is _ _ _ _ _ a.within a.reads c.loop-def.invariant.0,
+      next_converter _ c.requires.0 c.args.defs.now c.loop-def.def-index c.def-item.result (search rules) c.def-item.is _ _ _ _ _ a.within a.reads (begins_noted _ _ _ a.places) c.loop-def.invariant.0,
       next_noted c.args.defs.now c.loop-def.def-index c.def-item.result (search rules) c.def-item.is _ _ _ a.places c.loop-def.invariant.1,
       c.read_if_converter.ensures.terms ∙ c.loop-def.invariant.2,
     )

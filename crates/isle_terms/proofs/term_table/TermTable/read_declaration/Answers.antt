@@ -1,10 +1,14 @@
 use Rattle.std.proofs.Common.{subst}
+use Rattle.isle_base.specs.Positions.{declaration_positions}
+use Rattle.isle_base.proofs.Positioned.{among_one}
+use Rattle.isle_terms.proofs.Breaches.{begins_among, begins_noted}
+use Rattle.isle_terms.proofs.Noting.{both_ok}
 use Rattle.std.proofs.lemmas.Result.{on_ok_weaker}
 use Rattle.isle_base.specs.SyntaxViews.{decl_view}
 use Rattle.isle_terms.specs.Reading.{IsFreeOrReported, AddsOrReports}
 use Rattle.isle_terms.specs.TermPositions.{table_positions}
-use Rattle.isle_terms.proofs.PlacesNoted.{declaration_noted}
-use Rattle.isle_terms.proofs.Declaring.{declaration_read}
+use Rattle.isle_terms.proofs.PlacesNoted.{declaration_noted, declaration_there}
+use Rattle.isle_terms.proofs.Declaring.{declaration_begins, declaration_read}
 use Rattle.isle_terms.proofs.term_table.TermTable.read_declaration.Goals as goal
 
 pub returns-clause-reads : goal.returns-clause-reads
@@ -20,3 +24,11 @@ returns-clause-places c =
     let d = decl_view c.args.decl.now in
     on_ok_weaker c.add_decl.result (λ r.
     declaration_noted d (table_positions c.args.self.now) c.args.errors.now.items c.check_free.new.errors.items c.check_marks.new.errors.items c.add_decl.new.errors.items c.in_ok-check_free.ensures.places c.in_ok-check_marks.ensures.places r) c.add_decl.ensures.places
+
+pub returns-clause-begins : goal.returns-clause-begins
+returns-clause-begins c =
+    let d = decl_view c.args.decl.now in
+    let ps = declaration_positions d in
+    let marks = begins_among _ ps _ _ (among_one d.at ps (declaration_there d)) (begins_noted _ _ _ c.in_ok-check_marks.ensures.places) in
+    both_ok c.add_decl.result _ _ _ (λ a n.
+    declaration_begins d c.meet_name.new.tyenv c.args.self.now c.add_decl.new.self _ _ _ _ _ c.in_ok-check_free.ensures.noted c.in_ok-check_marks.ensures.noted a c.in_ok-check_free.ensures.begins marks (begins_noted ps _ _ n)) c.add_decl.ensures.adds c.add_decl.ensures.places

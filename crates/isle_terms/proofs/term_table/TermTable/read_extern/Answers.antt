@@ -1,4 +1,6 @@
-use Rattle.std.proofs.Common.{◌++◌, refl, sym, subst}
+use Rattle.isle_terms.specs.TermBreaches.{BeginsAt}
+use Rattle.isle_terms.proofs.Breaches.{begins_among, begins_noted}
+use Rattle.std.proofs.Common.{[], ◌++◌, refl, sym, subst}
 use Rattle.std.proofs.lemmas.Result.{on_ok_weaker}
 use Rattle.isle_model.specs.lists.Tables.{external_constructor, external_extractor}
 use Rattle.isle_base.specs.Positions.{NotesAt, extern_positions}
@@ -66,3 +68,17 @@ returns-in_ok-name-in-Extractor-clause-placed c =
 
 pub returns-in-Const-clause-placed : goal.returns-in-Const-clause-placed
 returns-in-Const-clause-placed c = placed_same c.args.self.now c.args.self.now (extern_positions (extern_view c.args.extern_def.now)) refl
+
+pub returns-in_ok-name-in-Constructor-clause-begins : goal.returns-in_ok-name-in-Constructor-clause-begins
+returns-in_ok-name-in-Constructor-clause-begins c =
+    let x = c.in-Constructor in
+    on_ok_weaker c.read_constructor.result (λ r.
+    subst (λ d. BeginsAt (extern_positions (extern_view d)) c.args.errors.now.items c.read_constructor.new.errors.items) (sym x.is)
+    (begins_among _ _ _ _ (extern_at (position x.pos) (position x.term.1) (position x.func.1) []) (begins_noted _ _ _ r))) c.read_constructor.ensures.places
+
+pub returns-in_ok-name-in-Extractor-clause-begins : goal.returns-in_ok-name-in-Extractor-clause-begins
+returns-in_ok-name-in-Extractor-clause-begins c =
+    let x = c.in-Extractor in
+    on_ok_weaker c.read_extractor.result (λ r.
+    subst (λ d. BeginsAt (extern_positions (extern_view d)) c.args.errors.now.items c.read_extractor.new.errors.items) (sym x.is)
+    (begins_among _ _ _ _ (extern_at (position x.pos) (position x.term.1) (position x.func.1) []) r)) c.read_extractor.ensures.begins

@@ -10,7 +10,7 @@ returns-in_err-read_if_extern-clause-left g c = left_more _ c.requires.0 _ c.loo
 pub loop-def-preserved : goal.loop-def-preserved
 loop-def-preserved g c =
     let a = c.in_ok-read_if_extern.ensures in (
-      next_extern _ c.requires.0 c.args.defs.now c.loop-def.def-index c.def-item.result (search rules) c.def-item.is _ _ _ _ _ _ a.interns a.within a.reads c.loop-def.invariant.0,
+      next_extern _ c.requires.0 c.args.defs.now c.loop-def.def-index c.def-item.result (search rules) c.def-item.is _ _ _ _ _ _ a.interns a.within a.reads a.begins c.loop-def.invariant.0,
       next_so_far c.args.defs.now c.loop-def.def-index c.def-item.result (search rules) c.def-item.is _ _ _ _ _ _ a.places a.placed c.loop-def.invariant.1,
     )
 

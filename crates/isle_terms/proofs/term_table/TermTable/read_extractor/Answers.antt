@@ -1,3 +1,5 @@
+use Rattle.std.proofs.lemmas.Result.{on_ok_weaker}
+use Rattle.isle_terms.proofs.Breaches.{begins_noted}
 use Rattle.std.proofs.Common.{◌≡◌, ◌<◌, [], ◌∷◌, length, true, false, get_or, refl, ap, ◌∙◌, rules}
 use Rattle.std.proofs.Math.ListN.{set}
 use Rattle.isle_model.specs.lists.Tables.{external_extractor}
@@ -59,3 +61,6 @@ returns-clause-placed c =
     let inside : c.in-Some.id.0 < length items = is_within c.args.self.now c.requires (symbol_of c.args.tyenv.now (name_view c.args.term.now).text) c.in-Some.id.0 c.in-Some.ensures in
     placed_set c.args.self.now _ c.in-Some.id.0 c.set_extractor.new.self c.index_mut.result.now (at ∷ []) inside again (ap (λ k. set items k c.set_extractor.new.self) c.index-3.ensures)
     (taken_entry_among (external_extractor c.args.name.0 c.args.infallible at) (term_view c.set_extractor.new.self) (term_view c.index_mut.result.now) (at ∷ []) (among_same (at ∷ [])) c.set_extractor.ensures)
+
+pub returns-in_default-clause-begins : goal.returns-in_default-clause-begins
+returns-in_default-clause-begins c = on_ok_weaker c.report_name.result (λ n. begins_noted _ _ _ n) c.report_name.ensures.places

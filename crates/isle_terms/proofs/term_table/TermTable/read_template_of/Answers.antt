@@ -1,8 +1,10 @@
+use Rattle.isle_terms.proofs.Noting.{both_ok, may_note}
+use Rattle.isle_terms.proofs.Breaches.{begins_among, begins_both, begins_noted}
 use Rattle.std.proofs.Common.{map, refl, sym, ap, ◌∙◌}
 use Rattle.isle_base.specs.SyntaxViews.{extractor_view, position}
 use Rattle.isle_base.specs.Positions.{extractor_positions}
 use Rattle.isle_terms.specs.TermPositions.{table_positions}
-use Rattle.isle_terms.proofs.PlacesNoted.{argument_noted, extractor_noted, noted_among, placed_still}
+use Rattle.isle_terms.proofs.PlacesNoted.{argument_there, extractor_there, pattern_in_extractor, argument_noted, extractor_noted, noted_among, placed_still}
 use Rattle.isle_terms.proofs.TemplateParts.{parts_noted, no_first}
 use Rattle.std.proofs.lemmas.Result.{on_ok_weaker}
 use Rattle.isle_terms.proofs.Callees.{still_callees}
@@ -34,3 +36,17 @@ returns-clause-places c =
     let x = extractor_view c.args.extractor.now in
     on_ok_weaker c.take_template.result (λ r.
     extractor_noted x (table_positions c.args.self.now) c.args.errors.now.items c.terms_named.new.errors.items c.take_template.new.errors.items c.in_ok-named.ensures.places r) c.take_template.ensures.places
+
+pub returns-in-Some-clause-begins : goal.returns-in-Some-clause-begins
+returns-in-Some-clause-begins c =
+    let x = extractor_view c.args.extractor.now in
+    let places = ap (map (λ a. position a.0)) c.deref.ensures.value ∙ c.in_ok-arguments.ensures.places in
+    on_ok_weaker c.report.result (λ n. begins_among _ (extractor_positions x) _ _ (argument_there x c.deref.result.now _ places (sym c.in-Some.ensures.value)) (begins_noted _ _ _ n)) c.report.ensures.places
+
+pub returns-clause-begins : goal.returns-clause-begins
+returns-clause-begins c =
+    let x = extractor_view c.args.extractor.now in
+    let ps = extractor_positions x in
+    let named = begins_among _ ps _ _ (pattern_in_extractor x) (begins_noted _ _ _ c.in_ok-named.ensures.places) in
+    both_ok c.take_template.result _ _ _ (λ n b.
+    begins_both ps _ _ _ (may_note _ _ _ _ c.in_ok-named.ensures.notes) named (may_note _ _ _ _ n) (begins_among _ ps _ _ (extractor_there x) b)) c.take_template.ensures.notes c.take_template.ensures.begins

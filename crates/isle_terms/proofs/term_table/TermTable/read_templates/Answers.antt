@@ -10,7 +10,7 @@ loop-def-preserved g c =
     let a = c.in_ok-read_if_template.ensures in (
       a.callees,
       reads_as _ _ _ _ _ _ _ (λ h. h.1)
-          (next_template _ c.requires.0 c.args.defs.now c.loop-def.def-index c.def-item.result (search rules) c.def-item.is _ _ _ _ _ _ _ _ a.within a.reads c.loop-def.invariant.1),
+          (next_template _ c.requires.0 c.args.defs.now c.loop-def.def-index c.def-item.result (search rules) c.def-item.is _ _ _ _ _ _ _ _ a.within a.reads a.begins c.loop-def.invariant.1),
       next_so_far c.args.defs.now c.loop-def.def-index c.def-item.result (search rules) c.def-item.is _ _ _ _ _ _ a.places a.placed c.loop-def.invariant.2,
     )
 
@@ -22,7 +22,7 @@ returns-then-not-branch-clause-reads g c =
     let a = c.in_ok-read_if_template.ensures in
     let stops : c.in_ok-read_if_template.field-0 ≡ false = search rules in
     reads_as _ _ _ _ _ _ _ (λ h. absurd (false≢true (sym stops ∙ h.0)))
-    (next_template _ c.requires.0 c.args.defs.now c.loop-def.def-index c.def-item.result (search rules) c.def-item.is _ _ _ _ _ _ _ _ a.within a.reads c.loop-def.invariant.1)
+    (next_template _ c.requires.0 c.args.defs.now c.loop-def.def-index c.def-item.result (search rules) c.def-item.is _ _ _ _ _ _ _ _ a.within a.reads a.begins c.loop-def.invariant.1)
 
 pub returns-then-not-branch-clause-places : goal.returns-then-not-branch-clause-places
 returns-then-not-branch-clause-places g c =

@@ -1,3 +1,5 @@
+use Rattle.isle_terms.specs.TermBreaches.{BeginsAt}
+use Rattle.isle_terms.proofs.Breaches.{begins_noted}
 use Rattle.std.proofs.Common.{◌≡◌, [], ◌∷◌, Some, true, false, not, length, get_or, refl, sym, ap, subst, ◌∙◌, inl, inr, ⊎_elim, slice_get, rules}
 use Rattle.std.proofs.Math.ListN.{set}
 use Rattle.std.proofs.lemmas.List.{length-map}
@@ -104,3 +106,9 @@ returns-clause-placed c =
     let of_extractor = subst (λ q. OccurAmong (pattern_positions q) (extractor_positions x)) (sym c.in_ok-template.ensures) (template_in_extractor x) in
     placed_set c.args.self.now _ id c.set_extractor.new.self c.index_mut.result.now (extractor_positions x) c.requires.there again (ap (λ k. set items k c.set_extractor.new.self) c.index-5.ensures)
     (taken_entry_among (internal_extractor p) (term_view c.set_extractor.new.self) (term_view c.index_mut.result.now) (extractor_positions x) of_extractor c.set_extractor.ensures)
+
+pub returns-clause-begins : goal.returns-clause-begins
+returns-clause-begins c =
+    let free : c.in_ok-can_have_template.field-0 ≡ true = search rules in
+    let noted : c.can_have_template.new.errors.items ≡ c.args.errors.now.items = subst (λ b. ReportsIf (not b) c.args.errors.now.items c.can_have_template.new.errors.items) free c.in_ok-can_have_template.ensures.noted in
+    subst (λ l. BeginsAt (position c.args.extractor.now.pos ∷ []) l c.check_arguments.new.errors.items) noted (begins_noted _ _ _ c.in_ok-check_arguments.ensures.places)

@@ -11,6 +11,6 @@ loop-def-init c = record { filled = first_type _ _ _ c.requires; places = notes_
 
 pub loop-def-preserved : goal.loop-def-preserved
 loop-def-preserved c = record {
-  filled = next_type c.args.defs.now c.loop-def.def-index c.def-item.result (search rules) c.def-item.is _ _ _ _ c.in_ok-fill_definition.ensures.inverse c.loop-def.invariant.filled c.in_ok-fill_definition.ensures.noted c.in_ok-fill_definition.ensures.fills;
+  filled = next_type c.args.defs.now c.loop-def.def-index c.def-item.result (search rules) c.def-item.is _ _ _ _ c.in_ok-fill_definition.ensures.inverse c.loop-def.invariant.filled c.in_ok-fill_definition.ensures.noted c.in_ok-fill_definition.ensures.places c.in_ok-fill_definition.ensures.fills;
   places = notes_part definition_positions definition_view c.args.defs.now c.loop-def.def-index c.def-item.result (search rules) c.def-item.is _ _ _ c.loop-def.invariant.places c.in_ok-fill_definition.ensures.places;
 }

@@ -2,7 +2,7 @@ use Rattle.std.proofs.Common.{◌≡◌, [], ap, length, rules}
 use Rattle.isle_base.proofs.Noted.{name_no_limit}
 use Rattle.isle_types.proofs.Booting.{booted, booted_count}
 use Rattle.isle_types.proofs.Naming.{first_name}
-use Rattle.isle_types.proofs.Ending.{at_ok, at_err, why_refused}
+use Rattle.isle_types.proofs.Ending.{at_ok, at_err, at_breach, why_refused}
 use Rattle.isle_types.proofs.WellFormedEnvs.{types_shown, well_formed}
 use Rattle.isle_base.specs.Positions.{positions_of}
 use Rattle.isle_base.specs.SyntaxViews.{definition_views}
@@ -52,3 +52,8 @@ returns-else-is_empty-clause-places c =
     let later = notes_both ps _ _ _ c.in_ok-fill_types.ensures.places c.in_ok-read_constants.ensures.places in
     let all = notes_both ps _ _ _ c.in_ok-name_types.ensures.places later in
     all_stand ps _ (rw c.new-errors.ensures.items at all)
+
+pub returns-else-is_empty-clause-breach : goal.returns-else-is_empty-clause-breach
+returns-else-is_empty-clause-breach c =
+    let many : length c.read_constants.new.errors.items ≡ 0 → ⊥ = search rules in
+    at_breach _ _ _ c.in_ok-read_constants.ensures.reads (λ e. many (ap length e))

@@ -11,6 +11,6 @@ loop-def-init c = record { read = first_constant _ _ _ c.requires; places = note
 
 pub loop-def-preserved : goal.loop-def-preserved
 loop-def-preserved c = record {
-  read = next_constant c.args.defs.now c.loop-def.def-index c.def-item.result (search rules) c.def-item.is _ _ _ _ c.loop-def.invariant.read.inverse c.in_ok-read_definition.ensures.inverse c.loop-def.invariant.read c.in_ok-read_definition.ensures.reads;
+  read = next_constant c.args.defs.now c.loop-def.def-index c.def-item.result (search rules) c.def-item.is _ _ _ _ c.loop-def.invariant.read.inverse c.in_ok-read_definition.ensures.inverse c.in_ok-read_definition.ensures.places c.loop-def.invariant.read c.in_ok-read_definition.ensures.reads;
   places = notes_part definition_positions definition_view c.args.defs.now c.loop-def.def-index c.def-item.result (search rules) c.def-item.is _ _ _ c.loop-def.invariant.places c.in_ok-read_definition.ensures.places;
 }

@@ -1,0 +1,3 @@
+pub mod EchoesFit
+pub mod EchoesApart
+pub mod EchoSteps

@@ -1,0 +1,2 @@
+pub mod Echoes
+pub mod EchoLaws

@@ -1,0 +1,104 @@
+//! Calls of terms with rules.
+
+ghost use Rattle.std.specs.Prelude.{◌≡◌, IfOk};
+ghost use Rattle.isle_laws_functions.specs.RunBy.{run_by};
+ghost use Rattle.isle_serialize.specs.TreeViews.{tree_view};
+ghost use Rattle.isle_terms.specs.TermViews.{term_views};
+ghost use Rattle.isle_types.specs.Envs.{constant_at};
+ghost use Rattle.isle_run.specs.RunViews.{outcome_view, stage_of};
+ghost use Rattle.isle_calls.specs.Echoes.{echoes};
+
+use crate::echo::Echo;
+use crate::outcomes::outcome_text;
+use crate::values::{Unanswered, term_of, values_of, wrong};
+use cranelift_isle::lower::{Lowered, LoweredTerm};
+use cranelift_isle::syntax::{Def, Expr, Ident};
+use isle_reading::premises::is_multi;
+use isle_reading::rules::lowered_term;
+use isle_run::run::run;
+use isle_run::state::Outcome;
+use isle_run::values::Value;
+use isle_text::errors::{ReadFault, TextError};
+use isle_text::read;
+use std::alloc::{AllocError, Global};
+
+// What stands before a call where it is read: it is the right side of a rule.
+const BEFORE: &str = "(rule (run) ";
+
+/// The outcome of a call, as `(f 1 (T.A 2))`, in words: the tree of its term is run by echoes.
+///
+/// # Errors
+///
+/// What is wrong with the call, or that memory was refused.
+pub fn answer_to_call(alloc: Global, lowered: &Lowered, call: &str) -> Result<String, Unanswered> {
+    let text = format!(in alloc; "{BEFORE}{call}\n)")?;
+    match read(alloc, 0, &text) {
+        Ok(defs) => match call_in(&defs) {
+            Some((name, args)) => answer_to_read(alloc, lowered, name, args),
+            None => Err(wrong(String::from_str(alloc, "this is no call of a term, as (f 1 2)"))),
+        },
+        Err(ReadFault::Text(error)) => Err(unread(alloc, call, &error)),
+        Err(ReadFault::Memory(_)) => Err(Unanswered::Memory),
+    }
+}
+
+// That a call can't be read.
+fn unread(alloc: Global, call: &str, error: &TextError) -> Unanswered {
+    let place = error.pos.offset.saturating_sub(BEFORE.len());
+    let column = place.min(call.len()).saturating_add(1);
+    wrong(format!(in alloc; "at column {column}: {error}"))
+}
+
+// The call that is the right side of the one rule.
+fn call_in(defs: &[Def]) -> Option<(&Ident, &[Expr])> {
+    let [Def::Rule(rule)] = defs else {
+        return None;
+    };
+    if !rule.iflets.is_empty() {
+        return None;
+    }
+    match &rule.expr {
+        Expr::Term { sym, args, .. } => Some((sym, args)),
+        _ => None,
+    }
+}
+
+// The outcome of a call that was read.
+fn answer_to_read(
+    alloc: Global,
+    lowered: &Lowered,
+    name: &Ident,
+    args: &[Expr],
+) -> Result<String, Unanswered> {
+    let Some(term) = term_of(lowered, name) else {
+        return Err(wrong(format!(in alloc; "no term is called `{}`", name.0)));
+    };
+    let Some(entry) = lowered_term(lowered, term.id) else {
+        return Err(wrong(format!(in alloc; "`{}` has no rules", name.0)));
+    };
+    let values = values_of(alloc, lowered, term, args)?;
+    let multi = is_multi(&lowered.termenv, term.id);
+    let outcome = outcome_of(alloc, lowered, entry, multi, &values)?;
+    Ok(outcome_text(alloc, lowered, multi, &outcome)?)
+}
+
+/// The outcome of a term's tree on values, by echoes. `entry` is the term's in `lowered`, and `multi` says whether it is multi.
+///
+/// # Errors
+///
+/// Where memory is refused.
+pub fn outcome_of(
+    alloc: Global,
+    lowered: &Lowered,
+    entry: &LoweredTerm,
+    multi: bool,
+    args: &[Value],
+) -> Result<Outcome, AllocError>
+    ensures { IfOk result (λ o. outcome_view o ≡ run_by (tree_view entry.now.block) (stage_of (echoes (constant_at lowered.now.tyenv) (term_views lowered.now.termenv.terms.items)) entry.now.rules.bindings.items multi args.now)) }
+{
+    let echo = Echo {
+        tyenv: &lowered.tyenv,
+        terms: &lowered.termenv.terms,
+    };
+    run(alloc, &echo, &entry.rules, &entry.block, args, multi)
+}

@@ -1,0 +1,125 @@
+// The JSON that is answered to each sample, read back.
+mod forms;
+
+use forms::check_document;
+use isle_answers::samples::sample_text;
+use isle_base::syntax::Files;
+use isle_command::answers::answer_to;
+use isle_command::words::asked_by;
+use serde_json::Value;
+use std::alloc::{AllocError, Global};
+use std::process::Abort;
+use std::test::Fail;
+
+// All samples.
+const SAMPLES: &str =
+    "empty fall types builtin const-eq variant-eq cycle cycle2 cycle3 conflict overlap shadow prio equal below wrap extract surplus endless iflet partial effects unused used multi multi-ext shared ties";
+
+// Types of each kind, and a term that looks at them.
+const TYPES: &str =
+    "(type P (primitive P)) (type T (enum (A (x u8) (y P)) B)) (type S (struct (p T) (q bool)))
+(extern const $K P) (decl f (S T) u8)
+(rule 2 (f (S (T.A 1 $K) true) _) 10) (rule 1 (f _ (T.B)) 11) (rule (f x _) 12)";
+
+// The words of a command.
+fn words(alloc: Global, text: &str) -> Result<Vec<String>, AllocError> {
+    let mut words = Vec::new(alloc);
+    for word in text.split(' ') {
+        words.push(String::from_str(alloc, word)?)?;
+    }
+    Ok(words)
+}
+
+// A text as the one file.
+fn one_file(alloc: Global, text: &str) -> Result<Files, AllocError> {
+    Ok(Files {
+        names: Vec::from_array(alloc, [String::from_str(alloc, "a.isle")?])?,
+        texts: Vec::from_array(alloc, [String::from_str(alloc, text)?])?,
+    })
+}
+
+// What these words are answered to a text, read back. Nothing stands on standard error.
+fn document(rt: &impl Abort, alloc: Global, asked: &str, text: &str) -> Result<Value, Fail> {
+    let words = words(alloc, asked)?;
+    let Some(request) = asked_by(alloc, &words)? else {
+        return Err(Fail::from("wrong words"));
+    };
+    let files = one_file(alloc, text)?;
+    let mut told: Vec<u8> = Vec::new(alloc);
+    let answer = answer_to(alloc, &request, &files, false, &mut told)?;
+    assert!(rt; answer.err.is_empty() && told.is_empty());
+    match Value::from_str(alloc, &answer.out) {
+        Ok(value) => Ok(value),
+        Err(_) => Err(Fail::from("no JSON")),
+    }
+}
+
+// A document has no errors.
+fn is_accepted(value: &Value) -> bool {
+    match value.get("errors").and_then(Value::as_array) {
+        Some(errors) => errors.is_empty(),
+        None => false,
+    }
+}
+
+// Every sample has trees or errors, and its document the documented form.
+#[test]
+fn samples_are_read_back(rt: HostRuntime) -> Result<(), Fail> {
+    let alloc = rt.alloc();
+    for name in SAMPLES.split(' ') {
+        let Some(text) = sample_text(name) else {
+            return Err(Fail::from("no such sample"));
+        };
+        let lowered = document(&rt, alloc, "lower --format json a.isle", text)?;
+        check_document(alloc, &lowered, &["schema", "types", "terms", "errors"])?;
+        let checked = document(&rt, alloc, "check --format json a.isle", text)?;
+        let keys: &[&str] = if is_accepted(&checked) {
+            &["schema", "errors", "warnings"]
+        } else {
+            &["schema", "errors"]
+        };
+        check_document(alloc, &checked, keys)?;
+    }
+    Ok(())
+}
+
+// A text at a place of a document.
+fn text_at<'a>(value: &'a Value, path: &str) -> Option<&'a str> {
+    value.pointer(path)?.as_str()
+}
+
+// A number at a place of a document.
+fn number_at(value: &Value, path: &str) -> Option<u64> {
+    value.pointer(path)?.as_u64()
+}
+
+#[test]
+fn what_a_document_says(rt: HostRuntime) -> Result<(), Fail> {
+    let alloc = rt.alloc();
+    let value = document(&rt, alloc, "lower --format json a.isle", TYPES)?;
+    check_document(alloc, &value, &["schema", "types", "terms", "errors"])?;
+    for (path, want) in [
+        ("/types/0/kind", "primitive"),
+        ("/types/1/variants/0/fields/1/type", "P"),
+        ("/types/2/fields/1/name", "q"),
+        ("/terms/0/name", "f"),
+        ("/terms/0/signature/arguments/0", "S"),
+        ("/terms/0/signature/result", "u8"),
+        ("/terms/0/sites/0/what/kind", "argument"),
+    ] {
+        assert_eq!(&rt; text_at(&value, path), Some(want), "{path}");
+    }
+    for (path, want) in [
+        ("/terms/0/rules/0/line", 3),
+        ("/terms/0/rules/0/column", 1),
+        ("/terms/0/rules/1/priority", 1),
+        ("/terms/0/rules/2/id", 2),
+        ("/terms/0/rules/2/column", 63),
+    ] {
+        assert_eq!(&rt; number_at(&value, path), Some(want), "{path}");
+    }
+    assert!(&rt;
+        value.pointer("/terms/0/rules/3").is_none() && value.pointer("/types/3").is_none()
+    );
+    Ok(())
+}

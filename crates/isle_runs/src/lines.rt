@@ -1,0 +1,75 @@
+//! The outcomes of calls, one a line.
+
+use cranelift_isle::lower::{Lowered, lower};
+use cranelift_isle::syntax::{Def, Fault};
+use isle_answers::answers::Answer;
+use isle_answers::texts::{Asked, Wanted, answer_to_text};
+use isle_calls::calls::answer_to_call;
+use isle_calls::values::Unanswered;
+use isle_reading::texts::{Places, error_lines};
+use isle_text::read;
+use std::alloc::{AllocError, Global};
+
+/// The outcomes of the calls behind the line `--`, by the definitions before it, or one line for each error of these.
+pub fn answer(alloc: Global, text: &str) -> Result<Answer, AllocError> {
+    let (rules, calls) = match text.split_once("\n--\n") {
+        Some(parts) => parts,
+        None => (text, ""),
+    };
+    match read(alloc, 0, rules) {
+        Ok(defs) => answer_to_defs(alloc, &defs, rules, calls),
+        Err(_) => unread(alloc, rules),
+    }
+}
+
+// The line for what keeps definitions from being read.
+fn unread(alloc: Global, rules: &str) -> Result<Answer, AllocError> {
+    let asked = Asked {
+        expand: true,
+        lines: true,
+        wanted: Wanted::Trees,
+    };
+    answer_to_text(alloc, rules, asked)
+}
+
+// The outcomes of calls by definitions, or one line for each error of these.
+fn answer_to_defs(
+    alloc: Global,
+    defs: &[Def],
+    rules: &str,
+    calls: &str,
+) -> Result<Answer, AllocError> {
+    match lower(alloc, defs, true) {
+        Ok(lowered) => Ok(Answer::Trees(outcomes(alloc, &lowered, calls)?)),
+        Err(Fault::Errors(errors)) => {
+            let lines = error_lines(alloc, &errors, Places::Lines(rules))?;
+            Ok(Answer::Errors(lines))
+        }
+        Err(Fault::Memory(error)) => Err(error),
+    }
+}
+
+// The outcomes of calls, a line for each that isn't blank.
+fn outcomes(alloc: Global, lowered: &Lowered, calls: &str) -> Result<String, AllocError> {
+    let mut out = String::new(alloc);
+    for call in calls.lines() {
+        if !call.trim().is_empty() {
+            push_outcome(alloc, &mut out, lowered, call)?;
+        }
+    }
+    Ok(out)
+}
+
+// Adds the outcome of a call, or what is wrong with it.
+fn push_outcome(
+    alloc: Global,
+    out: &mut String,
+    lowered: &Lowered,
+    call: &str,
+) -> Result<(), AllocError> {
+    match answer_to_call(alloc, lowered, call) {
+        Ok(outcome) => write!(out, "{outcome}\n"),
+        Err(Unanswered::Call(why)) => write!(out, "error: {why}\n"),
+        Err(Unanswered::Memory) => Err(AllocError),
+    }
+}

@@ -1,0 +1,67 @@
+-- The first error that is noted, and where it stands, one step after another.
+use Rattle.std.proofs.Common.{◌≡◌, ◌≢◌, List, [], ◌∷◌, ◌++◌, Contains, refl, sym, ap, subst, ◌∙◌, inl, inr}
+use Rattle.isle_model.specs.lists.Syntax.{Position, Definition}
+use Rattle.isle_model.specs.lists.KnownTypes.{KnownTypes}
+use Rattle.isle_model.proofs.Members.{in_head, nothing_in}
+use Rattle.isle_base.specs.declared.syntax.Error.{Error}
+use Rattle.isle_base.specs.Noting.{NotesMore, MayNoteMore}
+use Rattle.isle_base.specs.Positions.{NotesAt, OccurAmong}
+use Rattle.isle_base.proofs.Noted.{some_noted}
+use Rattle.isle_base.proofs.Positioned.{stand_among}
+use Rattle.isle_terms.specs.TermBreaches.{BeginsAt, BreaksTerms, FirstBreaksTerms}
+
+-- what is noted at some positions begins there
+pub begins_noted : (ps : List Position) (old new : List Error) → NotesAt ps old new → BeginsAt ps old new
+begins_noted ps old new n = record {
+  begins = λ first rest none is. elim (n.each first (subst (λ l. Contains l first) (sym is) (in_head first rest))) [
+    | inl before ↦ absurd (nothing_in first (subst (λ l. Contains l first) none before))
+    | inr stands ↦ stands
+  ];
+}
+
+pub begins_among : (ps qs : List Position) (old new : List Error) → OccurAmong ps qs → BeginsAt ps old new → BeginsAt qs old new
+begins_among ps qs old new a b = record { begins = λ first rest none is. stand_among ps qs first a (b.begins first rest none is) }
+
+-- where more is noted the first error stays
+first_kept : (more es es' : List Error) (first : Error) (rest : List Error) → es ≢ [] → es' ≡ es ++ more → es' ≡ first ∷ rest → (others : List Error) × (es ≡ first ∷ others)
+first_kept more [] es' first rest some e is = absurd (some refl)
+first_kept more (x ∷ xs) es' first rest some e is =
+    let all : x ∷ (xs ++ more) ≡ first ∷ rest = sym e ∙ is in
+    let same : x ≡ first = cc in
+    (xs, ap (λ y. y ∷ xs) same)
+
+pub begins_before : (ps : List Position) (a b c : List Error) → NotesMore a b → BeginsAt ps a b → MayNoteMore b c → BeginsAt ps a c
+begins_before ps a b c some begun (inl same) = subst (BeginsAt ps a) (sym same) begun
+begins_before ps a b c some begun (inr n) = record {
+  begins = λ first rest none is. let k = first_kept n.more b c first rest (some_noted some) n.added is in begun.begins first k.0 none k.1;
+}
+
+-- one thing after another
+pub begins_both : (ps : List Position) (a b c : List Error) → MayNoteMore a b → BeginsAt ps a b → MayNoteMore b c → BeginsAt ps b c → BeginsAt ps a c
+begins_both ps a b c (inl same) one more two = subst (λ l. BeginsAt ps l c) same two
+begins_both ps a b c (inr some) one more two = begins_before ps a b c some one more
+
+-- where there is no error before, the first one now stands where a condition is broken
+pub record Breach (k : KnownTypes) (defs : List Definition) (es es' : List Error) : Type 0 where
+  pub positions : List Position
+  pub breaks : BreaksTerms k defs positions
+  pub begins : BeginsAt positions es es'
+
+some_first : (es : List Error) → es ≢ [] → (first : Error) × (rest : List Error) × (es ≡ first ∷ rest)
+some_first [] some = absurd (some refl)
+some_first (x ∷ xs) some = (x, xs, refl)
+
+pub first_found : (k : KnownTypes) (defs : List Definition) (es es' : List Error) → es ≡ [] → NotesMore es es' → Breach k defs es es' → FirstBreaksTerms k defs es'
+first_found k defs es es' none noted b =
+    let f = some_first es' (some_noted noted) in
+    record { first = f.0; rest = f.1; is = f.2; positions = b.positions; breaks = b.breaks; stands = b.begins.begins f.0 f.1 none f.2 }
+
+pub first_stays : (k : KnownTypes) (defs : List Definition) (es es' : List Error) → NotesMore es es' → FirstBreaksTerms k defs es → FirstBreaksTerms k defs es'
+first_stays k defs es es' n f = record {
+  first = f.first;
+  rest = f.rest ++ n.more;
+  is = n.added ∙ ap (λ l. l ++ n.more) f.is;
+  positions = f.positions;
+  breaks = f.breaks;
+  stands = f.stands;
+}
