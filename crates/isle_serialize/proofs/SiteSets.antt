@@ -1,8 +1,8 @@
 -- Sets that are made of lists of sites, and sets that stand for two lists.
-use Rattle.std.proofs.Common.{◌≡◌, ℕ, ◌+◌, ◌<◌, ◌==◌, Bool, true, false, ◌||◌, if◌then◌else◌, List, [], ◌∷◌, ◌++◌, length, take, get_or, refl, sym, ap, ◌∙◌}
-use Rattle.std.proofs.lemmas.List.{take_more}
+use Rattle.std.proofs.Common.{◌≡◌, ℕ, zero, suc, ◌+◌, ◌<◌, set, inl, inr, eqb-true, eq-eqb, ◌==◌, Bool, true, false, ◌||◌, if◌then◌else◌, List, [], ◌∷◌, ◌++◌, length, take, get_or, refl, sym, ap, ◌∙◌}
+use Rattle.std.proofs.lemmas.Bool.{cases_Bool, cond-true, cond-false, false≢true}
+use Rattle.std.proofs.lemmas.List.{take_more, get_or-set_same, get_or-set_other}
 use Rattle.std.proofs.Math.Bool.{or_assoc}
-use Rattle.isle_base.specs.Stable.{contains}
 use Rattle.isle_serialize.specs.declared.small_set.SmallSet.{SmallSet}
 use Rattle.isle_model.specs.trees.Places.{is_in}
 use Rattle.isle_serialize.specs.AroundViews.{has, AreSettled, IsSetOf}
@@ -32,20 +32,34 @@ others_more false a c = refl
 
 pub has_few_more : (old new : SmallSet) (x : ℕ) → new.few.items ≡ old.few.items ++ x ∷ [] → new.others ≡ old.others → (s : ℕ) → has new s ≡ (if x == s then true else has old s)
 has_few_more old new x e same s =
-    ap (λ l. is_in s l || contains ◌==◌ new.others s) e
-    ∙ ap (λ m. is_in s (old.few.items ++ x ∷ []) || contains ◌==◌ m s) same
-    ∙ ap (λ b. b || contains ◌==◌ old.others s) (is_in_append s old.few.items (x ∷ []))
-    ∙ few_more (x == s) (is_in s old.few.items) (contains ◌==◌ old.others s)
+    ap (λ l. is_in s l || get_or new.others.items s false) e
+    ∙ ap (λ m. is_in s (old.few.items ++ x ∷ []) || get_or m.items s false) same
+    ∙ ap (λ b. b || get_or old.others.items s false) (is_in_append s old.few.items (x ∷ []))
+    ∙ few_more (x == s) (is_in s old.few.items) (get_or old.others.items s false)
 
-pub has_others_more : (old new : SmallSet) (x : ℕ) → new.few ≡ old.few → ((s : ℕ) → contains ◌==◌ new.others s ≡ (if x == s then true else contains ◌==◌ old.others s)) → (s : ℕ) → has new s ≡ (if x == s then true else has old s)
+pub has_others_more : (old new : SmallSet) (x : ℕ) → new.few ≡ old.few → ((s : ℕ) → get_or new.others.items s false ≡ (if x == s then true else get_or old.others.items s false)) → (s : ℕ) → has new s ≡ (if x == s then true else has old s)
 has_others_more old new x same h s =
-    ap (λ v. is_in s v.items || contains ◌==◌ new.others s) same
+    ap (λ v. is_in s v.items || get_or new.others.items s false) same
     ∙ ap (λ b. is_in s old.few.items || b) (h s)
-    ∙ others_more (x == s) (is_in s old.few.items) (contains ◌==◌ old.others s)
+    ∙ others_more (x == s) (is_in s old.few.items) (get_or old.others.items s false)
+
+-- marks: one more place that isn't marked, and one more mark
+pub mark_none : (xs : List Bool) (s : ℕ) → get_or (xs ++ false ∷ []) s false ≡ get_or xs s false
+mark_none [] zero = refl
+mark_none [] (suc s) = refl
+mark_none (x ∷ xs) zero = refl
+mark_none (x ∷ xs) (suc s) = mark_none xs s
+
+pub mark_more : (xs : List Bool) (n s : ℕ) → n < length xs → get_or (set xs n true) s false ≡ (if n == s then true else get_or xs s false)
+mark_more xs n s l =
+    elim (cases_Bool (n == s)) [
+      | inl t ↦ ap (λ k. get_or (set xs n true) k false) (sym (eqb-true n s t)) ∙ get_or-set_same xs n true false l ∙ sym (cond-true (n == s) true (get_or xs s false) t)
+      | inr f ↦ get_or-set_other xs n s true false (λ e. false≢true (sym f ∙ eq-eqb n s (sym e))) ∙ sym (cond-false (n == s) true (get_or xs s false) f)
+    ]
 
 -- a few alone
-pub few_alone : (set : SmallSet) (xs : List ℕ) → set.few.items ≡ xs → ((s : ℕ) → contains ◌==◌ set.others s ≡ false) → IsSetOf xs set
-few_alone set xs e none s = ap (λ l. is_in s l || contains ◌==◌ set.others s) e ∙ ap (λ b. is_in s xs || b) (none s) ∙ or_false (is_in s xs)
+pub few_alone : (set : SmallSet) (xs : List ℕ) → set.few.items ≡ xs → ((s : ℕ) → get_or set.others.items s false ≡ false) → IsSetOf xs set
+few_alone set xs e none s = ap (λ l. is_in s l || get_or set.others.items s false) e ∙ ap (λ b. is_in s xs || b) (none s) ∙ or_false (is_in s xs)
 
 -- one more site
 pub set_more : (xs : List ℕ) (i x : ℕ) (old new : SmallSet) → i < length xs → x ≡ get_or xs i x → ((s : ℕ) → has new s ≡ (if x == s then true else has old s))

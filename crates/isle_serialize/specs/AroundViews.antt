@@ -1,11 +1,10 @@
 -- What stands around a place, as it is kept: the sources of arms and loops in one list.
-use Rattle.std.specs.Prelude.{◌≡◌, ℕ, Bool, true, ◌==◌, ◌||◌, if◌then◌else◌, List, [], ◌∷◌, ◌++◌, Option}
+use Rattle.std.specs.Prelude.{◌≡◌, ℕ, Bool, true, false, slice_index_or, ◌==◌, ◌||◌, if◌then◌else◌, List, [], ◌∷◌, ◌++◌, Option}
 use Rattle.std.specs.List.{flat_map}
 use Rattle.isle_model.specs.sites.Sites.{Site, SiteSet, sources_at}
 use Rattle.isle_model.specs.trees.Places as Places
 use Rattle.isle_model.specs.trees.Places.{is_in, class, all_below, available, field_sites}
 use Rattle.isle_model.specs.trees.Tests.{sources_around}
-use Rattle.isle_base.specs.Stable.{contains}
 use Rattle.isle_serialize.specs.declared.around.Around.{Around}
 use Rattle.isle_serialize.specs.declared.around.Known.{Known}
 use Rattle.isle_serialize.specs.declared.small_set.SmallSet.{SmallSet}
@@ -29,7 +28,7 @@ IsNaming pairs names = (s : ℕ) → name_in names s ≡ class pairs s
 
 -- whether a set has a site
 abbrev pub has : SmallSet → ℕ → Bool
-has set s = is_in s set.few.items || contains ◌==◌ set.others s
+has set s = is_in s set.few.items || slice_index_or set.others.items s false
 
 -- a set of exactly these sites
 abbrev pub IsSetOf : List ℕ → SmallSet → Type 0

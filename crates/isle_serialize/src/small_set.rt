@@ -1,24 +1,22 @@
 //! Sets of sites, most of which are small.
 
-ghost use Rattle.std.specs.Prelude.{◌≡◌, ◌==◌, ◌||◌, ℕ, true, false, if◌then◌else◌, IfOk, OnOk};
-ghost use Rattle.isle_base.specs.Stable.{contains};
+ghost use Rattle.std.specs.Prelude.{◌≡◌, ◌<◌, ◌==◌, ◌||◌, ℕ, length, slice_index_or, true, false, if◌then◌else◌, IfOk, OnOk};
 ghost use Rattle.isle_model.specs.trees.Places.{is_in};
 ghost use Rattle.isle_serialize.specs.AroundViews.{has, IsSetOf};
 
-use isle_base::stablemapset::StableSet;
 use isle_sets::trie_again::BindingId;
 use std::alloc::{AllocError, Global};
 
 /// So many sites are walked faster than one is looked up.
 pub const FEW: usize = 32;
 
-/// A set of sites: the first few are walked, all others looked up.
+/// A set of sites: the first few are walked, all others are marked by their numbers.
 #[derive(Drop)]
 pub struct SmallSet {
     /// The first few, in the order in which they came.
     pub few: Vec<BindingId>,
-    /// The others.
-    pub others: StableSet<BindingId>,
+    /// Whether the site of each number is one of the others.
+    pub others: Vec<bool>,
 }
 
 impl SmallSet {
@@ -28,7 +26,7 @@ impl SmallSet {
     {
         SmallSet {
             few: Vec::new(alloc),
-            others: StableSet::new(alloc),
+            others: Vec::new(alloc),
         }
     }
 
@@ -39,7 +37,7 @@ impl SmallSet {
     {
         Ok(SmallSet {
             few: Vec::from_slice(alloc, sites)?,
-            others: StableSet::new(alloc),
+            others: Vec::new(alloc),
         })
     }
 
@@ -52,16 +50,45 @@ impl SmallSet {
             self.few.push(site)?;
             return Ok(());
         }
-        self.others.insert(site)?;
-        Ok(())
+        mark(&mut self.others, site.index())
     }
 
     /// Whether the set has a site.
     pub fn contains(&self, site: BindingId) -> bool
         ensures { result ≡ has self.now site }
     {
-        is_among(site, &self.few) || self.others.contains(&site)
+        is_among(site, &self.few) || is_marked(&self.others, site.index())
     }
+}
+
+// Whether a number is marked.
+fn is_marked(marks: &[bool], number: usize) -> bool
+    ensures { result ≡ slice_index_or marks.now number false }
+{
+    match marks.get(number) {
+        Some(marked) => *marked,
+        None => false,
+    }
+}
+
+// Makes room for the mark of a number.
+fn make_room(marks: &mut Vec<bool>, number: usize) -> Result<(), AllocError>
+    ensures same { OnOk result ((s : ℕ) → slice_index_or marks.new.items s false ≡ slice_index_or marks.old.items s false) }
+    ensures room { OnOk result (number < length marks.new.items) }
+{
+    while marks.len() <= number {
+        marks.push(false)?;
+    }
+    Ok(())
+}
+
+// Marks a number.
+fn mark(marks: &mut Vec<bool>, number: usize) -> Result<(), AllocError>
+    ensures { OnOk result ((s : ℕ) → slice_index_or marks.new.items s false ≡ (if number == s then true else slice_index_or marks.old.items s false)) }
+{
+    make_room(marks, number)?;
+    marks[number] = true;
+    Ok(())
 }
 
 // Whether a site is one of these.
