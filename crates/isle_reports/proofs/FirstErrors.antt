@@ -7,7 +7,7 @@ use Rattle.isle_base.specs.declared.syntax.Error.{Error}
 use Rattle.isle_base.specs.Noting.{MayNoteMore}
 use Rattle.isle_base.specs.Positions.{ErrorStandsAt, NotesAt}
 use Rattle.isle_reports.specs.Elaborating.{Checks}
-use Rattle.isle_reports.specs.FirstErrors.{BeginsAt, MayBegin}
+use Rattle.isle_reports.specs.FirstErrors.{FirstStandsWhere, MayBegin}
 
 -- errors that go on from others
 abbrev pub GoesOn : List Error → List Error → Type 0
@@ -30,7 +30,7 @@ stands_first ps old first rest none noted = elim (noted.each first (in_head firs
 ]
 
 module _ (IsWrong : List Position → Type 0) where
-  pub begins_still : (old new : List Error) → BeginsAt IsWrong old → GoesOn old new → BeginsAt IsWrong new
+  pub begins_still : (old new : List Error) → FirstStandsWhere IsWrong old → GoesOn old new → FirstStandsWhere IsWrong new
   begins_still old new b on = record {
     first = b.first;
     rest = b.rest ++ on.0;
@@ -42,13 +42,13 @@ module _ (IsWrong : List Position → Type 0) where
 
   -- the same, and something holds as long as there is no error
   abbrev pub BeginsUnless : Type 0 → List Error → List Error → Type 0
-  BeginsUnless Right old new = old ≡ [] → ((new ≡ []) × Right) ⊎ BeginsAt IsWrong new
+  BeginsUnless Right old new = old ≡ [] → ((new ≡ []) × Right) ⊎ FirstStandsWhere IsWrong new
 
   -- something wrong is noted at some positions
   abbrev pub IsNoted : List Error → List Error → Type 0
   IsNoted old new = (ps : List Position) × IsWrong ps × NotesAt ps old new
 
-  noted_now : (old new : List Error) → old ≡ [] → new ≢ [] → IsNoted old new → BeginsAt IsWrong new
+  noted_now : (old new : List Error) → old ≡ [] → new ≢ [] → IsNoted old new → FirstStandsWhere IsWrong new
   noted_now old [] none some noted = absurd (some refl)
   noted_now old (e ∷ es) none some noted = record { first = e; rest = es; is = refl; positions = noted.0; wrong = noted.1; stands = stands_first noted.0 old e es none noted.2 }
 
@@ -74,7 +74,7 @@ module _ (IsWrong : List Position → Type 0) where
   ]
 
 -- the same said otherwise
-pub begins_as : (P Q : List Position → Type 0) → ((ps : List Position) → P ps → Q ps) → (es : List Error) → BeginsAt P es → BeginsAt Q es
+pub begins_as : (P Q : List Position → Type 0) → ((ps : List Position) → P ps → Q ps) → (es : List Error) → FirstStandsWhere P es → FirstStandsWhere Q es
 begins_as P Q f es b = record { first = b.first; rest = b.rest; is = b.is; positions = b.positions; wrong = f b.positions b.wrong; stands = b.stands }
 
 -- the elements before a place of a list, the one there and those after it

@@ -5,7 +5,7 @@ use Rattle.isle_base.specs.declared.syntax.Error.{Error}
 use Rattle.isle_base.specs.Positions.{ErrorStandsAt}
 
 -- there are errors, and the first stands at positions at which something is wrong
-pub record BeginsAt (IsWrong : List Position → Type 0) (errors : List Error) : Type 0 where
+pub record FirstStandsWhere (IsWrong : List Position → Type 0) (errors : List Error) : Type 0 where
   pub first : Error
   pub rest : List Error
   pub is : errors ≡ first ∷ rest
@@ -15,4 +15,4 @@ pub record BeginsAt (IsWrong : List Position → Type 0) (errors : List Error) :
 
 -- where there was no error before there is none now, or the first one stands so
 abbrev pub MayBegin : (List Position → Type 0) → List Error → List Error → Type 0
-MayBegin IsWrong old new = old ≡ [] → (new ≡ []) ⊎ BeginsAt IsWrong new
+MayBegin IsWrong old new = old ≡ [] → (new ≡ []) ⊎ FirstStandsWhere IsWrong new

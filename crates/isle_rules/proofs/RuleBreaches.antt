@@ -24,7 +24,7 @@ use Rattle.isle_terms.specs.TermViews.{term_views}
 use Rattle.isle_typed.specs.declared.rules.Rule.{Rule}
 use Rattle.isle_typed.specs.RuleViews.{rule_views}
 use Rattle.isle_reports.specs.Elaborating.{Checks}
-use Rattle.isle_reports.specs.FirstErrors.{BeginsAt, MayBegin}
+use Rattle.isle_reports.specs.FirstErrors.{FirstStandsWhere, MayBegin}
 use Rattle.isle_reports.specs.RuleNaming.{MapsNames, TakesName, takes_name, AreDefined, IsLeftUndefined}
 use Rattle.isle_reports.proofs.FirstErrors.{GoesOn, begins_still, begins_as}
 use Rattle.isle_rules.specs.declared.term_env.TermEnv.{TermEnv}
@@ -51,10 +51,10 @@ module _ (env : TermEnv) (old new : TypeEnv) (keeps : Keeps old new) (trees : Li
   abbrev Wrong : List Position → Type 0
   Wrong = BreaksReading (AreDefined e.terms) (IsLeftUndefined e.terms) e trees (names_of old)
 
-  abbrev Begins : List Error → Type 0
-  Begins es = (es ≡ []) ⊎ BeginsAt Wrong es
+  abbrev NoneOrFirst : List Error → Type 0
+  NoneOrFirst es = (es ≡ []) ⊎ FirstStandsWhere Wrong es
 
-  still : (old new : List Error) → Begins old → GoesOn old new → (old ≡ [] → Begins new) → Begins new
+  still : (old new : List Error) → NoneOrFirst old → GoesOn old new → (old ≡ [] → NoneOrFirst new) → NoneOrFirst new
   still old new (inl none) on next = next none
   still old new (inr b) on next = inr (begins_still Wrong old new b on)
 
@@ -63,19 +63,19 @@ module _ (env : TermEnv) (old new : TypeEnv) (keeps : Keeps old new) (trees : Li
       uses_unmade before rule after split (made_uses env old new keeps.inverse keeps e is k (flat_map uses_of_rule before) right) (λ h. wrong (found_uses env old new keeps.inverse keeps e is k (uses_of_rule rule) h))
 
   module _ (e1 e2 e3 e4 : List Error) (all : rules_within e 0 trees (names_of old) ≡ Some l) where
-    last_stage : IsDistinct (rule_names all_named) → AreDefined e.terms → e3 ≡ [] → MayBegin (UsesUnmade (AreFoundMade env new) trees) e3 e4 → Begins e4
+    last_stage : IsDistinct (rule_names all_named) → AreDefined e.terms → e3 ≡ [] → MayBegin (UsesUnmade (AreFoundMade env new) trees) e3 e4 → NoneOrFirst e4
     last_stage once defined none m = elim (m none) [
       | inl g ↦ inl g
       | inr b ↦ inr (begins_as (UsesUnmade (AreFoundMade env new) trees) Wrong (λ ps w. uses_the_unmade l all once defined ps (as_made ps w)) e4 b)
     ]
 
-    third_stage : IsDistinct (rule_names all_named) → e2 ≡ [] → MayBegin (IsLeftUndefined (term_views env.terms.items)) e2 e3 → Begins e3
+    third_stage : IsDistinct (rule_names all_named) → e2 ≡ [] → MayBegin (IsLeftUndefined (term_views env.terms.items)) e2 e3 → NoneOrFirst e3
     third_stage once none m = elim (m none) [
       | inl g ↦ inl g
       | inr b ↦ inr (begins_as (IsLeftUndefined (term_views env.terms.items)) Wrong (λ ps w. isnt_defined l all once ps (subst (λ ts. IsLeftUndefined ts ps) is.terms w)) e3 b)
     ]
 
-    second_stage : e1 ≡ [] → MayBegin (TakesName all_named) e1 e2 → Begins e2
+    second_stage : e1 ≡ [] → MayBegin (TakesName all_named) e1 e2 → NoneOrFirst e2
     second_stage none m = elim (m none) [
       | inl g ↦ inl g
       | inr b ↦ inr (begins_as (TakesName all_named) Wrong (λ ps w. takes_a_name l all ps w) e2 b)
@@ -83,14 +83,14 @@ module _ (env : TermEnv) (old new : TypeEnv) (keeps : Keeps old new) (trees : Li
 
   module _ (e1 e2 e3 e4 : List Error) (rules : rules_within e 0 trees (names_of old) ≡ Some l ⊎ (e1 ≢ [])) where
     pub stages : MayBegin (IsUntyped e trees (names_of old)) [] e1 → GoesOn e1 e2 → MayBegin (TakesName all_named) e1 e2 → (e2 ≡ [] → IsDistinct (rule_names all_named))
-        → GoesOn e2 e3 → MayBegin (IsLeftUndefined (term_views env.terms.items)) e2 e3 → (e3 ≡ [] → AreDefined e.terms) → GoesOn e3 e4 → MayBegin (UsesUnmade (AreFoundMade env new) trees) e3 e4 → Begins e4
+        → GoesOn e2 e3 → MayBegin (IsLeftUndefined (term_views env.terms.items)) e2 e3 → (e3 ≡ [] → AreDefined e.terms) → GoesOn e3 e4 → MayBegin (UsesUnmade (AreFoundMade env new) trees) e3 e4 → NoneOrFirst e4
     stages first on2 second once on3 third defined on4 last =
         let typed_all : e1 ≡ [] → rules_within e 0 trees (names_of old) ≡ Some l = λ none. elim rules [ inl t ↦ t | inr some ↦ absurd (some none) ] in
-        let b1 : Begins e1 = elim (first refl) [ inl g ↦ inl g | inr b ↦ inr (begins_as (IsUntyped e trees (names_of old)) Wrong (λ ps w. isnt_typed ps w) e1 b) ] in
+        let b1 : NoneOrFirst e1 = elim (first refl) [ inl g ↦ inl g | inr b ↦ inr (begins_as (IsUntyped e trees (names_of old)) Wrong (λ ps w. isnt_typed ps w) e1 b) ] in
         let n2 : e2 ≡ [] → e1 ≡ [] = nothing_before e1 e2 on2 in
         let n3 : e3 ≡ [] → e2 ≡ [] = nothing_before e2 e3 on3 in
-        let b2 : Begins e2 = still e1 e2 b1 on2 (λ none. second_stage e1 e2 e3 e4 (typed_all none) none second) in
-        let b3 : Begins e3 = still e2 e3 b2 on3 (λ none. third_stage e1 e2 e3 e4 (typed_all (n2 none)) (once none) none third) in
+        let b2 : NoneOrFirst e2 = still e1 e2 b1 on2 (λ none. second_stage e1 e2 e3 e4 (typed_all none) none second) in
+        let b3 : NoneOrFirst e3 = still e2 e3 b2 on3 (λ none. third_stage e1 e2 e3 e4 (typed_all (n2 none)) (once none) none third) in
         still e3 e4 b3 on4 (λ none. last_stage e1 e2 e3 e4 (typed_all (n2 (n3 none))) (once (n3 none)) (defined none) none last)
       where
         nothing_before : (a b : List Error) → GoesOn a b → b ≡ [] → a ≡ []

@@ -15,7 +15,7 @@ use Rattle.isle_model.specs.claims.Environments.{TypesRead, setting_of}
 use Rattle.isle_types.specs.declared.type_env.TypeEnv.{TypeEnv}
 use Rattle.isle_types.specs.Envs.{names_of}
 use Rattle.isle_terms.specs.TermBreaches.{BreaksTerms}
-use Rattle.isle_reports.specs.FirstErrors.{BeginsAt, MayBegin}
+use Rattle.isle_reports.specs.FirstErrors.{FirstStandsWhere, MayBegin}
 use Rattle.isle_reports.specs.RuleNaming.{TakesName, AreDefined, IsLeftUndefined}
 use Rattle.isle_rules.specs.declared.term_env.TermEnv.{TermEnv}
 use Rattle.isle_rules.specs.Constructors.{AreMadeUses, AreTermsNamed, uses_of_rule}
@@ -62,4 +62,4 @@ pub data BreaksRules (e : TypesRead) (defs : List Definition) (expand : Bool) : 
 
 -- the first of these errors stands at something that does
 abbrev pub FirstBreaksRules : TypesRead → List Definition → Bool → List Error → Type 0
-FirstBreaksRules e defs expand errors = BeginsAt (BreaksRules e defs expand) errors
+FirstBreaksRules e defs expand errors = FirstStandsWhere (BreaksRules e defs expand) errors
