@@ -76,6 +76,18 @@ impl Limit {
             Limit::Expansions => "more than 65536 expansions in one rule",
         }
     }
+
+    /// The limit by its number, from `limit L1` for the fields to `limit L6` for the expansions.
+    pub fn number(self) -> &'static str {
+        match self {
+            Limit::Fields => "limit L1",
+            Limit::Outputs => "limit L2",
+            Limit::Arguments => "limit L3",
+            Limit::Sites => "limit L4",
+            Limit::Nesting => "limit L5",
+            Limit::Expansions => "limit L6",
+        }
+    }
 }
 
 /// What is wrong with the definitions.

@@ -1,7 +1,7 @@
 //! Errors as lines of text.
 
 use crate::places::{Marked, Places};
-use isle_base::syntax::{Error, Limit, Span};
+use isle_base::syntax::{Error, Span};
 use std::alloc::{AllocError, Global};
 use std::slice;
 
@@ -31,20 +31,26 @@ fn lines_at(alloc: Global, errors: &[Error], places: Places<'_>) -> Result<Strin
 
 // An error without the end of its line.
 fn push_error(out: &mut String, error: &Error, places: Places<'_>) -> Result<(), AllocError> {
-    let (what, spans, text) = match error {
-        Error::TypeError { msg, span } => ("type error", slice::from_ref(span), msg.as_str()),
-        Error::UnreachableError { msg, span } => {
-            ("unreachable", slice::from_ref(span), msg.as_str())
+    let kind = error.kind();
+    write!(out, "{kind} at ")?;
+    match error {
+        Error::TypeError { msg, span }
+        | Error::UnreachableError { msg, span }
+        | Error::LimitError { msg, span, .. } => {
+            push_placed(out, slice::from_ref(span), msg.as_str(), places)
         }
-        Error::OverlapError { msg, rules } => ("overlap", rules.as_slice(), msg.as_str()),
-        Error::LimitError { limit, msg, span } => {
-            (limit_word(*limit), slice::from_ref(span), msg.as_str())
-        }
-        Error::ShadowedError { shadowed, mask } => {
-            return push_shadowed(out, shadowed, *mask, places);
-        }
-    };
-    write!(out, "{what} at ")?;
+        Error::OverlapError { msg, rules } => push_placed(out, rules, msg.as_str(), places),
+        Error::ShadowedError { shadowed, mask } => push_shadowed(out, shadowed, *mask, places),
+    }
+}
+
+// Places, and what is wrong there.
+fn push_placed(
+    out: &mut String,
+    spans: &[Span],
+    text: &str,
+    places: Places<'_>,
+) -> Result<(), AllocError> {
     push_places(out, spans, places)?;
     write!(out, ": {text}")
 }
@@ -56,7 +62,6 @@ fn push_shadowed(
     mask: Span,
     places: Places<'_>,
 ) -> Result<(), AllocError> {
-    out.push_str("shadowed at ")?;
     push_places(out, shadowed, places)?;
     out.push_str(" by ")?;
     places.push(out, mask.from)
@@ -71,16 +76,4 @@ fn push_places(out: &mut String, spans: &[Span], places: Places<'_>) -> Result<(
         places.push(out, span.from)?;
     }
     Ok(())
-}
-
-// A limit by its number.
-fn limit_word(limit: Limit) -> &'static str {
-    match limit {
-        Limit::Fields => "limit L1",
-        Limit::Outputs => "limit L2",
-        Limit::Arguments => "limit L3",
-        Limit::Sites => "limit L4",
-        Limit::Nesting => "limit L5",
-        Limit::Expansions => "limit L6",
-    }
 }

@@ -24,6 +24,7 @@ use std::cmp::Reverse;
 /// Steps, tried in order. Where one's test fails or its body runs through, the next one follows, and may rest on no
 /// earlier one having ended the run.
 #[cycle(tree)]
+#[derive(Clone, Debug, PartialEq)]
 pub struct Block {
     /// The steps.
     pub steps: Vec<EvalStep>,
@@ -51,6 +52,7 @@ impl Block {
 /// Sites to bind, and then a test or an end. Calls and made values are bound ahead, since nothing can be computed while
 /// a value is matched.
 #[cycle(tree)]
+#[derive(Clone, Debug, PartialEq)]
 pub struct EvalStep {
     /// The sites that are bound first, in this order.
     pub bind_order: Vec<BindingId>,
@@ -70,6 +72,7 @@ impl Drop for EvalStep {
 
 /// A test or an end.
 #[cycle(tree)]
+#[derive(Clone, Debug, PartialEq)]
 pub enum ControlFlow {
     /// Goes on in the arm whose constraint the value meets. No value meets those of two arms.
     Match {
@@ -121,6 +124,7 @@ impl Drop for ControlFlow {
 
 /// What follows where a value meets a constraint.
 #[cycle(tree)]
+#[derive(Clone, Debug, PartialEq)]
 pub struct MatchArm {
     /// The constraint.
     pub constraint: Constraint,
