@@ -8,9 +8,8 @@ use Rattle.isle_model.specs.rules.Values.{Value, is_atom_type, well_typed}
 use Rattle.isle_model.specs.rules.Meaning.{one, just}
 use Rattle.isle_model.specs.rules.Program.{kind, rules_of}
 use Rattle.isle_model.specs.sites.Sites.{SiteTerm, int_term}
-use Rattle.isle_model.specs.sites.Serves.{asked, fits_extractor}
-use Rattle.isle_laws_demands.proofs.total.Total.{total_meanings_serve_lem, restricted_serves}
-use Rattle.isle_laws_demands.proofs.total.Listed.{restricted, restricted_agrees}
+use Rattle.isle_model.specs.sites.Serves.{fits_extractor}
+use Rattle.isle_laws_demands.proofs.total.Total.{answers_restrict, total_meanings_serve_lem}
 use Rattle.isle_laws_demands.proofs.total.SameChoice.{choice_is_of_functions_lem}
 use Rattle.isle_laws_demands.specs.TotalLaws.{Restricts}
 use Rattle.isle_model.specs.rules.Choice.{choice}
@@ -67,12 +66,15 @@ quiet r c = elim (in_cases extract_one r (extract_any ∷ []) c) [
   | inr i ↦ subst (λ q. (demands_of extract_program q).iterators ≡ []) (in_alone extract_any r i) refl
 ]
 
+-- finite maps that serve
+abbrev first : (z : ℤ) → Restricts extract_program echo (given z) (rules_of extract_program 1)
+first z = answers_restrict (types_read extract_defs) extract_defs true extract_rules 1 echo (given z) extract_stages.accepted.0.read.elaborated echo_is_total.0 refl []
+
 same : (z : ℤ) (r : Restricts extract_program echo (given z) (rules_of extract_program 1))
-    → choice extract_program r.meaning (rules_of extract_program 1) (given z) ≡ choice extract_program (restricted echo (given z) (asked extract_program (rules_of extract_program 1))) (rules_of extract_program 1) (given z)
+    → choice extract_program r.meaning (rules_of extract_program 1) (given z) ≡ choice extract_program (first z).meaning (rules_of extract_program 1) (given z)
 same z r =
-    choice_is_of_functions_lem (types_read extract_defs) extract_defs true extract_rules 1 echo r.meaning (restricted echo (given z) (asked extract_program (rules_of extract_program 1))) (given z) extract_stages.accepted.0.read.elaborated
-    quiet refl r.agrees r.serves (restricted_agrees echo (given z) (asked extract_program (rules_of extract_program 1)))
-    (restricted_serves (types_read extract_defs) extract_defs true extract_rules extract_stages.accepted.0.read.elaborated 1 echo (given z) echo_is_total.0 refl)
+    choice_is_of_functions_lem (types_read extract_defs) extract_defs true extract_rules 1 echo r.meaning (first z).meaning (given z) extract_stages.accepted.0.read.elaborated
+    quiet refl r.agrees r.serves (first z).agrees (first z).serves
 
 pub echo_gives_ten : EchoGives (pos 1) (pos 10)
 echo_gives_ten r = same (pos 1) r

@@ -1,5 +1,5 @@
 -- By well-typed functions a tree that runs as chosen comes to the choice of a source rule.
-use Rattle.std.proofs.Common.{◌≡◌, Bool, true, List, [], ◌++◌, Option, Some, None, is_some, sym, ap, ◌∙◌, subst, inl, inr}
+use Rattle.std.proofs.Common.{◌≡◌, Bool, true, List, [], ◌++◌, Option, Some, None, is_some, flat_map, sym, ap, ◌∙◌, subst, inl, inr}
 use Rattle.isle_model.specs.rules.Values.{Value}
 use Rattle.isle_model.specs.rules.Meaning.{Meaning}
 use Rattle.isle_model.specs.rules.Outcome.{stuck, Outcome}
@@ -13,14 +13,14 @@ use Rattle.isle_model.specs.sites.Serves.{asked, constant_site, written_value}
 use Rattle.isle_model.specs.trees.Trees.{Tree, no_step, step, Check, match_at, equal_at, loop_at, return_at, Arms, no_arm, arm}
 use Rattle.isle_model.specs.trees.Run.{run, world_of}
 use Rattle.isle_model.specs.claims.Environments.{program_of}
-use Rattle.isle_model.proofs.Elements.{In, in_left, in_right, in_either, in_from_contains}
+use Rattle.isle_model.proofs.Elements.{In, in_right, in_either, in_from_contains}
 use Rattle.isle_laws_demands.specs.TotalLaws.{TotalMeaning, Restricts}
 use Rattle.isle_laws_demands.proofs.matching.NoMulti.{rules_without_multi_go_over_no_calls_lem}
-use Rattle.isle_laws_demands.proofs.total.Listed.{restricted, restricted_agrees, bool_there, int_there, constant_there}
+use Rattle.isle_laws_demands.proofs.total.Listed.{Question, questions_of, answers_to, AsksOf, asks_of_all, bool_answered, int_answered, constant_answered}
+use Rattle.isle_laws_demands.proofs.total.Total.{answers_restrict}
 use Rattle.isle_laws_demands.proofs.total.SameChoice.{total_meanings_have_one_outcome_lem}
 use Rattle.isle_laws_functions.specs.RunBy.{run_by, stage_by}
 use Rattle.isle_laws_functions.specs.FunctionLaws.{constants_in, constants_in_check, constants_in_arms, HasConstants, RunsByFunctionsAsChosen}
-use Rattle.isle_laws_functions.proofs.FurtherMaps.{further_serves}
 use Rattle.isle_laws_functions.proofs.UnderMeanings.{runs_as_under_meanings_lem}
 
 -- 1. a choice is never stuck
@@ -60,15 +60,18 @@ mutual
         | inr a ↦ elim (in_either (constants_in body) (constants_in_arms rest) s a) [ inl b ↦ tree_names body s b | inr b ↦ arms_name rest s b ]
       ]
 
-module _ (f : TotalMeaning) (args : List Value) (sites : List SiteTerm) where
-  at_site : (s u : SiteTerm) → u ≡ s → (In sites u → is_some (written_value (restricted f args sites) u) ≡ true) → In sites s → is_some (written_value (restricted f args sites) s) ≡ true
-  at_site s u e = subst (λ x. (In sites x → is_some (written_value (restricted f args sites) x) ≡ true) → In sites s → is_some (written_value (restricted f args sites) s) ≡ true) (sym e) (λ g. g)
+module _ (f : TotalMeaning) (args : List Value) (asks : List Question) (sites : List SiteTerm) (all : AsksOf f args sites asks) where
+  abbrev HasValue : SiteTerm → Type 0
+  HasValue s = is_some (written_value (answers_to f asks) s) ≡ true
+
+  at_site : (s u : SiteTerm) → u ≡ s → (In sites u → HasValue u) → In sites s → HasValue s
+  at_site s u e = subst (λ x. (In sites x → HasValue x) → In sites s → HasValue s) (sym e) (λ g. g)
 
   -- a constant among the sites has a value
-  has_value : (s : SiteTerm) (c : Constraint) → In (constant_site c) s → In sites s → is_some (written_value (restricted f args sites) s) ≡ true
-  has_value s (is_bool b ty) (inl e) i = at_site s (bool_term b ty) e (λ j. ap is_some (bool_there f args sites b ty j)) i
-  has_value s (is_int z ty) (inl e) i = at_site s (int_term z ty) e (λ j. ap is_some (int_there f args sites z ty j)) i
-  has_value s (is_prim name) (inl e) i = at_site s (prim_term name) e (λ j. ap is_some (constant_there f args sites name j)) i
+  has_value : (s : SiteTerm) (c : Constraint) → In (constant_site c) s → In sites s → HasValue s
+  has_value s (is_bool b ty) (inl e) i = at_site s (bool_term b ty) e (λ j. ap is_some (bool_answered f args asks sites all b ty j)) i
+  has_value s (is_int z ty) (inl e) i = at_site s (int_term z ty) e (λ j. ap is_some (int_answered f args asks sites all z ty j)) i
+  has_value s (is_prim name) (inl e) i = at_site s (prim_term name) e (λ j. ap is_some (constant_answered f args asks sites all name j)) i
   has_value s (is_bool b ty) (inr n) i = absurd n
   has_value s (is_int z ty) (inr n) i = absurd n
   has_value s (is_prim name) (inr n) i = absurd n
@@ -81,19 +84,16 @@ pub runs_by_functions_as_chosen_lem : RunsByFunctionsAsChosen
 runs_by_functions_as_chosen_lem e defs expand rules t sites tree f args h single runs total apart fit =
     let p = program_of e defs rules.rules in
     let rs = rules_of p t in
-    let all = asked p rs ++ constants_in tree in
-    let m = restricted f args all in
+    let own = flat_map (questions_of f args) (asked p rs) in
+    let more = flat_map (questions_of f args) (constants_in tree) in
     let one = total_meanings_have_one_outcome_lem e defs expand rules t sites tree f args h (rules_without_multi_go_over_no_calls_lem e defs expand rules t h single) (runs single) total apart fit in
-    let first : Restricts p f args rs = record {
-      meaning = m;
-      agrees = restricted_agrees f args all;
-      serves = further_serves e defs expand rules h t f args total fit all (λ u i. in_left (asked p rs) (constants_in tree) u i);
-    } in
+    let first : Restricts p f args rs = answers_restrict e defs expand rules t f args h total fit more in
+    let m = first.meaning in
     let ran : run tree (world_of p t sites m args) ≡ one.outcome = one.runs first in
     let goes_on : (run tree (world_of p t sites m args)).ending ≡ stuck → ⊥ = λ x. chosen_not_stuck p m args (chosen p m rs args) (ap (λ (o : Outcome). o.ending) (one.chooses first ∙ sym ran) ∙ x) in
     let named : HasConstants m tree = λ s c.
     let i = in_from_contains (constants_in tree) s c in
     let a = tree_names tree s i in
-    has_value f args all s a.0 a.1 (in_right (asked p rs) (constants_in tree) s i) in
+    has_value f args (own ++ more) (constants_in tree) (λ u k q l. in_right own more q (asks_of_all f args (constants_in tree) u k q l)) s a.0 a.1 i in
     let by : run_by tree (stage_by f sites (is_multi p t) args) ≡ run tree (world_of p t sites m args) = runs_as_under_meanings_lem tree (world_of p t sites m args) f first.agrees named goes_on in
     record { restricts = first; chooses = λ r. by ∙ ran ∙ sym (one.chooses r); once = one.once }

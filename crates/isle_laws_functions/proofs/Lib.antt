@@ -1,4 +1,3 @@
 pub mod Equations
 pub mod UnderMeanings
-pub mod FurtherMaps
 pub mod Choosing

@@ -1,5 +1,5 @@
--- The finite maps of total functions: the contents that a site can hold are listed, and each call that a site asks has an
--- entry for each of its arguments that are listed.
+-- The finite maps of total functions: the contents that a site can hold are listed, each call that a site makes asks a
+-- question for each of its arguments that are listed, and finite maps answer what is asked as the functions do.
 use Rattle.std.proofs.Common.{◌≡◌, ◌==◌, ℕ, zero, suc, Bool, true, ◌&&◌, List, [], ◌∷◌, map, Option, Some, None, is_some, slice_get, flat_map, refl, sym, ap, ap₂, ◌∙◌, subst, inl, inr, eqb-true, eq-eqb}
 use Rattle.std.proofs.lemmas.Bool.{cases_Bool, cond-true, cond-false, and_parts, and_from, false≢true}
 use Rattle.std.proofs.lemmas.Bool.Decides.{Decides-int_eq}
@@ -145,42 +145,52 @@ place_means t n k h = let q = and_parts (k.0 == t) (k.1 == n) h in λ j. (eqb-tr
 place_same : (t n : ℕ) → ((t == t) && (n == n)) ≡ true
 place_same t n = and_from (t == t) (n == n) (eq-eqb t t refl) (eq-eqb n n refl)
 
--- 3. the entries of a site
-abbrev literal_entries : TotalMeaning → SiteTerm → List (Literal × Value)
-literal_entries f (bool_term b ty) = (bool_literal b ty, f.literals (bool_literal b ty)) ∷ []
-literal_entries f (int_term z ty) = (int_literal z ty, f.literals (int_literal z ty)) ∷ []
+-- 3. what is asked of a meaning
+pub data Question : Type 0 where
+  of_literal : (l : Literal) → Question
+  of_constant : (name : ℕ) → Question
+  of_extractor : (t : ℕ) (v : Value) → Question
+  of_pure : (t : ℕ) (vs : Values) → Question
+  of_impure : (t before : ℕ) → Question
+
+-- by a site: on each value that its parts can hold
+abbrev pub questions_of : TotalMeaning → List Value → SiteTerm → List Question
+questions_of f args (bool_term b ty) = of_literal (bool_literal b ty) ∷ []
+questions_of f args (int_term z ty) = of_literal (int_literal z ty) ∷ []
+questions_of f args (prim_term name) = of_constant name ∷ []
+questions_of f args (extractor_call t s) = map (of_extractor t) (values_in (contents_listed f args s))
+questions_of f args (constructor_call t ss zero) = map (of_pure t) (values_listed f args ss)
+questions_of f args (constructor_call t ss (suc before)) = of_impure t before ∷ []
+questions_of f args _ = []
+
+-- 4. the finite maps that answer them as the functions do
+abbrev literal_entries : TotalMeaning → Question → List (Literal × Value)
+literal_entries f (of_literal l) = (l, f.literals l) ∷ []
 literal_entries f _ = []
 
-abbrev constant_entries : TotalMeaning → SiteTerm → List (ℕ × Value)
-constant_entries f (prim_term name) = (name, f.constants name) ∷ []
+abbrev constant_entries : TotalMeaning → Question → List (ℕ × Value)
+constant_entries f (of_constant name) = (name, f.constants name) ∷ []
 constant_entries f _ = []
 
-abbrev extractor_entry : TotalMeaning → ℕ → Value → (ℕ × Value) × Content
-extractor_entry f t v = ((t, v), f.extractors t v)
+abbrev extractor_entries : TotalMeaning → Question → List ((ℕ × Value) × Content)
+extractor_entries f (of_extractor t v) = ((t, v), f.extractors t v) ∷ []
+extractor_entries f _ = []
 
-abbrev extractor_entries : TotalMeaning → List Value → SiteTerm → List ((ℕ × Value) × Content)
-extractor_entries f args (extractor_call t s) = map (extractor_entry f t) (values_in (contents_listed f args s))
-extractor_entries f args _ = []
+abbrev pure_entries : TotalMeaning → Question → List ((ℕ × Values) × Content)
+pure_entries f (of_pure t vs) = ((t, vs), f.pures t vs) ∷ []
+pure_entries f _ = []
 
-abbrev pure_entry : TotalMeaning → ℕ → Values → (ℕ × Values) × Content
-pure_entry f t vs = ((t, vs), f.pures t vs)
-
-abbrev pure_entries : TotalMeaning → List Value → SiteTerm → List ((ℕ × Values) × Content)
-pure_entries f args (constructor_call t ss zero) = map (pure_entry f t) (values_listed f args ss)
-pure_entries f args _ = []
-
-abbrev impure_entries : TotalMeaning → SiteTerm → List ((ℕ × ℕ) × Content)
-impure_entries f (constructor_call t ss (suc before)) = ((t, before), f.impures t before) ∷ []
+abbrev impure_entries : TotalMeaning → Question → List ((ℕ × ℕ) × Content)
+impure_entries f (of_impure t before) = ((t, before), f.impures t before) ∷ []
 impure_entries f _ = []
 
--- the finite maps that have all that sites ask on these arguments
-abbrev pub restricted : TotalMeaning → List Value → List SiteTerm → Meaning
-restricted f args sites = record {
-  literals = flat_map (literal_entries f) sites;
-  constants = flat_map (constant_entries f) sites;
-  extractor_calls = flat_map (extractor_entries f args) sites;
-  pure_calls = flat_map (pure_entries f args) sites;
-  impure_calls = flat_map (impure_entries f) sites;
+abbrev pub answers_to : TotalMeaning → List Question → Meaning
+answers_to f asks = record {
+  literals = flat_map (literal_entries f) asks;
+  constants = flat_map (constant_entries f) asks;
+  extractor_calls = flat_map (extractor_entries f) asks;
+  pure_calls = flat_map (pure_entries f) asks;
+  impure_calls = flat_map (impure_entries f) asks;
 }
 
 -- each entry is what a function gives
@@ -191,11 +201,8 @@ one_given : {K V : Type 0} (g : K → V) (k : K) → AreGiven g ((k, g k) ∷ []
 one_given g k e (inl q) = subst (λ (x : _ × _). x.1 ≡ g x.0) q refl
 one_given g k e (inr n) = absurd n
 
-all_given : {X K V : Type 0} (g : K → V) (entries : X → List (K × V)) → ((x : X) → AreGiven g (entries x)) → (xs : List X) → AreGiven g (flat_map entries xs)
+all_given : {K V : Type 0} (g : K → V) (entries : Question → List (K × V)) → ((x : Question) → AreGiven g (entries x)) → (xs : List Question) → AreGiven g (flat_map entries xs)
 all_given g entries h xs e i = let a = from_flat_map entries xs e i in h a.0 e a.2
-
-mapped_given : {X K V : Type 0} (g : K → V) (key : X → K) (xs : List X) → AreGiven g (map (λ x. (key x, g (key x))) xs)
-mapped_given g key xs e i = let a = in_map (λ x. (key x, g (key x))) xs e i in subst (λ (x : _ × _). x.1 ≡ g x.0) a.2 refl
 
 abbrev of_value : TotalMeaning → ℕ × Value → Content
 of_value f k = f.extractors k.0 k.1
@@ -206,77 +213,98 @@ of_values f k = f.pures k.0 k.1
 abbrev of_place : TotalMeaning → ℕ × ℕ → Content
 of_place f k = f.impures k.0 k.1
 
-literals_given : (f : TotalMeaning) (s : SiteTerm) → AreGiven f.literals (literal_entries f s)
-literals_given f (bool_term b ty) = one_given f.literals (bool_literal b ty)
-literals_given f (int_term z ty) = one_given f.literals (int_literal z ty)
+literals_given : (f : TotalMeaning) (q : Question) → AreGiven f.literals (literal_entries f q)
+literals_given f (of_literal l) = one_given f.literals l
 literals_given f _ = λ e i. absurd i
 
-constants_given : (f : TotalMeaning) (s : SiteTerm) → AreGiven f.constants (constant_entries f s)
-constants_given f (prim_term name) = one_given f.constants name
+constants_given : (f : TotalMeaning) (q : Question) → AreGiven f.constants (constant_entries f q)
+constants_given f (of_constant name) = one_given f.constants name
 constants_given f _ = λ e i. absurd i
 
-extractors_given : (f : TotalMeaning) (args : List Value) (s : SiteTerm) → AreGiven (of_value f) (extractor_entries f args s)
-extractors_given f args (extractor_call t s) = mapped_given (of_value f) (λ v. (t, v)) (values_in (contents_listed f args s))
-extractors_given f args _ = λ e i. absurd i
+extractors_given : (f : TotalMeaning) (q : Question) → AreGiven (of_value f) (extractor_entries f q)
+extractors_given f (of_extractor t v) = one_given (of_value f) (t, v)
+extractors_given f _ = λ e i. absurd i
 
-pures_given : (f : TotalMeaning) (args : List Value) (s : SiteTerm) → AreGiven (of_values f) (pure_entries f args s)
-pures_given f args (constructor_call t ss zero) = mapped_given (of_values f) (λ vs. (t, vs)) (values_listed f args ss)
-pures_given f args _ = λ e i. absurd i
+pures_given : (f : TotalMeaning) (q : Question) → AreGiven (of_values f) (pure_entries f q)
+pures_given f (of_pure t vs) = one_given (of_values f) (t, vs)
+pures_given f _ = λ e i. absurd i
 
-impures_given : (f : TotalMeaning) (s : SiteTerm) → AreGiven (of_place f) (impure_entries f s)
-impures_given f (constructor_call t ss (suc before)) = one_given (of_place f) (t, before)
+impures_given : (f : TotalMeaning) (q : Question) → AreGiven (of_place f) (impure_entries f q)
+impures_given f (of_impure t before) = one_given (of_place f) (t, before)
 impures_given f _ = λ e i. absurd i
 
-module _ (f : TotalMeaning) (args : List Value) (sites : List SiteTerm) where
+module _ (f : TotalMeaning) (asks : List Question) where
   abbrev m : Meaning
-  m = restricted f args sites
+  m = answers_to f asks
 
   -- the maps agree with the functions
-  pub restricted_agrees : Agrees m f
-  restricted_agrees = record {
-    literals = λ l v h. look_gives (λ k. literal_eq k l) l (λ k q. literal_means k l q) f.literals m.literals (all_given f.literals (literal_entries f) (literals_given f) sites) v h;
-    constants = λ name v h. look_gives (λ k. k == name) name (λ k q. eqb-true k name q) f.constants m.constants (all_given f.constants (constant_entries f) (constants_given f) sites) v h;
+  pub answers_agree : Agrees m f
+  answers_agree = record {
+    literals = λ l v h. look_gives (λ k. literal_eq k l) l (λ k q. literal_means k l q) f.literals m.literals (all_given f.literals (literal_entries f) (literals_given f) asks) v h;
+    constants = λ name v h. look_gives (λ k. k == name) name (λ k q. eqb-true k name q) f.constants m.constants (all_given f.constants (constant_entries f) (constants_given f) asks) v h;
     extractors = λ t v c h.
-        look_gives (λ (k : ℕ × Value). (k.0 == t) && value_eq k.1 v) (t, v) (value_means t v) (of_value f) m.extractor_calls (all_given (of_value f) (extractor_entries f args) (extractors_given f args) sites) c h;
+        look_gives (λ (k : ℕ × Value). (k.0 == t) && value_eq k.1 v) (t, v) (value_means t v) (of_value f) m.extractor_calls (all_given (of_value f) (extractor_entries f) (extractors_given f) asks) c h;
     pures = λ t vs c h.
-        look_gives (λ (k : ℕ × Values). (k.0 == t) && values_eq k.1 vs) (t, vs) (values_mean t vs) (of_values f) m.pure_calls (all_given (of_values f) (pure_entries f args) (pures_given f args) sites) c h;
+        look_gives (λ (k : ℕ × Values). (k.0 == t) && values_eq k.1 vs) (t, vs) (values_mean t vs) (of_values f) m.pure_calls (all_given (of_values f) (pure_entries f) (pures_given f) asks) c h;
     impures = λ t n c h.
-        look_gives (λ (k : ℕ × ℕ). (k.0 == t) && (k.1 == n)) (t, n) (place_means t n) (of_place f) m.impure_calls (all_given (of_place f) (impure_entries f) (impures_given f) sites) c h;
+        look_gives (λ (k : ℕ × ℕ). (k.0 == t) && (k.1 == n)) (t, n) (place_means t n) (of_place f) m.impure_calls (all_given (of_place f) (impure_entries f) (impures_given f) asks) c h;
   }
 
   -- and have what is asked
-  literal_there : (s : SiteTerm) (l : Literal) → In sites s → In (literal_entries f s) (l, f.literals l) → literal_value m l ≡ Some (f.literals l)
-  literal_there s l i j =
-      look_finds (λ k. literal_eq k l) l (λ k q. literal_means k l q) f.literals m.literals (all_given f.literals (literal_entries f) (literals_given f) sites) (literal_same l) (f.literals l)
-      (in_flat_map (literal_entries f) sites s (l, f.literals l) i j)
+  pub literal_there : (l : Literal) → In asks (of_literal l) → literal_value m l ≡ Some (f.literals l)
+  literal_there l i =
+      look_finds (λ k. literal_eq k l) l (λ k q. literal_means k l q) f.literals m.literals (all_given f.literals (literal_entries f) (literals_given f) asks) (literal_same l) (f.literals l)
+      (in_flat_map (literal_entries f) asks (of_literal l) (l, f.literals l) i (inl refl))
 
-  pub bool_there : (b : Bool) (ty : ℕ) → In sites (bool_term b ty) → literal_value m (bool_literal b ty) ≡ Some (f.literals (bool_literal b ty))
-  bool_there b ty i = literal_there (bool_term b ty) (bool_literal b ty) i (inl refl)
-
-  pub int_there : (z : _) (ty : ℕ) → In sites (int_term z ty) → literal_value m (int_literal z ty) ≡ Some (f.literals (int_literal z ty))
-  int_there z ty i = literal_there (int_term z ty) (int_literal z ty) i (inl refl)
-
-  pub constant_there : (name : ℕ) → In sites (prim_term name) → constant_value m name ≡ Some (f.constants name)
+  pub constant_there : (name : ℕ) → In asks (of_constant name) → constant_value m name ≡ Some (f.constants name)
   constant_there name i =
-      look_finds (λ k. k == name) name (λ k q. eqb-true k name q) f.constants m.constants (all_given f.constants (constant_entries f) (constants_given f) sites) (eq-eqb name name refl) (f.constants name)
-      (in_flat_map (constant_entries f) sites (prim_term name) (name, f.constants name) i (inl refl))
+      look_finds (λ k. k == name) name (λ k q. eqb-true k name q) f.constants m.constants (all_given f.constants (constant_entries f) (constants_given f) asks) (eq-eqb name name refl) (f.constants name)
+      (in_flat_map (constant_entries f) asks (of_constant name) (name, f.constants name) i (inl refl))
 
-  pub extractor_there : (t : ℕ) (s : SiteTerm) (v : Value) → In sites (extractor_call t s) → Holds m args s (one v) → extractor_answer m t v ≡ Some (f.extractors t v)
-  extractor_there t s v i h =
-      look_finds (λ (k : ℕ × Value). (k.0 == t) && value_eq k.1 v) (t, v) (value_means t v) (of_value f) m.extractor_calls (all_given (of_value f) (extractor_entries f args) (extractors_given f args) sites)
-      (value_same t v) (f.extractors t v)
-      (in_flat_map (extractor_entries f args) sites (extractor_call t s) (extractor_entry f t v) i
-      (map_in (extractor_entry f t) (values_in (contents_listed f args s)) v (value_listed (contents_listed f args s) v (held_listed f m restricted_agrees args s (one v) h))))
+  pub extractor_there : (t : ℕ) (v : Value) → In asks (of_extractor t v) → extractor_answer m t v ≡ Some (f.extractors t v)
+  extractor_there t v i =
+      look_finds (λ (k : ℕ × Value). (k.0 == t) && value_eq k.1 v) (t, v) (value_means t v) (of_value f) m.extractor_calls (all_given (of_value f) (extractor_entries f) (extractors_given f) asks)
+      (value_same t v) (f.extractors t v) (in_flat_map (extractor_entries f) asks (of_extractor t v) ((t, v), f.extractors t v) i (inl refl))
 
-  pub pure_there : (t : ℕ) (ss : SiteTerms) (vs : Values) → In sites (constructor_call t ss 0) → HoldsAll m args ss vs → pure_answer m t vs ≡ Some (f.pures t vs)
-  pure_there t ss vs i h =
-      look_finds (λ (k : ℕ × Values). (k.0 == t) && values_eq k.1 vs) (t, vs) (values_mean t vs) (of_values f) m.pure_calls (all_given (of_values f) (pure_entries f args) (pures_given f args) sites)
-      (values_same t vs) (f.pures t vs)
-      (in_flat_map (pure_entries f args) sites (constructor_call t ss 0) (pure_entry f t vs) i
-      (map_in (pure_entry f t) (values_listed f args ss) vs (all_listed f m restricted_agrees args ss vs h)))
+  pub pure_there : (t : ℕ) (vs : Values) → In asks (of_pure t vs) → pure_answer m t vs ≡ Some (f.pures t vs)
+  pure_there t vs i =
+      look_finds (λ (k : ℕ × Values). (k.0 == t) && values_eq k.1 vs) (t, vs) (values_mean t vs) (of_values f) m.pure_calls (all_given (of_values f) (pure_entries f) (pures_given f) asks)
+      (values_same t vs) (f.pures t vs) (in_flat_map (pure_entries f) asks (of_pure t vs) ((t, vs), f.pures t vs) i (inl refl))
 
-  pub impure_there : (t before : ℕ) (ss : SiteTerms) → In sites (constructor_call t ss (suc before)) → impure_answer m t before ≡ Some (f.impures t before)
-  impure_there t before ss i =
-      look_finds (λ (k : ℕ × ℕ). (k.0 == t) && (k.1 == before)) (t, before) (place_means t before) (of_place f) m.impure_calls (all_given (of_place f) (impure_entries f) (impures_given f) sites)
-      (place_same t before) (f.impures t before)
-      (in_flat_map (impure_entries f) sites (constructor_call t ss (suc before)) ((t, before), f.impures t before) i (inl refl))
+  pub impure_there : (t before : ℕ) → In asks (of_impure t before) → impure_answer m t before ≡ Some (f.impures t before)
+  impure_there t before i =
+      look_finds (λ (k : ℕ × ℕ). (k.0 == t) && (k.1 == before)) (t, before) (place_means t before) (of_place f) m.impure_calls (all_given (of_place f) (impure_entries f) (impures_given f) asks)
+      (place_same t before) (f.impures t before) (in_flat_map (impure_entries f) asks (of_impure t before) ((t, before), f.impures t before) i (inl refl))
+
+-- 5. sites, all of whose questions are among those asked
+abbrev pub AsksOf : TotalMeaning → List Value → List SiteTerm → List Question → Type 0
+AsksOf f args sites asks = (u : SiteTerm) → In sites u → (q : Question) → In (questions_of f args u) q → In asks q
+
+pub asks_of_all : (f : TotalMeaning) (args : List Value) (sites : List SiteTerm) → AsksOf f args sites (flat_map (questions_of f args) sites)
+asks_of_all f args sites u i q j = in_flat_map (questions_of f args) sites u q i j
+
+module _ (f : TotalMeaning) (args : List Value) (asks : List Question) (sites : List SiteTerm) (all : AsksOf f args sites asks) where
+  abbrev maps : Meaning
+  maps = answers_to f asks
+
+  pub bool_answered : (b : Bool) (ty : ℕ) → In sites (bool_term b ty) → literal_value maps (bool_literal b ty) ≡ Some (f.literals (bool_literal b ty))
+  bool_answered b ty i = literal_there f asks (bool_literal b ty) (all (bool_term b ty) i (of_literal (bool_literal b ty)) (inl refl))
+
+  pub int_answered : (z : _) (ty : ℕ) → In sites (int_term z ty) → literal_value maps (int_literal z ty) ≡ Some (f.literals (int_literal z ty))
+  int_answered z ty i = literal_there f asks (int_literal z ty) (all (int_term z ty) i (of_literal (int_literal z ty)) (inl refl))
+
+  pub constant_answered : (name : ℕ) → In sites (prim_term name) → constant_value maps name ≡ Some (f.constants name)
+  constant_answered name i = constant_there f asks name (all (prim_term name) i (of_constant name) (inl refl))
+
+  pub extractor_answered : (t : ℕ) (s : SiteTerm) (v : Value) → In sites (extractor_call t s) → Holds maps args s (one v) → extractor_answer maps t v ≡ Some (f.extractors t v)
+  extractor_answered t s v i h =
+      extractor_there f asks t v
+      (all (extractor_call t s) i (of_extractor t v)
+      (map_in (of_extractor t) (values_in (contents_listed f args s)) v (value_listed (contents_listed f args s) v (held_listed f maps (answers_agree f asks) args s (one v) h))))
+
+  pub pure_answered : (t : ℕ) (ss : SiteTerms) (vs : Values) → In sites (constructor_call t ss 0) → HoldsAll maps args ss vs → pure_answer maps t vs ≡ Some (f.pures t vs)
+  pure_answered t ss vs i h =
+      pure_there f asks t vs (all (constructor_call t ss 0) i (of_pure t vs) (map_in (of_pure t) (values_listed f args ss) vs (all_listed f maps (answers_agree f asks) args ss vs h)))
+
+  pub impure_answered : (t before : ℕ) (ss : SiteTerms) → In sites (constructor_call t ss (suc before)) → impure_answer maps t before ≡ Some (f.impures t before)
+  impure_answered t before ss i = impure_there f asks t before (all (constructor_call t ss (suc before)) i (of_impure t before) (inl refl))

@@ -1,8 +1,8 @@
 -- Every well-typed total meaning restricts to finite maps that serve.
-use Rattle.std.proofs.Common.{◌≡◌, ℕ, suc, Bool, true, false, List, Option, Some, IsSomeAnd, IsTrue, Contains, flat_map, sym, ap, ◌∙◌, subst, inl, inr}
+use Rattle.std.proofs.Common.{◌≡◌, ℕ, suc, Bool, true, false, List, [], ◌++◌, Option, Some, IsSomeAnd, IsTrue, Contains, flat_map, sym, ap, ◌∙◌, subst, inl, inr}
 use Rattle.isle_model.specs.lists.Syntax.{Definition}
 use Rattle.isle_model.specs.lists.Elaborated.{TypedRules}
-use Rattle.isle_model.specs.rules.Values.{Value, of_variant, Values, of_list, well_typed, all_well_typed}
+use Rattle.isle_model.specs.rules.Values.{Value, of_variant, Values, of_list, well_typed, all_well_typed, args_well_typed}
 use Rattle.isle_model.specs.rules.Meaning.{Content, one, Meaning, bool_literal, int_literal}
 use Rattle.isle_model.specs.rules.Outcome.{then_option}
 use Rattle.isle_model.specs.rules.Program.{Program, kind, arg_types, rules_of}
@@ -12,7 +12,7 @@ use Rattle.isle_model.specs.sites.Sites.{Constraint, SiteTerm, bool_term, int_te
 use Rattle.isle_model.specs.sites.Demands.{demands_of}
 use Rattle.isle_model.specs.sites.Serves.{Holds, holds_variant, HoldsAll, asked_by, asked, constant_site, constant_type, typed_as, fits_extractor, fits_constructor, written_value, Serves}
 use Rattle.isle_model.specs.claims.Environments.{TypesRead, IsElaborated, program_of}
-use Rattle.isle_model.proofs.Elements.{in_from_contains, contains_from_in, none_some, in_either, in_left, in_flat_map, from_flat_map}
+use Rattle.isle_model.proofs.Elements.{In, in_from_contains, contains_from_in, none_some, in_either, in_left, in_flat_map, from_flat_map}
 use Rattle.isle_laws_lists.proofs.FormedRules.{rules_are_formed}
 use Rattle.isle_laws_lists.proofs.TypedRules as typed
 use Rattle.isle_laws_runs.proofs.picks.Held.{contents_are_held_lem}
@@ -21,8 +21,8 @@ use Rattle.isle_laws_demands.proofs.visits.Elaborated.{elaborated_rules_hang}
 use Rattle.isle_laws_demands.proofs.matching.NeverMatches.{program_has_types}
 use Rattle.isle_laws_demands.proofs.matching.TypedParts.{program_has_typed_parts}
 use Rattle.isle_laws_demands.proofs.matching.Visits.{of_term}
-use Rattle.isle_laws_demands.specs.TotalLaws.{TotalMeaning, matched_in, called_in, matched_terms, called_terms, IsTotalFor, Agrees, TotalMeaningsServe, total_value, AgreeingMapsTellApart}
-use Rattle.isle_laws_demands.proofs.total.Listed.{restricted, restricted_agrees, bool_there, int_there, constant_there, extractor_there, pure_there, impure_there}
+use Rattle.isle_laws_demands.specs.TotalLaws.{TotalMeaning, matched_in, called_in, matched_terms, called_terms, IsTotalFor, Agrees, Restricts, TotalMeaningsServe, total_value, AgreeingMapsTellApart}
+use Rattle.isle_laws_demands.proofs.total.Listed.{Question, questions_of, answers_to, answers_agree, AsksOf, asks_of_all, bool_answered, int_answered, constant_answered, extractor_answered, pure_answered, impure_answered}
 use Rattle.isle_laws_demands.proofs.total.Shaped.{Uses, HasShape, held_fits, all_held_fit, bool_shape, int_shape, prim_shape, ExtractorShape, extractor_shape, ConstructorShape, pure_shape, impure_shape}
 use Rattle.isle_laws_demands.proofs.total.ShapedSites.{rule_shaped}
 
@@ -71,12 +71,13 @@ module _ (e : TypesRead) (defs : List Definition) (expand : Bool) (rules : Typed
         | inr i ↦ let d = from_flat_map (λ (x : SiteTerm × Constraint). constant_site x.1) (demands_of p a.0).constraints u i in s.1 d.0 d.1 u d.2
       ]
 
-  module _ (f : TotalMeaning) (args : List Value) (well : IsTotalFor p t f) (given : all_well_typed p.types (Some uses.args) (of_list args) ≡ true) where
+  module _ (f : TotalMeaning) (args : List Value) (well : IsTotalFor p t f) (given : all_well_typed p.types (Some uses.args) (of_list args) ≡ true)
+      (asks : List Question) (all : AsksOf f args (asked p rs) asks) where
     abbrev m : Meaning
-    m = restricted f args (asked p rs)
+    m = answers_to f asks
 
     abbrev agrees : Agrees m f
-    agrees = restricted_agrees f args (asked p rs)
+    agrees = answers_agree f asks
 
     constant_fits : (name ty : ℕ) → constant_type p name ≡ Some ty → typed_as p (constant_type p name) (f.constants name) ≡ true
     constant_fits name ty there = subst (λ o. typed_as p o (f.constants name) ≡ true) (sym there) (well.constants name ty there)
@@ -102,37 +103,52 @@ module _ (e : TypesRead) (defs : List Definition) (expand : Bool) (rules : Typed
     valued : (o : Option Value) (v : Value) (fits : Value → Bool) → o ≡ Some v → fits v ≡ true → IsSomeAnd o (λ w. IsTrue (fits w))
     valued o v fits q x = subst (λ y. IsSomeAnd y (λ w. IsTrue (fits w))) (sym q) x
 
-    pub restricted_serves : Serves p m args rs
-    restricted_serves = record {
+    is_here : (u : SiteTerm) → Contains (asked p rs) u → In (asked p rs) u
+    is_here u c = in_from_contains (asked p rs) u c
+
+    pub answers_serve : Serves p m args rs
+    answers_serve = record {
       bools = λ b ty c.
-          valued _ (f.literals (bool_literal b ty)) (well_typed p.types ty) (bool_there f args (asked p rs) b ty (in_from_contains (asked p rs) (bool_term b ty) c))
+          valued _ (f.literals (bool_literal b ty)) (well_typed p.types ty) (bool_answered f args asks (asked p rs) all b ty (is_here (bool_term b ty) c))
           (well.bools b ty (bool_shape (asked_shaped (bool_term b ty) c).shaped));
       ints = λ z ty c.
-          valued _ (f.literals (int_literal z ty)) (well_typed p.types ty) (int_there f args (asked p rs) z ty (in_from_contains (asked p rs) (int_term z ty) c))
+          valued _ (f.literals (int_literal z ty)) (well_typed p.types ty) (int_answered f args asks (asked p rs) all z ty (is_here (int_term z ty) c))
           (well.ints z ty (int_shape (asked_shaped (int_term z ty) c).shaped));
       written_bools = λ b ty c.
-          bool_there f args (asked p rs) b ty (in_from_contains (asked p rs) (bool_term b ty) c) ∙ ap Some (well.written_bools b ty (bool_shape (asked_shaped (bool_term b ty) c).shaped));
-      written_ints = λ z ty c own. int_there f args (asked p rs) z ty (in_from_contains (asked p rs) (int_term z ty) c) ∙ ap Some (well.written_ints z ty own);
+          bool_answered f args asks (asked p rs) all b ty (is_here (bool_term b ty) c) ∙ ap Some (well.written_bools b ty (bool_shape (asked_shaped (bool_term b ty) c).shaped));
+      written_ints = λ z ty c own. int_answered f args asks (asked p rs) all z ty (is_here (int_term z ty) c) ∙ ap Some (well.written_ints z ty own);
       prims = λ name c.
           (let x = prim_shape (asked_shaped (prim_term name) c).shaped in
-          valued _ (f.constants name) (typed_as p (constant_type p name)) (constant_there f args (asked p rs) name (in_from_contains (asked p rs) (prim_term name) c)) (constant_fits name x.0 x.1));
+          valued _ (f.constants name) (typed_as p (constant_type p name)) (constant_answered f args asks (asked p rs) all name (is_here (prim_term name) c)) (constant_fits name x.0 x.1));
       extractors = λ k u s v c i.
           (let g = contents_are_held_lem m args k s (one v) i in
-          answered _ (f.extractors u v) (fits_extractor p u (kind p u)) (extractor_there f args (asked p rs) u s v (in_from_contains (asked p rs) (extractor_call u s) c) g)
+          answered _ (f.extractors u v) (fits_extractor p u (kind p u)) (extractor_answered f args asks (asked p rs) all u s v (is_here (extractor_call u s) c) g)
           (extractor_fits u s v (extractor_shape (asked_shaped (extractor_call u s) c).shaped) g));
       pures = λ k u ss vs c i.
           (let g = values_held m args k ss vs i in
-          answered _ (f.pures u vs) (fits_constructor p u (kind p u)) (pure_there f args (asked p rs) u ss vs (in_from_contains (asked p rs) (constructor_call u ss 0) c) g)
+          answered _ (f.pures u vs) (fits_constructor p u (kind p u)) (pure_answered f args asks (asked p rs) all u ss vs (is_here (constructor_call u ss 0) c) g)
           (pure_fits u ss vs (pure_shape (asked_shaped (constructor_call u ss 0) c).shaped) g));
       impures = λ k r u before ss vs c matched i had j.
           (let g = values_held m args k ss vs j in
           let a = made_asked r (constructor_call u ss (suc before)) c i in
-          answered _ (f.impures u before) (fits_constructor p u (kind p u)) (impure_there f args (asked p rs) u before ss (in_from_contains (asked p rs) (constructor_call u ss (suc before)) a))
+          answered _ (f.impures u before) (fits_constructor p u (kind p u)) (impure_answered f args asks (asked p rs) all u before ss (is_here (constructor_call u ss (suc before)) a))
           (impure_fits u before ss vs (impure_shape (asked_shaped (constructor_call u ss (suc before)) a).shaped) g));
     }
 
-pub total_meanings_serve_lem : TotalMeaningsServe
-total_meanings_serve_lem e defs expand rules t f args h well given =
+-- for all questions of the rules and any others
+abbrev pub answers_restrict : (e : TypesRead) (defs : List Definition) (expand : Bool) (rules : TypedRules) (t : ℕ) (f : TotalMeaning) (args : List Value)
+    → IsElaborated e defs expand rules → IsTotalFor (program_of e defs rules.rules) t f
+    → args_well_typed (program_of e defs rules.rules).types (arg_types (program_of e defs rules.rules) t) args ≡ true → (more : List Question)
+    → Restricts (program_of e defs rules.rules) f args (rules_of (program_of e defs rules.rules) t)
+answers_restrict e defs expand rules t f args h well given more =
     let p = program_of e defs rules.rules in
     let sites = asked p (rules_of p t) in
-    record { meaning = restricted f args sites; agrees = restricted_agrees f args sites; serves = restricted_serves e defs expand rules h t f args well given }
+    let asks = flat_map (questions_of f args) sites ++ more in
+    record {
+      meaning = answers_to f asks;
+      agrees = answers_agree f asks;
+      serves = answers_serve e defs expand rules h t f args well given asks (λ u i q j. in_left (flat_map (questions_of f args) sites) more q (asks_of_all f args sites u i q j));
+    }
+
+pub total_meanings_serve_lem : TotalMeaningsServe
+total_meanings_serve_lem e defs expand rules t f args h well given = answers_restrict e defs expand rules t f args h well given []
