@@ -6,7 +6,7 @@ use Rattle.isle_model.specs.rules.Outcome.{stuck, Outcome}
 use Rattle.isle_model.specs.rules.Program.{Program, is_multi, is_partial, rules_of}
 use Rattle.isle_model.specs.rules.Matching.{Vars, matches}
 use Rattle.isle_model.specs.rules.RightSide.{Eval, gives, ends, eval, outcome_of}
-use Rattle.isle_model.specs.rules.Choice.{chosen, with_vars, outcome_of_rule}
+use Rattle.isle_model.specs.rules.Choice.{chosen, with_vars, outcome_of_rule, choice}
 use Rattle.isle_model.specs.rules.Typed.{TypedRule}
 use Rattle.isle_model.specs.sites.Sites.{SiteTerm, bool_term, int_term, prim_term, Constraint, is_variant, is_struct, is_bool, is_int, is_prim, is_present}
 use Rattle.isle_model.specs.sites.Serves.{asked, constant_site, written_value}
@@ -21,6 +21,7 @@ use Rattle.isle_laws_demands.proofs.total.Total.{answers_restrict}
 use Rattle.isle_laws_demands.proofs.total.SameChoice.{total_meanings_have_one_outcome_lem}
 use Rattle.isle_laws_functions.specs.RunBy.{run_by, stage_by}
 use Rattle.isle_laws_functions.specs.FunctionLaws.{constants_in, constants_in_check, constants_in_arms, HasConstants, RunsByFunctionsAsChosen}
+use Rattle.isle_laws_functions.proofs.Asking.{chooses_as_under_meanings_lem}
 use Rattle.isle_laws_functions.proofs.UnderMeanings.{runs_as_under_meanings_lem}
 
 -- 1. a choice is never stuck
@@ -96,4 +97,5 @@ runs_by_functions_as_chosen_lem e defs expand rules t sites tree f args h single
     let a = tree_names tree s i in
     has_value f args (own ++ more) (constants_in tree) (λ u k q l. in_right own more q (asks_of_all f args (constants_in tree) u k q l)) s a.0 a.1 i in
     let by : run_by tree (stage_by f sites (is_multi p t) args) ≡ run tree (world_of p t sites m args) = runs_as_under_meanings_lem tree (world_of p t sites m args) f first.agrees named goes_on in
-    record { restricts = first; chooses = λ r. by ∙ ran ∙ sym (one.chooses r); once = one.once }
+    let chooses : (r : Restricts p f args rs) → run_by tree (stage_by f sites (is_multi p t) args) ≡ choice p r.meaning rs args = λ r. by ∙ ran ∙ sym (one.chooses r) in
+    record { as_source = chooses first ∙ chooses_as_under_meanings_lem e defs expand rules t f args h single total fit first; restricts = first; chooses = chooses; once = one.once }

@@ -1,3 +1,4 @@
 pub mod Equations
 pub mod UnderMeanings
+pub mod Asking
 pub mod Choosing

@@ -15,6 +15,7 @@ use Rattle.isle_model.specs.claims.Environments.{TypesRead, IsElaborated, progra
 use Rattle.isle_model.specs.claims.Headline.{RunsAsChosen}
 use Rattle.isle_laws_demands.specs.TotalLaws.{TotalMeaning, Agrees, Restricts, IsTotalFor, KeepsConstantsApart}
 use Rattle.isle_laws_functions.specs.RunBy.{run_by, stage_by}
+use Rattle.isle_laws_functions.specs.ChoiceBy.{choice_by}
 
 -- the constants that the arms of a tree name
 abbrev mutual
@@ -43,10 +44,22 @@ RunsAsUnderMeanings =
     (tree : Tree) (w : World) (f : TotalMeaning) → Agrees w.meaning f → HasConstants w.meaning tree
     → ((run tree w).ending ≡ stuck → ⊥) → run_by tree (stage_by f w.sites w.multi w.args) ≡ run tree w
 
--- the tree's run by functions is the choice of a source rule: there are finite maps that restrict the functions and serve the
+-- where finite maps agree with functions and serve the rules of a term that isn't multi, the choice under them is that by the
+-- functions
+abbrev pub ChoosesAsUnderMeanings : Type 0
+ChoosesAsUnderMeanings =
+    (e : TypesRead) (defs : List Definition) (expand : Bool) (rules : TypedRules) (t : ℕ) (f : TotalMeaning) (args : List Value)
+    → IsElaborated e defs expand rules → is_multi (program_of e defs rules.rules) t ≡ false → IsTotalFor (program_of e defs rules.rules) t f
+    → IsTrue (args_well_typed (program_of e defs rules.rules).types (arg_types (program_of e defs rules.rules) t) args)
+    → (r : Restricts (program_of e defs rules.rules) f args (rules_of (program_of e defs rules.rules) t))
+    → choice (program_of e defs rules.rules) r.meaning (rules_of (program_of e defs rules.rules) t) args
+      ≡ choice_by (program_of e defs rules.rules).terms f (rules_of (program_of e defs rules.rules) t) args
+
+-- the tree's run by functions is the choice of a source rule by them. There are finite maps that restrict the functions and serve the
 -- term's rules, and whichever these are, the run comes to the outcome of the matching rule of greatest priority under them, or
 -- to no rule and no impure calls, and no second rule of that priority matches
 pub record ChoosesBy (p : Program) (t : ℕ) (sites : List Site) (tree : Tree) (f : TotalMeaning) (args : List Value) : Type 0 where
+  pub as_source : run_by tree (stage_by f sites (is_multi p t) args) ≡ choice_by p.terms f (rules_of p t) args
   pub restricts : Restricts p f args (rules_of p t)
   pub chooses : (r : Restricts p f args (rules_of p t)) → run_by tree (stage_by f sites (is_multi p t) args) ≡ choice p r.meaning (rules_of p t) args
   pub once : (r : Restricts p f args (rules_of p t)) → MatchesOnce p r.meaning (rules_of p t) args

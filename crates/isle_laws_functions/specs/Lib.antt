@@ -1,2 +1,3 @@
 pub mod RunBy
+pub mod ChoiceBy
 pub mod FunctionLaws

@@ -4,13 +4,19 @@
 //! `proofs/`.
 #![tactic(auto)]
 
-ghost use Rattle.isle_laws_functions.specs.FunctionLaws.{RunsAsUnderMeanings, RunsByFunctionsAsChosen};
+ghost use Rattle.isle_laws_functions.specs.FunctionLaws.{ChoosesAsUnderMeanings, RunsAsUnderMeanings, RunsByFunctionsAsChosen};
 
 /// Under a finite meaning that agrees with functions and has a value for each constant that an arm names, a tree runs as by
 /// the functions, unless it is stuck.
 #[tactic(auto, using(crate::proofs::UnderMeanings::runs_as_under_meanings_lem))]
 pub fn runs_as_under_meanings()
     ensures { RunsAsUnderMeanings }
+{}
+
+/// In a term that isn't multi, by well-typed functions, what source rules choose under finite maps that agree with them and
+/// serve is what they choose by the functions.
+pub fn chooses_as_under_meanings()
+    ensures { ChoosesAsUnderMeanings }
 {}
 
 /// In a term that isn't multi, by well-typed functions that tell constants apart, a tree that runs as chosen comes to the
