@@ -75,14 +75,6 @@ module _ (known : List TermEntry) (p : Program) (done : List TypedRule) (r : Typ
   }
 
 -- 2. before the first
-pub nothing_read : (p : Program) (sets : BTreeMap ℕ TermSet) (errors : List Error) → sets.entries ≡ [] → errors ≡ [] → StandAfter p [] sets errors
-nothing_read p sets errors none no_error = record {
-  reports = [];
-  built = subst (λ es. AreBuiltSoFar p [] (λ t. option_map set_so_far (lookup (is_at (nat_cmp t)) es)) []) (sym none) (building_starts_lem p);
-  tables = λ t s e. absurd (none_some s (sym (ap (lookup (is_at (nat_cmp t))) none) ∙ e));
-  reported = ap error_views no_error;
-}
-
 -- a rule of the list, by its place
 pub rule_at : (rs : List Rule) (i : ℕ) (r : Rule) → i < length rs → r ≡ get_or rs i r → slice_get (rule_views rs) i ≡ Some (rule_view r)
 rule_at rs i r l e = slice_get-map rule_view rs i ∙ ap (option_map rule_view) (slice_get_read rs (length rs) i r refl l e)

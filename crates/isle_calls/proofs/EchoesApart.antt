@@ -13,7 +13,7 @@ use Rattle.isle_model.proofs.Elements.{some_is, none_some}
 use Rattle.isle_laws_demands.specs.TotalLaws.{matched_terms, called_terms, total_value}
 use Rattle.isle_laws_functions.proofs.Choosing.{runs_by_functions_as_chosen_lem}
 use Rattle.isle_calls.specs.Echoes.{constant_number, named_value, echoes}
-use Rattle.isle_calls.specs.EchoLaws.{AreTypesOf, WritesNoConstant, EchoesKeepConstantsApart, EchoesChooseAsSource}
+use Rattle.isle_calls.specs.EchoLaws.{AreConstantTypesOf, WritesNoConstant, EchoesKeepConstantsApart, EchoesChooseAsSource}
 use Rattle.isle_calls.proofs.EchoesFit.{echoes_are_well_typed_lem}
 
 same_place : (k : ℤ) (m n : ℕ) → k +ℤ pos m ≡ k +ℤ pos n → m ≡ n
@@ -48,7 +48,7 @@ constant_of p ty (some_part s) h = absurd (none h)
 constant_of p ty (tuple_part s i) h = absurd (none h)
 constant_of p ty no_site h = absurd (none h)
 
-module _ (p : Program) (types : ℕ → Option ℕ) (same : AreTypesOf p types) (ty : ℕ) where
+module _ (p : Program) (types : ℕ → Option ℕ) (same : AreConstantTypesOf p types) (ty : ℕ) where
   -- the value of a named constant
   value_of : (name : ℕ) → constant_type p name ≡ Some ty → named_value (types name) name ≡ atom ty (constant_number name)
   value_of name h = ap (λ o. named_value o name) (same name ∙ h)

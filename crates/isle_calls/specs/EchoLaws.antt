@@ -31,13 +31,13 @@ pub record CanBeEchoed (p : Program) (matched called : List ℕ) : Type 0 where
   pub impures : (t : ℕ) (e : TermEntry) → Contains called t → slice_get p.terms t ≡ Some e → IsTrue (can_be_called e.kind) → is_pure p t ≡ false → IsTrue (is_atom_type (slice_get p.types e.ret_ty))
 
 -- the constants have the types of a program
-abbrev pub AreTypesOf : Program → (ℕ → Option ℕ) → Type 0
-AreTypesOf p constant_types = (name : ℕ) → constant_types name ≡ constant_type p name
+abbrev pub AreConstantTypesOf : Program → (ℕ → Option ℕ) → Type 0
+AreConstantTypesOf p constant_types = (name : ℕ) → constant_types name ≡ constant_type p name
 
 -- echoes are then well typed
 abbrev pub EchoesAreWellTyped : Type 0
 EchoesAreWellTyped =
-    (p : Program) (constant_types : ℕ → Option ℕ) (matched called : List ℕ) → AreTypesOf p constant_types → CanBeEchoed p matched called
+    (p : Program) (constant_types : ℕ → Option ℕ) (matched called : List ℕ) → AreConstantTypesOf p constant_types → CanBeEchoed p matched called
     → IsWellTyped p matched called (echoes constant_types p.terms)
 
 -- no pattern writes a literal that is the number of a constant that a pattern names
@@ -48,7 +48,7 @@ WritesNoConstant p rs =
 -- echoes then tell constants apart
 abbrev pub EchoesKeepConstantsApart : Type 0
 EchoesKeepConstantsApart =
-    (p : Program) (constant_types : ℕ → Option ℕ) (matched called : List ℕ) (rs : List TypedRule) → AreTypesOf p constant_types → CanBeEchoed p matched called
+    (p : Program) (constant_types : ℕ → Option ℕ) (matched called : List ℕ) (rs : List TypedRule) → AreConstantTypesOf p constant_types → CanBeEchoed p matched called
     → WritesNoConstant p rs → KeepsConstantsApart p (echoes constant_types p.terms) rs
 
 -- and so, in a term that isn't multi, a tree that runs as chosen comes by echoes to the outcome of the matching source rule of
@@ -57,7 +57,7 @@ abbrev pub EchoesChooseAsSource : Type 0
 EchoesChooseAsSource =
     (e : TypesRead) (defs : List Definition) (expand : Bool) (rules : TypedRules) (t : ℕ) (sites : List Site) (tree : Tree) (constant_types : ℕ → Option ℕ) (args : List Value)
     → IsElaborated e defs expand rules → is_multi (program_of e defs rules.rules) t ≡ false → RunsAsChosen (program_of e defs rules.rules) t sites tree
-    → AreTypesOf (program_of e defs rules.rules) constant_types
+    → AreConstantTypesOf (program_of e defs rules.rules) constant_types
     → CanBeEchoed (program_of e defs rules.rules) (matched_terms (rules_of (program_of e defs rules.rules) t)) (called_terms (rules_of (program_of e defs rules.rules) t))
     → WritesNoConstant (program_of e defs rules.rules) (rules_of (program_of e defs rules.rules) t)
     → IsTrue (args_well_typed (program_of e defs rules.rules).types (arg_types (program_of e defs rules.rules) t) args)

@@ -2,6 +2,7 @@
 mod judged;
 // Programs whose output fails, and what is answered to each sample.
 mod program;
+mod runs;
 mod samples;
 // The places that errors name.
 mod spans;

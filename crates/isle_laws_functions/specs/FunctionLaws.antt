@@ -53,7 +53,7 @@ ChoosesAsUnderMeanings =
     → IsTrue (args_well_typed (program_of e defs rules.rules).types (arg_types (program_of e defs rules.rules) t) args)
     → (r : Restricts (program_of e defs rules.rules) f args (rules_of (program_of e defs rules.rules) t))
     → choice (program_of e defs rules.rules) r.meaning (rules_of (program_of e defs rules.rules) t) args
-      ≡ choice_by (program_of e defs rules.rules).terms f (rules_of (program_of e defs rules.rules) t) args
+    ≡ choice_by (program_of e defs rules.rules).terms f (rules_of (program_of e defs rules.rules) t) args
 
 -- the tree's run by functions is the choice of a source rule by them. There are finite maps that restrict the functions and serve the
 -- term's rules, and whichever these are, the run comes to the outcome of the matching rule of greatest priority under them, or

@@ -12,7 +12,7 @@ use Rattle.isle_run.specs.declared.values.Content.{Content}
 use Rattle.isle_run.specs.declared.state.Call.{Call}
 use Rattle.isle_run.specs.declared.state.Bound as C
 use Rattle.isle_run.specs.declared.state.Bound.TheVariants.{All, Failed, Missing}
-use Rattle.isle_run.specs.RunViews.{env_view, Begins, bound_view, is_all_bound, call_view, call_views}
+use Rattle.isle_run.specs.RunViews.{env_view, IsBeginningOf, bound_view, is_all_bound, call_view, call_views}
 use Rattle.isle_run.specs.ValueViews.{content_view}
 use Rattle.isle_run.proofs.EnvSteps.{onto_push}
 
@@ -20,19 +20,13 @@ use Rattle.isle_run.proofs.EnvSteps.{onto_push}
 pub env_pushed : (old new : List (ℕ × Content)) (s : ℕ) (c : Content) → new ≡ old ++ (s, c) ∷ [] → env_view new ≡ (s, content_view c) ∷ env_view old
 env_pushed old new s c is = ap env_view is ∙ onto_push old (s, c) []
 
-pub begins_here : (old : List (ℕ × Content)) → Begins old old
+pub begins_here : (old : List (ℕ × Content)) → IsBeginningOf old old
 begins_here old = ([], sym (append-nil old))
 
-pub begins_same : (old new : List (ℕ × Content)) → new ≡ old → Begins old new
-begins_same old new is = ([], is ∙ sym (append-nil old))
-
-pub begins_pushed : (old new : List (ℕ × Content)) (e : ℕ × Content) → new ≡ old ++ e ∷ [] → Begins old new
-begins_pushed old new e is = (e ∷ [], is)
-
-pub begins_then : (a b c : List (ℕ × Content)) → Begins a b → Begins b c → Begins a c
+pub begins_then : (a b c : List (ℕ × Content)) → IsBeginningOf a b → IsBeginningOf b c → IsBeginningOf a c
 begins_then a b c g h = (g.0 ++ h.0, h.1 ∙ ap (λ l. l ++ h.0) g.1 ∙ append_assoc a g.0 h.0)
 
-pub cut_back : (old new cut : List (ℕ × Content)) (n : ℕ) → Begins old new → n ≡ length old → cut ≡ take n new → cut ≡ old
+pub cut_back : (old new cut : List (ℕ × Content)) (n : ℕ) → IsBeginningOf old new → n ≡ length old → cut ≡ take n new → cut ≡ old
 cut_back old new cut n g e is = is ∙ ap (λ k. take k new) e ∙ ap (take (length old)) g.1 ∙ take-append_seam old g.0
 
 -- 2. calls that are listed
@@ -41,20 +35,6 @@ call_listed old new c is = ap call_views is ∙ map-append call_view old (c ∷ 
 
 pub calls_counted : (w : Stage) (calls : List Call) (term n : ℕ) (c : M.Content) → n ≡ length calls → c ≡ w.functions.impures term n → c ≡ w.functions.impures term (length (call_views calls))
 calls_counted w calls term n c e h = h ∙ ap (w.functions.impures term) (e ∙ sym (length-map calls call_view))
-
-pub pure_called : (w : Stage) (calls : List O.Call) (term instance : ℕ) (vs : Values) (c : M.Content) → instance ≡ 0 → c ≡ w.functions.pures term vs
-    → (env : Env) (s : ℕ) → now_bound env calls s (Some c) ≡ constructed_by w env calls s term instance (Some vs)
-pure_called w calls term instance vs c z h env s = ap (λ d. now_bound env calls s (Some d)) h ∙ ap (λ k. constructed_by w env calls s term k (Some vs)) (sym z)
-
-impure_by : (w : Stage) (env : Env) (calls : List O.Call) (s term instance : ℕ) (vs : Values) → (instance ≡ 0 → ⊥)
-    → constructed_by w env calls s term instance (Some vs) ≡ now_bound env (calls ++ record { term = term; args = vs } ∷ []) s (Some (w.functions.impures term (length calls)))
-impure_by w env calls s term zero vs n = absurd (n refl)
-impure_by w env calls s term (suc k) vs n = refl
-
-pub impure_called : (w : Stage) (calls new : List O.Call) (term instance : ℕ) (vs : Values) (c : M.Content) → (instance ≡ 0 → ⊥) → c ≡ w.functions.impures term (length calls) → new ≡ calls ++ record { term = term; args = vs } ∷ []
-    → (env : Env) (s : ℕ) → now_bound env new s (Some c) ≡ constructed_by w env calls s term instance (Some vs)
-impure_called w calls new term instance vs c n h is env s =
-    ap (λ l. now_bound env l s (Some c)) is ∙ ap (λ d. now_bound env (calls ++ record { term = term; args = vs } ∷ []) s (Some d)) h ∙ sym (impure_by w env calls s term instance vs n)
 
 -- 3. sites in order
 module _ (w : Stage) where

@@ -60,18 +60,6 @@ end_before out parts i h inv =
     cc
 
 -- equal lists of values: a step and the end
-pub at_end_same : (b : List Value) (i : ℕ) → is_none (slice_get b i) ≡ values_eq no_value (value_views (drop i b))
-at_end_same [] zero = refl
-at_end_same [] (suc i) = refl
-at_end_same (y ∷ b) zero = refl
-at_end_same (y ∷ b) (suc i) = at_end_same b i
-
-pub end_same : (a b : List Value) (i : ℕ) (X : Bool) → length a ≤ i → values_eq (value_views (drop i a)) (value_views (drop i b)) ≡ X → is_none (slice_get b i) ≡ X
-end_same a b i X h inv =
-    let d = at_drop_all value_views a i h in
-    let e = at_end_same b i in
-    cc
-
 three : (p q r : Bool) → (p && q) ≡ true → r ≡ (p && q && r)
 three true true r e = refl
 three true false r e = absurd (false≢true e)

@@ -32,8 +32,8 @@ abbrev pub env_view : List (ℕ × Content) → Env
 env_view es = env_onto es []
 
 -- what was bound before is still there
-abbrev pub Begins : List (ℕ × Content) → List (ℕ × Content) → Type 0
-Begins old new = (more : List (ℕ × Content)) × (new ≡ old ++ more)
+abbrev pub IsBeginningOf : List (ℕ × Content) → List (ℕ × Content) → Type 0
+IsBeginningOf old new = (more : List (ℕ × Content)) × (new ≡ old ++ more)
 
 abbrev pub arg_views : List Value → List Values.Value
 arg_views vs = map value_view vs

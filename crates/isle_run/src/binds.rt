@@ -8,7 +8,7 @@ ghost use Rattle.isle_model.specs.rules.Values.{of_struct, of_variant};
 ghost use Rattle.isle_model.specs.trees.Run.{Env, now_bound, part_at, unwrapped};
 ghost use Rattle.isle_laws_functions.specs.RunBy.{bind_all_by, bind_site_by, constructed_by, used_by, used_value_by, used_values_by};
 ghost use Rattle.isle_sets.specs.SiteViews.{site_view, site_views};
-ghost use Rattle.isle_run.specs.RunViews.{Begins, bound_view, call_views, env_view, found_view, is_all_bound, stage_of};
+ghost use Rattle.isle_run.specs.RunViews.{IsBeginningOf, bound_view, call_views, env_view, found_view, is_all_bound, stage_of};
 ghost use Rattle.isle_run.specs.ValueViews.{content_view, value_views};
 
 use crate::env::{in_place, part, used, used_value, used_values};
@@ -217,7 +217,7 @@ fn bind(
     held: Found,
 ) -> Result<Bound, AllocError>
     ensures bound { IfOk result (λ b. (calls : _) → bound_view b (env_view env.new.items) calls ≡ found_view held (env_view env.old.items) calls site) }
-    ensures kept { IfOk result (λ b. Begins env.old.items env.new.items) }
+    ensures kept { IfOk result (λ b. IsBeginningOf env.old.items env.new.items) }
 {
     match held {
         Found::There(content) => {
@@ -237,7 +237,7 @@ fn bind_site<E: Externs>(
     site: BindingId,
 ) -> Result<Bound, AllocError>
     ensures bound { IfOk result (λ b. bound_view b (env_view env.new.items) (call_views calls.new.items) ≡ bind_site_by (stage_of (E.functions stage.now.externs.now) stage.now.sites.now stage.now.multi stage.now.args.now) (env_view env.old.items) (call_views calls.old.items) site (slice_get (site_views stage.now.sites.now) site)) }
-    ensures kept { IfOk result (λ b. Begins env.old.items env.new.items) }
+    ensures kept { IfOk result (λ b. IsBeginningOf env.old.items env.new.items) }
 {
     match stage.sites.get(site.index()) {
         Some(binding) => {
@@ -267,7 +267,7 @@ pub fn bind_all<E: Externs>(
     sites: &[BindingId],
 ) -> Result<Bound, AllocError>
     ensures bound { IfOk result (λ b. bound_view b (env_view env.new.items) (call_views calls.new.items) ≡ bind_all_by (stage_of (E.functions stage.now.externs.now) stage.now.sites.now stage.now.multi stage.now.args.now) (env_view env.old.items) (call_views calls.old.items) sites.now) }
-    ensures kept { IfOk result (λ b. Begins env.old.items env.new.items) }
+    ensures kept { IfOk result (λ b. IsBeginningOf env.old.items env.new.items) }
 {
     for site in sites {
         let bound = bind_site(stage, env, calls, *site)?;

@@ -8,7 +8,7 @@ ghost use Rattle.isle_model.specs.trees.Run.{all_one, where_constant};
 ghost use Rattle.isle_laws_functions.specs.RunBy.{content_fields_by, value_fields_by};
 ghost use Rattle.isle_model.specs.sites.Sites.{is_present, is_struct, is_variant};
 ghost use Rattle.isle_sets.specs.SiteViews.{constraint_view};
-ghost use Rattle.isle_run.specs.RunViews.{Begins, content_list, env_view, if_bound, with_field};
+ghost use Rattle.isle_run.specs.RunViews.{IsBeginningOf, content_list, env_view, if_bound, with_field};
 ghost use Rattle.isle_run.specs.ValueViews.{content_view, value_view, value_views};
 
 use crate::externs::Externs;
@@ -165,7 +165,7 @@ fn bind_field(
     content: &Content,
 ) -> Result<(), AllocError>
     ensures bound { IfOk result (λ u. env_view env.new.items ≡ with_field field (content_view content.now) (env_view env.old.items)) }
-    ensures kept { IfOk result (λ u. Begins env.old.items env.new.items) }
+    ensures kept { IfOk result (λ u. IsBeginningOf env.old.items env.new.items) }
 {
     if let Some(site) = field {
         env.push((site, content.clone()?))?;
@@ -180,7 +180,7 @@ pub fn bind_fields(
     contents: &[Content],
 ) -> Result<bool, AllocError>
     ensures bound { IfOk result (λ b. if_bound b (env_view env.new.items) ≡ Run.bind_fields fields.now (content_list contents.now) (env_view env.old.items)) }
-    ensures kept { IfOk result (λ b. Begins env.old.items env.new.items) }
+    ensures kept { IfOk result (λ b. IsBeginningOf env.old.items env.new.items) }
 {
     let mut place = 0;
     for field in fields {

@@ -7,6 +7,4 @@ pub mod externs;
 pub mod fields;
 pub mod run;
 pub mod state;
-#[cfg(test)]
-mod tests;
 pub mod values;

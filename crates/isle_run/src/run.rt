@@ -10,7 +10,7 @@ ghost use Rattle.isle_laws_functions.specs.RunBy.{run_arms_by, run_by, run_check
 ghost use Rattle.isle_serialize.specs.TreeViews.{arms_view, check_view, tree_view};
 ghost use Rattle.isle_serialize.specs.declared.serialize.MatchArm.{out-MatchArm};
 ghost use Rattle.isle_sets.specs.SiteViews.{site_view, site_views};
-ghost use Rattle.isle_run.specs.RunViews.{Begins, arg_views, content_list, ending_view, env_view, equality_by, is_through, many_by, outcome_at, outcome_view, stage_of, trace_view};
+ghost use Rattle.isle_run.specs.RunViews.{IsBeginningOf, arg_views, content_list, ending_view, env_view, equality_by, is_through, many_by, outcome_at, outcome_view, stage_of, trace_view};
 ghost use Rattle.isle_run.specs.ValueViews.{content_view};
 
 use crate::binds::bind_all;
@@ -121,7 +121,7 @@ fn run_block<E: Externs>(
     trace: &mut Trace,
 ) -> Result<Ending, AllocError>
     ensures ran { IfOk result (λ e. outcome_at e trace.new ≡ run_tree_by (tree_view block.now) (stage_of (E.functions stage.now.externs.now) stage.now.sites.now stage.now.multi stage.now.args.now) (env_view env.old.items) (trace_view trace.old)) }
-    ensures kept { IfOk result (λ e. Begins env.old.items env.new.items) }
+    ensures kept { IfOk result (λ e. IsBeginningOf env.old.items env.new.items) }
 {
     for step in &block.steps {
         let ending = run_step(step, stage, env, trace)?;
@@ -141,7 +141,7 @@ fn run_step<E: Externs>(
     trace: &mut Trace,
 ) -> Result<Ending, AllocError>
     ensures ran { IfOk result (λ e. (rest : Tree) → on_ending (ending_view e) (trace_view trace.new) (run_tree_by rest (stage_of (E.functions stage.now.externs.now) stage.now.sites.now stage.now.multi stage.now.args.now) (env_view env.new.items)) ≡ run_tree_by (Trees.step step.now.bind_order.items (check_view step.now.check) rest) (stage_of (E.functions stage.now.externs.now) stage.now.sites.now stage.now.multi stage.now.args.now) (env_view env.old.items) (trace_view trace.old)) }
-    ensures kept { IfOk result (λ e. Begins env.old.items env.new.items) }
+    ensures kept { IfOk result (λ e. IsBeginningOf env.old.items env.new.items) }
 {
     match bind_all(stage, env, &mut trace.calls, &step.bind_order)? {
         Bound::All => Ok(run_within(&step.check, stage, env, trace)?),
@@ -176,7 +176,7 @@ fn run_check<E: Externs>(
     trace: &mut Trace,
 ) -> Result<Ending, AllocError>
     ensures ran { IfOk result (λ e. outcome_at e trace.new ≡ run_check_by (check_view check.now) (stage_of (E.functions stage.now.externs.now) stage.now.sites.now stage.now.multi stage.now.args.now) (env_view env.old.items) (trace_view trace.old)) }
-    ensures kept { IfOk result (λ e. Begins env.old.items env.new.items) }
+    ensures kept { IfOk result (λ e. IsBeginningOf env.old.items env.new.items) }
 {
     match check {
         ControlFlow::Match { source, arms } => match used(stage, env, *source)? {
@@ -206,7 +206,7 @@ fn run_arms<E: Externs>(
     trace: &mut Trace,
 ) -> Result<Ending, AllocError>
     ensures ran { IfOk result (λ e. outcome_at e trace.new ≡ run_arms_by (arms_view arms.now) (stage_of (E.functions stage.now.externs.now) stage.now.sites.now stage.now.multi stage.now.args.now) (content_view content.now) (env_view env.old.items) (trace_view trace.old)) }
-    ensures kept { IfOk result (λ e. Begins env.old.items env.new.items) }
+    ensures kept { IfOk result (λ e. IsBeginningOf env.old.items env.new.items) }
 {
     for arm in arms {
         if let Some(fields) = content_fields(stage, arm.constraint, content)? {
@@ -226,7 +226,7 @@ fn run_arm<E: Externs>(
     trace: &mut Trace,
 ) -> Result<Ending, AllocError>
     ensures ran { IfOk result (λ e. outcome_at e trace.new ≡ with_env (Run.bind_fields (out-MatchArm arm.now).bindings.items (content_list fields.now) (env_view env.old.items)) (trace_view trace.old) (λ inside. run_tree_by (tree_view (out-MatchArm arm.now).body) (stage_of (E.functions stage.now.externs.now) stage.now.sites.now stage.now.multi stage.now.args.now) inside (trace_view trace.old))) }
-    ensures kept { IfOk result (λ e. Begins env.old.items env.new.items) }
+    ensures kept { IfOk result (λ e. IsBeginningOf env.old.items env.new.items) }
 {
     if bind_fields(env, &arm.bindings, fields)? {
         Ok(run_block(&arm.body, stage, env, trace)?)

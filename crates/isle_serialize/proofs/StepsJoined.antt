@@ -5,10 +5,6 @@ use Rattle.isle_serialize.specs.declared.serialize.EvalStep.{EvalStep}
 use Rattle.isle_serialize.specs.declared.serialize.MatchArm.{MatchArm}
 use Rattle.isle_serialize.specs.TreeViews.{check_view, steps_view, arm_view, arms_view}
 
-pub join_end : (t : Tree) → join t no_step ≡ t
-join_end no_step = refl
-join_end (step binds check rest) = ap (step binds check) (join_end rest)
-
 pub step_joined : (xs : List EvalStep) (s : EvalStep) (t : Tree) → join (steps_view (xs ++ s ∷ [])) t ≡ join (steps_view xs) (step s.bind_order.items (check_view s.check) t)
 step_joined [] s t = refl
 step_joined (x ∷ xs) s t = ap (step x.bind_order.items (check_view x.check)) (step_joined xs s t)

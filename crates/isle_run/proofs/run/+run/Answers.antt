@@ -7,7 +7,7 @@ use Rattle.isle_serialize.specs.declared.serialize.MatchArm.{out-MatchArm}
 use Rattle.isle_serialize.specs.TreeViews.{arms_view, check_view, steps_view, tree_view}
 use Rattle.isle_serialize.proofs.TreeLaws.{equal_seen, loop_seen, match_seen, return_seen}
 use Rattle.isle_laws_functions.specs.RunBy.{bind_all_by, run_arms_by, run_check_by, run_tree_by, used_by, used_value_by}
-use Rattle.isle_run.specs.RunViews.{Begins, bound_view, call_views, content_list, ending_view, env_view, equality_by, many_by, outcome_at, stage_of, trace_view}
+use Rattle.isle_run.specs.RunViews.{IsBeginningOf, bound_view, call_views, content_list, ending_view, env_view, equality_by, many_by, outcome_at, stage_of, trace_view}
 use Rattle.isle_run.specs.ValueViews.{content_view}
 use Rattle.isle_run.proofs.BindSteps.{begins_here, begins_then, cut_back, env_pushed}
 use Rattle.isle_run.proofs.RunSteps.{arms_done, arms_met, arms_more, block_done, block_is, block_more, block_over, each_done, each_more, each_over, equal_ran, loop_ran, match_ran, match_stuck, return_ran, step_failed, step_stuck, step_through}
@@ -91,7 +91,7 @@ run_step-returns-in_ok-run_within-in-All g t c =
           ap (λ l. on_ending (ending_view e) (trace_view c.run_within.new.trace) (run_tree_by rest w (env_view l))) kept
           ∙ step_through w s.bind_order.items (check_view s.check) (env_view c.args.env.now.items) (env_view here) (trace_view c.args.trace.now) (call_views c.bind_all.new.calls.items) e c.run_within.new.trace bound
           c.in_ok-run_within-in-All.ensures.ran rest;
-      kept = subst (Begins c.args.env.now.items) (sym kept) c.in_ok-bind_all.ensures.kept;
+      kept = subst (IsBeginningOf c.args.env.now.items) (sym kept) c.in_ok-bind_all.ensures.kept;
     }
 
 pub run_step-returns-in-Failed : goal.run_step-returns-in-Failed
