@@ -1,0 +1,30 @@
+//! Prints the Rust code of the definitions on standard input.
+#![tactic(auto)]
+
+mod answers;
+
+use answers::answer;
+use isle_answers::answers::write_answer;
+use isle_answers::run::cannot_read;
+use std::alloc::Global;
+use std::io;
+use std::io::{Read, Write};
+use std::process::ExitCode;
+
+fn main(rt: HostRuntime) -> ExitCode {
+    let mut out = rt.stdout();
+    let mut err = rt.stderr();
+    ExitCode::from(run(rt.alloc(), rt.stdin(), &mut out, &mut err))
+}
+
+fn run<R: Read + Drop, O: Write, E: Write>(
+    alloc: Global,
+    input: R,
+    out: &mut O,
+    err: &mut E,
+) -> u8 {
+    match io::read_to_string(alloc, input) {
+        Ok(text) => write_answer(answer(alloc, text), out, err),
+        Err(error) => cannot_read(error.kind(), err),
+    }
+}
