@@ -1,0 +1,3 @@
+fn main() {
+    isle_proved::build(&["src/rules.isle"], "rules.rs");
+}

@@ -1,0 +1,64 @@
+//! The compiler as a static library for C and Rust: one call, which takes the texts of files and writes what comes of them into
+//! the caller's buffer. `bindings/c/isle.h` declares it.
+#![tactic(auto)]
+
+ghost use Rattle.std.specs.Prelude.{◌≡◌};
+ghost use Rattle.isle_capi.specs.Calls.{AddUp, AreOther, IsStatus, LeavesBehind, TellsOther};
+ghost use Rattle.isle_capi.specs.Known.{AreOptions};
+
+mod answers;
+mod code;
+pub mod inputs;
+pub mod options;
+pub mod output;
+pub mod statuses;
+
+use crate::answers::told;
+use crate::inputs::{FileLengths, Unread, add_up, files_of};
+use crate::options::{Options, asked_by};
+use crate::output::Sizes;
+use crate::statuses::{NO_MEMORY, NOT_UTF8, WRONG_LENGTHS, WRONG_OPTION};
+use std::alloc::Global;
+
+/// Does what is asked of files of ISLE text, and answers a status, one of `statuses`.
+///
+/// `bytes` has for each file its name and then its text, file after file, and `files` how many bytes each takes, which add up
+/// to all of them. All files together are one list of definitions. `options` says what is wanted: it is written to the beginning
+/// of `out` where the definitions are accepted (`DONE`), else what is wrong with them (`ERRORS`), or why there is no Rust code
+/// (`NO_CODE`). `sizes` is given how many bytes were written, and how many the text has: where `out` has fewer, nothing is
+/// written (`NO_ROOM`), and the same call with room for as many goes through. Any other status comes without a text.
+#[unsafe(no_mangle)]
+pub extern "C" fn isle_capi_lower(
+    alloc: Global,
+    bytes: &[u8],
+    files: &[FileLengths],
+    options: &Options,
+    out: &mut [u8],
+    sizes: &mut Sizes,
+) -> u32
+    ensures known { IsStatus result }
+    // wrong options are told exactly where they are wrong
+    ensures options { ¬ (AreOptions options.now) → result ≡ WRONG_OPTION }
+    ensures asked { result ≡ WRONG_OPTION → ¬ (AreOptions options.now) }
+    // then lengths, exactly where they don't add up
+    ensures lengths { AreOptions options.now → ¬ (AddUp files.now bytes.now) → result ≡ WRONG_LENGTHS }
+    ensures summed { result ≡ WRONG_LENGTHS → ¬ (AddUp files.now bytes.now) }
+    // then names and texts, exactly where they aren't UTF-8, unless memory is refused
+    ensures texts { AreOptions options.now → AddUp files.now bytes.now → AreOther files.now bytes.now → TellsOther result }
+    ensures other { result ≡ NOT_UTF8 → AreOther files.now bytes.now }
+    // what is written is UTF-8 and no more than there is room for, and nothing behind it is touched
+    ensures left { LeavesBehind out.old out.new sizes.new result }
+{
+    *sizes = Sizes::none();
+    let Some(asked) = asked_by(options) else {
+        return WRONG_OPTION;
+    };
+    if !add_up(files, bytes.len()) {
+        return WRONG_LENGTHS;
+    }
+    match files_of(alloc, bytes, files) {
+        Ok(files) => told(alloc, asked, &files, out, sizes),
+        Err(Unread::Memory) => NO_MEMORY,
+        Err(Unread::Text) => NOT_UTF8,
+    }
+}

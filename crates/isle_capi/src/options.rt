@@ -1,0 +1,112 @@
+//! What a call is asked.
+
+ghost use Rattle.std.specs.Prelude.{◌≡◌, is_some};
+ghost use Rattle.isle_capi.specs.Known.{are_options, go_together, is_format, is_task, is_truth};
+
+/// What is wanted, in numbers, as C hands them in.
+#[repr(C)]
+#[derive(Clone, Copy)]
+pub struct Options {
+    /// What is to be done. 0: the trees of the terms. 1: nothing but what is likely not meant. 2: the Rust code of the terms.
+    pub task: u32,
+    /// How trees and reports are written. 0: for a person, reports with the lines that they speak of. 1: the same, each report
+    /// in one line. 2: as 0, in a terminal's colours. 3: as JSON.
+    pub format: u32,
+    /// Whether uses of internal extractors are replaced by their templates: 1, as Rust code wants it, or 0.
+    pub expand: u32,
+}
+
+/// What is to be done.
+#[derive(Clone, Copy, PartialEq, Eq)]
+pub enum Task {
+    /// The trees of the terms.
+    Trees,
+    /// Nothing but what is likely not meant.
+    Check,
+    /// The Rust code of the terms.
+    Code,
+}
+
+/// How trees and reports are written.
+#[derive(Clone, Copy, PartialEq, Eq)]
+pub enum Format {
+    /// Reports with the lines that they speak of.
+    Text,
+    /// Each report in one line.
+    Line,
+    /// Reports with the lines that they speak of, in a terminal's colours.
+    Colored,
+    /// As JSON.
+    Json,
+}
+
+/// What is wanted.
+#[derive(Clone, Copy)]
+pub struct Asked {
+    /// What is to be done.
+    pub task: Task,
+    /// How trees and reports are written.
+    pub format: Format,
+    /// Whether uses of internal extractors are replaced by their templates.
+    pub expand: bool,
+}
+
+/// What these options ask for, or None where a number means nothing or they don't go together.
+pub fn asked_by(options: &Options) -> Option<Asked>
+    ensures { is_some result ≡ are_options options.now }
+{
+    if !go_together(options) {
+        return None;
+    }
+    let task = task_of(options.task)?;
+    let format = format_of(options.format)?;
+    let expand = truth_of(options.expand)?;
+    Some(Asked {
+        task,
+        format,
+        expand,
+    })
+}
+
+// Whether options go together: Rust code is made of definitions whose internal extractors are expanded.
+fn go_together(options: &Options) -> bool
+    ensures { result ≡ go_together options.now }
+{
+    options.task != 2 || options.expand == 1
+}
+
+// The task of a number.
+fn task_of(number: u32) -> Option<Task>
+    ensures { is_some result ≡ is_task number }
+{
+    match number {
+        0 => Some(Task::Trees),
+        1 => Some(Task::Check),
+        2 => Some(Task::Code),
+        _ => None,
+    }
+}
+
+// The format of a number.
+fn format_of(number: u32) -> Option<Format>
+    ensures { is_some result ≡ is_format number }
+{
+    match number {
+        0 => Some(Format::Text),
+        1 => Some(Format::Line),
+        2 => Some(Format::Colored),
+        3 => Some(Format::Json),
+        _ => None,
+    }
+}
+
+// The truth value of a number.
+fn truth_of(number: u32) -> Option<bool>
+    ensures { is_some result ≡ is_truth number }
+{
+    match number {
+        0 => Some(false),
+        1 => Some(true),
+        _ => None,
+    }
+}

@@ -1,0 +1,3 @@
+fn main() {
+    isle_proved::build(&["rules/types.isle", "rules/lower.isle", "rules/addresses.isle"], "rules.rs");
+}
