@@ -206,7 +206,7 @@ fn a_text_larger_than_most() {
 
 // Templates in one another make a rule far deeper than the text (`docs/SPEED.md`): 8 MB of stack don't do.
 #[test]
-fn a_rule_as_deep_as_a_rule_may_be() {
+fn a_rule_of_six_thousand_levels() {
     let nest = |depth: usize, inner: &str| {
         format!("{}{inner}{}", "(T.A ".repeat(depth), ")".repeat(depth))
     };
@@ -214,16 +214,17 @@ fn a_rule_as_deep_as_a_rule_may_be() {
         "(type T (enum (A (t T)) B))\n(decl f (T) u8)\n(decl e0 (T) T)\n(extractor (e0 x) {})\n",
         nest(30, "x")
     );
-    for level in 1..256 {
+    for level in 1..200 {
         text += &format!(
             "(decl e{level} (T) T)\n(extractor (e{level} x) (e{} {}))\n",
             level - 1,
             nest(30, "x")
         );
     }
-    text += "(rule (f (e255 _)) 1)\n";
-    let answer = lower(&[("deep.isle", &text)], written(Format::Line));
-    assert!(answer.is_ok() || matches!(&answer, Err(Errors::Definitions(_))));
+    text += "(rule (f (e199 _)) 1)\n";
+    // Its tree isn't printed, which would take a hundred megabytes of spaces.
+    let answer = check(&[("deep.isle", &text)], written(Format::Line));
+    assert!(answer.is_ok(), "{answer:?}");
 }
 
 #[test]
