@@ -166,11 +166,12 @@ impl Maker {
     }
 
     fn push_decl(&mut self, name: &str, arguments: &[Kind], gives: Kind) -> Result<(), AllocError> {
-        self.push(match self.flag {
+        let head = match self.flag {
             Flag::Plain => "(decl ",
             Flag::Partial => "(decl partial ",
             Flag::Multi => "(decl multi ",
-        })?;
+        };
+        self.push(head)?;
         self.push(name)?;
         self.push(" (")?;
         for kind in arguments {

@@ -97,7 +97,6 @@ pub fn labels(alloc: Global, tyenv: &TypeEnv, fields: &Fields) -> Result<Vec<Str
 }
 
 /// Adds values, with a comma behind each.
-#[cycle(values)]
 pub fn push_values(
     alloc: Global,
     out: &mut String,
