@@ -1,4 +1,4 @@
-//! What calls come to by the run of the terms' trees.
+//! What calls come to by the run of the terms' trees, beside what the source rules come to.
 
 use crate::answers::Answers;
 use crate::calls::{Called, calls_of};
@@ -6,6 +6,7 @@ use crate::shown::push_composed;
 use crate::trial::Trial;
 use cranelift_isle::lower::LoweredTerm;
 use isle_calls::outcomes::outcome_text;
+use isle_choose::choose::choose;
 use isle_reading::premises::is_multi;
 use isle_run::run::run;
 use isle_run::state::{Ending, Outcome};
@@ -50,7 +51,7 @@ fn push_outcomes(
     Ok(())
 }
 
-// Adds the outcome of a call.
+// Adds the outcome of a call; and what the source rules come to, where that differs.
 fn push_outcome(
     alloc: Global,
     out: &mut String,
@@ -64,8 +65,34 @@ fn push_outcome(
     };
     let multi = is_multi(&trial.lowered.termenv, trial.term);
     let outcome = run(alloc, &answers, &entry.rules, &entry.block, args, multi)?;
+    let told = told(alloc, trial, outcome, multi)?;
+    out.push_str(&told)?;
+    if multi {
+        return Ok(());
+    }
+    let chosen = chosen(alloc, trial, &answers, args)?;
+    if chosen.as_str() == told.as_str() {
+        return Ok(());
+    }
+    write!(out, "; by the source rules {chosen}")
+}
+
+// What a call comes to by the source rules of a term that isn't multi, in words.
+fn chosen(
+    alloc: Global,
+    trial: &Trial,
+    answers: &Answers<'_>,
+    args: &[Value],
+) -> Result<String, AllocError> {
+    let env = &trial.lowered.termenv;
+    let outcome = choose(alloc, answers, &env.terms, &env.rules, trial.term, args)?;
+    told(alloc, trial, outcome, false)
+}
+
+// An outcome in words, as Rust tells it.
+fn told(alloc: Global, trial: &Trial, outcome: Outcome, multi: bool) -> Result<String, AllocError> {
     let told = as_in_rust(outcome, is_partial(trial), multi);
-    out.push_str(&outcome_text(alloc, &trial.lowered, multi, &told)?)
+    outcome_text(alloc, &trial.lowered, multi, &told)
 }
 
 // Whether a trial's term is partial.
