@@ -1,19 +1,20 @@
 //! Answers to what trees call: an echo's, but for constants of built-in types, and for values that are withheld.
 #![tactic(auto, using(isle_run::proofs::ContentSteps::content_steps, isle_run::proofs::ValueSteps::value_steps))]
 
-ghost use Rattle.std.specs.Prelude.{◌≡◌, slice_get};
-ghost use Rattle.isle_model.specs.lists.Ranges.{reduced};
-ghost use Rattle.isle_run.specs.ValueViews.{content_view, value_view};
+ghost use Rattle.std.specs.Prelude.{◌≡◌};
+ghost use Rattle.isle_model.specs.rules.Meaning.{many};
+ghost use Rattle.isle_run.specs.ValueViews.{content_view, content_views, value_view};
 ghost use Rattle.isle_types.specs.Envs.{constant_at};
 ghost use Rattle.isle_types.specs.TypeViews.{type_views};
 ghost use Rattle.isle_terms.specs.TermViews.{term_views};
 ghost use Rattle.isle_trials.specs.Answered.{answered, answers_of, constant_of, gives_withheld, in_place_of, is_answer_withheld, is_withheld};
 
 use isle_calls::echo::{Echo, constant_number};
+use isle_reports::checks::literal_number;
 use isle_run::externs::Externs;
 use isle_run::values::{Content, Value};
 use isle_terms::Term;
-use isle_types::{BuiltinType, Sym, TermId, Type, TypeEnv, TypeId};
+use isle_types::{Sym, TermId, TypeEnv, TypeId};
 use std::alloc::{AllocError, Global};
 
 /// The number that is withheld: what may give nothing, or is multi, gives nothing in its place.
@@ -35,20 +36,6 @@ impl<'a> Drop for Answers<'a> {
     }
 }
 
-/// The number of a type that an integer stands for: of a built-in integer type that of its range, else the integer.
-pub fn reduced(types: &[Type], ty: TypeId, number: i128) -> i128
-    ensures { result ≡ reduced (slice_get (type_views types.now) ty.0) number }
-{
-    match types.get(ty.index()) {
-        Some(Type::Builtin(BuiltinType::Int(int))) => int.reduce(number),
-        Some(Type::Builtin(BuiltinType::Bool)) => number,
-        Some(Type::Primitive(_, _, _)) => number,
-        Some(Type::Enum { .. }) => number,
-        Some(Type::Struct { .. }) => number,
-        None => number,
-    }
-}
-
 // The value of a named constant.
 fn constant_value(tyenv: &TypeEnv, name: Sym) -> Value
     ensures { value_view result ≡ constant_of (type_views tyenv.now.types.items) (constant_at tyenv.now name.0) name.0 }
@@ -57,7 +44,7 @@ fn constant_value(tyenv: &TypeEnv, name: Sym) -> Value
         Some(ty) => *ty,
         None => TypeId::BOOL,
     };
-    Value::Atom(ty, reduced(&tyenv.types, ty, constant_number(name)))
+    Value::Atom(ty, literal_number(tyenv, ty, constant_number(name)))
 }
 
 // Whether a value is withheld.
@@ -97,10 +84,17 @@ fn is_answer_withheld(content: &Content) -> bool
         Content::Parts(_) => false,
         Content::Nothing => false,
         Content::Just(inner) => gives_withheld(inner),
-        Content::Many(answers) => match answers.as_slice() {
-            [first, ..] => gives_withheld(first),
-            [] => false,
-        },
+        Content::Many(answers) => is_first_withheld(answers),
+    }
+}
+
+// Whether the first of several answers is withheld.
+fn is_first_withheld(answers: &[Content]) -> bool
+    ensures { result ≡ is_answer_withheld (many (content_views answers.now)) }
+{
+    match answers {
+        [first, ..] => gives_withheld(first),
+        [] => false,
     }
 }
 

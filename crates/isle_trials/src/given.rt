@@ -1,11 +1,11 @@
 //! What generated code takes from outside, in Rust: primitive types, named constants, and types that are declared outside.
 
-use crate::answers::reduced;
 use crate::fitting::is_of_numbers;
 use crate::rust_names::{labels, push_number, push_sym, push_type};
 use cranelift_isle::lower::Lowered;
 use cranelift_isle::sema::{Fields, Sym, Type, TypeEnv, TypeId, Variant};
 use isle_calls::echo::constant_number;
+use isle_reports::checks::literal_number;
 use std::alloc::{AllocError, Global};
 
 /// Adds the items that generated code takes from outside.
@@ -127,7 +127,7 @@ fn push_constant(
     if !is_of_numbers(lowered, ty) {
         return Ok(());
     }
-    let number = reduced(&lowered.tyenv.types, ty, constant_number(name));
+    let number = literal_number(&lowered.tyenv, ty, constant_number(name));
     out.push_str("    pub const ")?;
     push_sym(out, &lowered.tyenv, name)?;
     out.push_str(": ")?;

@@ -1,11 +1,12 @@
 //! Values of types, made by chance.
 
-use crate::answers::{WITHHELD, reduced};
+use crate::answers::WITHHELD;
 use crate::chance::Chance;
 use cranelift_isle::lower::Lowered;
 use cranelift_isle::sema::{BuiltinType, IntType, Sym, Type, TypeId, Variant};
 use cranelift_isle::trie_again::{Binding, Constraint, Rule, RuleSet};
 use isle_calls::echo::constant_number;
+use isle_reports::checks::literal_number;
 use isle_run::values::Value;
 use std::alloc::{AllocError, Global};
 
@@ -174,7 +175,7 @@ impl<'a> Makings<'a> {
             let of_type = self.lowered.tyenv.const_types.get(&Sym(place)).copied() == Some(ty);
             if of_type && (found.is_none() || place <= first) {
                 let number = constant_number(Sym(place));
-                found = Some(reduced(&self.lowered.tyenv.types, ty, number));
+                found = Some(literal_number(&self.lowered.tyenv, ty, number));
             }
         }
         found
@@ -228,7 +229,7 @@ fn written_at(lowered: &Lowered, site: &Binding) -> Option<(TypeId, i128)> {
 // The number of a constant, with its type.
 fn constant_at(lowered: &Lowered, name: Sym) -> Option<(TypeId, i128)> {
     let ty = *lowered.tyenv.const_types.get(&name)?;
-    let number = reduced(&lowered.tyenv.types, ty, constant_number(name));
+    let number = literal_number(&lowered.tyenv, ty, constant_number(name));
     Some((ty, number))
 }
 
