@@ -1,4 +1,4 @@
-//! Tests of sets, maps, partitions and syntax trees, of what rows of text can't say.
+//! Tests of sets, maps, partitions, syntax trees and errors, of what rows of text can't say.
 #![tactic(auto)]
 
 #[cfg(test)]

@@ -1,4 +1,5 @@
-// Containers; trees of syntax.
+// Containers; trees of syntax; errors as lines.
+mod errors;
 mod last_digit;
 mod partition;
 mod stable;
