@@ -1,5 +1,5 @@
 -- Expressions, evaluated one after another.
-use Rattle.std.proofs.Common.{◌≡◌, ℕ, Bool, true, false, ◌+◌, ◌<◌, ◌≤◌, if◌then◌else◌, List, [], ◌∷◌, ◌++◌, length, get_or, drop, Option, Some, None, option_map, Box, Vec, refl, sym, ap, ◌∙◌}
+use Rattle.std.proofs.Common.{◌≡◌, ℕ, Bool, true, false, ◌+◌, ◌<◌, ◌≤◌, List, [], ◌∷◌, ◌++◌, length, get_or, drop, Option, Some, None, option_map, Box, Vec, refl, sym, ap, ◌∙◌}
 use Rattle.std.proofs.lemmas.Bool.{false≢true}
 use Rattle.std.proofs.lemmas.List.{at_drop_more, at_drop_all}
 use Rattle.std.specs.declared.alloc.Global.{Global}
@@ -10,19 +10,18 @@ use Rattle.isle_model.specs.rules.Values as Values
 use Rattle.isle_model.specs.rules.Values.{Values, no_value, value_and}
 use Rattle.isle_model.specs.rules.Outcome as O
 use Rattle.isle_model.specs.rules.Outcome.{then_option}
-use Rattle.isle_model.specs.rules.Program.{Kind, a_variant, a_struct, a_call, unknown}
 use Rattle.isle_model.specs.rules.Typed.{TypedExprs, typed_expr_and, TypedLets, typed_let_and}
 use Rattle.isle_model.specs.rules.Matching.{Vars}
 use Rattle.isle_model.specs.rules.RightSide.{Eval, gives, ends, EvalAll, gives_all, ends_all, EvalLets, gives_vars, ends_lets, pair_up, then_rest, then_lets}
 use Rattle.isle_laws_demands.specs.TotalLaws.{TotalMeaning}
-use Rattle.isle_laws_functions.specs.ChoiceBy.{pure_term_by, pure_value_by, pure_values_by, pure_lets_by, impure_call_by, applied_by, eval_by, eval_all_by, eval_lets_by}
+use Rattle.isle_laws_functions.specs.ChoiceBy.{pure_value_by, pure_values_by, pure_lets_by, eval_by, eval_all_by, eval_lets_by}
 use Rattle.isle_typed.specs.declared.exprs.Expr.{Expr}
-use Rattle.isle_typed.specs.ExprViews.{expr_view, expr_views, expr_parts, let_view, let_views, let_parts}
+use Rattle.isle_typed.specs.ExprViews.{expr_view, expr_views, expr_parts, let_views, let_parts}
 use Rattle.isle_run.specs.declared.values.Value.{Value}
 use Rattle.isle_run.specs.ValueViews.{value_view, value_views}
-use Rattle.isle_run.proofs.ValueSteps.{before, before-push, before-none}
-use Rattle.isle_run.proofs.EnvSteps.{after}
-use Rattle.isle_choose.specs.SourceViews.{purity, lets_view, with_value}
+use Rattle.isle_run.proofs.ValueSteps.{before}
+use Rattle.isle_run.proofs.EnvSteps.{after, after_push, after_none, after_all}
+use Rattle.isle_choose.specs.SourceViews.{lets_view, with_value}
 
 abbrev args_of : List Expr → TypedExprs
 args_of xs = expr_parts (expr_views xs)
@@ -33,47 +32,7 @@ LetDef = VarId × TypeId × Box Expr Global
 abbrev defs_of : List LetDef → TypedLets
 defs_of ds = let_parts (let_views ds)
 
--- 1. terms by what they are
-pub pure_is : (k : Kind) (f : TotalMeaning) (t : ℕ) (vs : Option Values) (calls : List O.Call) → Some true ≡ purity k → gives (then_option vs (λ ws. pure_term_by k f t ws)) calls ≡ applied_by k f t vs calls
-pure_is (a_variant ty variant) f t vs calls h = refl
-pure_is (a_struct ty) f t vs calls h = refl
-pure_is (a_call flags infallible) f t vs calls h = by flags.pure h
-  where
-    by : (b : Bool) → Some true ≡ Some b → gives (then_option vs (λ ws. pure_term_by (a_call flags infallible) f t ws)) calls ≡ (if b then gives (then_option vs (λ ws. pure_term_by (a_call flags infallible) f t ws)) calls else impure_call_by f t vs calls)
-    by true h = refl
-    by false h = absurd (cc)
-pure_is unknown f t vs calls h = absurd (cc)
-
-pub impure_is : (k : Kind) (f : TotalMeaning) (t : ℕ) (vs : Option Values) (calls : List O.Call) → Some false ≡ purity k → impure_call_by f t vs calls ≡ applied_by k f t vs calls
-impure_is (a_variant ty variant) f t vs calls h = absurd (cc)
-impure_is (a_struct ty) f t vs calls h = absurd (cc)
-impure_is (a_call flags infallible) f t vs calls h = by flags.pure h
-  where
-    by : (b : Bool) → Some false ≡ Some b → impure_call_by f t vs calls ≡ (if b then gives (then_option vs (λ ws. pure_term_by (a_call flags infallible) f t ws)) calls else impure_call_by f t vs calls)
-    by false h = refl
-    by true h = absurd (cc)
-impure_is unknown f t vs calls h = absurd (cc)
-
-pub unknown_is : (k : Kind) (f : TotalMeaning) (t : ℕ) (vs : Option Values) (calls : List O.Call) → None ≡ purity k → ends calls ≡ applied_by k f t vs calls
-unknown_is (a_variant ty variant) f t vs calls h = absurd (cc)
-unknown_is (a_struct ty) f t vs calls h = absurd (cc)
-unknown_is (a_call flags infallible) f t vs calls h = absurd (cc)
-unknown_is unknown f t vs calls h = refl
-
--- 2. values after others, where there may be none
-after_push : (out : List Value) (v : Value) (o : Option Values) → after (out ++ v ∷ []) o ≡ after out (then_option o (λ vs. Some (value_and (value_view v) vs)))
-unfolding after
-after_push out v None = refl
-after_push out v (Some vs) = ap Some (before-push out v vs)
-
-after_none : (out : List Value) → after out None ≡ None
-unfolding after
-after_none out = refl
-
-after_all : (out : List Value) → after out (Some no_value) ≡ Some (value_views out)
-unfolding after
-after_all out = ap Some (before-none out)
-
+-- 1. values after others, where there may be none
 module _ (terms : List TermEntry) (f : TotalMeaning) (vars : Vars) where
   abbrev all_pure : List Expr → Option Values
   all_pure xs = pure_values_by terms f (args_of xs) vars
@@ -97,7 +56,7 @@ module _ (terms : List TermEntry) (f : TotalMeaning) (vars : Vars) where
   pub pure_all : (out : List Value) (xs : List Expr) (i : ℕ) → length xs ≤ i → after out (all_pure (drop i xs)) ≡ all_pure xs → Some (value_views out) ≡ all_pure xs
   pure_all out xs i h inv = sym (after_all out) ∙ ap (after out) (sym (at_drop_all all_pure xs i h)) ∙ inv
 
--- 3. arguments of a right side: those before, where all are there, and what comes
+-- 2. arguments of a right side: those before, where all are there, and what comes
 unfoldable pub ahead : Option (List Value) → EvalAll → EvalAll
 ahead given (ends_all calls) = ends_all calls
 ahead given (gives_all vs calls) = gives_all (then_option given (λ out. after out vs)) calls
@@ -140,7 +99,7 @@ ends_there true vars calls r e h = absurd (false≢true (sym h))
 ends_there false vars calls r e h = e
 
 module _ (terms : List TermEntry) (f : TotalMeaning) where
-  -- 4. a let's definitions, and arguments, one after another
+  -- 3. a let's definitions, and arguments, one after another
   pub lets_more : (ds : List LetDef) (d : LetDef) (i : ℕ) (vars vars' : Vars) (whole : Vars) → i < length ds → d ≡ get_or ds i d → vars' ≡ (d.0.0, pure_value_by terms f (expr_view d.2.value) vars) ∷ vars
       → pure_lets_by terms f (defs_of (drop i ds)) vars ≡ whole → pure_lets_by terms f (defs_of (drop (i + 1) ds)) vars' ≡ whole
   lets_more ds d i vars vars' whole h at is inv =
@@ -177,7 +136,7 @@ module _ (terms : List TermEntry) (f : TotalMeaning) where
         ap (λ q. gives_all q calls) (viewed given) ∙ sym (all_given (option_map (λ v. v.items) given) calls)
         ∙ ap (ahead (option_map (λ v. v.items) given)) (sym (ap (λ l. eval_all_by terms f l vars calls) (at_drop_all args_of xs i h))) ∙ inv
 
-  -- 5. a let's definitions on a right side
+  -- 4. a let's definitions on a right side
   defs_next : (ds : List LetDef) (d : LetDef) (i : ℕ) (vars : Vars) (calls : List O.Call) (r : Eval) → i < length ds → d ≡ get_or ds i d → r ≡ eval_by terms f (expr_view d.2.value) vars calls
       → eval_lets_by terms f (defs_of (drop i ds)) vars calls ≡ then_lets r (λ o calls'. eval_lets_by terms f (defs_of (drop (i + 1) ds)) ((d.0.0, o) ∷ vars) calls')
   defs_next ds d i vars calls r h at is =
@@ -189,10 +148,3 @@ module _ (terms : List TermEntry) (f : TotalMeaning) where
       → eval_lets_by terms f (defs_of (drop i ds)) vars calls ≡ r → eval_lets_by terms f (defs_of (drop (i + 1) ds)) vars' calls' ≡ r
   defs_more ds d i vars vars' o calls calls' r h at there is inv =
       ap (λ l. eval_lets_by terms f (defs_of (drop (i + 1) ds)) l calls') is ∙ sym (defs_next ds d i vars calls (gives o calls') h at there) ∙ inv
-
-  pub defs_ended : (ds : List LetDef) (d : LetDef) (i : ℕ) (vars : Vars) (calls calls' : List O.Call) (r : EvalLets) → i < length ds → d ≡ get_or ds i d → ends calls' ≡ eval_by terms f (expr_view d.2.value) vars calls
-      → eval_lets_by terms f (defs_of (drop i ds)) vars calls ≡ r → ends_lets calls' ≡ r
-  defs_ended ds d i vars calls calls' r h at there inv = sym (defs_next ds d i vars calls (ends calls') h at there) ∙ inv
-
-  pub defs_done : (ds : List LetDef) (i : ℕ) (vars : Vars) (calls : List O.Call) (r : EvalLets) → length ds ≤ i → eval_lets_by terms f (defs_of (drop i ds)) vars calls ≡ r → gives_vars vars calls ≡ r
-  defs_done ds i vars calls r h inv = sym (ap (λ l. eval_lets_by terms f l vars calls) (at_drop_all defs_of ds i h)) ∙ inv

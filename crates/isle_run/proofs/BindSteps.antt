@@ -1,18 +1,16 @@
 -- Sites that are bound, one after another.
-use Rattle.std.proofs.Common.{◌≡◌, ℕ, zero, suc, true, false, ◌+◌, ◌<◌, ◌≤◌, List, [], ◌∷◌, ◌++◌, length, get_or, take, drop, Some, slice_get, refl, sym, ap, ◌∙◌, append_assoc}
+use Rattle.std.proofs.Common.{◌≡◌, ℕ, true, false, ◌+◌, ◌<◌, ◌≤◌, List, [], ◌∷◌, ◌++◌, length, get_or, take, drop, slice_get, sym, ap, ◌∙◌, append_assoc}
 use Rattle.std.proofs.lemmas.Bool.{false≢true}
-use Rattle.std.proofs.lemmas.List.{at_drop_more, at_drop_all, append-nil, map-append, length-map}
+use Rattle.std.proofs.lemmas.List.{at_drop_more, at_drop_all, append-nil}
 use Rattle.std.proofs.Math.Seq.{take-append_seam}
-use Rattle.isle_model.specs.rules.Values.{Values}
-use Rattle.isle_model.specs.rules.Meaning as M
 use Rattle.isle_model.specs.rules.Outcome as O
-use Rattle.isle_model.specs.trees.Run.{Env, Bound, all_bound, now_bound, then_bind}
-use Rattle.isle_laws_functions.specs.RunBy.{Stage, bind_site_by, bind_all_by, constructed_by}
+use Rattle.isle_model.specs.trees.Run.{Env, Bound, all_bound, then_bind}
+use Rattle.isle_laws_functions.specs.RunBy.{Stage, bind_site_by, bind_all_by}
 use Rattle.isle_run.specs.declared.values.Content.{Content}
 use Rattle.isle_run.specs.declared.state.Call.{Call}
 use Rattle.isle_run.specs.declared.state.Bound as C
 use Rattle.isle_run.specs.declared.state.Bound.TheVariants.{All, Failed, Missing}
-use Rattle.isle_run.specs.RunViews.{env_view, IsBeginningOf, bound_view, is_all_bound, call_view, call_views}
+use Rattle.isle_run.specs.RunViews.{env_view, IsBeginningOf, bound_view, is_all_bound}
 use Rattle.isle_run.specs.ValueViews.{content_view}
 use Rattle.isle_run.proofs.EnvSteps.{onto_push}
 
@@ -29,14 +27,7 @@ begins_then a b c g h = (g.0 ++ h.0, h.1 ∙ ap (λ l. l ++ h.0) g.1 ∙ append_
 pub cut_back : (old new cut : List (ℕ × Content)) (n : ℕ) → IsBeginningOf old new → n ≡ length old → cut ≡ take n new → cut ≡ old
 cut_back old new cut n g e is = is ∙ ap (λ k. take k new) e ∙ ap (take (length old)) g.1 ∙ take-append_seam old g.0
 
--- 2. calls that are listed
-pub call_listed : (old new : List Call) (c : Call) → new ≡ old ++ c ∷ [] → call_views new ≡ call_views old ++ call_view c ∷ []
-call_listed old new c is = ap call_views is ∙ map-append call_view old (c ∷ [])
-
-pub calls_counted : (w : Stage) (calls : List Call) (term n : ℕ) (c : M.Content) → n ≡ length calls → c ≡ w.functions.impures term n → c ≡ w.functions.impures term (length (call_views calls))
-calls_counted w calls term n c e h = h ∙ ap (w.functions.impures term) (e ∙ sym (length-map calls call_view))
-
--- 3. sites in order
+-- 2. sites in order
 module _ (w : Stage) where
   pub then_all : (env env' : Env) (calls calls' : List O.Call) (s : ℕ) (rest : List ℕ) (b : C.Bound) → bound_view b env' calls' ≡ bind_site_by w env calls s (slice_get w.sites s) → is_all_bound b ≡ true
       → bind_all_by w env' calls' rest ≡ bind_all_by w env calls (s ∷ rest)

@@ -45,16 +45,16 @@ unfolding before after
 after_nil None = refl
 after_nil (Some vs) = refl
 
-after_push : (out : List Value) (v : Value) (o : Option Values) → after (out ++ v ∷ []) o ≡ after out (then_option o (λ vs. Some (value_and (value_view v) vs)))
+pub after_push : (out : List Value) (v : Value) (o : Option Values) → after (out ++ v ∷ []) o ≡ after out (then_option o (λ vs. Some (value_and (value_view v) vs)))
 unfolding before after
 after_push out v None = refl
 after_push out v (Some vs) = ap Some (before-push out v vs)
 
-after_none : (out : List Value) → after out None ≡ None
+pub after_none : (out : List Value) → after out None ≡ None
 unfolding after
 after_none out = refl
 
-after_all : (out : List Value) → after out (Some no_value) ≡ Some (value_views out)
+pub after_all : (out : List Value) → after out (Some no_value) ≡ Some (value_views out)
 unfolding after
 after_all out = ap Some (before-none out)
 
