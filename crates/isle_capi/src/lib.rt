@@ -12,6 +12,8 @@ pub mod inputs;
 pub mod options;
 pub mod output;
 pub mod statuses;
+#[cfg(test)]
+mod tests;
 
 use crate::answers::told;
 use crate::inputs::{FileLengths, Unread, add_up, files_of};
