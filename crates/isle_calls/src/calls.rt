@@ -25,21 +25,46 @@ use std::alloc::{AllocError, Global};
 // What stands before a call where it is read: it is the right side of a rule.
 const BEFORE: &str = "(rule (run) ";
 
+/// A call that was read: what a term with rules is called on.
+#[derive(Drop)]
+pub struct ReadCall<'a> {
+    /// The term.
+    pub entry: &'a LoweredTerm,
+    /// A value for each of its arguments.
+    pub args: Vec<Value>,
+}
+
+/// Reads a call, as `(f 1 (T.A 2))`.
+///
+/// # Errors
+///
+/// What is wrong with the call, or that memory was refused.
+pub fn read_call<'a>(
+    alloc: Global,
+    lowered: &'a Lowered,
+    call: &str,
+) -> Result<ReadCall<'a>, Unanswered> {
+    let text = format!(in alloc; "{BEFORE}{call}\n)")?;
+    match read(alloc, 0, &text) {
+        Ok(defs) => match call_in(&defs) {
+            Some((name, args)) => call_of(alloc, lowered, name, args),
+            None => Err(wrong(String::from_str(alloc, "this is no call of a term, as (f 1 2)"))),
+        },
+        Err(ReadFault::Text(error)) => Err(unread(alloc, call, &error)),
+        Err(ReadFault::Memory(_)) => Err(Unanswered::Memory),
+    }
+}
+
 /// The outcome of a call, as `(f 1 (T.A 2))`, in words: the tree of its term is run by echoes.
 ///
 /// # Errors
 ///
 /// What is wrong with the call, or that memory was refused.
 pub fn answer_to_call(alloc: Global, lowered: &Lowered, call: &str) -> Result<String, Unanswered> {
-    let text = format!(in alloc; "{BEFORE}{call}\n)")?;
-    match read(alloc, 0, &text) {
-        Ok(defs) => match call_in(&defs) {
-            Some((name, args)) => answer_to_read(alloc, lowered, name, args),
-            None => Err(wrong(String::from_str(alloc, "this is no call of a term, as (f 1 2)"))),
-        },
-        Err(ReadFault::Text(error)) => Err(unread(alloc, call, &error)),
-        Err(ReadFault::Memory(_)) => Err(Unanswered::Memory),
-    }
+    let called = read_call(alloc, lowered, call)?;
+    let multi = is_multi(&lowered.termenv, called.entry.id);
+    let outcome = outcome_of(alloc, lowered, called.entry, multi, &called.args)?;
+    Ok(outcome_text(alloc, lowered, multi, &outcome)?)
 }
 
 // That a call can't be read.
@@ -63,23 +88,21 @@ fn call_in(defs: &[Def]) -> Option<(&Ident, &[Expr])> {
     }
 }
 
-// The outcome of a call that was read.
-fn answer_to_read(
+// What a term of this name is called on.
+fn call_of<'a>(
     alloc: Global,
-    lowered: &Lowered,
+    lowered: &'a Lowered,
     name: &Ident,
     args: &[Expr],
-) -> Result<String, Unanswered> {
+) -> Result<ReadCall<'a>, Unanswered> {
     let Some(term) = term_of(lowered, name) else {
         return Err(wrong(format!(in alloc; "no term is called `{}`", name.0)));
     };
     let Some(entry) = lowered_term(lowered, term.id) else {
         return Err(wrong(format!(in alloc; "`{}` has no rules", name.0)));
     };
-    let values = values_of(alloc, lowered, term, args)?;
-    let multi = is_multi(&lowered.termenv, term.id);
-    let outcome = outcome_of(alloc, lowered, entry, multi, &values)?;
-    Ok(outcome_text(alloc, lowered, multi, &outcome)?)
+    let args = values_of(alloc, lowered, term, args)?;
+    Ok(ReadCall { entry, args })
 }
 
 /// The outcome of a term's tree on values, by echoes. `entry` is the term's in `lowered`, and `multi` says whether it is multi.

@@ -4,8 +4,12 @@ use cranelift_isle::lower::{Lowered, lower};
 use cranelift_isle::syntax::{Def, Fault};
 use isle_answers::answers::Answer;
 use isle_answers::texts::{Asked, Wanted, answer_to_text};
-use isle_calls::calls::answer_to_call;
+use isle_calls::calls::{ReadCall, outcome_of, read_call};
+use isle_calls::echo::Echo;
+use isle_calls::outcomes::outcome_text;
 use isle_calls::values::Unanswered;
+use isle_choose::choose::choose;
+use isle_reading::premises::is_multi;
 use isle_reading::texts::{Places, error_lines};
 use isle_text::read;
 use std::alloc::{AllocError, Global};
@@ -67,9 +71,47 @@ fn push_outcome(
     lowered: &Lowered,
     call: &str,
 ) -> Result<(), AllocError> {
-    match answer_to_call(alloc, lowered, call) {
-        Ok(outcome) => write!(out, "{outcome}\n"),
+    match read_call(alloc, lowered, call) {
+        Ok(called) => push_run(alloc, out, lowered, &called),
         Err(Unanswered::Call(why)) => write!(out, "error: {why}\n"),
         Err(Unanswered::Memory) => Err(AllocError),
     }
+}
+
+// Adds what the tree comes to; and what the source rules of a term that isn't multi do, where that differs.
+fn push_run(
+    alloc: Global,
+    out: &mut String,
+    lowered: &Lowered,
+    called: &ReadCall<'_>,
+) -> Result<(), AllocError> {
+    let multi = is_multi(&lowered.termenv, called.entry.id);
+    let outcome = outcome_of(alloc, lowered, called.entry, multi, &called.args)?;
+    let told = outcome_text(alloc, lowered, multi, &outcome)?;
+    out.push_str(&told)?;
+    if !multi {
+        let chosen = chosen(alloc, lowered, called)?;
+        if chosen.as_str() != told.as_str() {
+            write!(out, "; by the source rules {chosen}")?;
+        }
+    }
+    out.push('\n')
+}
+
+// What a call of a term that isn't multi comes to by the source rules, in words.
+fn chosen(alloc: Global, lowered: &Lowered, called: &ReadCall<'_>) -> Result<String, AllocError> {
+    let env = &lowered.termenv;
+    let echo = Echo {
+        tyenv: &lowered.tyenv,
+        terms: &env.terms,
+    };
+    let outcome = choose(
+        alloc,
+        &echo,
+        &env.terms,
+        &env.rules,
+        called.entry.id,
+        &called.args,
+    )?;
+    outcome_text(alloc, lowered, false, &outcome)
 }

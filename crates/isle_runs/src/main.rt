@@ -1,5 +1,5 @@
 //! Reads definitions, a line `--` and calls of terms, one a line, on standard input, and prints the outcome of each, where
-//! what is called answers as an echo does.
+//! what is called answers as an echo does: that of the term's tree, and what the source rules come to where it differs.
 #![tactic(auto)]
 
 mod lines;
