@@ -1,12 +1,12 @@
 //! The calls that are made of a term.
 
-use crate::chance::Chance;
 use crate::fitting::why_left_out;
 use crate::sized::has_endless;
 use crate::trial::Trial;
 use crate::values::Makings;
 use cranelift_isle::lower::LoweredTerm;
 use cranelift_isle::sema::TypeId;
+use isle_lists::chance::Chance;
 use isle_run::values::Value;
 use std::alloc::{AllocError, Global};
 

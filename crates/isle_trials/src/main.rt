@@ -6,11 +6,9 @@
 
 mod answers;
 mod calls;
-mod chance;
 mod context;
 mod fitting;
 mod given;
-mod lists;
 mod outcomes;
 mod rust_names;
 mod shown;

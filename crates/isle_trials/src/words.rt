@@ -1,6 +1,5 @@
 //! What the program's words ask for, and what is answered.
 
-use crate::lists::list;
 use crate::outcomes::outcomes;
 use crate::source::source;
 use crate::trial::{Trial, trials};
@@ -9,6 +8,7 @@ use cranelift_isle::syntax::{Def, Error, Fault, Files};
 use isle_answers::answers::Answer;
 use isle_answers::samples::sample_text;
 use isle_judge::generated;
+use isle_lists::lists::list;
 use isle_reading::texts::{Places, error_lines};
 use isle_rust::code::CodeError;
 use isle_text::errors::{ReadFault, TextError};
