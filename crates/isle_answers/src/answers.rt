@@ -17,7 +17,7 @@ use std::io::Write;
 /// What is to be written: the text of trees, or lines of errors.
 #[derive(Drop)]
 pub enum Answer {
-    /// The trees of accepted definitions.
+    /// The trees of accepted definitions, or whatever else a program gives of them.
     Trees(String),
     /// What is wrong, one error a line.
     Errors(String),

@@ -40,7 +40,7 @@ pub enum Wanted {
 pub fn answer_to_text(alloc: Global, text: &str, asked: Asked) -> Result<Answer, AllocError> {
     match read(alloc, 0, text) {
         Ok(defs) => answer_to_defs(alloc, text, &defs, asked),
-        Err(ReadFault::Text(error)) => Ok(Answer::Errors(error_line(alloc, text, error)?)),
+        Err(ReadFault::Text(error)) => Ok(Answer::Errors(syntax_error_line(alloc, text, &error)?)),
         Err(ReadFault::Memory(error)) => Err(error),
     }
 }
@@ -72,8 +72,16 @@ fn places<'a>(text: &'a str, defs: &'a [Def], asked: Asked) -> Places<'a> {
     }
 }
 
-// The line for what keeps a text from being read.
-fn error_line(alloc: Global, text: &str, error: TextError) -> Result<String, AllocError> {
+/// The line for what keeps a text from being read, as `syntax error at 1:7: expected a name`, with its line end.
+///
+/// # Errors
+///
+/// Where memory is refused.
+pub fn syntax_error_line(
+    alloc: Global,
+    text: &str,
+    error: &TextError,
+) -> Result<String, AllocError> {
     let mut line = String::from_str(alloc, "syntax error at ")?;
     Places::Lines(text).push(&mut line, error.pos)?;
     write!(line, ": {error}")?;

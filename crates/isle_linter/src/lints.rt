@@ -5,6 +5,7 @@ use cranelift_isle::sema::{RuleId, TermEnv, TypeEnv};
 use cranelift_isle::serialize::ControlFlow;
 use cranelift_isle::syntax::{Def, Error, Fault, Pos};
 use isle_answers::answers::Answer;
+use isle_answers::texts::syntax_error_line;
 use isle_reading::environments::environments_of;
 use isle_reading::names::rule_name;
 use isle_reading::positions::{rules_at, rules_named};
@@ -47,11 +48,7 @@ pub fn answer(alloc: Global, texts: &str) -> Result<Answer, AllocError> {
 fn push_lints(alloc: Global, out: &mut String, text: &str) -> Result<(), AllocError> {
     match read(alloc, 0, text) {
         Ok(defs) => push_defs(alloc, out, &defs, text),
-        Err(ReadFault::Text(error)) => {
-            out.push_str("syntax error at ")?;
-            Places::Lines(text).push(out, error.pos)?;
-            write!(out, ": {error}\n")
-        }
+        Err(ReadFault::Text(error)) => out.push_str(&syntax_error_line(alloc, text, &error)?),
         Err(ReadFault::Memory(error)) => Err(error),
     }
 }

@@ -1,11 +1,12 @@
 -- The entry of a term, the rules at a position, and the rule behind a return.
-use Rattle.std.specs.Prelude.{ℕ, Bool, ◌==◌, ◌&&◌, List, [], ◌∷◌, ◌++◌, map, Option}
+use Rattle.std.specs.Prelude.{ℕ, Bool, ◌==◌, ◌&&◌, List, [], ◌∷◌, ◌++◌, map, Option, None}
 use Rattle.std.specs.List.{filter, find, flat_map}
 use Rattle.isle_model.specs.claims.Layers.{LoweredTerm}
 use Rattle.isle_model.specs.claims.Refusals.{Refusal, ill_typed, unreachable, overlapping, shadowing, past_limit}
 use Rattle.isle_model.specs.lists.Syntax.{Position}
 use Rattle.isle_model.specs.rules.Typed.{TypedRule}
 use Rattle.isle_model.specs.sites.Sites.{SetRule}
+use Rattle.isle_model.specs.trees.Trees.{Check, return_at}
 
 -- whether two positions are one
 abbrev pub is_at : Position → Position → Bool
@@ -18,6 +19,11 @@ entry_of term terms = find (λ t. t.term == term) terms
 -- whether a return of this position and result may be this rule's
 abbrev pub is_behind : Position → ℕ → SetRule → Bool
 is_behind at result rule = is_at at rule.at && (rule.result == result)
+
+-- the rule that a step takes, if it is a return
+abbrev pub rule_returned : List SetRule → Check → Option SetRule
+rule_returned rules (return_at at result) = find (is_behind at result) rules
+rule_returned rules _ = None
 
 -- the positions that an error names, in the order of its text; a mask comes last
 abbrev pub positions_of : Refusal → List Position

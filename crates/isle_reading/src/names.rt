@@ -65,7 +65,8 @@ pub fn full_variant_name(tyenv: &TypeEnv, ty: TypeId, variant: VariantId) -> Opt
     }
 }
 
-/// The name of a rule, or None where it has none, or the id is no rule's.
+/// The name of a rule, or None where it has none, or the id is no rule's. A rule without a name that is the only one of its
+/// term has the term's.
 pub fn rule_name<'a>(tyenv: &'a TypeEnv, termenv: &TermEnv, id: RuleId) -> Option<&'a str>
     ensures { option_map (λ s. s.now) result ≡ name_of_rule (names_of tyenv.now) (rule_views termenv.now.rules.items) id.0 }
 {

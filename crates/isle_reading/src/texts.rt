@@ -1,5 +1,6 @@
 //! Texts of sites, constraints and steps, as the printed tree has them.
 
+use crate::walk::Turn;
 use cranelift_isle::lower::Lowered;
 use cranelift_isle::sema::{TermEnv, TypeEnv};
 use cranelift_isle::serialize::{Block, ControlFlow, EvalStep, MatchArm};
@@ -63,6 +64,29 @@ pub fn constraint_text(
     print_block(&mut lines, names, 0, &block)?;
     let line = after(alloc, lines.as_str(), "match b0\n  ")?;
     before(alloc, line.as_str(), ":")
+}
+
+/// A test on the way to a step, as `b0 is variant T.A`, `b0 and b1 are equal` or `b4 is one of several`.
+///
+/// # Errors
+///
+/// Where memory is refused.
+pub fn turn_text(alloc: Global, names: Names<'_>, turn: &Turn) -> Result<String, AllocError> {
+    match turn {
+        Turn::Arm { source, constraint } => {
+            let site = source.index();
+            let asked = constraint_text(alloc, names, *constraint)?;
+            format!(in alloc; "b{site} is {asked}")
+        }
+        Turn::Equal { a, b } => {
+            let (a, b) = (a.index(), b.index());
+            format!(in alloc; "b{a} and b{b} are equal")
+        }
+        Turn::Loop { result } => {
+            let site = result.index();
+            format!(in alloc; "b{site} is one of several")
+        }
+    }
 }
 
 /// The lines of a step without what is inside it: the sites that it binds, where there are any, and its test or end. The arms

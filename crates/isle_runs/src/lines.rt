@@ -3,7 +3,7 @@
 use cranelift_isle::lower::{Lowered, lower};
 use cranelift_isle::syntax::{Def, Fault};
 use isle_answers::answers::Answer;
-use isle_answers::texts::{Asked, Wanted, answer_to_text};
+use isle_answers::texts::syntax_error_line;
 use isle_calls::calls::{ReadCall, outcome_of, read_call};
 use isle_calls::echo::Echo;
 use isle_calls::outcomes::outcome_text;
@@ -11,6 +11,7 @@ use isle_calls::values::Unanswered;
 use isle_choose::choose::choose;
 use isle_reading::premises::is_multi;
 use isle_reading::texts::{Places, error_lines};
+use isle_text::errors::ReadFault;
 use isle_text::read;
 use std::alloc::{AllocError, Global};
 
@@ -22,18 +23,9 @@ pub fn answer(alloc: Global, text: &str) -> Result<Answer, AllocError> {
     };
     match read(alloc, 0, rules) {
         Ok(defs) => answer_to_defs(alloc, &defs, rules, calls),
-        Err(_) => unread(alloc, rules),
+        Err(ReadFault::Text(error)) => Ok(Answer::Errors(syntax_error_line(alloc, rules, &error)?)),
+        Err(ReadFault::Memory(error)) => Err(error),
     }
-}
-
-// The line for what keeps definitions from being read.
-fn unread(alloc: Global, rules: &str) -> Result<Answer, AllocError> {
-    let asked = Asked {
-        expand: true,
-        lines: true,
-        wanted: Wanted::Trees,
-    };
-    answer_to_text(alloc, rules, asked)
 }
 
 // The outcomes of calls by definitions, or one line for each error of these.

@@ -3,9 +3,10 @@
 use cranelift_isle::lower::{Lowered, lower};
 use cranelift_isle::syntax::{Def, Fault, Files};
 use isle_answers::answers::Answer;
-use isle_answers::texts::{Asked, Wanted, answer_to_text};
+use isle_answers::texts::syntax_error_line;
 use isle_reading::texts::{Places, error_lines};
 use isle_rust::code::{CodeError, rust_code};
+use isle_text::errors::ReadFault;
 use isle_text::read;
 use std::alloc::{AllocError, Global};
 
@@ -13,18 +14,9 @@ use std::alloc::{AllocError, Global};
 pub fn answer(alloc: Global, text: String) -> Result<Answer, AllocError> {
     match read(alloc, 0, &text) {
         Ok(defs) => answer_to_defs(alloc, text, &defs),
-        Err(_) => unread(alloc, &text),
+        Err(ReadFault::Text(error)) => Ok(Answer::Errors(syntax_error_line(alloc, &text, &error)?)),
+        Err(ReadFault::Memory(error)) => Err(error),
     }
-}
-
-// The line for what keeps a text from being read.
-fn unread(alloc: Global, text: &str) -> Result<Answer, AllocError> {
-    let asked = Asked {
-        expand: true,
-        lines: true,
-        wanted: Wanted::Trees,
-    };
-    answer_to_text(alloc, text, asked)
 }
 
 // The code of definitions, or one line for each error.

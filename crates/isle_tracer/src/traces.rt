@@ -2,15 +2,15 @@
 
 use cranelift_isle::lower::{Lowered, LoweredTerm, lower};
 use cranelift_isle::sema::RuleId;
-use cranelift_isle::serialize::ControlFlow;
-use cranelift_isle::syntax::{Def, Fault, Pos};
-use cranelift_isle::trie_again::BindingId;
+use cranelift_isle::syntax::{Def, Fault};
+use cranelift_isle::trie_again::Rule;
 use isle_answers::answers::Answer;
-use isle_answers::texts::{Asked, Wanted, answer_to_text};
+use isle_answers::texts::syntax_error_line;
 use isle_reading::names::{rule_name, term_name};
-use isle_reading::rules::rule_behind;
-use isle_reading::texts::{Names, Places, constraint_text, error_lines, names_of};
+use isle_reading::rules::rule_returned;
+use isle_reading::texts::{Names, Places, error_lines, names_of, turn_text};
 use isle_reading::walk::{Turn, steps};
+use isle_text::errors::ReadFault;
 use isle_text::read;
 use std::alloc::{AllocError, Global};
 
@@ -18,18 +18,9 @@ use std::alloc::{AllocError, Global};
 pub fn answer(alloc: Global, text: &str) -> Result<Answer, AllocError> {
     match read(alloc, 0, text) {
         Ok(defs) => answer_to_defs(alloc, text, &defs),
-        Err(_) => unread(alloc, text),
+        Err(ReadFault::Text(error)) => Ok(Answer::Errors(syntax_error_line(alloc, text, &error)?)),
+        Err(ReadFault::Memory(error)) => Err(error),
     }
-}
-
-// The line for what keeps a text from being read.
-fn unread(alloc: Global, text: &str) -> Result<Answer, AllocError> {
-    let asked = Asked {
-        expand: true,
-        lines: true,
-        wanted: Wanted::Trees,
-    };
-    answer_to_text(alloc, text, asked)
 }
 
 // The traces of definitions, or one line for each error.
@@ -63,29 +54,20 @@ fn push_term(
     out.push_str(or_nameless(term_name(&lowered.tyenv, &lowered.termenv, term.id)))?;
     out.push('\n')?;
     for visit in &steps(alloc, &term.block)? {
-        if let ControlFlow::Return { pos, result } = &visit.step.check {
-            push_rule(out, lowered, term, *pos, *result)?;
-            places.push(out, *pos)?;
+        if let Some(rule) = rule_returned(&term.rules, visit.step) {
+            push_rule(out, lowered, rule)?;
+            places.push(out, rule.pos)?;
             push_path(alloc, out, names_of(lowered), &visit.path)?;
         }
     }
     Ok(())
 }
 
-// Adds the rule of a return.
-fn push_rule(
-    out: &mut String,
-    lowered: &Lowered,
-    term: &LoweredTerm,
-    pos: Pos,
-    site: BindingId,
-) -> Result<(), AllocError> {
-    let number = site.index();
-    out.push_str("  rule ")?;
-    if let Some(rule) = rule_behind(&term.rules, pos, site) {
-        out.push_str(name_of(lowered, rule.id))?;
-    }
-    write!(out, " returns b{number}, at ")
+// Adds a rule with its result's site.
+fn push_rule(out: &mut String, lowered: &Lowered, rule: &Rule) -> Result<(), AllocError> {
+    let name = name_of(lowered, rule.id);
+    let number = rule.result.index();
+    write!(out, "  rule {name} returns b{number}, at ")
 }
 
 // The name of a rule.
@@ -110,35 +92,7 @@ fn push_path(
 ) -> Result<(), AllocError> {
     for (i, turn) in path.iter().enumerate() {
         out.push_str(if i == 0 { ", where " } else { " and " })?;
-        push_turn(alloc, out, names, turn)?;
+        out.push_str(&turn_text(alloc, names, turn)?)?;
     }
     out.push('\n')
-}
-
-// Adds a test.
-fn push_turn(
-    alloc: Global,
-    out: &mut String,
-    names: Names<'_>,
-    turn: &Turn,
-) -> Result<(), AllocError> {
-    match turn {
-        Turn::Arm { source, constraint } => {
-            let text = constraint_text(alloc, names, *constraint)?;
-            push_sites(out, &[*source], " is ")?;
-            out.push_str(&text)
-        }
-        Turn::Equal { a, b } => push_sites(out, &[*a, *b], " are equal"),
-        Turn::Loop { result } => push_sites(out, &[*result], " is one of several"),
-    }
-}
-
-// Adds sites with a word between them, and a text.
-fn push_sites(out: &mut String, sites: &[BindingId], text: &str) -> Result<(), AllocError> {
-    for (i, site) in sites.iter().enumerate() {
-        let before = if i == 0 { "b" } else { " and b" };
-        let number = site.index();
-        write!(out, "{before}{number}")?;
-    }
-    out.push_str(text)
 }

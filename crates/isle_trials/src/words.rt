@@ -7,11 +7,12 @@ use cranelift_isle::lower::lower;
 use cranelift_isle::syntax::{Def, Error, Fault, Files};
 use isle_answers::answers::Answer;
 use isle_answers::samples::sample_text;
+use isle_answers::texts::syntax_error_line;
 use isle_judge::generated;
 use isle_lists::lists::list;
 use isle_reading::texts::{Places, error_lines};
 use isle_rust::code::CodeError;
-use isle_text::errors::{ReadFault, TextError};
+use isle_text::errors::ReadFault;
 use isle_text::read;
 use std::alloc::{AllocError, Global};
 
@@ -114,7 +115,7 @@ pub fn answer(alloc: Global, text: &str, wanted: Trials) -> Result<Answer, Alloc
             Err(Fault::Errors(errors)) => wrong(alloc, text, &errors),
             Err(Fault::Memory(error)) => Err(error),
         },
-        Err(ReadFault::Text(error)) => unread(alloc, &error),
+        Err(ReadFault::Text(error)) => Ok(Answer::Errors(syntax_error_line(alloc, text, &error)?)),
         Err(ReadFault::Memory(error)) => Err(error),
     }
 }
@@ -123,12 +124,6 @@ pub fn answer(alloc: Global, text: &str, wanted: Trials) -> Result<Answer, Alloc
 fn wrong(alloc: Global, text: &str, errors: &[Error]) -> Result<Answer, AllocError> {
     let lines = error_lines(alloc, errors, Places::Lines(text))?;
     Ok(Answer::Errors(lines))
-}
-
-// What keeps definitions from being read.
-fn unread(alloc: Global, error: &TextError) -> Result<Answer, AllocError> {
-    let line = format!(in alloc; "syntax error: {error}\n")?;
-    Ok(Answer::Errors(line))
 }
 
 // Trials of definitions.
