@@ -1,6 +1,7 @@
 -- Runs of sound trees in terms that are not multi.
 pub mod Added
 pub mod Arms
+pub mod AvailableSites
 pub mod Below
 pub mod BindOrders
 pub mod Binding
@@ -14,12 +15,13 @@ pub mod Demanded
 pub mod FieldSites
 pub mod Fields
 pub mod Finding
-pub mod Here
 pub mod HoldsOnce
 pub mod Left
 pub mod Listing
 pub mod Loops
 pub mod Order
+pub mod Places
+pub mod PureBindings
 pub mod Standing
 pub mod Steps
 pub mod Taken

@@ -71,6 +71,14 @@ module _ (sites : List Site) (before : SourcesBefore sites) where
             below_source sites n s r.0 t r.1 (below_deeper n r.0 u t (omega (arith, l, m)) r.2 k)
       ]
 
+  -- so are the sources of what is below these
+  pub all_below_source : (ss : List ℕ) (s x : ℕ) → Contains (all_below sites ss) s → Contains (sources_at sites s) x → Contains (all_below sites ss) x
+  all_below_source ss s x c k =
+      let a = from_flat_map (λ y. below (suc y) sites y) ss s c in
+      let l = before s x k in
+      in_flat_map (λ y. below (suc y) sites y) ss a.0 x a.1
+      (below_deeper (suc a.0) a.0 s x (omega arith) a.2 (below_source sites s s x x k (subst (λ xs. Contains xs x) (sym (below_enough s x l)) (below_itself sites x))))
+
   -- so all that is below pure sites has only pure ones below it
   pub pure_deeper : (ss : List ℕ) → ((u : ℕ) → Contains (all_below sites ss) u → IsPureAt sites u) → (s : ℕ) → Contains (all_below sites ss) s → IsPureBelow sites s
   pure_deeper ss pure s c u k =

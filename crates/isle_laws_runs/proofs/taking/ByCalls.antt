@@ -30,7 +30,7 @@ use Rattle.isle_laws_runs.proofs.taking.Settled.{values_there, sources_there}
 use Rattle.isle_laws_runs.proofs.taking.Used.{used_placed, placed_same, content_placed, bound_elsewhere, used_here, used_stays}
 use Rattle.isle_laws_runs.proofs.taking.PureSites.{calls_nothing, pure_site}
 use Rattle.isle_model.proofs.FewElements.{in_one}
-use Rattle.isle_laws_runs.proofs.runs.Here.{IsHere, stays_here, last_here, here_or_last, listed_last, met_here, not_here}
+use Rattle.isle_laws_runs.proofs.runs.Listing.{IsHere, stays_here, last_here, here_or_last, listed_last, met_here, not_here}
 
 -- 1. what is bound of a site that makes no impure call and waits for nothing is its content
 module _ (w : World) (k : Pick) (before : SourcesBefore w.sites) (e : Env) (calls : List Call) where

@@ -20,7 +20,7 @@ use Rattle.isle_laws_runs.proofs.runs.Contents.{SourcesBefore, sources_in, conte
 use Rattle.isle_laws_runs.proofs.runs.Listing.{sources_within}
 use Rattle.isle_laws_runs.proofs.taking.Settled.{settled, critical, settled_content, settled_pure, settled_source, emitted_settled, stock, critical_below, critical_order}
 use Rattle.isle_laws_runs.proofs.taking.Used.{used_placed, placed_same, content_placed, bound_elsewhere, used_here, used_elsewhere, used_stays, AreAlike, bind_alike, alike_bound, AreAlikeBy, then_alike, WithOneContent}
-use Rattle.isle_laws_runs.proofs.runs.Here.{IsHere, stays_here, last_here, here_or_last, listed_last, met_here, not_here}
+use Rattle.isle_laws_runs.proofs.runs.Listing.{IsHere, stays_here, last_here, here_or_last, listed_last, met_here, not_here}
 
 -- an unwrap of what has a part is bound to it
 just_there : (o : Option Content) (c : Content) → then_option o part_of_some ≡ Some c → o ≡ Some (just c)
@@ -46,7 +46,7 @@ module _ (w : World) (before : SourcesBefore w.sites) where
     settled_binds o at (inl n) p sources =
         let c = settled_content w before s h in
         let kept : (a : ℕ) → Contains (sources_in o) a → Settled a = λ a k. settled_source w before s a h (subst (λ x. Contains (sources_in x) a) (sym at) k) in
-        let now = binds_now w [] before start Settled held calls s o c.0 at n (settled_pure w before s h) p kept c.1 in
+        let now = binds_now w [] before start Settled held calls s o c.0 at n (settled_pure w before s h) kept c.1 in
         alike_bound w e start calls s (bind_site w e calls s o) c.0
         (subst (AreAlike s e start (bind_site w e calls s o)) now
         (bind_alike w e start calls s o (λ a k. sources a k ∙ sym (reads w [] before start Settled held a (kept a k))) p))
