@@ -1,26 +1,27 @@
 -- Taking a rule comes to one outcome from every place that a run reaches: only critical sites are bound anew, the same ones in
 -- the same order, and each of them alike.
-use Rattle.std.proofs.Common.{◌≡◌, ◌⊎◌, ℕ, zero, suc, ◌<◌, true, false, not, ◌||◌, cond, List, [], ◌∷◌, ◌++◌, Option, Some, None, slice_get, Contains, IsTrue, filter, flat_map, refl, sym, ap, ◌∙◌, subst, inl, inr, arith}
-use Rattle.std.proofs.lemmas.Bool.{cases_Bool, cases_eq, cond-true, cond-false, or_cases, or_parts, false≢true}
+use Rattle.std.proofs.Common.{◌≡◌, ◌⊎◌, ℕ, suc, true, false, not, ◌||◌, cond, List, [], ◌∷◌, ◌++◌, Option, Some, None, slice_get, Contains, IsTrue, filter, refl, sym, ap, ◌∙◌, subst, inl, inr}
+use Rattle.std.proofs.lemmas.Bool.{cases_Bool, cases_eq, or_parts, false≢true}
 use Rattle.std.proofs.lemmas.Option.{none-some, same_Some}
-use Rattle.std.proofs.lemmas.List.Elements.{Contains-append_left, Contains-append_right, Contains-append_cases, filter-append}
+use Rattle.std.proofs.lemmas.List.Elements.{Contains-append_left, Contains-append_right, filter-append}
 use Rattle.isle_model.specs.rules.Meaning.{Content, one, parts, nothing, just, many}
 use Rattle.isle_model.specs.rules.Outcome.{Call, Outcome, then_option}
 use Rattle.isle_model.specs.rules.Picks.{part_of_some}
 use Rattle.isle_model.specs.sites.Sites.{Site, match_some_site, SetRule, sources_at}
-use Rattle.isle_model.specs.trees.Places.{Around, is_in, waits, is_in_place, below, all_below, each_after, listed_below, return_uses}
+use Rattle.isle_model.specs.trees.Places.{is_in, waits, is_in_place, all_below, each_after, listed_below, return_uses}
 use Rattle.isle_model.specs.trees.Trees.{no_step, return_at}
 use Rattle.isle_model.specs.trees.Run.{World, Env, bound_to, used, Bound, all_bound, unwrap_failed, no_content_there, unwrapped, bind_site, then_bind, bind_all, at_start, on_bound, or_next, with_content, returned, run_tree, run_check}
 use Rattle.isle_model.specs.trees.Collects.{content_at}
-use Rattle.isle_model.specs.trees.SetRuns.{IsUnwrap, IsReached, IsTaken, TakenOnce}
-use Rattle.isle_model.proofs.Members.{nothing_in, in_head, in_tail, in_cases, in_alone, in_flat_map, member_found, member_is_in}
+use Rattle.isle_model.specs.trees.SetRuns.{IsUnwrap, IsTaken, TakenOnce}
+use Rattle.isle_model.proofs.Members.{nothing_in, in_head}
 use Rattle.isle_laws_runs.proofs.runs.BindOrders.{to_bind, bind_append}
-use Rattle.isle_laws_runs.proofs.runs.Binding.{Held, reads, binds_now}
+use Rattle.isle_laws_runs.proofs.runs.Binding.{reads, binds_now}
 use Rattle.isle_laws_runs.proofs.runs.Contents.{SourcesBefore, sources_in, content_layer}
-use Rattle.isle_laws_runs.proofs.runs.Listing.{sources_within}
-use Rattle.isle_laws_runs.proofs.taking.Settled.{settled, critical, settled_content, settled_pure, settled_source, emitted_settled, stock, critical_below, critical_order}
+use Rattle.isle_laws_runs.proofs.runs.Below.{all_below_itself, all_below_source}
+use Rattle.isle_laws_runs.proofs.taking.Settled.{settled, critical, Stock, settled_content, settled_pure, settled_source, emitted_settled, stock, critical_below, critical_order}
+use Rattle.isle_laws_runs.proofs.taking.Taking.{ReachedPlace}
 use Rattle.isle_laws_runs.proofs.taking.Used.{used_placed, placed_same, content_placed, bound_elsewhere, used_here, used_elsewhere, used_stays, AreAlike, bind_alike, alike_bound, AreAlikeBy, then_alike, WithOneContent}
-use Rattle.isle_laws_runs.proofs.runs.Listing.{IsHere, stays_here, last_here, here_or_last, listed_last, met_here, not_here}
+use Rattle.isle_laws_runs.proofs.runs.Listing.{IsHere, stays_here, last_here, here_or_last, listed_last, not_here, NextSite, AreClosed, closed_next, Walk, Walked, order_listed}
 
 -- an unwrap of what has a part is bound to it
 just_there : (o : Option Content) (c : Content) → then_option o part_of_some ≡ Some c → o ≡ Some (just c)
@@ -40,31 +41,30 @@ module _ (w : World) (before : SourcesBefore w.sites) where
   Settled t = settled w t ≡ true
 
   -- 1. a settled site that doesn't wait is bound to its content
-  module _ (start : Env) (held : Held w [] start Settled) (e : Env) (calls : List Call) (s : ℕ) (h : Settled s) where
-    settled_binds : (o : Option Site) → slice_get w.sites s ≡ o → (waits o ≡ false) ⊎ IsUnwrap o → is_in_place o ≡ false → ((a : ℕ) → Contains (sources_in o) a → used w e a ≡ content_at w [] a)
-        → bind_site w e calls s o ≡ all_bound ((s, (settled_content w before s h).0) ∷ e) calls
-    settled_binds o at (inl n) p sources =
-        let c = settled_content w before s h in
-        let kept : (a : ℕ) → Contains (sources_in o) a → Settled a = λ a k. settled_source w before s a h (subst (λ x. Contains (sources_in x) a) (sym at) k) in
-        let now = binds_now w [] before start Settled held calls s o c.0 at n (settled_pure w before s h) kept c.1 in
-        alike_bound w e start calls s (bind_site w e calls s o) c.0
-        (subst (AreAlike s e start (bind_site w e calls s o)) now
-        (bind_alike w e start calls s o (λ a k. sources a k ∙ sym (reads w [] before start Settled held a (kept a k))) p))
-    settled_binds (Some (match_some_site source)) at (inr u) p sources =
-        let c = settled_content w before s h in
-        let j = just_there (content_at w [] source) c.0 (sym (content_layer w [] before s (match_some_site source) at) ∙ c.1) in
-        ap (unwrapped e calls s) (sources source (in_head source []) ∙ j)
-    settled_binds _ at (inr u) p sources = absurd u
+  settled_binds : (stock : Stock w) (e : Env) (calls : List Call) (s : ℕ) (h : settled w s ≡ true) (o : Option Site) → slice_get w.sites s ≡ o → (waits o ≡ false) ⊎ IsUnwrap o → is_in_place o ≡ false → ((a : ℕ) → Contains (sources_in o) a → used w e a ≡ content_at w [] a)
+      → bind_site w e calls s o ≡ all_bound ((s, (settled_content w before s h).0) ∷ e) calls
+  settled_binds stock e calls s h o at (inl n) p sources =
+      let c = settled_content w before s h in
+      let kept : (a : ℕ) → Contains (sources_in o) a → Settled a = λ a k. settled_source w before s a h (subst (λ x. Contains (sources_in x) a) (sym at) k) in
+      let now = binds_now w [] before stock.env Settled stock.held calls s o c.0 at n (settled_pure w before s h) kept c.1 in
+      alike_bound w e stock.env calls s (bind_site w e calls s o) c.0
+      (subst (AreAlike s e stock.env (bind_site w e calls s o)) now
+      (bind_alike w e stock.env calls s o (λ a k. sources a k ∙ sym (reads w [] before stock.env Settled stock.held a (kept a k))) p))
+  settled_binds stock e calls s h (Some (match_some_site source)) at (inr u) p sources =
+      let c = settled_content w before s h in
+      let j = just_there (content_at w [] source) c.0 (sym (content_layer w [] before s (match_some_site source) at) ∙ c.1) in
+      ap (unwrapped e calls s) (sources source (in_head source []) ∙ j)
+  settled_binds stock e calls s h _ at (inr u) p sources = absurd u
 
-  module _ (start : Env) (held : Held w [] start Settled) (ar : Around) (env : Env) (reached : IsReached w ar env) where
+  module _ (stock : Stock w) (place : ReachedPlace w []) where
     abbrev Emitted : ℕ → Type 0
-    Emitted t = is_in t ar.emitted ≡ true
+    Emitted t = is_in t place.around.emitted ≡ true
 
     abbrev In : List ℕ → ℕ → Type 0
     In done t = IsHere Emitted done t
 
-    emitted_is : (t : ℕ) → is_in t ar.emitted ≡ true → Settled t
-    emitted_is t i = emitted_settled w before ar env reached t i
+    emitted_is : (t : ℕ) → is_in t place.around.emitted ≡ true → Settled t
+    emitted_is t i = emitted_settled w before place t i
 
     -- 2. two environments agree on what is emitted or listed: settled sites can be read, others are read alike; and they bind
     -- nothing else
@@ -87,97 +87,100 @@ module _ (w : World) (before : SourcesBefore w.sites) where
     Alike done b b' = AreAlikeBy (Agree done) b b'
 
     -- 3. one more site
-    module _ (done : List ℕ) (s : ℕ) (fresh : In done s → ⊥) (closed : (u a : ℕ) → Contains done u → Contains (sources_at w.sites u) a → In done a) (sources : (a : ℕ) → Contains (sources_at w.sites s) a → In done a) where
+    module _ (done : List ℕ) (n : NextSite w.sites place.around.emitted Emitted done) (closed : AreClosed w.sites Emitted done) where
       abbrev more : List ℕ
-      more = done ++ s ∷ []
+      more = done ++ n.site ∷ []
 
-      other : (t : ℕ) → In done t → s ≡ t → ⊥
+      fresh : In done n.site → ⊥
+      fresh = not_here place.around.emitted done n.site n.unlisted
+
+      other : (t : ℕ) → In done t → n.site ≡ t → ⊥
       other t i e = fresh (subst (In done) (sym e) i)
 
       module _ (e e' : Env) (a : Agree done e e') where
-        unbound_one : bound_to e s ≡ None
-        unbound_one = none_from (bound_to e s) (λ c b. fresh (a.only_one s c b))
+        unbound_one : bound_to e n.site ≡ None
+        unbound_one = none_from (bound_to e n.site) (λ c b. fresh (a.only_one n.site c b))
 
-        unbound_other : settled w s ≡ false → bound_to e' s ≡ None
-        unbound_other h = none_from (bound_to e' s) (λ c b. elim (a.only_other s c b) [ inl k ↦ absurd (false≢true (sym h ∙ k)) | inr k ↦ fresh (inr k) ])
+        unbound_other : settled w n.site ≡ false → bound_to e' n.site ≡ None
+        unbound_other h = none_from (bound_to e' n.site) (λ c b. elim (a.only_other n.site c b) [ inl k ↦ absurd (false≢true (sym h ∙ k)) | inr k ↦ fresh (inr k) ])
 
-        reads_sources : Settled s → (x : ℕ) → Contains (sources_at w.sites s) x → used w e x ≡ content_at w [] x
-        reads_sources h x k = a.reads_one x (sources x k) (settled_source w before s x h k)
+        reads_sources : Settled n.site → (x : ℕ) → Contains (sources_at w.sites n.site) x → used w e x ≡ content_at w [] x
+        reads_sources h x k = a.reads_one x (n.sources x k) (settled_source w before n.site x h k)
 
         -- nothing is bound, since it is written in place
-        placed_settled : Settled s → is_in_place (slice_get w.sites s) ≡ true → Agree more e e'
+        placed_settled : Settled n.site → is_in_place (slice_get w.sites n.site) ≡ true → Agree more e e'
         placed_settled h p = record {
-          reads_one = λ u i k. elim (here_or_last Emitted done s u i) [ inl d ↦ a.reads_one u d k | inr q ↦ subst (λ x. used w e x ≡ content_at w [] x) q here ];
+          reads_one = λ u i k. elim (here_or_last Emitted done n.site u i) [ inl d ↦ a.reads_one u d k | inr q ↦ subst (λ x. used w e x ≡ content_at w [] x) q here ];
           reads_other = a.reads_other;
-          same = λ u c k. elim (listed_last done s u c) [ inl d ↦ a.same u d k | inr q ↦ absurd (false≢true (sym k ∙ ap (settled w) (sym q) ∙ h)) ];
-          only_one = λ u c b. stays_here Emitted done s u (a.only_one u c b);
-          only_other = λ u c b. elim (a.only_other u c b) [ inl k ↦ inl k | inr d ↦ inr (Contains-append_left done (s ∷ []) u d) ];
+          same = λ u c k. elim (listed_last done n.site u c) [ inl d ↦ a.same u d k | inr q ↦ absurd (false≢true (sym k ∙ ap (settled w) (sym q) ∙ h)) ];
+          only_one = λ u c b. stays_here Emitted done n.site u (a.only_one u c b);
+          only_other = λ u c b. elim (a.only_other u c b) [ inl k ↦ inl k | inr d ↦ inr (Contains-append_left done (n.site ∷ []) u d) ];
         }
           where
-            here : used w e s ≡ content_at w [] s
+            here : used w e n.site ≡ content_at w [] n.site
             here =
-                used_placed w e s unbound_one
-                ∙ placed_same w (used w e) (content_at w []) (slice_get w.sites s) (reads_sources h)
-                ∙ sym (content_placed w [] before s (slice_get w.sites s) refl p)
+                used_placed w e n.site unbound_one
+                ∙ placed_same w (used w e) (content_at w []) (slice_get w.sites n.site) (reads_sources h)
+                ∙ sym (content_placed w [] before n.site (slice_get w.sites n.site) refl p)
 
-        placed_critical : settled w s ≡ false → Agree more e e'
+        placed_critical : settled w n.site ≡ false → Agree more e e'
         placed_critical h = record {
-          reads_one = λ u i k. elim (here_or_last Emitted done s u i) [ inl d ↦ a.reads_one u d k | inr q ↦ absurd (false≢true (sym h ∙ ap (settled w) q ∙ k)) ];
+          reads_one = λ u i k. elim (here_or_last Emitted done n.site u i) [ inl d ↦ a.reads_one u d k | inr q ↦ absurd (false≢true (sym h ∙ ap (settled w) q ∙ k)) ];
           reads_other = a.reads_other;
-          same = λ u c k. elim (listed_last done s u c) [ inl d ↦ a.same u d k | inr q ↦ subst (λ x. used w e x ≡ used w e' x) q here ];
-          only_one = λ u c b. stays_here Emitted done s u (a.only_one u c b);
-          only_other = λ u c b. elim (a.only_other u c b) [ inl k ↦ inl k | inr d ↦ inr (Contains-append_left done (s ∷ []) u d) ];
+          same = λ u c k. elim (listed_last done n.site u c) [ inl d ↦ a.same u d k | inr q ↦ subst (λ x. used w e x ≡ used w e' x) q here ];
+          only_one = λ u c b. stays_here Emitted done n.site u (a.only_one u c b);
+          only_other = λ u c b. elim (a.only_other u c b) [ inl k ↦ inl k | inr d ↦ inr (Contains-append_left done (n.site ∷ []) u d) ];
         }
           where
-            here : used w e s ≡ used w e' s
+            here : used w e n.site ≡ used w e' n.site
             here =
-                used_placed w e s unbound_one
-                ∙ placed_same w (used w e) (used w e') (slice_get w.sites s) (λ x k. agree_on done e e' a x (sources x k))
-                ∙ sym (used_placed w e' s (unbound_other h))
+                used_placed w e n.site unbound_one
+                ∙ placed_same w (used w e) (used w e') (slice_get w.sites n.site) (λ x k. agree_on done e e' a x (n.sources x k))
+                ∙ sym (used_placed w e' n.site (unbound_other h))
 
         -- what is bound leaves the others as they are
-        one_stays : (c : Content) (u : ℕ) → In done u → Settled u → used w ((s, c) ∷ e) u ≡ content_at w [] u
-        one_stays c u i k = (let x = settled_content w before u k in used_stays w e s u c x.0 (other u i) unbound_one (a.reads_one u i k ∙ x.1) ∙ sym x.1)
+        one_stays : (c : Content) (u : ℕ) → In done u → Settled u → used w ((n.site, c) ∷ e) u ≡ content_at w [] u
+        one_stays c u i k = (let x = settled_content w before u k in used_stays w e n.site u c x.0 (other u i) unbound_one (a.reads_one u i k ∙ x.1) ∙ sym x.1)
 
-        one_elsewhere : (c : Content) (u : ℕ) → Contains done u → used w ((s, c) ∷ e) u ≡ used w e u
-        one_elsewhere c u d = used_elsewhere w e s u c (other u (inr d)) (λ x k. other x (closed u x d k))
+        one_elsewhere : (c : Content) (u : ℕ) → Contains done u → used w ((n.site, c) ∷ e) u ≡ used w e u
+        one_elsewhere c u d = used_elsewhere w e n.site u c (other u (inr d)) (λ x k. other x (closed u x d k))
 
-        other_elsewhere : (c : Content) (u : ℕ) → Contains done u → used w ((s, c) ∷ e') u ≡ used w e' u
-        other_elsewhere c u d = used_elsewhere w e' s u c (other u (inr d)) (λ x k. other x (closed u x d k))
+        other_elsewhere : (c : Content) (u : ℕ) → Contains done u → used w ((n.site, c) ∷ e') u ≡ used w e' u
+        other_elsewhere c u d = used_elsewhere w e' n.site u c (other u (inr d)) (λ x k. other x (closed u x d k))
 
-        only_more : (c : Content) (u : ℕ) (x : Content) → bound_to ((s, c) ∷ e) u ≡ Some x → In more u
+        only_more : (c : Content) (u : ℕ) (x : Content) → bound_to ((n.site, c) ∷ e) u ≡ Some x → In more u
         only_more c u x b =
             elim (same_or_not u) [
-              | inl q ↦ last_here Emitted done s u q
-              | inr n ↦ stays_here Emitted done s u (a.only_one u x (sym (bound_elsewhere e s u c n) ∙ b))
+              | inl q ↦ last_here Emitted done n.site u q
+              | inr d ↦ stays_here Emitted done n.site u (a.only_one u x (sym (bound_elsewhere e n.site u c d) ∙ b))
             ]
           where
-            same_or_not : (u : ℕ) → (s ≡ u) ⊎ (s ≡ u → ⊥)
-            same_or_not u = cases_eq s u
+            same_or_not : (u : ℕ) → (n.site ≡ u) ⊎ (n.site ≡ u → ⊥)
+            same_or_not u = cases_eq n.site u
 
-        bound_settled : (h : Settled s) → Agree more ((s, (settled_content w before s h).0) ∷ e) e'
+        bound_settled : (h : Settled n.site) → Agree more ((n.site, (settled_content w before n.site h).0) ∷ e) e'
         bound_settled h =
-            let c = settled_content w before s h in
+            let c = settled_content w before n.site h in
             record {
-              reads_one = λ u i k. elim (here_or_last Emitted done s u i) [ inl d ↦ one_stays c.0 u d k | inr q ↦ subst (λ x. used w ((s, c.0) ∷ e) x ≡ content_at w [] x) q (used_here w e s c.0 ∙ sym c.1) ];
+              reads_one = λ u i k. elim (here_or_last Emitted done n.site u i) [ inl d ↦ one_stays c.0 u d k | inr q ↦ subst (λ x. used w ((n.site, c.0) ∷ e) x ≡ content_at w [] x) q (used_here w e n.site c.0 ∙ sym c.1) ];
               reads_other = a.reads_other;
-              same = λ u d k. elim (listed_last done s u d) [ inl l ↦ one_elsewhere c.0 u l ∙ a.same u l k | inr q ↦ absurd (false≢true (sym k ∙ ap (settled w) (sym q) ∙ h)) ];
+              same = λ u d k. elim (listed_last done n.site u d) [ inl l ↦ one_elsewhere c.0 u l ∙ a.same u l k | inr q ↦ absurd (false≢true (sym k ∙ ap (settled w) (sym q) ∙ h)) ];
               only_one = only_more c.0;
-              only_other = λ u x b. elim (a.only_other u x b) [ inl k ↦ inl k | inr d ↦ inr (Contains-append_left done (s ∷ []) u d) ];
+              only_other = λ u x b. elim (a.only_other u x b) [ inl k ↦ inl k | inr d ↦ inr (Contains-append_left done (n.site ∷ []) u d) ];
             }
 
-        bound_critical : settled w s ≡ false → (c : Content) → Agree more ((s, c) ∷ e) ((s, c) ∷ e')
+        bound_critical : settled w n.site ≡ false → (c : Content) → Agree more ((n.site, c) ∷ e) ((n.site, c) ∷ e')
         bound_critical h c = record {
-          reads_one = λ u i k. elim (here_or_last Emitted done s u i) [ inl d ↦ one_stays c u d k | inr q ↦ absurd (false≢true (sym h ∙ ap (settled w) q ∙ k)) ];
-          reads_other = λ u k. let x = settled_content w before u k in used_stays w e' s u c x.0 (λ q. false≢true (sym h ∙ ap (settled w) q ∙ k)) (unbound_other h) (a.reads_other u k ∙ x.1) ∙ sym x.1;
-          same = λ u d k. elim (listed_last done s u d) [
+          reads_one = λ u i k. elim (here_or_last Emitted done n.site u i) [ inl d ↦ one_stays c u d k | inr q ↦ absurd (false≢true (sym h ∙ ap (settled w) q ∙ k)) ];
+          reads_other = λ u k. let x = settled_content w before u k in used_stays w e' n.site u c x.0 (λ q. false≢true (sym h ∙ ap (settled w) q ∙ k)) (unbound_other h) (a.reads_other u k ∙ x.1) ∙ sym x.1;
+          same = λ u d k. elim (listed_last done n.site u d) [
             | inl l ↦ one_elsewhere c u l ∙ a.same u l k ∙ sym (other_elsewhere c u l)
-            | inr q ↦ subst (λ x. used w ((s, c) ∷ e) x ≡ used w ((s, c) ∷ e') x) q (used_here w e s c ∙ sym (used_here w e' s c))
+            | inr q ↦ subst (λ x. used w ((n.site, c) ∷ e) x ≡ used w ((n.site, c) ∷ e') x) q (used_here w e n.site c ∙ sym (used_here w e' n.site c))
           ];
           only_one = only_more c;
-          only_other = λ u x b. elim (cases_eq s u) [
-            | inl q ↦ inr (Contains-append_right done (s ∷ []) u (subst (Contains (s ∷ [])) q (in_head s [])))
-            | inr n ↦ elim (a.only_other u x (sym (bound_elsewhere e' s u c n) ∙ b)) [ inl k ↦ inl k | inr d ↦ inr (Contains-append_left done (s ∷ []) u d) ]
+          only_other = λ u x b. elim (cases_eq n.site u) [
+            | inl q ↦ inr (Contains-append_right done (n.site ∷ []) u (subst (Contains (n.site ∷ [])) q (in_head n.site [])))
+            | inr d ↦ elim (a.only_other u x (sym (bound_elsewhere e' n.site u c d) ∙ b)) [ inl k ↦ inl k | inr d ↦ inr (Contains-append_left done (n.site ∷ []) u d) ]
           ];
         }
 
@@ -185,130 +188,96 @@ module _ (w : World) (before : SourcesBefore w.sites) where
         abbrev Next : (calls calls' : List Call) → List ℕ → List ℕ → Type 0
         Next calls calls' ss ss' = Alike more (bind_all w e calls (to_bind w.sites ss)) (bind_all w e' calls' (to_bind w.sites ss'))
 
-        placed_list : is_in_place (slice_get w.sites s) ≡ true → to_bind w.sites (s ∷ []) ≡ []
-        placed_list p = ap (λ t. cond (not t) (s ∷ []) []) p
+        placed_list : is_in_place (slice_get w.sites n.site) ≡ true → to_bind w.sites (n.site ∷ []) ≡ []
+        placed_list p = ap (λ t. cond (not t) (n.site ∷ []) []) p
 
-        bound_list : is_in_place (slice_get w.sites s) ≡ false → to_bind w.sites (s ∷ []) ≡ s ∷ []
-        bound_list p = ap (λ t. cond (not t) (s ∷ []) []) p
+        bound_list : is_in_place (slice_get w.sites n.site) ≡ false → to_bind w.sites (n.site ∷ []) ≡ n.site ∷ []
+        bound_list p = ap (λ t. cond (not t) (n.site ∷ []) []) p
 
-        both_bound : settled w s ≡ false → (b b' : Bound) → AreAlike s e e' b b' → Alike more (then_bind b (λ x k. bind_all w x k [])) (then_bind b' (λ x k. bind_all w x k []))
+        both_bound : settled w n.site ≡ false → (b b' : Bound) → AreAlike n.site e e' b b' → Alike more (then_bind b (λ x k. bind_all w x k [])) (then_bind b' (λ x k. bind_all w x k []))
         both_bound h =
-            then_alike (WithOneContent s e e') (Agree more) (λ x k. bind_all w x k []) (λ x k. bind_all w x k [])
-            (λ x x' k r. (subst (λ y. Agree more y x') (sym r.1) (subst (Agree more ((s, r.0) ∷ e)) (sym r.2) (bound_critical h r.0)), refl))
+            then_alike (WithOneContent n.site e e') (Agree more) (λ x k. bind_all w x k []) (λ x k. bind_all w x k [])
+            (λ x x' k r. (subst (λ y. Agree more y x') (sym r.1) (subst (Agree more ((n.site, r.0) ∷ e)) (sym r.2) (bound_critical h r.0)), refl))
 
-        next_critical : (calls : List Call) → settled w s ≡ false → Next calls calls (s ∷ []) (s ∷ [])
+        next_critical : (calls : List Call) → settled w n.site ≡ false → Next calls calls (n.site ∷ []) (n.site ∷ [])
         next_critical calls h =
-            elim (cases_Bool (is_in_place (slice_get w.sites s))) [
+            elim (cases_Bool (is_in_place (slice_get w.sites n.site))) [
               | inl p ↦ subst (λ l. Alike more (bind_all w e calls l) (bind_all w e' calls l)) (sym (placed_list p)) (placed_critical h, refl)
               | inr p ↦
                   subst (λ l. Alike more (bind_all w e calls l) (bind_all w e' calls l)) (sym (bound_list p))
-                  (both_bound h (bind_site w e calls s (slice_get w.sites s)) (bind_site w e' calls s (slice_get w.sites s))
-                  (bind_alike w e e' calls s (slice_get w.sites s) (λ x k. agree_on done e e' a x (sources x k)) p))
+                  (both_bound h (bind_site w e calls n.site (slice_get w.sites n.site)) (bind_site w e' calls n.site (slice_get w.sites n.site))
+                  (bind_alike w e e' calls n.site (slice_get w.sites n.site) (λ x k. agree_on done e e' a x (n.sources x k)) p))
             ]
 
-        next_settled : (calls : List Call) → Settled s → (waits (slice_get w.sites s) ≡ false) ⊎ IsUnwrap (slice_get w.sites s) → Next calls calls (s ∷ []) []
+        next_settled : (calls : List Call) → Settled n.site → (waits (slice_get w.sites n.site) ≡ false) ⊎ IsUnwrap (slice_get w.sites n.site) → Next calls calls (n.site ∷ []) []
         next_settled calls h g =
-            elim (cases_Bool (is_in_place (slice_get w.sites s))) [
+            elim (cases_Bool (is_in_place (slice_get w.sites n.site))) [
               | inl p ↦ subst (λ l. Alike more (bind_all w e calls l) (all_bound e' calls)) (sym (placed_list p)) (placed_settled h p, refl)
               | inr p ↦
                   subst (λ l. Alike more (bind_all w e calls l) (all_bound e' calls)) (sym (bound_list p))
-                  (subst (λ b. Alike more (then_bind b (λ x k. bind_all w x k [])) (all_bound e' calls)) (sym (settled_binds start held e calls s h (slice_get w.sites s) refl g p (reads_sources h)))
+                  (subst (λ b. Alike more (then_bind b (λ x k. bind_all w x k [])) (all_bound e' calls)) (sym (settled_binds stock e calls n.site h (slice_get w.sites n.site) refl g p (reads_sources h)))
                   (bound_settled h, refl))
             ]
 
       -- 4. or not at all
-      step_on : (waits (slice_get w.sites s) ≡ false) ⊎ IsUnwrap (slice_get w.sites s) → (b b' : Bound) → Alike done b b'
-          → Alike more (then_bind b (λ e k. bind_all w e k (to_bind w.sites (s ∷ [])))) (then_bind b' (λ e k. bind_all w e k (to_bind w.sites (filter (critical w) (s ∷ [])))))
+      step_on : (waits (slice_get w.sites n.site) ≡ false) ⊎ IsUnwrap (slice_get w.sites n.site) → (b b' : Bound) → Alike done b b'
+          → Alike more (then_bind b (λ e k. bind_all w e k (to_bind w.sites (n.site ∷ [])))) (then_bind b' (λ e k. bind_all w e k (to_bind w.sites (filter (critical w) (n.site ∷ [])))))
       step_on g =
-          then_alike (Agree done) (Agree more) (λ e k. bind_all w e k (to_bind w.sites (s ∷ []))) (λ e k. bind_all w e k (to_bind w.sites (filter (critical w) (s ∷ []))))
-          (λ e e' k a. elim (cases_Bool (settled w s)) [
-            | inl h ↦ subst (λ l. Alike more (bind_all w e k (to_bind w.sites (s ∷ []))) (bind_all w e' k (to_bind w.sites l))) (sym (ap (λ t. cond (not t) (s ∷ []) []) h)) (next_settled e e' a k h g)
-            | inr h ↦ subst (λ l. Alike more (bind_all w e k (to_bind w.sites (s ∷ []))) (bind_all w e' k (to_bind w.sites l))) (sym (ap (λ t. cond (not t) (s ∷ []) []) h)) (next_critical e e' a k h)
+          then_alike (Agree done) (Agree more) (λ e k. bind_all w e k (to_bind w.sites (n.site ∷ []))) (λ e k. bind_all w e k (to_bind w.sites (filter (critical w) (n.site ∷ []))))
+          (λ e e' k a. elim (cases_Bool (settled w n.site)) [
+            | inl h ↦ subst (λ l. Alike more (bind_all w e k (to_bind w.sites (n.site ∷ []))) (bind_all w e' k (to_bind w.sites l))) (sym (ap (λ t. cond (not t) (n.site ∷ []) []) h)) (next_settled e e' a k h g)
+            | inr h ↦ subst (λ l. Alike more (bind_all w e k (to_bind w.sites (n.site ∷ []))) (bind_all w e' k (to_bind w.sites l))) (sym (ap (λ t. cond (not t) (n.site ∷ []) []) h)) (next_critical e e' a k h)
           ])
 
     -- 5. all that is listed
-    module _ (ss : List ℕ) (gates : (s : ℕ) → Contains (all_below w.sites ss) s → (waits (slice_get w.sites s) ≡ false) ⊎ (IsUnwrap (slice_get w.sites s) ⊎ IsTrue (is_in s ar.emitted))) where
+    module _ (ss : List ℕ) (gates : (s : ℕ) → Contains (all_below w.sites ss) s → (waits (slice_get w.sites s) ≡ false) ⊎ (IsUnwrap (slice_get w.sites s) ⊎ IsTrue (is_in s place.around.emitted))) where
       abbrev Below : ℕ → Type 0
       Below t = Contains (all_below w.sites ss) t
 
       -- what is listed so far was bound here, and what is critical of it from the start
       record Listed (done : List ℕ) : Type 0 where
-        alike : Alike done (bind_all w env [] (to_bind w.sites done)) (bind_all w start [] (to_bind w.sites (filter (critical w) done)))
-        closed : (u a : ℕ) → Contains done u → Contains (sources_at w.sites u) a → In done a
-
-      abbrev More : List ℕ → List ℕ → (ℕ → Type 0) → Type 0
-      More done done' Now = Listed done' × ((t : ℕ) → In done t → In done' t) × ((s : ℕ) → Now s → In done' s)
+        alike : Alike done (bind_all w place.env [] (to_bind w.sites done)) (bind_all w stock.env [] (to_bind w.sites (filter (critical w) done)))
+        closed : AreClosed w.sites Emitted done
 
       bind_both : (e : Env) (xs ys : List ℕ) → bind_all w e [] (to_bind w.sites (xs ++ ys)) ≡ then_bind (bind_all w e [] (to_bind w.sites xs)) (λ e' k. bind_all w e' k (to_bind w.sites ys))
       bind_both e xs ys = ap (bind_all w e []) (filter-append (λ t. not (is_in_place (slice_get w.sites t))) xs ys) ∙ bind_append w (to_bind w.sites xs) (to_bind w.sites ys) e []
 
-      free : (s : ℕ) → Below s → is_in s ar.emitted ≡ false → (waits (slice_get w.sites s) ≡ false) ⊎ IsUnwrap (slice_get w.sites s)
+      free : (s : ℕ) → Below s → is_in s place.around.emitted ≡ false → (waits (slice_get w.sites s) ≡ false) ⊎ IsUnwrap (slice_get w.sites s)
       free s f n = elim (gates s f) [ inl a ↦ inl a | inr (inl u) ↦ inr u | inr (inr i) ↦ absurd (false≢true (sym n ∙ i)) ]
 
-      put : (done : List ℕ) → Listed done → (s : ℕ) → Below s → (is_in s ar.emitted || is_in s done) ≡ false → ((a : ℕ) → Contains (sources_at w.sites s) a → In done a) → Listed (done ++ s ∷ [])
-      put done l s f n sources = record {
+      put : (done : List ℕ) → Listed done → (n : NextSite w.sites place.around.emitted Emitted done) → Below n.site → Listed (done ++ n.site ∷ [])
+      put done l n f = record {
         alike =
-            subst (λ b. Alike (done ++ s ∷ []) b (bind_all w start [] (to_bind w.sites (filter (critical w) (done ++ s ∷ []))))) (sym (bind_both env done (s ∷ [])))
-            (subst (Alike (done ++ s ∷ []) (then_bind (bind_all w env [] (to_bind w.sites done)) (λ e k. bind_all w e k (to_bind w.sites (s ∷ [])))))
-            (sym (ap (λ x. bind_all w start [] (to_bind w.sites x)) (filter-append (critical w) done (s ∷ [])) ∙ bind_both start (filter (critical w) done) (filter (critical w) (s ∷ []))))
-            (step_on done s (not_here ar.emitted done s n) l.closed sources (free s f (or_parts (is_in s ar.emitted) (is_in s done) n).0) (bind_all w env [] (to_bind w.sites done)) (bind_all w start [] (to_bind w.sites (filter (critical w) done))) l.alike));
-        closed = λ u a c k. elim (Contains-append_cases done (s ∷ []) u c) [
-          | inl d ↦ stays_here Emitted done s a (l.closed u a d k)
-          | inr d ↦ stays_here Emitted done s a (sources a (subst (λ x. Contains (sources_at w.sites x) a) (sym (in_alone s u d)) k))
-        ];
+            subst (λ b. Alike (done ++ n.site ∷ []) b (bind_all w stock.env [] (to_bind w.sites (filter (critical w) (done ++ n.site ∷ []))))) (sym (bind_both place.env done (n.site ∷ [])))
+            (subst (Alike (done ++ n.site ∷ []) (then_bind (bind_all w place.env [] (to_bind w.sites done)) (λ e k. bind_all w e k (to_bind w.sites (n.site ∷ [])))))
+            (sym (ap (λ x. bind_all w stock.env [] (to_bind w.sites x)) (filter-append (critical w) done (n.site ∷ [])) ∙ bind_both stock.env (filter (critical w) done) (filter (critical w) (n.site ∷ []))))
+            (step_on done n l.closed (free n.site f (or_parts (is_in n.site place.around.emitted) (is_in n.site done) n.unlisted).0) (bind_all w place.env [] (to_bind w.sites done))
+            (bind_all w stock.env [] (to_bind w.sites (filter (critical w) done))) l.alike));
+        closed = closed_next w.sites place.around.emitted Emitted done l.closed n;
       }
 
-      each : (f : List ℕ → ℕ → List ℕ) (xs : List ℕ) → ((s : ℕ) → Contains xs s → (done : List ℕ) → Listed done → More done (f done s) (λ t. s ≡ t))
-          → (done : List ℕ) → Listed done → More done (each_after f done xs) (Contains xs)
-      each f [] go done l = (l, λ t i. i, λ s c. absurd (nothing_in s c))
-      each f (s ∷ xs) go done l =
-          let m = go s (in_head s xs) done l in
-          let r = each f xs (λ u c. go u (in_tail s u xs c)) (f done s) m.0 in
-          (r.0, λ t i. r.1 t (m.1 t i), λ t c. elim (in_cases s t xs c) [ inl e ↦ r.1 t (m.2 t e) | inr d ↦ r.2 t d ])
+      abbrev walk : Walk
+      walk = record {
+        sites = w.sites;
+        before = before;
+        emitted = place.around.emitted;
+        Base = Emitted;
+        base = λ t i. i;
+        MayList = Below;
+        deeper = λ s a b out c. all_below_source w.sites before ss s a b c;
+        Holds = Listed;
+        next = put;
+      }
 
-      one_listed : (n s : ℕ) → s < n → ((u : ℕ) → Contains (below n w.sites s) u → Below u)
-          → (done : List ℕ) → Listed done → More done (listed_below n w.sites ar.emitted done s) (λ t. s ≡ t)
-      one_listed zero s l fine done b = absurd (omega (arith, l))
-      one_listed (suc n) s l fine done b =
-          let rest = each_after (listed_below n w.sites ar.emitted) done (sources_at w.sites s) in
-          elim (cases_Bool (is_in s ar.emitted || is_in s done)) [
-            | inl t ↦
-                subst (λ x. More done x (λ t. s ≡ t)) (sym (cond-true (is_in s ar.emitted || is_in s done) done (rest ++ s ∷ []) t))
-                (b, λ u i. i, λ u e. subst (In done) e (met_here Emitted ar.emitted (λ u i. i) done s t))
-            | inr f ↦
-                subst (λ x. More done x (λ t. s ≡ t)) (sym (cond-false (is_in s ar.emitted || is_in s done) done (rest ++ s ∷ []) f))
-                (
-                let r = each (listed_below n w.sites ar.emitted) (sources_at w.sites s)
-                (λ x c. let m = before s x c in one_listed n x (omega (arith, l, m)) (λ u k. fine u (in_tail s u (flat_map (below n w.sites) (sources_at w.sites s)) (in_flat_map (below n w.sites) (sources_at w.sites s) x u c k))))
-                done b in
-                elim (cases_Bool (is_in s ar.emitted || is_in s rest)) [
-                  | inl t ↦ absurd (unlisted n s done f t)
-                  | inr g ↦ (put rest r.0 s (fine s (in_head s (flat_map (below n w.sites) (sources_at w.sites s)))) g r.2, λ t i. stays_here Emitted rest s t (r.1 t i), λ t e. last_here Emitted rest s t e)
-                ]
-                )
-          ]
-        where
-          unlisted : (n s : ℕ) (done : List ℕ) → (is_in s ar.emitted || is_in s done) ≡ false → (is_in s ar.emitted || is_in s (each_after (listed_below n w.sites ar.emitted) done (sources_at w.sites s))) ≡ true → ⊥
-          unlisted n s done f t =
-              let p = or_parts (is_in s ar.emitted) (is_in s done) f in
-              let rest = each_after (listed_below n w.sites ar.emitted) done (sources_at w.sites s) in
-              elim (or_cases (is_in s ar.emitted) (is_in s rest) t) [
-                | inl i ↦ false≢true (sym p.0 ∙ i)
-                | inr i ↦ elim (sources_within w.sites before ar.emitted n s done s (member_found s rest i)) [ inl c ↦ false≢true (sym p.1 ∙ member_is_in s done c) | inr l ↦ omega (arith, l) ]
-              ]
-
-      abbrev list_one : List ℕ → ℕ → List ℕ
-      list_one done s = listed_below (suc s) w.sites ar.emitted done s
-
-      all_listed : More [] (each_after list_one [] ss) (Contains ss)
-      all_listed = each list_one ss (λ s c. one_listed (suc s) s (omega arith) (λ u k. in_flat_map (λ x. below (suc x) w.sites x) ss s u c k)) [] record {
+      all_listed : Walked walk [] (each_after (λ done s. listed_below (suc s) w.sites place.around.emitted done s) [] ss) (Contains ss)
+      all_listed = order_listed walk ss (λ s c. all_below_itself w.sites ss s c) record {
         alike = (
           record {
-            reads_one = λ u i k. elim i [ inl e ↦ (reached.emitted u e).1 | inr c ↦ absurd (nothing_in u c) ];
-            reads_other = λ u k. reads w [] before start Settled held u k;
+            reads_one = λ u i k. elim i [ inl e ↦ (place.reached.emitted u e).1 | inr c ↦ absurd (nothing_in u c) ];
+            reads_other = λ u k. reads w [] before stock.env Settled stock.held u k;
             same = λ u c k. absurd (nothing_in u c);
-            only_one = λ u c b. inl (reached.bound u c b).0;
-            only_other = λ u c b. inl (held.right u c b).0;
+            only_one = λ u c b. inl (place.reached.bound u c b).0;
+            only_other = λ u c b. inl (stock.held.right u c b).0;
           },
           refl,
         );
@@ -322,30 +291,31 @@ module _ (w : World) (before : SourcesBefore w.sites) where
   abbrev ends : SetRule → Bound → Outcome
   ends r b = on_bound b at_start (λ env t. or_next (run_check (return_at r.at r.result) w env t) (run_tree no_step w env))
 
-  ends_alike : (start : Env) (held : Held w [] start Settled) (ar : Around) (env : Env) (reached : IsReached w ar env) (r : SetRule) (done : List ℕ) (b b' : Bound) → In start held ar env reached done r.result
-      → Alike start held ar env reached done b b' → ends r b ≡ ends r b'
-  ends_alike start held ar env reached r done (all_bound e k) (all_bound e' k') i (a, q) =
+  ends_alike : (stock : Stock w) (place : ReachedPlace w []) (r : SetRule) (done : List ℕ) (b b' : Bound) → In stock place done r.result
+      → Alike stock place done b b' → ends r b ≡ ends r b'
+  ends_alike stock place r done (all_bound e k) (all_bound e' k') i (a, q) =
       ap (λ c. ends r (all_bound e c)) q
-      ∙ ap (λ o. or_next (with_content o (record { calls = k'; results = [] }) (returned w.multi (record { calls = k'; results = [] }))) (run_tree no_step w e)) (agree_on start held ar env reached done e e' a r.result i)
-  ends_alike start held ar env reached r done (unwrap_failed k) (unwrap_failed k') i q = ap (λ c. ends r (unwrap_failed c)) q
-  ends_alike start held ar env reached r done (no_content_there k) (no_content_there k') i q = ap (λ c. ends r (no_content_there c)) q
-  ends_alike start held ar env reached r done (all_bound x k) (unwrap_failed k') i q = absurd q
-  ends_alike start held ar env reached r done (all_bound x k) (no_content_there k') i q = absurd q
-  ends_alike start held ar env reached r done (unwrap_failed k) (all_bound x' k') i q = absurd q
-  ends_alike start held ar env reached r done (unwrap_failed k) (no_content_there k') i q = absurd q
-  ends_alike start held ar env reached r done (no_content_there k) (all_bound x' k') i q = absurd q
-  ends_alike start held ar env reached r done (no_content_there k) (unwrap_failed k') i q = absurd q
+      ∙ ap (λ o. or_next (with_content o (record { calls = k'; results = [] }) (returned w.multi (record { calls = k'; results = [] }))) (run_tree no_step w e)) (agree_on stock place done e e' a r.result i)
+  ends_alike stock place r done (unwrap_failed k) (unwrap_failed k') i q = ap (λ c. ends r (unwrap_failed c)) q
+  ends_alike stock place r done (no_content_there k) (no_content_there k') i q = ap (λ c. ends r (no_content_there c)) q
+  ends_alike stock place r done (all_bound x k) (unwrap_failed k') i q = absurd q
+  ends_alike stock place r done (all_bound x k) (no_content_there k') i q = absurd q
+  ends_alike stock place r done (unwrap_failed k) (all_bound x' k') i q = absurd q
+  ends_alike stock place r done (unwrap_failed k) (no_content_there k') i q = absurd q
+  ends_alike stock place r done (no_content_there k) (all_bound x' k') i q = absurd q
+  ends_alike stock place r done (no_content_there k) (unwrap_failed k') i q = absurd q
 
-  pub taken_as : (r : SetRule) (o : Outcome) → IsTaken w r o → o ≡ ends r (bind_all w (stock w before).0 [] (to_bind w.sites (order (return_uses (Some r)))))
+  pub taken_as : (r : SetRule) (o : Outcome) → IsTaken w r o → o ≡ ends r (bind_all w (stock w before).env [] (to_bind w.sites (order (return_uses (Some r)))))
   taken_as r o t =
       let start = stock w before in
+      let place : ReachedPlace w [] = record { around = t.around; env = t.env; reached = t.reached } in
       let ss = return_uses (Some r) in
-      let l = all_listed start.0 start.1 t.around t.env t.reached ss t.gates in
+      let l = all_listed start place ss t.gates in
       let listed = each_after (λ done s. listed_below (suc s) w.sites t.around.emitted done s) [] ss in
       t.outcome
-      ∙ ends_alike start.0 start.1 t.around t.env t.reached r listed (bind_all w t.env [] (to_bind w.sites listed)) (bind_all w start.0 [] (to_bind w.sites (filter (critical w) listed)))
-      (l.2 r.result (Contains-append_right r.impure (r.result ∷ []) r.result (in_head r.result []))) l.0.alike
-      ∙ ap (λ x. ends r (bind_all w start.0 [] (to_bind w.sites x))) (critical_order w before t.around.emitted (λ s i. emitted_settled w before t.around t.env t.reached s i) ss)
+      ∙ ends_alike start place r listed (bind_all w t.env [] (to_bind w.sites listed)) (bind_all w start.env [] (to_bind w.sites (filter (critical w) listed)))
+      (l.now r.result (Contains-append_right r.impure (r.result ∷ []) r.result (in_head r.result []))) l.holds.alike
+      ∙ ap (λ x. ends r (bind_all w start.env [] (to_bind w.sites x))) (critical_order w before t.around.emitted (λ s i. emitted_settled w before place s i) ss)
 
 pub taken_once_lem : TakenOnce
 taken_once_lem set w r o p built served known s t =
