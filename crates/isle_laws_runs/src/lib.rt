@@ -49,7 +49,6 @@ pub fn picks_are_exact()
 {}
 
 /// Of a pick only the places of its calls matter: two picks with the same places act alike, whatever their order.
-#[tactic(auto, using(crate::proofs::picks::SamePlaces::content_same, crate::proofs::picks::SamePlaces::matching_same, crate::proofs::picks::SamePlaces::ends_same))]
 pub fn only_places_matter()
     ensures { OnlyPlacesMatter }
 {}

@@ -1,6 +1,6 @@
 -- Taking a rule comes to one outcome from every place that a run reaches: only critical sites are bound anew, the same ones in
 -- the same order, and each of them alike.
-use Rattle.std.proofs.Common.{◌≡◌, ◌⊎◌, ℕ, suc, true, false, not, ◌||◌, cond, List, [], ◌∷◌, ◌++◌, Option, Some, None, slice_get, Contains, IsTrue, filter, refl, sym, ap, ◌∙◌, subst, inl, inr}
+use Rattle.std.proofs.Common.{◌≡◌, ◌⊎◌, ℕ, suc, true, false, not, cond, List, [], ◌∷◌, ◌++◌, Option, Some, None, slice_get, Contains, IsTrue, filter, refl, sym, ap, ◌∙◌, subst, inl, inr}
 use Rattle.std.proofs.lemmas.Bool.{cases_Bool, cases_eq, or_parts, false≢true}
 use Rattle.std.proofs.lemmas.Option.{none-some, same_Some}
 use Rattle.std.proofs.lemmas.List.Elements.{Contains-append_left, Contains-append_right, filter-append}
@@ -18,7 +18,7 @@ use Rattle.isle_laws_runs.proofs.runs.BindOrders.{to_bind, bind_append}
 use Rattle.isle_laws_runs.proofs.runs.Binding.{reads, binds_now}
 use Rattle.isle_laws_runs.proofs.runs.Contents.{SourcesBefore, sources_in, content_layer}
 use Rattle.isle_laws_runs.proofs.runs.Below.{all_below_itself, all_below_source}
-use Rattle.isle_laws_runs.proofs.taking.Settled.{settled, critical, Stock, settled_content, settled_pure, settled_source, emitted_settled, stock, critical_below, critical_order}
+use Rattle.isle_laws_runs.proofs.taking.Settled.{settled, critical, Stock, settled_content, settled_pure, settled_source, emitted_settled, settled_stock, critical_below, critical_order}
 use Rattle.isle_laws_runs.proofs.taking.Taking.{ReachedPlace}
 use Rattle.isle_laws_runs.proofs.taking.Used.{used_placed, placed_same, content_placed, bound_elsewhere, used_here, used_elsewhere, used_stays, AreAlike, bind_alike, alike_bound, AreAlikeBy, then_alike, WithOneContent}
 use Rattle.isle_laws_runs.proofs.runs.Listing.{IsHere, stays_here, last_here, here_or_last, listed_last, not_here, NextSite, AreClosed, closed_next, Walk, Walked, order_listed}
@@ -47,9 +47,9 @@ module _ (w : World) (before : SourcesBefore w.sites) where
       let c = settled_content w before s h in
       let kept : (a : ℕ) → Contains (sources_in o) a → Settled a = λ a k. settled_source w before s a h (subst (λ x. Contains (sources_in x) a) (sym at) k) in
       let now = binds_now w [] before stock.env Settled stock.held calls s o c.0 at n (settled_pure w before s h) kept c.1 in
-      alike_bound w e stock.env calls s (bind_site w e calls s o) c.0
+      alike_bound e stock.env s calls (bind_site w e calls s o) c.0
       (subst (AreAlike s e stock.env (bind_site w e calls s o)) now
-      (bind_alike w e stock.env calls s o (λ a k. sources a k ∙ sym (reads w [] before stock.env Settled stock.held a (kept a k))) p))
+      (bind_alike w e stock.env s calls o (λ a k. sources a k ∙ sym (reads w [] before stock.env Settled stock.held a (kept a k))) p))
   settled_binds stock e calls s h (Some (match_some_site source)) at (inr u) p sources =
       let c = settled_content w before s h in
       let j = just_there (content_at w [] source) c.0 (sym (content_layer w [] before s (match_some_site source) at) ∙ c.1) in
@@ -206,7 +206,7 @@ module _ (w : World) (before : SourcesBefore w.sites) where
               | inr p ↦
                   subst (λ l. Alike more (bind_all w e calls l) (bind_all w e' calls l)) (sym (bound_list p))
                   (both_bound h (bind_site w e calls n.site (slice_get w.sites n.site)) (bind_site w e' calls n.site (slice_get w.sites n.site))
-                  (bind_alike w e e' calls n.site (slice_get w.sites n.site) (λ x k. agree_on done e e' a x (n.sources x k)) p))
+                  (bind_alike w e e' n.site calls (slice_get w.sites n.site) (λ x k. agree_on done e e' a x (n.sources x k)) p))
             ]
 
         next_settled : (calls : List Call) → Settled n.site → (waits (slice_get w.sites n.site) ≡ false) ⊎ IsUnwrap (slice_get w.sites n.site) → Next calls calls (n.site ∷ []) []
@@ -305,9 +305,9 @@ module _ (w : World) (before : SourcesBefore w.sites) where
   ends_alike stock place r done (no_content_there k) (all_bound x' k') i q = absurd q
   ends_alike stock place r done (no_content_there k) (unwrap_failed k') i q = absurd q
 
-  pub taken_as : (r : SetRule) (o : Outcome) → IsTaken w r o → o ≡ ends r (bind_all w (stock w before).env [] (to_bind w.sites (order (return_uses (Some r)))))
+  pub taken_as : (r : SetRule) (o : Outcome) → IsTaken w r o → o ≡ ends r (bind_all w (settled_stock w before).env [] (to_bind w.sites (order (return_uses (Some r)))))
   taken_as r o t =
-      let start = stock w before in
+      let start = settled_stock w before in
       let place : ReachedPlace w [] = record { around = t.around; env = t.env; reached = t.reached } in
       let ss = return_uses (Some r) in
       let l = all_listed start place ss t.gates in

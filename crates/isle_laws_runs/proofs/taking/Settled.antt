@@ -151,8 +151,8 @@ module _ (w : World) (before : SourcesBefore w.sites) where
       not_last : (t : ℕ) → settled w n ≡ false → (t < suc n) × (settled w t ≡ true) → (t < n) × (settled w t ≡ true)
       not_last t h k = elim (of_more t k) [ inl r ↦ r | inr e ↦ absurd (false≢true (sym h ∙ ap (settled w) e ∙ k.1)) ]
 
-  pub stock : Stock w
-  stock =
+  pub settled_stock : Stock w
+  settled_stock =
       let s = stocked (length w.sites) in
       record {
         env = s.0;
