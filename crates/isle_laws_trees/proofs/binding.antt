@@ -3,5 +3,6 @@ pub mod BindOnce
 pub mod Brought
 pub mod InPlace
 pub mod Judged
+pub mod Scope
 pub mod Scopes
 pub mod Trees

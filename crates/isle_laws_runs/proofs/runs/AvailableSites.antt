@@ -1,17 +1,16 @@
 -- Available sites at a place have contents, and binding a bind order of them keeps them and all below them.
-use Rattle.std.proofs.Common.{◌≡◌, ◌⊎◌, ℕ, zero, suc, true, false, not, ◌&&◌, cond, List, [], ◌∷◌, ◌++◌, Some, is_some, slice_get, Contains, IsTrue, refl, sym, ap, ◌∙◌, subst, inl, inr}
-use Rattle.std.specs.List.{list_all}
-use Rattle.std.proofs.lemmas.Bool.{cases_Bool, and_parts, or_cases, or_parts, false≢true, not-true}
+use Rattle.std.proofs.Common.{◌≡◌, ◌⊎◌, ℕ, suc, true, false, not, cond, List, [], ◌∷◌, ◌++◌, Some, is_some, slice_get, Contains, IsTrue, refl, ap, ◌∙◌, subst, inl, inr}
+use Rattle.std.proofs.lemmas.Bool.{cases_Bool, or_parts}
 use Rattle.isle_model.specs.rules.Meaning.{Content}
 use Rattle.isle_model.specs.sites.Sites.{sources_at}
 use Rattle.isle_model.specs.trees.Places.{is_in, waits, is_available, is_in_place, below, all_below, each_after, listed_below, bind_order}
 use Rattle.isle_model.specs.trees.Run.{Env, used, all_bound, then_bind, bind_all}
 use Rattle.isle_model.specs.trees.Collects.{content_at, IsPureAt}
-use Rattle.isle_model.proofs.Members.{nothing_in, each_passes, all_members, from_flat_map}
+use Rattle.isle_model.proofs.Members.{nothing_in, all_members, from_flat_map}
 use Rattle.isle_model.proofs.Numbers.{in_either, in_first, in_second}
 use Rattle.isle_laws_runs.proofs.runs.Below.{all_below_itself, all_below_pure, all_below_source, pure_deeper}
 use Rattle.isle_laws_runs.proofs.runs.Binding.{content_of, Held, held_as, kept_below, reads, binds_now, keeps_bound, keeps_in_place}
-use Rattle.isle_laws_runs.proofs.runs.BindOrders.{to_bind, bind_last, available_found}
+use Rattle.isle_laws_runs.proofs.runs.BindOrders.{to_bind, bind_last, opened, available_found}
 use Rattle.isle_laws_runs.proofs.runs.Listing.{IsHere, stays_here, last_here, here_or_last, listed_last, NextSite, Walk, Walked, order_listed}
 use Rattle.isle_laws_runs.proofs.runs.Places.{ClearWorld, Kept, At, Place, IsReady, wider}
 
@@ -21,18 +20,9 @@ module _ (clear : ClearWorld) (place : Place clear) where
       content_of (content_at clear.world place.pick s)
       (available_found clear.world place.pick clear.sources place.at.picked.served.found place.around (λ u i. let h = place.at.held.there u (inl (place.at.brought u i)) in ap is_some h.1) (suc s) s ready.available ready.pure)
 
-  -- an available site that isn't emitted waits for nothing, and its sources are available
-  opened : (n s : ℕ) → is_available n clear.world.sites place.around.brought s ≡ true → is_in s place.around.emitted ≡ false
+  open_now : (n s : ℕ) → is_available n clear.world.sites place.around.brought s ≡ true → is_in s place.around.emitted ≡ false
       → (waits (slice_get clear.world.sites s) ≡ false) × ((a : ℕ) → Contains (sources_at clear.world.sites s) a → (m : ℕ) × (is_available m clear.world.sites place.around.brought a ≡ true))
-  opened zero s h out = absurd (false≢true h)
-  opened (suc n) s h out =
-      let sources = list_all (is_available n clear.world.sites place.around.brought) (sources_at clear.world.sites s) in
-      elim (or_cases (is_in s place.around.brought) (not (waits (slice_get clear.world.sites s)) && sources) h) [
-        | inl i ↦ absurd (false≢true (sym out ∙ place.at.brought s i))
-        | inr r ↦
-            let q = and_parts (not (waits (slice_get clear.world.sites s))) sources r in
-            (not-true (waits (slice_get clear.world.sites s)) q.0, λ a c. (n, each_passes (is_available n clear.world.sites place.around.brought) (sources_at clear.world.sites s) q.1 a c))
-      ]
+  open_now = opened clear.world.sites place.around place.at.brought
 
   module _ (ss : List ℕ) (ready : (s : ℕ) → Contains ss s → IsReady clear.world.sites place.around s) where
     -- kept before, or listed since
@@ -102,9 +92,9 @@ module _ (clear : ClearWorld) (place : Place clear) where
       Base = Base;
       base = λ t i. inl i;
       MayList = IsOpen;
-      deeper = λ s a may out c. (all_below_source clear.world.sites clear.sources ss s a may.0 c, (opened may.1.0 s may.1.1 out).1 a c);
+      deeper = λ s a may out c. (all_below_source clear.world.sites clear.sources ss s a may.0 c, (open_now may.1.0 s may.1.1 out).1 a c);
       Holds = Binds;
-      next = λ done b n may. put done b n may.0 (opened may.1.0 n.site may.1.1 (or_parts (is_in n.site place.around.emitted) (is_in n.site done) n.unlisted).0).0;
+      next = λ done b n may. put done b n may.0 (open_now may.1.0 n.site may.1.1 (or_parts (is_in n.site place.around.emitted) (is_in n.site done) n.unlisted).0).0;
     }
 
     abbrev listed : List ℕ

@@ -1,5 +1,5 @@
 -- Bind orders one after another, and the contents of available sites.
-use Rattle.std.proofs.Common.{◌≡◌, ℕ, zero, suc, true, false, not, ◌&&◌, List, [], ◌∷◌, ◌++◌, is_some, slice_get, All, IsTrue, filter, refl, ap, ◌∙◌, inl, inr}
+use Rattle.std.proofs.Common.{◌≡◌, ℕ, zero, suc, true, false, not, ◌&&◌, List, [], ◌∷◌, ◌++◌, is_some, slice_get, All, IsTrue, filter, refl, ap, ◌∙◌, inl, inr, Contains, sym}
 use Rattle.std.specs.List.{list_all}
 use Rattle.std.proofs.lemmas.Bool.{and_parts, or_cases, false≢true, not-true}
 use Rattle.std.proofs.lemmas.List.Elements.{filter-append}
@@ -43,6 +43,20 @@ bind_last w env env' env'' listed s h k =
 abbrev pub Finds : World → Pick → Type 0
 Finds w pick = (s : ℕ) → IsPureBelow w.sites s → waits (slice_get w.sites s) ≡ false
     → All (λ a. IsTrue (is_some (content_at w pick a))) (sources_at w.sites s) → IsTrue (is_some (content_at w pick s))
+
+-- an available site that isn't emitted waits for nothing, and its sources are available
+module _ (sites : List Site) (ar : Around) (more : (s : ℕ) → is_in s ar.brought ≡ true → is_in s ar.emitted ≡ true) where
+  pub opened : (n s : ℕ) → is_available n sites ar.brought s ≡ true → is_in s ar.emitted ≡ false
+      → (waits (slice_get sites s) ≡ false) × ((a : ℕ) → Contains (sources_at sites s) a → (m : ℕ) × (is_available m sites ar.brought a ≡ true))
+  opened zero s h out = absurd (false≢true h)
+  opened (suc n) s h out =
+      let sources = list_all (is_available n sites ar.brought) (sources_at sites s) in
+      elim (or_cases (is_in s ar.brought) (not (waits (slice_get sites s)) && sources) h) [
+        | inl i ↦ absurd (false≢true (sym out ∙ more s i))
+        | inr r ↦
+            let q = and_parts (not (waits (slice_get sites s))) sources r in
+            (not-true (waits (slice_get sites s)) q.0, λ a c. (n, each_passes (is_available n sites ar.brought) (sources_at sites s) q.1 a c))
+      ]
 
 -- an available site has a content
 pub available_found : (w : World) (pick : Pick) → SourcesBefore w.sites → Finds w pick → (ar : Around) → ((s : ℕ) → IsTrue (is_in s ar.brought) → IsTrue (is_some (content_at w pick s)))

@@ -1,27 +1,17 @@
 -- A bind order binds each site after what it is made of, and none twice.
-use Rattle.std.proofs.Common.{◌≡◌, ◌⊎◌, ℕ, zero, suc, ◌<◌, Bool, true, false, not, ◌&&◌, ◌||◌, List, [], ◌∷◌, ◌++◌, slice_get, Contains, flat_map, refl, sym, ap, ◌∙◌, subst, inl, inr, arith}
+use Rattle.std.proofs.Common.{◌≡◌, ◌⊎◌, ℕ, zero, suc, Bool, true, false, not, ◌&&◌, ◌||◌, List, [], ◌∷◌, ◌++◌, slice_get, Contains, flat_map, refl, sym, ap, ◌∙◌, subst, inl, inr, arith}
 use Rattle.std.specs.List.{list_all}
-use Rattle.std.proofs.lemmas.Bool.{cases_Bool, cond-true, cond-false, and_parts, and_from, or_cases, or_left, or_right, or_parts, false≢true, not-true}
+use Rattle.std.proofs.lemmas.Bool.{cases_Bool, cond-true, cond-false, and_parts, and_from, or_left, or_right, or_parts, false≢true}
 use Rattle.std.proofs.lemmas.List.{append-nil}
-use Rattle.std.proofs.lemmas.List.Elements.{Contains-append_left, Contains-append_right, Contains-append_cases, filter-append}
+use Rattle.std.proofs.lemmas.List.Elements.{Contains-append_left, Contains-append_right, filter-append}
 use Rattle.isle_model.specs.sites.Sites.{Site, sources_at}
 use Rattle.isle_model.specs.trees.Places.{Around, is_in, waits, is_available, available, is_in_place, below, all_below, each_after, listed_below, bind_order}
 use Rattle.isle_model.specs.claims.Layers.{can_be_used, binds_once}
-use Rattle.isle_model.proofs.Members.{nothing_in, in_head, in_tail, in_cases, in_alone, each_passes, all_pass, in_filter, from_filter, in_flat_map, from_flat_map, member_found, member_is_in}
-use Rattle.isle_laws_runs.proofs.runs.Below.{below_itself, below_source, below_enough, below_deeper}
-use Rattle.isle_laws_runs.proofs.runs.BindOrders.{to_bind}
-use Rattle.isle_laws_runs.proofs.runs.Contents.{SourcesBefore}
-use Rattle.isle_laws_runs.proofs.runs.Listing.{sources_within}
-
--- what a site is made of that is written in place isn't written in place itself
-abbrev pub PlacesApart : List Site → Type 0
-PlacesApart sites = (s a : ℕ) → is_in_place (slice_get sites s) ≡ true → Contains (sources_at sites s) a → is_in_place (slice_get sites a) ≡ false
-
--- what is emitted, and all below it, is bound but for what is written in place; and what is bound is emitted, or the call of a
--- loop
-pub record Scoped (sites : List Site) (emitted again scope : List ℕ) : Type 0 where
-  pub bound : (s u : ℕ) → Contains emitted s → Contains (below (suc s) sites s) u → is_in_place (slice_get sites u) ≡ false → Contains scope u
-  pub only : (s : ℕ) → Contains scope s → Contains emitted s ⊎ Contains again s
+use Rattle.isle_model.proofs.Members.{nothing_in, in_head, in_tail, in_cases, all_pass, in_filter, from_filter, from_flat_map, member_found, member_is_in}
+use Rattle.isle_laws_runs.proofs.runs.Below.{below_itself, below_deeper, source_below, all_below_itself, all_below_source}
+use Rattle.isle_laws_runs.proofs.runs.BindOrders.{to_bind, opened}
+use Rattle.isle_laws_runs.proofs.runs.Listing.{listed_last, NextSite, AreClosed, closed_next, Walk, Walked, order_listed}
+use Rattle.isle_laws_trees.proofs.binding.Scope.{BindableSet, ScopeAt}
 
 -- 1. scopes
 abbrev after_binds : List ℕ → List ℕ → List ℕ
@@ -53,28 +43,24 @@ module _ (sites : List Site) (again : List ℕ) where
       and_from (can_bind scope x) (binds_once sites again (x ∷ scope) (xs ++ s ∷ [])) a.0 (binds_last (x ∷ scope) xs s a.1 k)
 
 -- 2. what is listed
-module _ (sites : List Site) (before : SourcesBefore sites) (apart : PlacesApart sites) (emitted again scope : List ℕ) (start : Scoped sites emitted again scope) (ss : List ℕ) where
+module _ (b : BindableSet) (ar : Around) (scope : ScopeAt b ar) (ss : List ℕ) where
+  abbrev sites : List Site
+  sites = b.set.sites
+
   abbrev Reach : ℕ → Type 0
-  Reach u = (s : ℕ) × Contains emitted s × Contains (below (suc s) sites s) u
+  Reach u = (s : ℕ) × Contains ar.emitted s × Contains (below (suc s) sites s) u
 
   -- at or below what is emitted, or listed
   abbrev Ready : List ℕ → ℕ → Type 0
   Ready done u = Reach u ⊎ Contains done u
 
   record Listed (done : List ℕ) : Type 0 where
-    binds : binds_once sites again scope (to_bind sites done) ≡ true
-    sources : (s a : ℕ) → Contains done s → Contains (sources_at sites s) a → Ready done a
+    binds : binds_once sites scope.again scope.sites (to_bind sites done) ≡ true
+    sources : AreClosed sites Reach done
     fine : (s : ℕ) → Contains done s → Contains (all_below sites ss) s
 
-  wider : (done more : List ℕ) (u : ℕ) → Ready done u → Ready (done ++ more) u
-  wider done more u (inl r) = inl r
-  wider done more u (inr c) = inr (Contains-append_left done more u c)
-
-  source_below : (u a : ℕ) → Contains (sources_at sites u) a → Contains (below (suc u) sites u) a
-  source_below u a c = below_source sites u u a a c (subst (λ l. Contains l a) (sym (below_enough sites before u a (before u a c))) (below_itself sites a))
-
   reach_source : (u a : ℕ) → Reach u → Contains (sources_at sites u) a → Reach a
-  reach_source u a (s, e, k) c = (s, e, below_deeper sites before (suc s) s u a (omega arith) k (source_below u a c))
+  reach_source u a (s, e, k) c = (s, e, below_deeper sites b.before (suc s) s u a (omega arith) k (source_below sites b.before u a c))
 
   ready_source : (done : List ℕ) → Listed done → (u a : ℕ) → Ready done u → Contains (sources_at sites u) a → Ready done a
   ready_source done l u a (inl r) c = inl (reach_source u a r c)
@@ -88,180 +74,126 @@ module _ (sites : List Site) (before : SourcesBefore sites) (apart : PlacesApart
         | inr d ↦ let x = from_flat_map (below n sites) (sources_at sites s) u d in ready_below done l n x.0 u (ready_source done l s x.0 r x.1) x.2
       ]
 
-  ready_bound : (done : List ℕ) (u : ℕ) → Ready done u → is_in_place (slice_get sites u) ≡ false → Contains (to_bind sites done) u ⊎ Contains scope u
-  ready_bound done u (inl r) n = inr (start.bound r.0 u r.1 r.2 n)
+  ready_bound : (done : List ℕ) (u : ℕ) → Ready done u → is_in_place (slice_get sites u) ≡ false → Contains (to_bind sites done) u ⊎ Contains scope.sites u
+  ready_bound done u (inl r) n = inr (scope.scoped.bound r.0 u r.1 r.2 n)
   ready_bound done u (inr c) n = inl (in_filter (λ s. not (is_in_place (slice_get sites s))) done u c (ap not n))
 
-  usable : (done : List ℕ) → Listed done → (wide : List ℕ) → ((x : ℕ) → Contains (to_bind sites done) x ⊎ Contains scope x → Contains wide x) → (u : ℕ) → Ready done u → can_be_used sites wide u ≡ true
+  usable : (done : List ℕ) → Listed done → (wide : List ℕ) → ((x : ℕ) → Contains (to_bind sites done) x ⊎ Contains scope.sites x → Contains wide x) → (u : ℕ) → Ready done u → can_be_used sites wide u ≡ true
   usable done l wide all u r =
       elim (cases_Bool (is_in_place (slice_get sites u))) [
         | inr n ↦ or_left (is_in u wide) (is_in_place (slice_get sites u) && list_all (λ a. is_in a wide) (sources_at sites u)) (member_is_in u wide (all u (ready_bound done u r n)))
         | inl t ↦
             or_right (is_in u wide) (is_in_place (slice_get sites u) && list_all (λ a. is_in a wide) (sources_at sites u))
             (and_from (is_in_place (slice_get sites u)) (list_all (λ a. is_in a wide) (sources_at sites u)) t
-            (all_pass (λ a. is_in a wide) (sources_at sites u) (λ a c. member_is_in a wide (all a (ready_bound done a (ready_source done l u a r c) (apart u a t c))))))
+            (all_pass (λ a. is_in a wide) (sources_at sites u) (λ a c. member_is_in a wide (all a (ready_bound done a (ready_source done l u a r c) (b.apart u a t c))))))
       ]
 
   -- one more
-  may_bind : (done : List ℕ) → Listed done → (s : ℕ) → (is_in s emitted || is_in s done) ≡ false → ((a : ℕ) → Contains (sources_at sites s) a → Ready done a) → can_bind sites again (after_binds scope (to_bind sites done)) s ≡ true
+  may_bind : (done : List ℕ) → Listed done → (s : ℕ) → (is_in s ar.emitted || is_in s done) ≡ false → ((a : ℕ) → Contains (sources_at sites s) a → Ready done a) → can_bind sites scope.again (after_binds scope.sites (to_bind sites done)) s ≡ true
   may_bind done l s f r =
-      let wide = after_binds scope (to_bind sites done) in
-      let no = or_parts (is_in s emitted) (is_in s done) f in
-      and_from (not (is_in s wide) || is_in s again) (list_all (can_be_used sites wide) (sources_at sites s))
+      let wide = after_binds scope.sites (to_bind sites done) in
+      let no = or_parts (is_in s ar.emitted) (is_in s done) f in
+      and_from (not (is_in s wide) || is_in s scope.again) (list_all (can_be_used sites wide) (sources_at sites s))
       (elim (cases_Bool (is_in s wide)) [
-        | inr n ↦ or_left (not (is_in s wide)) (is_in s again) (ap not n)
+        | inr n ↦ or_left (not (is_in s wide)) (is_in s scope.again) (ap not n)
         | inl t ↦
-            elim (after_old scope (to_bind sites done) s (member_found s wide t)) [
+            elim (after_old scope.sites (to_bind sites done) s (member_found s wide t)) [
               | inl d ↦ absurd (false≢true (sym no.1 ∙ member_is_in s done (from_filter (λ x. not (is_in_place (slice_get sites x))) done s d).0))
               | inr d ↦
-                  elim (start.only s d) [
-                    | inl e ↦ absurd (false≢true (sym no.0 ∙ member_is_in s emitted e))
-                    | inr e ↦ or_right (not (is_in s wide)) (is_in s again) (member_is_in s again e)
+                  elim (scope.scoped.only s d) [
+                    | inl e ↦ absurd (false≢true (sym no.0 ∙ member_is_in s ar.emitted e))
+                    | inr e ↦ or_right (not (is_in s wide)) (is_in s scope.again) (member_is_in s scope.again e)
                   ]
             ]
       ])
-      (all_pass (can_be_used sites wide) (sources_at sites s) (λ a c. usable done l wide (λ x k. after_new scope (to_bind sites done) x k) a (r a c)))
+      (all_pass (can_be_used sites wide) (sources_at sites s) (λ a c. usable done l wide (λ x k. after_new scope.sites (to_bind sites done) x k) a (r a c)))
 
-  put_binds : (done : List ℕ) → Listed done → (s : ℕ) → (is_in s emitted || is_in s done) ≡ false → ((a : ℕ) → Contains (sources_at sites s) a → Ready done a) → binds_once sites again scope (to_bind sites (done ++ s ∷ [])) ≡ true
+  put_binds : (done : List ℕ) → Listed done → (s : ℕ) → (is_in s ar.emitted || is_in s done) ≡ false → ((a : ℕ) → Contains (sources_at sites s) a → Ready done a) → binds_once sites scope.again scope.sites (to_bind sites (done ++ s ∷ [])) ≡ true
   put_binds done l s f r =
       let split = filter-append (λ t. not (is_in_place (slice_get sites t))) done (s ∷ []) in
       elim (cases_Bool (is_in_place (slice_get sites s))) [
         | inl t ↦
             let same = split ∙ ap (λ k. to_bind sites done ++ k) (cond-false (not (is_in_place (slice_get sites s))) (s ∷ []) [] (ap not t)) ∙ append-nil (to_bind sites done) in
-            ap (binds_once sites again scope) same ∙ l.binds
+            ap (binds_once sites scope.again scope.sites) same ∙ l.binds
         | inr n ↦
             let same = split ∙ ap (λ k. to_bind sites done ++ k) (cond-true (not (is_in_place (slice_get sites s))) (s ∷ []) [] (ap not n)) in
-            ap (binds_once sites again scope) same ∙ binds_last sites again scope (to_bind sites done) s l.binds (may_bind done l s f r)
+            ap (binds_once sites scope.again scope.sites) same ∙ binds_last sites scope.again scope.sites (to_bind sites done) s l.binds (may_bind done l s f r)
       ]
 
-  put : (done : List ℕ) → Listed done → (s : ℕ) → Contains (all_below sites ss) s → (is_in s emitted || is_in s done) ≡ false → ((a : ℕ) → Contains (sources_at sites s) a → Ready done a) → Listed (done ++ s ∷ [])
-  put done l s fine f r = record {
-    binds = put_binds done l s f r;
-    sources = λ u a c k. elim (Contains-append_cases done (s ∷ []) u c) [
-      | inl d ↦ wider done (s ∷ []) a (l.sources u a d k)
-      | inr d ↦ wider done (s ∷ []) a (r a (subst (λ x. Contains (sources_at sites x) a) (sym (in_alone s u d)) k))
-    ];
-    fine = λ u c. elim (Contains-append_cases done (s ∷ []) u c) [ inl d ↦ l.fine u d | inr d ↦ subst (Contains (all_below sites ss)) (in_alone s u d) fine ];
+  put : (done : List ℕ) → Listed done → (n : NextSite sites ar.emitted Reach done) → Contains (all_below sites ss) n.site → Listed (done ++ n.site ∷ [])
+  put done l n fine = record {
+    binds = put_binds done l n.site n.unlisted n.sources;
+    sources = closed_next sites ar.emitted Reach done l.sources n;
+    fine = λ u c. elim (listed_last done n.site u c) [ inl d ↦ l.fine u d | inr e ↦ subst (Contains (all_below sites ss)) e fine ];
   }
 
-  -- what was listed stays so
-  record Steps (done more : List ℕ) (Now : ℕ → Type 0) : Type 0 where
-    listed : Listed more
-    kept : (u : ℕ) → Contains done u → Contains more u
-    now : (u : ℕ) → Now u → Ready more u
-
-  each : (f : List ℕ → ℕ → List ℕ) (xs : List ℕ) → ((x : ℕ) → Contains xs x → (done : List ℕ) → Listed done → Steps done (f done x) (λ u. x ≡ u))
-      → (done : List ℕ) → Listed done → Steps done (each_after f done xs) (Contains xs)
-  each f [] step done l = record { listed = l; kept = λ u c. c; now = λ u c. absurd (nothing_in u c) }
-  each f (x ∷ xs) step done l =
-      let m = step x (in_head x xs) done l in
-      let r = each f xs (λ y c. step y (in_tail x y xs c)) (f done x) m.listed in
-      record {
-        listed = r.listed;
-        kept = λ u c. r.kept u (m.kept u c);
-        now = λ u c. elim (in_cases x u xs c) [ inl e ↦ elim (m.now u e) [ inl a ↦ inl a | inr d ↦ inr (r.kept u d) ] | inr d ↦ r.now u d ];
-      }
-
-  there_already : (done : List ℕ) (s : ℕ) → (is_in s emitted || is_in s done) ≡ true → Ready done s
-  there_already done s h = elim (or_cases (is_in s emitted) (is_in s done) h) [ inl a ↦ inl (s, member_found s emitted a, below_itself sites s) | inr d ↦ inr (member_found s done d) ]
-
-  unlisted : (n s : ℕ) (done : List ℕ) → (is_in s emitted || is_in s done) ≡ false → (is_in s emitted || is_in s (each_after (listed_below n sites emitted) done (sources_at sites s))) ≡ false
-  unlisted n s done f =
-      let no = or_parts (is_in s emitted) (is_in s done) f in
-      let rest = each_after (listed_below n sites emitted) done (sources_at sites s) in
-      elim (cases_Bool (is_in s emitted || is_in s rest)) [
-        | inr k ↦ k
-        | inl t ↦
-            elim (or_cases (is_in s emitted) (is_in s rest) t) [
-              | inl i ↦ absurd (false≢true (sym no.0 ∙ i))
-              | inr i ↦
-                  elim (sources_within sites before emitted n s done s (member_found s rest i)) [
-                    | inl c ↦ absurd (false≢true (sym no.1 ∙ member_is_in s done c))
-                    | inr l ↦ absurd (omega (arith, l))
-                  ]
-            ]
-      ]
-
-  one : (n s : ℕ) → s < n → ((u : ℕ) → Contains (below n sites s) u → Contains (all_below sites ss) u) → (done : List ℕ) → Listed done → Steps done (listed_below n sites emitted done s) (λ u. s ≡ u)
-  one zero s l fine done k = absurd (omega (arith, l))
-  one (suc n) s l fine done k =
-      let rest = each_after (listed_below n sites emitted) done (sources_at sites s) in
-      elim (cases_Bool (is_in s emitted || is_in s done)) [
-        | inl t ↦
-            subst (λ x. Steps done x (λ u. s ≡ u)) (sym (cond-true (is_in s emitted || is_in s done) done (rest ++ s ∷ []) t))
-            (record { listed = k; kept = λ u c. c; now = λ u e. subst (Ready done) e (there_already done s t) })
-        | inr f ↦
-            subst (λ x. Steps done x (λ u. s ≡ u)) (sym (cond-false (is_in s emitted || is_in s done) done (rest ++ s ∷ []) f))
-            (let r = each (listed_below n sites emitted) (sources_at sites s) (λ x c. let m = before s x c in one n x (omega (arith, l, m)) (λ u j. fine u (below_source sites n s x u c j))) done k in
-            record {
-              listed = put rest r.listed s (fine s (in_head s (flat_map (below n sites) (sources_at sites s)))) (unlisted n s done f) r.now;
-              kept = λ u c. Contains-append_left rest (s ∷ []) u (r.kept u c);
-              now = λ u e. inr (Contains-append_right rest (s ∷ []) u (subst (Contains (s ∷ [])) e (in_head s [])));
-            })
-      ]
+  abbrev walk : Walk
+  walk = record {
+    sites = sites;
+    before = b.before;
+    emitted = ar.emitted;
+    Base = Reach;
+    base = λ t i. (t, member_found t ar.emitted i, below_itself sites t);
+    MayList = Contains (all_below sites ss);
+    deeper = λ s a may out c. all_below_source sites b.before ss s a may c;
+    Holds = Listed;
+    next = put;
+  }
 
   abbrev listed_all : List ℕ
-  listed_all = each_after (λ done s. listed_below (suc s) sites emitted done s) [] ss
+  listed_all = each_after (λ done s. listed_below (suc s) sites ar.emitted done s) [] ss
 
-  all_listed : Steps [] listed_all (Contains ss)
-  all_listed =
-      each (λ done s. listed_below (suc s) sites emitted done s) ss (λ s c. one (suc s) s (omega arith) (λ u k. in_flat_map (λ x. below (suc x) sites x) ss s u c k)) []
-      (record { binds = refl; sources = λ s a c k. absurd (nothing_in s c); fine = λ s c. absurd (nothing_in s c) })
+  all_listed : Walked walk [] listed_all (Contains ss)
+  all_listed = order_listed walk ss (λ s c. all_below_itself sites ss s c) (record { binds = refl; sources = λ s a c k. absurd (nothing_in s c); fine = λ s c. absurd (nothing_in s c) })
 
   abbrev pub binds_of : List ℕ
   binds_of = to_bind sites listed_all
 
-  joined_scope : (x : ℕ) → Contains binds_of x ⊎ Contains scope x → Contains (binds_of ++ scope) x
-  joined_scope x (inl c) = Contains-append_left binds_of scope x c
-  joined_scope x (inr c) = Contains-append_right binds_of scope x c
+  joined_scope : (x : ℕ) → Contains binds_of x ⊎ Contains scope.sites x → Contains (binds_of ++ scope.sites) x
+  joined_scope x (inl c) = Contains-append_left binds_of scope.sites x c
+  joined_scope x (inr c) = Contains-append_right binds_of scope.sites x c
 
   -- a bind order binds once, after it what is used can be used, and all below it is bound
-  pub binds_are_once : binds_once sites again scope binds_of ≡ true
-  binds_are_once = all_listed.listed.binds
+  pub binds_are_once : binds_once sites scope.again scope.sites binds_of ≡ true
+  binds_are_once = all_listed.holds.binds
 
-  pub uses_are_bound : (u : ℕ) → Contains ss u → can_be_used sites (binds_of ++ scope) u ≡ true
-  uses_are_bound u c = usable listed_all all_listed.listed (binds_of ++ scope) joined_scope u (all_listed.now u c)
+  pub uses_are_bound : (u : ℕ) → Contains ss u → can_be_used sites (binds_of ++ scope.sites) u ≡ true
+  uses_are_bound u c = usable listed_all all_listed.holds (binds_of ++ scope.sites) joined_scope u (all_listed.now u c)
 
-  pub below_is_bound : (u : ℕ) → Contains (all_below sites ss) u → is_in_place (slice_get sites u) ≡ false → Contains (binds_of ++ scope) u
+  pub below_is_bound : (u : ℕ) → Contains (all_below sites ss) u → is_in_place (slice_get sites u) ≡ false → Contains (binds_of ++ scope.sites) u
   below_is_bound u c n =
       let x = from_flat_map (λ s. below (suc s) sites s) ss u c in
-      joined_scope u (ready_bound listed_all u (ready_below listed_all all_listed.listed (suc x.0) x.0 u (all_listed.now x.0 x.1) x.2) n)
+      joined_scope u (ready_bound listed_all u (ready_below listed_all all_listed.holds (suc x.0) x.0 u (all_listed.now x.0 x.1) x.2) n)
 
   pub binds_within : (u : ℕ) → Contains binds_of u → Contains (all_below sites ss) u
-  binds_within u c = all_listed.listed.fine u (from_filter (λ s. not (is_in_place (slice_get sites s))) listed_all u c).0
+  binds_within u c = all_listed.holds.fine u (from_filter (λ s. not (is_in_place (slice_get sites s))) listed_all u c).0
 
 -- 3. of available sites, none is bound that waits
-module _ (sites : List Site) (ar : Around) (more : (x : ℕ) → Contains ar.brought x → Contains ar.emitted x) where
+module _ (b : BindableSet) (ar : Around) (more : (x : ℕ) → Contains ar.brought x → Contains ar.emitted x) where
   abbrev NoneWaits : List ℕ → Type 0
-  NoneWaits done = (x : ℕ) → Contains done x → waits (slice_get sites x) ≡ false
+  NoneWaits done = (x : ℕ) → Contains done x → waits (slice_get b.set.sites x) ≡ false
 
-  each_plain : (f : List ℕ → ℕ → List ℕ) (xs : List ℕ) → ((x : ℕ) → Contains xs x → (done : List ℕ) → NoneWaits done → NoneWaits (f done x)) → (done : List ℕ) → NoneWaits done → NoneWaits (each_after f done xs)
-  each_plain f [] step done h = h
-  each_plain f (x ∷ xs) step done h = each_plain f xs (λ y c. step y (in_tail x y xs c)) (f done x) (step x (in_head x xs) done h)
+  open_now : (n s : ℕ) → is_available n b.set.sites ar.brought s ≡ true → is_in s ar.emitted ≡ false
+      → (waits (slice_get b.set.sites s) ≡ false) × ((a : ℕ) → Contains (sources_at b.set.sites s) a → (m : ℕ) × (is_available m b.set.sites ar.brought a ≡ true))
+  open_now = opened b.set.sites ar (λ s i. member_is_in s ar.emitted (more s (member_found s ar.brought i)))
 
-  plain_below : (n s : ℕ) → is_available n sites ar.brought s ≡ true → (done : List ℕ) → NoneWaits done → NoneWaits (listed_below n sites ar.emitted done s)
-  plain_below zero s a done h = h
-  plain_below (suc n) s a done h =
-      let rest = each_after (listed_below n sites ar.emitted) done (sources_at sites s) in
-      elim (cases_Bool (is_in s ar.emitted || is_in s done)) [
-        | inl t ↦ subst NoneWaits (sym (cond-true (is_in s ar.emitted || is_in s done) done (rest ++ s ∷ []) t)) h
-        | inr f ↦
-            subst NoneWaits (sym (cond-false (is_in s ar.emitted || is_in s done) done (rest ++ s ∷ []) f))
-            (let here = not (waits (slice_get sites s)) && list_all (is_available n sites ar.brought) (sources_at sites s) in
-            let no = or_parts (is_in s ar.emitted) (is_in s done) f in
-            let p : here ≡ true = elim (or_cases (is_in s ar.brought) here a) [
-              | inl i ↦ absurd (false≢true (sym no.0 ∙ member_is_in s ar.emitted (more s (member_found s ar.brought i))))
-              | inr r ↦ r
-            ] in
-            let q = and_parts (not (waits (slice_get sites s))) (list_all (is_available n sites ar.brought) (sources_at sites s)) p in
-            let r = each_plain (listed_below n sites ar.emitted) (sources_at sites s) (λ x c. plain_below n x (each_passes (is_available n sites ar.brought) (sources_at sites s) q.1 x c)) done h in
-            λ x c. elim (Contains-append_cases rest (s ∷ []) x c) [
-              | inl d ↦ r x d
-              | inr d ↦ subst (λ y. waits (slice_get sites y) ≡ false) (in_alone s x d) (not-true (waits (slice_get sites s)) q.0)
-            ])
-      ]
+  abbrev waiting_walk : Walk
+  waiting_walk = record {
+    sites = b.set.sites;
+    before = b.before;
+    emitted = ar.emitted;
+    Base = λ t. is_in t ar.emitted ≡ true;
+    base = λ t i. i;
+    MayList = λ s. (n : ℕ) × (is_available n b.set.sites ar.brought s ≡ true);
+    deeper = λ s a may out c. (open_now may.0 s may.1 out).1 a c;
+    Holds = NoneWaits;
+    next = λ done h n may x c. elim (listed_last done n.site x c) [
+      | inl d ↦ h x d
+      | inr e ↦ subst (λ y. waits (slice_get b.set.sites y) ≡ false) e (open_now may.0 n.site may.1 (or_parts (is_in n.site ar.emitted) (is_in n.site done) n.unlisted).0).0
+    ];
+  }
 
-  pub none_waits : (ss : List ℕ) → ((s : ℕ) → Contains ss s → available sites ar s ≡ true) → (x : ℕ) → Contains (bind_order sites ar ss) x → waits (slice_get sites x) ≡ false
+  pub none_waits : (ss : List ℕ) → ((s : ℕ) → Contains ss s → available b.set.sites ar s ≡ true) → (x : ℕ) → Contains (bind_order b.set.sites ar ss) x → waits (slice_get b.set.sites x) ≡ false
   none_waits ss avail x c =
-      each_plain (λ done s. listed_below (suc s) sites ar.emitted done s) ss (λ s k. plain_below (suc s) s (avail s k)) [] (λ y k. absurd (nothing_in y k)) x
-      (from_filter (λ s. not (is_in_place (slice_get sites s))) (each_after (λ done s. listed_below (suc s) sites ar.emitted done s) [] ss) x c).0
+      (order_listed waiting_walk ss (λ s k. (suc s, avail s k)) (λ y k. absurd (nothing_in y k))).holds x
+      (from_filter (λ s. not (is_in_place (slice_get b.set.sites s))) (each_after (λ done s. listed_below (suc s) b.set.sites ar.emitted done s) [] ss) x c).0
