@@ -92,7 +92,7 @@ module _ (set : SiteSet) (multi : Bool) (built : IsWellBuilt set) (one : multi �
   -- a rule's demands were tested, at an end where none is higher
   tested_at_end : (ar : Around) (here : List ℕ) → Keeps ar here → IsEnd set ar here → (i : ℕ) (r : SetRule) → Contains here i → slice_get set.rules i ≡ Some r
       → ((j : ℕ) → Contains here j → prio_at set.rules j ≤ℤ prio_at set.rules i) → IsTested ar r
-  tested_at_end ar here k end i r c at top = end_is_tested set built ar here k.brings end.over i r c at top (k.passed i r c at)
+  tested_at_end ar here k end i r c at top = end_is_tested set (record { place = record { built = built; around = ar; brings = k.brings }; here = here; over = end.over }) (record { number = i; rule = r; in_here = c; at = at; top = top; passed = k.passed i r c at })
 
   itself : (x : _) → x ≤ℤ x
   itself x = omega (arith, ints)

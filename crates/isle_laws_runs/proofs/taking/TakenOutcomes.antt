@@ -16,7 +16,7 @@ use Rattle.isle_model.proofs.Members.{in_head, in_tail, in_alone, from_flat_map}
 use Rattle.isle_model.proofs.Elements.{in_either}
 use Rattle.isle_model.proofs.FewElements.{in_one}
 use Rattle.isle_laws_runs.proofs.runs.Below.{all_below_itself}
-use Rattle.isle_laws_runs.proofs.runs.Contents.{SourcesBefore}
+use Rattle.isle_laws_runs.proofs.runs.Contents.{SourcesBefore, StandApart}
 use Rattle.isle_laws_runs.proofs.taking.BindOrderGrowth.{Extends, each_extends, listed_extends}
 use Rattle.isle_laws_runs.proofs.taking.CallAnswers.{U, AnswersBound, IsAnswered, answer_goes}
 use Rattle.isle_laws_runs.proofs.taking.CallsIn.{CallsOnly, Known, InOrder, IsImpureAt, below_only}
@@ -113,7 +113,7 @@ module _ (taking : Taking) (uses : Uses taking) (r : SetRule) (multi : taking.wo
 -- if its sources have, and all that is unwrapped may answer nothing. Both are asked only of what comes after calls that gave
 -- values
 pub taken_follows : (w : World) (k : Pick) (before : SourcesBefore w.sites) (r : SetRule) (o : Outcome) → IsTakenUnder w k r o → w.multi ≡ false
-    → ((a b : ℕ) → a < length w.sites → b < length w.sites → unfold_site w.sites a ≡ unfold_site w.sites b → a ≡ b)
+    → StandApart w.sites
     → ((s : ℕ) → Contains (all_below w.sites (return_uses (Some r))) s → ComesAfterValues w k (map (unfold_site w.sites) r.impure) s → waits (slice_get w.sites s) ≡ false → ((a : ℕ) → Contains (sources_at w.sites s) a → IsTrue (is_some (content_at w k a))) → IsTrue (is_some (content_at w k s)))
     → ((s source : ℕ) → Contains (all_below w.sites (return_uses (Some r))) s → ComesAfterValues w k (map (unfold_site w.sites) r.impure) s → slice_get w.sites s ≡ Some (match_some_site source) → (c : Content) → content_at w k source ≡ Some c → (c ≡ nothing) ⊎ ((d : Content) × (c ≡ just d)))
     → (made : List SiteTerm) → ((x : ℕ) → Contains r.impure x → x < length w.sites) → InOrder made [] (map (unfold_site w.sites) r.impure) → CallsOnly (Known (map (unfold_site w.sites) r.impure)) (unfold_site w.sites r.result)

@@ -5,7 +5,7 @@ use Rattle.isle_model.specs.sites.Sites.{constructor_site, SiteTerm, unfold_site
 use Rattle.isle_model.specs.trees.Places.{Around, below}
 use Rattle.isle_model.specs.trees.Run.{World, Env}
 use Rattle.isle_model.specs.trees.SetRuns.{IsReachedUnder}
-use Rattle.isle_laws_runs.proofs.runs.Contents.{SourcesBefore}
+use Rattle.isle_laws_runs.proofs.runs.Contents.{SourcesBefore, StandApart}
 
 -- a place that a run reached under a pick: what is around it, and what is bound there
 pub record ReachedPlace (w : World) (k : Pick) : Type 0 where
@@ -19,7 +19,7 @@ pub record Taking : Type 0 where
   pub world : World
   pub pick : Pick
   pub before : SourcesBefore world.sites
-  pub once : (a b : ℕ) → a < length world.sites → b < length world.sites → unfold_site world.sites a ≡ unfold_site world.sites b → a ≡ b
+  pub once : StandApart world.sites
   pub place : ReachedPlace world pick
   pub calls : List SiteTerm
 
