@@ -6,7 +6,7 @@ use Rattle.isle_model.specs.sites.Demands.{site_term_eq}
 use Rattle.isle_model.specs.sites.Sites.{SiteTerm}
 use Rattle.isle_laws_runs.specs.Exact.{GiveSamePlaces}
 use Rattle.isle_laws_runs.specs.Orders.{IsOfPlaces}
-use Rattle.isle_laws_runs.proofs.picks.Enumerated.{picks_are_exact_lem}
+use Rattle.isle_laws_runs.proofs.picks.PickLists.{picks_are_exact_lem}
 use Rattle.isle_laws_runs.proofs.picks.FirstCall.{calls_can_come_first_lem, results_are_of_places_lem}
 use Rattle.isle_laws_runs.proofs.picks.SamePlaces.{only_places_matter_lem}
 use Rattle.isle_examples.specs.MeaningForms.{given}

@@ -26,13 +26,13 @@ pub fn no_multi_is_no_iterators()
 {}
 
 /// A rule without multi calls matches under every pick as it does without one.
-#[tactic(auto, using(crate::proofs::picks::Plain::matches_as_plain_lem))]
+#[tactic(auto, using(crate::proofs::picks::PlainMatching::matches_as_plain_lem))]
 pub fn matches_as_plain()
     ensures { MatchesAsPlain }
 {}
 
 /// The right side of a rule without multi calls ends under every pick as it does without one.
-#[tactic(auto, using(crate::proofs::picks::Plain::ends_as_plain_lem))]
+#[tactic(auto, using(crate::proofs::picks::PlainMatching::ends_as_plain_lem))]
 pub fn ends_as_plain()
     ensures { EndsAsPlain }
 {}
@@ -67,13 +67,13 @@ pub fn results_are_of_places()
 {}
 
 /// What a site has under a pick, it can hold.
-#[tactic(auto, using(crate::proofs::picks::Held::contents_are_held_lem))]
+#[tactic(auto, using(crate::proofs::picks::HeldContents::contents_are_held_lem))]
 pub fn contents_are_held()
     ensures { ContentsAreHeld }
 {}
 
 /// What a site can hold, it has under every pick, where it takes no answers of multi calls.
-#[tactic(auto, using(crate::proofs::picks::Held::held_are_contents_lem))]
+#[tactic(auto, using(crate::proofs::picks::HeldContents::held_are_contents_lem))]
 pub fn held_are_contents()
     ensures { HeldAreContents }
 {}

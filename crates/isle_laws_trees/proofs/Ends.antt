@@ -9,11 +9,11 @@ use Rattle.isle_model.specs.trees.Sound.{IsTested}
 use Rattle.isle_model.specs.trees.Tests.{Test, match_test, equal_test, loop_test, needs, is_needed, needs_at, cover, sources_around, is_at_hand, IsOpen}
 use Rattle.isle_model.specs.trees.WellBuilt.{tests_site, IsWellBuiltRule}
 use Rattle.isle_model.proofs.Members.{nothing_in, constraint_in, from_map, member_found, member_is_in}
-use Rattle.isle_laws_trees.proofs.Available.{Made, TreePlace, within, reach}
+use Rattle.isle_laws_trees.proofs.Availability.{Made, TreePlace, within, reach}
 use Rattle.isle_laws_trees.proofs.Covers.{prio_at, top_is_covered}
-use Rattle.isle_laws_trees.proofs.Exact.{not_exact}
+use Rattle.isle_laws_trees.proofs.JudgeExactness.{not_exact}
 use Rattle.isle_laws_trees.proofs.Passing.{Passed}
-use Rattle.isle_laws_runs.proofs.runs.Demanded.{joined_itself, joined_back}
+use Rattle.isle_laws_runs.proofs.runs.RuleDemands.{joined_itself, joined_back}
 
 pub joins_turned : (ps : List (ℕ × ℕ)) (a b : ℕ) → joins ps a b ≡ true → joins ps b a ≡ true
 joins_turned ps a b h = eq-eqb (class ps b) (class ps a) (sym (eqb-true (class ps a) (class ps b) h))

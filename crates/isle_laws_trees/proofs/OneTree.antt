@@ -15,8 +15,8 @@ use Rattle.isle_model.proofs.Members.{nothing_in, in_head, in_cases, some_member
 use Rattle.isle_laws_trees.specs.OneTree.{BestTreesAreOne}
 use Rattle.isle_laws_trees.proofs.Counting.{distinct_within}
 use Rattle.isle_laws_trees.proofs.Covers.{first_at_least, at_least_not_lower, descend_rest}
-use Rattle.isle_laws_trees.proofs.Exact.{not_exact}
-use Rattle.isle_laws_trees.proofs.Few.{once_distinct}
+use Rattle.isle_laws_trees.proofs.JudgeExactness.{not_exact}
+use Rattle.isle_laws_trees.proofs.StepCounts.{once_distinct}
 use Rattle.isle_laws_trees.proofs.Scores.{one_test_is_greatest_lem}
 use Rattle.isle_laws_runs.proofs.runs.Order.{before_chain, before_itself}
 

@@ -18,7 +18,7 @@ use Rattle.isle_laws_demands.proofs.visits.Once.{once_of_term, one_number}
 use Rattle.isle_laws_demands.proofs.visits.Unfolding.{unfolds}
 use Rattle.isle_laws_trees.specs.OneAnswer.{EachTwo, ShowSame, BuiltSetsShowSame}
 use Rattle.isle_laws_runs.proofs.runs.Contents.{StandApart}
-use Rattle.isle_laws_trees.proofs.Meant.{asked_once}
+use Rattle.isle_laws_trees.proofs.TreeMeanings.{asked_once}
 
 -- 1. values that answer alike
 pub options_one : {X : Type 0} (o q : Option X) → ((x : X) → o ≡ Some x → q ≡ Some x) → ((x : X) → q ≡ Some x → o ≡ Some x) → o ≡ q

@@ -11,10 +11,10 @@ use Rattle.isle_model.specs.trees.Tests.{match_test, equal_test, loop_test, prio
 use Rattle.isle_model.specs.trees.Best.{IsEnd, descend, BestSteps, BestArms}
 use Rattle.isle_model.specs.trees.WellBuilt.{IsWellBuilt, HasOnePriority, BestTreesAreSound}
 use Rattle.isle_model.proofs.Members.{nothing_in, in_head, in_tail, in_cases, get_within, member_found, member_is_in}
-use Rattle.isle_laws_trees.proofs.Available.{Brings}
+use Rattle.isle_laws_trees.proofs.Availability.{Brings}
 use Rattle.isle_laws_trees.proofs.Covers.{prio_at, none_higher, first_is_top, descend_rest, cover_over, needed_here}
 use Rattle.isle_laws_trees.proofs.Ends.{end_is_tested}
-use Rattle.isle_laws_trees.proofs.Exact.{not_exact}
+use Rattle.isle_laws_trees.proofs.JudgeExactness.{not_exact}
 use Rattle.isle_laws_trees.proofs.Passing.{Passed, sources_there, passed_after, passed_arm, passed_equal, passed_loop, passed_at_start}
 
 module _ (set : SiteSet) (multi : Bool) (built : IsWellBuilt set) (one : multi ≡ true → HasOnePriority set.rules) where

@@ -20,7 +20,7 @@ use Rattle.isle_laws_runs.specs.Exact.{GiveSamePlaces}
 use Rattle.isle_laws_runs.specs.Orders.{Covered, OrderedFrom, IsOfPlaces, CallsCanComeFirst, ResultsAreOfPlaces}
 use Rattle.isle_model.proofs.SameSites.{term_means}
 use Rattle.isle_laws_runs.proofs.picks.SamePlaces.{content_same, PicksAlike, matching_same, ends_same}
-use Rattle.isle_laws_runs.proofs.picks.Grown.{keys, keys_push, content_kept}
+use Rattle.isle_laws_runs.proofs.picks.LongerPicks.{keys, keys_push, content_kept}
 
 -- 1. places
 else_kept : (b : Bool) (n : ℕ) (o q : Option ℕ) → cond b (Some n) (or_else o q) ≡ or_else (cond b (Some n) o) q

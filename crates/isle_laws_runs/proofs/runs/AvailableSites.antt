@@ -12,7 +12,7 @@ use Rattle.isle_laws_runs.proofs.runs.Below.{all_below_itself, all_below_pure, a
 use Rattle.isle_laws_runs.proofs.runs.Binding.{content_of, Held, held_as, kept_below, reads, binds_now, keeps_bound, keeps_in_place}
 use Rattle.isle_laws_runs.proofs.runs.BindOrders.{to_bind, bind_last, opened, available_found}
 use Rattle.isle_laws_runs.proofs.runs.Listing.{IsHere, stays_here, last_here, here_or_last, listed_last, NextSite, Walk, Walked, order_listed}
-use Rattle.isle_laws_runs.proofs.runs.Places.{ClearWorld, Kept, At, Place, IsReady, wider}
+use Rattle.isle_laws_runs.proofs.runs.RunPlaces.{ClearWorld, Kept, At, Place, IsReady, wider}
 
 module _ (clear : ClearWorld) (place : Place clear) where
   pub found_at : (s : ℕ) → IsReady clear.world.sites place.around s → (c : Content) × (content_at clear.world place.pick s ≡ Some c)

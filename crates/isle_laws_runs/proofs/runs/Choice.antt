@@ -16,10 +16,10 @@ use Rattle.isle_model.specs.trees.SetRuns.{tested_sites, IsTestedRule, IsTestedS
 use Rattle.isle_model.proofs.Members.{nothing_in, member_from_get, get_from_member, member_counted, in_flat_map}
 use Rattle.isle_laws_runs.proofs.runs.Below.{pure_alone}
 use Rattle.isle_laws_runs.proofs.runs.BindOrders.{Finds}
-use Rattle.isle_laws_runs.proofs.runs.Places.{IsClear, ClearWorld, ServesUnder, IsGoneOver, set_of}
+use Rattle.isle_laws_runs.proofs.runs.RunPlaces.{IsClear, ClearWorld, ServesUnder, IsGoneOver, set_of}
 use Rattle.isle_laws_runs.proofs.runs.Standing.{holds_here}
 use Rattle.isle_laws_runs.proofs.runs.Finding.{Found, found_left, found_right, next_found, rule_found}
-use Rattle.isle_laws_runs.proofs.runs.Taken.{taken_ends, taken_here}
+use Rattle.isle_laws_runs.proofs.runs.Returns.{taken_ends, taken_here}
 use Rattle.isle_laws_runs.proofs.runs.Claims.{NeverHold, IsKept, says_of_run}
 
 module _ (w : World) (rules : List SetRule) (built : IsTestedSet (set_of w rules)) (served : ServesTests (set_of w rules) w) where

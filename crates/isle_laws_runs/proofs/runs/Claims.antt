@@ -15,14 +15,14 @@ use Rattle.isle_model.specs.trees.Run.{Env, as_value, Trace, content_fields, end
 use Rattle.isle_model.specs.trees.Sound.{NoneHigher, comes_before, AllAsk, AllJoin, AllGoOver, IsTested, SoundSteps, SoundArms, IsSound}
 use Rattle.isle_model.specs.trees.Collects.{content_at, meets, demands_hold}
 use Rattle.isle_model.proofs.Members.{nothing_in, in_head, some_member, member_from_get, get_within, constraint_in, member_is_in}
-use Rattle.isle_laws_runs.proofs.picks.Grown.{keys}
+use Rattle.isle_laws_runs.proofs.picks.LongerPicks.{keys}
 use Rattle.isle_laws_runs.proofs.picks.Calls.{unfold_once}
 use Rattle.isle_laws_runs.proofs.runs.Order.{before_itself}
 use Rattle.isle_laws_runs.proofs.runs.Arms.{arms_after}
 use Rattle.isle_laws_runs.proofs.runs.Contents.{sources_in}
 use Rattle.isle_laws_runs.proofs.runs.Below.{IsPureBelow}
-use Rattle.isle_laws_runs.proofs.runs.Demanded.{joined_back, demand_met, demand_equal}
-use Rattle.isle_laws_runs.proofs.runs.Places.{ClearWorld, ServesUnder, IsGoneOver, Kept, At, Place, NextCall, wider, set_in, constraint_tested, class_tested, call_known}
+use Rattle.isle_laws_runs.proofs.runs.RuleDemands.{joined_back, demand_met, demand_equal}
+use Rattle.isle_laws_runs.proofs.runs.RunPlaces.{ClearWorld, ServesUnder, IsGoneOver, Kept, At, Place, NextCall, wider, set_in, constraint_tested, class_tested, call_known}
 use Rattle.isle_laws_runs.proofs.runs.Standing.{at_equal}
 use Rattle.isle_laws_runs.proofs.runs.Loops.{Loop, after_loop, loop_around, grown, meets_grown, at_after_loop, at_loop}
 use Rattle.isle_laws_runs.proofs.runs.Steps.{trace, values_cases, fields_cases, match_step, equal_step, loop_step, arm_step, arm_unmet}

@@ -11,11 +11,11 @@ use Rattle.isle_model.specs.trees.Run.{World, Env}
 use Rattle.isle_model.specs.trees.Collects.{content_at, meets}
 use Rattle.isle_model.proofs.Members.{in_head, in_tail, in_cases, in_alone}
 use Rattle.isle_model.proofs.Numbers.{in_either, in_first, in_second}
-use Rattle.isle_laws_runs.proofs.picks.Grown.{keys, keys_push, content_grown, place_added}
+use Rattle.isle_laws_runs.proofs.picks.LongerPicks.{keys, keys_push, content_grown, place_added}
 use Rattle.isle_laws_runs.proofs.runs.Contents.{sources_in, content_layer}
 use Rattle.isle_laws_runs.proofs.runs.Below.{under, all_below_itself, call_or_under, under_below}
 use Rattle.isle_laws_runs.proofs.runs.Binding.{Held, held_as, keeps_bound}
-use Rattle.isle_laws_runs.proofs.runs.Places.{ClearWorld, ServesUnder, IsGoneOver, Kept, Joined, At, wider}
+use Rattle.isle_laws_runs.proofs.runs.RunPlaces.{ClearWorld, ServesUnder, IsGoneOver, Kept, Joined, At, wider}
 
 -- in the body of a loop over calls, and after it
 abbrev pub loop_around : List Site → Around → ℕ → List ℕ → Around

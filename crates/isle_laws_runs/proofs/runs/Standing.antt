@@ -18,8 +18,8 @@ use Rattle.isle_laws_runs.proofs.runs.Classes.{joined_same}
 use Rattle.isle_laws_runs.proofs.runs.Below.{below_itself, below_source}
 use Rattle.isle_laws_runs.proofs.runs.Binding.{Held, held_as}
 use Rattle.isle_laws_runs.proofs.runs.FieldSites.{gate_brought}
-use Rattle.isle_laws_runs.proofs.runs.Demanded.{demands_from}
-use Rattle.isle_laws_runs.proofs.runs.Places.{IsClear, ClearWorld, Kept, joined_at, At, Place, IsReady, set_in, wider, class_tested}
+use Rattle.isle_laws_runs.proofs.runs.RuleDemands.{demands_from}
+use Rattle.isle_laws_runs.proofs.runs.RunPlaces.{IsClear, ClearWorld, Kept, joined_at, At, Place, IsReady, set_in, wider, class_tested}
 use Rattle.isle_laws_runs.proofs.runs.AvailableSites.{found_at}
 
 module _ (clear : ClearWorld) (place : Place clear) where

@@ -14,9 +14,9 @@ use Rattle.isle_model.proofs.ValuesEqual.{eq_means, eq_same}
 use Rattle.isle_model.proofs.Members.{in_head, in_tail, in_cases, in_alone}
 use Rattle.isle_model.proofs.Numbers.{in_first}
 use Rattle.isle_laws_runs.proofs.runs.Below.{all_below_itself}
-use Rattle.isle_laws_runs.proofs.runs.Demanded.{joined_back}
+use Rattle.isle_laws_runs.proofs.runs.RuleDemands.{joined_back}
 use Rattle.isle_laws_runs.proofs.runs.Fields.{FieldsHold, fields_hold, fields_bound, fields_pure}
-use Rattle.isle_laws_runs.proofs.runs.Places.{ClearWorld, Kept, At, Place, IsReady, wider, set_in}
+use Rattle.isle_laws_runs.proofs.runs.RunPlaces.{ClearWorld, Kept, At, Place, IsReady, wider, set_in}
 use Rattle.isle_laws_runs.proofs.runs.AvailableSites.{found_at, binds_at}
 use Rattle.isle_laws_runs.proofs.runs.Standing.{at_arm}
 

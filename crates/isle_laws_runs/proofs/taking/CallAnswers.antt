@@ -14,9 +14,9 @@ use Rattle.isle_laws_runs.proofs.runs.Below.{source_below, all_below_source}
 use Rattle.isle_laws_runs.proofs.runs.Contents.{sources_in}
 use Rattle.isle_laws_runs.proofs.runs.Listing.{stays_here, last_here, unlisted}
 use Rattle.isle_laws_runs.proofs.taking.CallsIn.{CallOnly, Known, IsNext, each_only, IsImpureAt, below_only, call_number, unwrap_number}
-use Rattle.isle_laws_runs.proofs.taking.Followed.{Followed, goes_on, stops, follow_with, answered_call, follow_call}
+use Rattle.isle_laws_runs.proofs.taking.FollowedCalls.{Followed, goes_on, stops, follow_with, answered_call, follow_call}
 use Rattle.isle_laws_runs.proofs.taking.ImpureCalls.{one_more, ImpureCall, values_of, CallMade, CallGone, call_fresh, not_listed, call_goes}
-use Rattle.isle_laws_runs.proofs.taking.Progress.{GaveValues, Emitted, Here, content, bound_so_far, Listed, fails_on, not_emitted}
+use Rattle.isle_laws_runs.proofs.taking.TakingProgress.{GaveValues, Emitted, Here, content, bound_so_far, Listed, fails_on, not_emitted}
 use Rattle.isle_laws_runs.proofs.taking.PureSites.{calls_nothing}
 use Rattle.isle_laws_runs.proofs.taking.SitesBelow.{Uses, Below, Ready, put_pure}
 use Rattle.isle_laws_runs.proofs.taking.Taking.{Taking}

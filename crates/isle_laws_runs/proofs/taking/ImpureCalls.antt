@@ -16,8 +16,8 @@ use Rattle.isle_laws_runs.proofs.runs.Binding.{content_of}
 use Rattle.isle_laws_runs.proofs.runs.Contents.{sources_in, content_layer}
 use Rattle.isle_laws_runs.proofs.runs.Listing.{stays_here, last_here, unlisted}
 use Rattle.isle_laws_runs.proofs.runs.PureBindings.{values_read}
-use Rattle.isle_laws_runs.proofs.taking.Progress.{GaveValues, Emitted, Here, Next, content, bound_so_far, Listed, fails_on, not_emitted, comes_after, put_bound}
-use Rattle.isle_laws_runs.proofs.taking.Settled.{values_there}
+use Rattle.isle_laws_runs.proofs.taking.TakingProgress.{GaveValues, Emitted, Here, Next, content, bound_so_far, Listed, fails_on, not_emitted, comes_after, put_bound}
+use Rattle.isle_laws_runs.proofs.taking.SettledSites.{values_there}
 use Rattle.isle_laws_runs.proofs.taking.SitesBelow.{Uses, is_none, Below, AllListed, OneFailed, Ready, sites_go}
 use Rattle.isle_laws_runs.proofs.taking.Taking.{Taking}
 

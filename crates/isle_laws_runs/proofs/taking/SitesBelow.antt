@@ -15,9 +15,9 @@ use Rattle.isle_laws_runs.proofs.runs.Contents.{sources_in, content_layer}
 use Rattle.isle_laws_runs.proofs.runs.Listing.{stays_here, Walk, all_listed}
 use Rattle.isle_laws_runs.proofs.runs.PureBindings.{binds_content}
 use Rattle.isle_laws_runs.proofs.taking.CallsIn.{IsImpureAt}
-use Rattle.isle_laws_runs.proofs.taking.Progress.{GaveValues, Emitted, Here, Next, content, bound_so_far, Listed, fails_on, bind_next, comes_after, fresh, read_sources, put_bound, put_placed}
+use Rattle.isle_laws_runs.proofs.taking.TakingProgress.{GaveValues, Emitted, Here, Next, content, bound_so_far, Listed, fails_on, bind_next, comes_after, fresh, read_sources, put_bound, put_placed}
 use Rattle.isle_laws_runs.proofs.taking.PureSites.{calls_nothing, pure_site}
-use Rattle.isle_laws_runs.proofs.taking.Settled.{below_there}
+use Rattle.isle_laws_runs.proofs.taking.SettledSites.{below_there}
 use Rattle.isle_laws_runs.proofs.taking.Taking.{Taking, ComesAfterValues}
 
 -- the sites that a rule which is taken uses: what stands at or below them and waits is unwrapped or emitted; what comes after

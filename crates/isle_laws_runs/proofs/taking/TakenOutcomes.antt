@@ -20,9 +20,9 @@ use Rattle.isle_laws_runs.proofs.runs.Contents.{SourcesBefore, StandApart}
 use Rattle.isle_laws_runs.proofs.taking.BindOrderGrowth.{Extends, each_extends, listed_extends}
 use Rattle.isle_laws_runs.proofs.taking.CallAnswers.{U, AnswersBound, IsAnswered, answer_goes}
 use Rattle.isle_laws_runs.proofs.taking.CallsIn.{CallsOnly, Known, InOrder, IsImpureAt, below_only}
-use Rattle.isle_laws_runs.proofs.taking.Followed.{goes_on, stops, then_follow, answered_call, follow, result_after}
+use Rattle.isle_laws_runs.proofs.taking.FollowedCalls.{goes_on, stops, then_follow, answered_call, follow, result_after}
 use Rattle.isle_laws_runs.proofs.taking.ImpureCalls.{one_more}
-use Rattle.isle_laws_runs.proofs.taking.Progress.{Here, content, bound_so_far, nothing_listed, fails_on}
+use Rattle.isle_laws_runs.proofs.taking.TakingProgress.{Here, content, bound_so_far, nothing_listed, fails_on}
 use Rattle.isle_laws_runs.proofs.taking.SitesBelow.{Uses, Below, Ready, sites_go}
 use Rattle.isle_laws_runs.proofs.taking.Taking.{Taking, ComesAfterValues}
 

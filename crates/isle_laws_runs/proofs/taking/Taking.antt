@@ -1,7 +1,7 @@
 -- Taking a rule under a pick: the place that it is taken from, and the impure calls that it makes.
-use Rattle.std.proofs.Common.{◌≡◌, ℕ, suc, ◌<◌, List, length, take, Some, slice_get, All, Contains}
+use Rattle.std.proofs.Common.{◌≡◌, ℕ, suc, List, take, Some, slice_get, All, Contains}
 use Rattle.isle_model.specs.rules.Picks.{Pick, HasContent}
-use Rattle.isle_model.specs.sites.Sites.{constructor_site, SiteTerm, unfold_site}
+use Rattle.isle_model.specs.sites.Sites.{constructor_site, SiteTerm}
 use Rattle.isle_model.specs.trees.Places.{Around, below}
 use Rattle.isle_model.specs.trees.Run.{World, Env}
 use Rattle.isle_model.specs.trees.SetRuns.{IsReachedUnder}

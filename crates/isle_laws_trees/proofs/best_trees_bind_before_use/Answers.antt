@@ -1,5 +1,5 @@
 use Rattle.isle_laws_trees.proofs.binding.Trees.{best_tree_binds}
-use Rattle.isle_laws_trees.proofs.binding.InPlace.{places_apart}
+use Rattle.isle_laws_trees.proofs.binding.PlacedSites.{places_apart}
 use Rattle.isle_laws_trees.proofs.best_trees_bind_before_use.Goals as goal
 
 pub returns : goal.returns

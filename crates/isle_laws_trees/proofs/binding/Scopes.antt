@@ -11,9 +11,9 @@ use Rattle.isle_model.specs.trees.Best.{are_distinct}
 use Rattle.isle_model.specs.claims.Layers.{brings_new}
 use Rattle.isle_model.proofs.Members.{in_head, in_tail, in_cases, in_alone, all_pass, in_flat_map, from_flat_map, member_found, member_is_in}
 use Rattle.isle_laws_runs.proofs.runs.Below.{under, below_enough, below_deeper, call_or_under, under_below}
-use Rattle.isle_laws_trees.proofs.binding.BindOnce.{below_is_bound, binds_within, none_waits}
+use Rattle.isle_laws_trees.proofs.binding.ScopedOrders.{below_is_bound, binds_within, none_waits}
 use Rattle.isle_laws_trees.proofs.binding.Scope.{Scoped, BindableSet, ScopeAt, ArmFields, LoopCall}
-use Rattle.isle_laws_trees.proofs.binding.Brought.{IsFieldOf, brought_is_field, brought_distinct}
+use Rattle.isle_laws_trees.proofs.binding.BroughtSites.{IsFieldOf, brought_is_field, brought_distinct}
 use Rattle.isle_laws_trees.proofs.Passing.{sources_there}
 
 -- what is brought is emitted, and what waits and is bound stands on what was tested

@@ -11,9 +11,9 @@ use Rattle.isle_model.specs.trees.Best.{BestSteps, BestArms, IsBestTree}
 use Rattle.isle_model.specs.claims.Layers.{gone_over, can_be_used, brings_new, binds_once, binds_before_use, binds_in_check, binds_in_arms, BindsBeforeUse}
 use Rattle.isle_model.proofs.Members.{nothing_in, in_cases, in_alone, all_pass}
 use Rattle.isle_laws_runs.proofs.runs.Below.{under}
-use Rattle.isle_laws_trees.proofs.Exact.{not_exact}
+use Rattle.isle_laws_trees.proofs.JudgeExactness.{not_exact}
 use Rattle.isle_laws_trees.proofs.Passing.{sources_there}
-use Rattle.isle_laws_trees.proofs.binding.BindOnce.{binds_are_once, uses_are_bound}
+use Rattle.isle_laws_trees.proofs.binding.ScopedOrders.{binds_are_once, uses_are_bound}
 use Rattle.isle_laws_trees.proofs.binding.Scope.{Scoped, BindableSet, ScopeAt, ArmFields, LoopCall}
 use Rattle.isle_laws_trees.proofs.binding.Scopes.{Waiting, scoped_after, waiting_after, scoped_arm, waiting_arm, brings_new_fields, scoped_after_loop, scoped_loop, waiting_loop, waiting_after_loop, brings_new_result}
 

@@ -42,10 +42,10 @@ use Rattle.isle_model.proofs.SitesMade.{once_with}
 use Rattle.isle_laws_runs.specs.Orders.{Within, OrderedFrom}
 use Rattle.isle_laws_runs.proofs.picks.Calls.{unfold_once, calls_below, IsEarlier, numbers_ordered}
 use Rattle.isle_laws_runs.proofs.picks.FirstCall.{results_are_of_places_lem}
-use Rattle.isle_laws_runs.proofs.picks.Ordered.{calls_ordered}
-use Rattle.isle_laws_runs.proofs.picks.Reordered.{reordered}
+use Rattle.isle_laws_runs.proofs.picks.VisitOrder.{calls_ordered}
+use Rattle.isle_laws_runs.proofs.picks.CallOrders.{reordered}
 use Rattle.isle_laws_runs.proofs.runs.Below.{below_within}
-use Rattle.isle_laws_runs.proofs.runs.Collected.{sound_trees_collect_lem}
+use Rattle.isle_laws_runs.proofs.runs.Collection.{sound_trees_collect_lem}
 use Rattle.isle_laws_runs.proofs.runs.Contents.{sources_in}
 use Rattle.isle_laws_demands.specs.MatchLaws.{BuiltSetsMatchByDemands, BuiltSetsHoldResults}
 use Rattle.isle_laws_demands.specs.ServeLaws.{ServedMultiSetsServe}

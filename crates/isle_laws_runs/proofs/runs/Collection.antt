@@ -24,13 +24,13 @@ use Rattle.isle_model.proofs.Members.{in_head, in_alone, member_from_get, in_fla
 use Rattle.isle_model.proofs.Numbers.{none_pass, filters_same}
 use Rattle.isle_laws_runs.proofs.runs.Below.{pure_alone}
 use Rattle.isle_laws_runs.proofs.runs.BindOrders.{Finds}
-use Rattle.isle_laws_runs.proofs.runs.Places.{IsClear, ClearWorld, ServesUnder, At, Place, IsReady, wider, set_of}
+use Rattle.isle_laws_runs.proofs.runs.RunPlaces.{IsClear, ClearWorld, ServesUnder, At, Place, IsReady, wider, set_of}
 use Rattle.isle_laws_runs.proofs.runs.AvailableSites.{found_at, binds_at}
 use Rattle.isle_laws_runs.proofs.runs.Standing.{ready_here, holds_here}
 use Rattle.isle_laws_runs.proofs.runs.Steps.{trace, step_runs}
 use Rattle.isle_laws_runs.proofs.runs.Claims.{IsKept, says_of_run}
-use Rattle.isle_laws_runs.proofs.runs.Added.{Adds, adds_none, adds_then, adds_as, each_adds}
-use Rattle.isle_laws_runs.proofs.runs.Left.{is_left, left_of, left, left_nothing, none_left, longer, loop_first}
+use Rattle.isle_laws_runs.proofs.runs.AddedResults.{Adds, adds_none, adds_then, adds_as, each_adds}
+use Rattle.isle_laws_runs.proofs.runs.ResultsLeft.{is_left, left_of, left, left_nothing, none_left, longer, loop_first}
 
 module _ (w : World) (rules : List SetRule) (built : IsCollectedSet (set_of w rules)) (served : ServesSet (set_of w rules) w) where
   -- 1. what is asked of the set, and of the world under every pick

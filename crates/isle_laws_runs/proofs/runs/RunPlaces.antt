@@ -13,13 +13,13 @@ use Rattle.isle_model.specs.rules.Picks.{Pick}
 use Rattle.isle_model.specs.trees.Collects.{content_at, meets, IsPureAt}
 use Rattle.isle_model.specs.trees.SetRuns.{tested_sites}
 use Rattle.isle_model.proofs.Members.{in_map, in_flat_map}
-use Rattle.isle_laws_runs.proofs.picks.Grown.{keys}
+use Rattle.isle_laws_runs.proofs.picks.LongerPicks.{keys}
 use Rattle.isle_laws_runs.proofs.runs.Classes.{SameAtPairs}
 use Rattle.isle_laws_runs.proofs.runs.Contents.{SourcesBefore}
 use Rattle.isle_laws_runs.proofs.runs.Below.{IsPureBelow, below_itself}
 use Rattle.isle_laws_runs.proofs.runs.Binding.{Held}
 use Rattle.isle_laws_runs.proofs.runs.BindOrders.{Finds}
-use Rattle.isle_laws_runs.proofs.runs.Demanded.{joined_in}
+use Rattle.isle_laws_runs.proofs.runs.RuleDemands.{joined_in}
 
 -- 1. sets and worlds
 -- a site is clear for a rule where it and all below it make no impure call, and the rule demands what they wait for

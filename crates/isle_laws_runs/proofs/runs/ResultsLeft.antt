@@ -17,12 +17,12 @@ use Rattle.isle_model.proofs.Bags.{flat_flat, all_nothing, by_places}
 use Rattle.isle_model.proofs.Members.{in_head, get_within, from_map, member_from_get, member_found, member_is_in}
 use Rattle.isle_model.proofs.Numbers.{taken_out}
 use Rattle.isle_laws_runs.specs.Orders.{OrderedFrom}
-use Rattle.isle_laws_runs.proofs.picks.Grown.{keys, content_covered}
+use Rattle.isle_laws_runs.proofs.picks.LongerPicks.{keys, content_covered}
 use Rattle.isle_laws_runs.proofs.picks.FirstCall.{calls_can_come_first_lem, results_are_of_places_lem}
 use Rattle.isle_laws_runs.proofs.picks.Calls.{unfold_once, calls_below, ordered_prefix, IsEarlier, numbers_ordered}
 use Rattle.isle_laws_runs.proofs.runs.Contents.{sources_in}
 use Rattle.isle_laws_runs.proofs.runs.Below.{below_within}
-use Rattle.isle_laws_runs.proofs.runs.Places.{ClearWorld, ServesUnder, Place, NextCall, call_known}
+use Rattle.isle_laws_runs.proofs.runs.RunPlaces.{ClearWorld, ServesUnder, Place, NextCall, call_known}
 use Rattle.isle_laws_runs.proofs.runs.Claims.{Known, NeverHold}
 
 picks_nothing : (m : Meaning) (args : List Value) (f : Pick → List Content) (calls : List SiteTerm) (k : Pick) → ((rest : Pick) → f (k ++ rest) ≡ []) → flat_map f (picks_over m args k calls) ≡ []

@@ -18,9 +18,9 @@ use Rattle.isle_laws_runs.proofs.runs.BindOrders.{to_bind, bind_append}
 use Rattle.isle_laws_runs.proofs.runs.Binding.{reads, binds_now}
 use Rattle.isle_laws_runs.proofs.runs.Contents.{SourcesBefore, sources_in, content_layer}
 use Rattle.isle_laws_runs.proofs.runs.Below.{all_below_itself, all_below_source}
-use Rattle.isle_laws_runs.proofs.taking.Settled.{settled, critical, Stock, settled_content, settled_pure, settled_source, emitted_settled, settled_stock, critical_below, critical_order}
+use Rattle.isle_laws_runs.proofs.taking.SettledSites.{settled, critical, Stock, settled_content, settled_pure, settled_source, emitted_settled, settled_stock, critical_below, critical_order}
 use Rattle.isle_laws_runs.proofs.taking.Taking.{ReachedPlace}
-use Rattle.isle_laws_runs.proofs.taking.Used.{used_placed, placed_same, content_placed, bound_elsewhere, used_here, used_elsewhere, used_stays, AreAlike, bind_alike, alike_bound, AreAlikeBy, then_alike, WithOneContent}
+use Rattle.isle_laws_runs.proofs.taking.UsedSites.{used_placed, placed_same, content_placed, bound_elsewhere, used_here, used_elsewhere, used_stays, AreAlike, bind_alike, alike_bound, AreAlikeBy, then_alike, WithOneContent}
 use Rattle.isle_laws_runs.proofs.runs.Listing.{IsHere, stays_here, last_here, here_or_last, listed_last, not_here, NextSite, AreClosed, closed_next, Walk, Walked, order_listed}
 
 -- an unwrap of what has a part is bound to it

@@ -18,7 +18,7 @@ use Rattle.isle_laws_runs.proofs.runs.Listing.{IsHere, stays_here, last_here, he
 use Rattle.isle_laws_runs.proofs.taking.BindOrderGrowth.{Extends}
 use Rattle.isle_laws_runs.proofs.taking.CallsIn.{IsImpureAt}
 use Rattle.isle_laws_runs.proofs.taking.Taking.{Taking, ComesAfterValues}
-use Rattle.isle_laws_runs.proofs.taking.Used.{used_placed, placed_same, content_placed, bound_elsewhere, used_here, used_stays}
+use Rattle.isle_laws_runs.proofs.taking.UsedSites.{used_placed, placed_same, content_placed, bound_elsewhere, used_here, used_stays}
 
 module _ (taking : Taking) where
   -- the first n calls gave values

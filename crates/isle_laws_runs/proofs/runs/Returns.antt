@@ -15,7 +15,7 @@ use Rattle.isle_model.specs.trees.SetRuns.{tested_sites, IsUnwrap, IsTestedRule,
 use Rattle.isle_model.proofs.Members.{in_alone, get_within, all_members, from_flat_map}
 use Rattle.isle_laws_runs.proofs.runs.Below.{below_within}
 use Rattle.isle_laws_runs.proofs.runs.Binding.{kept_below, reads}
-use Rattle.isle_laws_runs.proofs.runs.Places.{ClearWorld, IsGoneOver, Kept, Place}
+use Rattle.isle_laws_runs.proofs.runs.RunPlaces.{ClearWorld, IsGoneOver, Kept, Place}
 use Rattle.isle_laws_runs.proofs.runs.Standing.{gate_kept}
 
 -- 1. a return ends a run
