@@ -46,7 +46,8 @@ module _ (set : SiteSet) (block : EndedBlock set) (top : TopRule set block.place
   at_hand : (s : ℕ) → s < length set.sites → available set.sites block.place.around s ≡ true → is_at_hand set block.place.around s ≡ true
   at_hand s l h = and_from (nat_lt s (length set.sites)) (available set.sites block.place.around s) (lt-ltb s (length set.sites) l) h
 
-  open_site : (s : ℕ) → s < length set.sites → available set.sites block.place.around s ≡ true → is_in s (sources_around block.place.around) ≡ false → (is_at_hand set block.place.around s && not (is_in s (sources_around block.place.around))) ≡ true
+  open_site : (s : ℕ) → s < length set.sites → available set.sites block.place.around s ≡ true → is_in s (sources_around block.place.around) ≡ false
+      → (is_at_hand set block.place.around s && not (is_in s (sources_around block.place.around))) ≡ true
   open_site s l h f = and_from (is_at_hand set block.place.around s) (not (is_in s (sources_around block.place.around))) (at_hand s l h) ((not_exact (is_in s (sources_around block.place.around))).1 f)
 
   -- the source of an arm or of a loop around

@@ -28,44 +28,46 @@ record ThreeNumbers : Type 0 where
   after_both : Bool
   next : after_first ≡ true → after_second ≡ true → after_both ≡ true
 
-module _ (numbers : ThreeNumbers) where
+module _ (of : ThreeNumbers) where
   -- whatever compares the numbers
-  chain : (p q r : Bool) → (p ≡ true → q ≡ true → r ≡ true) → (p ≡ true → numbers.second ≡ numbers.third → r ≡ true) → (numbers.first ≡ numbers.second → q ≡ true → r ≡ true)
-      → or_later p (numbers.first == numbers.second) numbers.after_first ≡ true → or_later q (numbers.second == numbers.third) numbers.after_second ≡ true → or_later r (numbers.first == numbers.third) numbers.after_both ≡ true
+  chain : (p q r : Bool) → (p ≡ true → q ≡ true → r ≡ true) → (p ≡ true → of.second ≡ of.third → r ≡ true) → (of.first ≡ of.second → q ≡ true → r ≡ true)
+      → or_later p (of.first == of.second) of.after_first ≡ true → or_later q (of.second == of.third) of.after_second ≡ true → or_later r (of.first == of.third) of.after_both ≡ true
   chain p q r both left right h k =
-      elim (or_cases p ((numbers.first == numbers.second) && numbers.after_first) h) [
+      elim (or_cases p ((of.first == of.second) && of.after_first) h) [
         | inl x ↦
-            elim (or_cases q ((numbers.second == numbers.third) && numbers.after_second) k) [
+            elim (or_cases q ((of.second == of.third) && of.after_second) k) [
               | inl y ↦ strictly (both x y)
-              | inr y ↦ strictly (left x (eqb-true numbers.second numbers.third (and_parts (numbers.second == numbers.third) numbers.after_second y).0))
+              | inr y ↦ strictly (left x (eqb-true of.second of.third (and_parts (of.second == of.third) of.after_second y).0))
             ]
         | inr x ↦
-            let d = and_parts (numbers.first == numbers.second) numbers.after_first x in
-            let same = eqb-true numbers.first numbers.second d.0 in
-            elim (or_cases q ((numbers.second == numbers.third) && numbers.after_second) k) [
+            let d = and_parts (of.first == of.second) of.after_first x in
+            let same = eqb-true of.first of.second d.0 in
+            elim (or_cases q ((of.second == of.third) && of.after_second) k) [
               | inl y ↦ strictly (right same y)
               | inr y ↦
-                  let e = and_parts (numbers.second == numbers.third) numbers.after_second y in
-                  or_right r ((numbers.first == numbers.third) && numbers.after_both) (and_from (numbers.first == numbers.third) numbers.after_both (eq-eqb numbers.first numbers.third (same ∙ eqb-true numbers.second numbers.third e.0)) (numbers.next d.1 e.1))
+                  let e = and_parts (of.second == of.third) of.after_second y in
+                  or_right r ((of.first == of.third) && of.after_both) (and_from (of.first == of.third) of.after_both (eq-eqb of.first of.third (same ∙ eqb-true of.second of.third e.0)) (of.next d.1 e.1))
             ]
       ]
     where
-      strictly : r ≡ true → or_later r (numbers.first == numbers.third) numbers.after_both ≡ true
-      strictly l = or_left r ((numbers.first == numbers.third) && numbers.after_both) l
+      strictly : r ≡ true → or_later r (of.first == of.third) of.after_both ≡ true
+      strictly l = or_left r ((of.first == of.third) && of.after_both) l
 
-  chain_up : or_later (nat_lt numbers.first numbers.second) (numbers.first == numbers.second) numbers.after_first ≡ true → or_later (nat_lt numbers.second numbers.third) (numbers.second == numbers.third) numbers.after_second ≡ true → or_later (nat_lt numbers.first numbers.third) (numbers.first == numbers.third) numbers.after_both ≡ true
+  chain_up : or_later (nat_lt of.first of.second) (of.first == of.second) of.after_first ≡ true
+      → or_later (nat_lt of.second of.third) (of.second == of.third) of.after_second ≡ true → or_later (nat_lt of.first of.third) (of.first == of.third) of.after_both ≡ true
   chain_up =
-      chain (nat_lt numbers.first numbers.second) (nat_lt numbers.second numbers.third) (nat_lt numbers.first numbers.third)
-      (below_chain numbers.first numbers.second numbers.third)
-      (λ x e. subst (λ n. nat_lt numbers.first n ≡ true) e x)
-      (λ e y. subst (λ n. nat_lt n numbers.third ≡ true) (sym e) y)
+      chain (nat_lt of.first of.second) (nat_lt of.second of.third) (nat_lt of.first of.third)
+      (below_chain of.first of.second of.third)
+      (λ x e. subst (λ n. nat_lt of.first n ≡ true) e x)
+      (λ e y. subst (λ n. nat_lt n of.third ≡ true) (sym e) y)
 
-  chain_down : or_later (nat_lt numbers.second numbers.first) (numbers.first == numbers.second) numbers.after_first ≡ true → or_later (nat_lt numbers.third numbers.second) (numbers.second == numbers.third) numbers.after_second ≡ true → or_later (nat_lt numbers.third numbers.first) (numbers.first == numbers.third) numbers.after_both ≡ true
+  chain_down : or_later (nat_lt of.second of.first) (of.first == of.second) of.after_first ≡ true
+      → or_later (nat_lt of.third of.second) (of.second == of.third) of.after_second ≡ true → or_later (nat_lt of.third of.first) (of.first == of.third) of.after_both ≡ true
   chain_down =
-      chain (nat_lt numbers.second numbers.first) (nat_lt numbers.third numbers.second) (nat_lt numbers.third numbers.first)
-      (λ x y. below_chain numbers.third numbers.second numbers.first y x)
-      (λ x e. subst (λ n. nat_lt n numbers.first ≡ true) e x)
-      (λ e y. subst (λ n. nat_lt numbers.third n ≡ true) (sym e) y)
+      chain (nat_lt of.second of.first) (nat_lt of.third of.second) (nat_lt of.third of.first)
+      (λ x y. below_chain of.third of.second of.first y x)
+      (λ x e. subst (λ n. nat_lt n of.first ≡ true) e x)
+      (λ e y. subst (λ n. nat_lt of.third n ≡ true) (sym e) y)
 
 -- two numbers, and the tests that decide where they are the same: of the first and the second, and turned round
 record TwoNumbers : Type 0 where
@@ -75,31 +77,37 @@ record TwoNumbers : Type 0 where
   turned : Bool
   next : first ≡ second → (after ≡ true) ⊎ (turned ≡ true)
 
-module _ (numbers : TwoNumbers) where
-  first_lower : numbers.first < numbers.second → or_later (nat_lt numbers.first numbers.second) (numbers.first == numbers.second) numbers.after ≡ true
-  first_lower l = or_left (nat_lt numbers.first numbers.second) ((numbers.first == numbers.second) && numbers.after) (lt-ltb numbers.first numbers.second l)
+module _ (of : TwoNumbers) where
+  first_lower : of.first < of.second → or_later (nat_lt of.first of.second) (of.first == of.second) of.after ≡ true
+  first_lower l = or_left (nat_lt of.first of.second) ((of.first == of.second) && of.after) (lt-ltb of.first of.second l)
 
-  second_lower : numbers.second < numbers.first → or_later (nat_lt numbers.second numbers.first) (numbers.second == numbers.first) numbers.turned ≡ true
-  second_lower l = or_left (nat_lt numbers.second numbers.first) ((numbers.second == numbers.first) && numbers.turned) (lt-ltb numbers.second numbers.first l)
+  second_lower : of.second < of.first → or_later (nat_lt of.second of.first) (of.second == of.first) of.turned ≡ true
+  second_lower l = or_left (nat_lt of.second of.first) ((of.second == of.first) && of.turned) (lt-ltb of.second of.first l)
 
-  here : (x : Bool) → numbers.first ≡ numbers.second → numbers.after ≡ true → or_later x (numbers.first == numbers.second) numbers.after ≡ true
-  here x e h = or_right x ((numbers.first == numbers.second) && numbers.after) (and_from (numbers.first == numbers.second) numbers.after (eq-eqb numbers.first numbers.second e) h)
+  here : (x : Bool) → of.first ≡ of.second → of.after ≡ true → or_later x (of.first == of.second) of.after ≡ true
+  here x e h = or_right x ((of.first == of.second) && of.after) (and_from (of.first == of.second) of.after (eq-eqb of.first of.second e) h)
 
-  there : (x : Bool) → numbers.first ≡ numbers.second → numbers.turned ≡ true → or_later x (numbers.second == numbers.first) numbers.turned ≡ true
-  there x e h = or_right x ((numbers.second == numbers.first) && numbers.turned) (and_from (numbers.second == numbers.first) numbers.turned (eq-eqb numbers.second numbers.first (sym e)) h)
+  there : (x : Bool) → of.first ≡ of.second → of.turned ≡ true → or_later x (of.second == of.first) of.turned ≡ true
+  there x e h = or_right x ((of.second == of.first) && of.turned) (and_from (of.second == of.first) of.turned (eq-eqb of.second of.first (sym e)) h)
 
-  compare_up : (or_later (nat_lt numbers.first numbers.second) (numbers.first == numbers.second) numbers.after ≡ true) ⊎ (or_later (nat_lt numbers.second numbers.first) (numbers.second == numbers.first) numbers.turned ≡ true)
+  compare_up : (or_later (nat_lt of.first of.second) (of.first == of.second) of.after ≡ true) ⊎ (or_later (nat_lt of.second of.first) (of.second == of.first) of.turned ≡ true)
   compare_up =
-      elim (cases_lt numbers.first numbers.second) [
+      elim (cases_lt of.first of.second) [
         | inl l ↦ inl (first_lower l)
-        | inr l ↦ elim (cases_lt numbers.second numbers.first) [ inl m ↦ inr (second_lower m) | inr m ↦ let e : numbers.first ≡ numbers.second = omega arith in elim (numbers.next e) [ inl h ↦ inl (here (nat_lt numbers.first numbers.second) e h) | inr h ↦ inr (there (nat_lt numbers.second numbers.first) e h) ] ]
+        | inr l ↦ elim (cases_lt of.second of.first) [
+          | inl m ↦ inr (second_lower m)
+          | inr m ↦ let e : of.first ≡ of.second = omega arith in elim (of.next e) [ inl h ↦ inl (here (nat_lt of.first of.second) e h) | inr h ↦ inr (there (nat_lt of.second of.first) e h) ]
+        ]
       ]
 
-  compare_down : (or_later (nat_lt numbers.second numbers.first) (numbers.first == numbers.second) numbers.after ≡ true) ⊎ (or_later (nat_lt numbers.first numbers.second) (numbers.second == numbers.first) numbers.turned ≡ true)
+  compare_down : (or_later (nat_lt of.second of.first) (of.first == of.second) of.after ≡ true) ⊎ (or_later (nat_lt of.first of.second) (of.second == of.first) of.turned ≡ true)
   compare_down =
-      elim (cases_lt numbers.first numbers.second) [
-        | inl l ↦ inr (or_left (nat_lt numbers.first numbers.second) ((numbers.second == numbers.first) && numbers.turned) (lt-ltb numbers.first numbers.second l))
-        | inr l ↦ elim (cases_lt numbers.second numbers.first) [ inl m ↦ inl (or_left (nat_lt numbers.second numbers.first) ((numbers.first == numbers.second) && numbers.after) (lt-ltb numbers.second numbers.first m)) | inr m ↦ let e : numbers.first ≡ numbers.second = omega arith in elim (numbers.next e) [ inl h ↦ inl (here (nat_lt numbers.second numbers.first) e h) | inr h ↦ inr (there (nat_lt numbers.first numbers.second) e h) ] ]
+      elim (cases_lt of.first of.second) [
+        | inl l ↦ inr (or_left (nat_lt of.first of.second) ((of.second == of.first) && of.turned) (lt-ltb of.first of.second l))
+        | inr l ↦ elim (cases_lt of.second of.first) [
+          | inl m ↦ inl (or_left (nat_lt of.second of.first) ((of.first == of.second) && of.after) (lt-ltb of.second of.first m))
+          | inr m ↦ let e : of.first ≡ of.second = omega arith in elim (of.next e) [ inl h ↦ inl (here (nat_lt of.second of.first) e h) | inr h ↦ inr (there (nat_lt of.first of.second) e h) ]
+        ]
       ]
 
 -- 2. scores

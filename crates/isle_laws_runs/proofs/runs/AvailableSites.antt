@@ -11,7 +11,7 @@ use Rattle.isle_model.proofs.Numbers.{in_either, in_first, in_second}
 use Rattle.isle_laws_runs.proofs.runs.Below.{all_below_itself, all_below_pure, all_below_source, pure_deeper}
 use Rattle.isle_laws_runs.proofs.runs.Binding.{content_of, Held, held_as, kept_below, reads, binds_now, keeps_bound, keeps_in_place}
 use Rattle.isle_laws_runs.proofs.runs.BindOrders.{to_bind, bind_last, opened, available_found}
-use Rattle.isle_laws_runs.proofs.runs.Listing.{IsHere, stays_here, last_here, here_or_last, listed_last, NextSite, Walk, Walked, order_listed}
+use Rattle.isle_laws_runs.proofs.runs.Listing.{IsHere, stays_here, last_here, here_or_last, listed_last, NextSite, Walk, WalkedTo, order_listed}
 use Rattle.isle_laws_runs.proofs.runs.RunPlaces.{ClearWorld, Kept, At, Place, IsReady, wider}
 
 module _ (clear : ClearWorld) (place : Place clear) where
@@ -100,7 +100,7 @@ module _ (clear : ClearWorld) (place : Place clear) where
     abbrev listed : List ℕ
     listed = each_after (λ done s. listed_below (suc s) clear.world.sites place.around.emitted done s) [] ss
 
-    all_binds : Walked walk [] listed (Contains ss)
+    all_binds : WalkedTo walk [] listed (Contains ss)
     all_binds = order_listed walk ss (λ s c. (all_below_itself clear.world.sites ss s c, (suc s, (ready s c).available))) record {
       env = place.env;
       binds = refl;

@@ -75,7 +75,8 @@ abbrev pub ServesLoops : ClearWorld → Type 0
 ServesLoops clear = (s : ℕ) → IsGoneOver clear.rules s → (k : Pick) → ServesUnder clear.world clear.rules k
 
 module _ (clear : ClearWorld) where
-  asked_pure : (arms : MarkedArms) (ar : Around) (s : ℕ) (before : Option Constraint) → marks_arms arms ≢ [] → Known clear.rules (marks_arms arms) → SoundArms (set_in clear) clear.world.multi ar true s before arms → IsPureBelow clear.world.sites s
+  asked_pure : (arms : MarkedArms) (ar : Around) (s : ℕ) (before : Option Constraint) → marks_arms arms ≢ [] → Known clear.rules (marks_arms arms)
+      → SoundArms (set_in clear) clear.world.multi ar true s before arms → IsPureBelow clear.world.sites s
   asked_pure m_no_arm ar s before some known sound = absurd (some refl)
   asked_pure (m_arm c fields body rest) ar s before some known sound =
       let a = asker clear.rules (marks body) s c sound.1 (known_left clear.rules (marks body) (marks_arms rest) known) sound.2 in
@@ -93,11 +94,13 @@ module _ (clear : ClearWorld) where
       let same = served.apart r q s c later.0 known (member_from_get clear.rules j q at) k m (meets_grown clear.world pick rest s c met) (demand_met clear.world (pick ++ rest) q s later.0 holds m) in
       before_itself c (subst (λ d. IsTrue (comes_before c d)) (sym same) later.2)
 
-  none_asking : (ids : List ℕ) (pick : Pick) (s : ℕ) (c : Constraint) (x : Content) → content_at clear.world pick s ≡ Some x → content_fields clear.world.meaning c x ≡ None → AllAsk clear.rules ids s c → NeverHold clear pick ids
+  none_asking : (ids : List ℕ) (pick : Pick) (s : ℕ) (c : Constraint) (x : Content) → content_at clear.world pick s ≡ Some x → content_fields clear.world.meaning c x ≡ None
+      → AllAsk clear.rules ids s c → NeverHold clear pick ids
   none_asking ids pick s c x e unmet ask rest served j q l at holds =
       false≢true (sym (ap (meets clear.world.meaning c) (grown clear.world pick rest s x e) ∙ ap is_some unmet) ∙ demand_met clear.world (pick ++ rest) q s c holds (constraint_in q.constraints s c (ask j q l at)))
 
-  none_joining : (ids : List ℕ) (pick : Pick) (a b : ℕ) (u v : Value) → content_at clear.world pick a ≡ Some (one u) → content_at clear.world pick b ≡ Some (one v) → (u ≡ v → ⊥) → AllJoin clear.rules ids a b → NeverHold clear pick ids
+  none_joining : (ids : List ℕ) (pick : Pick) (a b : ℕ) (u v : Value) → content_at clear.world pick a ≡ Some (one u) → content_at clear.world pick b ≡ Some (one v) → (u ≡ v → ⊥)
+      → AllJoin clear.rules ids a b → NeverHold clear pick ids
   none_joining ids pick a b u v e f differ join rest served j q l at holds =
       differ (same_Some u v
       (sym (ap (λ o. then_option o as_value) (grown clear.world pick rest a (one u) e))
@@ -123,7 +126,9 @@ module _ (clear : ClearWorld) where
           let inside = sound.1 in
           let here = known_left clear.rules (marks_arms arms) (marks rest) known in
           let s = match_step clear place binds source (plain_arms clear.rules arms) (plain clear.rules rest) (sound.0 refl) (record { available = inside.0 refl; pure = asked_pure arms place.around source None inside.1 here inside.2 }) in
-          kept.alike place.around.looped place.pick (marks_arms arms ++ marks rest) (run_tree (step binds (match_at source (plain_arms clear.rules arms)) (plain clear.rules rest)) clear.world place.env) (λ t. or_next (run_arms (plain_arms clear.rules arms) clear.world s.0 s.1 t) (run_tree (plain clear.rules rest) clear.world s.1)) s.4
+          kept.alike place.around.looped place.pick (marks_arms arms ++ marks rest)
+          (run_tree (step binds (match_at source (plain_arms clear.rules arms)) (plain clear.rules rest)) clear.world place.env)
+          (λ t. or_next (run_arms (plain_arms clear.rules arms) clear.world s.0 s.1 t) (run_tree (plain clear.rules rest) clear.world s.1)) s.4
           (kept.next place.around.looped place.pick (marks_arms arms) (marks rest) (run_arms (plain_arms clear.rules arms) clear.world s.0 s.1) (run_tree (plain clear.rules rest) clear.world s.1) sound.2
           (arms_run arms place.around place.pick s.1 source None s.0 here inside.2 s.2 s.3)
           (steps_run rest (record { around = wider clear.world.sites place.around (source ∷ []); pick = place.pick; env = s.1; at = s.3 }) (known_right clear.rules (marks_arms arms) (marks rest) known)
@@ -137,16 +142,19 @@ module _ (clear : ClearWorld) where
           let s = equal_step clear place binds a b (plain clear.rules body) (plain clear.rules rest) m.1 member join (sound.0 refl)
           (record { available = (inside.0 refl).0; pure = (clear.tested m.1 member a (class_tested m.1 a b join)).pure })
           (record { available = (inside.0 refl).1; pure = (clear.tested m.1 member b (class_tested m.1 b a (joined_back m.1.classes a b join))).pure }) in
-          kept.alike place.around.looped place.pick (marks body ++ marks rest) (run_tree (step binds (equal_at a b (plain clear.rules body)) (plain clear.rules rest)) clear.world place.env) (λ t. or_next (on_equal (Some s.0) (Some s.1) t (run_tree (plain clear.rules body) clear.world s.2 t)) (run_tree (plain clear.rules rest) clear.world s.2)) s.6
+          kept.alike place.around.looped place.pick (marks body ++ marks rest) (run_tree (step binds (equal_at a b (plain clear.rules body)) (plain clear.rules rest)) clear.world place.env)
+          (λ t. or_next (on_equal (Some s.0) (Some s.1) t (run_tree (plain clear.rules body) clear.world s.2 t)) (run_tree (plain clear.rules rest) clear.world s.2)) s.6
           (kept.next place.around.looped place.pick (marks body) (marks rest) (λ t. on_equal (Some s.0) (Some s.1) t (run_tree (plain clear.rules body) clear.world s.2 t)) (run_tree (plain clear.rules rest) clear.world s.2) sound.2
           (elim (values_cases s.0 s.1) [
             | inl (same, runs) ↦
-                kept.alike place.around.looped place.pick (marks body) (λ t. on_equal (Some s.0) (Some s.1) t (run_tree (plain clear.rules body) clear.world s.2 t)) (run_tree (plain clear.rules body) clear.world s.2) (λ done. runs (trace done) (run_tree (plain clear.rules body) clear.world s.2 (trace done)))
+                kept.alike place.around.looped place.pick (marks body) (λ t. on_equal (Some s.0) (Some s.1) t (run_tree (plain clear.rules body) clear.world s.2 t))
+                (run_tree (plain clear.rules body) clear.world s.2) (λ done. runs (trace done) (run_tree (plain clear.rules body) clear.world s.2 (trace done)))
                 (steps_run body
                 (record { around = in_equal (set_in clear) place.around a b; pick = place.pick; env = s.2; at = at_equal clear place.around a b place.pick s.2 (one s.0) s.5 s.3 (same (content_at clear.world place.pick b) s.4) })
                 here inside.3)
             | inr (differ, runs) ↦
-                kept.alike place.around.looped place.pick (marks body) (λ t. on_equal (Some s.0) (Some s.1) t (run_tree (plain clear.rules body) clear.world s.2 t)) (ending_at ran_through) (λ done. runs (trace done) (run_tree (plain clear.rules body) clear.world s.2 (trace done)))
+                kept.alike place.around.looped place.pick (marks body) (λ t. on_equal (Some s.0) (Some s.1) t (run_tree (plain clear.rules body) clear.world s.2 t)) (ending_at ran_through)
+                (λ done. runs (trace done) (run_tree (plain clear.rules body) clear.world s.2 (trace done)))
                 (kept.nothing place.around.looped place.pick (marks body) (none_joining (marks body) place.pick a b s.0 s.1 s.3 s.4 differ inside.2))
           ])
           (steps_run rest (record { around = wider clear.world.sites place.around (a ∷ (b ∷ [])); pick = place.pick; env = s.2; at = s.5 }) (known_right clear.rules (marks body) (marks rest) known)
@@ -178,7 +186,8 @@ module _ (clear : ClearWorld) where
             list = s.2;
             free = call_free place source gone over.3;
           } in
-          kept.alike place.around.looped place.pick (marks body ++ marks rest) (run_tree (step binds (loop_at result (plain clear.rules body)) (plain clear.rules rest)) clear.world place.env) (λ t. or_next (for_each (contents s.0) go t) (run_tree (plain clear.rules rest) clear.world s.1)) s.4
+          kept.alike place.around.looped place.pick (marks body ++ marks rest) (run_tree (step binds (loop_at result (plain clear.rules body)) (plain clear.rules rest)) clear.world place.env)
+          (λ t. or_next (for_each (contents s.0) go t) (run_tree (plain clear.rules rest) clear.world s.1)) s.4
           (kept.next place.around.looped place.pick (marks body) (marks rest) (for_each (contents s.0) go) (run_tree (plain clear.rules rest) clear.world s.1) sound.2
           (kept.goes_over place (record { source = source; answers = s.0; list = s.2; gone_over = gone; out = over.3 }) (marks body) here over.2 go
           (λ n c answer.
@@ -199,7 +208,8 @@ module _ (clear : ClearWorld) where
           (subst (λ o. Sound (wider clear.world.sites place.around (return_uses o)) rest) r.1
           (subst (λ b. SoundSteps (set_in clear) clear.world.multi (after_step (set_in clear) place.around (m_return rule)) (b || false) rest) multi sound.3))))
 
-      arms_run : (arms : MarkedArms) (ar : Around) (pick : Pick) (env : Env) (s : ℕ) (before : Option Constraint) (x : Content) → Known clear.rules (marks_arms arms) → SoundArms (set_in clear) clear.world.multi ar true s before arms
+      arms_run : (arms : MarkedArms) (ar : Around) (pick : Pick) (env : Env) (s : ℕ) (before : Option Constraint) (x : Content) → Known clear.rules (marks_arms arms)
+          → SoundArms (set_in clear) clear.world.multi ar true s before arms
           → content_at clear.world pick s ≡ Some x → At clear (wider clear.world.sites ar (s ∷ [])) pick env → Says ar.looped pick (marks_arms arms) (run_arms (plain_arms clear.rules arms) clear.world x env)
       arms_run m_no_arm ar pick env s before x known sound e at = kept.nothing ar.looped pick [] (λ rest served j q k get holds. nothing_in j k)
       arms_run (m_arm c fields body rest) ar pick env s before x known sound e at =
@@ -215,7 +225,8 @@ module _ (clear : ClearWorld) where
                 (kept.first ar.looped pick (marks body) (marks_arms rest) (run_tree (plain clear.rules body) clear.world b.0) (none_after rest ar pick s c ask.0 ask.1 ask.2 passes sound.5)
                 (steps_run body (record { around = in_arm (set_in clear) ar s c fields; pick = pick; env = b.0; at = b.1 }) here sound.4))
             | inr unmet ↦
-                kept.alike ar.looped pick (marks body ++ marks_arms rest) run (run_arms (plain_arms clear.rules rest) clear.world x env) (arm_unmet clear env c fields (plain clear.rules body) (plain_arms clear.rules rest) x unmet)
+                kept.alike ar.looped pick (marks body ++ marks_arms rest) run (run_arms (plain_arms clear.rules rest) clear.world x env)
+                (arm_unmet clear env c fields (plain clear.rules body) (plain_arms clear.rules rest) x unmet)
                 (kept.second ar.looped pick (marks body) (marks_arms rest) (run_arms (plain_arms clear.rules rest) clear.world x env) (none_asking (marks body) pick s c x e unmet sound.2)
                 (arms_run rest ar pick env s (Some c) x later sound.5 e at))
           ]

@@ -112,13 +112,13 @@ pub record Walk : Type 1 where
 
 module _ (walk : Walk) where
   -- from one list to another: it holds, what was here stays, and these sites are here now
-  pub record Walked (done more : List ℕ) (Now : ℕ → Type 0) : Type 0 where
+  pub record WalkedTo (done more : List ℕ) (Now : ℕ → Type 0) : Type 0 where
     pub holds : walk.Holds more
     pub grows : (t : ℕ) → IsHere walk.Base done t → IsHere walk.Base more t
     pub now : (s : ℕ) → Now s → IsHere walk.Base more s
 
-  each : (f : List ℕ → ℕ → List ℕ) (xs : List ℕ) → ((s : ℕ) → Contains xs s → (done : List ℕ) → walk.Holds done → Walked done (f done s) (λ t. s ≡ t))
-      → (done : List ℕ) → walk.Holds done → Walked done (each_after f done xs) (Contains xs)
+  each : (f : List ℕ → ℕ → List ℕ) (xs : List ℕ) → ((s : ℕ) → Contains xs s → (done : List ℕ) → walk.Holds done → WalkedTo done (f done s) (λ t. s ≡ t))
+      → (done : List ℕ) → walk.Holds done → WalkedTo done (each_after f done xs) (Contains xs)
   each f [] go done h = record { holds = h; grows = λ t i. i; now = λ s c. absurd (nothing_in s c) }
   each f (s ∷ xs) go done h =
       let m = go s (in_head s xs) done h in
@@ -129,16 +129,16 @@ module _ (walk : Walk) where
         now = λ t c. elim (in_cases s t xs c) [ inl e ↦ r.grows t (m.now t e) | inr d ↦ r.now t d ];
       }
 
-  one_listed : (n s : ℕ) → s < n → walk.MayList s → (done : List ℕ) → walk.Holds done → Walked done (listed_below n walk.sites walk.emitted done s) (λ t. s ≡ t)
+  one_listed : (n s : ℕ) → s < n → walk.MayList s → (done : List ℕ) → walk.Holds done → WalkedTo done (listed_below n walk.sites walk.emitted done s) (λ t. s ≡ t)
   one_listed zero s l may done h = absurd (omega (arith, l))
   one_listed (suc n) s l may done h =
       let rest = each_after (listed_below n walk.sites walk.emitted) done (sources_at walk.sites s) in
       elim (cases_Bool (is_in s walk.emitted || is_in s done)) [
         | inl t ↦
-            subst (λ x. Walked done x (λ t. s ≡ t)) (sym (cond-true (is_in s walk.emitted || is_in s done) done (rest ++ s ∷ []) t))
+            subst (λ x. WalkedTo done x (λ t. s ≡ t)) (sym (cond-true (is_in s walk.emitted || is_in s done) done (rest ++ s ∷ []) t))
             record { holds = h; grows = λ u i. i; now = λ u e. subst (IsHere walk.Base done) e (met_here walk.Base walk.emitted walk.base done s t) }
         | inr f ↦
-            subst (λ x. Walked done x (λ t. s ≡ t)) (sym (cond-false (is_in s walk.emitted || is_in s done) done (rest ++ s ∷ []) f))
+            subst (λ x. WalkedTo done x (λ t. s ≡ t)) (sym (cond-false (is_in s walk.emitted || is_in s done) done (rest ++ s ∷ []) f))
             (let r = each (listed_below n walk.sites walk.emitted) (sources_at walk.sites s)
             (λ x c. let m = walk.before s x c in one_listed n x (omega (arith, l, m)) (walk.deeper s x may (or_parts (is_in s walk.emitted) (is_in s done) f).0 c))
             done h in
@@ -151,13 +151,13 @@ module _ (walk : Walk) where
 
   -- sites of a list, one after another
   pub all_listed : (n : ℕ) (xs : List ℕ) → ((s : ℕ) → Contains xs s → (s < n) × walk.MayList s)
-      → (done : List ℕ) → walk.Holds done → Walked done (each_after (listed_below n walk.sites walk.emitted) done xs) (Contains xs)
+      → (done : List ℕ) → walk.Holds done → WalkedTo done (each_after (listed_below n walk.sites walk.emitted) done xs) (Contains xs)
   all_listed n xs fine done h = each (listed_below n walk.sites walk.emitted) xs (λ s c. let f = fine s c in one_listed n s f.0 f.1) done h
 
-  pub below_listed : (s : ℕ) → walk.MayList s → (done : List ℕ) → walk.Holds done → Walked done (listed_below (suc s) walk.sites walk.emitted done s) (λ t. s ≡ t)
+  pub below_listed : (s : ℕ) → walk.MayList s → (done : List ℕ) → walk.Holds done → WalkedTo done (listed_below (suc s) walk.sites walk.emitted done s) (λ t. s ≡ t)
   below_listed s may done h = one_listed (suc s) s (omega arith) may done h
 
   -- so it holds of a bind order
   pub order_listed : (ss : List ℕ) → ((s : ℕ) → Contains ss s → walk.MayList s) → walk.Holds []
-      → Walked [] (each_after (λ done s. listed_below (suc s) walk.sites walk.emitted done s) [] ss) (Contains ss)
+      → WalkedTo [] (each_after (λ done s. listed_below (suc s) walk.sites walk.emitted done s) [] ss) (Contains ss)
   order_listed ss may h = each (λ done s. listed_below (suc s) walk.sites walk.emitted done s) ss (λ s c. below_listed s (may s c)) [] h

@@ -49,7 +49,8 @@ module _ (w : World) (pick rest : Pick) where
       by (Some x) e h = ap (meets w.meaning c) (grown s x e) ∙ h
 
 -- 2. after a loop over a call that some rule goes over, the call stays bound
-pub at_after_loop : (clear : ClearWorld) (ar : Around) (source : ℕ) → IsGoneOver clear.rules source → (pick : Pick) (env : Env) → ((s : ℕ) → IsTrue (is_in s ar.brought) → IsTrue (is_in s ar.emitted)) → At clear (wider clear.world.sites ar (source ∷ [])) pick env
+pub at_after_loop : (clear : ClearWorld) (ar : Around) (source : ℕ) → IsGoneOver clear.rules source → (pick : Pick) (env : Env) → ((s : ℕ) → IsTrue (is_in s ar.brought) → IsTrue (is_in s ar.emitted))
+    → At clear (wider clear.world.sites ar (source ∷ [])) pick env
     → (at : At clear (after_loop clear.world.sites ar (source ∷ [])) pick env) × Contains at.calls source
 at_after_loop clear ar source gone_over pick env brought at = (
   record {

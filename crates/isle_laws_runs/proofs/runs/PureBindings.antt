@@ -26,7 +26,8 @@ module _ (w : World) (k : Pick) (before : SourcesBefore w.sites) (e : Env) where
   constructed_now calls s t None = refl
   constructed_now calls s t (Some vs) = refl
 
-  pub binds_content : (calls : List Call) (s : ℕ) (b : Site) → slice_get w.sites s ≡ Some b → waits (Some b) ≡ false → IsPureSite b → ReadAll (sources_of b) → bind_site w e calls s (Some b) ≡ now_bound e calls s (content_at w k s)
+  pub binds_content : (calls : List Call) (s : ℕ) (b : Site) → slice_get w.sites s ≡ Some b → waits (Some b) ≡ false → IsPureSite b → ReadAll (sources_of b)
+      → bind_site w e calls s (Some b) ≡ now_bound e calls s (content_at w k s)
   binds_content calls s (bool_site x ty) at n p h = ap (now_bound e calls s) (sym (content_layer w k before s (bool_site x ty) at))
   binds_content calls s (int_site z ty) at n p h = ap (now_bound e calls s) (sym (content_layer w k before s (int_site z ty) at))
   binds_content calls s (prim_site name) at n p h = ap (now_bound e calls s) (sym (content_layer w k before s (prim_site name) at))

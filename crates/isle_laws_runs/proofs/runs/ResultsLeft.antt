@@ -87,7 +87,8 @@ module _ (clear : ClearWorld) where
     inside : next.source < length clear.world.sites
     inside = call_known clear next.source next.gone_over
 
-    call_first : (r : SetRule) → Contains clear.rules r → Contains r.iterators next.source → IsPermutation (rule_left place.around.looped place.pick r) (flat_map (λ n. rule_left (next.source ∷ place.around.looped) (longer n) r) (numbers_from 0 (contents next.answers)))
+    call_first : (r : SetRule) → Contains clear.rules r → Contains r.iterators next.source
+        → IsPermutation (rule_left place.around.looped place.pick r) (flat_map (λ n. rule_left (next.source ∷ place.around.looped) (longer n) r) (numbers_from 0 (contents next.answers)))
     call_first r known over =
         let t = taken_out (is_left place.around.looped r) (is_left (next.source ∷ place.around.looped) r) next.source 0 clear.world.sites (omega arith) (omega (arith, inside)) left_now gone_then others in
         let first = map term_at t.first in
@@ -133,7 +134,8 @@ module _ (clear : ClearWorld) where
               | inr f ↦ inr (b.1, and_from (is_in b.1 r.iterators) (not (is_in b.1 place.around.looped)) gate (ap not f), omega arith, omega (arith, under_s, source_less), b.4)
             ]
 
-    pub loop_first : (ids : List ℕ) → Known clear.rules ids → AllGoOver clear.rules ids next.source → IsPermutation (left place.around.looped place.pick ids) (flat_map (λ n. left (next.source ∷ place.around.looped) (longer n) ids) (numbers_from 0 (contents next.answers)))
+    pub loop_first : (ids : List ℕ) → Known clear.rules ids → AllGoOver clear.rules ids next.source
+        → IsPermutation (left place.around.looped place.pick ids) (flat_map (λ n. left (next.source ∷ place.around.looped) (longer n) ids) (numbers_from 0 (contents next.answers)))
     loop_first ids known over =
         by_places (λ i. left_of place.around.looped place.pick (slice_get clear.rules i)) (λ n i. left_of (next.source ∷ place.around.looped) (longer n) (slice_get clear.rules i)) (numbers_from 0 (contents next.answers)) ids
         (λ i c.

@@ -82,7 +82,8 @@ module _ (clear : ClearWorld) (no_calls : (s : ℕ) → IsGoneOver clear.rules s
           | inr f ↦ inl f
         ]
 
-    pub taken_here : clear.world.multi ≡ false → (rest : Tree) → IsTakenUnder clear.world place.pick r (run_tree (step (bind_order clear.world.sites place.around (return_uses (Some r))) (return_at r.at r.result) rest) clear.world place.env at_start)
+    pub taken_here : clear.world.multi ≡ false → (rest : Tree)
+        → IsTakenUnder clear.world place.pick r (run_tree (step (bind_order clear.world.sites place.around (return_uses (Some r))) (return_at r.at r.result) rest) clear.world place.env at_start)
     taken_here single rest = record {
       around = place.around;
       env = place.env;

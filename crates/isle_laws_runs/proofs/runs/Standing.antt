@@ -32,7 +32,8 @@ module _ (clear : ClearWorld) (place : Place clear) where
           | inr i ↦ member_is_in s place.around.brought (place.at.loops i.0 s (all.iterators i.0 i.2) (e ∙ ap Some i.1))
         ]
 
-    available_here : (n s : ℕ) → s < n → ((u : ℕ) → Contains (below n clear.world.sites s) u → IsPureAt clear.world.sites u × IsTrue (gate_demanded r (slice_get clear.world.sites u))) → is_available n clear.world.sites place.around.brought s ≡ true
+    available_here : (n s : ℕ) → s < n → ((u : ℕ) → Contains (below n clear.world.sites s) u → IsPureAt clear.world.sites u × IsTrue (gate_demanded r (slice_get clear.world.sites u)))
+        → is_available n clear.world.sites place.around.brought s ≡ true
     available_here zero s l fine = absurd (omega arith)
     available_here (suc n) s l fine =
         let rest = not (waits (slice_get clear.world.sites s)) && list_all (is_available n clear.world.sites place.around.brought) (sources_at clear.world.sites s) in
@@ -60,7 +61,8 @@ module _ (clear : ClearWorld) (place : Place clear) where
 
 module _ (clear : ClearWorld) where
   -- 2. in the body of an equality, and in that of an arm
-  pub at_equal : (ar : Around) (a b : ℕ) (pick : Pick) (env : Env) (c : Content) → At clear (wider clear.world.sites ar (a ∷ (b ∷ []))) pick env → content_at clear.world pick a ≡ Some c → content_at clear.world pick b ≡ Some c → At clear (in_equal (set_in clear) ar a b) pick env
+  pub at_equal : (ar : Around) (a b : ℕ) (pick : Pick) (env : Env) (c : Content) → At clear (wider clear.world.sites ar (a ∷ (b ∷ []))) pick env → content_at clear.world pick a ≡ Some c
+      → content_at clear.world pick b ≡ Some c → At clear (in_equal (set_in clear) ar a b) pick env
   at_equal ar a b pick env c at x y = record {
     calls = at.calls;
     picked = at.picked;

@@ -112,7 +112,8 @@ module _ (clear : ClearWorld) (place : Place clear) where
 
 module _ (clear : ClearWorld) where
   -- 4. an arm that is met, of a constraint that some rule asks for, and one that isn't
-  pub arm_step : (ar : Around) (pick : Pick) (env : Env) (s : ℕ) (c : Constraint) (fields : List (Option ℕ)) (body : Tree) (rest : Arms) (x : Content) (cs : List Content) (r : SetRule) → At clear (wider clear.world.sites ar (s ∷ [])) pick env
+  pub arm_step : (ar : Around) (pick : Pick) (env : Env) (s : ℕ) (c : Constraint) (fields : List (Option ℕ)) (body : Tree) (rest : Arms) (x : Content) (cs : List Content) (r : SetRule)
+      → At clear (wider clear.world.sites ar (s ∷ [])) pick env
       → Contains clear.rules r → Contains r.constraints (s, c) → fields ≡ fields_of clear.world.sites s c → content_at clear.world pick s ≡ Some x → content_fields clear.world.meaning c x ≡ Some cs
       → (env' : Env) × At clear (in_arm (set_in clear) ar s c fields) pick env' × RunsAs (run_arms (arm c fields body rest) clear.world x env) (run_tree body clear.world env')
   arm_step ar pick env s c fields body rest x cs r at known asks same e met =
@@ -128,6 +129,7 @@ module _ (clear : ClearWorld) where
             ∙ ap (λ o. with_env o (trace done) (λ e. run_tree body clear.world e (trace done))) b.1,
       )
 
-  pub arm_unmet : (env : Env) (c : Constraint) (fields : List (Option ℕ)) (body : Tree) (rest : Arms) (x : Content) → content_fields clear.world.meaning c x ≡ None → RunsAs (run_arms (arm c fields body rest) clear.world x env) (run_arms rest clear.world x env)
+  pub arm_unmet : (env : Env) (c : Constraint) (fields : List (Option ℕ)) (body : Tree) (rest : Arms) (x : Content) → content_fields clear.world.meaning c x ≡ None
+      → RunsAs (run_arms (arm c fields body rest) clear.world x env) (run_arms rest clear.world x env)
   arm_unmet env c fields body rest x unmet done =
       ap (λ o. on_met o fields env (trace done) (λ e. run_tree body clear.world e (trace done)) (run_arms rest clear.world x env (trace done))) unmet

@@ -16,12 +16,12 @@ use Rattle.isle_laws_runs.proofs.runs.Listing.{stays_here, last_here, unlisted}
 use Rattle.isle_laws_runs.proofs.taking.CallsIn.{CallOnly, Known, IsNext, each_only, IsImpureAt, below_only, call_number, unwrap_number}
 use Rattle.isle_laws_runs.proofs.taking.FollowedCalls.{Followed, goes_on, stops, follow_with, answered_call, follow_call}
 use Rattle.isle_laws_runs.proofs.taking.ImpureCalls.{one_more, ImpureCall, values_of, CallMade, CallGone, call_fresh, not_listed, call_goes}
-use Rattle.isle_laws_runs.proofs.taking.TakingProgress.{GaveValues, Emitted, Here, content, bound_so_far, Listed, fails_on, not_emitted}
+use Rattle.isle_laws_runs.proofs.taking.TakingProgress.{GaveValues, Emitted, Here, content, bound_so_far, BoundSites, fails_on, not_emitted}
 use Rattle.isle_laws_runs.proofs.taking.PureSites.{calls_nothing}
-use Rattle.isle_laws_runs.proofs.taking.SitesBelow.{Uses, Below, Ready, put_pure}
+use Rattle.isle_laws_runs.proofs.taking.SitesBelow.{ReturnSites, Below, CallsReady, put_pure}
 use Rattle.isle_laws_runs.proofs.taking.Taking.{Taking}
 
-module _ (taking : Taking) (uses : Uses taking) where
+module _ (taking : Taking) (uses : ReturnSites taking) where
   abbrev pub U : ℕ → SiteTerm
   U = unfold_site taking.world.sites
 
@@ -38,7 +38,7 @@ module _ (taking : Taking) (uses : Uses taking) where
     pub all : taking.calls ≡ earlier ++ later
     pub done : List ℕ
     pub calls : List Call
-    pub listed : Listed taking done calls
+    pub listed : BoundSites taking done calls
     pub count : length earlier ≡ length calls
     pub gave : All (HasContent taking.world.meaning taking.world.args taking.pick) earlier
     pub known : AreListed earlier done
@@ -52,9 +52,9 @@ module _ (taking : Taking) (uses : Uses taking) where
     pub used : Below taking uses site
 
   -- it is bound as well
-  pub record IsAnswered (done more : List ℕ) (calls : List Call) (x : ℕ) : Type 0 where
+  pub record AnswerBound (done more : List ℕ) (calls : List Call) (x : ℕ) : Type 0 where
     pub after : List Call
-    pub listed : Listed taking more after
+    pub listed : BoundSites taking more after
     pub followed : follow_one (U x) calls ≡ goes_on after
     pub there : IsTrue (is_some (content taking x))
     pub count : length after ≡ suc (length calls)
@@ -63,7 +63,7 @@ module _ (taking : Taking) (uses : Uses taking) where
     pub call_here : (c : ℕ) → c < length taking.world.sites → U c ≡ answered_call (U x) → Here taking more c
 
   abbrev pub Answer : List ℕ → List ℕ → List Call → ℕ → Type 0
-  Answer done more calls x = IsAnswered done more calls x ⊎ ((after : List Call) × (bound_so_far taking more ≡ unwrap_failed after) × (follow_one (U x) calls ≡ stops after))
+  Answer done more calls x = AnswerBound done more calls x ⊎ ((after : List Call) × (bound_so_far taking more ≡ unwrap_failed after) × (follow_one (U x) calls ≡ stops after))
 
   followed_with : (u : SiteTerm) (t i : ℕ) (args : SiteTerms) (calls : List Call) → answered_call u ≡ constructor_call t args i
       → follow_one u calls ≡ follow_with t (site_values taking.world.meaning taking.world.args taking.pick args) (site_content taking.world.meaning taking.world.args taking.pick u) calls
@@ -83,7 +83,7 @@ module _ (taking : Taking) (uses : Uses taking) where
     abbrev call_at : (x : ℕ) → CallOf x → ImpureCall taking.world.sites
     call_at x m = record { site = x; term = n.next.term; args = m.0; earlier = length earlier; at = m.1 }
 
-    ready_args : (args : List ℕ) → each_term U args ≡ n.next.args → Ready taking uses s.done args
+    ready_args : (args : List ℕ) → each_term U args ≡ n.next.args → CallsReady taking uses s.done args
     ready_args args same u i m =
         let a = from_flat_map (λ x. below (suc x) taking.world.sites x) args u i in
         s.known u m (below_only taking.world.sites taking.before (Known earlier) (suc a.0) a.0 (each_only taking.world.sites taking.before (Known earlier) args (subst (CallOnly (Known earlier)) (sym same) n.next.earlier) a.0 a.1) u a.2 m)
@@ -91,7 +91,8 @@ module _ (taking : Taking) (uses : Uses taking) where
     call_now : (fuel x : ℕ) → x < fuel → Below taking uses x → (m : CallOf x) → CallGone taking uses s.done (listed_below fuel taking.world.sites taking.place.around.emitted s.done x) s.calls (call_at x m)
     call_now fuel x lt b m = call_goes taking uses fuel (call_at x m) lt b s.done s.calls s.listed (sym s.count) gave_values (ready_args m.0 m.2)
 
-    followed_made : (args : List ℕ) → each_term U args ≡ n.next.args → (vs : Values) (o : Option Content) → values_of taking uses args ≡ Some vs → content taking n.site ≡ o → follow_one (U n.site) s.calls ≡ follow_with n.next.term (Some vs) o s.calls
+    followed_made : (args : List ℕ) → each_term U args ≡ n.next.args → (vs : Values) (o : Option Content) → values_of taking uses args ≡ Some vs → content taking n.site ≡ o
+        → follow_one (U n.site) s.calls ≡ follow_with n.next.term (Some vs) o s.calls
     followed_made args same vs o v c =
         followed_with (U n.site) n.next.term (suc (length earlier)) n.next.args s.calls n.next.call
         ∙ ap (λ y. follow_with n.next.term y (content taking n.site) s.calls) (ap (site_values taking.world.meaning taking.world.args taking.pick) (sym same) ∙ v)

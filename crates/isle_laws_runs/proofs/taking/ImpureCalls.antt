@@ -16,9 +16,9 @@ use Rattle.isle_laws_runs.proofs.runs.Binding.{content_of}
 use Rattle.isle_laws_runs.proofs.runs.Contents.{sources_in, content_layer}
 use Rattle.isle_laws_runs.proofs.runs.Listing.{stays_here, last_here, unlisted}
 use Rattle.isle_laws_runs.proofs.runs.PureBindings.{values_read}
-use Rattle.isle_laws_runs.proofs.taking.TakingProgress.{GaveValues, Emitted, Here, Next, content, bound_so_far, Listed, fails_on, not_emitted, comes_after, put_bound}
+use Rattle.isle_laws_runs.proofs.taking.TakingProgress.{GaveValues, Emitted, Here, Next, content, bound_so_far, BoundSites, fails_on, not_emitted, comes_after, put_bound}
 use Rattle.isle_laws_runs.proofs.taking.SettledSites.{values_there}
-use Rattle.isle_laws_runs.proofs.taking.SitesBelow.{Uses, is_none, Below, AllListed, OneFailed, Ready, sites_go}
+use Rattle.isle_laws_runs.proofs.taking.SitesBelow.{ReturnSites, is_none, Below, AllListed, OneFailed, CallsReady, sites_go}
 use Rattle.isle_laws_runs.proofs.taking.Taking.{Taking}
 
 pub one_more : {X : Type 0} (xs : List X) (x : X) → length (xs ++ x ∷ []) ≡ suc (length xs)
@@ -32,7 +32,7 @@ pub record ImpureCall (sites : List Site) : Type 0 where
   pub earlier : ℕ
   pub at : slice_get sites site ≡ Some (constructor_site term args (suc earlier))
 
-module _ (taking : Taking) (uses : Uses taking) where
+module _ (taking : Taking) (uses : ReturnSites taking) where
   -- the values of sites, where each has one
   abbrev pub values_of : List ℕ → Option Values
   values_of ss = site_values taking.world.meaning taking.world.args taking.pick (each_term (unfold_site taking.world.sites) ss)
@@ -43,7 +43,7 @@ module _ (taking : Taking) (uses : Uses taking) where
     pub answer : Content
     pub held : values_of c.args ≡ Some values
     pub there : content taking c.site ≡ Some answer
-    pub listed : Listed taking more (calls ++ record { term = c.term; args = values } ∷ [])
+    pub listed : BoundSites taking more (calls ++ record { term = c.term; args = values } ∷ [])
     pub grows : (u : ℕ) → Here taking done u → Here taking more u
     pub here : Here taking more c.site
 
@@ -51,7 +51,7 @@ module _ (taking : Taking) (uses : Uses taking) where
   abbrev pub CallGone : List ℕ → List ℕ → List Call → ImpureCall taking.world.sites → Type 0
   CallGone done more calls c = CallMade done more calls c ⊎ ((bound_so_far taking more ≡ unwrap_failed calls) × (values_of c.args ≡ None))
 
-  pub call_fresh : (c : ImpureCall taking.world.sites) (done : List ℕ) (calls : List Call) → Listed taking done calls → length calls ≡ c.earlier → Here taking done c.site → ⊥
+  pub call_fresh : (c : ImpureCall taking.world.sites) (done : List ℕ) (calls : List Call) → BoundSites taking done calls → length calls ≡ c.earlier → Here taking done c.site → ⊥
   call_fresh c done calls l q (inl m) = not_emitted taking c.site c.site (below_itself taking.world.sites c.site) (c.term, c.args, c.earlier, c.at) m
   call_fresh c done calls l q (inr d) = (let k = (l.counted c.site c.term c.args c.earlier d c.at).0 in omega (arith, k, q))
 
@@ -59,13 +59,14 @@ module _ (taking : Taking) (uses : Uses taking) where
   not_listed done s n =
       or_from (is_in s taking.place.around.emitted) (is_in s done) (false_from_ne_true (is_in s taking.place.around.emitted) (λ t. n (inl t))) (false_from_ne_true (is_in s done) (λ t. n (inr (member_found s done t))))
 
-  pub call_goes : (n : ℕ) (c : ImpureCall taking.world.sites) → c.site < n → Below taking uses c.site → (done : List ℕ) (calls : List Call) → Listed taking done calls → length calls ≡ c.earlier → GaveValues taking c.earlier
-      → Ready taking uses done c.args → CallGone done (listed_below n taking.world.sites taking.place.around.emitted done c.site) calls c
+  pub call_goes : (n : ℕ) (c : ImpureCall taking.world.sites) → c.site < n → Below taking uses c.site → (done : List ℕ) (calls : List Call) → BoundSites taking done calls → length calls ≡ c.earlier
+      → GaveValues taking c.earlier
+      → CallsReady taking uses done c.args → CallGone done (listed_below n taking.world.sites taking.place.around.emitted done c.site) calls c
   call_goes zero c lt b done calls l q gave ready = absurd (omega (arith, lt))
   call_goes (suc n) c lt b done calls l q gave ready =
       let rest = each_after (listed_below n taking.world.sites taking.place.around.emitted) done (sources_at taking.world.sites c.site) in
       subst (λ x. CallGone done x calls c) (sym (cond-false (is_in c.site taking.place.around.emitted || is_in c.site done) done (rest ++ c.site ∷ []) out))
-      (then_call rest (unlisted taking.world.sites taking.before taking.place.around.emitted n c.site done out) (sites_go taking uses done calls (sources_at taking.world.sites c.site) (subst (Ready taking uses done) (sym sources) ready) n
+      (then_call rest (unlisted taking.world.sites taking.before taking.place.around.emitted n c.site done out) (sites_go taking uses done calls (sources_at taking.world.sites c.site) (subst (CallsReady taking uses done) (sym sources) ready) n
       (λ s i. let k = taking.before c.site s i in (omega (arith, lt, k), all_below_source taking.world.sites taking.before uses.sites c.site s b i)) l))
     where
       sources : sources_at taking.world.sites c.site ≡ c.args

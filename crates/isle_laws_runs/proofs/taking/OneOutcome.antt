@@ -21,7 +21,7 @@ use Rattle.isle_laws_runs.proofs.runs.Below.{all_below_itself, all_below_source}
 use Rattle.isle_laws_runs.proofs.taking.SettledSites.{settled, critical, Stock, settled_content, settled_pure, settled_source, emitted_settled, settled_stock, critical_below, critical_order}
 use Rattle.isle_laws_runs.proofs.taking.Taking.{ReachedPlace}
 use Rattle.isle_laws_runs.proofs.taking.UsedSites.{used_placed, placed_same, content_placed, bound_elsewhere, used_here, used_elsewhere, used_stays, AreAlike, bind_alike, alike_bound, AreAlikeBy, then_alike, WithOneContent}
-use Rattle.isle_laws_runs.proofs.runs.Listing.{IsHere, stays_here, last_here, here_or_last, listed_last, not_here, NextSite, AreClosed, closed_next, Walk, Walked, order_listed}
+use Rattle.isle_laws_runs.proofs.runs.Listing.{IsHere, stays_here, last_here, here_or_last, listed_last, not_here, NextSite, AreClosed, closed_next, Walk, WalkedTo, order_listed}
 
 -- an unwrap of what has a part is bound to it
 just_there : (o : Option Content) (c : Content) → then_option o part_of_some ≡ Some c → o ≡ Some (just c)
@@ -41,7 +41,8 @@ module _ (w : World) (before : SourcesBefore w.sites) where
   Settled t = settled w t ≡ true
 
   -- 1. a settled site that doesn't wait is bound to its content
-  settled_binds : (stock : Stock w) (e : Env) (calls : List Call) (s : ℕ) (h : settled w s ≡ true) (o : Option Site) → slice_get w.sites s ≡ o → (waits o ≡ false) ⊎ IsUnwrap o → is_in_place o ≡ false → ((a : ℕ) → Contains (sources_in o) a → used w e a ≡ content_at w [] a)
+  settled_binds : (stock : Stock w) (e : Env) (calls : List Call) (s : ℕ) (h : settled w s ≡ true) (o : Option Site) → slice_get w.sites s ≡ o → (waits o ≡ false) ⊎ IsUnwrap o → is_in_place o ≡ false
+      → ((a : ℕ) → Contains (sources_in o) a → used w e a ≡ content_at w [] a)
       → bind_site w e calls s o ≡ all_bound ((s, (settled_content w before s h).0) ∷ e) calls
   settled_binds stock e calls s h o at (inl n) p sources =
       let c = settled_content w before s h in
@@ -235,7 +236,7 @@ module _ (w : World) (before : SourcesBefore w.sites) where
       Below t = Contains (all_below w.sites ss) t
 
       -- what is listed so far was bound here, and what is critical of it from the start
-      record Listed (done : List ℕ) : Type 0 where
+      record BoundAlike (done : List ℕ) : Type 0 where
         alike : Alike done (bind_all w place.env [] (to_bind w.sites done)) (bind_all w stock.env [] (to_bind w.sites (filter (critical w) done)))
         closed : AreClosed w.sites Emitted done
 
@@ -245,7 +246,7 @@ module _ (w : World) (before : SourcesBefore w.sites) where
       free : (s : ℕ) → Below s → is_in s place.around.emitted ≡ false → (waits (slice_get w.sites s) ≡ false) ⊎ IsUnwrap (slice_get w.sites s)
       free s f n = elim (gates s f) [ inl a ↦ inl a | inr (inl u) ↦ inr u | inr (inr i) ↦ absurd (false≢true (sym n ∙ i)) ]
 
-      put : (done : List ℕ) → Listed done → (n : NextSite w.sites place.around.emitted Emitted done) → Below n.site → Listed (done ++ n.site ∷ [])
+      put : (done : List ℕ) → BoundAlike done → (n : NextSite w.sites place.around.emitted Emitted done) → Below n.site → BoundAlike (done ++ n.site ∷ [])
       put done l n f = record {
         alike =
             subst (λ b. Alike (done ++ n.site ∷ []) b (bind_all w stock.env [] (to_bind w.sites (filter (critical w) (done ++ n.site ∷ []))))) (sym (bind_both place.env done (n.site ∷ [])))
@@ -265,11 +266,11 @@ module _ (w : World) (before : SourcesBefore w.sites) where
         base = λ t i. i;
         MayList = Below;
         deeper = λ s a b out c. all_below_source w.sites before ss s a b c;
-        Holds = Listed;
+        Holds = BoundAlike;
         next = put;
       }
 
-      all_listed : Walked walk [] (each_after (λ done s. listed_below (suc s) w.sites place.around.emitted done s) [] ss) (Contains ss)
+      all_listed : WalkedTo walk [] (each_after (λ done s. listed_below (suc s) w.sites place.around.emitted done s) [] ss) (Contains ss)
       all_listed = order_listed walk ss (λ s c. all_below_itself w.sites ss s c) record {
         alike = (
           record {

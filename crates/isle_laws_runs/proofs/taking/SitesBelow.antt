@@ -15,14 +15,14 @@ use Rattle.isle_laws_runs.proofs.runs.Contents.{sources_in, content_layer}
 use Rattle.isle_laws_runs.proofs.runs.Listing.{stays_here, Walk, all_listed}
 use Rattle.isle_laws_runs.proofs.runs.PureBindings.{binds_content}
 use Rattle.isle_laws_runs.proofs.taking.CallsIn.{IsImpureAt}
-use Rattle.isle_laws_runs.proofs.taking.TakingProgress.{GaveValues, Emitted, Here, Next, content, bound_so_far, Listed, fails_on, bind_next, comes_after, fresh, read_sources, put_bound, put_placed}
+use Rattle.isle_laws_runs.proofs.taking.TakingProgress.{GaveValues, Emitted, Here, Next, content, bound_so_far, BoundSites, fails_on, bind_next, comes_after, fresh, read_sources, put_bound, put_placed}
 use Rattle.isle_laws_runs.proofs.taking.PureSites.{calls_nothing, pure_site}
 use Rattle.isle_laws_runs.proofs.taking.SettledSites.{below_there}
 use Rattle.isle_laws_runs.proofs.taking.Taking.{Taking, ComesAfterValues}
 
 -- the sites that a rule which is taken uses: what stands at or below them and waits is unwrapped or emitted; what comes after
 -- calls that gave values has a content if its sources have and it waits for nothing, and may be nothing where it is unwrapped
-pub record Uses (taking : Taking) : Type 0 where
+pub record ReturnSites (taking : Taking) : Type 0 where
   pub sites : List ℕ
   pub gates : (s : ℕ) → Contains (all_below taking.world.sites sites) s
       → (waits (slice_get taking.world.sites s) ≡ false) ⊎ (IsUnwrap (slice_get taking.world.sites s) ⊎ IsTrue (is_in s taking.place.around.emitted))
@@ -41,16 +41,16 @@ impure_form (Some (constructor_site t ss zero)) h = absurd (false≢true (sym h)
 impure_form (Some (constructor_site t ss (suc n))) h = (t, ss, n, refl)
 impure_form (Some _) h = absurd (false≢true (sym h))
 
-module _ (taking : Taking) (uses : Uses taking) where
+module _ (taking : Taking) (uses : ReturnSites taking) where
   -- at or below a site that the rule uses
   abbrev pub Below : ℕ → Type 0
   Below s = Contains (all_below taking.world.sites uses.sites) s
 
   -- 1. a site that makes no impure call is put: it has its content, or it is an unwrap of nothing
   abbrev pub Put : List ℕ → List Call → ℕ → Type 0
-  Put more calls s = Listed taking more calls ⊎ ((bound_so_far taking more ≡ unwrap_failed calls) × (content taking s ≡ None))
+  Put more calls s = BoundSites taking more calls ⊎ ((bound_so_far taking more ≡ unwrap_failed calls) × (content taking s ≡ None))
 
-  pub put_pure : (done : List ℕ) (calls : List Call) → Listed taking done calls → (n : Next taking done) → Below n.site → calls_nothing (slice_get taking.world.sites n.site) ≡ true → Put (done ++ n.site ∷ []) calls n.site
+  pub put_pure : (done : List ℕ) (calls : List Call) → BoundSites taking done calls → (n : Next taking done) → Below n.site → calls_nothing (slice_get taking.world.sites n.site) ≡ true → Put (done ++ n.site ∷ []) calls n.site
   put_pure done calls l n b q =
       elim (uses.gates n.site b) [
         | inl wait ↦
@@ -67,11 +67,12 @@ module _ (taking : Taking) (uses : Uses taking) where
       after = comes_after taking done calls l n.site n.sources (λ t ss i at. (own t ss i at).1)
 
       put : (c : Content) → content taking n.site ≡ Some c → bind_site taking.world l.env calls n.site (slice_get taking.world.sites n.site) ≡ all_bound ((n.site, c) ∷ l.env) calls
-          → (is_in_place (slice_get taking.world.sites n.site) ≡ true) ⊎ (is_in_place (slice_get taking.world.sites n.site) ≡ false) → Listed taking (done ++ n.site ∷ []) calls
+          → (is_in_place (slice_get taking.world.sites n.site) ≡ true) ⊎ (is_in_place (slice_get taking.world.sites n.site) ≡ false) → BoundSites taking (done ++ n.site ∷ []) calls
       put c there e (inl p) = put_placed taking done calls l n c there p
       put c there e (inr p) = put_bound taking done calls l n c there calls (omega arith) own p e
 
-      binds : (c : Content) → content taking n.site ≡ Some c → (o : Option Site) → slice_get taking.world.sites n.site ≡ o → waits o ≡ false → calls_nothing o ≡ true → bind_site taking.world l.env calls n.site o ≡ all_bound ((n.site, c) ∷ l.env) calls
+      binds : (c : Content) → content taking n.site ≡ Some c → (o : Option Site) → slice_get taking.world.sites n.site ≡ o → waits o ≡ false → calls_nothing o ≡ true
+          → bind_site taking.world l.env calls n.site o ≡ all_bound ((n.site, c) ∷ l.env) calls
       binds c there None at wait p = absurd (false≢true (sym wait))
       binds c there (Some d) at wait p =
           binds_content taking.world taking.pick taking.before l.env calls n.site d at wait (pure_site d p) (λ u i. read_sources taking done calls l n u (subst (λ x. Contains (sources_in x) u) (sym at) i))
@@ -95,7 +96,7 @@ module _ (taking : Taking) (uses : Uses taking) where
 
   -- 2. sites were listed with all below them, or one of them has no content
   pub record AllListed (done more : List ℕ) (calls : List Call) (xs : List ℕ) : Type 0 where
-    pub listed : Listed taking more calls
+    pub listed : BoundSites taking more calls
     pub grows : (t : ℕ) → Here taking done t → Here taking more t
     pub now : (s : ℕ) → Contains xs s → Here taking more s
 
@@ -106,19 +107,19 @@ module _ (taking : Taking) (uses : Uses taking) where
     pub none : content taking site ≡ None
 
   -- the impure calls at and below these sites are here
-  abbrev pub Ready : List ℕ → List ℕ → Type 0
-  Ready done xs = (u : ℕ) → Contains (all_below taking.world.sites xs) u → IsImpureAt taking.world.sites taking.before u → Here taking done u
+  abbrev pub CallsReady : List ℕ → List ℕ → Type 0
+  CallsReady done xs = (u : ℕ) → Contains (all_below taking.world.sites xs) u → IsImpureAt taking.world.sites taking.before u → Here taking done u
 
   below_none : (s u : ℕ) → Contains (below (suc s) taking.world.sites s) u → content taking u ≡ None → content taking s ≡ None
   below_none s u c none = is_none (content taking s) (λ h. false≢true (sym (ap is_some none) ∙ below_there taking.world taking.pick taking.before (suc s) s u h c))
 
-  module _ (done : List ℕ) (calls : List Call) (xs : List ℕ) (ready : Ready done xs) where
+  module _ (done : List ℕ) (calls : List Call) (xs : List ℕ) (ready : CallsReady done xs) where
     -- so far, or a site below these has no content
     record IsWalked (more : List ℕ) : Type 0 where
       grows : (t : ℕ) → Here taking done t → Here taking more t
-      reached : Listed taking more calls ⊎ OneFailed more calls (all_below taking.world.sites xs)
+      reached : BoundSites taking more calls ⊎ OneFailed more calls (all_below taking.world.sites xs)
 
-    pure_next : (more : List ℕ) → Listed taking more calls → IsWalked more → (n : Next taking more) → Contains (all_below taking.world.sites xs) n.site → calls_nothing (slice_get taking.world.sites n.site) ≡ true
+    pure_next : (more : List ℕ) → BoundSites taking more calls → IsWalked more → (n : Next taking more) → Contains (all_below taking.world.sites xs) n.site → calls_nothing (slice_get taking.world.sites n.site) ≡ true
     pure_next more l w n c =
         elim (cases_Bool (calls_nothing (slice_get taking.world.sites n.site))) [
           | inl t ↦ t
@@ -126,7 +127,7 @@ module _ (taking : Taking) (uses : Uses taking) where
         ]
 
     reached_next : (more : List ℕ) → IsWalked more → (n : Next taking more) → Below n.site → Contains (all_below taking.world.sites xs) n.site
-        → Listed taking more calls ⊎ OneFailed more calls (all_below taking.world.sites xs) → Listed taking (more ++ n.site ∷ []) calls ⊎ OneFailed (more ++ n.site ∷ []) calls (all_below taking.world.sites xs)
+        → BoundSites taking more calls ⊎ OneFailed more calls (all_below taking.world.sites xs) → BoundSites taking (more ++ n.site ∷ []) calls ⊎ OneFailed (more ++ n.site ∷ []) calls (all_below taking.world.sites xs)
     reached_next more w n b c (inl l) =
         elim (put_pure more calls l n b (pure_next more l w n c)) [
           | inl p ↦ inl p
@@ -147,7 +148,7 @@ module _ (taking : Taking) (uses : Uses taking) where
       next = λ more w n may. record { grows = λ t i. stays_here (Emitted taking) more n.site t (w.grows t i); reached = reached_next more w n may.0 may.1 w.reached };
     }
 
-    pub sites_go : (n : ℕ) → ((s : ℕ) → Contains xs s → (s < n) × Below s) → Listed taking done calls
+    pub sites_go : (n : ℕ) → ((s : ℕ) → Contains xs s → (s < n) × Below s) → BoundSites taking done calls
         → AllListed done (each_after (listed_below n taking.world.sites taking.place.around.emitted) done xs) calls xs ⊎ OneFailed (each_after (listed_below n taking.world.sites taking.place.around.emitted) done xs) calls xs
     sites_go n fine l =
         let r = all_listed walk n xs (λ s c. let f = fine s c in (f.0, (f.1, all_below_itself taking.world.sites xs s c))) done (record { grows = λ t i. i; reached = inl l }) in

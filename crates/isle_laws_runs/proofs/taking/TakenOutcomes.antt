@@ -18,16 +18,16 @@ use Rattle.isle_model.proofs.FewElements.{in_one}
 use Rattle.isle_laws_runs.proofs.runs.Below.{all_below_itself}
 use Rattle.isle_laws_runs.proofs.runs.Contents.{SourcesBefore, StandApart}
 use Rattle.isle_laws_runs.proofs.taking.BindOrderGrowth.{Extends, each_extends, listed_extends}
-use Rattle.isle_laws_runs.proofs.taking.CallAnswers.{U, AnswersBound, IsAnswered, answer_goes}
+use Rattle.isle_laws_runs.proofs.taking.CallAnswers.{U, AnswersBound, AnswerBound, answer_goes}
 use Rattle.isle_laws_runs.proofs.taking.CallsIn.{CallsOnly, Known, InOrder, IsImpureAt, below_only}
 use Rattle.isle_laws_runs.proofs.taking.FollowedCalls.{goes_on, stops, then_follow, answered_call, follow, result_after}
 use Rattle.isle_laws_runs.proofs.taking.ImpureCalls.{one_more}
 use Rattle.isle_laws_runs.proofs.taking.TakingProgress.{Here, content, bound_so_far, nothing_listed, fails_on}
-use Rattle.isle_laws_runs.proofs.taking.SitesBelow.{Uses, Below, Ready, sites_go}
+use Rattle.isle_laws_runs.proofs.taking.SitesBelow.{ReturnSites, Below, CallsReady, sites_go}
 use Rattle.isle_laws_runs.proofs.taking.Taking.{Taking, ComesAfterValues}
 
 -- 1. all answers in order, then the result
-module _ (taking : Taking) (uses : Uses taking) (r : SetRule) (multi : taking.world.multi ≡ false) where
+module _ (taking : Taking) (uses : ReturnSites taking) (r : SetRule) (multi : taking.world.multi ≡ false) where
   abbrev ends : Bound → Outcome
   ends b = on_bound b at_start (λ env t. or_next (run_check (return_at r.at r.result) taking.world env t) (run_tree no_step taking.world env))
 
@@ -55,7 +55,7 @@ module _ (taking : Taking) (uses : Uses taking) (r : SetRule) (multi : taking.wo
         | inr f ↦ ap ends f.bound ∙ ap (λ o. result_after o (goes_on s.calls)) (sym (ap (content taking) (in_alone r.result f.site f.among) ∙ f.none))
       ]
     where
-      ready : Ready taking uses s.done (r.result ∷ [])
+      ready : CallsReady taking uses s.done (r.result ∷ [])
       ready u i m =
           let a = from_flat_map (λ x. below (suc x) taking.world.sites x) (r.result ∷ []) u i in
           let k : Contains (below (suc r.result) taking.world.sites r.result) u = subst (λ x. Contains (below (suc x) taking.world.sites x) u) (sym (in_alone r.result a.0 a.1)) a.2 in
@@ -63,7 +63,7 @@ module _ (taking : Taking) (uses : Uses taking) (r : SetRule) (multi : taking.wo
 
   -- what is bound once an answer is bound as well
   answers_next : (x : ℕ) (earlier later : List SiteTerm) (s : AnswersBound taking uses earlier (U taking uses x ∷ later)) → x < length taking.world.sites
-      → IsAnswered taking uses s.done (list_one s.done x) s.calls x → AnswersBound taking uses (earlier ++ U taking uses x ∷ []) later
+      → AnswerBound taking uses s.done (list_one s.done x) s.calls x → AnswersBound taking uses (earlier ++ U taking uses x ∷ []) later
   answers_next x earlier later s lt a = record {
     all = s.all ∙ sym (append_assoc earlier (U taking uses x ∷ []) later);
     done = list_one s.done x;
@@ -127,7 +127,7 @@ taken_follows w k before r o t multi once found maybe made known order only =
       place = record { around = t.around; env = t.env; reached = t.reached };
       calls = map (unfold_site w.sites) r.impure;
     } in
-    let uses : Uses taking = record { sites = return_uses (Some r); gates = t.gates; found = found; maybe = maybe } in
+    let uses : ReturnSites taking = record { sites = return_uses (Some r); gates = t.gates; found = found; maybe = maybe } in
     t.outcome
     ∙ walk taking uses r multi made r.impure [] known (λ x c. all_below_itself w.sites (return_uses (Some r)) x c) order only record {
       all = refl;

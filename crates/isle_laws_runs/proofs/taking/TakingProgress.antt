@@ -44,7 +44,7 @@ module _ (taking : Taking) where
 
   -- 1. what is bound of these sites, after these calls: what is emitted or listed can be read, nothing else is bound, and an
   -- impure call that is listed comes after fewer calls than were made, which gave values
-  pub record Listed (done : List ℕ) (calls : List Call) : Type 0 where
+  pub record BoundSites (done : List ℕ) (calls : List Call) : Type 0 where
     pub env : Env
     pub bound : bound_so_far done ≡ all_bound env calls
     pub reads : (u : ℕ) → Here done u → (c : Content) × (content u ≡ Some c) × (used taking.world env u ≡ Some c)
@@ -52,7 +52,7 @@ module _ (taking : Taking) where
     pub closed : AreClosed taking.world.sites Emitted done
     pub counted : (u t : ℕ) (ss : List ℕ) (n : ℕ) → Contains done u → slice_get taking.world.sites u ≡ Some (constructor_site t ss (suc n)) → (n < length calls) × GaveValues n
 
-  pub nothing_listed : Listed [] []
+  pub nothing_listed : BoundSites [] []
   nothing_listed = record {
     env = taking.place.env;
     bound = refl;
@@ -75,7 +75,8 @@ module _ (taking : Taking) where
   pub fails_on : (done more : List ℕ) (calls : List Call) → Extends done more → bound_so_far done ≡ unwrap_failed calls → bound_so_far more ≡ unwrap_failed calls
   fails_on done more calls (new, e) h = ap bound_so_far e ∙ bind_more done new ∙ ap (λ b. then_bind b (λ e calls. bind_all taking.world e calls (to_bind taking.world.sites new))) h
 
-  pub bind_next : (done : List ℕ) (calls : List Call) (l : Listed done calls) (s : ℕ) (b : Bound) → is_in_place (slice_get taking.world.sites s) ≡ false → bind_site taking.world l.env calls s (slice_get taking.world.sites s) ≡ b
+  pub bind_next : (done : List ℕ) (calls : List Call) (l : BoundSites done calls) (s : ℕ) (b : Bound) → is_in_place (slice_get taking.world.sites s) ≡ false
+      → bind_site taking.world l.env calls s (slice_get taking.world.sites s) ≡ b
       → bound_so_far (done ++ s ∷ []) ≡ then_bind b (λ e' calls'. all_bound e' calls')
   bind_next done calls l s b p q =
       bind_more done (s ∷ [])
@@ -83,7 +84,7 @@ module _ (taking : Taking) where
       ∙ ap (bind_all taking.world l.env calls) (ap (λ t. cond (not t) (s ∷ []) []) p)
       ∙ ap (λ x. then_bind x (λ e' calls'. all_bound e' calls')) q
 
-  bind_none : (done : List ℕ) (calls : List Call) (l : Listed done calls) (s : ℕ) → is_in_place (slice_get taking.world.sites s) ≡ true → bound_so_far (done ++ s ∷ []) ≡ all_bound l.env calls
+  bind_none : (done : List ℕ) (calls : List Call) (l : BoundSites done calls) (s : ℕ) → is_in_place (slice_get taking.world.sites s) ≡ true → bound_so_far (done ++ s ∷ []) ≡ all_bound l.env calls
   bind_none done calls l s p =
       bind_more done (s ∷ [])
       ∙ ap (λ x. then_bind x (λ e' calls'. bind_all taking.world e' calls' (to_bind taking.world.sites (s ∷ [])))) l.bound
@@ -96,7 +97,7 @@ module _ (taking : Taking) where
       subst IsPureSite (same_Some a.0 (constructor_site t sources (suc i)) (sym a.1 ∙ at)) a.2
 
   -- impure calls below what is here come after calls that gave values, and so it is with a site above such ones
-  below_here : (done : List ℕ) (calls : List Call) → Listed done calls → (n x : ℕ) → x < n → Here done x
+  below_here : (done : List ℕ) (calls : List Call) → BoundSites done calls → (n x : ℕ) → x < n → Here done x
       → (u t : ℕ) (ss : List ℕ) (m : ℕ) → Contains (below n taking.world.sites x) u → slice_get taking.world.sites u ≡ Some (constructor_site t ss (suc m)) → GaveValues m
   below_here done calls l zero x lt h u t ss m c at = absurd (omega (arith, lt))
   below_here done calls l (suc n) x lt (inl i) u t ss m c at =
@@ -110,7 +111,7 @@ module _ (taking : Taking) where
             below_here done calls l n r.0 (omega (arith, lt, less)) (l.closed x r.0 i r.1) u t ss m r.2 at
       ]
 
-  pub comes_after : (done : List ℕ) (calls : List Call) → Listed done calls → (s : ℕ) → ((a : ℕ) → Contains (sources_at taking.world.sites s) a → Here done a)
+  pub comes_after : (done : List ℕ) (calls : List Call) → BoundSites done calls → (s : ℕ) → ((a : ℕ) → Contains (sources_at taking.world.sites s) a → Here done a)
       → ((t : ℕ) (ss : List ℕ) (n : ℕ) → slice_get taking.world.sites s ≡ Some (constructor_site t ss (suc n)) → GaveValues n) → ComesAfterValues taking.world taking.pick taking.calls s
   comes_after done calls l s sources own u t ss n c at =
       elim (in_cases s u (flat_map (below s taking.world.sites) (sources_at taking.world.sites s)) c) [
@@ -121,7 +122,7 @@ module _ (taking : Taking) where
       ]
 
   -- 2. one more site
-  module _ (done : List ℕ) (calls : List Call) (l : Listed done calls) (n : Next done) where
+  module _ (done : List ℕ) (calls : List Call) (l : BoundSites done calls) (n : Next done) where
     pub fresh : Here done n.site → ⊥
     fresh = not_here taking.place.around.emitted done n.site n.unlisted
 
@@ -143,7 +144,7 @@ module _ (taking : Taking) where
     IsCounted calls' = (t : ℕ) (ss : List ℕ) (i : ℕ) → slice_get taking.world.sites n.site ≡ Some (constructor_site t ss (suc i)) → (i < length calls') × GaveValues i
 
     pub put_bound : (c : Content) → content n.site ≡ Some c → (calls' : List Call) → length calls ≤ length calls' → IsCounted calls' → is_in_place (slice_get taking.world.sites n.site) ≡ false
-        → bind_site taking.world l.env calls n.site (slice_get taking.world.sites n.site) ≡ all_bound ((n.site, c) ∷ l.env) calls' → Listed (done ++ n.site ∷ []) calls'
+        → bind_site taking.world l.env calls n.site (slice_get taking.world.sites n.site) ≡ all_bound ((n.site, c) ∷ l.env) calls' → BoundSites (done ++ n.site ∷ []) calls'
     put_bound c there calls' le own p b = record {
       env = (n.site, c) ∷ l.env;
       bound = bind_next done calls l n.site (all_bound ((n.site, c) ∷ l.env) calls') p b;
@@ -162,7 +163,7 @@ module _ (taking : Taking) where
       ];
     }
 
-    pub put_placed : (c : Content) → content n.site ≡ Some c → is_in_place (slice_get taking.world.sites n.site) ≡ true → Listed (done ++ n.site ∷ []) calls
+    pub put_placed : (c : Content) → content n.site ≡ Some c → is_in_place (slice_get taking.world.sites n.site) ≡ true → BoundSites (done ++ n.site ∷ []) calls
     put_placed c there p = record {
       env = l.env;
       bound = bind_none done calls l n.site p;

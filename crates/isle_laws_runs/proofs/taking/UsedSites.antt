@@ -240,7 +240,8 @@ module _ (w : World) (env env' : Env) (s : ℕ) where
       ap (λ o. then_option (then_option o as_value) (λ v. then_option (used_values w env ss) (λ vs. Some (value_and v vs)))) (h u (in_head u ss))
       ∙ ap (λ o. then_option (then_option (used w env' u) as_value) (λ v. then_option o (λ vs. Some (value_and v vs)))) (values_same ss (λ x c. h x (in_tail u x ss c)))
 
-  pub bind_alike : (calls : List Call) (o : Option Site) → ((u : ℕ) → Contains (sources_in o) u → used w env u ≡ used w env' u) → is_in_place o ≡ false → AreAlike s env env' (bind_site w env calls s o) (bind_site w env' calls s o)
+  pub bind_alike : (calls : List Call) (o : Option Site) → ((u : ℕ) → Contains (sources_in o) u → used w env u ≡ used w env' u) → is_in_place o ≡ false
+      → AreAlike s env env' (bind_site w env calls s o) (bind_site w env' calls s o)
   bind_alike calls None h n = refl
   bind_alike calls (Some (bool_site b ty)) h n = now_alike env env' s calls _
   bind_alike calls (Some (extractor_site term source)) h n =

@@ -10,7 +10,7 @@ use Rattle.isle_model.specs.claims.Layers.{can_be_used, binds_once}
 use Rattle.isle_model.proofs.Members.{nothing_in, in_head, in_tail, in_cases, all_pass, in_filter, from_filter, from_flat_map, member_found, member_is_in}
 use Rattle.isle_laws_runs.proofs.runs.Below.{below_itself, below_deeper, source_below, all_below_itself, all_below_source}
 use Rattle.isle_laws_runs.proofs.runs.BindOrders.{to_bind, opened}
-use Rattle.isle_laws_runs.proofs.runs.Listing.{listed_last, NextSite, AreClosed, closed_next, Walk, Walked, order_listed}
+use Rattle.isle_laws_runs.proofs.runs.Listing.{listed_last, NextSite, AreClosed, closed_next, Walk, WalkedTo, order_listed}
 use Rattle.isle_laws_trees.proofs.binding.Scope.{BindableSet, ScopeAt}
 
 -- 1. scopes
@@ -54,7 +54,7 @@ module _ (b : BindableSet) (ar : Around) (scope : ScopeAt b ar) (ss : List ℕ) 
   abbrev Ready : List ℕ → ℕ → Type 0
   Ready done u = Reach u ⊎ Contains done u
 
-  record Listed (done : List ℕ) : Type 0 where
+  record BoundOnce (done : List ℕ) : Type 0 where
     binds : binds_once sites scope.again scope.sites (to_bind sites done) ≡ true
     sources : AreClosed sites Reach done
     fine : (s : ℕ) → Contains done s → Contains (all_below sites ss) s
@@ -62,11 +62,11 @@ module _ (b : BindableSet) (ar : Around) (scope : ScopeAt b ar) (ss : List ℕ) 
   reach_source : (u a : ℕ) → Reach u → Contains (sources_at sites u) a → Reach a
   reach_source u a (s, e, k) c = (s, e, below_deeper sites b.before (suc s) s u a (omega arith) k (source_below sites b.before u a c))
 
-  ready_source : (done : List ℕ) → Listed done → (u a : ℕ) → Ready done u → Contains (sources_at sites u) a → Ready done a
+  ready_source : (done : List ℕ) → BoundOnce done → (u a : ℕ) → Ready done u → Contains (sources_at sites u) a → Ready done a
   ready_source done l u a (inl r) c = inl (reach_source u a r c)
   ready_source done l u a (inr d) c = l.sources u a d c
 
-  ready_below : (done : List ℕ) → Listed done → (n s u : ℕ) → Ready done s → Contains (below n sites s) u → Ready done u
+  ready_below : (done : List ℕ) → BoundOnce done → (n s u : ℕ) → Ready done s → Contains (below n sites s) u → Ready done u
   ready_below done l zero s u r c = absurd (nothing_in u c)
   ready_below done l (suc n) s u r c =
       elim (in_cases s u (flat_map (below n sites) (sources_at sites s)) c) [
@@ -78,7 +78,7 @@ module _ (b : BindableSet) (ar : Around) (scope : ScopeAt b ar) (ss : List ℕ) 
   ready_bound done u (inl r) n = inr (scope.scoped.bound r.0 u r.1 r.2 n)
   ready_bound done u (inr c) n = inl (in_filter (λ s. not (is_in_place (slice_get sites s))) done u c (ap not n))
 
-  usable : (done : List ℕ) → Listed done → (wide : List ℕ) → ((x : ℕ) → Contains (to_bind sites done) x ⊎ Contains scope.sites x → Contains wide x) → (u : ℕ) → Ready done u → can_be_used sites wide u ≡ true
+  usable : (done : List ℕ) → BoundOnce done → (wide : List ℕ) → ((x : ℕ) → Contains (to_bind sites done) x ⊎ Contains scope.sites x → Contains wide x) → (u : ℕ) → Ready done u → can_be_used sites wide u ≡ true
   usable done l wide all u r =
       elim (cases_Bool (is_in_place (slice_get sites u))) [
         | inr n ↦ or_left (is_in u wide) (is_in_place (slice_get sites u) && list_all (λ a. is_in a wide) (sources_at sites u)) (member_is_in u wide (all u (ready_bound done u r n)))
@@ -89,7 +89,8 @@ module _ (b : BindableSet) (ar : Around) (scope : ScopeAt b ar) (ss : List ℕ) 
       ]
 
   -- one more
-  may_bind : (done : List ℕ) → Listed done → (s : ℕ) → (is_in s ar.emitted || is_in s done) ≡ false → ((a : ℕ) → Contains (sources_at sites s) a → Ready done a) → can_bind sites scope.again (after_binds scope.sites (to_bind sites done)) s ≡ true
+  may_bind : (done : List ℕ) → BoundOnce done → (s : ℕ) → (is_in s ar.emitted || is_in s done) ≡ false → ((a : ℕ) → Contains (sources_at sites s) a → Ready done a)
+      → can_bind sites scope.again (after_binds scope.sites (to_bind sites done)) s ≡ true
   may_bind done l s f r =
       let wide = after_binds scope.sites (to_bind sites done) in
       let no = or_parts (is_in s ar.emitted) (is_in s done) f in
@@ -108,7 +109,8 @@ module _ (b : BindableSet) (ar : Around) (scope : ScopeAt b ar) (ss : List ℕ) 
       ])
       (all_pass (can_be_used sites wide) (sources_at sites s) (λ a c. usable done l wide (λ x k. after_new scope.sites (to_bind sites done) x k) a (r a c)))
 
-  put_binds : (done : List ℕ) → Listed done → (s : ℕ) → (is_in s ar.emitted || is_in s done) ≡ false → ((a : ℕ) → Contains (sources_at sites s) a → Ready done a) → binds_once sites scope.again scope.sites (to_bind sites (done ++ s ∷ [])) ≡ true
+  put_binds : (done : List ℕ) → BoundOnce done → (s : ℕ) → (is_in s ar.emitted || is_in s done) ≡ false → ((a : ℕ) → Contains (sources_at sites s) a → Ready done a)
+      → binds_once sites scope.again scope.sites (to_bind sites (done ++ s ∷ [])) ≡ true
   put_binds done l s f r =
       let split = filter-append (λ t. not (is_in_place (slice_get sites t))) done (s ∷ []) in
       elim (cases_Bool (is_in_place (slice_get sites s))) [
@@ -120,7 +122,7 @@ module _ (b : BindableSet) (ar : Around) (scope : ScopeAt b ar) (ss : List ℕ) 
             ap (binds_once sites scope.again scope.sites) same ∙ binds_last sites scope.again scope.sites (to_bind sites done) s l.binds (may_bind done l s f r)
       ]
 
-  put : (done : List ℕ) → Listed done → (n : NextSite sites ar.emitted Reach done) → Contains (all_below sites ss) n.site → Listed (done ++ n.site ∷ [])
+  put : (done : List ℕ) → BoundOnce done → (n : NextSite sites ar.emitted Reach done) → Contains (all_below sites ss) n.site → BoundOnce (done ++ n.site ∷ [])
   put done l n fine = record {
     binds = put_binds done l n.site n.unlisted n.sources;
     sources = closed_next sites ar.emitted Reach done l.sources n;
@@ -136,14 +138,14 @@ module _ (b : BindableSet) (ar : Around) (scope : ScopeAt b ar) (ss : List ℕ) 
     base = λ t i. (t, member_found t ar.emitted i, below_itself sites t);
     MayList = Contains (all_below sites ss);
     deeper = λ s a may out c. all_below_source sites b.before ss s a may c;
-    Holds = Listed;
+    Holds = BoundOnce;
     next = put;
   }
 
   abbrev listed_all : List ℕ
   listed_all = each_after (λ done s. listed_below (suc s) sites ar.emitted done s) [] ss
 
-  all_listed : Walked walk [] listed_all (Contains ss)
+  all_listed : WalkedTo walk [] listed_all (Contains ss)
   all_listed = order_listed walk ss (λ s c. all_below_itself sites ss s c) (record { binds = refl; sources = λ s a c k. absurd (nothing_in s c); fine = λ s c. absurd (nothing_in s c) })
 
   abbrev pub binds_of : List ℕ
