@@ -4,7 +4,7 @@ use Rattle.isle_model.proofs.Members.{in_alone, nothing_in}
 use Rattle.isle_model.proofs.SameSites.{term_means}
 use Rattle.isle_model.specs.sites.Demands.{site_term_eq}
 use Rattle.isle_model.specs.sites.Sites.{SiteTerm}
-use Rattle.isle_laws_runs.specs.Exact.{GiveSamePlaces}
+use Rattle.isle_laws_runs.specs.PickLaws.{GiveSamePlaces}
 use Rattle.isle_laws_runs.specs.Orders.{IsOfPlaces}
 use Rattle.isle_laws_runs.proofs.picks.PickLists.{picks_are_exact_lem}
 use Rattle.isle_laws_runs.proofs.picks.FirstCall.{calls_can_come_first_lem, results_are_of_places_lem}

@@ -6,7 +6,7 @@
 ghost use Rattle.isle_model.specs.trees.Collects.{SoundTreesCollect};
 ghost use Rattle.isle_laws_runs.specs.WithoutMulti.{NoMultiIsNoIterators, MatchesAsPlain, EndsAsPlain, BagAsPlain};
 ghost use Rattle.isle_model.specs.rules.Meaning.{one};
-ghost use Rattle.isle_laws_runs.specs.Exact.{PicksAreExact, OnlyPlacesMatter, ContentsAreHeld, HeldAreContents};
+ghost use Rattle.isle_laws_runs.specs.PickLaws.{PicksAreExact, OnlyPlacesMatter, ContentsAreHeld, HeldAreContents};
 ghost use Rattle.isle_laws_runs.specs.ChoiceLaws.{ChoiceAsksTerms, OrderDoesntMatter, OthersCanBeTakenAway, OrderInProgramsDoesntMatter, OthersInProgramsCanBeTakenAway};
 ghost use Rattle.isle_laws_runs.specs.Orders.{CallsCanComeFirst, ResultsAreOfPlaces};
 ghost use Rattle.isle_model.specs.rules.Values.{Value, value_eq};

@@ -16,7 +16,7 @@ use Rattle.isle_model.specs.rules.Program.{Program}
 use Rattle.isle_model.specs.rules.Typed.{TypedRule}
 use Rattle.isle_model.proofs.Bags.{flat_flat, each_moved, exchanged}
 use Rattle.isle_model.proofs.Members.{in_head, in_tail}
-use Rattle.isle_laws_runs.specs.Exact.{GiveSamePlaces}
+use Rattle.isle_laws_runs.specs.PickLaws.{GiveSamePlaces}
 use Rattle.isle_laws_runs.specs.Orders.{Covered, OrderedFrom, IsOfPlaces, CallsCanComeFirst, ResultsAreOfPlaces}
 use Rattle.isle_model.proofs.SameSites.{term_means}
 use Rattle.isle_laws_runs.proofs.picks.SamePlaces.{content_same, PicksAlike, matching_same, ends_same}

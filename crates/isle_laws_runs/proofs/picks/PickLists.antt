@@ -11,7 +11,7 @@ use Rattle.isle_model.proofs.Members.{nothing_in, in_head, in_tail, in_cases, in
 use Rattle.isle_model.proofs.Positions.{distinct_nil}
 use Rattle.isle_model.proofs.DistinctJoined.{distinct_cons, distinct_flat}
 use Rattle.isle_model.proofs.Numbers.{numbers_below, numbers_all, numbers_distinct}
-use Rattle.isle_laws_runs.specs.Exact.{PicksAreExact}
+use Rattle.isle_laws_runs.specs.PickLaws.{PicksAreExact}
 use Rattle.isle_laws_runs.specs.Orders.{OrderedFrom}
 use Rattle.isle_laws_runs.proofs.picks.VisitOrder.{calls_ordered}
 use Rattle.isle_laws_runs.proofs.picks.LongerPicks.{keys, keys_push, content_kept}

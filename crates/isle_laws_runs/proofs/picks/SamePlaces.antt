@@ -9,7 +9,7 @@ use Rattle.isle_model.specs.rules.RightSide.{gives, EvalAll, gives_all, ends_all
 use Rattle.isle_model.specs.sites.Sites.{SiteTerm, argument, extractor_call, constructor_call, SiteTerms}
 use Rattle.isle_model.specs.rules.Picks.{Pick, taken_answer, site_content, sited, SitedVars, expr_site, expr_sites, input_sites, parts_under, holds_under, each_holds_under, all_hold_under, term_under, value_under, values_under, lets_under, args_hold_under, iflets_hold_under, impure_under, apply_under, then_sited_lets, then_sited_body, eval_under, eval_all_under, eval_lets_under, matches_under, right_side_under}
 use Rattle.isle_model.specs.rules.Typed.{TypedPattern, match_bind, match_var, match_bool, match_int, match_prim, match_term, match_any, match_and, TypedPatterns, no_typed_pattern, typed_pattern_and, TypedExpr, make_term, make_var, make_bool, make_int, make_prim, make_let, TypedExprs, no_typed_expr, typed_expr_and, TypedLets, no_typed_let, typed_let_and, TypedIfLet, TypedRule}
-use Rattle.isle_laws_runs.specs.Exact.{GiveSamePlaces, OnlyPlacesMatter}
+use Rattle.isle_laws_runs.specs.PickLaws.{GiveSamePlaces, OnlyPlacesMatter}
 use Rattle.isle_laws_runs.proofs.picks.LongerPicks.{picked_alike, content_alike}
 
 module _ (m : Meaning) (k l : Pick) (g : GiveSamePlaces k l) where
