@@ -28,14 +28,14 @@ use Rattle.isle_laws_demands.proofs.visits.Declared.{no_rule_asks_and_goes_over_
 use Rattle.isle_laws_demands.proofs.visits.Elaborated.{elaborated_rules_demand_gates_lem}
 use Rattle.isle_laws_demands.proofs.visits.Priorities.{one_priority_lem}
 use Rattle.isle_laws_demands.proofs.visits.WholeDemands.{built_demands_are_whole_lem}
-use Rattle.isle_laws_runs.proofs.runs.Collected.{sound_trees_collect_lem}
+use Rattle.isle_laws_runs.proofs.runs.Collection.{sound_trees_collect_lem}
 use Rattle.isle_laws_trees.proofs.headline.Collecting.{CollectingLaws, best_trees_collect_the_bag_lem}
 use Rattle.isle_examples.proofs.LoopPlaces.{emitted_there, in_loop, loop_env, reached_in_loop}
 use Rattle.isle_examples.proofs.Served.{multi_served}
 use Rattle.isle_examples.proofs.SampleStages.{multi_stages}
 use Rattle.isle_examples.proofs.SetStages.{collected}
 use Rattle.isle_examples.specs.MeaningForms.{all_of, answers, each, given, v}
-use Rattle.isle_laws_trees.proofs.binding.Judged.{binding_judge_is_exact_lem}
+use Rattle.isle_laws_trees.proofs.binding.BindingJudge.{binding_judge_is_exact_lem}
 use Rattle.isle_examples.proofs.Used.{does_not_bind}
 use Rattle.isle_examples.specs.Multi.{looped_with, LoopsMayBindAgain, MultiCollects, MultiIsCollected, MultiIsNot, MultiResultsAreHeld, MultiIsTaken, MultiSetCollects, MultiTakenGives, MultiTreeCollects, each_m, each_of_m, first_answer, multi_defs, multi_meaning, multi_program, multi_rules, multi_set, multi_tree, multi_world, nine, nine_for_one}
 

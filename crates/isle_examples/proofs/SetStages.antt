@@ -24,7 +24,7 @@ use Rattle.isle_laws_demands.proofs.visits.Elaborated.{elaborated_rules_demand_g
 use Rattle.isle_laws_demands.proofs.visits.Sets.{built_sets_are_tested_lem}
 use Rattle.isle_laws_lists.proofs.FormedRules.{rules_are_formed}
 use Rattle.isle_laws_lists.proofs.TypedRules.{lists_agree}
-use Rattle.isle_laws_trees.proofs.Exact.{not_exact}
+use Rattle.isle_laws_trees.proofs.JudgeExactness.{not_exact}
 use Rattle.isle_laws_trees.proofs.JudgedSets.{are_below, asks, calls_pass, can_be_served, equates, goes_over, multi_can_be_served, only_sites, serves, stand, unfolded_demand}
 use Rattle.isle_laws_trees.proofs.WellBuilt.{passes_well_built, set_passes}
 use Rattle.isle_examples.proofs.TreeStages.{has_no_priorities}

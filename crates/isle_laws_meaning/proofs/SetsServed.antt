@@ -21,7 +21,7 @@ use Rattle.isle_laws_demands.specs.ServeLaws.{ServedSetsServeTests, ServedMultiS
 use Rattle.isle_laws_demands.specs.VisitLaws.{MultiTermsHaveOnePriority}
 use Rattle.isle_laws_demands.proofs.matching.BuiltMatches.{one_rule, built_listed}
 use Rattle.isle_laws_demands.proofs.visits.Once.{sites_stand_once_lem}
-use Rattle.isle_laws_trees.specs.Meant.{BestTreesMeanTheirSets}
+use Rattle.isle_laws_trees.specs.TreeMeanings.{BestTreesMeanTheirSets}
 use Rattle.isle_laws_trees.proofs.headline.NoCalls.{set_goes_over_none}
 use Rattle.isle_laws_trees.proofs.headline.Places.{Pair, of_set_rule}
 use Rattle.isle_laws_meaning.specs.SetsServed.{MeansItsSetWhereServed, LoweredSetsMeanTheirRules}

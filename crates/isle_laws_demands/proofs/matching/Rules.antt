@@ -26,7 +26,7 @@ use Rattle.isle_laws_demands.proofs.matching.SameExprs.{expr_keeps}
 use Rattle.isle_laws_demands.proofs.matching.TypedParts.{HasTypedParts}
 use Rattle.isle_laws_demands.proofs.matching.Variables.{named, IsPresent, AllPresent, var_moved}
 use Rattle.isle_laws_demands.proofs.visits.RuleParts.{iflet_parts}
-use Rattle.isle_laws_runs.proofs.picks.Held.{is_just}
+use Rattle.isle_laws_runs.proofs.picks.HeldContents.{is_just}
 pub use Rattle.isle_laws_demands.proofs.visits.RuleParts.{RuleParts, rule_parts}
 
 -- 1. the calls that a site with a content unwraps answer

@@ -15,7 +15,7 @@ use Rattle.isle_model.proofs.Elements.{in_from_contains, contains_from_in}
 use Rattle.isle_laws_runs.specs.WithoutMulti.{without_sites}
 use Rattle.isle_laws_runs.proofs.picks.NoIterators.{calls_no_multi}
 use Rattle.isle_laws_runs.proofs.picks.OnePick.{bag_as_plain_lem}
-use Rattle.isle_laws_runs.proofs.picks.Plain.{matches_as_plain_lem}
+use Rattle.isle_laws_runs.proofs.picks.PlainMatching.{matches_as_plain_lem}
 use Rattle.isle_laws_demands.specs.BuiltLaws.{BuiltDemandsAreWhole}
 use Rattle.isle_laws_demands.specs.MatchLaws.{IsTried, BuiltRulesAreToldApart}
 use Rattle.isle_laws_demands.proofs.closure.Closing.{FollowsSoFar, closed_follows}

@@ -15,7 +15,7 @@ use Rattle.isle_model.specs.claims.Environments.{TypesRead, IsElaborated, progra
 use Rattle.isle_model.proofs.Elements.{In, in_from_contains, contains_from_in, in_filter, passed_filter}
 use Rattle.isle_laws_lists.proofs.FormedRules.{rules_are_formed}
 use Rattle.isle_laws_lists.proofs.TypedRules as typed
-use Rattle.isle_laws_runs.proofs.picks.Enumerated.{picks_are_exact_lem}
+use Rattle.isle_laws_runs.proofs.picks.PickLists.{picks_are_exact_lem}
 use Rattle.isle_laws_demands.specs.MatchLaws.{IsTried, VisitsMatch}
 use Rattle.isle_laws_demands.proofs.visits.Declared.{program_not_both}
 use Rattle.isle_laws_demands.proofs.visits.Elaborated.{elaborated_rules_hang}

@@ -28,12 +28,13 @@ use Rattle.isle_model.proofs.Members.{nothing_in, in_head, in_alone, get_within,
 use Rattle.isle_laws_runs.specs.WithoutMulti.{without_sites}
 use Rattle.isle_laws_runs.proofs.picks.NoIterators.{calls_no_multi}
 use Rattle.isle_laws_runs.proofs.picks.OnePick.{bag_as_plain_lem}
-use Rattle.isle_laws_runs.proofs.picks.Plain.{matches_as_plain_lem, ends_as_plain_lem}
+use Rattle.isle_laws_runs.proofs.picks.PlainMatching.{matches_as_plain_lem, ends_as_plain_lem}
 use Rattle.isle_laws_runs.proofs.runs.Below.{below_within}
 use Rattle.isle_laws_runs.proofs.runs.Contents.{unfolded_layer}
-use Rattle.isle_laws_runs.proofs.taking.ByCalls.{ComesAfterValues, taken_follows}
+use Rattle.isle_laws_runs.proofs.taking.TakenOutcomes.{taken_follows}
+use Rattle.isle_laws_runs.proofs.taking.Taking.{ComesAfterValues}
 use Rattle.isle_laws_runs.proofs.taking.CallsIn.{CallsOnly, Known, InOrder, order_listed, known_made, below_calls}
-use Rattle.isle_laws_runs.proofs.taking.Followed.{follow, result_after}
+use Rattle.isle_laws_runs.proofs.taking.FollowedCalls.{follow, result_after}
 use Rattle.isle_laws_demands.specs.MatchLaws.{IsTried}
 use Rattle.isle_laws_demands.proofs.visits.Calls.{calls_such}
 use Rattle.isle_laws_demands.proofs.visits.Declared.{program_not_both}

@@ -12,7 +12,7 @@ use Rattle.isle_model.specs.sites.Demands.{demands_of, result_of, visit_start, V
 use Rattle.isle_model.specs.sites.DemandedGates.{IsPureCall, GatesDemanded, AllGatesDemanded, ArePureIfLets, HasNoPartialMulti}
 use Rattle.isle_model.specs.lists.Formed.{is_formed_rule}
 use Rattle.isle_laws_runs.proofs.taking.CallsIn.{WhereImpure, CallsOnly, CallOnly, Known, InOrder}
-use Rattle.isle_laws_runs.proofs.taking.Followed.{result_after}
+use Rattle.isle_laws_runs.proofs.taking.FollowedCalls.{result_after}
 use Rattle.isle_laws_demands.proofs.visits.Calls.{calls_such}
 use Rattle.isle_laws_demands.proofs.visits.Rules.{sides_past}
 use Rattle.isle_laws_demands.proofs.matching.Contents.{Given, content_of, IsAnswered, is_value}

@@ -17,7 +17,7 @@ use Rattle.isle_model.specs.lists.Formed.{is_formed_rule}
 use Rattle.isle_model.specs.lists.Setting.{expr_type}
 use Rattle.isle_model.specs.claims.Environments.{program_of}
 use Rattle.isle_model.proofs.Elements.{contains_from_in, in_slice}
-use Rattle.isle_laws_runs.proofs.picks.Enumerated.{picks_are_exact_lem}
+use Rattle.isle_laws_runs.proofs.picks.PickLists.{picks_are_exact_lem}
 use Rattle.isle_laws_lists.proofs.FormedRules.{rules_are_formed}
 use Rattle.isle_laws_lists.proofs.TypedRules as typed_rules
 use Rattle.isle_laws_demands.specs.MatchLaws.{BuiltSetsHoldResults}

@@ -41,7 +41,7 @@ use Rattle.isle_laws_demands.proofs.taken.BuiltSites.{rules_known, sites_stand}
 use Rattle.isle_laws_demands.proofs.taken.Fits.{IsWhole, AsManyFields, typed_whole, FitsAs, FitsForm, the_value, IsServed, fits, found}
 use Rattle.isle_laws_demands.proofs.taken.Forms.{Form, a_value, AreKnown}
 use Rattle.isle_laws_demands.proofs.taken.SitesKnown.{Stands, made_stands, closed_known, before_stands}
-use Rattle.isle_laws_runs.proofs.runs.Demanded.{joined_itself}
+use Rattle.isle_laws_runs.proofs.runs.RuleDemands.{joined_itself}
 
 -- 1. arguments
 arg_there : (types : List TypeEntry) (tys : List ℕ) (args : List Value) → all_well_typed types (Some tys) (of_list args) ≡ true → (i : ℕ) → i < length tys → (v : Value) × (slice_get args i ≡ Some v) × IsWhole types v

@@ -30,9 +30,9 @@ use Rattle.isle_laws_lists.proofs.TypedRules as typed
 use Rattle.isle_laws_runs.specs.WithoutMulti.{CallsNoMulti}
 use Rattle.isle_laws_runs.proofs.picks.NoIterators.{calls_no_multi}
 use Rattle.isle_laws_runs.proofs.picks.OnePick.{bag_as_plain_lem}
-use Rattle.isle_laws_runs.proofs.picks.Plain.{matches_as_plain_lem, ends_as_plain_lem}
+use Rattle.isle_laws_runs.proofs.picks.PlainMatching.{matches_as_plain_lem, ends_as_plain_lem}
 use Rattle.isle_laws_runs.proofs.taking.CallsIn.{CallsOnly, Known, InOrder}
-use Rattle.isle_laws_runs.proofs.taking.Followed.{follow, result_after}
+use Rattle.isle_laws_runs.proofs.taking.FollowedCalls.{follow, result_after}
 use Rattle.isle_laws_demands.specs.MatchLaws.{IsTried}
 use Rattle.isle_laws_demands.proofs.visits.Calls.{calls_such}
 use Rattle.isle_laws_demands.proofs.visits.Declared.{program_not_both}

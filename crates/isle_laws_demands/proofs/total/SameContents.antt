@@ -16,10 +16,10 @@ use Rattle.isle_model.specs.sites.DemandedGates.{CanBeTested}
 use Rattle.isle_model.specs.sites.Closure.{DemandsHold}
 use Rattle.isle_model.specs.sites.Serves.{asked_by, asked, constant_site, written_value, Serves}
 use Rattle.isle_model.proofs.Elements.{In, in_from_contains, contains_from_in, in_left, in_right, in_either, in_flat_map}
-use Rattle.isle_laws_runs.proofs.picks.Held.{is_just}
+use Rattle.isle_laws_runs.proofs.picks.HeldContents.{is_just}
 use Rattle.isle_model.proofs.Options.{then_some}
 use Rattle.isle_laws_runs.proofs.taking.CallsIn.{CallsOnly, CallOnly, calls_more, call_more, Known, IsNext, InOrder}
-use Rattle.isle_laws_runs.proofs.taking.Followed.{Followed, goes_on, stops, then_follow, follow_with, answered_call, follow_call, follow, follow_there, result_after}
+use Rattle.isle_laws_runs.proofs.taking.FollowedCalls.{Followed, goes_on, stops, then_follow, follow_with, answered_call, follow_call, follow, follow_there, result_after}
 use Rattle.isle_laws_demands.proofs.matching.Contents.{is_value}
 use Rattle.isle_laws_demands.proofs.outcomes.RightSides.{tested_calls}
 use Rattle.isle_laws_demands.specs.TotalLaws.{TotalMeaning, Agrees}

@@ -15,7 +15,7 @@ use Rattle.isle_model.specs.claims.Environments.{TypesRead, IsElaborated, progra
 use Rattle.isle_model.proofs.Elements.{In, in_from_contains, contains_from_in, none_some, in_either, in_left, in_flat_map, from_flat_map}
 use Rattle.isle_laws_lists.proofs.FormedRules.{rules_are_formed}
 use Rattle.isle_laws_lists.proofs.TypedRules as typed
-use Rattle.isle_laws_runs.proofs.picks.Held.{contents_are_held_lem}
+use Rattle.isle_laws_runs.proofs.picks.HeldContents.{contents_are_held_lem}
 use Rattle.isle_laws_demands.proofs.visits.Declared.{program_not_both}
 use Rattle.isle_laws_demands.proofs.visits.Elaborated.{elaborated_rules_hang}
 use Rattle.isle_laws_demands.proofs.matching.NeverMatches.{program_has_types}

@@ -42,10 +42,10 @@ use Rattle.isle_model.proofs.SitesMade.{once_with}
 use Rattle.isle_laws_runs.specs.Orders.{Within, OrderedFrom}
 use Rattle.isle_laws_runs.proofs.picks.Calls.{unfold_once, calls_below, IsEarlier, numbers_ordered}
 use Rattle.isle_laws_runs.proofs.picks.FirstCall.{results_are_of_places_lem}
-use Rattle.isle_laws_runs.proofs.picks.Ordered.{calls_ordered}
-use Rattle.isle_laws_runs.proofs.picks.Reordered.{reordered}
+use Rattle.isle_laws_runs.proofs.picks.VisitOrder.{calls_ordered}
+use Rattle.isle_laws_runs.proofs.picks.CallOrders.{reordered}
 use Rattle.isle_laws_runs.proofs.runs.Below.{below_within}
-use Rattle.isle_laws_runs.proofs.runs.Collected.{sound_trees_collect_lem}
+use Rattle.isle_laws_runs.proofs.runs.Collection.{sound_trees_collect_lem}
 use Rattle.isle_laws_runs.proofs.runs.Contents.{sources_in}
 use Rattle.isle_laws_demands.specs.MatchLaws.{BuiltSetsMatchByDemands, BuiltSetsHoldResults}
 use Rattle.isle_laws_demands.specs.ServeLaws.{ServedMultiSetsServe}
@@ -59,16 +59,15 @@ use Rattle.isle_laws_trees.proofs.Soundness.{best_trees_are_sound_lem}
 use Rattle.isle_laws_trees.proofs.headline.Places.{Pair, of_set_rule, of_typed_rule, typed_here}
 
 -- 1. lists whose elements, place by place, make one bag each
-module _ {X Y Z : Type 0} (f : X → List Z) (g : Y → List Z) where
-  pub same_bags : (xs : List X) (ys : List Y) → ((i : ℕ) (x : X) → slice_get xs i ≡ Some x → (y : Y) × (slice_get ys i ≡ Some y) × IsPermutation (f x) (g y))
-      → ((i : ℕ) (y : Y) → slice_get ys i ≡ Some y → (x : X) × (slice_get xs i ≡ Some x)) → IsPermutation (flat_map f xs) (flat_map g ys)
-  same_bags [] [] h k = IsPermutation-refl []
-  same_bags [] (y ∷ ys) h k = (let r = k 0 y refl in absurd (none-some r.0 r.1))
-  same_bags (x ∷ xs) [] h k = (let r = h 0 x refl in absurd (none-some r.0 r.1))
-  same_bags (x ∷ xs) (y ∷ ys) h k =
-      let r = h 0 x refl in
-      IsPermutation-append (f x) (g y) (flat_map f xs) (flat_map g ys) (subst (λ z. IsPermutation (f x) (g z)) (sym (same_Some y r.0 r.1)) r.2)
-      (same_bags xs ys (λ i z e. h (suc i) z e) (λ i z e. k (suc i) z e))
+pub same_bags : {X Y Z : Type 0} (f : X → List Z) (g : Y → List Z) (xs : List X) (ys : List Y) → ((i : ℕ) (x : X) → slice_get xs i ≡ Some x → (y : Y) × (slice_get ys i ≡ Some y) × IsPermutation (f x) (g y))
+    → ((i : ℕ) (y : Y) → slice_get ys i ≡ Some y → (x : X) × (slice_get xs i ≡ Some x)) → IsPermutation (flat_map f xs) (flat_map g ys)
+same_bags f g [] [] h k = IsPermutation-refl []
+same_bags f g [] (y ∷ ys) h k = (let r = k 0 y refl in absurd (none-some r.0 r.1))
+same_bags f g (x ∷ xs) [] h k = (let r = h 0 x refl in absurd (none-some r.0 r.1))
+same_bags f g (x ∷ xs) (y ∷ ys) h k =
+    let r = h 0 x refl in
+    IsPermutation-append (f x) (g y) (flat_map f xs) (flat_map g ys) (subst (λ z. IsPermutation (f x) (g z)) (sym (same_Some y r.0 r.1)) r.2)
+    (same_bags f g xs ys (λ i z e. h (suc i) z e) (λ i z e. k (suc i) z e))
 
 -- what collecting rests on: laws of built sets
 pub record CollectingLaws : Type 0 where

@@ -14,11 +14,11 @@ use Rattle.isle_model.proofs.Members.{in_head, in_tail, get_within, constraint_i
 use Rattle.isle_laws_trees.specs.BestLaws.{StepsAreFew, StepsMakeBestTrees}
 use Rattle.isle_laws_trees.proofs.Counting.{distinct_sum, distinct_within}
 use Rattle.isle_laws_trees.proofs.Covers.{needed_here}
-use Rattle.isle_laws_trees.proofs.Exact.{not_exact}
-use Rattle.isle_laws_trees.proofs.Once.{sites_are_tested_once_lem}
+use Rattle.isle_laws_trees.proofs.JudgeExactness.{not_exact}
+use Rattle.isle_laws_trees.proofs.SingleTests.{sites_are_tested_once_lem}
 use Rattle.isle_laws_trees.proofs.Pairs.{Names, independent_few}
 use Rattle.isle_laws_trees.proofs.Passing.{Passed, sources_there, passed_after, passed_arm, passed_equal, passed_loop, passed_at_start}
-use Rattle.isle_laws_trees.proofs.Straight.{matched_around, IsStraight, straight_at_start, straight_after, straight_arm, straight_equal, straight_loop}
+use Rattle.isle_laws_trees.proofs.DistinctSources.{matched_around, IsStraight, straight_at_start, straight_after, straight_arm, straight_equal, straight_loop}
 
 -- 1. the tests around a place are at most the demands of a rule there
 abbrev path : Around → ℕ

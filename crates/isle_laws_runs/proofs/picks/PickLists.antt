@@ -11,10 +11,10 @@ use Rattle.isle_model.proofs.Members.{nothing_in, in_head, in_tail, in_cases, in
 use Rattle.isle_model.proofs.Positions.{distinct_nil}
 use Rattle.isle_model.proofs.DistinctJoined.{distinct_cons, distinct_flat}
 use Rattle.isle_model.proofs.Numbers.{numbers_below, numbers_all, numbers_distinct}
-use Rattle.isle_laws_runs.specs.Exact.{PicksAreExact}
+use Rattle.isle_laws_runs.specs.PickLaws.{PicksAreExact}
 use Rattle.isle_laws_runs.specs.Orders.{OrderedFrom}
-use Rattle.isle_laws_runs.proofs.picks.Ordered.{calls_ordered}
-use Rattle.isle_laws_runs.proofs.picks.Grown.{keys, keys_push, content_kept}
+use Rattle.isle_laws_runs.proofs.picks.VisitOrder.{calls_ordered}
+use Rattle.isle_laws_runs.proofs.picks.LongerPicks.{keys, keys_push, content_kept}
 
 -- 1. places of answers
 abbrev Answers : Option Content → ℕ → Type 0

@@ -67,7 +67,13 @@ pub record Made (sites : List Site) (ar : Around) (r : SetRule) : Type 0 where
   pub matched : (s : ℕ) (c : Constraint) → s < length sites → Contains r.constraints (s, c) → available sites ar s ≡ true → Contains ar.tested (s, c)
   pub looped : (s : ℕ) → s < length sites → Contains r.iterators s → available sites ar s ≡ true → Contains ar.looped s
 
-module _ (set : SiteSet) (built : IsWellBuilt set) (ar : Around) (r : SetRule) (brings : Brings set.sites ar) (made : Made set.sites ar r) where
+-- a place of a tree of a well-built set: what is around it brings what it tested
+pub record TreePlace (set : SiteSet) : Type 0 where
+  pub built : IsWellBuilt set
+  pub around : Around
+  pub brings : Brings set.sites around
+
+module _ (set : SiteSet) (place : TreePlace set) (r : SetRule) (made : Made set.sites place.around r) where
   abbrev sites : List Site
   sites = set.sites
 
@@ -84,21 +90,21 @@ module _ (set : SiteSet) (built : IsWellBuilt set) (ar : Around) (r : SetRule) (
   abbrev sources_in : Option Site → List ℕ
   sources_in o = elim o [ None ↦ [] | Some b ↦ sources_of b ]
 
-  brought_by : (s : ℕ) → Contains ar.brought s → available sites ar s ≡ true
-  brought_by s c = or_left (is_in s ar.brought) (not (waits (slice_get sites s)) && list_all (is_available s sites ar.brought) (sources_at sites s)) (member_is_in s ar.brought c)
+  brought_by : (s : ℕ) → Contains place.around.brought s → available sites place.around s ≡ true
+  brought_by s c = or_left (is_in s place.around.brought) (not (waits (slice_get sites s)) && list_all (is_available s sites place.around.brought) (sources_at sites s)) (member_is_in s place.around.brought c)
 
-  not_waiting : (s : ℕ) → waits (slice_get sites s) ≡ false → ((u : ℕ) → Contains (sources_at sites s) u → available sites ar u ≡ true) → available sites ar s ≡ true
+  not_waiting : (s : ℕ) → waits (slice_get sites s) ≡ false → ((u : ℕ) → Contains (sources_at sites s) u → available sites place.around u ≡ true) → available sites place.around s ≡ true
   not_waiting s w all =
-      or_right (is_in s ar.brought) (not (waits (slice_get sites s)) && list_all (is_available s sites ar.brought) (sources_at sites s))
-      (and_from (not (waits (slice_get sites s))) (list_all (is_available s sites ar.brought) (sources_at sites s)) (ap not w)
-      (all_pass (is_available s sites ar.brought) (sources_at sites s) (λ u c. available_at sites ar.brought s u (built.sources s u c) (all u c))))
+      or_right (is_in s place.around.brought) (not (waits (slice_get sites s)) && list_all (is_available s sites place.around.brought) (sources_at sites s))
+      (and_from (not (waits (slice_get sites s))) (list_all (is_available s sites place.around.brought) (sources_at sites s)) (ap not w)
+      (all_pass (is_available s sites place.around.brought) (sources_at sites s) (λ u c. available_at sites place.around.brought s u (place.built.sources s u c) (all u c))))
 
   -- the one site that is this one
   only_site : (s : ℕ) (b : Site) → slice_get sites s ≡ Some b → (p : Site → Bool) → p b ≡ true → ((x : Site) → p x ≡ true → x ≡ b) → site_from 0 p sites ≡ Some s
-  only_site s b e p h only = site_found p sites 0 s b e h (λ j x at t. built.sites_once j s b (at ∙ ap Some (only x t)) e) ∙ ap Some (zero-add s)
+  only_site s b e p h only = site_found p sites 0 s b e h (λ j x at t. place.built.sites_once j s b (at ∙ ap Some (only x t)) e) ∙ ap Some (zero-add s)
 
   abbrev AllSources : ℕ → Type 0
-  AllSources s = (u : ℕ) → Contains (sources_at sites s) u → (available sites ar u ≡ true) × (u < length sites)
+  AllSources s = (u : ℕ) → Contains (sources_at sites s) u → (available sites place.around u ≡ true) × (u < length sites)
 
   source_there : (s : ℕ) (b : Site) (u : ℕ) → slice_get sites s ≡ Some b → Contains (sources_of b) u → Contains (sources_at sites s) u
   source_there s b u e c = subst (λ o. Contains (sources_in o) u) (sym e) c
@@ -106,7 +112,7 @@ module _ (set : SiteSet) (built : IsWellBuilt set) (ar : Around) (r : SetRule) (
   up : (f n : ℕ) → f < n → f < 0 + n
   up f n l = omega arith
 
-  reach_site : (s : ℕ) (o : Option Site) → slice_get sites s ≡ o → gate_demanded r o ≡ true → AllSources s → available sites ar s ≡ true
+  reach_site : (s : ℕ) (o : Option Site) → slice_get sites s ≡ o → gate_demanded r o ≡ true → AllSources s → available sites place.around s ≡ true
   reach_site s None e d all = absurd (false≢true d)
   reach_site s (Some (match_variant_site source variant field)) e h all =
       let d = variant_gate r.constraints source variant field h in
@@ -115,7 +121,7 @@ module _ (set : SiteSet) (built : IsWellBuilt set) (ar : Around) (r : SetRule) (
       let tested = made.matched source (is_variant d.0 variant d.1) a.1 d.2 a.0 in
       let here = and_from ((source == source) && (variant == variant)) (field == field) (and_from (source == source) (variant == variant) (eq-eqb source source refl) (eq-eqb variant variant refl)) (eq-eqb field field refl) in
       let found = only_site s b e (is_variant_field source variant field) here (variant_field_same source variant field) in
-      brought_by s (brings.fields source (is_variant d.0 variant d.1) s tested (field_listed (is_variant_field source variant) sites 0 d.1 field s (omega arith) (up field d.1 d.3) found))
+      brought_by s (place.brings.fields source (is_variant d.0 variant d.1) s tested (field_listed (is_variant_field source variant) sites 0 d.1 field s (omega arith) (up field d.1 d.3) found))
   reach_site s (Some (extract_struct_site source field)) e h all =
       let d = struct_gate r.constraints source field h in
       let b = extract_struct_site source field in
@@ -123,27 +129,27 @@ module _ (set : SiteSet) (built : IsWellBuilt set) (ar : Around) (r : SetRule) (
       let tested = made.matched source (is_struct d.0 d.1) a.1 d.2 a.0 in
       let here = and_from (source == source) (field == field) (eq-eqb source source refl) (eq-eqb field field refl) in
       let found = only_site s b e (is_struct_field source field) here (struct_field_same source field) in
-      brought_by s (brings.fields source (is_struct d.0 d.1) s tested (field_listed (is_struct_field source) sites 0 d.1 field s (omega arith) (up field d.1 d.3) found))
+      brought_by s (place.brings.fields source (is_struct d.0 d.1) s tested (field_listed (is_struct_field source) sites 0 d.1 field s (omega arith) (up field d.1 d.3) found))
   reach_site s (Some (match_some_site source)) e d all =
       let b = match_some_site source in
       let a = all source (source_there s b source e (in_head source [])) in
       let tested = made.matched source is_present a.1 (answer_gate r.constraints source d) a.0 in
       let found = only_site s b e (is_part_of source) (eq-eqb source source refl) (part_same source) in
-      brought_by s (brings.fields source is_present s tested (subst (λ o. Contains (field_sites (o ∷ [])) s) (sym found) (in_head s [])))
+      brought_by s (place.brings.fields source is_present s tested (subst (λ o. Contains (field_sites (o ∷ [])) s) (sym found) (in_head s [])))
   reach_site s (Some (iterator_site source)) e d all =
       let a = all source (source_there s (iterator_site source) source e (in_head source [])) in
-      brought_by s (brings.picks source s (made.looped source a.1 (member_found source r.iterators d) a.0) e)
+      brought_by s (place.brings.picks source s (made.looped source a.1 (member_found source r.iterators d) a.0) e)
   reach_site s (Some b) e d all = not_waiting s (ap waits e) (λ u c. (all u c).0)
 
-  reach_below : (n s : ℕ) → s < n → Gated s → available sites ar s ≡ true
+  reach_below : (n s : ℕ) → s < n → Gated s → available sites place.around s ≡ true
   reach_below zero s l g = absurd (omega arith)
   reach_below (suc n) s l g =
       reach_site s (slice_get sites s) refl (g s (in_head s (flat_map (below s sites) (sources_at sites s))))
       (λ u c.
-      let m = built.sources s u c in
+      let m = place.built.sources s u c in
       let gu : Gated u = λ x k. g x (below_source sites s u x c m k) in
       (reach_below n u (omega arith) gu, within u gu))
 
   -- a site whose gates the rule demands is available
-  pub reach : (s : ℕ) → Gated s → available sites ar s ≡ true
+  pub reach : (s : ℕ) → Gated s → available sites place.around s ≡ true
   reach s g = reach_below (suc s) s (omega arith) g

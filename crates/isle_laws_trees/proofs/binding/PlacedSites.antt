@@ -13,7 +13,7 @@ use Rattle.isle_model.proofs.Members.{nothing_in, in_alone}
 use Rattle.isle_laws_runs.proofs.runs.Contents.{sources_in, unfolded_layer}
 use Rattle.isle_laws_demands.proofs.taken.BuiltSites.{sites_stand}
 use Rattle.isle_laws_demands.proofs.taken.Forms.{Form, form, a_value, IsOfForm}
-use Rattle.isle_laws_trees.proofs.binding.BindOnce.{PlacesApart}
+use Rattle.isle_laws_trees.proofs.binding.Scope.{PlacesApart}
 
 -- what is written in place is one value
 placed_value : (p : Program) (n : ℕ) (f : ℕ → SiteTerm) (b : Site) (q : Form) → is_in_place (Some b) ≡ true → IsOfForm p n (layer f b) q → q ≡ a_value

@@ -31,12 +31,11 @@ some_exact : (xs : List ℕ) → Decides (not (is_empty xs)) (xs ≢ [])
 some_exact [] = (λ h. absurd (false≢true h), λ h. absurd (h refl))
 some_exact (x ∷ xs) = (λ h e. false≢true (ap is_empty e), λ h. refl)
 
-module _ {P Q R : Type 0} (x y z : Bool) (dx : Decides x P) (dy : Decides y Q) (dz : Decides z R) where
-  three : Decides (x && y && z) (P × Q × R)
-  three = (
-    λ h. let q = and_parts (x && y) z h in let r = and_parts x y q.0 in (dx.0 r.0, dy.0 r.1, dz.0 q.1),
-    λ h. and_from (x && y) z (and_from x y (dx.1 h.0) (dy.1 h.1)) (dz.1 h.2),
-  )
+three : {P Q R : Type 0} (x y z : Bool) → Decides x P → Decides y Q → Decides z R → Decides (x && y && z) (P × Q × R)
+three x y z dx dy dz = (
+  λ h. let q = and_parts (x && y) z h in let r = and_parts x y q.0 in (dx.0 r.0, dy.0 r.1, dz.0 q.1),
+  λ h. and_from (x && y) z (and_from x y (dx.1 h.0) (dy.1 h.1)) (dz.1 h.2),
+)
 
 arm_exact : {P Q R S T U : Type 0} (p q r s t u : Bool) → Decides p P → Decides q Q → Decides r R → Decides s S → Decides t T → Decides u U → Decides (p && q && r && s && t && u) (P × Q × R × S × T × U)
 arm_exact p q r s t u dp dq dr ds dt du = (

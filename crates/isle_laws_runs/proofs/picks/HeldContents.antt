@@ -12,7 +12,7 @@ use Rattle.isle_model.specs.rules.Picks.{Pick, place_of, picked, field_of_varian
 use Rattle.isle_model.specs.trees.Collects.{calls_in, calls_in_all}
 use Rattle.isle_model.proofs.Members.{member_from_get}
 use Rattle.isle_model.proofs.Options.{then_some}
-use Rattle.isle_laws_runs.specs.Exact.{ContentsAreHeld, HeldAreContents}
+use Rattle.isle_laws_runs.specs.PickLaws.{ContentsAreHeld, HeldAreContents}
 
 -- 1. where one after another gives something
 from_one : (o : Option Value) (c : Content) → from_value o ≡ Some c → (w : Value) × (o ≡ Some w) × (one w ≡ c)

@@ -16,13 +16,13 @@ use Rattle.isle_model.specs.claims.Layers.{IsBuiltForSome}
 use Rattle.isle_model.proofs.Elements.{in_slice}
 use Rattle.isle_model.proofs.Members.{in_cases, nothing_in, member_from_get, get_from_member, in_map, in_flat_map, member_found, constraint_in}
 use Rattle.isle_laws_runs.proofs.runs.Choice.{sound_trees_choose_lem}
-use Rattle.isle_laws_runs.proofs.runs.Collected.{sound_trees_collect_lem}
+use Rattle.isle_laws_runs.proofs.runs.Collection.{sound_trees_collect_lem}
 use Rattle.isle_laws_runs.proofs.runs.HoldsOnce.{rules_hold_once_lem}
 use Rattle.isle_laws_demands.proofs.visits.Built.{rule_at}
 use Rattle.isle_laws_demands.proofs.visits.Declared.{no_rule_asks_and_goes_over_lem}
 use Rattle.isle_laws_trees.specs.BuiltLaws.{BestTreesOfBuiltSetsAreSound}
-use Rattle.isle_laws_trees.specs.Meant.{BestTreesMeanTheirSets}
-use Rattle.isle_laws_trees.proofs.Few.{joined_member}
+use Rattle.isle_laws_trees.specs.TreeMeanings.{BestTreesMeanTheirSets}
+use Rattle.isle_laws_trees.proofs.StepCounts.{joined_member}
 use Rattle.isle_laws_trees.proofs.NoLoops.{trees_without_calls_have_no_loop_lem}
 use Rattle.isle_laws_trees.proofs.Soundness.{best_trees_are_sound_lem}
 

@@ -10,15 +10,15 @@ use Rattle.isle_model.specs.rules.Meaning.{Content}
 use Rattle.isle_model.specs.rules.Outcome.{then_option}
 use Rattle.isle_model.specs.rules.Picks.{Pick, site_content, site_values}
 use Rattle.isle_model.specs.sites.Sites.{Site, bool_site, int_site, prim_site, argument_site, extractor_site, constructor_site, iterator_site, make_variant_site, match_variant_site, make_struct_site, extract_struct_site, make_some_site, match_some_site, match_tuple_site, sources_of, sources_at, each_term, layer, layer_at, unfolded, unfold_site}
-use Rattle.isle_model.specs.trees.Places.{Around, is_in, is_in_place, below, all_below, each_after, listed_below}
+use Rattle.isle_model.specs.trees.Places.{is_in, is_in_place, below, all_below, each_after, listed_below}
 use Rattle.isle_model.specs.trees.Run.{World, Env, as_value}
 use Rattle.isle_model.specs.trees.Collects.{content_at, IsPureAt}
-use Rattle.isle_model.specs.trees.SetRuns.{IsReached}
 use Rattle.isle_model.proofs.Members.{nothing_in, in_head, in_tail, in_cases, in_alone, each_passes, all_pass, in_flat_map, from_flat_map, member_found, member_is_in, in_filter, from_filter}
 use Rattle.isle_laws_runs.proofs.runs.Below.{below_itself, below_source, below_enough}
 use Rattle.isle_laws_runs.proofs.runs.Binding.{content_of, Held, held_as, keeps_bound, keeps_in_place}
 use Rattle.isle_laws_runs.proofs.runs.Contents.{SourcesBefore, sources_in, content_layer}
 use Rattle.isle_laws_runs.proofs.taking.PureSites.{calls_nothing, pure_site, nothing_called}
+use Rattle.isle_laws_runs.proofs.taking.Taking.{ReachedPlace}
 
 -- 1. whether a site is settled
 abbrev pub fixed : World → ℕ → Bool
@@ -30,6 +30,11 @@ settled w s = list_all (fixed w) (below (suc s) w.sites s)
 -- whether it has to be bound anew
 abbrev pub critical : World → ℕ → Bool
 critical w s = not (settled w s)
+
+-- an environment where all settled sites are bound, and nothing else: every place is compared with it
+pub record Stock (w : World) : Type 0 where
+  pub env : Env
+  pub held : Held w [] env (λ t. settled w t ≡ true)
 
 -- a content is made of the contents of the sources
 first_there : {X Y : Type 0} → (o : Option X) (f : X → Option Y) → IsTrue (is_some (then_option o f)) → IsTrue (is_some o)
@@ -110,14 +115,14 @@ module _ (w : World) (before : SourcesBefore w.sites) where
       all_pass (fixed w) (below (suc a) w.sites a)
       (λ u k. each_passes (fixed w) (below (suc s) w.sites s) h u (below_source w.sites s s a u c (subst (λ l. Contains l u) (sym (below_enough w.sites before s a (before s a c))) k)))
 
-  pub emitted_settled : (ar : Around) (env : Env) → IsReached w ar env → (s : ℕ) → is_in s ar.emitted ≡ true → settled w s ≡ true
-  emitted_settled ar env r s i =
+  pub emitted_settled : (place : ReachedPlace w []) (s : ℕ) → is_in s place.around.emitted ≡ true → settled w s ≡ true
+  emitted_settled place s i =
       all_pass (fixed w) (below (suc s) w.sites s)
       (λ u k.
-      let p = All-contains (IsPureAt w.sites) (all_below w.sites (s ∷ [])) u (r.pure s i) (in_flat_map (λ x. below (suc x) w.sites x) (s ∷ []) s u (in_head s []) k) in
-      and_from (calls_nothing (slice_get w.sites u)) (is_some (content_at w [] u)) (ap calls_nothing p.1 ∙ nothing_called p.0 p.2) (below_there w [] before (suc s) s u (r.emitted s i).0 k))
+      let p = All-contains (IsPureAt w.sites) (all_below w.sites (s ∷ [])) u (place.reached.pure s i) (in_flat_map (λ x. below (suc x) w.sites x) (s ∷ []) s u (in_head s []) k) in
+      and_from (calls_nothing (slice_get w.sites u)) (is_some (content_at w [] u)) (ap calls_nothing p.1 ∙ nothing_called p.0 p.2) (below_there w [] before (suc s) s u (place.reached.emitted s i).0 k))
 
-  -- 3. all of them bound: the environment that every place is compared with
+  -- 3. all of them bound
   stocked : (n : ℕ) → (env : Env) × Held w [] env (λ t. (t < n) × (settled w t ≡ true))
   stocked zero = ([], record { there = λ t k. absurd (none t k.0); bound = λ t k n. absurd (none t k.0); right = λ t c e. absurd (none-some c e); closed = λ t u k c. absurd (none t k.0) })
     where
@@ -146,10 +151,13 @@ module _ (w : World) (before : SourcesBefore w.sites) where
       not_last : (t : ℕ) → settled w n ≡ false → (t < suc n) × (settled w t ≡ true) → (t < n) × (settled w t ≡ true)
       not_last t h k = elim (of_more t k) [ inl r ↦ r | inr e ↦ absurd (false≢true (sym h ∙ ap (settled w) e ∙ k.1)) ]
 
-  pub stock : (env : Env) × Held w [] env (λ t. settled w t ≡ true)
-  stock =
+  pub settled_stock : Stock w
+  settled_stock =
       let s = stocked (length w.sites) in
-      (s.0, held_as w [] s.0 (λ t. (t < length w.sites) × (settled w t ≡ true)) (λ t. settled w t ≡ true) (λ t k. k.1) (λ t h. let p = settled_pure t h in (slice_get_within w.sites t p.0 p.1, h)) s.1)
+      record {
+        env = s.0;
+        held = held_as w [] s.0 (λ t. (t < length w.sites) × (settled w t ≡ true)) (λ t. settled w t ≡ true) (λ t k. k.1) (λ t h. let p = settled_pure t h in (slice_get_within w.sites t p.0 p.1, h)) s.1;
+      }
 
   -- 4. what a bind order has of critical sites is the same at every place
   abbrev pub critical_below : ℕ → List ℕ → ℕ → List ℕ

@@ -14,7 +14,7 @@ use Rattle.isle_model.proofs.Members.{nothing_in, in_head, in_tail, in_cases}
 use Rattle.isle_laws_runs.specs.Orders.{Within, OrderedFrom, IsOfPlaces}
 use Rattle.isle_laws_runs.proofs.picks.Calls.{ordered_prefix}
 use Rattle.isle_laws_runs.proofs.picks.FirstCall.{calls_can_come_first_lem}
-use Rattle.isle_laws_runs.proofs.picks.Grown.{keys, keys_push}
+use Rattle.isle_laws_runs.proofs.picks.LongerPicks.{keys, keys_push}
 
 -- 1. one element of a list, and the others
 module _ {X : Type 0} where

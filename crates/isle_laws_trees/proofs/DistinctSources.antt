@@ -7,7 +7,7 @@ use Rattle.isle_model.specs.trees.Trees.{MarkedCheck}
 use Rattle.isle_model.specs.trees.Places.{Around, nothing_around, is_in, joins, in_arm, in_equal, in_loop, after_step}
 use Rattle.isle_model.specs.trees.Tests.{match_test, equal_test, loop_test, sources_around, is_at_hand, IsOpen}
 use Rattle.isle_model.specs.trees.Best.{are_distinct}
-use Rattle.isle_laws_trees.proofs.Exact.{not_exact}
+use Rattle.isle_laws_trees.proofs.JudgeExactness.{not_exact}
 use Rattle.isle_laws_trees.proofs.Pairs.{Independent}
 use Rattle.isle_laws_trees.proofs.Passing.{sources_there}
 

@@ -17,7 +17,7 @@ use Rattle.isle_model.proofs.Members.{nothing_in, in_head, in_tail, in_cases}
 use Rattle.isle_laws_runs.specs.Orders.{Within, Covered}
 use Rattle.isle_model.proofs.Options.{then_some, then_same}
 use Rattle.isle_model.proofs.SameSites.{term_means, term_same}
-use Rattle.isle_laws_runs.proofs.picks.Ordered.{none_within}
+use Rattle.isle_laws_runs.proofs.picks.VisitOrder.{none_within}
 
 abbrev pub keys : Pick → List SiteTerm
 keys k = map (λ e. e.0) k

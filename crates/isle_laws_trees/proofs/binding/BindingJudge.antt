@@ -6,7 +6,7 @@ use Rattle.isle_model.specs.trees.Trees.{marks}
 use Rattle.isle_model.specs.trees.Judge.{marking, marks_each}
 use Rattle.isle_model.specs.claims.Layers.{binds_before_use}
 use Rattle.isle_laws_trees.specs.BestLaws.{BindingJudgeIsExact}
-use Rattle.isle_laws_trees.proofs.Exact.{returns_exact}
+use Rattle.isle_laws_trees.proofs.JudgeExactness.{returns_exact}
 use Rattle.isle_laws_trees.proofs.Marking.{plain_marking, marks_found}
 
 pub binding_judge_is_exact_lem : BindingJudgeIsExact

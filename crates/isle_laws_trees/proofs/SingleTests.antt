@@ -9,7 +9,7 @@ use Rattle.isle_model.specs.trees.Tests.{match_test, IsOpen}
 use Rattle.isle_model.specs.trees.Best.{BestSteps, BestCheck, BestArms, are_distinct, are_apart, no_site_twice, no_site_twice_in, no_site_twice_among}
 use Rattle.isle_laws_trees.specs.BestLaws.{SitesAreTestedOnce}
 use Rattle.isle_laws_trees.proofs.Pairs.{independent_apart}
-use Rattle.isle_laws_trees.proofs.Straight.{matched_around, IsStraight, straight_at_start, straight_after, straight_arm, straight_equal, straight_loop}
+use Rattle.isle_laws_trees.proofs.DistinctSources.{matched_around, IsStraight, straight_at_start, straight_after, straight_arm, straight_equal, straight_loop}
 
 return_once : (o : Option SetRule) (matched : List ℕ) (joined : List (ℕ × ℕ)) → are_distinct matched ≡ true → are_apart [] joined ≡ true → no_site_twice_in matched joined (return_of o) ≡ true
 return_once None matched joined h k = and_from (are_distinct matched) (are_apart [] joined) h k

@@ -207,27 +207,32 @@ WithOneContent s env env' e e' = (c : Content) × (e ≡ (s, c) ∷ env) × (e' 
 abbrev pub AreAlike : ℕ → Env → Env → Bound → Bound → Type 0
 AreAlike s env env' b b' = AreAlikeBy (WithOneContent s env env') b b'
 
-module _ (w : World) (env env' : Env) (calls : List Call) (s : ℕ) where
-  now_alike : (o : Option Content) → AreAlike s env env' (now_bound env calls s o) (now_bound env' calls s o)
-  now_alike None = refl
-  now_alike (Some c) = ((c, refl, refl), refl)
+module _ (env env' : Env) (s : ℕ) where
+  now_alike : (calls : List Call) (o : Option Content) → AreAlike s env env' (now_bound env calls s o) (now_bound env' calls s o)
+  now_alike calls None = refl
+  now_alike calls (Some c) = ((c, refl, refl), refl)
 
-  unwrapped_alike : (o : Option Content) → AreAlike s env env' (unwrapped env calls s o) (unwrapped env' calls s o)
-  unwrapped_alike None = refl
-  unwrapped_alike (Some (just c)) = ((c, refl, refl), refl)
-  unwrapped_alike (Some nothing) = refl
-  unwrapped_alike (Some (one v)) = refl
-  unwrapped_alike (Some (parts vs)) = refl
-  unwrapped_alike (Some (many cs)) = refl
+  unwrapped_alike : (calls : List Call) (o : Option Content) → AreAlike s env env' (unwrapped env calls s o) (unwrapped env' calls s o)
+  unwrapped_alike calls None = refl
+  unwrapped_alike calls (Some (just c)) = ((c, refl, refl), refl)
+  unwrapped_alike calls (Some nothing) = refl
+  unwrapped_alike calls (Some (one v)) = refl
+  unwrapped_alike calls (Some (parts vs)) = refl
+  unwrapped_alike calls (Some (many cs)) = refl
 
-  called_alike : (calls' : List Call) (o : Option Content) → AreAlike s env env' (now_bound env calls' s o) (now_bound env' calls' s o)
-  called_alike calls' None = refl
-  called_alike calls' (Some c) = ((c, refl, refl), refl)
+  -- where the one has a content, the other has it
+  pub alike_bound : (calls : List Call) (b : Bound) (c : Content) → AreAlike s env env' b (all_bound ((s, c) ∷ env') calls) → b ≡ all_bound ((s, c) ∷ env) calls
+  alike_bound calls (all_bound e k) c ((x, p, q), r) =
+      let same : x ≡ c = same_Some x c (sym (bound_here env' s x) ∙ ap (λ t. bound_to t s) (sym q) ∙ bound_here env' s c) in
+      ap (λ t. all_bound t k) (p ∙ ap (λ y. (s, y) ∷ env) same) ∙ ap (all_bound ((s, c) ∷ env)) r
+  alike_bound calls (unwrap_failed k) c h = absurd h
+  alike_bound calls (no_content_there k) c h = absurd h
 
-  constructed_alike : (term instance : ℕ) (o : Option Values) → AreAlike s env env' (constructed w env calls s term instance o) (constructed w env' calls s term instance o)
-  constructed_alike term instance None = refl
-  constructed_alike term zero (Some vs) = now_alike _
-  constructed_alike term (suc before) (Some vs) = called_alike _ _
+module _ (w : World) (env env' : Env) (s : ℕ) where
+  constructed_alike : (calls : List Call) (term instance : ℕ) (o : Option Values) → AreAlike s env env' (constructed w env calls s term instance o) (constructed w env' calls s term instance o)
+  constructed_alike calls term instance None = refl
+  constructed_alike calls term zero (Some vs) = now_alike env env' s calls _
+  constructed_alike calls term (suc before) (Some vs) = now_alike env env' s _ _
 
   values_same : (ss : List ℕ) → ((u : ℕ) → Contains ss u → used w env u ≡ used w env' u) → used_values w env ss ≡ used_values w env' ss
   values_same [] h = refl
@@ -235,41 +240,34 @@ module _ (w : World) (env env' : Env) (calls : List Call) (s : ℕ) where
       ap (λ o. then_option (then_option o as_value) (λ v. then_option (used_values w env ss) (λ vs. Some (value_and v vs)))) (h u (in_head u ss))
       ∙ ap (λ o. then_option (then_option (used w env' u) as_value) (λ v. then_option o (λ vs. Some (value_and v vs)))) (values_same ss (λ x c. h x (in_tail u x ss c)))
 
-  pub bind_alike : (o : Option Site) → ((u : ℕ) → Contains (sources_in o) u → used w env u ≡ used w env' u) → is_in_place o ≡ false → AreAlike s env env' (bind_site w env calls s o) (bind_site w env' calls s o)
-  bind_alike None h n = refl
-  bind_alike (Some (bool_site b ty)) h n = now_alike _
-  bind_alike (Some (extractor_site term source)) h n =
+  pub bind_alike : (calls : List Call) (o : Option Site) → ((u : ℕ) → Contains (sources_in o) u → used w env u ≡ used w env' u) → is_in_place o ≡ false
+      → AreAlike s env env' (bind_site w env calls s o) (bind_site w env' calls s o)
+  bind_alike calls None h n = refl
+  bind_alike calls (Some (bool_site b ty)) h n = now_alike env env' s calls _
+  bind_alike calls (Some (extractor_site term source)) h n =
       subst (λ o. AreAlike s env env' (bind_site w env calls s (Some (extractor_site term source))) (now_bound env' calls s (then_option (then_option o as_value) (extractor_answer w.meaning term)))) (h source (in_head source []))
-      (now_alike _)
-  bind_alike (Some (constructor_site term sources instance)) h n =
+      (now_alike env env' s calls _)
+  bind_alike calls (Some (constructor_site term sources instance)) h n =
       subst (λ o. AreAlike s env env' (bind_site w env calls s (Some (constructor_site term sources instance))) (constructed w env' calls s term instance o)) (values_same sources h)
-      (constructed_alike term instance (used_values w env sources))
-  bind_alike (Some (iterator_site source)) h n = refl
-  bind_alike (Some (make_variant_site ty variant [])) h n = absurd (false≢true (sym n))
-  bind_alike (Some (make_variant_site ty variant (f ∷ fields))) h n =
+      (constructed_alike calls term instance (used_values w env sources))
+  bind_alike calls (Some (iterator_site source)) h n = refl
+  bind_alike calls (Some (make_variant_site ty variant [])) h n = absurd (false≢true (sym n))
+  bind_alike calls (Some (make_variant_site ty variant (f ∷ fields))) h n =
       subst (λ o. AreAlike s env env' (bind_site w env calls s (Some (make_variant_site ty variant (f ∷ fields)))) (now_bound env' calls s (then_option o (λ vs. Some (one (of_variant ty variant vs)))))) (values_same (f ∷ fields) h)
-      (now_alike _)
-  bind_alike (Some (match_variant_site source variant field)) h n = refl
-  bind_alike (Some (make_struct_site ty [])) h n = absurd (false≢true (sym n))
-  bind_alike (Some (make_struct_site ty (f ∷ fields))) h n =
+      (now_alike env env' s calls _)
+  bind_alike calls (Some (match_variant_site source variant field)) h n = refl
+  bind_alike calls (Some (make_struct_site ty [])) h n = absurd (false≢true (sym n))
+  bind_alike calls (Some (make_struct_site ty (f ∷ fields))) h n =
       subst (λ o. AreAlike s env env' (bind_site w env calls s (Some (make_struct_site ty (f ∷ fields)))) (now_bound env' calls s (then_option o (λ vs. Some (one (of_struct ty vs)))))) (values_same (f ∷ fields) h)
-      (now_alike _)
-  bind_alike (Some (extract_struct_site source field)) h n = refl
-  bind_alike (Some (make_some_site source)) h n =
+      (now_alike env env' s calls _)
+  bind_alike calls (Some (extract_struct_site source field)) h n = refl
+  bind_alike calls (Some (make_some_site source)) h n =
       subst (λ o. AreAlike s env env' (bind_site w env calls s (Some (make_some_site source))) (now_bound env' calls s (then_option o (λ c. Some (just c))))) (h source (in_head source []))
-      (now_alike _)
-  bind_alike (Some (match_some_site source)) h n =
+      (now_alike env env' s calls _)
+  bind_alike calls (Some (match_some_site source)) h n =
       subst (λ o. AreAlike s env env' (bind_site w env calls s (Some (match_some_site source))) (unwrapped env' calls s o)) (h source (in_head source []))
-      (unwrapped_alike _)
-  bind_alike (Some (int_site z ty)) h n = absurd (false≢true (sym n))
-  bind_alike (Some (prim_site name)) h n = absurd (false≢true (sym n))
-  bind_alike (Some (argument_site i)) h n = absurd (false≢true (sym n))
-  bind_alike (Some (match_tuple_site source field)) h n = absurd (false≢true (sym n))
-
-  -- where the one has a content, the other has it
-  pub alike_bound : (b : Bound) (c : Content) → AreAlike s env env' b (all_bound ((s, c) ∷ env') calls) → b ≡ all_bound ((s, c) ∷ env) calls
-  alike_bound (all_bound e k) c ((x, p, q), r) =
-      let same : x ≡ c = same_Some x c (sym (bound_here env' s x) ∙ ap (λ t. bound_to t s) (sym q) ∙ bound_here env' s c) in
-      ap (λ t. all_bound t k) (p ∙ ap (λ y. (s, y) ∷ env) same) ∙ ap (all_bound ((s, c) ∷ env)) r
-  alike_bound (unwrap_failed k) c h = absurd h
-  alike_bound (no_content_there k) c h = absurd h
+      (unwrapped_alike env env' s calls _)
+  bind_alike calls (Some (int_site z ty)) h n = absurd (false≢true (sym n))
+  bind_alike calls (Some (prim_site name)) h n = absurd (false≢true (sym n))
+  bind_alike calls (Some (argument_site i)) h n = absurd (false≢true (sym n))
+  bind_alike calls (Some (match_tuple_site source field)) h n = absurd (false≢true (sym n))
