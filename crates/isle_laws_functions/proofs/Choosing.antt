@@ -15,6 +15,7 @@ use Rattle.isle_model.specs.trees.Run.{run, world_of}
 use Rattle.isle_model.specs.claims.Environments.{program_of}
 use Rattle.isle_model.proofs.Elements.{In, in_right, in_either, in_from_contains}
 use Rattle.isle_laws_demands.specs.TotalLaws.{TotalMeaning, Restricts}
+use Rattle.isle_laws_lists.proofs.WellTypedRules.{elaborated_programs_are_well_typed_lem}
 use Rattle.isle_laws_demands.proofs.matching.NoMulti.{rules_without_multi_go_over_no_calls_lem}
 use Rattle.isle_laws_demands.proofs.total.Listed.{Question, questions_of, answers_to, AsksOf, asks_of_all, bool_answered, int_answered, constant_answered}
 use Rattle.isle_laws_demands.proofs.total.Total.{answers_restrict}
@@ -87,8 +88,9 @@ runs_by_functions_as_chosen_lem e defs expand rules t sites tree f args h single
     let rs = rules_of p t in
     let own = flat_map (questions_of f args) (asked p rs) in
     let more = flat_map (questions_of f args) (constants_in tree) in
-    let one = total_meanings_have_one_outcome_lem e defs expand rules t sites tree f args h (rules_without_multi_go_over_no_calls_lem e defs expand rules t h single) (runs single) total apart fit in
-    let first : Restricts p f args rs = answers_restrict e defs expand rules t f args h total fit more in
+    let w = elaborated_programs_are_well_typed_lem e defs expand rules h in
+    let one = total_meanings_have_one_outcome_lem p t sites tree f args w (rules_without_multi_go_over_no_calls_lem p t w single) (runs single) total apart fit in
+    let first : Restricts p f args rs = answers_restrict p t f args w total fit more in
     let m = first.meaning in
     let ran : run tree (world_of p t sites m args) ≡ one.outcome = one.runs first in
     let goes_on : (run tree (world_of p t sites m args)).ending ≡ stuck → ⊥ = λ x. chosen_not_stuck p m args (chosen p m rs args) (ap (λ (o : Outcome). o.ending) (one.chooses first ∙ sym ran) ∙ x) in

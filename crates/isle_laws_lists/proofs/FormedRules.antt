@@ -87,7 +87,7 @@ module _ (e : Setting) (rules : List TypedRule) (at_ids : (k : ℕ) (t : TermEnt
   abbrev p : Program
   p = program_in e rules
 
-  at_id : (name : ℕ) (t : TermEntry) → entry_named name e.terms ≡ Some t → slice_get e.terms t.id ≡ Some t
+  pub at_id : (name : ℕ) (t : TermEntry) → entry_named name e.terms ≡ Some t → slice_get e.terms t.id ≡ Some t
   at_id name t h = let r = named_at name e.terms t h in subst (λ k. slice_get e.terms k ≡ Some t) (sym (at_ids r.0 t r.1)) r.1
 
   module _ (multi : Bool) where

@@ -23,7 +23,7 @@ use Rattle.isle_laws_demands.proofs.matching.Contents.{Given, content_of, Here, 
 use Rattle.isle_laws_demands.proofs.matching.Demanded.{one_not_just, AreMet, AskEnough, same_content, here_typed, met_asking, asked_now, IsBound, AreBound, bound_kept, After, outside, then_after, unbound, constant_after, var_after}
 use Rattle.isle_laws_demands.proofs.matching.Grown.{Grown, then_grown, grown_making, grown_asking, grown_iterating, each_grown, all_grown}
 use Rattle.isle_laws_demands.proofs.matching.SameExprs.{AreWithin, within_new}
-use Rattle.isle_laws_demands.proofs.matching.TypedParts.{HasTypedParts}
+use Rattle.isle_laws_lists.specs.WellTypedPrograms.{HasTypedParts}
 use Rattle.isle_laws_demands.proofs.matching.Variables.{here_valued, var_bound, not_among}
 use Rattle.isle_laws_lists.proofs.FormedParts.{from_if, type_is}
 

@@ -14,10 +14,11 @@ use Rattle.isle_model.specs.sites.Closure.{fields_from, field_terms, Joined, giv
 use Rattle.isle_model.specs.sites.Serves.{asked_by, asked, constant_site, constant_type, typed_as, written_type, written_value, is_type_with_parts, tested_constants, is_own_type, is_open_constant, Serves, TellsConstantsApart}
 use Rattle.isle_model.proofs.Elements.{In, in_from_contains, contains_from_in, in_right, in_flat_map, slice_in, some_is, none_some}
 use Rattle.isle_model.proofs.Members.{get_within}
+use Rattle.isle_laws_lists.specs.WellTypedPrograms.{HasTypes}
 use Rattle.isle_laws_demands.proofs.matching.Contents.{Given, content_of}
 use Rattle.isle_laws_demands.proofs.matching.Demanded.{one_not_just, Equal, AreMet, one_is}
 use Rattle.isle_laws_demands.proofs.matching.FormedDemands.{AreFormed}
-use Rattle.isle_laws_demands.proofs.matching.Shapes.{HasTypes, one_type, no_variant, no_struct, literal_without_parts, as_many_values, has_form, holds_there}
+use Rattle.isle_laws_demands.proofs.matching.Shapes.{one_type, no_variant, no_struct, literal_without_parts, as_many_values, has_form, holds_there}
 
 -- 1. fields
 pub field_is : (f : ℕ → SiteTerm) (j n i : ℕ) (x : SiteTerm) → slice_get (fields_from f j n) i ≡ Some x → (f (j + i) ≡ x) × (i < n)

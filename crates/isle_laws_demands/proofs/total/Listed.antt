@@ -9,7 +9,7 @@ use Rattle.isle_model.specs.rules.Values.{Value, of_variant, of_struct, Values, 
 use Rattle.isle_model.specs.rules.Meaning.{Content, one, parts, just, many, contents, Literal, bool_literal, int_literal, literal_eq, look, Meaning, literal_value, constant_value, extractor_answer, pure_answer, impure_answer}
 use Rattle.isle_model.specs.sites.Sites.{SiteTerm, bool_term, int_term, prim_term, argument, extractor_call, constructor_call, pick_of, variant_made, variant_field, struct_made, struct_field, some_made, some_part, tuple_part, no_site, SiteTerms, no_site_term, site_term_and}
 use Rattle.isle_model.specs.sites.Serves.{Holds, holds_bool, holds_int, holds_prim, holds_argument, holds_extractor, holds_pure, holds_impure, holds_pick, holds_variant, holds_variant_field, holds_struct, holds_struct_field, holds_some, holds_part, holds_tuple_part, HoldsAll, holds_none, holds_and}
-use Rattle.isle_model.proofs.Elements.{In, in_from_contains, in_slice, some_is, none_some, in_map, map_in, in_flat_map, from_flat_map}
+use Rattle.isle_model.proofs.Elements.{In, in_from_contains, in_slice, some_is, none_some, map_in, in_flat_map, from_flat_map}
 use Rattle.isle_model.proofs.Options.{is_there}
 use Rattle.isle_model.proofs.SameSites.{beq_means, beq_same}
 use Rattle.isle_model.proofs.ValuesEqual.{eq_means, eq_all_means, eq_same, eq_all_same}

@@ -14,7 +14,7 @@ use Rattle.isle_model.proofs.Elements.{In, in_left, in_right, in_either, all_in,
 use Rattle.isle_model.specs.sites.DemandedGates.{GatesDemanded, IsPureExpr, ArePureIfLets}
 use Rattle.isle_model.proofs.SitesMade.{has_in}
 use Rattle.isle_laws_demands.proofs.visits.Afresh.{AreAlike, asked_alike, asked_iterators, pattern_alike, AreValuedAlike, expr_alike}
-use Rattle.isle_laws_demands.proofs.visits.Calls.{CallsAlone}
+use Rattle.isle_model.specs.rules.CalledTerms.{CallsAlone}
 use Rattle.isle_laws_demands.proofs.visits.Exprs.{IsTotal, expr_valued_by, expr_valued}
 use Rattle.isle_laws_demands.proofs.visits.Gates.{unpurified, gates_of_taken}
 use Rattle.isle_laws_demands.proofs.visits.PatternCalls.{Adds, still_tested, pattern_adds, args_add}

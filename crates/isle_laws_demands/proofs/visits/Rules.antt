@@ -10,6 +10,7 @@ use Rattle.isle_model.specs.sites.Demands.{demands_of, Visit, visit_start, makin
 use Rattle.isle_model.specs.lists.Formed.{pattern_type, formed_pattern, is_formed_expr, formed_list, formed_iflets, is_formed_rule}
 use Rattle.isle_model.proofs.Elements.{in_from_contains, some_is, none_some}
 use Rattle.isle_model.specs.sites.DemandedGates.{IsPureExpr, ArePureIfLets, DemandsGates}
+use Rattle.isle_laws_demands.specs.VisitLaws.{WellTypedRulesDemandGates}
 use Rattle.isle_laws_demands.proofs.visits.Gates.{gates_stay, weaker, stronger, unwrapped}
 use Rattle.isle_laws_demands.proofs.visits.Visited.{Good, MayTest, IsSound, Later, good_stays, now, then_later, later_making, asked_binds, asked_more, asked_calls, all_asked, later_asked, AreGood}
 use Rattle.isle_laws_demands.proofs.visits.Patterns.{from_then, pattern_after}
@@ -128,3 +129,6 @@ formed_rules_demand_gates_lem p r f h =
       impure = λ u i. d.sound.impure u (in_from_contains (demands_of p r).impure u i);
       result = d.site;
     }
+
+pub well_typed_rules_demand_gates_lem : WellTypedRulesDemandGates
+well_typed_rules_demand_gates_lem p h r c = let w = h.rules r c in formed_rules_demand_gates_lem p r w.formed w.pure_iflets
