@@ -2,7 +2,7 @@
 use Rattle.std.proofs.Common.{◌≡◌, ℕ, ℤ, pos, unwrap_or, Bool, true, false, not, ◌&&◌, ◌||◌, List, [], ◌∷◌, take, map, Option, Some, None, option_map, is_some, slice_get, IsTrue, refl, sym, ap, subst, inl, inr, ◌∙◌}
 use Rattle.std.proofs.lemmas.Bool.{cases_Bool, and_parts, false≢true}
 use Rattle.std.proofs.lemmas.Option.{none-some, same_Some}
-use Rattle.isle_model.specs.lists.Syntax.{PatternTree, PatternTrees, ExprTree, IfLetTree, RuleTree}
+use Rattle.isle_model.specs.lists.Syntax.{Definition, PatternTree, PatternTrees, ExprTree, IfLetTree, RuleTree}
 use Rattle.isle_model.specs.lists.Tables.{Flags, TypeEntry, builtin_type, TermEntry, TermKindEntry, variant_term, struct_term, declared_term}
 use Rattle.isle_model.specs.lists.TermTable.{term_names_met, rule_trees}
 use Rattle.isle_model.specs.lists.TypeTable.{builtin_names, builtin_from}
@@ -14,11 +14,12 @@ use Rattle.isle_model.specs.rules.CalledTerms.{CallsAlone}
 use Rattle.isle_model.specs.rules.CallsNoMulti.{WhereKnown, PatternCallsNoMulti, PatternsCallNoMulti, ArgsCallNoMulti, IfLetsCallNoMulti}
 use Rattle.isle_model.specs.rules.Program.{Program, Kind, a_variant, a_struct, a_call, unknown, kind_of, kind, always_answers, flags_of, is_multi, is_partial, is_pure}
 use Rattle.isle_model.specs.rules.Typed.{TypedPattern, TypedPatterns, no_typed_pattern, typed_pattern_and, TypedExpr, TypedIfLet, TypedRule}
-use Rattle.isle_model.specs.claims.Environments.{setting_of}
+use Rattle.isle_model.specs.claims.Environments.{types_read, setting_of, IsRead}
+use Rattle.isle_model.specs.claims.Layers.{own_program}
 use Rattle.isle_model.specs.sites.DemandedGates.{ArePureIfLets, HasNoPartialMulti}
 use Rattle.isle_model.proofs.CalledTerms.{calls_such}
 use Rattle.isle_model.proofs.Elements.{In, in_from_contains, in_map}
-use Rattle.isle_laws_lists.specs.WellTypedPrograms.{TermsAtIds, IsWellTypedRule, ElaboratedProgramsAreWellTyped}
+use Rattle.isle_laws_lists.specs.WellTypedPrograms.{TermsAtIds, IsWellTypedRule, IsWellTypedProgram, ElaboratedProgramsAreWellTyped}
 use Rattle.isle_laws_lists.proofs.ElaboratedCalls.{expr_calls}
 use Rattle.isle_laws_lists.proofs.FormedRules.{at_id, rules_are_formed}
 use Rattle.isle_laws_lists.proofs.TermLaws.{terms_stand_at_ids_lem}
@@ -217,3 +218,7 @@ elaborated_programs_are_well_typed_lem e defs expand rules h =
           all_typed s rules.rules (terms_stand_at_ids_lem e.known defs) neither (rule_trees defs) names (typed_rules s 0 (rule_trees defs) names) rules refl h.elaborate.typed r
           (in_from_contains rules.rules r c);
     }
+
+-- so does a list that is read with its own types
+pub read_programs_are_well_typed : {defs : List Definition} {expand : Bool} {rules : TypedRules} → IsRead defs expand rules → IsWellTypedProgram (own_program defs rules)
+read_programs_are_well_typed {defs = defs} {expand = expand} {rules = rules} h = elaborated_programs_are_well_typed_lem (types_read defs) defs expand rules h.elaborated

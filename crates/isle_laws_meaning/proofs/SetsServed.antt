@@ -15,7 +15,7 @@ use Rattle.isle_model.specs.claims.Layers.{own_program, IsAccepted, LoweredTerm,
 use Rattle.isle_model.proofs.Members.{all_members}
 use Rattle.isle_laws_runs.proofs.picks.Calls.{unfold_once}
 use Rattle.isle_laws_lists.specs.WellTypedPrograms.{IsWellTypedProgram}
-use Rattle.isle_laws_lists.proofs.WellTypedRules.{elaborated_programs_are_well_typed_lem}
+use Rattle.isle_laws_lists.proofs.WellTypedRules.{read_programs_are_well_typed}
 use Rattle.isle_laws_demands.specs.BuiltLaws.{BuiltSetsAreTested, BuiltSetsAreCollected}
 use Rattle.isle_laws_demands.specs.MatchLaws.{RulesWithoutMultiGoOverNoCalls}
 use Rattle.isle_laws_demands.specs.OutcomeLaws.{BuiltSetsMeanTheirRules}
@@ -88,7 +88,7 @@ module _ (laws : SetLaws) (defs : List Definition) (expand : Bool) (rules : Type
   p = own_program defs rules
 
   h : IsWellTypedProgram p
-  h = elaborated_programs_are_well_typed_lem (types_read defs) defs expand rules accepted.read.elaborated
+  h = read_programs_are_well_typed accepted.read
 
   meaning : MeansItsSet l.set l.tree
   meaning = laws.mean l.set l.tree (record { types = types_read defs; defs = defs; expand = expand; rules = rules; term = l.term; elaborated = accepted.read.elaborated; built = lowered.built }) lowered.best

@@ -1,4 +1,4 @@
--- Of a list that elaborates, built sets of all terms with rules are what building gives.
+-- Of a well-typed program, built sets of all terms with rules are what building gives.
 use Rattle.std.proofs.Common.{ℕ, refl}
 use Rattle.std.proofs.lemmas.List.Elements.{All-weaker}
 use Rattle.isle_model.specs.sites.Sites.{SiteSet}

@@ -17,7 +17,7 @@ use Rattle.isle_laws_demands.proofs.overlaps.Overlaps.{bool_same}
 use Rattle.isle_laws_demands.proofs.visits.Built.{rule_at_place, was_built}
 use Rattle.isle_laws_demands.proofs.matching.ClosedAlike.{closed_demands_hold_alike_lem}
 use Rattle.isle_laws_demands.proofs.matching.Numbers.{numbers_hold}
-use Rattle.isle_laws_demands.proofs.matching.Visits.{visits_match_lem}
+use Rattle.isle_laws_demands.proofs.matching.Visits.{given, visits_match_lem}
 
 -- a built rule and the rule of a set at one place
 pub one_rule : (p : Program) (t : ℕ) (set : SiteSet) (b : BuiltRule) (r : SetRule) → IsBuilt p t set → AreOneRule p t set b r → IsRuleOf p set.sites b r
@@ -45,6 +45,6 @@ built_sets_match_by_demands_lem whole p t set h built m args typed served apart 
     let a : IsTried p t m args b.rule k = record { typed = typed; served = served; rule = built_listed p t b i; pick = pick } in
     let v = visits_match_lem p t m args b.rule k h a in
     let c = built_demands_hold_alike_lem whole p t m args b k h i a in
-    let n = numbers_hold p t set.sites m args k b.demands r q.constraints q.classes in
+    let n = numbers_hold (given p m args k) t set.sites b.demands r q.constraints q.classes in
     bool_same (is_some (matches_under p m k b.rule args)) (demands_hold (world_of p t set.sites m args) k r)
     (λ j. n.1 (c.0 (v.matching.0 j))) (λ j. v.matching.1 (c.1 (n.0 j)))

@@ -17,6 +17,6 @@ closed_demands_hold_alike_lem p t m args r k h a before whole =
     let formed = rule_formed p h.parts r b.rule.formed in (
       λ i.
           (let met = b.matches.met (b.matches.found (holds_enough p m args k d i)) in
-          closed_hold g before d met (constrained_field g r (rules_of p t) a.rule a.served h.types formed met) (joined_content g d met.equal) (closed_follows d before)),
-      λ i. met_holds p m args k d (b.matches.met (b.matches.found (ask_enough g d (closed before d) whole formed i))),
+          closed_hold g before d met (constrained_field g (rules_of p t) r (record { here = a.rule; served = a.served; types = h.types; formed = formed; met = met })) (joined_content g d met.equal) (closed_follows d before)),
+      λ i. met_holds p m args k d (b.matches.met (b.matches.found (ask_enough g d (record { closing = closed before d; whole = whole; formed = formed; hold = i })))),
     )

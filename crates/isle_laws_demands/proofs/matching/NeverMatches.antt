@@ -8,4 +8,5 @@ use Rattle.isle_laws_demands.proofs.matching.Visits.{given, tried}
 pub unreachable_rules_never_match_lem : UnreachableRulesNeverMatch
 unreachable_rules_never_match_lem p t m args r k h a apart u i =
     let b = tried p t m args r k h a in
-    can_be_met (given p m args k) r (rules_of p t) a.rule a.served h.types (rule_formed p h.parts r b.rule.formed) (b.matches.met i) apart u
+    can_be_met (given p m args k) (rules_of p t) r
+    (record { here = a.rule; served = a.served; types = h.types; formed = rule_formed p h.parts r b.rule.formed; met = b.matches.met i }) apart u

@@ -24,7 +24,7 @@ use Rattle.isle_laws_demands.proofs.matching.ConstrainedOnce.{StandOnce, closed_
 use Rattle.isle_laws_demands.proofs.matching.Contents.{content_of}
 use Rattle.isle_laws_demands.proofs.matching.FormedDemands.{rule_formed}
 use Rattle.isle_laws_demands.proofs.matching.NoMulti.{rules_without_multi_go_over_no_calls_lem}
-use Rattle.isle_laws_demands.proofs.matching.Unreachable.{shape_there, same_shape}
+use Rattle.isle_laws_demands.proofs.matching.Unreachable.{IsMetRule, shape_there, same_shape}
 use Rattle.isle_laws_demands.proofs.matching.Visits.{given, tried, visits_match_lem}
 
 -- 1. without calls, under the empty pick
@@ -81,10 +81,12 @@ built_rules_are_told_apart_lem whole p t h = record {
       let kb = tried p t m args b.rule [] h tb in
       let xa = ka.matches.met (same_match p m args a.rule na ∙ ma) in
       let xb = kb.matches.met (same_match p m args b.rule nb ∙ mb) in
+      let first_met : IsMetRule g (rules_of p t) a.rule = record { here = ta.rule; served = served; types = h.types; formed = rule_formed p h.parts a.rule ka.rule.formed; met = xa } in
+      let second_met : IsMetRule g (rules_of p t) b.rule = record { here = tb.rule; served = served; types = h.types; formed = rule_formed p h.parts b.rule kb.rule.formed; met = xb } in
       no (λ s c d u v.
       same_shape g (rules_of p t) h.types apart (content_of g s) c d
-      (shape_there g a.rule (rules_of p t) ta.rule served h.types (rule_formed p h.parts a.rule ka.rule.formed) xa apart s c ((built_follows p t a i).constraints (s, c) (in_from_contains a.demands.constraints (s, c) u)))
-      (shape_there g b.rule (rules_of p t) tb.rule served h.types (rule_formed p h.parts b.rule kb.rule.formed) xb apart s d ((built_follows p t b j).constraints (s, d) (in_from_contains b.demands.constraints (s, d) v)))));
+      (shape_there g (rules_of p t) a.rule first_met apart s c ((built_follows p t a i).constraints (s, c) (in_from_contains a.demands.constraints (s, c) u)))
+      (shape_there g (rules_of p t) b.rule second_met apart s d ((built_follows p t b j).constraints (s, d) (in_from_contains b.demands.constraints (s, d) v)))));
   shadow = λ m args typed served apart mask b without x mb.
       (let i = without.one_of in
       let j = without.other_of in

@@ -50,7 +50,7 @@ tried p t m args r k h a =
     let c = h.rules r b.0 in
     let typed : args_well_typed p.types (arg_types p r.root_term) args ≡ true = subst (λ n. args_well_typed p.types (arg_types p n) args ≡ true) (sym b.1) a.typed in
     let pick = (picks_are_exact_lem p m args r).only k a.pick in
-    let answered = is_answered p m args r k pick (rules_of p t) a.served a.rule in
+    let answered = is_answered (given p m args k) r pick (rules_of p t) a.served a.rule in
     record {
       rule = c;
       typed = typed;
@@ -64,5 +64,5 @@ visits_match_lem p t m args r k h a =
     let b = tried p t m args r k h a in
     record {
       matching = ((λ i. met_holds p m args k (demands_of p r) (b.matches.met i)), (λ i. b.matches.found (holds_enough p m args k (demands_of p r) i)));
-      lists = call_lists p m args r k b.pick;
+      lists = call_lists (given p m args k) r b.pick;
     }

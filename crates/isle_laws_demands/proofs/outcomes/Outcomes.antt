@@ -45,7 +45,7 @@ use Rattle.isle_laws_demands.proofs.matching.BuiltMatches.{one_rule, built_liste
 use Rattle.isle_laws_demands.proofs.matching.Contents.{Given, values_of, Fits}
 use Rattle.isle_laws_demands.proofs.matching.Rules.{before_result}
 use Rattle.isle_laws_demands.proofs.matching.Visits.{given, tried}
-use Rattle.isle_laws_demands.proofs.taken.Fits.{IsServed, IsAnsweredSite, IsAnsweredBelow, found_answered, unwraps_maybe}
+use Rattle.isle_laws_demands.proofs.taken.Fits.{IsServed, ServedWorld, IsAnsweredSite, IsAnsweredBelow, found_answered, unwraps_maybe}
 use Rattle.isle_laws_demands.proofs.taken.ServesRuns.{is_served}
 use Rattle.isle_laws_demands.proofs.outcomes.Evals.{IsServedCall, MayBeCalled}
 use Rattle.isle_laws_demands.proofs.outcomes.RightSides.{finished_impure, RightFollows, right_follows}
@@ -90,6 +90,9 @@ module _ (b : BuiltSet) (h : IsWellTypedProgram b.program) (serving : ServingMea
       let s = is_served b h serving k in
       record { before = s.before; forms = s.forms; asks = s.asks; serves = s.serves; args = s.args }
 
+  abbrev stage : ServedWorld
+  stage = record { program = p; arity = n; rules = rs; world = w; served = once_served }
+
   -- 1. what stands below what a rule returns for
   module _ (x : RuleOfSet b) (ev : SitedVars) (f : RightFollows g x.typed.rule ev) (answers : AreServed g x.typed.rule) where
     abbrev k' : BuiltRule
@@ -125,7 +128,7 @@ module _ (b : BuiltSet) (h : IsWellTypedProgram b.program) (serving : ServingMea
     abbrev IsReached : Site → Type 0
     IsReached s = (t' : ℕ) (ss : List ℕ) (i : ℕ) → s ≡ constructor_site t' ss (suc i) → All (HasContent m args k) (take i us)
 
-    answered_here : (s : Site) (u : ℕ) → slice_get set.sites u ≡ Some s → CallsOnly (Known us) (U u) → IsReached s → IsAnsweredSite p n rs w k once_served s
+    answered_here : (s : Site) (u : ℕ) → slice_get set.sites u ≡ Some s → CallsOnly (Known us) (U u) → IsReached s → IsAnsweredSite stage k s
     answered_here (constructor_site t' ss zero) u at c after = tt
     answered_here (constructor_site t' ss (suc i)) u at c after =
         λ vs v.
@@ -134,7 +137,7 @@ module _ (b : BuiltSet) (h : IsWellTypedProgram b.program) (serving : ServingMea
         some_fits (impure_answer m t' i) (fits_constructor p t' (kind p t')) (answers t' (each_term U ss) i vs known (known_made (demands_of p k'.rule).made us f.order t' (each_term U ss) (suc i) known) (after t' ss i refl) v)
     answered_here _ u at c after = tt
 
-    answered_below : (s : ℕ) → Contains (all_below set.sites (return_uses (Some r))) s → ComesAfterValues w k (map U r.impure) s → IsAnsweredBelow p n rs w k once_served s
+    answered_below : (s : ℕ) → Contains (all_below set.sites (return_uses (Some r))) s → ComesAfterValues w k (map U r.impure) s → IsAnsweredBelow stage k s
     answered_below s c after u i =
         let x = from_flat_map (λ y. below (suc y) set.sites y) (return_uses (Some r)) s c in
         let calls = below_calls set.sites b.built.sources (Known us) (suc s) s (below_calls set.sites b.built.sources (Known us) (suc x.0) x.0 (number_calls x.0 x.1) s x.2) u i in
@@ -150,8 +153,8 @@ module _ (b : BuiltSet) (h : IsWellTypedProgram b.program) (serving : ServingMea
     taken_outcome : (o : Outcome) → IsTakenUnder w k r o → o ≡ right_side_under p m k k'.rule ev
     taken_outcome o taken =
         taken_follows w k b.built.sources r o taken refl (λ x y l j s. one_number p b.term set b.built x y l j s)
-        (λ s c after wait there. found_answered p n rs w k once_served s (answered_below s c after) wait there)
-        (λ s source c after at x s'. unwraps_maybe p n rs w k once_served s source (answered_below s c after) at x s')
+        (λ s c after wait there. found_answered stage k s (answered_below s c after) wait there)
+        (λ s source c after at x s'. unwraps_maybe stage k s source (answered_below s c after) at x s')
         (demands_of p k'.rule).made (λ x c. number_known x (Contains-append_left r.impure (r.result ∷ []) x c))
         (subst (InOrder (demands_of p k'.rule).made []) (sym q.impure.1) f.order)
         (subst (λ l. CallsOnly (Known l) (U r.result)) (sym q.impure.1) (subst (CallsOnly (Known us)) (sym q.result.1) f.only))

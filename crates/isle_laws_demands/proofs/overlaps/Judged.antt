@@ -9,13 +9,12 @@ use Rattle.isle_model.specs.lists.Formed.{of_entry}
 use Rattle.isle_model.specs.lists.Elaborated.{TypedRules}
 use Rattle.isle_model.specs.rules.Outcome.{then_option}
 use Rattle.isle_model.specs.sites.Overlap.{check_reports}
-use Rattle.isle_model.specs.claims.Environments.{types_read}
 use Rattle.isle_model.specs.claims.Layers.{own_program, IsCheckable, IsAccepted}
 use Rattle.isle_model.specs.claims.ReadJudge.{read_list}
 use Rattle.isle_model.specs.claims.AcceptJudge.{is_checkable, accepted_list}
 use Rattle.isle_laws_lists.proofs.Typings.{then_gives, if_gives}
 use Rattle.isle_laws_lists.proofs.JudgedReading.{lists_are_read_lem}
-use Rattle.isle_laws_lists.proofs.WellTypedRules.{elaborated_programs_are_well_typed_lem}
+use Rattle.isle_laws_lists.proofs.WellTypedRules.{read_programs_are_well_typed}
 use Rattle.isle_laws_demands.specs.AcceptLaws.{WellTypedRulesHaveTerms, RulesAreJudged, ListsAreAccepted, ListsAreNotAccepted}
 use Rattle.isle_laws_demands.proofs.overlaps.Checked.{check_is_exact_lem}
 use Rattle.isle_laws_demands.proofs.overlaps.Overlaps.{none_listed}
@@ -36,7 +35,7 @@ module _ (defs : List Definition) (expand : Bool) where
   judged : (rules : TypedRules) → read_list defs expand ≡ Some rules → Decides (is_checkable (own_program defs rules)) (IsCheckable (own_program defs rules))
   judged rules h =
       rules_are_judged_lem (own_program defs rules)
-      (well_typed_rules_have_terms_lem (own_program defs rules) (elaborated_programs_are_well_typed_lem (types_read defs) defs expand rules ((lists_are_read_lem defs expand rules).0 h).elaborated))
+      (well_typed_rules_have_terms_lem (own_program defs rules) (read_programs_are_well_typed ((lists_are_read_lem defs expand rules).0 h)))
 
   accepted : (rules : TypedRules) → accepted_list defs expand ≡ Some rules → IsAccepted defs expand rules
   accepted rules h =

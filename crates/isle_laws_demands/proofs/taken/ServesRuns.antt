@@ -31,7 +31,7 @@ use Rattle.isle_laws_demands.proofs.matching.Shapes.{has_form, literal_without_p
 use Rattle.isle_laws_demands.proofs.matching.Unreachable.{IsConstant, MustBe, Shape, same_shape}
 use Rattle.isle_laws_demands.proofs.matching.Visits.{given}
 use Rattle.isle_laws_demands.proofs.taken.BuiltSites.{rules_known, sites_stand}
-use Rattle.isle_laws_demands.proofs.taken.Fits.{IsWhole, AsManyFields, typed_whole, FitsAs, FitsForm, the_value, IsServed, fits, found}
+use Rattle.isle_laws_demands.proofs.taken.Fits.{IsWhole, AsManyFields, typed_whole, FitsAs, FitsForm, the_value, IsServed, ServedWorld, fits, found}
 use Rattle.isle_laws_demands.proofs.taken.Forms.{Form, a_value, AreKnown}
 use Rattle.isle_laws_demands.proofs.taken.SitesKnown.{Stands, made_stands, closed_known, before_stands}
 use Rattle.isle_laws_runs.proofs.runs.Demanded.{joined_itself}
@@ -108,6 +108,9 @@ module _ (b : BuiltSet) (h : IsWellTypedProgram b.program) (serving : ServingMea
     args = arg_there p.types (arg_types p b.term) args serving.typed;
   }
 
+  abbrev stage : ServedWorld
+  stage = record { program = p; arity = n; rules = rs; world = w; served = is_served }
+
   -- 3. rules of the set
   abbrev at : (r : SetRule) → Contains set.rules r → RuleOfSet b
   at r c = set_rule b r (in_from_contains set.rules r c)
@@ -142,7 +145,7 @@ module _ (b : BuiltSet) (h : IsWellTypedProgram b.program) (serving : ServingMea
       rule_formed p h.parts a.rule (typed_rule p b.term a.rule h (contains_from_in rs a.rule a.listed)).formed (a.constrained.source, c) (in_from_contains (demands_of p a.rule).constraints (a.constrained.source, c) a.constrained.asked)
 
   whole_here : (s : ℕ) (c : Constraint) → IsAsked s c → (v : Value) → content_at w k s ≡ Some (one v) → IsWhole p.types v
-  whole_here s c a v x = (let f = is_served.forms s a.known_site in value_whole p.types f.0 v (fits p n rs w k is_served s a.pure f.0 f.1 (one v) x))
+  whole_here s c a v x = (let f = is_served.forms s a.known_site in value_whole p.types f.0 v (fits stage k s a.pure f.0 f.1 (one v) x))
 
   constant_count : (o : Option Value) (v : Value) (cs : List Content) → where_constant o v ≡ Some cs → length cs ≡ 0
   constant_count None v cs e = absurd (none_some cs e)
@@ -260,14 +263,14 @@ module _ (b : BuiltSet) (h : IsWellTypedProgram b.program) (serving : ServingMea
       let f = before_stands p n rs [] (λ u y. absurd y) rs (λ s y. (y, known s y)) o.typed o.listed in
       let l = closed_known p n rs f.0 f.2 (demands_of p f.1) (made_stands p n rs f.1 f.3 f.4) f.4 in
       let v = l.members q.2 (unfold_site set.sites a) (in_from_contains (closed f.0 (demands_of p f.1)).classes q.2 (subst (λ (y : BuiltRule). Contains y.demands.classes q.2) (sym f.5) q.3)) (in_from_contains q.2 (unfold_site set.sites a) q.4) in
-      let g = the_value p.types x (fits p n rs w k is_served a (pure_tested o a (joined_tested b o (gates_of b h o) a (joined_itself r.classes a c j))) a_value v x z) in
+      let g = the_value p.types x (fits stage k a (pure_tested o a (joined_tested b o (gates_of b h o) a (joined_itself r.classes a c j))) a_value v x z) in
       (g.0, g.1)
 
   -- 6. sites that wait for nothing
   pub found_there : (s : ℕ) → All (IsPureAt set.sites) (all_below set.sites (s ∷ [])) → waits (slice_get set.sites s) ≡ false
       → All (λ a. IsTrue (is_some (content_at w k a))) (sources_at set.sites s) → IsTrue (is_some (content_at w k s))
   found_there s pure wait f =
-      found p n rs w k is_served s
+      found stage k s
       (λ u i. All-contains (IsPureAt set.sites) (all_below set.sites (s ∷ [])) u pure (members.in_flat_map (λ x. below (suc x) set.sites x) (s ∷ []) s u (in_head s []) i)) wait
       (λ a c. All-contains (λ x. IsTrue (is_some (content_at w k x))) (sources_at set.sites s) a f c)
 

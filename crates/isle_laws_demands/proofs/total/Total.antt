@@ -14,8 +14,8 @@ use Rattle.isle_laws_lists.specs.WellTypedPrograms.{IsWellTypedProgram}
 use Rattle.isle_laws_runs.proofs.picks.Held.{contents_are_held_lem}
 use Rattle.isle_laws_demands.proofs.visits.BuiltSets.{of_term}
 use Rattle.isle_laws_demands.specs.TotalLaws.{TotalMeaning, matched_in, called_in, matched_terms, called_terms, IsTotalFor, Agrees, Restricts, TotalMeaningsServe, total_value, AgreeingMapsTellApart}
-use Rattle.isle_laws_demands.proofs.total.Listed.{Question, questions_of, answers_to, answers_agree, AsksOf, asks_of_all, bool_answered, int_answered, constant_answered, extractor_answered, pure_answered, impure_answered}
-use Rattle.isle_laws_demands.proofs.total.Shaped.{Uses, HasShape, held_fits, all_held_fit, bool_shape, int_shape, prim_shape, ExtractorShape, extractor_shape, ConstructorShape, pure_shape, impure_shape}
+use Rattle.isle_laws_demands.proofs.total.Listed.{Question, questions_of, answers_to, answers_agree, QuestionsOf, asks_of_all, bool_answered, int_answered, constant_answered, extractor_answered, pure_answered, impure_answered}
+use Rattle.isle_laws_demands.proofs.total.Shaped.{Uses, TypedMap, HasShape, held_fits, all_held_fit, bool_shape, int_shape, prim_shape, ExtractorShape, extractor_shape, ConstructorShape, pure_shape, impure_shape}
 use Rattle.isle_laws_demands.proofs.total.ShapedSites.{rule_shaped}
 
 -- 1. constants that are told apart
@@ -59,25 +59,47 @@ module _ (p : Program) (h : IsWellTypedProgram p) (t : ℕ) where
         | inr i ↦ let d = from_flat_map (λ (x : SiteTerm × Constraint). constant_site x.1) (demands_of p a.0).constraints u i in s.1 d.0 d.1 u d.2
       ]
 
-  module _ (f : TotalMeaning) (args : List Value) (well : IsTotalFor p t f) (given : all_well_typed p.types (Some uses.args) (of_list args) ≡ true)
-      (asks : List Question) (all : AsksOf f args (asked p rs) asks) where
+  -- total functions that are well typed for the rules, well-typed arguments, and questions with all that the rules ask
+  pub record Questioned : Type 0 where
+    pub functions : TotalMeaning
+    pub args : List Value
+    pub total : IsTotalFor p t functions
+    pub typed : all_well_typed p.types (Some uses.args) (of_list args) ≡ true
+    pub questions : QuestionsOf functions args (asked p rs)
+
+  module _ (of : Questioned) where
+    abbrev f : TotalMeaning
+    f = of.functions
+
+    abbrev args : List Value
+    args = of.args
+
+    abbrev well : IsTotalFor p t f
+    well = of.total
+
+    abbrev asks : List Question
+    asks = of.questions.asks
+
     abbrev m : Meaning
     m = answers_to f asks
 
     abbrev agrees : Agrees m f
     agrees = answers_agree f asks
 
+    abbrev typed_map : TypedMap p uses
+    typed_map = record { functions = f; typed = well; meaning = m; agrees = agrees; args = args; given = of.typed }
+
     constant_fits : (name ty : ℕ) → constant_type p name ≡ Some ty → typed_as p (constant_type p name) (f.constants name) ≡ true
     constant_fits name ty there = subst (λ o. typed_as p o (f.constants name) ≡ true) (sym there) (well.constants name ty there)
 
     extractor_fits : (u : ℕ) (s : SiteTerm) (v : Value) → ExtractorShape p uses u s → Holds m args s (one v) → fits_extractor p u (kind p u) (f.extractors u v) ≡ true
-    extractor_fits u s v x g = well.extractors u x.entry v x.used x.there x.can (held_fits p uses f well m agrees args given s x.of (one v) g)
+    extractor_fits u s v x g = well.extractors u x.entry v x.used x.there x.can (held_fits p uses typed_map s x.of (one v) g)
 
     pure_fits : (u : ℕ) (ss : SiteTerms) (vs : Values) → ConstructorShape p uses u ss true → HoldsAll m args ss vs → fits_constructor p u (kind p u) (f.pures u vs) ≡ true
-    pure_fits u ss vs x g = well.pures u x.entry vs x.used x.there x.can x.is (all_held_fit p uses f well m agrees args given ss x.of vs g)
+    pure_fits u ss vs x g = well.pures u x.entry vs x.used x.there x.can x.is (all_held_fit p uses typed_map ss x.of vs g)
 
     impure_fits : (u before : ℕ) (ss : SiteTerms) (vs : Values) → ConstructorShape p uses u ss false → HoldsAll m args ss vs → fits_constructor p u (kind p u) (f.impures u before) ≡ true
-    impure_fits u before ss vs x g = well.impures u before x.entry vs x.used x.there x.can x.is (all_held_fit p uses f well m agrees args given ss x.of vs g)
+    impure_fits u before ss vs x g = well.impures u before x.entry vs x.used x.there x.can x.is (all_held_fit p uses typed_map ss x.of vs g)
 
     made_asked : (r : TypedRule) (u : SiteTerm) → Contains rs r → Contains (demands_of p r).made u → Contains (asked p rs) u
     made_asked r u c i =
@@ -97,29 +119,29 @@ module _ (p : Program) (h : IsWellTypedProgram p) (t : ℕ) where
     pub answers_serve : Serves p m args rs
     answers_serve = record {
       bools = λ b ty c.
-          valued _ (f.literals (bool_literal b ty)) (well_typed p.types ty) (bool_answered f args asks (asked p rs) all b ty (is_here (bool_term b ty) c))
+          valued _ (f.literals (bool_literal b ty)) (well_typed p.types ty) (bool_answered f args (asked p rs) of.questions b ty (is_here (bool_term b ty) c))
           (well.bools b ty (bool_shape (asked_shaped (bool_term b ty) c).shaped));
       ints = λ z ty c.
-          valued _ (f.literals (int_literal z ty)) (well_typed p.types ty) (int_answered f args asks (asked p rs) all z ty (is_here (int_term z ty) c))
+          valued _ (f.literals (int_literal z ty)) (well_typed p.types ty) (int_answered f args (asked p rs) of.questions z ty (is_here (int_term z ty) c))
           (well.ints z ty (int_shape (asked_shaped (int_term z ty) c).shaped));
       written_bools = λ b ty c.
-          bool_answered f args asks (asked p rs) all b ty (is_here (bool_term b ty) c) ∙ ap Some (well.written_bools b ty (bool_shape (asked_shaped (bool_term b ty) c).shaped));
-      written_ints = λ z ty c own. int_answered f args asks (asked p rs) all z ty (is_here (int_term z ty) c) ∙ ap Some (well.written_ints z ty own);
+          bool_answered f args (asked p rs) of.questions b ty (is_here (bool_term b ty) c) ∙ ap Some (well.written_bools b ty (bool_shape (asked_shaped (bool_term b ty) c).shaped));
+      written_ints = λ z ty c own. int_answered f args (asked p rs) of.questions z ty (is_here (int_term z ty) c) ∙ ap Some (well.written_ints z ty own);
       prims = λ name c.
           (let x = prim_shape (asked_shaped (prim_term name) c).shaped in
-          valued _ (f.constants name) (typed_as p (constant_type p name)) (constant_answered f args asks (asked p rs) all name (is_here (prim_term name) c)) (constant_fits name x.0 x.1));
+          valued _ (f.constants name) (typed_as p (constant_type p name)) (constant_answered f args (asked p rs) of.questions name (is_here (prim_term name) c)) (constant_fits name x.0 x.1));
       extractors = λ k u s v c i.
           (let g = contents_are_held_lem m args k s (one v) i in
-          answered _ (f.extractors u v) (fits_extractor p u (kind p u)) (extractor_answered f args asks (asked p rs) all u s v (is_here (extractor_call u s) c) g)
+          answered _ (f.extractors u v) (fits_extractor p u (kind p u)) (extractor_answered f args (asked p rs) of.questions u s v (is_here (extractor_call u s) c) g)
           (extractor_fits u s v (extractor_shape (asked_shaped (extractor_call u s) c).shaped) g));
       pures = λ k u ss vs c i.
           (let g = values_held m args k ss vs i in
-          answered _ (f.pures u vs) (fits_constructor p u (kind p u)) (pure_answered f args asks (asked p rs) all u ss vs (is_here (constructor_call u ss 0) c) g)
+          answered _ (f.pures u vs) (fits_constructor p u (kind p u)) (pure_answered f args (asked p rs) of.questions u ss vs (is_here (constructor_call u ss 0) c) g)
           (pure_fits u ss vs (pure_shape (asked_shaped (constructor_call u ss 0) c).shaped) g));
       impures = λ k r u before ss vs c matched i had j.
           (let g = values_held m args k ss vs j in
           let a = made_asked r (constructor_call u ss (suc before)) c i in
-          answered _ (f.impures u before) (fits_constructor p u (kind p u)) (impure_answered f args asks (asked p rs) all u before ss (is_here (constructor_call u ss (suc before)) a))
+          answered _ (f.impures u before) (fits_constructor p u (kind p u)) (impure_answered f args (asked p rs) of.questions u before ss (is_here (constructor_call u ss (suc before)) a))
           (impure_fits u before ss vs (impure_shape (asked_shaped (constructor_call u ss (suc before)) a).shaped) g));
     }
 
@@ -134,7 +156,8 @@ answers_restrict p t f args h well given more =
     record {
       meaning = answers_to f asks;
       agrees = answers_agree f asks;
-      serves = answers_serve p h t f args well given asks (λ u i q j. in_left (flat_map (questions_of f args) sites) more q (asks_of_all f args sites u i q j));
+      serves = answers_serve p h t
+          (record { functions = f; args = args; total = well; typed = given; questions = record { asks = asks; all = λ u i q j. in_left (flat_map (questions_of f args) sites) more q (asks_of_all f args sites u i q j) } });
     }
 
 pub total_meanings_serve_lem : TotalMeaningsServe

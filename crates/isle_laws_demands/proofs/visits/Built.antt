@@ -21,7 +21,7 @@ use Rattle.isle_laws_demands.proofs.visits.Unfolding.{unfolds}
 use Rattle.isle_laws_lists.specs.WellTypedPrograms.{IsWellTypedRule, IsWellTypedProgram}
 use Rattle.isle_laws_demands.proofs.visits.BuiltSets.{BuiltSet, RuleOfSet, of_term, typed_rule}
 use Rattle.isle_laws_demands.proofs.visits.Once.{one_number}
-use Rattle.isle_laws_demands.proofs.visits.Gates.{gates_stay}
+use Rattle.isle_laws_demands.proofs.visits.Gates.{asking_of, gates_stay}
 use Rattle.isle_laws_demands.proofs.visits.Closing.{closing_keeps_gates_lem}
 use Rattle.isle_laws_demands.proofs.visits.Rules.{formed_rules_demand_gates_lem}
 
@@ -103,7 +103,8 @@ built_gates p t b h i =
     of : (r : TypedRule) (before : List SiteTerm) → DemandsGates p r → (IsUnreachable (demands_of p r) → ⊥) → BuiltGates p (built_rule p before r)
     of r before g n =
         let c = closing_keeps_gates_lem before (demands_of p r) n g.tested in
-        let stays = gates_stay (demands_of p r).constraints (closed before (demands_of p r)).constraints (demands_of p r).iterators (demands_of p r).iterators (λ x k. c.0 x.0 x.1 k) (λ x k. k) false false in
+        let stays = gates_stay (asking_of (demands_of p r)) (record { constraints = (closed before (demands_of p r)).constraints; calls = (demands_of p r).iterators })
+        (record { constraints = λ x k. c.0 x.0 x.1 k; calls = λ x k. k }) false false in
         record {
           tested = c.1;
           impure = λ u k. stays u (g.impure u (contains_from_in (demands_of p r).impure u k));

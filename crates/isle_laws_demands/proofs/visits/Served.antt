@@ -20,7 +20,7 @@ use Rattle.isle_laws_lists.specs.WellTypedPrograms.{IsWellTypedRule, IsWellTyped
 use Rattle.isle_laws_demands.proofs.visits.Closing.{closing_keeps_gates_lem}
 use Rattle.isle_laws_demands.proofs.visits.Constrained.{built_rules_constrain_or_equate_lem}
 use Rattle.isle_laws_demands.proofs.visits.Exprs.{IsTotal}
-use Rattle.isle_laws_demands.proofs.visits.Gates.{AllIn, gates_stay}
+use Rattle.isle_laws_demands.proofs.visits.Gates.{asking_of, AllIn, gates_stay}
 use Rattle.isle_laws_demands.proofs.visits.GoneOver.{rule_calls, rule_result}
 use Rattle.isle_laws_demands.proofs.visits.Once.{sites_stand_once_lem}
 use Rattle.isle_laws_demands.proofs.visits.Priorities.{one_priority_lem}
@@ -67,16 +67,16 @@ module _ (s : BuiltSet) (h : IsWellTypedProgram s.program) (x : RuleOfSet s) whe
 
   stays : (pure : Bool) (u : SiteTerm) → GatesDemanded true pure (demands_of p b.rule).constraints (demands_of p b.rule).iterators u → Demanded pure u
   stays pure =
-      gates_stay (demands_of p b.rule).constraints b.demands.constraints (demands_of p b.rule).iterators (demands_of p b.rule).iterators
-      (constraints_kept_built p s.term b h x.listed) (λ x k. k) true pure
+      gates_stay (asking_of (demands_of p b.rule)) (record { constraints = b.demands.constraints; calls = (demands_of p b.rule).iterators })
+      (record { constraints = constraints_kept_built p s.term b h x.listed; calls = λ u k. k }) true pure
 
   -- a call that a built rule goes over is left, or its gates are demanded
   pub built_calls : (pure : Bool) → (pure ≡ true → IsPureExpr p b.rule.rhs) → (u : SiteTerm) → In (demands_of p b.rule).iterators u → In (calls_left_by p b.rule) u ⊎ Demanded pure u
-  built_calls pure right u j = elim (rule_calls pure p b.rule typed.formed typed.pure_iflets right (right_calls p b.rule typed) u j) [ inl l ↦ inl l | inr g ↦ inr (stays pure u g) ]
+  built_calls pure right u j = elim (rule_calls pure p b.rule typed right (right_calls p b.rule typed) u j) [ inl l ↦ inl l | inr g ↦ inr (stays pure u g) ]
 
   -- so are those of its result, in a multi term
   pub built_result : (pure : Bool) → (pure ≡ true → IsPureExpr p b.rule.rhs) → is_multi p b.rule.root_term ≡ true → Demanded pure (result_of p b.rule)
-  built_result pure right m = stays pure (result_of p b.rule) (rule_result pure p b.rule typed.formed typed.pure_iflets right (typed.without_partial m))
+  built_result pure right m = stays pure (result_of p b.rule) (rule_result pure p b.rule typed right (typed.without_partial m))
 
   gates_of_call : (n : ℕ) → In x.rule.iterators n → DemandsGatesOfCall p set.sites b x.rule n
   gates_of_call n i =

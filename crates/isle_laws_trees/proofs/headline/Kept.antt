@@ -1,8 +1,7 @@
 -- For each accepted list, the best trees of its terms' built sets keep the headline.
 use Rattle.isle_model.specs.rules.Program.{is_multi}
-use Rattle.isle_model.specs.claims.Environments.{types_read}
 use Rattle.isle_model.specs.claims.Layers.{own_program, BestTreesKeepTheHeadline}
-use Rattle.isle_laws_lists.proofs.WellTypedRules.{elaborated_programs_are_well_typed_lem}
+use Rattle.isle_laws_lists.proofs.WellTypedRules.{read_programs_are_well_typed}
 use Rattle.isle_laws_trees.specs.BuiltLaws.{BestTreesBindBeforeUse, BestTreesCollectTheBag}
 use Rattle.isle_laws_trees.proofs.Shares.{best_trees_share_most_lem}
 use Rattle.isle_laws_trees.proofs.NoLoops.{trees_without_calls_have_no_loop_lem}
@@ -12,7 +11,7 @@ use Rattle.isle_laws_trees.proofs.headline.NoCalls.{set_goes_over_none}
 pub best_trees_keep_the_headline_lem : ChoosingLaws → BestTreesCollectTheBag → BestTreesBindBeforeUse → BestTreesKeepTheHeadline
 best_trees_keep_the_headline_lem choosing collect bind defs expand rules l accepted built best =
     let p = own_program defs rules in
-    let h = elaborated_programs_are_well_typed_lem (types_read defs) defs expand rules accepted.read.elaborated in
+    let h = read_programs_are_well_typed accepted.read in
     record {
       built = built;
       best = best;
