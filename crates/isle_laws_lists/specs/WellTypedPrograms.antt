@@ -29,23 +29,30 @@ pub record HasTypedParts (p : Program) : Type 0 where
   pub structs : (t : ℕ) (e : TermEntry) → slice_get p.terms t ≡ Some e → (ty : ℕ) → kind_of e ≡ a_struct ty
       → (e.ret_ty ≡ ty) × (struct_types (slice_get p.types ty) ≡ Some e.arg_tys)
 
--- a rule that hangs together, and calls what the flags of its term allow: its if-lets call pure terms alone, no part of it
--- calls a multi term where its own isn't multi, and its right side calls no partial one where it is; then it has no priority
--- of its own
+-- a rule that is well formed, and calls what the flags of its term allow
 pub record IsWellTypedRule (p : Program) (r : TypedRule) : Type 0 where
+  -- its terms have as many parts as arguments, all at their types, and each variable is bound once, before it is used
   pub formed : is_formed_rule p r ≡ true
+  -- its if-lets call pure terms alone
   pub pure_iflets : ArePureIfLets p r.iflets
+  -- where its term isn't multi, no part of it calls a multi term
   pub without_multi : is_multi p r.root_term ≡ false → CallsNoMulti p r
+  -- where its term is multi, its right side calls no partial term
   pub without_partial : is_multi p r.root_term ≡ true → CallsAlone (λ t. is_partial p t ≡ false) r.rhs
+  -- and it has no priority of its own
   pub no_priority : is_multi p r.root_term ≡ true → r.prio ≡ pos 0
 
--- a program whose types and terms stand at their ids, whose terms of variants and structs have the parts of these, of whose
--- terms none is multi and partial at once, and whose rules are well typed
+-- a well-typed program: all that is used of rules that elaborate, but for what speaks of their source
 pub record IsWellTypedProgram (p : Program) : Type 0 where
+  -- the first type is that of booleans, and each type stands at its id
   pub types : HasTypes p.types
+  -- so does each term
   pub terms : TermsAtIds p.terms
+  -- a term of a variant or of a struct gives its type, and takes its fields
   pub parts : HasTypedParts p
+  -- no term is multi and partial at once
   pub not_both : HasNoPartialMulti p
+  -- each rule is well typed
   pub rules : (r : TypedRule) → Contains p.rules r → IsWellTypedRule p r
 
 -- rules that elaborate make such a program

@@ -40,13 +40,13 @@ no_more_than false true was owner f g =
     elim (g refl) [ inl h ↦ let a = ap bit h.0 in omega (arith, a) | inr h ↦ let a = ap bit h in omega (arith, a) ]
 no_more_than false false was owner f g = omega arith
 
--- where each site that passes after passed before and isn't taken, or is a field of one that is taken, no site has more
--- such owners after, and one that is taken has fewer
-record Takes (took after was : SiteTerm → Bool) : Type 0 where
+-- each site that is taken passed before; each that passes after passed before and isn't taken, or is a field of one that is
+record TakesOwners (took after was : SiteTerm → Bool) : Type 0 where
   from : (x : SiteTerm) → took x ≡ true → was x ≡ true
   new : (x : SiteTerm) → after x ≡ true → ((was x ≡ true) × (took x ≡ false)) ⊎ ((a : SiteTerm) × (owner_of x ≡ Some a) × (took a ≡ true))
 
-module _ (took after was : SiteTerm → Bool) (of : Takes took after was) where
+-- then no site has more such owners after, and one that is taken has fewer
+module _ (took after was : SiteTerm → Bool) (of : TakesOwners took after was) where
   lessened : (u : SiteTerm) → bit (took u) + owners_by after u ≤ owners_by was u
   lessened =
       by_owners (λ u. bit (took u) + owners_by after u ≤ owners_by was u)
@@ -246,14 +246,14 @@ next_is ks cs (s ∷ ss) c e = at_site (constraint_of cs s) e (λ f. let k = nex
         ]
 
 -- a step of a closing: the class of the next constraint is taken, where all that is made stands among some sites
-record Step (us : List SiteTerm) : Type 0 where
+record StepAmong (us : List SiteTerm) : Type 0 where
   closing : Closed
   apart : IsApart closing.classes
   within : (x : SiteTerm) → In closing.made x → In us x
   constraint : SiteTerm × Constraint
   next : IsNext closing.classes closing.made constraint.0
 
-module _ (us : List SiteTerm) (step : Step us) where
+module _ (us : List SiteTerm) (step : StepAmong us) where
   abbrev k : Closed
   k = step.closing
 
@@ -375,7 +375,7 @@ ends_within us (suc n) k apart within few = go_on (next_constrained k.classes k.
         let after = taken k c (ascending k.made (class_at k.classes c.0)) in
         let next = next_is k.classes k.constraints k.made c e in
         let made : (x : SiteTerm) → In k.made x → In us x = λ x i. w x (made_stay n after x (in_with_sites k.made (flat_map (field_terms c.1) (ascending k.made (class_at k.classes c.0))) x (inl i))) in
-        let step : Step us = record { closing = k; apart = apart; within = made; constraint = c; next = next } in
+        let step : StepAmong us = record { closing = k; apart = apart; within = made; constraint = c; next = next } in
         let l = step_lessens us step in
         later after (after_apart us step) w (omega (arith, l, few))
 

@@ -23,14 +23,14 @@ module _ (d : Demands) (reachable : IsUnreachable d → ⊥) where
     history : (a b : SiteTerm) → In h (a, b) → IsTaken k.constraints k.classes h a b
 
   -- a step of a closing: where it stands, and the constraint that is taken next
-  record Step : Type 0 where
+  record StandingStep : Type 0 where
     closing : Closed
     joined : List (SiteTerm × SiteTerm)
     stands : Stands closing joined
     constraint : SiteTerm × Constraint
     asked : In closing.constraints constraint
 
-  module _ (step : Step) where
+  module _ (step : StandingStep) where
     abbrev k : Closed
     k = step.closing
 
