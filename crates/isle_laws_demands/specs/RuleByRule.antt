@@ -1,10 +1,8 @@
 -- Building rule by rule: where the sets of a program's terms and the reports stand after some of its rules, what one more
 -- rule has to show, and what there is at the end.
-use Rattle.std.specs.Prelude.{◌≡◌, ◌≢◌, ◌↔◌, ℕ, ◌<◌, ◌≤◌, Bool, true, false, List, [], ◌∷◌, ◌++◌, length, map, take, Option, Some, None, is_some, slice_get, All, Contains, IsTrue, ◌&&◌}
+use Rattle.std.specs.Prelude.{◌≡◌, ◌≢◌, ◌↔◌, ℕ, ◌<◌, ◌≤◌, true, false, List, [], ◌∷◌, ◌++◌, length, map, take, Option, Some, None, is_some, slice_get, All, Contains, IsTrue, ◌&&◌}
 use Rattle.std.specs.Bool.{◌==◌}
 use Rattle.std.specs.List.{filter, flat_map, list_any}
-use Rattle.isle_model.specs.lists.Syntax.{Definition}
-use Rattle.isle_model.specs.lists.Elaborated.{TypedRules}
 use Rattle.isle_model.specs.lists.Names.{IsDistinct}
 use Rattle.isle_model.specs.rules.Typed.{TypedRule}
 use Rattle.isle_model.specs.rules.Program.{Program, rules_of, terms_with_rules}
@@ -15,8 +13,8 @@ use Rattle.isle_model.specs.sites.Limits.{RuleLimit, sites_limit, first_limit, l
 use Rattle.isle_model.specs.sites.Overlap.{RuleReport, limit_passed, not_reached, built_from, built_rule, build_reports, build_reports_after, build_reports_of}
 use Rattle.isle_model.specs.sites.RuleSets.{AreRulesOfSet, AsksFor, Equates, IsBuilt, IsRuleOf, StandFor}
 use Rattle.isle_model.specs.trees.Places.{constraint_at, joins_in}
-use Rattle.isle_model.specs.claims.Environments.{TypesRead, IsElaborated, program_of}
 use Rattle.isle_model.specs.claims.Layers.{BuildAnswers}
+use Rattle.isle_laws_lists.specs.WellTypedPrograms.{IsWellTypedProgram}
 
 -- 1. one term
 -- a set without rules and sites
@@ -106,13 +104,12 @@ BuildingEnds =
     (p : Program) (set_of : ℕ → Option SiteSet) (sets : List (ℕ × SiteSet)) (reports : List RuleReport)
     → AreBuiltSoFar p p.rules set_of reports → AreLookedUp set_of sets → All (λ s. IsBuilt p s.0 s.1) sets × (reports ≡ build_reports p)
 
--- and so, of a list that elaborates, what building gives
+-- and so, of a well-typed program, what building gives
 abbrev pub BuiltSetsAreAnswered : Type 0
 BuiltSetsAreAnswered =
-    (e : TypesRead) (defs : List Definition) (expand : Bool) (rules : TypedRules) (sets : List (ℕ × SiteSet))
-    → IsElaborated e defs expand rules → map (λ s. s.0) sets ≡ terms_with_rules (program_of e defs rules.rules)
-    → All (λ s. IsBuilt (program_of e defs rules.rules) s.0 s.1) sets
-    → BuildAnswers (program_of e defs rules.rules) sets (build_reports (program_of e defs rules.rules))
+    (p : Program) (sets : List (ℕ × SiteSet)) → IsWellTypedProgram p → map (λ s. s.0) sets ≡ terms_with_rules p
+    → All (λ s. IsBuilt p s.0 s.1) sets
+    → BuildAnswers p sets (build_reports p)
 
 -- 3. what one rule has to show
 -- a visit ends before its rule's end exactly where a limit of the rule's shape is passed

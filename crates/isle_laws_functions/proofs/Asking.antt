@@ -15,6 +15,7 @@ use Rattle.isle_model.specs.sites.Serves.{asked}
 use Rattle.isle_model.specs.claims.Environments.{program_of}
 use Rattle.isle_model.proofs.Elements.{In, in_left, in_right}
 use Rattle.isle_laws_demands.specs.TotalLaws.{TotalMeaning, Restricts}
+use Rattle.isle_laws_lists.proofs.WellTypedRules.{elaborated_programs_are_well_typed_lem}
 use Rattle.isle_laws_demands.proofs.matching.NoMulti.{rules_without_multi_go_over_no_calls_lem}
 use Rattle.isle_laws_demands.proofs.total.Listed.{Question, of_literal, of_constant, of_extractor, of_pure, of_impure, questions_of, answers_to, literal_there, constant_there, extractor_there, pure_there, impure_there}
 use Rattle.isle_laws_demands.proofs.total.SameChoice.{choice_is_of_functions_lem}
@@ -263,6 +264,7 @@ chooses_as_under_meanings_lem e defs expand rules t f args h plain total fit r =
     let rs = rules_of p t in
     let c = choice_comes p f rs args in
     let own = flat_map (questions_of f args) (asked p rs) in
-    let n : Restricts p f args rs = answers_restrict e defs expand rules t f args h total fit c.asks in
-    choice_is_of_functions_lem e defs expand rules t f r.meaning n.meaning args h (rules_without_multi_go_over_no_calls_lem e defs expand rules t h plain) fit r.agrees r.serves n.agrees n.serves
+    let w = elaborated_programs_are_well_typed_lem e defs expand rules h in
+    let n : Restricts p f args rs = answers_restrict p t f args w total fit c.asks in
+    choice_is_of_functions_lem p t f r.meaning n.meaning args w (rules_without_multi_go_over_no_calls_lem p t w plain) fit r.agrees r.serves n.agrees n.serves
     ∙ c.same (own ++ c.asks) (λ q i. in_right own c.asks q i)

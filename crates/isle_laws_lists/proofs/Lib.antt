@@ -1,4 +1,5 @@
 pub mod Converters
+pub mod ElaboratedCalls
 pub mod EnvironmentsRead
 pub mod EnvironmentsShown
 pub mod FormedParts
@@ -27,3 +28,5 @@ pub mod UsesFound
 pub mod VariantTerms
 pub mod VisitableRules
 pub mod WellFormed
+pub mod WellTypedRules
+pub mod WellTypedTerms

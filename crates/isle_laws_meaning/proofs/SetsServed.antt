@@ -10,11 +10,13 @@ use Rattle.isle_model.specs.sites.Overlap.{BuiltRule, built_rules, Overlaps}
 use Rattle.isle_model.specs.sites.RuleSets.{IsRuleOf, IsBuilt}
 use Rattle.isle_model.specs.trees.Collects.{HasCollectedResults, IsCollectedRule, IsCollectedSet}
 use Rattle.isle_model.specs.trees.SetRuns.{OverlapInSet, HasNoWrongOverlap}
-use Rattle.isle_model.specs.claims.Environments.{TypesRead, types_read, IsElaborated}
-use Rattle.isle_model.specs.claims.SetMeanings.{BuiltSetsAreTested, BuiltSetsAreCollected}
+use Rattle.isle_model.specs.claims.Environments.{types_read}
 use Rattle.isle_model.specs.claims.Layers.{own_program, IsAccepted, LoweredTerm, IsLoweredTerm, MeansItsSet, IsCheckable}
 use Rattle.isle_model.proofs.Members.{all_members}
 use Rattle.isle_laws_runs.proofs.picks.Calls.{unfold_once}
+use Rattle.isle_laws_lists.specs.WellTypedPrograms.{IsWellTypedProgram}
+use Rattle.isle_laws_lists.proofs.WellTypedRules.{read_programs_are_well_typed}
+use Rattle.isle_laws_demands.specs.BuiltLaws.{BuiltSetsAreTested, BuiltSetsAreCollected}
 use Rattle.isle_laws_demands.specs.MatchLaws.{RulesWithoutMultiGoOverNoCalls}
 use Rattle.isle_laws_demands.specs.OutcomeLaws.{BuiltSetsMeanTheirRules}
 use Rattle.isle_laws_demands.specs.ServeLaws.{ServedSetsServeTests, ServedMultiSetsServe}
@@ -85,21 +87,18 @@ module _ (laws : SetLaws) (defs : List Definition) (expand : Bool) (rules : Type
   abbrev p : Program
   p = own_program defs rules
 
-  abbrev e : TypesRead
-  e = types_read defs
-
-  h : IsElaborated e defs expand rules
-  h = accepted.read.elaborated
+  h : IsWellTypedProgram p
+  h = read_programs_are_well_typed accepted.read
 
   meaning : MeansItsSet l.set l.tree
-  meaning = laws.mean l.set l.tree (record { types = e; defs = defs; expand = expand; rules = rules; term = l.term; elaborated = h; built = lowered.built }) lowered.best
+  meaning = laws.mean l.set l.tree (record { types = types_read defs; defs = defs; expand = expand; rules = rules; term = l.term; elaborated = accepted.read.elaborated; built = lowered.built }) lowered.best
 
   none : is_multi p l.term ≡ false → All (λ r. r.iterators ≡ []) l.set.rules
-  none without = set_goes_over_none laws.no_calls e defs expand rules l.term l.set h lowered.built without
+  none without = set_goes_over_none laws.no_calls (record { program = p; term = l.term; set = l.set; built = lowered.built }) h without
 
   collected : is_multi p l.term ≡ true → All (HasCollectedResults p) (rules_of p l.term) → IsCollectedSet l.set
   collected multi results =
-      laws.collected e defs expand rules l.term l.set h lowered.built multi
+      laws.collected p l.term l.set h lowered.built multi
       (all_members (λ (k : BuiltRule). HasCollectedResults p k.rule) (built_rules p l.term) (λ k c. All-contains (HasCollectedResults p) (rules_of p l.term) k.rule results (built_listed p l.term k c)))
 
   quiet : IsCollectedSet l.set → All (λ r. r.impure ≡ []) l.set.rules
@@ -108,17 +107,17 @@ module _ (laws : SetLaws) (defs : List Definition) (expand : Bool) (rules : Type
   means : MeansItsSetWhereServed p l
   means = record {
     chooses = λ without m args typed served apart.
-        meaning.chooses (laws.tested e defs expand rules l.term l.set h lowered.built without (none without)) _
-        (laws.serve e defs expand rules l.term l.set h lowered.built m args typed served apart) without;
+        meaning.chooses (laws.tested p l.term l.set h lowered.built without (none without)) _
+        (laws.serve p l.term l.set h lowered.built m args typed served apart) without;
     once = λ without m args typed served apart.
         meaning.once (none_wrong p l.term l.set lowered.built accepted.checkable without) _
-        (laws.serve e defs expand rules l.term l.set h lowered.built m args typed served apart) without;
+        (laws.serve p l.term l.set h lowered.built m args typed served apart) without;
     collects = λ multi results m args typed served apart.
         (let c = collected multi results in
-        meaning.collects (laws.one_priority e defs expand rules l.term l.set h lowered.built multi) c _
-        (laws.serve_multi e defs expand rules l.term l.set h lowered.built (quiet c) m args typed served apart) multi);
+        meaning.collects (laws.one_priority p l.term l.set h lowered.built multi) c _
+        (laws.serve_multi p l.term l.set h lowered.built (quiet c) m args typed served apart) multi);
     straight = lowered.straight;
-    rules = laws.rules e defs expand rules l.term l.set h lowered.built;
+    rules = laws.rules p l.term l.set h lowered.built;
   }
 
 pub lowered_sets_mean_their_rules_lem : SetLaws → LoweredSetsMeanTheirRules

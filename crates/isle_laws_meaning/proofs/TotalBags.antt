@@ -1,8 +1,6 @@
 -- The bag of a multi term is of total functions alone, whatever maps agree with them and serve.
-use Rattle.std.proofs.Common.{◌≡◌, ℕ, zero, suc, Bool, true, false, List, [], ◌∷◌, ◌++◌, Option, Some, None, is_some, IsSomeAnd, Contains, flat_map, refl, sym, ap, ◌∙◌, subst, inl, inr}
+use Rattle.std.proofs.Common.{◌≡◌, ℕ, zero, suc, true, false, List, [], ◌∷◌, ◌++◌, Option, Some, None, is_some, IsSomeAnd, Contains, flat_map, refl, sym, ap, ◌∙◌, subst, inl, inr}
 use Rattle.std.proofs.lemmas.List.Elements.{All-contains}
-use Rattle.isle_model.specs.lists.Syntax.{Definition}
-use Rattle.isle_model.specs.lists.Elaborated.{TypedRules}
 use Rattle.isle_model.specs.rules.Values.{Value, args_well_typed, of_variant, of_struct, Values, value_and}
 use Rattle.isle_model.specs.rules.Meaning.{Content, one, just, Meaning, bool_literal, int_literal, literal_value, constant_value, extractor_answer, pure_answer}
 use Rattle.isle_model.specs.rules.Outcome.{then_option}
@@ -16,26 +14,24 @@ use Rattle.isle_model.specs.sites.Demands.{Demands, demands_of, result_of}
 use Rattle.isle_model.specs.sites.DemandedGates.{CanBeTested}
 use Rattle.isle_model.specs.sites.Closure.{DemandsHold}
 use Rattle.isle_model.specs.sites.Serves.{asked_by, asked, constant_site, Serves}
-use Rattle.isle_model.specs.claims.Environments.{TypesRead, IsElaborated, program_of}
+use Rattle.isle_model.specs.claims.Environments.{program_of}
 use Rattle.isle_model.proofs.Bags.{flat_map_same}
 use Rattle.isle_model.proofs.Elements.{In, in_from_contains, contains_from_in, in_left, in_flat_map}
-use Rattle.isle_laws_lists.proofs.FormedRules.{rules_are_formed}
 use Rattle.isle_laws_lists.proofs.TypedRules as typed
-use Rattle.isle_laws_runs.proofs.picks.PickLists.{picks_are_exact_lem}
 use Rattle.isle_laws_demands.specs.MatchLaws.{IsTried}
 use Rattle.isle_laws_demands.specs.TotalLaws.{TotalMeaning, Agrees, Restricts}
 use Rattle.isle_laws_demands.proofs.closure.Classes.{with_sites_in}
-use Rattle.isle_laws_demands.proofs.matching.Answered.{is_answered}
 use Rattle.isle_laws_demands.proofs.matching.Contents.{is_value}
-use Rattle.isle_laws_demands.proofs.matching.TypedParts.{program_has_typed_parts}
-use Rattle.isle_laws_demands.proofs.matching.Visits.{given, of_term, visits_match_lem}
+use Rattle.isle_laws_demands.proofs.matching.Visits.{given, tried, visits_match_lem}
 use Rattle.isle_laws_demands.proofs.overlaps.Overlaps.{bool_same}
 use Rattle.isle_laws_demands.proofs.results.Held.{result_held}
 use Rattle.isle_laws_demands.proofs.total.CallsMade.{AllMade, EachMade, rule_makes}
-use Rattle.isle_laws_demands.proofs.total.SameContents.{demands_hold}
+use Rattle.isle_laws_demands.proofs.total.SameContents.{TwoMaps, demands_hold}
 use Rattle.isle_laws_demands.proofs.total.Total.{total_meanings_serve_lem, agreeing_maps_tell_apart_lem}
-use Rattle.isle_laws_demands.proofs.visits.Declared.{program_not_both}
-use Rattle.isle_laws_demands.proofs.visits.Elaborated.{elaborated_rules_hang, elaborated_rules_demand_gates_lem}
+use Rattle.isle_laws_demands.proofs.visits.BuiltSets.{of_term}
+use Rattle.isle_laws_demands.proofs.visits.Rules.{well_typed_rules_demand_gates_lem}
+use Rattle.isle_laws_lists.proofs.WellTypedRules.{elaborated_programs_are_well_typed_lem}
+use Rattle.isle_laws_lists.specs.WellTypedPrograms.{IsWellTypedProgram}
 use Rattle.isle_laws_meaning.specs.TotalBags.{BagIsOfFunctions, TotalMeaningsHaveOneBag}
 use Rattle.isle_laws_meaning.proofs.CallsGoneOver.{calls_are_made, none_is_impure}
 use Rattle.isle_laws_meaning.proofs.PatternConstants.{functions_constants_are_of_patterns_lem}
@@ -136,10 +132,7 @@ module _ (p : Program) (rs : List TypedRule) (f : TotalMeaning) (m n : Meaning) 
   picks_same = over_same (multi_calls p r) call_made []
 
 -- 2. and the same result under each
-module _ (e : TypesRead) (defs : List Definition) (expand : Bool) (rules : TypedRules) (h : IsElaborated e defs expand rules) (t : ℕ) where
-  abbrev p : Program
-  p = program_of e defs rules.rules
-
+module _ (p : Program) (h : IsWellTypedProgram p) (t : ℕ) where
   abbrev rs : List TypedRule
   rs = rules_of p t
 
@@ -150,27 +143,27 @@ module _ (e : TypesRead) (defs : List Definition) (expand : Bool) (rules : Typed
       is_tried = record { typed = fit; served = served; rule = i; pick = pick }
 
       matched_holds : is_some (matches_under p m k r args) ≡ true → DemandsHold m args k (demands_of p r)
-      matched_holds a = (visits_match_lem e defs expand rules t m args r k h is_tried).matching.0 a
+      matched_holds a = (visits_match_lem p t m args r k h is_tried).matching.0 a
 
       holds_matched : DemandsHold m args k (demands_of p r) → is_some (matches_under p m k r args) ≡ true
-      holds_matched a = (visits_match_lem e defs expand rules t m args r k h is_tried).matching.1 a
+      holds_matched a = (visits_match_lem p t m args r k h is_tried).matching.1 a
 
       result_there : (vars : SitedVars) → matches_under p m k r args ≡ Some vars → results_under p m args r k ≡ as_list (site_content m args k (result_of p r))
       result_there vars q =
-          let b = of_term e defs expand rules h t r i in
-          let c = elaborated_rules_hang rules_are_formed typed.lists_agree e defs expand rules h r b.0 in
-          ap (results_with p m k r) q
-          ∙ result_held (given p m args k) r vars c.0 c.1 (subst (λ u. args_well_typed p.types (arg_types p u) args ≡ true) (sym b.1) fit)
-          (program_has_typed_parts e defs expand rules h) (program_not_both e defs expand rules h)
-          (is_answered p m args r k ((picks_are_exact_lem p m args r).only k pick) rs served i) quiet q
+          let c = tried p t m args r k h is_tried in
+          ap (results_with p m k r) q ∙ result_held (given p m args k) r vars c.rule.formed c.rule.pure_iflets c.typed h c.answered quiet q
 
     -- two maps
     module _ (f : TotalMeaning) (m n : Meaning) (am : Agrees m f) (an : Agrees n f) (sm : Serves p m args rs) (sn : Serves p n args rs) where
       module _ (r : TypedRule) (i : Contains rs r) (quiet : (demands_of p r).impure ≡ []) where
         tested : CanBeTested (demands_of p r)
-        tested =
-            (elaborated_rules_demand_gates_lem rules_are_formed typed.lists_agree e defs expand rules h r
-            (contains_from_in rules.rules r (of_term e defs expand rules h t r i).0)).tested
+        tested = (well_typed_rules_demand_gates_lem p h r (of_term p t r i).0).tested
+
+        abbrev two : Pick → TwoMaps
+        two k = record { program = p; rules = rs; functions = f; args = args; pick = k; first = record { meaning = m; agrees = am; serves = sm }; second = record { meaning = n; agrees = an; serves = sn } }
+
+        abbrev turned : Pick → TwoMaps
+        turned k = record { program = p; rules = rs; functions = f; args = args; pick = k; first = record { meaning = n; agrees = an; serves = sn }; second = record { meaning = m; agrees = am; serves = sm } }
 
         same_picks : picks p m args r ≡ picks p n args r
         same_picks = picks_same p rs f m n am an args sm sn r i quiet
@@ -182,8 +175,8 @@ module _ (e : TypesRead) (defs : List Definition) (expand : Bool) (rules : Typed
           matching_same : is_some (matches_under p m k r args) ≡ is_some (matches_under p n k r args)
           matching_same =
               bool_same (is_some (matches_under p m k r args)) (is_some (matches_under p n k r args))
-              (λ a. holds_matched n sn r i quiet k pn (demands_hold p rs f m n am an args sm sn k r i tested (rule_makes p r).0 (matched_holds m sm r i quiet k pm a)))
-              (λ a. holds_matched m sm r i quiet k pm (demands_hold p rs f n m an am args sn sm k r i tested (rule_makes p r).0 (matched_holds n sn r i quiet k pn a)))
+              (λ a. holds_matched n sn r i quiet k pn (demands_hold (two k) r i tested (rule_makes p r).0 (matched_holds m sm r i quiet k pm a)))
+              (λ a. holds_matched m sm r i quiet k pm (demands_hold (turned k) r i tested (rule_makes p r).0 (matched_holds n sn r i quiet k pn a)))
 
           result_same : results_under p m args r k ≡ results_under p n args r k
           result_same = by (matches_under p m k r args) (matches_under p n k r args) refl refl
@@ -217,14 +210,14 @@ module _ (e : TypesRead) (defs : List Definition) (expand : Bool) (rules : Typed
               λ j. a j ++ b j
 
 pub bag_is_of_functions_lem : BagIsOfFunctions
-bag_is_of_functions_lem e defs expand rules t f m n args h quiet fit am sm an sn = rules_same e defs expand rules h t args fit f m n am an sm sn quiet
+bag_is_of_functions_lem e defs expand rules t f m n args h quiet fit am sm an sn = rules_same (program_of e defs rules.rules) (elaborated_programs_are_well_typed_lem e defs expand rules h) t args fit f m n am an sm sn quiet
 
 -- 3. one bag
 pub total_meanings_have_one_bag_lem : TotalMeaningsHaveOneBag
 total_meanings_have_one_bag_lem e defs expand rules t sites tree f args h multi results collects total apart fit =
     let p = program_of e defs rules.rules in
     let rs = rules_of p t in
-    let first : Restricts p f args rs = total_meanings_serve_lem e defs expand rules t f args h total fit in
+    let first : Restricts p f args rs = total_meanings_serve_lem p t f args (elaborated_programs_are_well_typed_lem e defs expand rules h) total fit in
     let quiet : (r : TypedRule) → Contains rs r → (demands_of p r).impure ≡ [] = λ r i. (All-contains (HasCollectedResults p) rs r results i).no_calls in
     let same : (r : Restricts p f args rs) → bag p r.meaning rs args ≡ bag p first.meaning rs args = λ r.
     bag_is_of_functions_lem e defs expand rules t f r.meaning first.meaning args h quiet fit r.agrees r.serves first.agrees first.serves in

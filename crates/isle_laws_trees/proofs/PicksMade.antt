@@ -20,7 +20,7 @@ use Rattle.isle_laws_demands.proofs.closure.Classes.{in_with_sites}
 use Rattle.isle_laws_demands.proofs.closure.Closing.{closing_keeps}
 use Rattle.isle_laws_demands.proofs.closure.WholeVisits.{reached_closed, few_made}
 use Rattle.isle_laws_demands.proofs.visits.Built.{rule_at}
-use Rattle.isle_laws_demands.proofs.visits.Declared.{program_not_both}
+use Rattle.isle_laws_lists.proofs.WellTypedRules.{elaborated_programs_are_well_typed_lem}
 use Rattle.isle_laws_demands.proofs.visits.Once.{one_number}
 use Rattle.isle_laws_demands.proofs.visits.Unfolding.{unfolds}
 use Rattle.isle_laws_demands.proofs.visits.Kept.{rule_kept}
@@ -217,7 +217,7 @@ module _ (set : SiteSet) (built : IsBuiltForSome set) where
   picks_are_made r s c g =
       let a = rule_at program set.sites (built_rules program built.term) set.rules built.built.rules r (in_from_contains set.rules r c) in
       let call = a.2.iterators.gone_over s g in
-      let made = rule_picked program (program_not_both built.types built.defs built.expand built.rules built.elaborated) a.0.rule (unfold_site set.sites s) (in_from_contains (demands_of program a.0.rule).iterators (unfold_site set.sites s) call.1) in
+      let made = rule_picked program ((elaborated_programs_are_well_typed_lem built.types built.defs built.expand built.rules built.elaborated).not_both) a.0.rule (unfold_site set.sites s) (in_from_contains (demands_of program a.0.rule).iterators (unfold_site set.sites s) call.1) in
       let n = all_numbered program [] (rules_of program built.term) a.0 a.1 (pick_of (unfold_site set.sites s)) made in
       let within = slice_get_within (sites_after_rules program [] (rules_of program built.term)) n.0 (pick_of (unfold_site set.sites s)) n.1 in
       let count = built.built.sites.count in

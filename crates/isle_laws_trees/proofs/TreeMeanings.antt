@@ -19,8 +19,9 @@ use Rattle.isle_laws_runs.proofs.runs.Choice.{sound_trees_choose_lem}
 use Rattle.isle_laws_runs.proofs.runs.Collection.{sound_trees_collect_lem}
 use Rattle.isle_laws_runs.proofs.runs.HoldsOnce.{rules_hold_once_lem}
 use Rattle.isle_laws_demands.proofs.visits.Built.{rule_at}
-use Rattle.isle_laws_demands.proofs.visits.Declared.{no_rule_asks_and_goes_over_lem}
+use Rattle.isle_laws_demands.proofs.visits.Apart.{no_rule_asks_and_goes_over_lem}
 use Rattle.isle_laws_trees.specs.BuiltLaws.{BestTreesOfBuiltSetsAreSound}
+use Rattle.isle_laws_lists.proofs.WellTypedRules.{elaborated_programs_are_well_typed_lem}
 use Rattle.isle_laws_trees.specs.TreeMeanings.{BestTreesMeanTheirSets}
 use Rattle.isle_laws_trees.proofs.StepCounts.{joined_member}
 use Rattle.isle_laws_trees.proofs.NoLoops.{trees_without_calls_have_no_loop_lem}
@@ -73,7 +74,7 @@ module _ (set : SiteSet) (built : IsBuiltForSome set) where
       let rule : IsCollectedRule set.sites r = All-contains (IsCollectedRule set.sites) set.rules r collected.rules there in
       record {
         asks_once = asked_once r.constraints of.2.constraints.once;
-        asks_or_goes_over = no_rule_asks_and_goes_over_lem built.types built.defs built.expand built.rules built.term set built.elaborated built.built r there;
+        asks_or_goes_over = no_rule_asks_and_goes_over_lem p built.term set (elaborated_programs_are_well_typed_lem built.types built.defs built.expand built.rules built.elaborated) built.built r there;
         gates = λ s u h c.
             All-contains (λ x. IsTrue (gate_demanded r (slice_get set.sites x))) (all_below set.sites (sites_of_rule r)) u rule.gates
             (in_flat_map (λ x. below (suc x) set.sites x) (sites_of_rule r) s u (tested_among r s h) c);
@@ -86,7 +87,8 @@ pub best_trees_mean_their_sets_lem : BestTreesOfBuiltSetsAreSound → BestTreesM
 best_trees_mean_their_sets_lem sound set tree built best = record {
   chooses = λ tested w serves m.
       sound_trees_choose_lem set tree w tested serves m
-      (sound built.types built.defs built.expand built.rules built.term set false tree built.elaborated built.built (λ k d l. (tested.rules k d l).no_iterators) (λ z. absurd (false≢true z)) best);
+      (sound (program_of built.types built.defs built.rules.rules) built.term set (elaborated_programs_are_well_typed_lem built.types built.defs built.expand built.rules built.elaborated) built.built false tree
+      (λ k d l. (tested.rules k d l).no_iterators) (λ z. absurd (false≢true z)) best);
   once = λ apart w serves m. rules_hold_once_lem set w serves apart;
   collects = λ one collected w serves m.
       sound_trees_collect_lem set tree w collected serves m (best_trees_are_sound_lem set true tree (well_built set built collected) (λ z. one) best);

@@ -10,10 +10,10 @@ use Rattle.isle_model.specs.sites.Closure.{HasConstraint, IsClosedEquality, Clos
 use Rattle.isle_model.specs.sites.Overlap.{BuiltRule, built_rules}
 use Rattle.isle_model.specs.sites.RuleSets.{AreRulesOfSet, IsRuleOf, IsBuilt}
 use Rattle.isle_model.specs.trees.Places.{joins_in}
-use Rattle.isle_model.specs.claims.Environments.{types_read}
 use Rattle.isle_model.specs.claims.Layers.{own_program}
 use Rattle.isle_model.proofs.Elements.{contains_from_in, in_slice, some_is}
 use Rattle.isle_model.proofs.Mapped.{get_mapped, get_map}
+use Rattle.isle_laws_lists.proofs.WellTypedRules.{read_programs_are_well_typed}
 use Rattle.isle_laws_demands.specs.BuiltLaws.{BuiltDemandsAreWhole}
 use Rattle.isle_laws_demands.proofs.visits.Once.{one_number}
 use Rattle.isle_laws_trees.specs.WholeDemands.{AsksAt, JoinsAt, AsksWhatFollows, AcceptedSetsAreWhole}
@@ -124,5 +124,5 @@ accepted_sets_are_whole_lem law defs expand rules accepted t set built =
   where
     whole : (b : BuiltRule) (i : ℕ) → slice_get (built_rules (own_program defs rules) t) i ≡ Some b → ClosedIsWhole (demands_of (own_program defs rules) b.rule) b.demands
     whole b i e =
-        law (types_read defs) defs expand rules t accepted.read.elaborated b
+        law (own_program defs rules) t (read_programs_are_well_typed accepted.read) b
         (contains_from_in (built_rules (own_program defs rules) t) b (in_slice (built_rules (own_program defs rules) t) i b e))

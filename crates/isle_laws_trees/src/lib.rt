@@ -96,7 +96,7 @@ pub fn best_trees_of_built_sets_are_sound()
     built_sets_are_well_built();
 }
 
-/// A best tree of a set that is built of elaborated rules binds each site before it is used, also the impure calls of a rule before
+/// A best tree of a set that is built of well-typed rules binds each site before it is used, also the impure calls of a rule before
 /// its return, and none twice in one scope but for the calls of loops.
 pub fn best_trees_bind_before_use()
     ensures { BestTreesBindBeforeUse }

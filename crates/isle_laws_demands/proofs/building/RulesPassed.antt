@@ -134,15 +134,15 @@ not_built : (p : Program) (before : List SiteTerm) (r : TypedRule) (l : RuleLimi
 not_built p before r l e = ap (λ o. is_none o && not (is_unreachable (demands_of p r))) e
 
 -- 4. the set goes on
-module _ (p : Program) (done : List TypedRule) (r : TypedRule) (old new : SiteSet) (h : StandsAfter p done old) where
+module _ (p : Program) (done : List TypedRule) (r : TypedRule) where
   abbrev then_sites : List SiteTerm
   then_sites = sites_after_rules p [] done
 
   abbrev here : List SiteTerm → BuiltRule
   here s = built_rule p s r
 
-  left : HaveGrown old.sites new.sites → is_built p then_sites r ≡ false → StandFor new.sites (sites_after_rule p then_sites r) → new.rules ≡ old.rules → StandsAfter p (done ++ r ∷ []) new
-  left g f s e = record {
+  left : (old new : SiteSet) → StandsAfter p done old → HaveGrown old.sites new.sites → is_built p then_sites r ≡ false → StandFor new.sites (sites_after_rule p then_sites r) → new.rules ≡ old.rules → StandsAfter p (done ++ r ∷ []) new
+  left old new h g f s e = record {
     rules = subst (λ bs. AreRulesOfSet p new.sites bs new.rules) (sym none_more)
         (subst (AreRulesOfSet p new.sites (built_from p [] done)) (sym e) (rules_still old.sites new.sites g p (built_from p [] done) old.rules h.rules));
     sites = subst (StandFor new.sites) (sym (sites_on p [] done r)) s;
@@ -156,9 +156,9 @@ module _ (p : Program) (done : List TypedRule) (r : TypedRule) (old new : SiteSe
           ∙ ap (λ l. built_from p [] done ++ (l ++ [])) (cond-false (is_built p then_sites r) (here then_sites ∷ []) [] f)
           ∙ append-nil (built_from p [] done)
 
-  added : (rule : SetRule) → HaveGrown old.sites new.sites → is_built p then_sites r ≡ true → StandFor new.sites (sites_after_rule p then_sites r) → new.rules ≡ old.rules ++ rule ∷ []
+  added : (old new : SiteSet) → StandsAfter p done old → (rule : SetRule) → HaveGrown old.sites new.sites → is_built p then_sites r ≡ true → StandFor new.sites (sites_after_rule p then_sites r) → new.rules ≡ old.rules ++ rule ∷ []
       → IsRuleOf p new.sites (here then_sites) rule → StandsAfter p (done ++ r ∷ []) new
-  added rule g t s e q = record {
+  added old new h rule g t s e q = record {
     rules = subst (λ bs. AreRulesOfSet p new.sites bs new.rules) (sym one_more)
         (subst (AreRulesOfSet p new.sites (built_from p [] done ++ here then_sites ∷ [])) (sym e)
         (rules_and p new.sites (built_from p [] done) (here then_sites ∷ []) old.rules (rule ∷ []) (rules_still old.sites new.sites g p (built_from p [] done) old.rules h.rules) (q, tt)));

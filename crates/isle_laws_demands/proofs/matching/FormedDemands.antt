@@ -18,7 +18,7 @@ use Rattle.isle_laws_demands.proofs.matching.Contents.{AsMany, as_many_types}
 use Rattle.isle_laws_demands.proofs.matching.Grown.{equated, expr_adds, rule_adds}
 use Rattle.isle_laws_demands.proofs.matching.Patterns.{from_term, from_part, from_bind, as_many}
 use Rattle.isle_laws_demands.proofs.matching.Rules.{rule_parts}
-use Rattle.isle_laws_demands.proofs.matching.TypedParts.{HasTypedParts}
+use Rattle.isle_laws_lists.specs.WellTypedPrograms.{HasTypedParts}
 use Rattle.isle_model.proofs.Either.{either}
 use Rattle.isle_laws_lists.proofs.FormedParts.{from_if, type_is}
 

@@ -23,7 +23,7 @@ use Rattle.isle_laws_demands.proofs.matching.Contents.{Given, content_of, Here, 
 use Rattle.isle_laws_demands.proofs.matching.Demanded.{one_not_just, AreMet, AskEnough, same_content, here_typed, met_asking, asked_now, IsBound, AreBound, bound_kept, After, outside, then_after, unbound, constant_after, var_after}
 use Rattle.isle_laws_demands.proofs.matching.Grown.{Grown, then_grown, grown_making, grown_asking, grown_iterating, each_grown, all_grown}
 use Rattle.isle_laws_demands.proofs.matching.SameExprs.{AreWithin, within_new}
-use Rattle.isle_laws_demands.proofs.matching.TypedParts.{HasTypedParts}
+use Rattle.isle_laws_lists.specs.WellTypedPrograms.{HasTypedParts}
 use Rattle.isle_laws_demands.proofs.matching.Variables.{here_valued, var_bound, not_among}
 use Rattle.isle_laws_lists.proofs.FormedParts.{from_if, type_is}
 
@@ -187,7 +187,46 @@ module _ (g : Given) (z : Visit) (h : IsAnswered g z.demands) (parts : HasTypedP
   abbrev call_parts : Bool → ℕ → SiteTerm → Value → Option Values
   call_parts multi t s x = then_option (then_option (extractor_answer g.meaning t x) (taken_answer multi g.pick (extractor_call t s))) answered_outputs
 
-  module _ (t : ℕ) (e : TermEntry) (there : slice_get p.terms t ≡ Some e) (s : SiteTerm) (x : Value) (ty : ℕ) (here : Here g s ty x) (args : TypedPatterns) (n : AsMany args e.arg_tys) (v : Visit) where
+  -- a term whose parts a pattern takes: its entry, the value at the site, and the patterns of the parts
+  record TermTaken : Type 0 where
+    term : ℕ
+    entry : TermEntry
+    there : slice_get p.terms term ≡ Some entry
+    site : SiteTerm
+    value : Value
+    ty : ℕ
+    here : Here g site ty value
+    args : TypedPatterns
+    many : AsMany args entry.arg_tys
+
+  module _ (of : TermTaken) (v : Visit) where
+    abbrev t : ℕ
+    t = of.term
+
+    abbrev e : TermEntry
+    e = of.entry
+
+    abbrev there : slice_get p.terms t ≡ Some e
+    there = of.there
+
+    abbrev s : SiteTerm
+    s = of.site
+
+    abbrev x : Value
+    x = of.value
+
+    abbrev ty : ℕ
+    ty = of.ty
+
+    abbrev here : Here g s ty x
+    here = of.here
+
+    abbrev args : TypedPatterns
+    args = of.args
+
+    abbrev n : AsMany args e.arg_tys
+    n = of.many
+
     abbrev call : SiteTerm
     call = extractor_call t s
 
@@ -376,7 +415,7 @@ module _ (g : Given) (z : Visit) (h : IsAnswered g z.demands) (parts : HasTypedP
         let o = open_term (kind p t) t s args v in
         let w = visit_each p args o.inputs o.visit in
         let k = each_grown p args o.inputs o.visit in
-        let u = term_opens t a.entry a.there s x ty here args (as_many p args a.entry.arg_tys vars more a.formed) v (kind p t) refl
+        let u = term_opens (record { term = t; entry = a.entry; there = a.there; site = s; value = x; ty = ty; here = here; args = args; many = as_many p args a.entry.arg_tys vars more a.formed }) v (kind p t) refl
         (sym (ap (λ o. elim o as (λ _. Kind) [ None ↦ unknown | Some i ↦ kind_of i ]) a.there)) a.ret (then_grown o.visit w z k l) in
         subst (λ ins. After g more e v w (then_option (parts_under (kind p t) g.meaning g.pick t s x) (λ vs. each_holds_under p g.meaning g.pick args ins vs e))) (same_inputs (kind p t) t s args v)
         (opened_after more e v w o a.entry.arg_tys (parts_under (kind p t) g.meaning g.pick t s x) (λ vs. each_holds_under p g.meaning g.pick args o.inputs vs e) u k

@@ -11,7 +11,6 @@ use Rattle.isle_model.specs.rules.Program.{Program, Kind, a_variant, a_struct, a
 use Rattle.isle_model.specs.rules.Typed.{TypedPattern, match_bind, match_var, match_bool, match_int, match_prim, match_term, match_any, match_and, TypedPatterns, no_typed_pattern, typed_pattern_and, TypedExpr, make_term, make_var, make_bool, make_int, make_prim, make_let, TypedExprs, no_typed_expr, typed_expr_and, TypedLets, no_typed_let, typed_let_and, TypedIfLet, TypedRule}
 use Rattle.isle_model.specs.sites.Sites.{Constraint, is_variant, is_struct, is_bool, is_int, is_prim, is_present, SiteTerm, bool_term, int_term, prim_term, argument, extractor_call, constructor_call, pick_of, variant_made, variant_field, struct_made, struct_field, some_made, some_part, tuple_part, no_site, SiteTerms, no_site_term, site_term_and}
 use Rattle.isle_model.specs.sites.Demands.{Demands, demands_of, site_term_eq, Visit, visit_start, making, asking, equating, iterating, calling, binding, or_no_site, var_site, from_to, pattern_count, Opened, output_sites, part_sites, open_call, open_term, visit_pattern, visit_each, visit_all, Valued, ValuedAll, visit_call, visit_term, visit_expr, visit_exprs, visit_lets, unwraps, asking_all, visit_args, visit_iflets, finished}
-use Rattle.isle_model.specs.sites.DemandedGates.{HasNoPartialMulti}
 use Rattle.isle_model.specs.sites.Serves.{constant_type}
 use Rattle.isle_model.specs.lists.Setting.{bool_type, expr_type}
 use Rattle.isle_model.specs.lists.Formed.{pattern_type, var_type, is_type, formed_pattern, formed_parts, formed_each, is_formed_expr, are_formed_args, formed_lets, formed_list, formed_iflets, is_formed_rule}
@@ -23,7 +22,7 @@ use Rattle.isle_laws_demands.proofs.matching.Grown.{equated}
 use Rattle.isle_laws_demands.proofs.matching.Patterns.{from_term as pattern_parts, from_part, from_bind, as_many}
 use Rattle.isle_laws_demands.proofs.matching.Rules.{rule_parts}
 use Rattle.isle_laws_demands.proofs.matching.SameExprs.{from_let, from_term, from_args, from_body}
-use Rattle.isle_laws_demands.proofs.matching.TypedParts.{HasTypedParts}
+use Rattle.isle_laws_lists.specs.WellTypedPrograms.{IsWellTypedProgram}
 use Rattle.isle_model.proofs.Either.{either}
 use Rattle.isle_laws_lists.proofs.FormedParts.{from_if, has_type}
 
@@ -261,7 +260,7 @@ module _ (p : Program) (n : ℕ) where
       (record { entry = e; flags = flags; infallible = infallible; there = there; call = q }, f, ap (form flags.multi (not infallible)) (sym (as_many_types args e.arg_tys m)))
   term_opens t e there unknown q s args m v f = absurd (term_known p t e there q)
 
-  module _ (neither : HasNoPartialMulti p) (fields : HasTypedParts p) where
+  module _ (well : IsWellTypedProgram p) where
     mutual
       pattern_after : (q : TypedPattern) (s : SiteTerm) (v : Visit) (vars more : List (ℕ × ℕ)) → formed_pattern p q vars ≡ Some more → IsValue p n s → VarsAre vars v → IsAfter v (visit_pattern p q s v) more
       pattern_after (match_bind ty x sub) s v vars more f m g =
@@ -355,14 +354,14 @@ module _ (p : Program) (n : ℕ) where
     term_gives : (t : ℕ) (e : TermEntry) → slice_get p.terms t ≡ Some e → (k : Kind) → kind p t ≡ k → kind_of e ≡ k → (v : Visit) (a : ValuedAll) → GivesAll v a e.arg_tys → Gives v (visit_term k t a)
     term_gives t e there (a_variant ty i) q r v a g =
         let s = variant_made ty i a.sites in
-        let f : IsValue p n s = (e.arg_tys, (fields.variants t e there ty i r).1, g.count, g.sites, refl) in
+        let f : IsValue p n s = (e.arg_tys, (well.parts.variants t e there ty i r).1, g.count, g.sites, refl) in
         record { onto = then_onto v a.visit (making (s ∷ []) a.visit) g.onto (made_one s a.visit f); site = f }
     term_gives t e there (a_struct ty) q r v a g =
         let s = struct_made ty a.sites in
-        let f : IsValue p n s = (e.arg_tys, (fields.structs t e there ty r).1, g.count, g.sites, refl) in
+        let f : IsValue p n s = (e.arg_tys, (well.parts.structs t e there ty r).1, g.count, g.sites, refl) in
         record { onto = then_onto v a.visit (making (s ∷ []) a.visit) g.onto (made_one s a.visit f); site = f }
     term_gives t e there (a_call flags infallible) q r v a g =
-        let c = call_gives flags.pure flags.multi flags.partial flags.rec t a.sites a.visit (λ m o. neither t (ap (λ k. (flags_of k).multi) q ∙ m) (ap (λ k. (flags_of k).partial) q ∙ o))
+        let c = call_gives flags.pure flags.multi flags.partial flags.rec t a.sites a.visit (λ m o. well.not_both t (ap (λ k. (flags_of k).multi) q ∙ m) (ap (λ k. (flags_of k).partial) q ∙ o))
         (λ i. (record { entry = e; flags = flags; infallible = infallible; there = there; call = q }, g.sites, refl)) in
         record { onto = then_onto v a.visit (visit_call flags t a.sites a.visit).visit g.onto c.onto; site = c.site }
     term_gives t e there unknown q r v a g = absurd (term_known p t e there q)
@@ -437,15 +436,15 @@ module _ (p : Program) (n : ℕ) where
     finished_onto false a f = onto_now a.visit
     finished_onto true a f = onto_making (some_made a.site ∷ []) a.visit ((form false true 1, (1, f, refl)), tt)
 
-pub rule_known : (p : Program) (n : ℕ) → HasNoPartialMulti p → HasTypedParts p → (r : TypedRule) → is_formed_rule p r ≡ true → length (arg_types p r.root_term) ≡ n → AreKnown p n (demands_of p r)
-rule_known p n neither fields r f e =
+pub rule_known : (p : Program) (n : ℕ) → IsWellTypedProgram p → (r : TypedRule) → is_formed_rule p r ≡ true → length (arg_types p r.root_term) ≡ n → AreKnown p n (demands_of p r)
+rule_known p n well r f e =
     let a = rule_parts p r f in
     let u = visit_args p 0 r.args visit_start in
     let w = visit_iflets p r.iflets u in
     let x = visit_expr p r.rhs w in
     let same : 0 + length a.entry.arg_tys ≡ n = (let l = ap (λ o. length (elim o as (λ _. List ℕ) [ None ↦ [] | Some i ↦ i.arg_tys ])) (sym a.there) ∙ e in omega (arith, l)) in
-    let first = args_after p n neither fields 0 r.args a.entry.arg_tys visit_start [] a.mid same a.args (λ y i. absurd (false≢true i)) in
-    let second = iflets_after p n neither fields r.iflets u a.mid a.vars a.iflets first.vars in
-    let third = expr_gives p n neither fields r.rhs w a.vars a.right second.vars in
-    (finished_onto p n neither fields (is_partial p r.root_term) x third.site).known
+    let first = args_after p n well 0 r.args a.entry.arg_tys visit_start [] a.mid same a.args (λ y i. absurd (false≢true i)) in
+    let second = iflets_after p n well r.iflets u a.mid a.vars a.iflets first.vars in
+    let third = expr_gives p n well r.rhs w a.vars a.right second.vars in
+    (finished_onto p n well (is_partial p r.root_term) x third.site).known
     (third.onto.known (second.onto.known (first.onto.known (record { made = λ y i. absurd i; equal = λ y i. absurd i }))))

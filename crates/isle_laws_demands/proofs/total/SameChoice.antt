@@ -1,11 +1,9 @@
 -- What is chosen under maps that agree with total functions and serve, and its outcome, are of the functions alone.
-use Rattle.std.proofs.Common.{◌≡◌, ℕ, suc, Bool, true, false, List, [], ◌∷◌, Option, Some, None, is_some, Contains, if◌then◌else◌, refl, sym, ap, ◌∙◌, subst, inl, inr}
+use Rattle.std.proofs.Common.{◌≡◌, ℕ, suc, true, false, List, [], ◌∷◌, Option, Some, None, is_some, Contains, if◌then◌else◌, refl, sym, ap, ◌∙◌, subst, inl, inr}
 use Rattle.std.specs.Ordering.{int_cmp, is_lt}
 use Rattle.isle_laws_demands.proofs.outcomes.Outcomes.{with_its_sites}
 use Rattle.isle_laws_demands.proofs.matching.ToldApart.{still_there}
 use Rattle.isle_laws_demands.proofs.overlaps.Overlaps.{bool_same}
-use Rattle.isle_model.specs.lists.Syntax.{Definition}
-use Rattle.isle_model.specs.lists.Elaborated.{TypedRules}
 use Rattle.isle_model.specs.rules.Values.{Value, args_well_typed}
 use Rattle.isle_model.specs.rules.Meaning.{Meaning, impure_answer}
 use Rattle.isle_model.specs.rules.Matching.{Vars, matches}
@@ -20,42 +18,36 @@ use Rattle.isle_model.specs.sites.DemandedGates.{CanBeTested}
 use Rattle.isle_model.specs.sites.Closure.{DemandsHold}
 use Rattle.isle_model.specs.sites.Serves.{fits_constructor, Serves}
 use Rattle.isle_model.specs.trees.Run.{run, world_of}
-use Rattle.isle_model.specs.claims.Environments.{TypesRead, IsElaborated, program_of}
 use Rattle.isle_model.proofs.Either.{either}
 use Rattle.isle_model.proofs.Elements.{In, contains_from_in}
 use Rattle.isle_model.proofs.Members.{in_head}
 use Rattle.isle_model.proofs.Options.{is_there}
-use Rattle.isle_laws_lists.proofs.FormedRules.{rules_are_formed}
-use Rattle.isle_laws_lists.proofs.TypedRules as typed
-use Rattle.isle_laws_runs.specs.WithoutMulti.{CallsNoMulti}
+use Rattle.isle_model.specs.rules.CallsNoMulti.{CallsNoMulti}
 use Rattle.isle_laws_runs.proofs.picks.NoIterators.{calls_no_multi}
 use Rattle.isle_laws_runs.proofs.picks.OnePick.{bag_as_plain_lem}
 use Rattle.isle_laws_runs.proofs.picks.PlainMatching.{matches_as_plain_lem, ends_as_plain_lem}
 use Rattle.isle_laws_runs.proofs.taking.CallsIn.{CallsOnly, Known, InOrder}
 use Rattle.isle_laws_runs.proofs.taking.FollowedCalls.{follow, result_after}
 use Rattle.isle_laws_demands.specs.MatchLaws.{IsTried}
-use Rattle.isle_laws_demands.proofs.visits.Calls.{calls_such}
-use Rattle.isle_laws_demands.proofs.visits.Declared.{program_not_both}
-use Rattle.isle_laws_demands.proofs.visits.Elaborated.{elaborated_rules_demand_gates_lem}
-use Rattle.isle_laws_demands.proofs.matching.Answered.{fits_there, is_answered}
+use Rattle.isle_model.proofs.CalledTerms.{calls_such}
+use Rattle.isle_laws_lists.specs.WellTypedPrograms.{IsWellTypedProgram}
+use Rattle.isle_laws_demands.proofs.visits.BuiltSets.{of_term}
+use Rattle.isle_laws_demands.proofs.visits.Rules.{well_typed_rules_demand_gates_lem}
+use Rattle.isle_laws_demands.proofs.matching.Answered.{fits_there}
 use Rattle.isle_laws_demands.proofs.matching.Contents.{Given}
-use Rattle.isle_laws_demands.proofs.matching.TypedParts.{program_has_typed_parts}
-use Rattle.isle_laws_demands.proofs.matching.Visits.{given, of_term, tried, visits_match_lem}
+use Rattle.isle_laws_demands.proofs.matching.Visits.{given, tried, visits_match_lem}
 use Rattle.isle_laws_demands.proofs.outcomes.Evals.{IsServedCall, MayBeCalled}
 use Rattle.isle_laws_demands.proofs.outcomes.RightSides.{right_follows}
-use Rattle.isle_laws_demands.specs.TotalLaws.{Restricts, TotalMeaningsHaveOneOutcome, TotalMeaning, Agrees, ChoiceIsOfFunctions}
+use Rattle.isle_laws_demands.specs.TotalLaws.{Restricts, TotalMeaningsHaveOneOutcome, TotalMeaning, ChoiceIsOfFunctions}
 use Rattle.isle_laws_demands.proofs.total.CallsMade.{rule_makes}
 use Rattle.isle_laws_demands.proofs.total.Total.{total_meanings_serve_lem, agreeing_maps_tell_apart_lem}
-use Rattle.isle_laws_demands.proofs.total.SameContents.{demands_hold, outcome_same}
+use Rattle.isle_laws_demands.proofs.total.SameContents.{TwoMaps, demands_hold, outcome_same}
 
 none_there : {X : Type 0} (o : Option X) → is_some o ≡ false → o ≡ None
 none_there None h = refl
 none_there (Some x) h = absurd (cc)
 
-module _ (e : TypesRead) (defs : List Definition) (expand : Bool) (rules : TypedRules) (h : IsElaborated e defs expand rules) (t : ℕ) where
-  abbrev p : Program
-  p = program_of e defs rules.rules
-
+module _ (p : Program) (h : IsWellTypedProgram p) (t : ℕ) where
   abbrev rs : List TypedRule
   rs = rules_of p t
 
@@ -72,10 +64,10 @@ module _ (e : TypesRead) (defs : List Definition) (expand : Bool) (rules : Typed
       plain_matches = sym (still_there (matches_under p m [] r args)) ∙ ap is_some (matches_as_plain_lem p m [] r args (single r i))
 
       matched_holds : is_some (matches p m r args) ≡ true → DemandsHold m args [] (demands_of p r)
-      matched_holds a = (visits_match_lem e defs expand rules t m args r [] h is_tried).matching.0 (plain_matches ∙ a)
+      matched_holds a = (visits_match_lem p t m args r [] h is_tried).matching.0 (plain_matches ∙ a)
 
       holds_matched : DemandsHold m args [] (demands_of p r) → is_some (matches p m r args) ≡ true
-      holds_matched a = sym plain_matches ∙ (visits_match_lem e defs expand rules t m args r [] h is_tried).matching.1 a
+      holds_matched a = sym plain_matches ∙ (visits_match_lem p t m args r [] h is_tried).matching.1 a
 
       -- the outcome of a rule that matches, by the contents of sites
       record IsPlain (v : Vars) : Type 0 where
@@ -87,35 +79,44 @@ module _ (e : TypesRead) (defs : List Definition) (expand : Bool) (rules : Typed
       plain_outcome v matched =
           let c = single r i in
           let g : Given = given p m args [] in
-          let tr = tried e defs expand rules h t m args r [] is_tried in
-          let root = (of_term e defs expand rules h t r i).1 in
+          let tr = tried p t m args r [] h is_tried in
           let ev = with_its_sites (matches_under p m [] r args) v (matches_as_plain_lem p m [] r args c ∙ matched) in
           let answers : (t' : ℕ) → IsServedCall g (visit_rule p r).visit t' = λ t' ss n vs made gave held.
           fits_there (impure_answer m t' n) (fits_constructor p t' (kind p t'))
           (served.impures [] r t' n ss vs i (ap is_some matched) (contains_from_in (demands_of p r).made (constructor_call t' ss (suc n)) made) gave held) in
-          let f = right_follows g r tr.formed tr.pure (subst (λ n. args_well_typed p.types (arg_types p n) args ≡ true) (sym root) fit) (program_has_typed_parts e defs expand rules h) (program_not_both e defs expand rules h)
-          (is_answered p m args r [] tr.pick rs served i)
+          let f = right_follows g r tr.rule.formed tr.rule.pure_iflets tr.typed h tr.answered
           (calls_such (λ n. is_multi p n ≡ false) (MayBeCalled g (visit_rule p r).visit) (λ t' k. inr (k, answers t')) r.rhs c.right) ev.0 ev.1 in
           record { right = ap (right_side p m r) (sym ev.2) ∙ sym (ends_as_plain_lem p m [] r ev.0 c) ∙ f.right; order = f.order; only = f.only }
 
     -- 2. two maps
-    module _ (f : TotalMeaning) (m n : Meaning) (am : Agrees m f) (an : Agrees n f) (sm : Serves p m args rs) (sn : Serves p n args rs) where
+    module _ (f : TotalMeaning) (a b : Restricts p f args rs) where
+      abbrev m : Meaning
+      m = a.meaning
+
+      abbrev n : Meaning
+      n = b.meaning
+
+      abbrev two : TwoMaps
+      two = record { program = p; rules = rs; functions = f; args = args; pick = []; first = a; second = b }
+
+      abbrev turned : TwoMaps
+      turned = record { program = p; rules = rs; functions = f; args = args; pick = []; first = b; second = a }
+
       tested : (r : TypedRule) → Contains rs r → CanBeTested (demands_of p r)
-      tested r i =
-          (elaborated_rules_demand_gates_lem rules_are_formed typed.lists_agree e defs expand rules h r (contains_from_in rules.rules r (of_term e defs expand rules h t r i).0)).tested
+      tested r i = (well_typed_rules_demand_gates_lem p h r (of_term p t r i).0).tested
 
       matching_same : (r : TypedRule) → Contains rs r → is_some (matches p m r args) ≡ is_some (matches p n r args)
       matching_same r i =
           bool_same (is_some (matches p m r args)) (is_some (matches p n r args))
-          (λ a. holds_matched n sn r i (demands_hold p rs f m n am an args sm sn [] r i (tested r i) (rule_makes p r).0 (matched_holds m sm r i a)))
-          (λ a. holds_matched m sm r i (demands_hold p rs f n m an am args sn sm [] r i (tested r i) (rule_makes p r).0 (matched_holds n sn r i a)))
+          (λ h. holds_matched n b.serves r i (demands_hold two r i (tested r i) (rule_makes p r).0 (matched_holds m a.serves r i h)))
+          (λ h. holds_matched m a.serves r i (demands_hold turned r i (tested r i) (rule_makes p r).0 (matched_holds n b.serves r i h)))
 
       chosen_same : (qs : List TypedRule) → ((r : TypedRule) → In qs r → Contains rs r) → chosen p m qs args ≡ chosen p n qs args
       chosen_same [] g = refl
       chosen_same (r ∷ qs) g =
-          let a = matching_same r (g r (inl refl)) in
-          let b = chosen_same qs (λ s i. g s (inr i)) in
-          λ j. if a j then higher r (b j) else b j
+          let here = matching_same r (g r (inl refl)) in
+          let rest = chosen_same qs (λ s i. g s (inr i)) in
+          λ j. if here j then higher r (rest j) else rest j
 
       -- what is chosen is one of the rules
       abbrev IsListed : Option TypedRule → Type 0
@@ -133,17 +134,17 @@ module _ (e : TypesRead) (defs : List Definition) (expand : Bool) (rules : Typed
           either IsListed (is_some (matches p m r args)) (higher r (chosen p m qs args)) (chosen p m qs args) (higher_listed r (chosen p m qs args) (g r (inl refl)) rest) rest
 
       rule_same : (r : TypedRule) → Contains rs r → (o : Option Vars) → matches p m r args ≡ o → with_vars p m r (matches p m r args) ≡ with_vars p n r (matches p n r args)
-      rule_same r i None a =
-          ap (with_vars p m r) a ∙ sym (ap (with_vars p n r) (none_there (matches p n r args) (sym (matching_same r i) ∙ ap is_some a)))
-      rule_same r i (Some v) a =
-          let mm : is_some (matches p m r args) ≡ true = ap is_some a in
+      rule_same r i None e =
+          ap (with_vars p m r) e ∙ sym (ap (with_vars p n r) (none_there (matches p n r args) (sym (matching_same r i) ∙ ap is_some e)))
+      rule_same r i (Some v) e =
+          let mm : is_some (matches p m r args) ≡ true = ap is_some e in
           let mn : is_some (matches p n r args) ≡ true = sym (matching_same r i) ∙ mm in
           let w = is_there (matches p n r args) mn in
-          let x = plain_outcome m sm r i v a in
-          let y = plain_outcome n sn r i w.0 w.1 in
+          let x = plain_outcome m a.serves r i v e in
+          let y = plain_outcome n b.serves r i w.0 w.1 in
           let made = rule_makes p r in
-          ap (with_vars p m r) a ∙ x.right
-          ∙ outcome_same p rs f m n am an args sm sn [] r i mm mn made.0 x.order (result_of p r) made.1 x.only
+          ap (with_vars p m r) e ∙ x.right
+          ∙ outcome_same two r i mm mn made.0 x.order (result_of p r) made.1 x.only
           ∙ sym y.right ∙ sym (ap (with_vars p n r) w.1)
 
       of_chosen : (o : Option TypedRule) → IsListed o → outcome_of_rule p m args o ≡ outcome_of_rule p n args o
@@ -155,16 +156,15 @@ module _ (e : TypesRead) (defs : List Definition) (expand : Bool) (rules : Typed
           of_chosen (chosen p m rs args) (chosen_listed rs (λ r i. contains_from_in rs r i)) ∙ ap (outcome_of_rule p n args) (chosen_same rs (λ r i. contains_from_in rs r i))
 
 pub choice_is_of_functions_lem : ChoiceIsOfFunctions
-choice_is_of_functions_lem e defs expand rules t f m n args h quiet fit am sm an sn = choice_same e defs expand rules h t quiet args fit f m n am an sm sn
+choice_is_of_functions_lem p t f m n args h quiet fit am sm an sn = choice_same p h t quiet args fit f (record { meaning = m; agrees = am; serves = sm }) (record { meaning = n; agrees = an; serves = sn })
 
 -- 3. one outcome
 pub total_meanings_have_one_outcome_lem : TotalMeaningsHaveOneOutcome
-total_meanings_have_one_outcome_lem e defs expand rules t sites tree f args h quiet chooses total apart fit =
-    let p = program_of e defs rules.rules in
+total_meanings_have_one_outcome_lem p t sites tree f args h quiet chooses total apart fit =
     let rs = rules_of p t in
-    let first : Restricts p f args rs = total_meanings_serve_lem e defs expand rules t f args h total fit in
+    let first : Restricts p f args rs = total_meanings_serve_lem p t f args h total fit in
     let chosen_by : (r : Restricts p f args rs) → choice p r.meaning rs args ≡ choice p first.meaning rs args = λ r.
-    choice_is_of_functions_lem e defs expand rules t f r.meaning first.meaning args h quiet fit r.agrees r.serves first.agrees first.serves in
+    choice_is_of_functions_lem p t f r.meaning first.meaning args h quiet fit r.agrees r.serves first.agrees first.serves in
     let holds : (r : Restricts p f args rs) → (run tree (world_of p t sites r.meaning args) ≡ choice p r.meaning rs args) × MatchesOnce p r.meaning rs args = λ r.
     chooses r.meaning args fit r.serves (agreeing_maps_tell_apart_lem p f r.meaning rs apart r.agrees) in
     record {

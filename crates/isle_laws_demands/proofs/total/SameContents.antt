@@ -22,7 +22,7 @@ use Rattle.isle_laws_runs.proofs.taking.CallsIn.{CallsOnly, CallOnly, calls_more
 use Rattle.isle_laws_runs.proofs.taking.FollowedCalls.{Followed, goes_on, stops, then_follow, follow_with, answered_call, follow_call, follow, follow_there, result_after}
 use Rattle.isle_laws_demands.proofs.matching.Contents.{is_value}
 use Rattle.isle_laws_demands.proofs.outcomes.RightSides.{tested_calls}
-use Rattle.isle_laws_demands.specs.TotalLaws.{TotalMeaning, Agrees}
+use Rattle.isle_laws_demands.specs.TotalLaws.{TotalMeaning, Agrees, Restricts}
 use Rattle.isle_laws_demands.proofs.total.CallsMade.{AllMade, EachMade, MakesCalls}
 
 -- what is there is what is given
@@ -70,8 +70,50 @@ never_on : (a b : List Call) → stops a ≡ goes_on b → ⊥
 never_on a b e = cc
 
 -- 2. contents
-module _ (p : Program) (rs : List TypedRule) (f : TotalMeaning) (m n : Meaning) (am : Agrees m f) (an : Agrees n f) (args : List Value) (sm : Serves p m args rs) (sn : Serves p n args rs)
-    (k : Pick) (r : TypedRule) (listed : Contains rs r) where
+-- two maps that agree with total functions and serve rules of a program, on one list of arguments and under one pick
+pub record TwoMaps : Type 0 where
+  pub program : Program
+  pub rules : List TypedRule
+  pub functions : TotalMeaning
+  pub args : List Value
+  pub pick : Pick
+  pub first : Restricts program functions args rules
+  pub second : Restricts program functions args rules
+
+module _ (two : TwoMaps) (r : TypedRule) (listed : Contains two.rules r) where
+  abbrev p : Program
+  p = two.program
+
+  abbrev rs : List TypedRule
+  rs = two.rules
+
+  abbrev f : TotalMeaning
+  f = two.functions
+
+  abbrev args : List Value
+  args = two.args
+
+  abbrev k : Pick
+  k = two.pick
+
+  abbrev m : Meaning
+  m = two.first.meaning
+
+  abbrev n : Meaning
+  n = two.second.meaning
+
+  abbrev am : Agrees m f
+  am = two.first.agrees
+
+  abbrev an : Agrees n f
+  an = two.second.agrees
+
+  abbrev sm : Serves p m args rs
+  sm = two.first.serves
+
+  abbrev sn : Serves p n args rs
+  sn = two.second.serves
+
   abbrev d : Demands
   d = demands_of p r
 

@@ -8,7 +8,7 @@ use Rattle.isle_model.specs.sites.Demands.{Demands, site_term_eq, Visit, making,
 use Rattle.isle_model.proofs.Elements.{In}
 use Rattle.isle_model.specs.sites.DemandedGates.{GatesDemanded}
 use Rattle.isle_laws_demands.proofs.visits.Calls.{NewCalls, one_call}
-use Rattle.isle_laws_demands.proofs.visits.Gates.{AllIn, gates_stay}
+use Rattle.isle_laws_demands.proofs.visits.Gates.{asking_of, AllIn, gates_stay}
 use Rattle.isle_laws_demands.proofs.visits.Visited.{MayTest, good_stays, later_iterating, at_left, equated}
 use Rattle.isle_laws_demands.proofs.visits.Patterns.{term_opened}
 
@@ -22,7 +22,7 @@ adds_nothing : (d : Demands) → Adds d d
 adds_nothing d = record { more = λ x c. c; calls = λ x c. c; fresh = λ u i. inl i }
 
 pub still_tested : (d e : Demands) → Adds d e → (u : SiteTerm) → GatesDemanded true true d.constraints d.iterators u → GatesDemanded true true e.constraints e.iterators u
-still_tested d e a = gates_stay d.constraints e.constraints d.iterators e.iterators a.more a.calls true true
+still_tested d e a = gates_stay (asking_of d) (asking_of e) (record { constraints = a.more; calls = a.calls }) true true
 
 pub then_adds : (c d e : Demands) → Adds c d → Adds d e → Adds c e
 then_adds c d e a b = record {

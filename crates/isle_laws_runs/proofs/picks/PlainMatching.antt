@@ -12,7 +12,8 @@ use Rattle.isle_model.specs.sites.Demands.{from_to, pattern_count, Opened, outpu
 use Rattle.isle_model.specs.rules.Picks.{Pick, taken_answer, Sited, sited, SitedVars, sited_value, values_in, expr_site, expr_sites, input_sites, where_same, parts_under, holds_under, each_holds_under, all_hold_under, term_under, value_under, values_under, lets_under, args_hold_under, iflets_hold_under, apply_under, SitedLets, gives_sited, ends_sited, then_sited_lets, then_sited_body, eval_under, eval_all_under, eval_lets_under}
 use Rattle.isle_model.specs.rules.Typed.{TypedPattern, match_bind, match_var, match_bool, match_int, match_prim, match_term, match_any, match_and, TypedPatterns, no_typed_pattern, typed_pattern_and, TypedExpr, make_term, make_var, make_bool, make_int, make_prim, make_let, TypedExprs, no_typed_expr, typed_expr_and, TypedLets, no_typed_let, typed_let_and, TypedIfLet}
 use Rattle.isle_model.proofs.Options.{then_same}
-use Rattle.isle_laws_runs.specs.WithoutMulti.{WhereKnown, PatternCallsNoMulti, PatternsCallNoMulti, ExprCallsNoMulti, ExprsCallNoMulti, LetsCallNoMulti, ArgsCallNoMulti, IfLetsCallNoMulti, without_sites, MatchesAsPlain, EndsAsPlain}
+use Rattle.isle_model.specs.rules.CallsNoMulti.{WhereKnown, PatternCallsNoMulti, PatternsCallNoMulti, ExprCallsNoMulti, ExprsCallNoMulti, LetsCallNoMulti, ArgsCallNoMulti, IfLetsCallNoMulti}
+use Rattle.isle_laws_runs.specs.WithoutMulti.{without_sites, MatchesAsPlain, EndsAsPlain}
 
 -- 1. one after another
 then_without_sites : (o : Option SitedVars) (f : SitedVars → Option SitedVars) (g : Vars → Option Vars) → ((e : SitedVars) → without_sites (f e) ≡ g (values_in e)) → without_sites (then_option o f) ≡ then_option (without_sites o) g

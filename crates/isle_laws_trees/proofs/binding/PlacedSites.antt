@@ -1,15 +1,13 @@
 -- What a site of a built set is made of that is written in place isn't written in place itself.
-use Rattle.std.proofs.Common.{◌≡◌, ℕ, suc, Bool, true, false, List, [], ◌∷◌, length, Option, Some, None, slice_get, Contains, refl, ap, subst, inl, inr, arith}
+use Rattle.std.proofs.Common.{◌≡◌, ℕ, suc, true, false, [], ◌∷◌, length, Option, Some, None, slice_get, Contains, refl, ap, subst, inl, inr, arith}
 use Rattle.std.proofs.lemmas.Bool.{cases_Bool, false≢true}
 use Rattle.std.proofs.lemmas.Option.{slice_get_within}
-use Rattle.isle_model.specs.lists.Syntax.{Definition}
-use Rattle.isle_model.specs.lists.Elaborated.{TypedRules}
 use Rattle.isle_model.specs.rules.Program.{Program, arg_types}
 use Rattle.isle_model.specs.sites.Sites.{Site, int_site, prim_site, argument_site, make_variant_site, make_struct_site, match_tuple_site, SiteSet, SiteTerm, layer, unfold_site}
-use Rattle.isle_model.specs.sites.RuleSets.{IsBuilt}
 use Rattle.isle_model.specs.trees.Places.{is_in_place}
-use Rattle.isle_model.specs.claims.Environments.{TypesRead, IsElaborated, program_of}
 use Rattle.isle_model.proofs.Members.{nothing_in, in_alone}
+use Rattle.isle_laws_lists.specs.WellTypedPrograms.{IsWellTypedProgram}
+use Rattle.isle_laws_demands.proofs.visits.BuiltSets.{BuiltSet}
 use Rattle.isle_laws_runs.proofs.runs.Contents.{sources_in, unfolded_layer}
 use Rattle.isle_laws_demands.proofs.taken.BuiltSites.{sites_stand}
 use Rattle.isle_laws_demands.proofs.taken.Forms.{Form, form, a_value, IsOfForm}
@@ -27,24 +25,27 @@ placed_value p n f (make_struct_site ty []) q h g = g.4
 placed_value p n f (make_struct_site ty (x ∷ xs)) q h g = absurd (false≢true h)
 placed_value p n f _ q h g = absurd (false≢true h)
 
-module _ (e : TypesRead) (defs : List Definition) (expand : Bool) (rules : TypedRules) (t : ℕ) (set : SiteSet) (h : IsElaborated e defs expand rules) (b : IsBuilt (program_of e defs rules.rules) t set) where
+module _ (b : BuiltSet) (h : IsWellTypedProgram b.program) where
   abbrev p : Program
-  p = program_of e defs rules.rules
+  p = b.program
+
+  abbrev set : SiteSet
+  set = b.set
 
   abbrev n : ℕ
-  n = length (arg_types p t)
+  n = length (arg_types p b.term)
 
   several : (source : ℕ) (o : Option Site) (k : ℕ) → slice_get set.sites source ≡ o → is_in_place o ≡ true → IsOfForm p n (unfold_site set.sites source) (form false false (suc (suc k))) → ⊥
   several source None k at i f = false≢true i
   several source (Some x) k at i f =
-      let same = placed_value p n (unfold_site set.sites) x (form false false (suc (suc k))) i (subst (λ u. IsOfForm p n u (form false false (suc (suc k)))) (unfolded_layer set.sites b.sources source x at) f) in
+      let same = placed_value p n (unfold_site set.sites) x (form false false (suc (suc k))) i (subst (λ u. IsOfForm p n u (form false false (suc (suc k)))) (unfolded_layer set.sites b.built.sources source x at) f) in
       let c : suc (suc k) ≡ 1 = ap (λ (q : Form). q.count) same in
       omega (arith, c)
 
   of_tuple : (s source field : ℕ) → slice_get set.sites s ≡ Some (match_tuple_site source field) → is_in_place (slice_get set.sites source) ≡ false
   of_tuple s source field at =
-      let g = (sites_stand e defs expand rules t set h b s (slice_get_within set.sites s (match_tuple_site source field) at)).form in
-      let f = subst (λ u. IsOfForm p n u g.0) (unfolded_layer set.sites b.sources s (match_tuple_site source field) at) g.1 in
+      let g = (sites_stand b h s (slice_get_within set.sites s (match_tuple_site source field) at)).form in
+      let f = subst (λ u. IsOfForm p n u g.0) (unfolded_layer set.sites b.built.sources s (match_tuple_site source field) at) g.1 in
       elim (cases_Bool (is_in_place (slice_get set.sites source))) [
         | inl i ↦ absurd (several source (slice_get set.sites source) f.0 refl i f.1)
         | inr k ↦ k

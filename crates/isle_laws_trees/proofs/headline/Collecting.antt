@@ -7,8 +7,6 @@ use Rattle.std.proofs.lemmas.Option.{none-some, same_Some}
 use Rattle.std.proofs.lemmas.List.Elements.{All-contains, Contains-append_left, Contains-append_right}
 use Rattle.std.proofs.lemmas.List.Sorted.{IsPermutation-refl, IsPermutation-trans, IsPermutation-append}
 use Rattle.isle_model.specs.lists.Names.{IsDistinct}
-use Rattle.isle_model.specs.lists.Syntax.{Definition}
-use Rattle.isle_model.specs.lists.Elaborated.{TypedRules}
 use Rattle.isle_model.specs.rules.Values.{Value, args_well_typed}
 use Rattle.isle_model.specs.rules.Meaning.{Content, Meaning}
 use Rattle.isle_model.specs.rules.Program.{Program, arg_types, rules_of, is_multi, numbers_from}
@@ -18,7 +16,7 @@ use Rattle.isle_model.specs.sites.Sites.{Constraint, SetRule, SiteSet, SiteTerm,
 use Rattle.isle_model.specs.sites.Demands.{demands_of}
 use Rattle.isle_model.specs.sites.Gates.{gate_demanded}
 use Rattle.isle_model.specs.sites.Overlap.{BuiltRule, built_rules}
-use Rattle.isle_model.specs.sites.RuleSets.{IsRuleOf, IsBuilt}
+use Rattle.isle_model.specs.sites.RuleSets.{IsRuleOf}
 use Rattle.isle_model.specs.sites.Serves.{Serves, TellsConstantsApart}
 use Rattle.isle_model.specs.trees.Trees.{Tree}
 use Rattle.isle_model.specs.trees.Places.{is_in, below, all_below}
@@ -28,9 +26,8 @@ use Rattle.isle_model.specs.trees.WellBuilt.{tests_site, IsWellBuiltRule, IsWell
 use Rattle.isle_model.specs.trees.Collects.{calls_in, content_at, demands_hold, as_list, result_in, sites_of_rule, calls_gone_over, set_bag, IsCollectedRule, IsCollectedSet, ServesSet, Collects, HasCollectedResults}
 use Rattle.isle_model.specs.trees.SetRuns.{tested_sites}
 use Rattle.isle_model.specs.trees.Best.{IsBestTree}
-use Rattle.isle_model.specs.claims.Environments.{TypesRead, IsElaborated, program_of}
 use Rattle.isle_model.specs.claims.Layers.{IsCheckable}
-use Rattle.isle_model.specs.claims.SetMeanings.{BuiltSetsAreCollected}
+use Rattle.isle_laws_demands.specs.BuiltLaws.{BuiltSetsAreCollected}
 use Rattle.isle_model.proofs.Elements.{in_from_contains, contains_from_in}
 use Rattle.isle_model.proofs.Bags.{flat_map_same}
 use Rattle.isle_model.proofs.DistinctJoined.{distinct_filter, distinct_map}
@@ -39,6 +36,8 @@ use Rattle.isle_model.proofs.Numbers.{numbers_below, numbers_all, numbers_distin
 use Rattle.isle_model.proofs.Options.{is_there}
 use Rattle.isle_model.proofs.Positions.{distinct_nil}
 use Rattle.isle_model.proofs.SitesMade.{once_with}
+use Rattle.isle_laws_lists.specs.WellTypedPrograms.{IsWellTypedProgram}
+use Rattle.isle_laws_demands.proofs.visits.BuiltSets.{BuiltSet, ServingMeaning}
 use Rattle.isle_laws_runs.specs.Orders.{Within, OrderedFrom}
 use Rattle.isle_laws_runs.proofs.picks.Calls.{unfold_once, calls_below, IsEarlier, numbers_ordered}
 use Rattle.isle_laws_runs.proofs.picks.FirstCall.{results_are_of_places_lem}
@@ -78,12 +77,49 @@ pub record CollectingLaws : Type 0 where
   pub match : BuiltSetsMatchByDemands
   pub results : BuiltSetsHoldResults
 
-module _ (laws : CollectingLaws) (e : TypesRead) (defs : List Definition) (expand : Bool) (rules : TypedRules) (t : ℕ) (set : SiteSet) (h : IsElaborated e defs expand rules) (b : IsBuilt (program_of e defs rules.rules) t set)
-    (check : IsCheckable (program_of e defs rules.rules)) (multi : is_multi (program_of e defs rules.rules) t ≡ true) (results : All (HasCollectedResults (program_of e defs rules.rules)) (rules_of (program_of e defs rules.rules) t))
-    (m : Meaning) (args : List Value) (typed : IsTrue (args_well_typed (program_of e defs rules.rules).types (arg_types (program_of e defs rules.rules) t) args))
-    (served : Serves (program_of e defs rules.rules) m args (rules_of (program_of e defs rules.rules) t)) (apart : TellsConstantsApart (program_of e defs rules.rules) m (rules_of (program_of e defs rules.rules) t)) where
+-- a built set whose rules' results are collected: of a well-typed program whose rules can be told apart, and of a multi term
+pub record IsCollectedFrom (b : BuiltSet) : Type 0 where
+  pub well_typed : IsWellTypedProgram b.program
+  pub checkable : IsCheckable b.program
+  pub several : is_multi b.program b.term ≡ true
+  pub results : All (HasCollectedResults b.program) (rules_of b.program b.term)
+
+module _ (laws : CollectingLaws) (b : BuiltSet) (of : IsCollectedFrom b) (serving : ServingMeaning b.program b.term) where
   abbrev p : Program
-  p = program_of e defs rules.rules
+  p = b.program
+
+  abbrev t : ℕ
+  t = b.term
+
+  abbrev set : SiteSet
+  set = b.set
+
+  abbrev h : IsWellTypedProgram p
+  h = of.well_typed
+
+  abbrev check : IsCheckable p
+  check = of.checkable
+
+  abbrev multi : is_multi p t ≡ true
+  multi = of.several
+
+  abbrev results : All (HasCollectedResults p) (rules_of p t)
+  results = of.results
+
+  abbrev m : Meaning
+  m = serving.meaning
+
+  abbrev args : List Value
+  args = serving.args
+
+  abbrev typed : IsTrue (args_well_typed p.types (arg_types p t) args)
+  typed = serving.typed
+
+  abbrev served : Serves p m args (rules_of p t)
+  served = serving.serves
+
+  abbrev apart : TellsConstantsApart p m (rules_of p t)
+  apart = serving.apart
 
   abbrev rs : List TypedRule
   rs = rules_of p t
@@ -94,14 +130,14 @@ module _ (laws : CollectingLaws) (e : TypesRead) (defs : List Definition) (expan
   -- 2. the set, its world and its best trees
   collected : IsCollectedSet set
   collected =
-      laws.collected e defs expand rules t set h b multi
+      laws.collected p t set h b.built multi
       (all_members (λ (k : BuiltRule). HasCollectedResults p k.rule) (built_rules p t) (λ k c. All-contains (HasCollectedResults p) rs k.rule results (built_listed p t k c)))
 
   rule_of : (r : SetRule) → Contains set.rules r → IsCollectedRule set.sites r
   rule_of r c = All-contains (IsCollectedRule set.sites) set.rules r collected.rules c
 
   serves : ServesSet set w
-  serves = laws.serve e defs expand rules t set h b (all_members (λ (r : SetRule). r.impure ≡ []) set.rules (λ r c. (rule_of r c).no_calls)) m args typed served apart
+  serves = laws.serve p t set h b.built (all_members (λ (r : SetRule). r.impure ≡ []) set.rules (λ r c. (rule_of r c).no_calls)) m args typed served apart
 
   gate_at : (r : SetRule) → Contains set.rules r → (s u : ℕ) → Contains (sites_of_rule r) s → Contains (below (suc s) set.sites s) u → IsTrue (gate_demanded r (slice_get set.sites u))
   gate_at r c s u i k = All-contains (λ x. IsTrue (gate_demanded r (slice_get set.sites x))) (all_below set.sites (sites_of_rule r)) u (rule_of r c).gates (in_flat_map (λ x. below (suc x) set.sites x) (sites_of_rule r) s u i k)
@@ -131,19 +167,19 @@ module _ (laws : CollectingLaws) (e : TypesRead) (defs : List Definition) (expan
 
   well_built_rule : (r : SetRule) → Contains set.rules r → IsWellBuiltRule set.sites r
   well_built_rule r c =
-      let a = rule_at p set.sites (built_rules p t) set.rules b.rules r (in_from_contains set.rules r c) in
+      let a = rule_at p set.sites (built_rules p t) set.rules b.built.rules r (in_from_contains set.rules r c) in
       record {
         asks_once = λ s d i. first_constraint r.constraints a.2.constraints.once s d (in_from_contains r.constraints (s, d) i);
-        asks_or_goes_over = laws.apart e defs expand rules t set h b r c;
+        asks_or_goes_over = laws.apart p t set h b.built r c;
         gates = λ s u k i. gate_at r c s u (tested_site r s k) i;
       }
 
   well_built : IsWellBuilt set
-  well_built = record { sources = b.sources; sites_once = collected.once; each = λ i r at. well_built_rule r (member_from_get set.rules i r at) }
+  well_built = record { sources = b.built.sources; sites_once = collected.once; each = λ i r at. well_built_rule r (member_from_get set.rules i r at) }
 
   collects_set : (tree : Tree) → IsBestTree set tree → Collects (run tree w) (set_bag set w)
   collects_set tree best =
-      sound_trees_collect_lem set tree w collected serves multi (best_trees_are_sound_lem set true tree well_built (λ q. laws.one_priority e defs expand rules t set h b multi) best)
+      sound_trees_collect_lem set tree w collected serves multi (best_trees_are_sound_lem set true tree well_built (λ q. laws.one_priority p t set h b.built multi) best)
 
   -- 3. the calls that a rule goes over, in the order of the set
   abbrev term_at : ℕ → SiteTerm
@@ -160,16 +196,16 @@ module _ (laws : CollectingLaws) (e : TypesRead) (defs : List Definition) (expan
     member = member_from_get set.rules i r x.there
 
     is_rule : IsRuleOf p set.sites x.typed r
-    is_rule = one_rule p t set x.typed r b x.one
+    is_rule = one_rule p t set x.typed r b.built x.one
 
     ordered : OrderedFrom [] (calls_gone_over set r)
     ordered = numbers_ordered term_at over [] 0 set.sites earlier
       where
         earlier : (s : ℕ) → 0 ≤ s → over s ≡ true → (c : SiteTerm) → Contains (calls_in (term_at s)) c → IsEarlier term_at over [] 0 s c
         earlier s l o c k =
-            let d = calls_below set.sites b.sources s c k in
-            let within = below_within set.sites b.sources (suc s) s d.0 d.2 in
-            let less = b.sources d.0 d.1 (subst (λ q. Contains (sources_in q) d.1) (sym d.3) (in_head d.1 [])) in
+            let d = calls_below set.sites b.built.sources s c k in
+            let within = below_within set.sites b.built.sources (suc s) s d.0 d.2 in
+            let less = b.built.sources d.0 d.1 (subst (λ q. Contains (sources_in q) d.1) (sym d.3) (in_head d.1 [])) in
             let gate : over d.1 ≡ true = sym (ap (gate_demanded r) d.3) ∙ gate_at r member s d.0 (of_calls r s (member_found s r.iterators o)) d.2 in
             inr (d.1, gate, omega arith, omega (arith, within, less), d.4)
 
@@ -179,7 +215,7 @@ module _ (laws : CollectingLaws) (e : TypesRead) (defs : List Definition) (expan
     distinct : IsDistinct (calls_gone_over set r)
     distinct =
         distinct_map term_at (filter over (numbers_from 0 set.sites)) (distinct_filter over (numbers_from 0 set.sites) (numbers_distinct 0 set.sites))
-        (λ a c j k same. unfold_once set.sites b.sources a c collected.once (known a j) (known c k) same)
+        (λ a c j k same. unfold_once set.sites b.built.sources a c collected.once (known a j) (known c k) same)
 
     of_set : Within (calls_gone_over set r) (multi_calls p x.typed.rule)
     of_set c k =
@@ -206,7 +242,7 @@ module _ (laws : CollectingLaws) (e : TypesRead) (defs : List Definition) (expan
     result_same k c = by (matches_under p m k x.typed.rule args) refl
       where
         matched : is_some (matches_under p m k x.typed.rule args) ≡ demands_hold w k r
-        matched = laws.match e defs expand rules t set h b m args typed served apart x.typed r k x.one c
+        matched = laws.match p t set h b.built m args typed served apart x.typed r k x.one c
 
         by : (o : Option SitedVars) → matches_under p m k x.typed.rule args ≡ o → results_under p m args x.typed.rule k ≡ result_in w r k
         by None q =
@@ -214,7 +250,7 @@ module _ (laws : CollectingLaws) (e : TypesRead) (defs : List Definition) (expan
             ∙ sym (cond-false (demands_hold w k r) (as_list (content_at w k r.result)) [] (sym matched ∙ ap is_some q))
         by (Some vars) q =
             ap (results_with p m k x.typed.rule) q
-            ∙ laws.results e defs expand rules t set h b m args typed served apart x.typed r k vars x.one (rule_of r member).no_calls c q
+            ∙ laws.results p t set h b.built m args typed served apart x.typed r k vars x.one (rule_of r member).no_calls c q
             ∙ sym (cond-true (demands_hold w k r) (as_list (content_at w k r.result)) [] (sym matched ∙ ap is_some q))
 
     rule_bag : IsPermutation (flat_map (results_under p m args x.typed.rule) (picks p m args x.typed.rule)) (flat_map (result_in w r) (picks_over m args [] (calls_gone_over set r)))
@@ -238,9 +274,9 @@ module _ (laws : CollectingLaws) (e : TypesRead) (defs : List Definition) (expan
   same_bag =
       same_bags typed_results built_results rs set.rules
       (λ i r at.
-      let x = of_typed_rule p t set b all i r at in
+      let x = of_typed_rule p t set b.built all i r at in
       (x.0.built, x.0.there, subst (λ q. IsPermutation (typed_results q) (built_results x.0.built)) x.1 (rule_bag i x.0)))
-      (λ i r at. let x = of_set_rule p t set b i r at in (x.0.typed.rule, typed_here p t set b all i x.0))
+      (λ i r at. let x = of_set_rule p t set b.built i r at in (x.0.typed.rule, typed_here p t set b.built all i x.0))
 
   pub collects : (tree : Tree) → IsBestTree set tree → Collects (run tree w) (bag p m rs args)
   collects tree best =
@@ -248,5 +284,6 @@ module _ (laws : CollectingLaws) (e : TypesRead) (defs : List Definition) (expan
       record { calls = c.calls; ending = c.ending; same = IsPermutation-trans (bag p m rs args) (set_bag set w) (run tree w).results same_bag c.same }
 
 pub best_trees_collect_the_bag_lem : CollectingLaws → BestTreesCollectTheBag
-best_trees_collect_the_bag_lem laws e defs expand rules t set h b check tree best multi results m args typed served apart =
-    collects laws e defs expand rules t set h b check multi results m args typed served apart tree best
+best_trees_collect_the_bag_lem laws p t set h b check tree best multi results m args typed served apart =
+    collects laws (record { program = p; term = t; set = set; built = b }) (record { well_typed = h; checkable = check; several = multi; results = results })
+    (record { meaning = m; args = args; typed = typed; serves = served; apart = apart }) tree best

@@ -7,8 +7,11 @@ use Rattle.isle_model.specs.rules.Typed.{TypedExpr, TypedExprs, TypedLets}
 use Rattle.isle_model.specs.lists.Setting.{Setting, Scope, entry_named, is_callable}
 use Rattle.isle_model.specs.lists.Elaborates.{ElaboratesExpr, ElaboratesArgs, ElaboratesLets, a_call, converted_call, a_variable, converted_variable, truth_expr, integer_expr, constant_expr, let_in, no_arg, an_arg, no_def, a_def}
 
--- where each term is such that these flags let be called
-module _ (e : Setting) (flags : Flags) (P : ℕ → Type 0) (such : (name : ℕ) (t : TermEntry) → entry_named name e.terms ≡ Some t → is_callable flags t.kind ≡ true → P t.id) where
+-- each term that these flags let be called is such
+abbrev pub CallableAreSuch : Setting → Flags → (ℕ → Type 0) → Type 0
+CallableAreSuch e flags P = (name : ℕ) (t : TermEntry) → entry_named name e.terms ≡ Some t → is_callable flags t.kind ≡ true → P t.id
+
+module _ (e : Setting) (flags : Flags) (P : ℕ → Type 0) (such : CallableAreSuch e flags P) where
   mutual
     pub expr_calls : {d n : ℕ} {ty : Option ℕ} {x : ExprTree} {s t : Scope} {q : TypedExpr} → ElaboratesExpr e flags d x ty s q t n → CallsAlone P q
     expr_calls (a_call {entry = entry} i j k g) = (such _ entry i k, args_call g)
