@@ -83,7 +83,11 @@ kept s t o same le = subst (λ vs. Descends (length t.vars) vs) (sym same) (desc
 pushed : (s : Scope) (x : List ℕ) (ty : ℕ) → InOrder s → InOrder (bound s x ty)
 pushed s x ty d = (let m = length_push s.vars (new_var s.vars (number (with_name s.names x) x) ty) in omega (arith, m), d)
 
-module _ (e : Setting) (rules : List TypedRule) (at_ids : (k : ℕ) (t : TermEntry) → slice_get e.terms k ≡ Some t → t.id ≡ k) where
+-- each term of a setting stands at the id that it says
+abbrev pub HasTermsAtIds : Setting → Type 0
+HasTermsAtIds e = (k : ℕ) (t : TermEntry) → slice_get e.terms k ≡ Some t → t.id ≡ k
+
+module _ (e : Setting) (rules : List TypedRule) (at_ids : HasTermsAtIds e) where
   abbrev p : Program
   p = program_in e rules
 
