@@ -6,5 +6,4 @@ pub mod RefusedAgain
 pub mod RulesAgain
 pub mod SetsServed
 pub mod TotalBags
-pub mod TwoTables
 pub mod Uses

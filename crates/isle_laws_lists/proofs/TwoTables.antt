@@ -1,6 +1,6 @@
 -- Rules elaborate alike by two tables of terms that say the same of terms with the same texts for names, each from the names
 -- that its table speaks of.
-use Rattle.std.proofs.Common.{◌≡◌, ℕ, zero, suc, ◌+◌, Bool, true, false, not, cond, ◌&&◌, ◌||◌, if◌then◌else◌, List, [], ◌∷◌, ◌++◌, length, Option, Some, None, slice_get, is_some, refl, sym, ap, ◌∙◌, subst, eqb-true, inl, inr}
+use Rattle.std.proofs.Common.{◌≡◌, ℕ, zero, suc, ◌+◌, Bool, true, false, not, cond, ◌&&◌, ◌||◌, if◌then◌else◌, List, [], ◌∷◌, ◌++◌, length, Option, Some, None, slice_get, is_some, refl, sym, ap, ◌∙◌, subst, eqb-true, nat_le, inl, inr}
 use Rattle.std.proofs.Math.Path.{ap₂}
 use Rattle.std.specs.List.{position_from}
 use Rattle.std.specs.Prelude.{unwrap_or, ◌==◌}
@@ -16,10 +16,13 @@ use Rattle.isle_model.specs.rules.Outcome.{then_option}
 use Rattle.isle_model.specs.rules.Typed.{TypedPattern, match_bind, match_var, match_prim, match_any, TypedPatterns, TypedExpr, make_var, make_prim, TypedExprs, TypedLets, typed_let_and, TypedVar, TypedIfLet, TypedRule}
 use Rattle.isle_model.specs.lists.Setting.{Setting, Scope, new_scope, new_var, met, bound, after_let, var_named, var_of, entry_named, term_of, type_of_name, type_of_constant, on_lhs, allow, that, converter, pattern_converter, expr_converter, has_extractor, has_constructor, is_callable, is_matchable, declared_flags, entry_template, kind_template, template_in, is_expected}
 use Rattle.isle_model.specs.lists.Expansions.{term_name_at}
-use Rattle.isle_model.specs.lists.Elaborated.{with_own_name, own_number, rule_of_sides}
+use Rattle.isle_model.specs.lists.Typings.{Typing}
+use Rattle.isle_model.specs.lists.Elaborated.{with_own_name, own_number, rule_of_sides, elaborated_rule, few_enough, most_expansions}
 use Rattle.isle_model.specs.lists.Elaborates.{ElaboratesPattern, ElaboratesParts, ElaboratesEach, new_name, bound_name, binding, a_truth, an_integer, a_constant, a_term, a_template, a_conversion, anything, all_of, no_part, part, no_more, one_more, ElaboratesExpr, ElaboratesArgs, ElaboratesLets, a_call, converted_call, a_variable, converted_variable, truth_expr, integer_expr, constant_expr, let_in, no_arg, an_arg, no_def, a_def, ElaboratesIfLets, no_iflet, an_iflet, ElaboratesRule, a_rule, ElaboratesRules, no_rule, one_rule}
 use Rattle.isle_model.proofs.Names.{found, has_at, same_test, has_new, get_kept, distinct_names}
+use Rattle.isle_laws_lists.specs.FurtherNames.{AreThereAlike}
 use Rattle.isle_laws_lists.proofs.Typings.{then_gives}
+use Rattle.isle_laws_lists.proofs.TypedRules.{rules_agree}
 
 -- 1. names
 -- these names stand at their numbers among those
@@ -153,18 +156,73 @@ that_passes p (Some u) t h =
     ]
 
 -- 5. two tables
--- a setting, but for its terms, of which there are two lists; each speaks of names that stand at their numbers
-pub record TwoTables (b : Setting) (ts us : List TermEntry) (ns ms : List (List ℕ)) : Type 0 where
-  pub terms : EntriesAlike ns ms ts us
-  pub type_names : (i k : ℕ) → slice_get b.type_names i ≡ Some k → OfOneText ns ms k k
-  pub constants : (i : ℕ) (c : ℕ × ℕ) → slice_get b.constants i ≡ Some c → OfOneText ns ms c.0 c.0
+-- a setting, with names that it speaks of, and other terms for it, with names that these speak of: the entries are alike, and
+-- each name of a type or of a constant has one number
+pub record TwoTables : Type 0 where
+  pub setting : Setting
+  pub names : List (List ℕ)
+  pub other_terms : List TermEntry
+  pub other_names : List (List ℕ)
+  pub terms : EntriesAlike names other_names setting.terms other_terms
+  pub type_names : (i k : ℕ) → slice_get setting.type_names i ≡ Some k → OfOneText names other_names k k
+  pub constants : (i : ℕ) (c : ℕ × ℕ) → slice_get setting.constants i ≡ Some c → OfOneText names other_names c.0 c.0
 
-module _ (b : Setting) (ts us : List TermEntry) (ns ms : List (List ℕ)) (two : TwoTables b ts us ns ms) where
+-- the setting with the other terms
+abbrev pub other_setting : TwoTables → Setting
+other_setting two = record two.setting { terms = two.other_terms }
+
+-- the second table first
+kind_turned : (k l : TermKindEntry) → KindAlike k l → KindAlike l k
+kind_turned k l h = record {
+  extractor = sym h.extractor;
+  makes = sym h.makes;
+  matchable = λ multi. sym (h.matchable multi);
+  callable = λ flags. sym (h.callable flags);
+  declared = sym h.declared;
+  template = sym h.template;
+}
+
+pub text_turned : (ns ms : List (List ℕ)) (k l : ℕ) → OfOneText ns ms k l → OfOneText ms ns l k
+text_turned ns ms k l h = (h.0, h.2, h.1)
+
+entry_turned : (ns ms : List (List ℕ)) (t u : TermEntry) → EntryAlike ns ms t u → EntryAlike ms ns u t
+entry_turned ns ms t u h = record {
+  name = t.name;
+  kind = t.kind;
+  same = sym (λ i. record (h.same i) { name = t.name; kind = t.kind });
+  named = subst (λ (x : TermEntry). OfOneText ms ns x.name t.name) (sym h.same) (text_turned ns ms t.name h.name h.named);
+  kinds = subst (λ (x : TermEntry). KindAlike x.kind t.kind) (sym h.same) (kind_turned t.kind h.kind h.kinds);
+}
+
+pub entries_turned : (ns ms : List (List ℕ)) (ts us : List TermEntry) → EntriesAlike ns ms ts us → EntriesAlike ms ns us ts
+entries_turned ns ms [] [] h = tt
+entries_turned ns ms [] (u ∷ us) h = absurd h
+entries_turned ns ms (t ∷ ts) [] h = absurd h
+entries_turned ns ms (t ∷ ts) (u ∷ us) h = (entry_turned ns ms t u h.0, entries_turned ns ms ts us h.1)
+
+abbrev pub turned : TwoTables → TwoTables
+turned two = record {
+  setting = other_setting two;
+  names = two.other_names;
+  other_terms = two.setting.terms;
+  other_names = two.names;
+  terms = entries_turned two.names two.other_names two.setting.terms two.other_terms two.terms;
+  type_names = λ i k h. text_turned two.names two.other_names k k (two.type_names i k h);
+  constants = λ i c h. text_turned two.names two.other_names c.0 c.0 (two.constants i c h);
+}
+
+module _ (two : TwoTables) where
   abbrev e : Setting
-  e = record b { terms = ts }
+  e = two.setting
 
   abbrev f : Setting
-  f = record b { terms = us }
+  f = other_setting two
+
+  abbrev ns : List (List ℕ)
+  ns = two.names
+
+  abbrev ms : List (List ℕ)
+  ms = two.other_names
 
   pub record Alike (s s' : Scope) : Type 0 where
     pub kept : AreKept ns s.names
@@ -173,6 +231,10 @@ module _ (b : Setting) (ts us : List TermEntry) (ns ms : List (List ℕ)) (two :
     pub once' : IsDistinct s'.names
     pub visible : VarsAlike s.names s'.names s.visible s'.visible
     pub count : length s'.vars ≡ length s.vars
+
+  -- scopes with names alone
+  pub names_alike : (names names' : List (List ℕ)) → AreKept ns names → AreKept ms names' → IsDistinct names → IsDistinct names' → Alike (new_scope names) (new_scope names')
+  names_alike names names' k l once once' = record { kept = k; kept' = l; once = once; once' = once'; visible = tt; count = refl }
 
   -- further scopes, in which the names of the first are kept
   pub record After (s s' t t' : Scope) : Type 0 where
@@ -243,9 +305,9 @@ module _ (b : Setting) (ts us : List TermEntry) (ns ms : List (List ℕ)) (two :
 
   converter_found : (i o : ℕ) (t : TermEntry) → converter e i o ≡ Some t → TermFound ns ms t (converter f i o)
   converter_found i o t h =
-      let c = then_gives _ (slice_get ts) h in
-      let r = slice_found ts us two.terms c.0 t c.2 in
-      record { name = r.name; kind = r.kind; there = ap (λ q. then_option q (slice_get us)) c.1 ∙ r.there; named = r.named; kinds = r.kinds }
+      let c = then_gives _ (slice_get e.terms) h in
+      let r = slice_found e.terms f.terms two.terms c.0 t c.2 in
+      record { name = r.name; kind = r.kind; there = ap (λ q. then_option q (slice_get f.terms)) c.1 ∙ r.there; named = r.named; kinds = r.kinds }
 
   passed_found : (p : TermEntry → Bool) → ((t : TermEntry) (n : ℕ) (k : TermKindEntry) → KindAlike t.kind k → p (record t { name = n; kind = k }) ≡ p t) → (i o : ℕ) (t : TermEntry)
       → that p (converter e i o) ≡ Some t → TermFound ns ms t (that p (converter f i o))
@@ -262,7 +324,7 @@ module _ (b : Setting) (ts us : List TermEntry) (ns ms : List (List ℕ)) (two :
   expr_by = passed_found (λ t. has_constructor t.kind) (λ t n k h. h.makes)
 
   template_same : (k l : TermKindEntry) → KindAlike k l → template_in f l ≡ template_in e k
-  template_same k l h = ap (λ (o : Option PatternTree). if b.expand then o else None) h.template
+  template_same k l h = ap (λ (o : Option PatternTree). if e.expand then o else None) h.template
 
   module _ (s s' : Scope) (a : Alike s s') where
     same_at : (k l : ℕ) (x : List ℕ) → OfOneText ns ms k l → (k == number s.names x) ≡ (l == number s'.names x)
@@ -295,21 +357,21 @@ module _ (b : Setting) (ts us : List TermEntry) (ns ms : List (List ℕ)) (two :
         ]
 
     term_found : (x : List ℕ) (t : TermEntry) → term_of e s x ≡ Some t → TermFound ns ms t (term_of f s' x)
-    term_found x t h = entry_found x ts us two.terms t h
+    term_found x t h = entry_found x e.terms f.terms two.terms t h
 
     place_alike : (x : List ℕ) (i : ℕ) (ks : List ℕ) → ((i k : ℕ) → slice_get ks i ≡ Some k → OfOneText ns ms k k) → position_from (λ n. n == number s.names x) i ks ≡ position_from (λ n. n == number s'.names x) i ks
     place_alike x i [] k = refl
     place_alike x i (j ∷ js) k = ap₂ (λ b o. cond b (Some i) o) (same_at j j x (k 0 j refl)) (place_alike x (i + 1) js (λ n u h. k (suc n) u h))
 
     type_alike : (x : List ℕ) → type_of_name e s x ≡ type_of_name f s' x
-    type_alike x = place_alike x 0 b.type_names two.type_names
+    type_alike x = place_alike x 0 e.type_names two.type_names
 
     look_alike : (x : List ℕ) (cs : List (ℕ × ℕ)) → ((i : ℕ) (c : ℕ × ℕ) → slice_get cs i ≡ Some c → OfOneText ns ms c.0 c.0) → look (λ n. n == number s.names x) cs ≡ look (λ n. n == number s'.names x) cs
     look_alike x [] k = refl
     look_alike x (c ∷ cs) k = ap₂ (λ b o. cond b (Some c.1) o) (same_at c.0 c.0 x (k 0 c refl)) (look_alike x cs (λ i u h. k (suc i) u h))
 
     constant_alike : (x : List ℕ) → type_of_constant e s x ≡ type_of_constant f s' x
-    constant_alike x = look_alike x b.constants two.constants
+    constant_alike x = look_alike x e.constants two.constants
 
     -- the name of a constant has one number
     constant_number : (x : List ℕ) (cs : List (ℕ × ℕ)) (ty : ℕ) → ((i : ℕ) (c : ℕ × ℕ) → slice_get cs i ≡ Some c → OfOneText ns ms c.0 c.0) → look (λ n. n == number s.names x) cs ≡ Some ty → number s'.names x ≡ number s.names x
@@ -363,7 +425,7 @@ module _ (b : Setting) (ts us : List TermEntry) (ns ms : List (List ℕ)) (two :
       pattern_alike (an_integer {s = s} h) s' a = (s', an_integer h, here s s' a)
       pattern_alike (a_constant {d = d} {ty = ty} {name = name} {at = at} {s = s} h) s' a = (
         s',
-        subst (λ k. ElaboratesPattern f multi d (prim_pattern name at) ty s' (match_prim ty k) s' 0) (constant_number s s' a name.text b.constants ty two.constants h) (a_constant (sym (constant_alike s s' a name.text) ∙ h)),
+        subst (λ k. ElaboratesPattern f multi d (prim_pattern name at) ty s' (match_prim ty k) s' 0) (constant_number s s' a name.text e.constants ty two.constants h) (a_constant (sym (constant_alike s s' a name.text) ∙ h)),
         here s s' a,
       )
       pattern_alike (a_term {name = name} {s = s} {entry = entry} h i j k g) s' a =
@@ -439,7 +501,7 @@ module _ (b : Setting) (ts us : List TermEntry) (ns ms : List (List ℕ)) (two :
       expr_alike (integer_expr {s = s} h) s' a = (s', integer_expr h, here s s' a)
       expr_alike (constant_expr {d = d} {own = own} {ty = ty} {name = name} {at = at} {s = s} h i) s' a = (
         s',
-        subst (λ k. ElaboratesExpr f flags d (prim_expr name at) ty s' (make_prim own k) s' 0) (constant_number s s' a name.text b.constants own two.constants h) (constant_expr (sym (constant_alike s s' a name.text) ∙ h) i),
+        subst (λ k. ElaboratesExpr f flags d (prim_expr name at) ty s' (make_prim own k) s' 0) (constant_number s s' a name.text e.constants own two.constants h) (constant_expr (sym (constant_alike s s' a name.text) ∙ h) i),
         here s s' a,
       )
       expr_alike (let_in {s = s} {t = t} {u = u} g h) s' a =
@@ -513,7 +575,7 @@ module _ (b : Setting) (ts us : List TermEntry) (ns ms : List (List ℕ)) (two :
 
   -- the next rule begins with the names alone
   next_scope : (t t' : Scope) → Alike t t' → Alike (new_scope t.names) (new_scope t'.names)
-  next_scope t t' a = record { kept = a.kept; kept' = a.kept'; once = a.once; once' = a.once'; visible = tt; count = refl }
+  next_scope t t' a = names_alike t.names t'.names a.kept a.kept' a.once a.once'
 
   -- the rules of a list
   pub record RulesFound (id : ℕ) (rs : List RuleTree) (names names' after : List (List ℕ)) (qs : List TypedRule) : Type 0 where
@@ -540,3 +602,36 @@ module _ (b : Setting) (ts us : List TermEntry) (ns ms : List (List ℕ)) (two :
         alike = (record { term = x.alike.term; name = numbers_kept t.names x.scope.names after y.last y.kept y.kept' q.name x.rule.name x.alike.name }, y.alike);
         scopes = y.scopes;
       }
+
+  -- 9. a rule has a typed rule by both tables, or by none
+  typing_found : (d id : ℕ) (r : RuleTree) (names names' : List (List ℕ)) → Alike (new_scope names) (new_scope names') → (q : Typing TypedRule) → elaborated_rule e d id r names ≡ Some q
+      → (b : Typing TypedRule) × (elaborated_rule f d id r names' ≡ Some b) × (q.expansions ≡ b.expansions)
+  typing_found d id r names names' a q h =
+      let g = rule_found d id r names names' q.made q.scope q.expansions a ((rules_agree e d id r names q.made q.scope q.expansions).1 h) in
+      (_, (rules_agree f d id r names' g.rule g.scope q.expansions).0 g.made, refl)
+
+-- from one another
+there_alike : (o p : Option (Typing TypedRule)) → ((a : Typing TypedRule) → o ≡ Some a → (b : Typing TypedRule) × (p ≡ Some b) × (a.expansions ≡ b.expansions))
+    → ((b : Typing TypedRule) → p ≡ Some b → (a : Typing TypedRule) × (o ≡ Some a) × (b.expansions ≡ a.expansions)) → AreThereAlike o p
+there_alike None None f g = tt
+there_alike None (Some b) f g = (let h = g b refl in absurd (none-some h.0 h.1))
+there_alike (Some a) None f g = (let h = f a refl in absurd (none-some h.0 h.1))
+there_alike (Some a) (Some b) f g = (let h = f a refl in h.2 ∙ ap (λ (x : Typing TypedRule). x.expansions) (sym (same_Some b h.0 h.1)))
+
+few_step : (a b : Typing TypedRule) (x y : Bool) → x ≡ y → a.expansions ≡ b.expansions → AreThereAlike (cond x (Some a) None) (cond y (Some b) None)
+few_step a b true true e h = h
+few_step a b false false e h = tt
+few_step a b true false e h = absurd (false≢true (sym e))
+few_step a b false true e h = absurd (false≢true e)
+
+pub few_alike : (o p : Option (Typing TypedRule)) → AreThereAlike o p → AreThereAlike (few_enough o) (few_enough p)
+few_alike None None h = tt
+few_alike None (Some b) h = absurd h
+few_alike (Some a) None h = absurd h
+few_alike (Some a) (Some b) h = few_step a b (nat_le a.expansions most_expansions) (nat_le b.expansions most_expansions) (ap (λ n. nat_le n most_expansions) h) h
+
+pub typings_alike : (two : TwoTables) (names names' : List (List ℕ)) → Alike two (new_scope names) (new_scope names') → (d id : ℕ) (r : RuleTree)
+    → AreThereAlike (elaborated_rule two.setting d id r names) (elaborated_rule (other_setting two) d id r names')
+typings_alike two names names' a d id r =
+    there_alike (elaborated_rule two.setting d id r names) (elaborated_rule (other_setting two) d id r names') (typing_found two d id r names names' a)
+    (typing_found (turned two) d id r names' names (names_alike (turned two) names' names a.kept' a.kept a.once' a.once))
