@@ -1,7 +1,7 @@
 -- By well-typed functions a tree that runs as chosen comes to the choice of a source rule.
-use Rattle.std.proofs.Common.{◌≡◌, Bool, true, List, [], ◌++◌, Option, Some, None, is_some, flat_map, sym, ap, ◌∙◌, subst, inl, inr}
+use Rattle.std.proofs.Common.{◌≡◌, ℕ, ℤ, Bool, true, List, [], ◌++◌, Option, Some, None, is_some, flat_map, sym, ap, ◌∙◌, subst, inl, inr}
 use Rattle.isle_model.specs.rules.Values.{Value}
-use Rattle.isle_model.specs.rules.Meaning.{Meaning}
+use Rattle.isle_model.specs.rules.Meaning.{Meaning, bool_literal, int_literal, literal_value, constant_value}
 use Rattle.isle_model.specs.rules.Outcome.{stuck, Outcome}
 use Rattle.isle_model.specs.rules.Program.{Program, is_multi, is_partial, rules_of}
 use Rattle.isle_model.specs.rules.Matching.{Vars, matches}
@@ -14,9 +14,9 @@ use Rattle.isle_model.specs.trees.Trees.{Tree, no_step, step, Check, match_at, e
 use Rattle.isle_model.specs.trees.Run.{run, world_of}
 use Rattle.isle_model.specs.claims.Environments.{program_of}
 use Rattle.isle_model.proofs.Elements.{In, in_right, in_either, in_from_contains}
-use Rattle.isle_laws_demands.specs.TotalLaws.{TotalMeaning, Restricts}
+use Rattle.isle_laws_demands.specs.TotalLaws.{Restricts}
 use Rattle.isle_laws_demands.proofs.matching.NoMulti.{rules_without_multi_go_over_no_calls_lem}
-use Rattle.isle_laws_demands.proofs.total.Listed.{Question, questions_of, answers_to, AsksOf, asks_of_all, bool_answered, int_answered, constant_answered}
+use Rattle.isle_laws_demands.proofs.total.Listed.{questions_of, AsksOf, asks_of_all, bool_answered, int_answered, constant_answered}
 use Rattle.isle_laws_demands.proofs.total.Total.{answers_restrict}
 use Rattle.isle_laws_demands.proofs.total.SameChoice.{total_meanings_have_one_outcome_lem}
 use Rattle.isle_laws_functions.specs.RunBy.{run_by, stage_by}
@@ -61,24 +61,30 @@ mutual
         | inr a ↦ elim (in_either (constants_in body) (constants_in_arms rest) s a) [ inl b ↦ tree_names body s b | inr b ↦ arms_name rest s b ]
       ]
 
-module _ (f : TotalMeaning) (args : List Value) (asks : List Question) (sites : List SiteTerm) (all : AsksOf f args sites asks) where
+-- maps have a value for each literal and each named constant among these sites
+record HasValuesOf (m : Meaning) (sites : List SiteTerm) : Type 0 where
+  bools : (b : Bool) (ty : ℕ) → In sites (bool_term b ty) → is_some (literal_value m (bool_literal b ty)) ≡ true
+  ints : (z : ℤ) (ty : ℕ) → In sites (int_term z ty) → is_some (literal_value m (int_literal z ty)) ≡ true
+  names : (name : ℕ) → In sites (prim_term name) → is_some (constant_value m name) ≡ true
+
+module _ (m : Meaning) (sites : List SiteTerm) where
   abbrev HasValue : SiteTerm → Type 0
-  HasValue s = is_some (written_value (answers_to f asks) s) ≡ true
+  HasValue s = is_some (written_value m s) ≡ true
 
   at_site : (s u : SiteTerm) → u ≡ s → (In sites u → HasValue u) → In sites s → HasValue s
   at_site s u e = subst (λ x. (In sites x → HasValue x) → In sites s → HasValue s) (sym e) (λ g. g)
 
   -- a constant among the sites has a value
-  has_value : (s : SiteTerm) (c : Constraint) → In (constant_site c) s → In sites s → HasValue s
-  has_value s (is_bool b ty) (inl e) i = at_site s (bool_term b ty) e (λ j. ap is_some (bool_answered f args asks sites all b ty j)) i
-  has_value s (is_int z ty) (inl e) i = at_site s (int_term z ty) e (λ j. ap is_some (int_answered f args asks sites all z ty j)) i
-  has_value s (is_prim name) (inl e) i = at_site s (prim_term name) e (λ j. ap is_some (constant_answered f args asks sites all name j)) i
-  has_value s (is_bool b ty) (inr n) i = absurd n
-  has_value s (is_int z ty) (inr n) i = absurd n
-  has_value s (is_prim name) (inr n) i = absurd n
-  has_value s (is_variant ty variant fields) n i = absurd n
-  has_value s (is_struct ty fields) n i = absurd n
-  has_value s is_present n i = absurd n
+  has_value : HasValuesOf m sites → (s : SiteTerm) (c : Constraint) → In (constant_site c) s → In sites s → HasValue s
+  has_value v s (is_bool b ty) (inl e) i = at_site s (bool_term b ty) e (v.bools b ty) i
+  has_value v s (is_int z ty) (inl e) i = at_site s (int_term z ty) e (v.ints z ty) i
+  has_value v s (is_prim name) (inl e) i = at_site s (prim_term name) e (v.names name) i
+  has_value v s (is_bool b ty) (inr n) i = absurd n
+  has_value v s (is_int z ty) (inr n) i = absurd n
+  has_value v s (is_prim name) (inr n) i = absurd n
+  has_value v s (is_variant ty variant fields) n i = absurd n
+  has_value v s (is_struct ty fields) n i = absurd n
+  has_value v s is_present n i = absurd n
 
 -- 3. the choice
 pub runs_by_functions_as_chosen_lem : RunsByFunctionsAsChosen
@@ -92,10 +98,16 @@ runs_by_functions_as_chosen_lem e defs expand rules t sites tree f args h single
     let m = first.meaning in
     let ran : run tree (world_of p t sites m args) ≡ one.outcome = one.runs first in
     let goes_on : (run tree (world_of p t sites m args)).ending ≡ stuck → ⊥ = λ x. chosen_not_stuck p m args (chosen p m rs args) (ap (λ (o : Outcome). o.ending) (one.chooses first ∙ sym ran) ∙ x) in
+    let asked_all : AsksOf f args (constants_in tree) (own ++ more) = λ u k q l. in_right own more q (asks_of_all f args (constants_in tree) u k q l) in
+    let values : HasValuesOf m (constants_in tree) = record {
+      bools = λ b ty i. ap is_some (bool_answered f args (own ++ more) (constants_in tree) asked_all b ty i);
+      ints = λ z ty i. ap is_some (int_answered f args (own ++ more) (constants_in tree) asked_all z ty i);
+      names = λ name i. ap is_some (constant_answered f args (own ++ more) (constants_in tree) asked_all name i);
+    } in
     let named : HasConstants m tree = λ s c.
     let i = in_from_contains (constants_in tree) s c in
     let a = tree_names tree s i in
-    has_value f args (own ++ more) (constants_in tree) (λ u k q l. in_right own more q (asks_of_all f args (constants_in tree) u k q l)) s a.0 a.1 i in
+    has_value m (constants_in tree) values s a.0 a.1 i in
     let by : run_by tree (stage_by f sites (is_multi p t) args) ≡ run tree (world_of p t sites m args) = runs_as_under_meanings_lem tree (world_of p t sites m args) f first.agrees named goes_on in
     let chooses : (r : Restricts p f args rs) → run_by tree (stage_by f sites (is_multi p t) args) ≡ choice p r.meaning rs args = λ r. by ∙ ran ∙ sym (one.chooses r) in
     record { as_source = chooses first ∙ chooses_as_under_meanings_lem e defs expand rules t f args h single total fit first; restricts = first; chooses = chooses; once = one.once }
