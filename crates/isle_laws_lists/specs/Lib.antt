@@ -1,3 +1,4 @@
+pub mod ElaboratedLists
 pub mod FurtherNames
 pub mod JudgeLaws
 pub mod OwnTypes

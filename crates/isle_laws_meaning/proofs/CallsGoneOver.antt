@@ -1,6 +1,6 @@
 -- The calls that a rule goes over: each call, literal and constant at or in one is a site that the rule makes. And a rule that
 -- makes no impure call has no site of one.
-use Rattle.std.proofs.Common.{◌≡◌, ◌==◌, ℕ, suc, Bool, true, false, List, [], ◌∷◌, ◌++◌, Option, Some, refl, subst, inl, inr}
+use Rattle.std.proofs.Common.{◌≡◌, ◌==◌, ℕ, zero, suc, Bool, true, false, List, [], ◌∷◌, ◌++◌, Option, Some, refl, subst, inl, inr}
 use Rattle.isle_model.specs.lists.Tables.{Flags}
 use Rattle.isle_model.specs.rules.Meaning.{look}
 use Rattle.isle_model.specs.rules.Program.{Program, Kind, a_variant, a_struct, a_call, unknown, kind, is_partial}
@@ -10,6 +10,7 @@ use Rattle.isle_model.specs.sites.Demands.{site_term_eq, Visit, visit_start, mak
 use Rattle.isle_model.proofs.Either.{either}
 use Rattle.isle_model.proofs.Elements.{In, in_left, in_right, in_either}
 use Rattle.isle_model.proofs.FewElements.{not_nothing}
+use Rattle.isle_laws_runs.proofs.taking.CallsIn.{CallsOnly, CallOnly}
 use Rattle.isle_laws_demands.proofs.matching.Grown.{equated, pattern_grown, exprs_add, grown_all}
 use Rattle.isle_laws_demands.proofs.served.PureCalls.{IsNoImpureCall}
 use Rattle.isle_laws_demands.proofs.total.CallsMade.{AllMade, EachMade}
@@ -368,3 +369,28 @@ module _ (p : Program) where
   -- a rule that makes no impure call has no site of one
   pub none_is_impure : (r : TypedRule) → (demands_of p r).impure ≡ [] → (u : SiteTerm) → In (demands_of p r).made u → IsNoImpureCall u
   none_is_impure r = (rule_stands r).quiet
+
+-- 6. where no call that is made is impure, no impure call stands at or in a site whose calls are made
+module _ (P : SiteTerm → Type 0) (ms : List SiteTerm) (quiet : AreQuiet ms) where
+  mutual
+    pub no_calls_at : (s : SiteTerm) → AllMade ms s → CallsOnly P s
+    no_calls_at (bool_term b ty) h = tt
+    no_calls_at (int_term z ty) h = tt
+    no_calls_at (prim_term name) h = tt
+    no_calls_at (argument i) h = tt
+    no_calls_at (extractor_call t s) h = no_calls_at s h.1
+    no_calls_at (constructor_call t ss zero) h = (tt, no_calls_in ss h.1)
+    no_calls_at (constructor_call t ss (suc i)) h = absurd (quiet (constructor_call t ss (suc i)) h.0)
+    no_calls_at (pick_of s) h = no_calls_at s h
+    no_calls_at (variant_made ty variant ss) h = no_calls_in ss h
+    no_calls_at (variant_field s variant i) h = no_calls_at s h
+    no_calls_at (struct_made ty ss) h = no_calls_in ss h
+    no_calls_at (struct_field s i) h = no_calls_at s h
+    no_calls_at (some_made s) h = no_calls_at s h
+    no_calls_at (some_part s) h = no_calls_at s h
+    no_calls_at (tuple_part s i) h = no_calls_at s h
+    no_calls_at no_site h = tt
+
+    no_calls_in : (ss : SiteTerms) → EachMade ms ss → CallOnly P ss
+    no_calls_in no_site_term h = tt
+    no_calls_in (site_term_and s ss) h = (no_calls_at s h.0, no_calls_in ss h.1)

@@ -130,7 +130,7 @@ module _ (p : Program) (rs : List TypedRule) (f : TotalMeaning) (m n : Meaning) 
       ∙ sym (there (pure_answer n t vs) (f.pures t vs) _ (sn.pures k t ss vs c (sym a ∙ e)) (an.pures t vs))
 
   mutual
-    same_content : (s : SiteTerm) → AllMade d.made s → CallsOnly Alike s → Alike s
+    pub same_content : (s : SiteTerm) → AllMade d.made s → CallsOnly Alike s → Alike s
     same_content (bool_term b ty) h c = ap from_value (bool_same b ty (ask (bool_term b ty) h))
     same_content (int_term z ty) h c = ap from_value (int_same z ty (ask (int_term z ty) h))
     same_content (prim_term name) h c = ap from_value (prim_same name (ask (prim_term name) h))
