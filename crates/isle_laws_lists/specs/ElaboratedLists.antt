@@ -16,3 +16,7 @@ pub record ElaboratedList : Type 0 where
 -- the program that it makes
 abbrev pub program : ElaboratedList → Program
 program l = program_of l.types l.definitions l.rules.rules
+
+-- the list of an elaboration
+abbrev pub list_elaborated : (e : TypesRead) (defs : List Definition) (expand : Bool) (rules : TypedRules) → IsElaborated e defs expand rules → ElaboratedList
+list_elaborated e defs expand rules h = record { types = e; definitions = defs; expand = expand; rules = rules; elaborated = h }

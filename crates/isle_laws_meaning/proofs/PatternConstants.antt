@@ -2,8 +2,6 @@
 use Rattle.std.proofs.Common.{◌≡◌, ◌&&◌, ◌||◌, not, ℕ, suc, Bool, true, false, List, [], ◌∷◌, ◌++◌, Option, Some, slice_get, Contains, IsTrue, flat_map, refl, sym, ap, ◌∙◌, subst, inl, inr}
 use Rattle.std.proofs.lemmas.Bool.{false≢true}
 use Rattle.std.proofs.lemmas.List.Elements.{All-contains}
-use Rattle.isle_model.specs.lists.Syntax.{Definition}
-use Rattle.isle_model.specs.lists.Elaborated.{TypedRules}
 use Rattle.isle_model.specs.lists.Formed.{is_type, formed_pattern, formed_parts, formed_each, formed_list, formed_iflets, is_formed_rule}
 use Rattle.isle_model.specs.rules.Values.{Value}
 use Rattle.isle_model.specs.rules.Meaning.{bool_literal, int_literal, Meaning}
@@ -12,9 +10,10 @@ use Rattle.isle_model.specs.rules.Typed.{TypedPattern, match_bind, match_var, ma
 use Rattle.isle_model.specs.sites.Sites.{Constraint, is_variant, is_struct, is_bool, is_int, is_prim, is_present, SiteTerm, bool_term, int_term, prim_term, argument, extractor_call, some_part, variant_field, struct_field}
 use Rattle.isle_model.specs.sites.Demands.{site_term_eq, Visit, visit_start, making, asking, equating, binding, var_site, from_to, pattern_count, open_call, open_term, visit_pattern, visit_each, visit_all, visit_expr, unwraps, asking_all, visit_args, visit_iflets, demands_of}
 use Rattle.isle_model.specs.sites.Serves.{constant_site, constant_type, written_type, written_value, tested_constants, is_open_constant, is_type_with_parts, TellsConstantsApart}
-use Rattle.isle_model.specs.claims.Environments.{TypesRead, IsElaborated, program_of}
+use Rattle.isle_model.specs.claims.Environments.{program_of}
 use Rattle.isle_model.proofs.Either.{either}
 use Rattle.isle_model.proofs.Elements.{In, in_from_contains, contains_from_in, in_left, in_right, in_either, some_is, none_some, in_flat_map, from_flat_map}
+use Rattle.isle_laws_lists.specs.ElaboratedLists.{ElaboratedList, program, list_elaborated}
 use Rattle.isle_laws_lists.proofs.FormedParts.{from_if, type_is}
 use Rattle.isle_laws_lists.proofs.FormedRules.{rules_are_formed}
 use Rattle.isle_laws_lists.proofs.TypedRules as typed
@@ -436,32 +435,36 @@ module _ (p : Program) (rs : List TypedRule) (formed : (r : TypedRule) → In rs
   }
 
 -- 4. rules that elaborate
-module _ (e : TypesRead) (defs : List Definition) (expand : Bool) (rules : TypedRules) (t : ℕ) (h : IsElaborated e defs expand rules) where
+module _ (l : ElaboratedList) (t : ℕ) where
   abbrev p : Program
-  p = program_of e defs rules.rules
+  p = program l
 
   all_formed : (r : TypedRule) → In (rules_of p t) r → is_formed_rule p r ≡ true
   all_formed r i =
-      let b = of_term e defs expand rules h t r (contains_from_in (rules_of p t) r i) in (elaborated_rules_hang rules_are_formed typed.lists_agree e defs expand rules h r b.0).0
+      let b = of_term l.types l.definitions l.expand l.rules l.elaborated t r (contains_from_in (rules_of p t) r i) in (elaborated_rules_hang rules_are_formed typed.lists_agree l.types l.definitions l.expand l.rules l.elaborated r b.0).0
 
-  pub tells_constants : (m : Meaning) → TellsPatternsApart p m (rules_of p t) → TellsConstantsApart p m (rules_of p t)
+  tells_constants : (m : Meaning) → TellsPatternsApart p m (rules_of p t) → TellsConstantsApart p m (rules_of p t)
   tells_constants m = tells p (rules_of p t) all_formed m
 
 pub constants_are_of_patterns_lem : ConstantsAreOfPatterns
 constants_are_of_patterns_lem e defs expand rules t m h =
     let p = program_of e defs rules.rules in
-    (tells p (rules_of p t) (all_formed e defs expand rules t h) m, told p (rules_of p t) (all_formed e defs expand rules t h) m)
+    let formed = all_formed (list_elaborated e defs expand rules h) t in
+    (tells p (rules_of p t) formed m, told p (rules_of p t) formed m)
 
 pub functions_constants_are_of_patterns_lem : FunctionsConstantsAreOfPatterns
 functions_constants_are_of_patterns_lem e defs expand rules t f h =
     let p = program_of e defs rules.rules in
-    (keeps p (rules_of p t) (all_formed e defs expand rules t h) f, kept p (rules_of p t) (all_formed e defs expand rules t h) f)
+    let formed = all_formed (list_elaborated e defs expand rules h) t in
+    (keeps p (rules_of p t) formed f, kept p (rules_of p t) formed f)
 
 pub headline_is_of_patterns_lem : HeadlineIsOfPatterns
-headline_is_of_patterns_lem e defs expand rules t sites tree h = record {
-  chooses = λ runs without m args typed served apart. runs without m args typed served (tells_constants e defs expand rules t h m apart);
-  collects = λ bags multi results m args typed served apart. bags multi results m args typed served (tells_constants e defs expand rules t h m apart);
-}
+headline_is_of_patterns_lem e defs expand rules t sites tree h =
+    let apart = tells_constants (list_elaborated e defs expand rules h) t in
+    record {
+      chooses = λ runs without m args typed served tells. runs without m args typed served (apart m tells);
+      collects = λ bags multi results m args typed served tells. bags multi results m args typed served (apart m tells);
+    }
 
 -- 5. literals that mean what they write
 both : (a b : Bool) → a ≡ true → b ≡ true → (a && b) ≡ true

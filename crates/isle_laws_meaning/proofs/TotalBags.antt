@@ -1,12 +1,12 @@
 -- The bag of a multi term is of total functions alone, whatever maps agree with them and serve.
-use Rattle.std.proofs.Common.{◌≡◌, ◌↔◌, ℕ, true, false, List, [], ◌∷◌, ◌++◌, Option, Some, None, is_some, Contains, flat_map, refl, sym, ap, ◌∙◌, subst, inl, inr}
+use Rattle.std.proofs.Common.{◌≡◌, ◌↔◌, ℕ, true, List, [], ◌∷◌, ◌++◌, Option, Some, None, is_some, Contains, flat_map, refl, sym, ap, ◌∙◌, subst, inl, inr}
 use Rattle.std.proofs.lemmas.Bool.{false≢true}
 use Rattle.std.proofs.lemmas.List.Elements.{All-contains}
 use Rattle.isle_model.specs.rules.Values.{Value, args_well_typed}
-use Rattle.isle_model.specs.rules.Meaning.{one, Meaning}
+use Rattle.isle_model.specs.rules.Meaning.{Meaning}
 use Rattle.isle_model.specs.rules.Program.{Program, arg_types, rules_of}
 use Rattle.isle_model.specs.rules.Typed.{TypedRule}
-use Rattle.isle_model.specs.rules.Picks.{Pick, picked, site_content, multi_calls, places_in, picks_over, picks, SitedVars, matches_under, results_with, results_under, bag}
+use Rattle.isle_model.specs.rules.Picks.{Pick, site_content, multi_calls, places_in, picks_over, picks, SitedVars, matches_under, results_with, results_under, bag}
 use Rattle.isle_model.specs.trees.Run.{run, world_of}
 use Rattle.isle_model.specs.trees.Collects.{Collects, as_list, HasCollectedResults}
 use Rattle.isle_model.specs.sites.Sites.{SiteTerm}
@@ -16,7 +16,7 @@ use Rattle.isle_model.specs.sites.Closure.{DemandsHold}
 use Rattle.isle_model.specs.claims.Environments.{program_of}
 use Rattle.isle_model.proofs.Bags.{flat_map_same}
 use Rattle.isle_model.proofs.Elements.{In, contains_from_in}
-use Rattle.isle_laws_lists.specs.ElaboratedLists.{ElaboratedList, program}
+use Rattle.isle_laws_lists.specs.ElaboratedLists.{ElaboratedList, program, list_elaborated}
 use Rattle.isle_laws_lists.proofs.FormedRules.{rules_are_formed}
 use Rattle.isle_laws_lists.proofs.TypedRules as typed
 use Rattle.isle_laws_runs.proofs.picks.Enumerated.{picks_are_exact_lem}
@@ -179,7 +179,7 @@ module _ (l : ElaboratedList) (t : ℕ) (two : TwoMaps (program l) (rules_of (pr
 
 pub bag_is_of_functions_lem : BagIsOfFunctions
 bag_is_of_functions_lem e defs expand rules t f m n args h quiet fit am sm an sn =
-    let l : ElaboratedList = record { types = e; definitions = defs; expand = expand; rules = rules; elaborated = h } in
+    let l = list_elaborated e defs expand rules h in
     let two : TwoMaps (program l) (rules_of (program l) t) =
     record { functions = f; args = args; first = record { meaning = m; agrees = am; serves = sm }; second = record { meaning = n; agrees = an; serves = sn } } in
     rules_same l t two fit quiet
