@@ -3,12 +3,13 @@ use Rattle.std.proofs.Common.{◌≡◌, ◌&&◌, ◌||◌, not, ℕ, suc, Bool
 use Rattle.std.proofs.lemmas.Bool.{false≢true}
 use Rattle.std.proofs.lemmas.List.Elements.{All-contains}
 use Rattle.isle_model.specs.lists.Formed.{is_type, formed_pattern, formed_parts, formed_each, formed_list, formed_iflets, is_formed_rule}
+use Rattle.isle_model.specs.lists.Tables.{Flags}
 use Rattle.isle_model.specs.rules.Values.{Value}
 use Rattle.isle_model.specs.rules.Meaning.{bool_literal, int_literal, Meaning}
 use Rattle.isle_model.specs.rules.Program.{Program, Kind, a_variant, a_struct, a_call, unknown, kind, rules_of}
 use Rattle.isle_model.specs.rules.Typed.{TypedPattern, match_bind, match_var, match_bool, match_int, match_prim, match_term, match_any, match_and, TypedPatterns, no_typed_pattern, typed_pattern_and, TypedIfLet, TypedRule}
-use Rattle.isle_model.specs.sites.Sites.{Constraint, is_variant, is_struct, is_bool, is_int, is_prim, is_present, SiteTerm, bool_term, int_term, prim_term, argument, extractor_call, some_part, variant_field, struct_field}
-use Rattle.isle_model.specs.sites.Demands.{site_term_eq, Visit, visit_start, making, asking, equating, binding, var_site, from_to, pattern_count, open_call, open_term, visit_pattern, visit_each, visit_all, visit_expr, unwraps, asking_all, visit_args, visit_iflets, demands_of}
+use Rattle.isle_model.specs.sites.Sites.{Constraint, is_variant, is_struct, is_bool, is_int, is_prim, is_present, SiteTerm, bool_term, int_term, prim_term, argument, extractor_call, pick_of, some_part, variant_field, struct_field}
+use Rattle.isle_model.specs.sites.Demands.{site_term_eq, Visit, visit_start, making, asking, equating, binding, var_site, from_to, pattern_count, Opened, open_call, open_term, visit_pattern, visit_each, visit_all, visit_expr, unwraps, asking_all, visit_args, visit_iflets, demands_of}
 use Rattle.isle_model.specs.sites.Serves.{constant_site, constant_type, written_type, written_value, tested_constants, is_open_constant, is_type_with_parts, TellsConstantsApart}
 use Rattle.isle_model.specs.claims.Environments.{program_of}
 use Rattle.isle_model.proofs.Either.{either}
@@ -65,16 +66,15 @@ module _ (p : Program) (P : SiteTerm → Type 0) where
   unfolding equated
   equated_such a b v h = either AsksSuch (site_term_eq a b) v (equated a b v) h h
 
-  call_such : (pure multi partial rec infallible : Bool) (c : SiteTerm) (args : TypedPatterns) (v : Visit) → AsksSuch v
-      → AsksSuch (open_call (record { pure = pure; multi = multi; partial = partial; rec = rec }) infallible c args v).visit
-  call_such pure true partial rec infallible c args v h = h
-  call_such pure false partial rec true c args v h = h
-  call_such pure false partial rec false c args v h = asked_such c is_present (making (c ∷ (some_part c ∷ [])) v) none_such h
+  call_such : (flags : Flags) (infallible : Bool) (c : SiteTerm) (args : TypedPatterns) (v : Visit) → AsksSuch v → AsksSuch (open_call flags infallible c args v).visit
+  call_such flags infallible c args v h =
+      either (λ (o : Opened). AsksSuch o.visit) flags.multi _ _ h
+      (either (λ (o : Opened). AsksSuch o.visit) infallible _ _ h (asked_such c is_present (making (c ∷ (some_part c ∷ [])) v) none_such h))
 
   term_such : (k : Kind) (t : ℕ) (s : SiteTerm) (args : TypedPatterns) (v : Visit) → AsksSuch v → AsksSuch (open_term k t s args v).visit
   term_such (a_variant ty i) t s args v h = asked_such s (is_variant ty i (pattern_count args)) (making (from_to (variant_field s i) 0 args) v) none_such h
   term_such (a_struct ty) t s args v h = asked_such s (is_struct ty (pattern_count args)) (making (from_to (struct_field s) 0 args) v) none_such h
-  term_such (a_call flags infallible) t s args v h = call_such flags.pure flags.multi flags.partial flags.rec infallible (extractor_call t s) args v h
+  term_such (a_call flags infallible) t s args v h = call_such flags infallible (extractor_call t s) args v h
   term_such unknown t s args v h = h
 
   mutual
@@ -147,16 +147,15 @@ asked_later v w k g a = record { asked = a.asked; listed = g.asked a.asked a.lis
 asked_now : (s : SiteTerm) (c : Constraint) (v : Visit) (k : PatternConstant) → In (constant_site c) (site_of k) → IsAsked (asking s c v) k
 asked_now s c v k i = record { asked = (s, c); listed = in_right v.demands.constraints ((s, c) ∷ []) (s, c) (inl refl); constant = i }
 
-call_inputs : (pure multi partial rec infallible : Bool) (c : SiteTerm) (args : TypedPatterns) (v : Visit)
-    → AsMany (open_call (record { pure = pure; multi = multi; partial = partial; rec = rec }) infallible c args v).inputs args
-call_inputs pure true partial rec infallible c args v = output_count _ args
-call_inputs pure false partial rec true c args v = output_count c args
-call_inputs pure false partial rec false c args v = output_count (some_part c) args
+call_inputs : (flags : Flags) (infallible : Bool) (c : SiteTerm) (args : TypedPatterns) (v : Visit) → AsMany (open_call flags infallible c args v).inputs args
+call_inputs flags infallible c args v =
+    either (λ (o : Opened). AsMany o.inputs args) flags.multi _ _ (output_count (pick_of c) args)
+    (either (λ (o : Opened). AsMany o.inputs args) infallible _ _ (output_count c args) (output_count (some_part c) args))
 
 term_inputs : (k : Kind) (t : ℕ) (s : SiteTerm) (args : TypedPatterns) (v : Visit) → (k ≡ unknown → ⊥) → AsMany (open_term k t s args v).inputs args
 term_inputs (a_variant ty i) t s args v known = as_many (variant_field s i) 0 args
 term_inputs (a_struct ty) t s args v known = as_many (struct_field s) 0 args
-term_inputs (a_call flags infallible) t s args v known = call_inputs flags.pure flags.multi flags.partial flags.rec infallible (extractor_call t s) args v
+term_inputs (a_call flags infallible) t s args v known = call_inputs flags infallible (extractor_call t s) args v
 term_inputs unknown t s args v known = absurd (known refl)
 
 -- it is asked for, and is of the type that the pattern says
