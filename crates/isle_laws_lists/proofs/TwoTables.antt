@@ -242,14 +242,14 @@ module _ (two : TwoTables) where
     pub kept : AreKept s.names t.names
     pub kept' : AreKept s'.names t'.names
 
-  here : (s s' : Scope) → Alike s s' → After s s' s s'
-  here s s' a = record { alike = a; kept = λ k x h. h; kept' = λ k x h. h }
+  here : {s s' : Scope} → Alike s s' → After s s' s s'
+  here a = record { alike = a; kept = λ k x h. h; kept' = λ k x h. h }
 
-  beyond : (s s' t t' u u' : Scope) → After s s' t t' → After t t' u u' → After s s' u u'
-  beyond s s' t t' u u' a b = record { alike = b.alike; kept = λ k x h. b.kept k x (a.kept k x h); kept' = λ k x h. b.kept' k x (a.kept' k x h) }
+  beyond : {s s' t t' u u' : Scope} → After s s' t t' → After t t' u u' → After s s' u u'
+  beyond a b = record { alike = b.alike; kept = λ k x h. b.kept k x (a.kept k x h); kept' = λ k x h. b.kept' k x (a.kept' k x h) }
 
-  after_met : (s s' : Scope) (x : List ℕ) → Alike s s' → After s s' (met s x) (met s' x)
-  after_met s s' x a = record {
+  after_met : {s s' : Scope} (x : List ℕ) → Alike s s' → After s s' (met s x) (met s' x)
+  after_met {s = s} {s' = s'} x a = record {
     alike = record {
       kept = λ k y h. kept_by_name s.names x k y (a.kept k y h);
       kept' = λ k y h. kept_by_name s'.names x k y (a.kept' k y h);
@@ -265,9 +265,9 @@ module _ (two : TwoTables) where
   pushed : (xs ys : List TypedVar) (x y : TypedVar) → length ys ≡ length xs → length (ys ++ y ∷ []) ≡ length (xs ++ x ∷ [])
   pushed xs ys x y h = length-append ys (y ∷ []) ∙ ap (λ k. k + 1) h ∙ sym (length-append xs (x ∷ []))
 
-  after_bound : (s s' : Scope) (x : List ℕ) (ty : ℕ) → Alike s s' → After s s' (bound s x ty) (bound s' x ty)
-  after_bound s s' x ty a =
-      let m = after_met s s' x a in
+  after_bound : {s s' : Scope} (x : List ℕ) (ty : ℕ) → Alike s s' → After s s' (bound s x ty) (bound s' x ty)
+  after_bound {s = s} {s' = s'} x ty a =
+      let m = after_met x a in
       record {
         alike = record {
           kept = m.alike.kept;
@@ -281,8 +281,8 @@ module _ (two : TwoTables) where
         kept' = m.kept';
       }
 
-  after_scope : (s s' t t' : Scope) → Alike s s' → After s s' t t' → After s s' (after_let s t) (after_let s' t')
-  after_scope s s' t t' a b = record {
+  after_scope : {s s' t t' : Scope} → Alike s s' → After s s' t t' → After s s' (after_let s t) (after_let s' t')
+  after_scope {s = s} {s' = s'} {t = t} {t' = t'} a b = record {
     alike = record {
       kept = b.alike.kept;
       kept' = b.alike.kept';
@@ -326,7 +326,7 @@ module _ (two : TwoTables) where
   template_same : (k l : TermKindEntry) → KindAlike k l → template_in f l ≡ template_in e k
   template_same k l h = ap (λ (o : Option PatternTree). if e.expand then o else None) h.template
 
-  module _ (s s' : Scope) (a : Alike s s') where
+  module _ {s s' : Scope} (a : Alike s s') where
     same_at : (k l : ℕ) (x : List ℕ) → OfOneText ns ms k l → (k == number s.names x) ≡ (l == number s'.names x)
     same_at k l x y = number_test s.names a.once k x y.0 (a.kept k y.0 y.1) ∙ sym (number_test s'.names a.once' l x y.0 (a.kept' l y.0 y.2))
 
@@ -407,141 +407,141 @@ module _ (two : TwoTables) where
   module _ (multi : Bool) where
     mutual
       pattern_alike : {d ty n : ℕ} {p : PatternTree} {s t : Scope} {q : TypedPattern} → ElaboratesPattern e multi d p ty s q t n → (s' : Scope) → Alike s s' → PatternAlike multi d p ty s s' q t n
-      pattern_alike (new_name {d = d} {ty = ty} {name = name} {at = at} {s = s} h) s' a = (
+      pattern_alike (new_name {d = d} {ty = ty} {name = name} {at = at} h) s' a = (
         bound s' name.text ty,
-        subst (λ k. ElaboratesPattern f multi d (var_pattern name at) ty s' (match_bind ty k (match_any ty)) (bound s' name.text ty) 0) a.count (new_name (no_var s s' a name.text h)),
-        after_bound s s' name.text ty a,
+        subst (λ k. ElaboratesPattern f multi d (var_pattern name at) ty s' (match_bind ty k (match_any ty)) (bound s' name.text ty) 0) a.count (new_name (no_var a name.text h)),
+        after_bound name.text ty a,
       )
-      pattern_alike (bound_name {d = d} {ty = ty} {name = name} {at = at} {s = s} {v = v} h i) s' a =
-          let w = some_var s s' a name.text v h in
-          (s', subst (λ k. ElaboratesPattern f multi d (var_pattern name at) ty s' (match_var ty k) s' 0) w.2 (bound_name w.1 (w.3 ∙ i)), here s s' a)
-      pattern_alike (binding {d = d} {ty = ty} {n = n} {name = name} {p = p} {at = at} {s = s} {t = t} {q = q} g h) s' a =
+      pattern_alike (bound_name {d = d} {ty = ty} {name = name} {at = at} {v = v} h i) s' a =
+          let w = some_var a name.text v h in
+          (s', subst (λ k. ElaboratesPattern f multi d (var_pattern name at) ty s' (match_var ty k) s' 0) w.2 (bound_name w.1 (w.3 ∙ i)), here a)
+      pattern_alike (binding {d = d} {ty = ty} {n = n} {name = name} {p = p} {at = at} {q = q} g h) s' a =
           let r = pattern_alike g s' a in (
             bound r.0 name.text ty,
-            subst (λ k. ElaboratesPattern f multi d (bind_pattern name p at) ty s' (match_bind ty k q) (bound r.0 name.text ty) n) r.2.alike.count (binding r.1 (no_var t r.0 r.2.alike name.text h)),
-            beyond s s' t r.0 (bound t name.text ty) (bound r.0 name.text ty) r.2 (after_bound t r.0 name.text ty r.2.alike),
+            subst (λ k. ElaboratesPattern f multi d (bind_pattern name p at) ty s' (match_bind ty k q) (bound r.0 name.text ty) n) r.2.alike.count (binding r.1 (no_var r.2.alike name.text h)),
+            beyond r.2 (after_bound name.text ty r.2.alike),
           )
-      pattern_alike (a_truth {s = s} h) s' a = (s', a_truth h, here s s' a)
-      pattern_alike (an_integer {s = s} h) s' a = (s', an_integer h, here s s' a)
-      pattern_alike (a_constant {d = d} {ty = ty} {name = name} {at = at} {s = s} h) s' a = (
+      pattern_alike (a_truth h) s' a = (s', a_truth h, here a)
+      pattern_alike (an_integer h) s' a = (s', an_integer h, here a)
+      pattern_alike (a_constant {d = d} {ty = ty} {name = name} {at = at} h) s' a = (
         s',
-        subst (λ k. ElaboratesPattern f multi d (prim_pattern name at) ty s' (match_prim ty k) s' 0) (constant_number s s' a name.text e.constants ty two.constants h) (a_constant (sym (constant_alike s s' a name.text) ∙ h)),
-        here s s' a,
+        subst (λ k. ElaboratesPattern f multi d (prim_pattern name at) ty s' (match_prim ty k) s' 0) (constant_number a name.text e.constants ty two.constants h) (a_constant (sym (constant_alike a name.text) ∙ h)),
+        here a,
       )
-      pattern_alike (a_term {name = name} {s = s} {entry = entry} h i j k g) s' a =
-          let t = term_found s s' a name.text entry h in
+      pattern_alike (a_term {name = name} {entry = entry} h i j k g) s' a =
+          let t = term_found a name.text entry h in
           let r = parts_alike g s' a in
           (r.0, a_term t.there i (template_same entry.kind t.kind t.kinds ∙ j) (t.kinds.matchable multi ∙ k) r.1, r.2)
-      pattern_alike (a_template {name = name} {s = s} {entry = entry} h i j k g) s' a =
-          let t = term_found s s' a name.text entry h in
+      pattern_alike (a_template {name = name} {entry = entry} h i j k g) s' a =
+          let t = term_found a name.text entry h in
           let r = pattern_alike g s' a in
           (r.0, a_template t.there i (template_same entry.kind t.kind t.kinds ∙ j) k r.1, r.2)
-      pattern_alike (a_conversion {d = d} {ty = ty} {n = n} {name = name} {args = args} {at = at} {s = s} {entry = entry} {by = by} {q = q} h i j g) s' a =
-          let t' = term_found s s' a name.text entry h in
+      pattern_alike (a_conversion {d = d} {ty = ty} {n = n} {name = name} {args = args} {at = at} {entry = entry} {by = by} {q = q} h i j g) s' a =
+          let t' = term_found a name.text entry h in
           let c = pattern_by entry.ret_ty ty by j in
           let r = pattern_alike g s' a in
-          let same = one_text s s' a by c.name c.kind at c.named in (
+          let same = one_text a by c.name c.kind at c.named in (
             r.0,
             a_conversion t'.there i c.there
                 (subst (λ m. ElaboratesPattern f multi d (term_pattern m (pattern_and (term_pattern name args at) no_pattern) at) ty s' q r.0 n) same r.1),
             r.2,
           )
-      pattern_alike (anything {s = s}) s' a = (s', anything, here s s' a)
+      pattern_alike anything s' a = (s', anything, here a)
       pattern_alike (all_of g) s' a = (let r = each_alike g s' a in (r.0, all_of r.1, r.2))
 
       parts_alike : {d n : ℕ} {tys : List ℕ} {ps : PatternTrees} {s t : Scope} {qs : TypedPatterns} → ElaboratesParts e multi d ps tys s qs t n → (s' : Scope) → Alike s s' → (t' : Scope) × ElaboratesParts f multi d ps tys s' qs t' n × After s s' t t'
-      parts_alike (no_part {s = s}) s' a = (s', no_part, here s s' a)
-      parts_alike (part {s = s} {t = t} {u = u} g h) s' a =
+      parts_alike no_part s' a = (s', no_part, here a)
+      parts_alike (part g h) s' a =
           let r = pattern_alike g s' a in
           let l = parts_alike h r.0 r.2.alike in
-          (l.0, part r.1 l.1, beyond s s' t r.0 u l.0 r.2 l.2)
+          (l.0, part r.1 l.1, beyond r.2 l.2)
 
       each_alike : {d ty n : ℕ} {ps : PatternTrees} {s t : Scope} {qs : TypedPatterns} → ElaboratesEach e multi d ps ty s qs t n → (s' : Scope) → Alike s s' → (t' : Scope) × ElaboratesEach f multi d ps ty s' qs t' n × After s s' t t'
-      each_alike (no_more {s = s}) s' a = (s', no_more, here s s' a)
-      each_alike (one_more {s = s} {t = t} {u = u} g h) s' a =
+      each_alike no_more s' a = (s', no_more, here a)
+      each_alike (one_more g h) s' a =
           let r = pattern_alike g s' a in
           let l = each_alike h r.0 r.2.alike in
-          (l.0, one_more r.1 l.1, beyond s s' t r.0 u l.0 r.2 l.2)
+          (l.0, one_more r.1 l.1, beyond r.2 l.2)
 
   module _ (flags : Flags) where
     mutual
       expr_alike : {d n : ℕ} {ty : Option ℕ} {x : ExprTree} {s t : Scope} {q : TypedExpr} → ElaboratesExpr e flags d x ty s q t n → (s' : Scope) → Alike s s' → (t' : Scope) × ElaboratesExpr f flags d x ty s' q t' n × After s s' t t'
-      expr_alike (a_call {name = name} {s = s} {entry = entry} h i j g) s' a =
-          let t = term_found s s' a name.text entry h in
+      expr_alike (a_call {name = name} {entry = entry} h i j g) s' a =
+          let t = term_found a name.text entry h in
           let r = args_alike g s' a in
           (r.0, a_call t.there i (t.kinds.callable flags ∙ j) r.1, r.2)
-      expr_alike (converted_call {d = d} {ty = ty} {n = n} {name = name} {args = args} {at = at} {s = s} {entry = entry} {by = by} {q = q} h i j g) s' a =
-          let t' = term_found s s' a name.text entry h in
+      expr_alike (converted_call {d = d} {ty = ty} {n = n} {name = name} {args = args} {at = at} {entry = entry} {by = by} {q = q} h i j g) s' a =
+          let t' = term_found a name.text entry h in
           let c = expr_by entry.ret_ty ty by j in
           let r = expr_alike g s' a in
-          let same = one_text s s' a by c.name c.kind at c.named in (
+          let same = one_text a by c.name c.kind at c.named in (
             r.0,
             converted_call t'.there i c.there
                 (subst (λ m. ElaboratesExpr f flags d (term_expr m (expr_and (term_expr name args at) no_expr) at) (Some ty) s' q r.0 n) same r.1),
             r.2,
           )
-      expr_alike (a_variable {d = d} {ty = ty} {name = name} {at = at} {s = s} {v = v} h i) s' a =
-          let w = some_var s s' a name.text v h in (
+      expr_alike (a_variable {d = d} {ty = ty} {name = name} {at = at} {v = v} h i) s' a =
+          let w = some_var a name.text v h in (
             s',
             subst (λ k. ElaboratesExpr f flags d (var_expr name at) ty s' (make_var v.ty k) s' 0) w.2
                 (subst (λ k. is_expected ty k ≡ true → ElaboratesExpr f flags d (var_expr name at) ty s' (make_var k w.0.id) s' 0) w.3 (λ g. a_variable w.1 g) i),
-            here s s' a,
+            here a,
           )
-      expr_alike (converted_variable {d = d} {ty = ty} {n = n} {name = name} {at = at} {s = s} {v = v} {by = by} {q = q} h i j g) s' a =
-          let w = some_var s s' a name.text v h in
+      expr_alike (converted_variable {d = d} {ty = ty} {n = n} {name = name} {at = at} {v = v} {by = by} {q = q} h i j g) s' a =
+          let w = some_var a name.text v h in
           let c = expr_by v.ty ty by j in
           let r = expr_alike g s' a in
-          let same = one_text s s' a by c.name c.kind at c.named in (
+          let same = one_text a by c.name c.kind at c.named in (
             r.0,
             converted_variable w.1 (λ g. i (sym w.3 ∙ g)) (ap (λ k. expr_converter f k ty) w.3 ∙ c.there)
                 (subst (λ m. ElaboratesExpr f flags d (term_expr m (expr_and (var_expr name at) no_expr) at) (Some ty) s' q r.0 n) same r.1),
             r.2,
           )
-      expr_alike (truth_expr {s = s} h) s' a = (s', truth_expr h, here s s' a)
-      expr_alike (integer_expr {s = s} h) s' a = (s', integer_expr h, here s s' a)
-      expr_alike (constant_expr {d = d} {own = own} {ty = ty} {name = name} {at = at} {s = s} h i) s' a = (
+      expr_alike (truth_expr h) s' a = (s', truth_expr h, here a)
+      expr_alike (integer_expr h) s' a = (s', integer_expr h, here a)
+      expr_alike (constant_expr {d = d} {own = own} {ty = ty} {name = name} {at = at} h i) s' a = (
         s',
-        subst (λ k. ElaboratesExpr f flags d (prim_expr name at) ty s' (make_prim own k) s' 0) (constant_number s s' a name.text e.constants own two.constants h) (constant_expr (sym (constant_alike s s' a name.text) ∙ h) i),
-        here s s' a,
+        subst (λ k. ElaboratesExpr f flags d (prim_expr name at) ty s' (make_prim own k) s' 0) (constant_number a name.text e.constants own two.constants h) (constant_expr (sym (constant_alike a name.text) ∙ h) i),
+        here a,
       )
-      expr_alike (let_in {s = s} {t = t} {u = u} g h) s' a =
+      expr_alike (let_in g h) s' a =
           let r = lets_alike g s' a in
           let l = expr_alike h r.0 r.2.alike in
-          (after_let s' l.0, let_in r.1 l.1, after_scope s s' u l.0 a (beyond s s' t r.0 u l.0 r.2 l.2))
+          (after_let s' l.0, let_in r.1 l.1, after_scope a (beyond r.2 l.2))
 
       args_alike : {d n : ℕ} {tys : List ℕ} {xs : ExprTrees} {s t : Scope} {qs : TypedExprs} → ElaboratesArgs e flags d xs tys s qs t n → (s' : Scope) → Alike s s' → (t' : Scope) × ElaboratesArgs f flags d xs tys s' qs t' n × After s s' t t'
-      args_alike (no_arg {s = s}) s' a = (s', no_arg, here s s' a)
-      args_alike (an_arg {s = s} {t = t} {u = u} g h) s' a =
+      args_alike no_arg s' a = (s', no_arg, here a)
+      args_alike (an_arg g h) s' a =
           let r = expr_alike g s' a in
           let l = args_alike h r.0 r.2.alike in
-          (l.0, an_arg r.1 l.1, beyond s s' t r.0 u l.0 r.2 l.2)
+          (l.0, an_arg r.1 l.1, beyond r.2 l.2)
 
       lets_alike : {d n : ℕ} {ls : LetTrees} {s t : Scope} {ds : TypedLets} → ElaboratesLets e flags d ls s ds t n → (s' : Scope) → Alike s s' → (t' : Scope) × ElaboratesLets f flags d ls s' ds t' n × After s s' t t'
-      lets_alike (no_def {s = s}) s' a = (s', no_def, here s s' a)
-      lets_alike (a_def {d = d} {own = own} {n = n} {m = m} {name = name} {ty = ty} {value = value} {at = at} {rest = rest} {s = s} {t = t} {u = u} {q = q} {ds = ds} h g i) s' a =
-          let b = after_met s s' name.text a in
+      lets_alike no_def s' a = (s', no_def, here a)
+      lets_alike (a_def {d = d} {own = own} {n = n} {m = m} {name = name} {ty = ty} {value = value} {at = at} {rest = rest} {q = q} {ds = ds} h g i) s' a =
+          let b = after_met name.text a in
           let r = expr_alike g (met s' name.text) b.alike in
-          let c = after_bound t r.0 name.text own r.2.alike in
+          let c = after_bound name.text own r.2.alike in
           let l = lets_alike i (bound r.0 name.text own) c.alike in (
             l.0,
-            subst (λ k. ElaboratesLets f flags d (let_and name ty value at rest) s' (typed_let_and k own q ds) l.0 (n + m)) r.2.alike.count (a_def (sym (type_alike s s' a ty.text) ∙ h) r.1 l.1),
-            beyond s s' (bound t name.text own) (bound r.0 name.text own) u l.0
-                (beyond s s' t r.0 (bound t name.text own) (bound r.0 name.text own) (beyond s s' (met s name.text) (met s' name.text) t r.0 b r.2) c) l.2,
+            subst (λ k. ElaboratesLets f flags d (let_and name ty value at rest) s' (typed_let_and k own q ds) l.0 (n + m)) r.2.alike.count (a_def (sym (type_alike a ty.text) ∙ h) r.1 l.1),
+            beyond
+                (beyond (beyond b r.2) c) l.2,
           )
 
   iflets_alike : (flags : Flags) {d n : ℕ} {is : List IfLetTree} {s t : Scope} {qs : List TypedIfLet} → ElaboratesIfLets e flags d is s qs t n → (s' : Scope) → Alike s s' → (t' : Scope) × ElaboratesIfLets f flags d is s' qs t' n × After s s' t t'
-  iflets_alike flags (no_iflet {s = s}) s' a = (s', no_iflet, here s s' a)
-  iflets_alike flags (an_iflet {s = s} {t = t} {u = u} {w = w} g h i) s' a =
+  iflets_alike flags no_iflet s' a = (s', no_iflet, here a)
+  iflets_alike flags (an_iflet g h i) s' a =
       let r = expr_alike (on_lhs flags) g s' a in
       let l = pattern_alike flags.multi h r.0 r.2.alike in
       let m = iflets_alike flags i l.0 l.2.alike in
-      (m.0, an_iflet r.1 l.1 m.1, beyond s s' u l.0 w m.0 (beyond s s' t r.0 u l.0 r.2 l.2) m.2)
+      (m.0, an_iflet r.1 l.1 m.1, beyond (beyond r.2 l.2) m.2)
 
   -- 8. rules
   -- the scopes after a rule's own name
-  named_after : (s s' : Scope) (o : Option Name) → Alike s s' → After s s' (with_own_name o s) (with_own_name o s')
-  named_after s s' None a = here s s' a
-  named_after s s' (Some n) a = after_met s s' n.text a
+  named_after : {s s' : Scope} (o : Option Name) → Alike s s' → After s s' (with_own_name o s) (with_own_name o s')
+  named_after None a = here a
+  named_after (Some n) a = after_met n.text a
 
   own_alike : (s s' : Scope) (o : Option Name) → NumbersAlike (with_own_name o s).names (with_own_name o s').names (own_number s o) (own_number s' o)
   own_alike s s' None = tt
@@ -560,22 +560,22 @@ module _ (two : TwoTables) where
   rule_found d id r names names' q t n a (a_rule {name = name} {entry = entry} {flags = flags} {s = v} {t = w} {u = u} {args = args} {iflets = iflets} {rhs = rhs} h i j k x g y) =
       let s : Scope = new_scope names in
       let s' : Scope = new_scope names' in
-      let m = term_found s s' a name.text entry i in
+      let m = term_found a name.text entry i in
       let p = parts_alike flags.multi x s' a in
       let l = iflets_alike flags g p.0 p.2.alike in
       let c = expr_alike flags y l.0 l.2.alike in
-      let z = named_after u c.0 r.name c.2.alike in
+      let z = named_after r.name c.2.alike in
       record {
         rule = rule_of_sides id r (record entry { name = m.name; kind = m.kind }) (args, (iflets, rhs)) c.0;
         scope = with_own_name r.name c.0;
         made = a_rule h m.there (m.kinds.declared ∙ j) k p.1 l.1 c.1;
-        after = beyond s s' u c.0 (with_own_name r.name u) (with_own_name r.name c.0) (beyond s s' w l.0 u c.0 (beyond s s' v p.0 w l.0 p.2 l.2) c.2) z;
+        after = beyond (beyond (beyond p.2 l.2) c.2) z;
         alike = record { term = refl; name = own_alike u c.0 r.name };
       }
 
   -- the next rule begins with the names alone
-  next_scope : (t t' : Scope) → Alike t t' → Alike (new_scope t.names) (new_scope t'.names)
-  next_scope t t' a = names_alike t.names t'.names a.kept a.kept' a.once a.once'
+  next_scope : {t t' : Scope} → Alike t t' → Alike (new_scope t.names) (new_scope t'.names)
+  next_scope {t = t} {t' = t'} a = names_alike t.names t'.names a.kept a.kept' a.once a.once'
 
   -- the rules of a list
   pub record RulesFound (id : ℕ) (rs : List RuleTree) (names names' after : List (List ℕ)) (qs : List TypedRule) : Type 0 where
@@ -592,7 +592,7 @@ module _ (two : TwoTables) where
   rules_found no_rule names' a = record { rules = []; last = names'; made = no_rule; kept = λ k x h. h; kept' = λ k x h. h; alike = tt; scopes = a }
   rules_found (one_rule {id = id} {n = n} {r = r} {names = names} {after = after} {q = q} {t = t} g l rest) names' a =
       let x = rule_found _ id r names names' q t n a g in
-      let y = rules_found rest x.scope.names (next_scope t x.scope x.after.alike) in
+      let y = rules_found rest x.scope.names (next_scope x.after.alike) in
       record {
         rules = x.rule ∷ y.rules;
         last = y.last;

@@ -88,12 +88,12 @@ unbound vars more can_visit e h = subst (λ vs. Visits vars vs (binds_nothing ca
     here : Visits vars vars (binds_nothing can_visit)
     here = record { kept = λ y k. k; can = λ ks r. h ks r.bound; binds = λ ks r y. among (is_in y ks) (has vars y) (r.bound y) }
 
-outside : (vars more : List (ℕ × ℕ)) (a : Walk) → Visits vars more a → (y : ℕ) → has more y ≡ false → has vars y ≡ false
-outside vars more a v y h = elim (cases_Bool (has vars y)) [ inl t ↦ absurd (false≢true (sym h ∙ v.kept y t)) | inr n ↦ n ]
+outside : {vars more : List (ℕ × ℕ)} {a : Walk} → Visits vars more a → (y : ℕ) → has more y ≡ false → has vars y ≡ false
+outside {vars = vars} v y h = elim (cases_Bool (has vars y)) [ inl t ↦ absurd (false≢true (sym h ∙ v.kept y t)) | inr n ↦ n ]
 
 -- one visit after another
-then_visits : (vars mid more : List (ℕ × ℕ)) (a b : Walk) → Visits vars mid a → Visits mid more b → Visits vars more (and_then a b)
-then_visits vars mid more a b v w =
+then_visits : {vars mid more : List (ℕ × ℕ)} {a b : Walk} → Visits vars mid a → Visits mid more b → Visits vars more (and_then a b)
+then_visits {vars = vars} {mid = mid} {more = more} {a = a} {b = b} v w =
     record {
       kept = λ y h. w.kept y (v.kept y h);
       can = λ ks r. and_from (a.can_visit ks) (b.can_visit (a.after ks)) (v.can ks (ready_first ks r)) (w.can (a.after ks) (ready_next ks r));
@@ -110,15 +110,15 @@ then_visits vars mid more a b v w =
         let first = ready_first ks r in
         record {
           bound = λ y h. v.binds ks first y ∙ or_right (is_in y ks) (has mid y) h;
-          new = λ y h k. v.binds ks first y ∙ or_from (is_in y ks) (has mid y) (r.new y (outside vars mid a v y h) k) h;
+          new = λ y h k. v.binds ks first y ∙ or_from (is_in y ks) (has mid y) (r.new y (outside v y h) k) h;
         }
 
 -- a variable, and then a visit
-bind_visits : (vars mid : List (ℕ × ℕ)) (x ty : ℕ) (a : Walk) → Visits vars mid a → has mid x ≡ false → Visits vars ((x, ty) ∷ mid) (with_variable x a)
-bind_visits vars mid x ty a v n =
+bind_visits : {vars mid : List (ℕ × ℕ)} (x ty : ℕ) {a : Walk} → Visits vars mid a → has mid x ≡ false → Visits vars ((x, ty) ∷ mid) (with_variable x a)
+bind_visits {vars = vars} {mid = mid} x ty {a = a} v n =
     record {
       kept = λ y h. has_with x ty mid y ∙ or_right (x == y) (has mid y) (v.kept y h);
-      can = λ ks r. and_from (not (is_in x ks)) (a.can_visit (x ∷ ks)) (ap not (r.new x (outside vars mid a v x n) comes)) (v.can (x ∷ ks) (ready_within ks r));
+      can = λ ks r. and_from (not (is_in x ks)) (a.can_visit (x ∷ ks)) (ap not (r.new x (outside v x n) comes)) (v.can (x ∷ ks) (ready_within ks r));
       binds = λ ks r y.
           (v.binds (x ∷ ks) (ready_within ks r) y ∙ exchanged (x == y) (is_in y ks) (has mid y) ∙ ap (λ b. is_in y ks || b) (sym (has_with x ty mid y)));
     }
@@ -166,7 +166,7 @@ module _ (p : Program) where
         let a = then_rest of (pattern_type of == ty) (with_new x ty) vars more f in
         let n = cond_some (is_none (var_type a.1 x)) ((x, ty) ∷ a.1) more a.3 in
         subst (λ vs. Visits vars vs (pattern_walk (match_bind ty x of))) n.1
-        (bind_visits vars a.1 x ty (pattern_walk of) (pattern_visits of vars a.1 a.2) (has_none (var_type a.1 x) n.0))
+        (bind_visits x ty (pattern_visits of vars a.1 a.2) (has_none (var_type a.1 x) n.0))
     pattern_visits (match_var ty x) vars more f =
         let a = from_if (is_type (var_type vars x) ty) (Some vars) more f in unbound vars more (is_in x) a.1 (λ ks h. h x (has_type (var_type vars x) ty a.0))
     pattern_visits (match_bool ty b) vars more f = unbound vars more (λ ks. true) (from_if (ty == bool_type) (Some vars) more f).1 (λ ks h. refl)
@@ -191,13 +191,13 @@ module _ (p : Program) where
     parts_visit (typed_pattern_and q rest) (ty ∷ tys) vars more f =
         let a = then_rest q (pattern_type q == ty) (λ mid. formed_parts p rest tys mid) vars more f in
         let r = parts_visit rest tys a.1 more a.3 in
-        (ap suc r.0, then_visits vars a.1 more (pattern_walk q) (parts_walk rest) (pattern_visits q vars a.1 a.2) r.1)
+        (ap suc r.0, then_visits (pattern_visits q vars a.1 a.2) r.1)
 
     each_visit : (qs : TypedPatterns) (ty : ℕ) (vars more : List (ℕ × ℕ)) → formed_each p qs ty vars ≡ Some more → Visits vars more (parts_walk qs)
     each_visit no_typed_pattern ty vars more f = unbound vars more (λ ks. true) f (λ ks h. refl)
     each_visit (typed_pattern_and q rest) ty vars more f =
         let a = then_rest q (pattern_type q == ty) (λ mid. formed_each p rest ty mid) vars more f in
-        then_visits vars a.1 more (pattern_walk q) (parts_walk rest) (pattern_visits q vars a.1 a.2) (each_visit rest ty a.1 more a.3)
+        then_visits (pattern_visits q vars a.1 a.2) (each_visit rest ty a.1 more a.3)
 
   mutual
     expr_visits : (e : TypedExpr) (vars : List (ℕ × ℕ)) (ks : List ℕ) → is_formed_expr p e vars ≡ true → Holds vars ks → is_visitable_expr p.terms e ks ≡ true
@@ -247,14 +247,14 @@ module _ (p : Program) where
   list_visits (q ∷ qs) (ty ∷ tys) vars more f =
       let a = then_rest q (pattern_type q == ty) (λ mid. formed_list p qs tys mid) vars more f in
       let r = list_visits qs tys a.1 more a.3 in
-      (ap suc r.0, then_visits vars a.1 more (pattern_walk q) (list_walk qs) (pattern_visits q vars a.1 a.2) r.1)
+      (ap suc r.0, then_visits (pattern_visits q vars a.1 a.2) r.1)
 
   -- an if-let's expression is visited with what is bound before its pattern
   abbrev value_first : TypedExpr → Walk → Walk
   value_first e a = record { can_visit = λ ks. is_visitable_expr p.terms e ks && a.can_visit ks; after = a.after }
 
-  value_visits : (e : TypedExpr) (vars more : List (ℕ × ℕ)) (a : Walk) → is_formed_expr p e vars ≡ true → Visits vars more a → Visits vars more (value_first e a)
-  value_visits e vars more a f v =
+  value_visits : (e : TypedExpr) {vars more : List (ℕ × ℕ)} {a : Walk} → is_formed_expr p e vars ≡ true → Visits vars more a → Visits vars more (value_first e a)
+  value_visits e {vars = vars} {a = a} f v =
       record { kept = v.kept; can = λ ks r. and_from (is_visitable_expr p.terms e ks) (a.can_visit ks) (expr_visits e vars ks f r.bound) (v.can ks r); binds = v.binds }
 
   iflets_visit : (is : List TypedIfLet) (vars more : List (ℕ × ℕ)) → formed_iflets p is vars ≡ Some more → Visits vars more (iflets_walk is)
@@ -262,9 +262,9 @@ module _ (p : Program) where
   iflets_visit (i ∷ is) vars more f =
       let typed = is_formed_expr p i.rhs vars && (pattern_type i.lhs == expr_type i.rhs) in
       let a = then_rest i.lhs typed (λ mid. formed_iflets p is mid) vars more f in
-      value_visits i.rhs vars more (and_then (pattern_walk i.lhs) (iflets_walk is))
+      value_visits i.rhs
       (and_parts (is_formed_expr p i.rhs vars) (pattern_type i.lhs == expr_type i.rhs) a.0).0
-      (then_visits vars a.1 more (pattern_walk i.lhs) (iflets_walk is) (pattern_visits i.lhs vars a.1 a.2) (iflets_visit is a.1 more a.3))
+      (then_visits (pattern_visits i.lhs vars a.1 a.2) (iflets_visit is a.1 more a.3))
 
 ready_start : (vars : List (ℕ × ℕ)) → IsReady [] vars []
 ready_start vars = record { bound = λ y h. h; new = λ y h k. refl }
@@ -276,7 +276,7 @@ formed_rules_can_be_visited p r f =
     let c = then_some (formed_list p r.args a.0.arg_tys []) (formed_iflets p r.iflets) b.0 b.1 in
     let args = list_visits p r.args a.0.arg_tys [] c.0 c.1 in
     let iflets = iflets_visit p r.iflets c.0 b.0 c.2 in
-    let whole = then_visits [] c.0 b.0 (list_walk p r.args) (iflets_walk p r.iflets) args.1 iflets in
+    let whole = then_visits args.1 iflets in
     let start = ready_start b.0 in
     let last = bound_after_iflets r.iflets (bound_after_list r.args []) in
     let visited = and_parts (are_visitable_list p.terms r.args []) (are_visitable_iflets p.terms r.iflets (bound_after_list r.args [])) (whole.can [] start) in
