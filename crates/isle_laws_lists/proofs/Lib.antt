@@ -1,4 +1,5 @@
 pub mod Converters
+pub mod ElaboratedLists
 pub mod EnvironmentsRead
 pub mod EnvironmentsShown
 pub mod FormedParts

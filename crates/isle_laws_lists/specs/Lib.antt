@@ -1,4 +1,3 @@
-pub mod ElaboratedLists
 pub mod FurtherNames
 pub mod JudgeLaws
 pub mod OwnTypes

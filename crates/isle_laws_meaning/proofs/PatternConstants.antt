@@ -14,7 +14,7 @@ use Rattle.isle_model.specs.sites.Serves.{constant_site, constant_type, written_
 use Rattle.isle_model.specs.claims.Environments.{program_of}
 use Rattle.isle_model.proofs.Either.{either}
 use Rattle.isle_model.proofs.Elements.{In, in_from_contains, contains_from_in, in_left, in_right, in_either, some_is, none_some, in_flat_map, from_flat_map}
-use Rattle.isle_laws_lists.specs.ElaboratedLists.{ElaboratedList, program, list_elaborated}
+use Rattle.isle_laws_lists.proofs.ElaboratedLists.{ElaboratedList, program, list_elaborated}
 use Rattle.isle_laws_lists.proofs.FormedParts.{from_if, type_is}
 use Rattle.isle_laws_lists.proofs.FormedRules.{rules_are_formed}
 use Rattle.isle_laws_lists.proofs.TypedRules as typed
@@ -367,20 +367,19 @@ module _ (p : Program) (rs : List TypedRule) (formed : (r : TypedRule) → In rs
   are_open a b h = ap (λ x. x || is_open_constant p (site_of b)) (open_or_itself p a) ∙ ap (λ x. not (means_itself p a) || x) (open_or_itself p b) ∙ not_both (means_itself p a) (means_itself p b) h
 
   -- from patterns to sites, for whatever values of constants
-  module _ (value : PatternConstant → Option Value) (h : AreToldApart p value rs) where
-    same_site : (a b : SiteTerm) (ty : ℕ) (x : IsTested a) (y : IsTested b) → (is_open_constant p a || is_open_constant p b) ≡ true → written_type p a ≡ Some ty → written_type p b ≡ Some ty
-        → (v : Value) → value x.constant ≡ Some v → value y.constant ≡ Some v → a ≡ b
-    same_site a b ty x y o s t v g k =
-        let opened = ap (λ u. is_open_constant p u || is_open_constant p (site_of y.constant)) x.site ∙ ap (λ u. is_open_constant p a || is_open_constant p u) y.site ∙ o in
-        let one = some_is (type_of_constant x.constant) ty (sym x.typed ∙ s) in
-        let two = some_is (type_of_constant y.constant) ty (sym y.typed ∙ t) in
-        sym x.site ∙ ap site_of (h.different x.constant y.constant v x.named y.named (one ∙ sym two) (one_is_open x.constant y.constant opened) g k) ∙ y.site
+  same_site : {value : PatternConstant → Option Value} → AreToldApart p value rs → (a b : SiteTerm) (ty : ℕ) (x : IsTested a) (y : IsTested b) → (is_open_constant p a || is_open_constant p b) ≡ true → written_type p a ≡ Some ty → written_type p b ≡ Some ty
+      → (v : Value) → value x.constant ≡ Some v → value y.constant ≡ Some v → a ≡ b
+  same_site h a b ty x y o s t v g k =
+      let opened = ap (λ u. is_open_constant p u || is_open_constant p (site_of y.constant)) x.site ∙ ap (λ u. is_open_constant p a || is_open_constant p u) y.site ∙ o in
+      let one = some_is (type_of_constant x.constant) ty (sym x.typed ∙ s) in
+      let two = some_is (type_of_constant y.constant) ty (sym y.typed ∙ t) in
+      sym x.site ∙ ap site_of (h.different x.constant y.constant v x.named y.named (one ∙ sym two) (one_is_open x.constant y.constant opened) g k) ∙ y.site
 
-    no_parts : (r : TypedRule) (s : SiteTerm) (name ty : ℕ) → Contains rs r → Contains (demands_of p r).constraints (s, is_prim name) → constant_type p name ≡ Some ty → is_type_with_parts (slice_get p.types ty) ≡ false
-    no_parts r s name ty c i t =
-        let x = of_rule r (in_from_contains rs r c) (s, is_prim name) (in_from_contains (demands_of p r).constraints (s, is_prim name) i) (prim_term name) (inl refl) in
-        let one = some_is (type_of_constant x.constant) ty (sym x.typed ∙ t) in
-        h.without_parts name ty (subst (Contains (rules_constants rs)) (of_name x.constant name x.site ∙ ap (a_name name) one) x.named)
+  no_parts : {value : PatternConstant → Option Value} → AreToldApart p value rs → (r : TypedRule) (s : SiteTerm) (name ty : ℕ) → Contains rs r → Contains (demands_of p r).constraints (s, is_prim name) → constant_type p name ≡ Some ty → is_type_with_parts (slice_get p.types ty) ≡ false
+  no_parts h r s name ty c i t =
+      let x = of_rule r (in_from_contains rs r c) (s, is_prim name) (in_from_contains (demands_of p r).constraints (s, is_prim name) i) (prim_term name) (inl refl) in
+      let one = some_is (type_of_constant x.constant) ty (sym x.typed ∙ t) in
+      h.without_parts name ty (subst (Contains (rules_constants rs)) (of_name x.constant name x.site ∙ ap (a_name name) one) x.named)
 
   -- and back
   parts_back : ((r : TypedRule) (s : SiteTerm) (name ty : ℕ) → Contains rs r → Contains (demands_of p r).constraints (s, is_prim name) → constant_type p name ≡ Some ty → is_type_with_parts (slice_get p.types ty) ≡ false)
@@ -398,8 +397,8 @@ module _ (p : Program) (rs : List TypedRule) (formed : (r : TypedRule) → In rs
     different = λ a b ty v i j o s t g k.
         (let x = tested a i in
         let y = tested b j in
-        same_site (value_in m) h a b ty x y o s t v (sym (value_there m x.constant) ∙ ap (written_value m) x.site ∙ g) (sym (value_there m y.constant) ∙ ap (written_value m) y.site ∙ k));
-    without_parts = no_parts (value_in m) h;
+        same_site h a b ty x y o s t v (sym (value_there m x.constant) ∙ ap (written_value m) x.site ∙ g) (sym (value_there m y.constant) ∙ ap (written_value m) y.site ∙ k));
+    without_parts = no_parts h;
   }
 
   told : (m : Meaning) → TellsConstantsApart p m rs → TellsPatternsApart p m rs
@@ -418,9 +417,9 @@ module _ (p : Program) (rs : List TypedRule) (formed : (r : TypedRule) → In rs
         (let x = tested a i in
         let y = tested b j in
         let v = total_some f x.constant in
-        same_site (value_by f) h a b ty x y o s t v.0 v.1
+        same_site h a b ty x y o s t v.0 v.1
         (sym (total_there f y.constant) ∙ ap (total_value f) y.site ∙ sym g ∙ sym (ap (total_value f) x.site) ∙ total_there f x.constant ∙ v.1));
-    without_parts = no_parts (value_by f) h;
+    without_parts = no_parts h;
   }
 
   kept : (f : TotalMeaning) → KeepsConstantsApart p f rs → KeepsPatternsApart p f rs

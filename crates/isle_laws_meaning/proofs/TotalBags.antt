@@ -16,7 +16,7 @@ use Rattle.isle_model.specs.sites.Closure.{DemandsHold}
 use Rattle.isle_model.specs.claims.Environments.{program_of}
 use Rattle.isle_model.proofs.Bags.{flat_map_same}
 use Rattle.isle_model.proofs.Elements.{In, contains_from_in}
-use Rattle.isle_laws_lists.specs.ElaboratedLists.{ElaboratedList, program, list_elaborated}
+use Rattle.isle_laws_lists.proofs.ElaboratedLists.{ElaboratedList, program, list_elaborated}
 use Rattle.isle_laws_lists.proofs.FormedRules.{rules_are_formed}
 use Rattle.isle_laws_lists.proofs.TypedRules as typed
 use Rattle.isle_laws_runs.proofs.picks.Enumerated.{picks_are_exact_lem}
@@ -139,32 +139,29 @@ module _ (l : ElaboratedList) (t : ℕ) (two : TwoMaps (program l) (rules_of (pr
   abbrev second : Meaning
   second = two.second.meaning
 
-  module _ (q : QuietRule p rs) where
-    same_picks : picks p first args q.rule ≡ picks p second args q.rule
-    same_picks = picks_same p rs two q
+  result_same : (q : QuietRule p rs) (k : Pick) → Contains (picks p first args q.rule) k → results_under p first args q.rule k ≡ results_under p second args q.rule k
+  result_same q k pick = by (matches_under p first k q.rule args) (matches_under p second k q.rule args) refl refl
+    where
+      picked : Contains (picks p second args q.rule) k
+      picked = subst (λ ks. Contains ks k) (picks_same p rs two q) pick
 
-    result_same : (k : Pick) → Contains (picks p first args q.rule) k → results_under p first args q.rule k ≡ results_under p second args q.rule k
-    result_same k pick = by (matches_under p first k q.rule args) (matches_under p second k q.rule args) refl refl
-      where
-        picked : Contains (picks p second args q.rule) k
-        picked = subst (λ ks. Contains ks k) same_picks pick
+      matching_same : is_some (matches_under p first k q.rule args) ≡ is_some (matches_under p second k q.rule args)
+      matching_same =
+          bool_same (is_some (matches_under p first k q.rule args)) (is_some (matches_under p second k q.rule args)) (matches_there l t two fit q k pick)
+          (matches_there l t (turned p rs two) fit q k picked)
 
-        matching_same : is_some (matches_under p first k q.rule args) ≡ is_some (matches_under p second k q.rule args)
-        matching_same =
-            bool_same (is_some (matches_under p first k q.rule args)) (is_some (matches_under p second k q.rule args)) (matches_there l t two fit q k pick)
-            (matches_there l t (turned p rs two) fit q k picked)
+      by : (a b : Option SitedVars) → matches_under p first k q.rule args ≡ a → matches_under p second k q.rule args ≡ b → results_under p first args q.rule k ≡ results_under p second args q.rule k
+      by None None x y = ap (results_with p first k q.rule) x ∙ sym (ap (results_with p second k q.rule) y)
+      by None (Some w) x y = absurd (false≢true (sym (ap is_some x) ∙ matching_same ∙ ap is_some y))
+      by (Some v) None x y = absurd (false≢true (sym (sym (ap is_some x) ∙ matching_same ∙ ap is_some y)))
+      by (Some v) (Some w) x y =
+          result_there l t first args q.rule k (record { typed = fit; served = two.first.serves; rule = q.listed; pick = pick }) q.no_calls v x
+          ∙ ap as_list (content_same p rs two q k (result_of p q.rule) (rule_makes p q.rule).1)
+          ∙ sym (result_there l t second args q.rule k (record { typed = fit; served = two.second.serves; rule = q.listed; pick = picked }) q.no_calls w y)
 
-        by : (a b : Option SitedVars) → matches_under p first k q.rule args ≡ a → matches_under p second k q.rule args ≡ b → results_under p first args q.rule k ≡ results_under p second args q.rule k
-        by None None x y = ap (results_with p first k q.rule) x ∙ sym (ap (results_with p second k q.rule) y)
-        by None (Some w) x y = absurd (false≢true (sym (ap is_some x) ∙ matching_same ∙ ap is_some y))
-        by (Some v) None x y = absurd (false≢true (sym (sym (ap is_some x) ∙ matching_same ∙ ap is_some y)))
-        by (Some v) (Some w) x y =
-            result_there l t first args q.rule k (record { typed = fit; served = two.first.serves; rule = q.listed; pick = pick }) q.no_calls v x
-            ∙ ap as_list (content_same p rs two q k (result_of p q.rule) (rule_makes p q.rule).1)
-            ∙ sym (result_there l t second args q.rule k (record { typed = fit; served = two.second.serves; rule = q.listed; pick = picked }) q.no_calls w y)
-
-    rule_same : flat_map (results_under p first args q.rule) (picks p first args q.rule) ≡ flat_map (results_under p second args q.rule) (picks p second args q.rule)
-    rule_same = flat_map_same (results_under p first args q.rule) (results_under p second args q.rule) (picks p first args q.rule) result_same ∙ ap (flat_map (results_under p second args q.rule)) same_picks
+  rule_same : (q : QuietRule p rs) → flat_map (results_under p first args q.rule) (picks p first args q.rule) ≡ flat_map (results_under p second args q.rule) (picks p second args q.rule)
+  rule_same q =
+      flat_map_same (results_under p first args q.rule) (results_under p second args q.rule) (picks p first args q.rule) (result_same q) ∙ ap (flat_map (results_under p second args q.rule)) (picks_same p rs two q)
 
   rules_same : (quiet : (r : TypedRule) → Contains rs r → (demands_of p r).impure ≡ []) → bag p first rs args ≡ bag p second rs args
   rules_same quiet = by rs (λ r i. contains_from_in rs r i)
