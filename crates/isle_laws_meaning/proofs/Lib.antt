@@ -1,4 +1,4 @@
-pub mod CallsGoneOver
+pub mod ImpureCalls
 pub mod OneMeaning
 pub mod PatternConstants
 pub mod ReadAgain

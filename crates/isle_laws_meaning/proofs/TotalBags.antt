@@ -34,7 +34,7 @@ use Rattle.isle_laws_demands.proofs.total.Total.{total_meanings_serve_lem, agree
 use Rattle.isle_laws_demands.proofs.visits.Declared.{program_not_both}
 use Rattle.isle_laws_demands.proofs.visits.Elaborated.{elaborated_rules_hang, elaborated_rules_demand_gates_lem}
 use Rattle.isle_laws_meaning.specs.TotalBags.{BagIsOfFunctions, TotalMeaningsHaveOneBag}
-use Rattle.isle_laws_meaning.proofs.CallsGoneOver.{calls_are_made, none_is_impure, no_calls_at}
+use Rattle.isle_laws_meaning.proofs.ImpureCalls.{none_is_impure, no_calls_at}
 use Rattle.isle_laws_meaning.proofs.PatternConstants.{functions_constants_are_of_patterns_lem}
 
 -- total functions, arguments, and two finite maps that agree with the functions and serve these rules on the arguments
@@ -78,7 +78,7 @@ module _ (p : Program) (rs : List TypedRule) (two : TwoMaps p rs) (q : QuietRule
       λ j. flat_map (λ i. b i j) (places_in (a j))
 
   call_made : (u : SiteTerm) → In (multi_calls p q.rule) u → AllMade made u
-  call_made u i = elim (with_sites_in [] (demands_of p q.rule).iterators u i) [ inl x ↦ absurd x | inr j ↦ calls_are_made p q.rule u j ]
+  call_made u i = elim (with_sites_in [] (demands_of p q.rule).iterators u i) [ inl x ↦ absurd x | inr j ↦ (rule_makes p q.rule).0.over u j ]
 
   picks_same : picks p m two.args q.rule ≡ picks p n two.args q.rule
   picks_same = over_same (multi_calls p q.rule) call_made []
