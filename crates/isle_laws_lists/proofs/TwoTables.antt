@@ -1,5 +1,6 @@
 -- Rules elaborate alike by two tables of terms that say the same of terms with the same texts for names, each from the names
--- that its table speaks of.
+-- that its table speaks of: names (1), entries of terms (2), variables (3), names of rules and what is found (4), two tables and
+-- their scopes (5), look-ups (6), derivations (7), rules (8), and that a rule has a typed rule by both or by none (9).
 use Rattle.std.proofs.Common.{◌≡◌, ℕ, zero, suc, ◌+◌, Bool, true, false, not, cond, ◌&&◌, ◌||◌, if◌then◌else◌, List, [], ◌∷◌, ◌++◌, length, Option, Some, None, slice_get, is_some, refl, sym, ap, ◌∙◌, subst, eqb-true, nat_le, inl, inr}
 use Rattle.std.proofs.Math.Path.{ap₂}
 use Rattle.std.specs.List.{position_from}

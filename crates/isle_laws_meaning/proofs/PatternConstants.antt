@@ -1,6 +1,6 @@
 -- The constants that demands ask of sites are those that patterns name.
 use Rattle.std.proofs.Common.{◌≡◌, ◌&&◌, ◌||◌, not, ℕ, suc, Bool, true, false, List, [], ◌∷◌, ◌++◌, Option, Some, slice_get, Contains, IsTrue, flat_map, refl, sym, ap, ◌∙◌, subst, inl, inr}
-use Rattle.std.proofs.lemmas.Bool.{false≢true}
+use Rattle.std.proofs.lemmas.Bool.{and_from, false≢true, not-true}
 use Rattle.std.proofs.lemmas.List.Elements.{All-contains}
 use Rattle.isle_model.specs.lists.Formed.{is_type, formed_pattern, formed_parts, formed_each, formed_list, formed_iflets, is_formed_rule}
 use Rattle.isle_model.specs.lists.Tables.{Flags}
@@ -259,11 +259,7 @@ open_or_itself p (a_literal (int_literal z ty)) = refl
 open_or_itself p (a_name name ty) = refl
 
 one_open : (a b : Bool) → (not a || not b) ≡ true → (a && b) ≡ false
-one_open true b h = by b h
-  where
-    by : (b : Bool) → not b ≡ true → b ≡ false
-    by true h = absurd (false≢true h)
-    by false h = refl
+one_open true b h = not-true b h
 one_open false b h = refl
 
 not_both : (a b : Bool) → (a && b) ≡ false → (not a || not b) ≡ true
@@ -465,14 +461,10 @@ headline_is_of_patterns_lem e defs expand rules t sites tree h =
     }
 
 -- 5. literals that mean what they write
-both : (a b : Bool) → a ≡ true → b ≡ true → (a && b) ≡ true
-both true b g h = h
-both false b g h = absurd (false≢true g)
-
 pub literals_are_told_apart_lem : LiteralsAreToldApart
 literals_are_told_apart_lem p value rs all =
     let itself : (c : PatternConstant) → Contains (rules_constants rs) c → means_itself p c ≡ true = λ c i. All-contains (λ k. IsTrue (means_itself p k)) (rules_constants rs) c all i in
     record {
-      different = λ a b v i j same o g k. absurd (false≢true (sym o ∙ both (means_itself p a) (means_itself p b) (itself a i) (itself b j)));
+      different = λ a b v i j same o g k. absurd (false≢true (sym o ∙ and_from (means_itself p a) (means_itself p b) (itself a i) (itself b j)));
       without_parts = λ name ty i. absurd (false≢true (itself (a_name name ty) i));
     }

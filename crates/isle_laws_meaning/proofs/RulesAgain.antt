@@ -15,8 +15,7 @@ use Rattle.isle_model.specs.lists.Setting.{new_scope, entry_template}
 use Rattle.isle_model.specs.lists.Elaborated.{TypedRules, elaborated_rule, term_name, named_rule, named_rules, rule_names, named, typed_rules, RulesElaborate}
 use Rattle.isle_model.specs.rules.Typed.{TypedRule}
 use Rattle.isle_model.specs.claims.Environments.{setting_of, HasTypedRules}
-use Rattle.isle_model.proofs.Bytes.{same_self}
-use Rattle.isle_model.proofs.Elements.{In, or_left, or_right, contains_from_in, in_flat_map, from_flat_map, in_map, map_in}
+use Rattle.isle_model.proofs.Elements.{In, contains_from_in, in_flat_map, from_flat_map, in_map, map_in}
 use Rattle.isle_model.proofs.Mapped.{mapped_some, get_mapped}
 use Rattle.isle_model.proofs.Members.{get_within, member_from_get}
 use Rattle.isle_model.proofs.Names.{found, has_met, has_left, get_kept, distinct_names, number_below}
@@ -25,6 +24,7 @@ use Rattle.isle_laws_lists.specs.FurtherNames.{AreThereAlike}
 use Rattle.isle_laws_lists.proofs.TypesStay.{number_front}
 use Rattle.isle_laws_lists.proofs.TypedRules.{lists_agree}
 use Rattle.isle_laws_meaning.specs.ReadAgain.{RulesAreTypedAgain}
+use Rattle.isle_laws_lists.proofs.Twice.{has_name_decides}
 use Rattle.isle_laws_lists.proofs.TwoTables.{OfOneText, same_kind, declared_alike, EntryAlike, EntriesAlike, NumbersAlike, RuleAlike, RulesAlike, numbers_kept, TwoTables, other_setting, turned, Alike, names_alike, rules_found, typings_alike}
 use Rattle.isle_laws_meaning.proofs.ReadAgain.{TypesReadAgain, later, still_readable, made_below, names_stay, valid_alike, left_again}
 
@@ -139,11 +139,9 @@ map_same f g (x ∷ xs) h = ap₂ (λ y ys. y ∷ ys) (h x (inl refl)) (map_same
 
 -- a declared term is there
 has_declared : (ds : List DeclTree) (d : DeclTree) → In ds d → has_name (map (λ (x : DeclTree). x.term.text) ds) d.term.text ≡ true
-has_declared [] d i = absurd i
-has_declared (x ∷ ds) d (inl e) =
-    subst (λ (y : DeclTree). has_name (x.term.text ∷ map (λ (z : DeclTree). z.term.text) ds) y.term.text ≡ true) e
-    (or_left (bytes_eq x.term.text x.term.text) (has_name (map (λ (z : DeclTree). z.term.text) ds) x.term.text) (same_self x.term.text))
-has_declared (x ∷ ds) d (inr i) = or_right (bytes_eq x.term.text d.term.text) (has_name (map (λ (z : DeclTree). z.term.text) ds) d.term.text) (has_declared ds d i)
+has_declared ds d i =
+    let names = map (λ (x : DeclTree). x.term.text) ds in
+    (has_name_decides names d.term.text).1 (contains_from_in names d.term.text (map_in (λ (x : DeclTree). x.term.text) ds d i))
 
 module _ (a : TypesReadAgain) (defs : List Definition) where
   abbrev k : KnownTypes
