@@ -17,6 +17,7 @@ pub mod RefusedTerms
 pub mod TermLaws
 pub mod TermTypes
 pub mod Twice
+pub mod TwoTables
 pub mod TypeLaws
 pub mod TypedExprs
 pub mod TypedPatterns

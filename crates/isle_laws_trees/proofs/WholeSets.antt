@@ -8,61 +8,63 @@ use Rattle.isle_model.specs.sites.Sites.{Site, Constraint, SetRule, SiteSet, Sit
 use Rattle.isle_model.specs.sites.Demands.{Demands, demands_of}
 use Rattle.isle_model.specs.sites.Closure.{HasConstraint, IsClosedEquality, ClosedIsWhole}
 use Rattle.isle_model.specs.sites.Overlap.{BuiltRule, built_rules}
-use Rattle.isle_model.specs.sites.RuleSets.{AreRulesOfSet, IsRuleOf, IsBuilt}
+use Rattle.isle_model.specs.sites.RuleSets.{AreRulesOfSet, IsRuleOf}
 use Rattle.isle_model.specs.trees.Places.{joins_in}
 use Rattle.isle_model.specs.claims.Layers.{own_program}
 use Rattle.isle_model.proofs.Elements.{contains_from_in, in_slice, some_is}
 use Rattle.isle_model.proofs.Mapped.{get_mapped, get_map}
 use Rattle.isle_laws_lists.proofs.WellTypedRules.{read_programs_are_well_typed}
 use Rattle.isle_laws_demands.specs.BuiltLaws.{BuiltDemandsAreWhole}
+use Rattle.isle_laws_demands.proofs.visits.BuiltSets.{BuiltSet, RuleOfSet}
 use Rattle.isle_laws_demands.proofs.visits.Once.{one_number}
 use Rattle.isle_laws_trees.specs.WholeDemands.{AsksAt, JoinsAt, AsksWhatFollows, AcceptedSetsAreWhole}
 
--- a rule of a built set, and the built rule that it stands for, whose demands are whole
-record BuiltSetRule (p : Program) (t : ℕ) (set : SiteSet) : Type 0 where
-  built : IsBuilt p t set
-  source : BuiltRule
-  rule : SetRule
-  is : IsRuleOf p set.sites source rule
-  whole : ClosedIsWhole (demands_of p source.rule) source.demands
+module _ (b : BuiltSet) (x : RuleOfSet b) (whole : ClosedIsWhole (demands_of b.program x.typed.rule) x.typed.demands) where
+  abbrev p : Program
+  p = b.program
 
-module _ (p : Program) (t : ℕ) (set : SiteSet) (rule : BuiltSetRule p t set) where
+  abbrev t : ℕ
+  t = b.term
+
+  abbrev set : SiteSet
+  set = b.set
+
   abbrev tree_of : ℕ → SiteTerm
   tree_of s = unfold_site set.sites s
 
   abbrev d : Demands
-  d = demands_of p rule.source.rule
+  d = demands_of p x.typed.rule
 
-  number_there : (s : ℕ) (c : Constraint) → s < length set.sites → HasConstraint d (tree_of s) c → Contains rule.rule.constraints (s, c)
+  number_there : (s : ℕ) (c : Constraint) → s < length set.sites → HasConstraint d (tree_of s) c → Contains x.rule.constraints (s, c)
   number_there s c lt has =
-      let k = rule.is.constraints.all_asked (tree_of s) c ((rule.whole.constraints (tree_of s) c).1 has) in
-      subst (λ n. Contains rule.rule.constraints (n, c)) (one_number p t set rule.built k.0 s (rule.is.constraints.asked k.0 c k.1).0 lt k.2) k.1
+      let k = x.is.constraints.all_asked (tree_of s) c ((whole.constraints (tree_of s) c).1 has) in
+      subst (λ n. Contains x.rule.constraints (n, c)) (one_number p t set b.built k.0 s (x.is.constraints.asked k.0 c k.1).0 lt k.2) k.1
 
-  classes_there : (a b' : ℕ) → a < length set.sites → b' < length set.sites → IsClosedEquality d (tree_of a) (tree_of b') → (a ≢ b') × IsTrue (joins_in rule.rule.classes a b')
+  classes_there : (a b' : ℕ) → a < length set.sites → b' < length set.sites → IsClosedEquality d (tree_of a) (tree_of b') → (a ≢ b') × IsTrue (joins_in x.rule.classes a b')
   classes_there a b' la lb e =
-      let w = (rule.whole.equalities (tree_of a) (tree_of b')).1 e in
-      let k = rule.is.classes.all_joined w.1.0 (tree_of a) (tree_of b') w.1.1 w.1.2 w.1.3 in
-      let j = rule.is.classes.joined k.0 k.1 k.2 in
-      let one : k.0 ≡ a = one_number p t set rule.built k.0 a j.0 la k.3 in
-      let other : k.1 ≡ b' = one_number p t set rule.built k.1 b' j.1 lb k.4 in (
+      let w = (whole.equalities (tree_of a) (tree_of b')).1 e in
+      let k = x.is.classes.all_joined w.1.0 (tree_of a) (tree_of b') w.1.1 w.1.2 w.1.3 in
+      let j = x.is.classes.joined k.0 k.1 k.2 in
+      let one : k.0 ≡ a = one_number p t set b.built k.0 a j.0 la k.3 in
+      let other : k.1 ≡ b' = one_number p t set b.built k.1 b' j.1 lb k.4 in (
         λ same. w.0 (ap tree_of same),
-        subst (λ n. IsTrue (joins_in rule.rule.classes n b')) one (subst (λ n. IsTrue (joins_in rule.rule.classes k.0 n)) other k.2),
+        subst (λ n. IsTrue (joins_in x.rule.classes n b')) one (subst (λ n. IsTrue (joins_in x.rule.classes k.0 n)) other k.2),
       )
 
-  classes_follow : (a b' : ℕ) → (a ≢ b') × IsTrue (joins_in rule.rule.classes a b') → (a < length set.sites) × (b' < length set.sites) × IsClosedEquality d (tree_of a) (tree_of b')
+  classes_follow : (a b' : ℕ) → (a ≢ b') × IsTrue (joins_in x.rule.classes a b') → (a < length set.sites) × (b' < length set.sites) × IsClosedEquality d (tree_of a) (tree_of b')
   classes_follow a b' h =
-      let j = rule.is.classes.joined a b' h.1 in
-      (j.0, j.1, (rule.whole.equalities (tree_of a) (tree_of b')).0 (λ same. h.0 (one_number p t set rule.built a b' j.0 j.1 same), (j.2, j.3, j.4, j.5)))
+      let j = x.is.classes.joined a b' h.1 in
+      (j.0, j.1, (whole.equalities (tree_of a) (tree_of b')).0 (λ same. h.0 (one_number p t set b.built a b' j.0 j.1 same), (j.2, j.3, j.4, j.5)))
 
-  asks_at : (u : SiteTerm) (c : Constraint) → HasConstraint d u c → AsksAt set.sites rule.rule u c
+  asks_at : (u : SiteTerm) (c : Constraint) → HasConstraint d u c → AsksAt set.sites x.rule u c
   asks_at u c has =
-      let k = rule.is.constraints.all_asked u c ((rule.whole.constraints u c).1 has) in
+      let k = x.is.constraints.all_asked u c ((whole.constraints u c).1 has) in
       record { site = k.0; stands = k.2; asked = k.1 }
 
-  joins_at : (u v : SiteTerm) → IsClosedEquality d u v → JoinsAt set.sites rule.rule u v
+  joins_at : (u v : SiteTerm) → IsClosedEquality d u v → JoinsAt set.sites x.rule u v
   joins_at u v e =
-      let w = (rule.whole.equalities u v).1 e in
-      let k = rule.is.classes.all_joined w.1.0 u v w.1.1 w.1.2 w.1.3 in
+      let w = (whole.equalities u v).1 e in
+      let k = x.is.classes.all_joined w.1.0 u v w.1.1 w.1.2 w.1.3 in
       record {
         first = k.0;
         second = k.1;
@@ -71,12 +73,12 @@ module _ (p : Program) (t : ℕ) (set : SiteSet) (rule : BuiltSetRule p t set) w
         joined = k.2;
       }
 
-  asks_what_follows : AsksWhatFollows p set.sites rule.source.rule rule.rule
+  asks_what_follows : AsksWhatFollows p set.sites x.typed.rule x.rule
   asks_what_follows = record {
-    id = rule.is.id;
-    at = rule.is.at;
+    id = x.is.id;
+    at = x.is.at;
     constraints = λ s c. (
-      λ h. let k = rule.is.constraints.asked s c h in (k.0, (rule.whole.constraints (tree_of s) c).0 k.1),
+      λ h. let k = x.is.constraints.asked s c h in (k.0, (whole.constraints (tree_of s) c).0 k.1),
       λ h. number_there s c h.0 h.1,
     );
     classes = λ a b'. (classes_follow a b', λ h. classes_there a b' h.0 h.1 h.2);
@@ -103,6 +105,9 @@ built_at p sites (c ∷ bs) (q ∷ rs) (suc i) r h e = built_at p sites bs rs i 
 pub accepted_sets_are_whole_lem : BuiltDemandsAreWhole → AcceptedSetsAreWhole
 accepted_sets_are_whole_lem law defs expand rules accepted t set built =
     let p = own_program defs rules in
+    let s : BuiltSet = record { program = p; term = t; set = set; built = built } in
+    let of : (b : BuiltRule) (i : ℕ) → slice_get (built_rules p t) i ≡ Some b → (r : SetRule) → IsRuleOf p set.sites b r → RuleOfSet s = λ b i at r is.
+    record { typed = b; listed = in_slice (built_rules p t) i b at; rule = r; is = is } in
     let all = accepted.checkable.built t in
     record {
       each_rule = λ i r h.
@@ -110,7 +115,7 @@ accepted_sets_are_whole_lem law defs expand rules accepted t set built =
           record {
             source = k.0.rule;
             here = subst (λ (l : List TypedRule). slice_get l i ≡ Some k.0.rule) all (get_map (λ (b : BuiltRule). b.rule) (built_rules p t) i k.0 k.1);
-            asks = asks_what_follows p t set (record { built = built; source = k.0; rule = r; is = k.2; whole = whole k.0 i k.1 });
+            asks = asks_what_follows s (of k.0 i k.1 r k.2) (whole k.0 i k.1);
           });
       each_source = λ i q h.
           (let m = get_mapped (λ (b : BuiltRule). b.rule) (built_rules p t) i q (subst (λ (l : List TypedRule). slice_get l i ≡ Some q) (sym all) h) in
@@ -118,7 +123,7 @@ accepted_sets_are_whole_lem law defs expand rules accepted t set built =
           record {
             rule = k.0;
             here = k.1;
-            asks = subst (λ (x : TypedRule). AsksWhatFollows p set.sites x k.0) m.2 (asks_what_follows p t set (record { built = built; source = m.0; rule = k.0; is = k.2; whole = whole m.0 i m.1 }));
+            asks = subst (λ (x : TypedRule). AsksWhatFollows p set.sites x k.0) m.2 (asks_what_follows s (of m.0 i m.1 k.0 k.2) (whole m.0 i m.1));
           });
     }
   where

@@ -61,7 +61,7 @@ equal_kept p = record {
   asks_all = λ s v h m. asking_all_on (unwraps s) v h;
   asks_call = λ t s v flags e f c n h m. record { onward = record { holds = h; stays = λ u q. q }; site = inl n };
   iterates_extractor = λ t s v flags b e f c n h m. record { onward = record { holds = h; stays = λ u q. q }; site = inl n };
-  iterates_constructor = λ t i ss v flags b e f h. record { holds = h; stays = λ u m. m };
+  iterates_constructor = λ t i ss v flags b e f n m h. record { holds = h; stays = λ u m. m };
 }
 
 shown : (d : Demands) (s : SiteTerm) → IsMade d s → Contains d.made s ⊎ (s ≡ no_site)

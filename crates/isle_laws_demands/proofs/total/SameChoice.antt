@@ -41,7 +41,7 @@ use Rattle.isle_laws_demands.proofs.outcomes.RightSides.{right_follows}
 use Rattle.isle_laws_demands.specs.TotalLaws.{Restricts, TotalMeaningsHaveOneOutcome, TotalMeaning, ChoiceIsOfFunctions}
 use Rattle.isle_laws_demands.proofs.total.CallsMade.{rule_makes}
 use Rattle.isle_laws_demands.proofs.total.Total.{total_meanings_serve_lem, agreeing_maps_tell_apart_lem}
-use Rattle.isle_laws_demands.proofs.total.SameContents.{TwoMaps, demands_hold, outcome_same}
+use Rattle.isle_laws_demands.proofs.total.SameContents.{TwoMaps, turned, demands_hold, outcome_same}
 
 none_there : {X : Type 0} (o : Option X) → is_some o ≡ false → o ≡ None
 none_there None h = refl
@@ -97,10 +97,7 @@ module _ (p : Program) (h : IsWellTypedProgram p) (t : ℕ) where
       n = b.meaning
 
       abbrev two : TwoMaps
-      two = record { program = p; rules = rs; functions = f; args = args; pick = []; first = a; second = b }
-
-      abbrev turned : TwoMaps
-      turned = record { program = p; rules = rs; functions = f; args = args; pick = []; first = b; second = a }
+      two = record { program = p; term = t; functions = f; args = args; first = a; second = b }
 
       tested : (r : TypedRule) → Contains rs r → CanBeTested (demands_of p r)
       tested r i = (well_typed_rules_demand_gates_lem p h r (of_term p t r i).0).tested
@@ -108,8 +105,8 @@ module _ (p : Program) (h : IsWellTypedProgram p) (t : ℕ) where
       matching_same : (r : TypedRule) → Contains rs r → is_some (matches p m r args) ≡ is_some (matches p n r args)
       matching_same r i =
           bool_same (is_some (matches p m r args)) (is_some (matches p n r args))
-          (λ h. holds_matched n b.serves r i (demands_hold two r i (tested r i) (rule_makes p r).0 (matched_holds m a.serves r i h)))
-          (λ h. holds_matched m a.serves r i (demands_hold turned r i (tested r i) (rule_makes p r).0 (matched_holds n b.serves r i h)))
+          (λ h. holds_matched n b.serves r i (demands_hold two [] r i (tested r i) (rule_makes p r).0 (matched_holds m a.serves r i h)))
+          (λ h. holds_matched m a.serves r i (demands_hold (turned two) [] r i (tested r i) (rule_makes p r).0 (matched_holds n b.serves r i h)))
 
       chosen_same : (qs : List TypedRule) → ((r : TypedRule) → In qs r → Contains rs r) → chosen p m qs args ≡ chosen p n qs args
       chosen_same [] g = refl
@@ -144,7 +141,7 @@ module _ (p : Program) (h : IsWellTypedProgram p) (t : ℕ) where
           let y = plain_outcome n b.serves r i w.0 w.1 in
           let made = rule_makes p r in
           ap (with_vars p m r) e ∙ x.right
-          ∙ outcome_same two r i mm mn made.0 x.order (result_of p r) made.1 x.only
+          ∙ outcome_same two [] r i mm mn made.0 x.order (result_of p r) made.1 x.only
           ∙ sym y.right ∙ sym (ap (with_vars p n r) w.1)
 
       of_chosen : (o : Option TypedRule) → IsListed o → outcome_of_rule p m args o ≡ outcome_of_rule p n args o

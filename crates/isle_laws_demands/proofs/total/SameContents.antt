@@ -5,7 +5,7 @@ use Rattle.isle_laws_runs.proofs.runs.Binding.{content_of}
 use Rattle.isle_model.specs.rules.Values.{Value, truth, atom, of_variant, of_struct, Values, value_and}
 use Rattle.isle_model.specs.rules.Meaning.{Content, one, just, Meaning, bool_literal, int_literal, literal_value, constant_value, extractor_answer, pure_answer, impure_answer}
 use Rattle.isle_model.specs.rules.Outcome.{Call, then_option}
-use Rattle.isle_model.specs.rules.Program.{Program}
+use Rattle.isle_model.specs.rules.Program.{Program, rules_of}
 use Rattle.isle_model.specs.rules.Matching.{matches}
 use Rattle.isle_model.specs.rules.Typed.{TypedRule}
 use Rattle.isle_model.specs.rules.Picks.{Pick, picked, field_of_variant, field_of_struct, part_of_some, call_answer, site_content, site_values, HasContent}
@@ -70,31 +70,30 @@ never_on : (a b : List Call) → stops a ≡ goes_on b → ⊥
 never_on a b e = cc
 
 -- 2. contents
--- two maps that agree with total functions and serve rules of a program, on one list of arguments and under one pick
+-- total functions, and two finite maps that agree with them and serve a term's rules on one list of arguments
 pub record TwoMaps : Type 0 where
   pub program : Program
-  pub rules : List TypedRule
+  pub term : ℕ
   pub functions : TotalMeaning
   pub args : List Value
-  pub pick : Pick
-  pub first : Restricts program functions args rules
-  pub second : Restricts program functions args rules
+  pub first : Restricts program functions args (rules_of program term)
+  pub second : Restricts program functions args (rules_of program term)
 
-module _ (two : TwoMaps) (r : TypedRule) (listed : Contains two.rules r) where
+abbrev pub turned : TwoMaps → TwoMaps
+turned two = record { program = two.program; term = two.term; functions = two.functions; args = two.args; first = two.second; second = two.first }
+
+module _ (two : TwoMaps) (k : Pick) (r : TypedRule) (listed : Contains (rules_of two.program two.term) r) where
   abbrev p : Program
   p = two.program
 
   abbrev rs : List TypedRule
-  rs = two.rules
+  rs = rules_of two.program two.term
 
   abbrev f : TotalMeaning
   f = two.functions
 
   abbrev args : List Value
   args = two.args
-
-  abbrev k : Pick
-  k = two.pick
 
   abbrev m : Meaning
   m = two.first.meaning
@@ -172,7 +171,7 @@ module _ (two : TwoMaps) (r : TypedRule) (listed : Contains two.rules r) where
       ∙ sym (there (pure_answer n t vs) (f.pures t vs) _ (sn.pures k t ss vs c (sym a ∙ e)) (an.pures t vs))
 
   mutual
-    same_content : (s : SiteTerm) → AllMade d.made s → CallsOnly Alike s → Alike s
+    pub same_content : (s : SiteTerm) → AllMade d.made s → CallsOnly Alike s → Alike s
     same_content (bool_term b ty) h c = ap from_value (bool_same b ty (ask (bool_term b ty) h))
     same_content (int_term z ty) h c = ap from_value (int_same z ty (ask (int_term z ty) h))
     same_content (prim_term name) h c = ap from_value (prim_same name (ask (prim_term name) h))

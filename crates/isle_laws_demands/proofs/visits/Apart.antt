@@ -117,7 +117,7 @@ module _ (p : Program) (neither : HasNoPartialMulti p) where
     iterates_extractor = λ t s v flags b e f c n h m.
         let call = extractor_call t s in
         record { onward = onward v.demands (iterating call v).demands (after_iterating call v h (its_multi t flags b e ∙ f)); site = (λ k. k, m.1) };
-    iterates_constructor = λ t i us v flags b e f h.
+    iterates_constructor = λ t i us v flags b e f n m h.
         let call = constructor_call t us i in onward v.demands (iterating call v).demands (after_iterating call v h (its_multi t flags b e ∙ f));
   }
 

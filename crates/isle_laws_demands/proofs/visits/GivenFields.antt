@@ -146,7 +146,7 @@ fields_kept p = record {
   iterates_extractor = λ t s v flags b e f c n h m.
       let call = extractor_call t s in
       record { onward = iterating_on call v h; site = (no_field_given v.demands.constraints (pick_of call) refl, m.1) };
-  iterates_constructor = λ t i ss v flags b e f h. iterating_on (constructor_call t ss i) v h;
+  iterates_constructor = λ t i ss v flags b e f n m h. iterating_on (constructor_call t ss i) v h;
 }
 
 rule_gives : (p : Program) (r : TypedRule) → GivesFields (demands_of p r)

@@ -98,7 +98,8 @@ module _ (R : Demands → Type 0) (Q : Demands → SiteTerm → Type 0) where
         → IsValued v.demands (valued (some_part (extractor_call t s)) (asking (extractor_call t s) is_present v))
     pub iterates_extractor : (t : ℕ) (s : SiteTerm) (v : Visit) (flags : Flags) (infallible : Bool) → kind p t ≡ a_call flags infallible → flags.multi ≡ true → In v.demands.made (extractor_call t s) → In v.demands.made (pick_of (extractor_call t s)) → R v.demands → Q v.demands s
         → IsValued v.demands (valued (pick_of (extractor_call t s)) (iterating (extractor_call t s) v))
-    pub iterates_constructor : (t i : ℕ) (ss : SiteTerms) (v : Visit) (flags : Flags) (infallible : Bool) → kind p t ≡ a_call flags infallible → flags.multi ≡ true → R v.demands
+    pub iterates_constructor : (t i : ℕ) (ss : SiteTerms) (v : Visit) (flags : Flags) (infallible : Bool) → kind p t ≡ a_call flags infallible → flags.multi ≡ true
+        → In v.demands.made (constructor_call t ss i) → AtEach v.demands ss → R v.demands
         → Onward v.demands (iterating (constructor_call t ss i) v).demands
 
   pub no_step : (d : Demands) → R d → Onward d d
@@ -254,7 +255,7 @@ module _ (p : Program) (R : Demands → Type 0) (Q : Demands → SiteTerm → Ty
       by true true f =
           let w = making part v in
           let a = k.makes part v h in
-          let b = k.iterates_constructor t i ss w (flags true true) infallible f refl a.holds in
+          let b = k.iterates_constructor t i ss w (flags true true) infallible f refl (in_right v.demands.made part c (inl refl)) (each_stays R Q v.demands w.demands a.stays ss m) a.holds in
           record {
             onward = then_onward R Q v.demands w.demands (iterating c w).demands a b;
             site = b.stays (some_part c) (k.answer w.demands t i ss (flags true true) infallible f refl (in_right v.demands.made part c (inl refl)) (in_right v.demands.made part (some_part c) (inr (inl refl))) (each_stays R Q v.demands w.demands a.stays ss m));
@@ -269,7 +270,7 @@ module _ (p : Program) (R : Demands → Type 0) (Q : Demands → SiteTerm → Ty
       by true false f =
           let w = making picks v in
           let a = k.makes picks v h in
-          let b = k.iterates_constructor t i ss w (flags true false) infallible f refl a.holds in
+          let b = k.iterates_constructor t i ss w (flags true false) infallible f refl (in_right v.demands.made picks c (inl refl)) (each_stays R Q v.demands w.demands a.stays ss m) a.holds in
           record {
             onward = then_onward R Q v.demands w.demands (iterating c w).demands a b;
             site = b.stays (pick_of c) (k.pick w.demands t i ss (in_right v.demands.made picks c (inl refl)) (in_right v.demands.made picks (pick_of c) (inr (inl refl))) (each_stays R Q v.demands w.demands a.stays ss m));

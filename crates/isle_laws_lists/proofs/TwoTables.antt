@@ -1,6 +1,7 @@
 -- Rules elaborate alike by two tables of terms that say the same of terms with the same texts for names, each from the names
--- that its table speaks of.
-use Rattle.std.proofs.Common.{◌≡◌, ℕ, zero, suc, ◌+◌, Bool, true, false, not, cond, ◌&&◌, ◌||◌, if◌then◌else◌, List, [], ◌∷◌, ◌++◌, length, Option, Some, None, slice_get, is_some, refl, sym, ap, ◌∙◌, subst, eqb-true, inl, inr}
+-- that its table speaks of: names (1), entries of terms (2), variables (3), names of rules and what is found (4), two tables and
+-- their scopes (5), look-ups (6), derivations (7), rules (8), and that a rule has a typed rule by both or by none (9).
+use Rattle.std.proofs.Common.{◌≡◌, ℕ, zero, suc, ◌+◌, Bool, true, false, not, cond, ◌&&◌, ◌||◌, if◌then◌else◌, List, [], ◌∷◌, ◌++◌, length, Option, Some, None, slice_get, is_some, refl, sym, ap, ◌∙◌, subst, eqb-true, nat_le, inl, inr}
 use Rattle.std.proofs.Math.Path.{ap₂}
 use Rattle.std.specs.List.{position_from}
 use Rattle.std.specs.Prelude.{unwrap_or, ◌==◌}
@@ -16,10 +17,13 @@ use Rattle.isle_model.specs.rules.Outcome.{then_option}
 use Rattle.isle_model.specs.rules.Typed.{TypedPattern, match_bind, match_var, match_prim, match_any, TypedPatterns, TypedExpr, make_var, make_prim, TypedExprs, TypedLets, typed_let_and, TypedVar, TypedIfLet, TypedRule}
 use Rattle.isle_model.specs.lists.Setting.{Setting, Scope, new_scope, new_var, met, bound, after_let, var_named, var_of, entry_named, term_of, type_of_name, type_of_constant, on_lhs, allow, that, converter, pattern_converter, expr_converter, has_extractor, has_constructor, is_callable, is_matchable, declared_flags, entry_template, kind_template, template_in, is_expected}
 use Rattle.isle_model.specs.lists.Expansions.{term_name_at}
-use Rattle.isle_model.specs.lists.Elaborated.{with_own_name, own_number, rule_of_sides}
+use Rattle.isle_model.specs.lists.Typings.{Typing}
+use Rattle.isle_model.specs.lists.Elaborated.{with_own_name, own_number, rule_of_sides, elaborated_rule, few_enough, most_expansions}
 use Rattle.isle_model.specs.lists.Elaborates.{ElaboratesPattern, ElaboratesParts, ElaboratesEach, new_name, bound_name, binding, a_truth, an_integer, a_constant, a_term, a_template, a_conversion, anything, all_of, no_part, part, no_more, one_more, ElaboratesExpr, ElaboratesArgs, ElaboratesLets, a_call, converted_call, a_variable, converted_variable, truth_expr, integer_expr, constant_expr, let_in, no_arg, an_arg, no_def, a_def, ElaboratesIfLets, no_iflet, an_iflet, ElaboratesRule, a_rule, ElaboratesRules, no_rule, one_rule}
 use Rattle.isle_model.proofs.Names.{found, has_at, same_test, has_new, get_kept, distinct_names}
+use Rattle.isle_laws_lists.specs.FurtherNames.{AreThereAlike}
 use Rattle.isle_laws_lists.proofs.Typings.{then_gives}
+use Rattle.isle_laws_lists.proofs.TypedRules.{rules_agree}
 
 -- 1. names
 -- these names stand at their numbers among those
@@ -153,18 +157,73 @@ that_passes p (Some u) t h =
     ]
 
 -- 5. two tables
--- a setting, but for its terms, of which there are two lists; each speaks of names that stand at their numbers
-pub record TwoTables (b : Setting) (ts us : List TermEntry) (ns ms : List (List ℕ)) : Type 0 where
-  pub terms : EntriesAlike ns ms ts us
-  pub type_names : (i k : ℕ) → slice_get b.type_names i ≡ Some k → OfOneText ns ms k k
-  pub constants : (i : ℕ) (c : ℕ × ℕ) → slice_get b.constants i ≡ Some c → OfOneText ns ms c.0 c.0
+-- a setting, with names that it speaks of, and other terms for it, with names that these speak of: the entries are alike, and
+-- each name of a type or of a constant has one number
+pub record TwoTables : Type 0 where
+  pub setting : Setting
+  pub names : List (List ℕ)
+  pub other_terms : List TermEntry
+  pub other_names : List (List ℕ)
+  pub terms : EntriesAlike names other_names setting.terms other_terms
+  pub type_names : (i k : ℕ) → slice_get setting.type_names i ≡ Some k → OfOneText names other_names k k
+  pub constants : (i : ℕ) (c : ℕ × ℕ) → slice_get setting.constants i ≡ Some c → OfOneText names other_names c.0 c.0
 
-module _ (b : Setting) (ts us : List TermEntry) (ns ms : List (List ℕ)) (two : TwoTables b ts us ns ms) where
+-- the setting with the other terms
+abbrev pub other_setting : TwoTables → Setting
+other_setting two = record two.setting { terms = two.other_terms }
+
+-- the second table first
+kind_turned : (k l : TermKindEntry) → KindAlike k l → KindAlike l k
+kind_turned k l h = record {
+  extractor = sym h.extractor;
+  makes = sym h.makes;
+  matchable = λ multi. sym (h.matchable multi);
+  callable = λ flags. sym (h.callable flags);
+  declared = sym h.declared;
+  template = sym h.template;
+}
+
+pub text_turned : (ns ms : List (List ℕ)) (k l : ℕ) → OfOneText ns ms k l → OfOneText ms ns l k
+text_turned ns ms k l h = (h.0, h.2, h.1)
+
+entry_turned : (ns ms : List (List ℕ)) (t u : TermEntry) → EntryAlike ns ms t u → EntryAlike ms ns u t
+entry_turned ns ms t u h = record {
+  name = t.name;
+  kind = t.kind;
+  same = sym (λ i. record (h.same i) { name = t.name; kind = t.kind });
+  named = subst (λ (x : TermEntry). OfOneText ms ns x.name t.name) (sym h.same) (text_turned ns ms t.name h.name h.named);
+  kinds = subst (λ (x : TermEntry). KindAlike x.kind t.kind) (sym h.same) (kind_turned t.kind h.kind h.kinds);
+}
+
+pub entries_turned : (ns ms : List (List ℕ)) (ts us : List TermEntry) → EntriesAlike ns ms ts us → EntriesAlike ms ns us ts
+entries_turned ns ms [] [] h = tt
+entries_turned ns ms [] (u ∷ us) h = absurd h
+entries_turned ns ms (t ∷ ts) [] h = absurd h
+entries_turned ns ms (t ∷ ts) (u ∷ us) h = (entry_turned ns ms t u h.0, entries_turned ns ms ts us h.1)
+
+abbrev pub turned : TwoTables → TwoTables
+turned two = record {
+  setting = other_setting two;
+  names = two.other_names;
+  other_terms = two.setting.terms;
+  other_names = two.names;
+  terms = entries_turned two.names two.other_names two.setting.terms two.other_terms two.terms;
+  type_names = λ i k h. text_turned two.names two.other_names k k (two.type_names i k h);
+  constants = λ i c h. text_turned two.names two.other_names c.0 c.0 (two.constants i c h);
+}
+
+module _ (two : TwoTables) where
   abbrev e : Setting
-  e = record b { terms = ts }
+  e = two.setting
 
   abbrev f : Setting
-  f = record b { terms = us }
+  f = other_setting two
+
+  abbrev ns : List (List ℕ)
+  ns = two.names
+
+  abbrev ms : List (List ℕ)
+  ms = two.other_names
 
   pub record Alike (s s' : Scope) : Type 0 where
     pub kept : AreKept ns s.names
@@ -174,20 +233,24 @@ module _ (b : Setting) (ts us : List TermEntry) (ns ms : List (List ℕ)) (two :
     pub visible : VarsAlike s.names s'.names s.visible s'.visible
     pub count : length s'.vars ≡ length s.vars
 
+  -- scopes with names alone
+  pub names_alike : (names names' : List (List ℕ)) → AreKept ns names → AreKept ms names' → IsDistinct names → IsDistinct names' → Alike (new_scope names) (new_scope names')
+  names_alike names names' k l once once' = record { kept = k; kept' = l; once = once; once' = once'; visible = tt; count = refl }
+
   -- further scopes, in which the names of the first are kept
   pub record After (s s' t t' : Scope) : Type 0 where
     pub alike : Alike t t'
     pub kept : AreKept s.names t.names
     pub kept' : AreKept s'.names t'.names
 
-  here : (s s' : Scope) → Alike s s' → After s s' s s'
-  here s s' a = record { alike = a; kept = λ k x h. h; kept' = λ k x h. h }
+  here : {s s' : Scope} → Alike s s' → After s s' s s'
+  here a = record { alike = a; kept = λ k x h. h; kept' = λ k x h. h }
 
-  beyond : (s s' t t' u u' : Scope) → After s s' t t' → After t t' u u' → After s s' u u'
-  beyond s s' t t' u u' a b = record { alike = b.alike; kept = λ k x h. b.kept k x (a.kept k x h); kept' = λ k x h. b.kept' k x (a.kept' k x h) }
+  beyond : {s s' t t' u u' : Scope} → After s s' t t' → After t t' u u' → After s s' u u'
+  beyond a b = record { alike = b.alike; kept = λ k x h. b.kept k x (a.kept k x h); kept' = λ k x h. b.kept' k x (a.kept' k x h) }
 
-  after_met : (s s' : Scope) (x : List ℕ) → Alike s s' → After s s' (met s x) (met s' x)
-  after_met s s' x a = record {
+  after_met : {s s' : Scope} (x : List ℕ) → Alike s s' → After s s' (met s x) (met s' x)
+  after_met {s = s} {s' = s'} x a = record {
     alike = record {
       kept = λ k y h. kept_by_name s.names x k y (a.kept k y h);
       kept' = λ k y h. kept_by_name s'.names x k y (a.kept' k y h);
@@ -203,9 +266,9 @@ module _ (b : Setting) (ts us : List TermEntry) (ns ms : List (List ℕ)) (two :
   pushed : (xs ys : List TypedVar) (x y : TypedVar) → length ys ≡ length xs → length (ys ++ y ∷ []) ≡ length (xs ++ x ∷ [])
   pushed xs ys x y h = length-append ys (y ∷ []) ∙ ap (λ k. k + 1) h ∙ sym (length-append xs (x ∷ []))
 
-  after_bound : (s s' : Scope) (x : List ℕ) (ty : ℕ) → Alike s s' → After s s' (bound s x ty) (bound s' x ty)
-  after_bound s s' x ty a =
-      let m = after_met s s' x a in
+  after_bound : {s s' : Scope} (x : List ℕ) (ty : ℕ) → Alike s s' → After s s' (bound s x ty) (bound s' x ty)
+  after_bound {s = s} {s' = s'} x ty a =
+      let m = after_met x a in
       record {
         alike = record {
           kept = m.alike.kept;
@@ -219,8 +282,8 @@ module _ (b : Setting) (ts us : List TermEntry) (ns ms : List (List ℕ)) (two :
         kept' = m.kept';
       }
 
-  after_scope : (s s' t t' : Scope) → Alike s s' → After s s' t t' → After s s' (after_let s t) (after_let s' t')
-  after_scope s s' t t' a b = record {
+  after_scope : {s s' t t' : Scope} → Alike s s' → After s s' t t' → After s s' (after_let s t) (after_let s' t')
+  after_scope {s = s} {s' = s'} {t = t} {t' = t'} a b = record {
     alike = record {
       kept = b.alike.kept;
       kept' = b.alike.kept';
@@ -243,9 +306,9 @@ module _ (b : Setting) (ts us : List TermEntry) (ns ms : List (List ℕ)) (two :
 
   converter_found : (i o : ℕ) (t : TermEntry) → converter e i o ≡ Some t → TermFound ns ms t (converter f i o)
   converter_found i o t h =
-      let c = then_gives _ (slice_get ts) h in
-      let r = slice_found ts us two.terms c.0 t c.2 in
-      record { name = r.name; kind = r.kind; there = ap (λ q. then_option q (slice_get us)) c.1 ∙ r.there; named = r.named; kinds = r.kinds }
+      let c = then_gives _ (slice_get e.terms) h in
+      let r = slice_found e.terms f.terms two.terms c.0 t c.2 in
+      record { name = r.name; kind = r.kind; there = ap (λ q. then_option q (slice_get f.terms)) c.1 ∙ r.there; named = r.named; kinds = r.kinds }
 
   passed_found : (p : TermEntry → Bool) → ((t : TermEntry) (n : ℕ) (k : TermKindEntry) → KindAlike t.kind k → p (record t { name = n; kind = k }) ≡ p t) → (i o : ℕ) (t : TermEntry)
       → that p (converter e i o) ≡ Some t → TermFound ns ms t (that p (converter f i o))
@@ -262,9 +325,9 @@ module _ (b : Setting) (ts us : List TermEntry) (ns ms : List (List ℕ)) (two :
   expr_by = passed_found (λ t. has_constructor t.kind) (λ t n k h. h.makes)
 
   template_same : (k l : TermKindEntry) → KindAlike k l → template_in f l ≡ template_in e k
-  template_same k l h = ap (λ (o : Option PatternTree). if b.expand then o else None) h.template
+  template_same k l h = ap (λ (o : Option PatternTree). if e.expand then o else None) h.template
 
-  module _ (s s' : Scope) (a : Alike s s') where
+  module _ {s s' : Scope} (a : Alike s s') where
     same_at : (k l : ℕ) (x : List ℕ) → OfOneText ns ms k l → (k == number s.names x) ≡ (l == number s'.names x)
     same_at k l x y = number_test s.names a.once k x y.0 (a.kept k y.0 y.1) ∙ sym (number_test s'.names a.once' l x y.0 (a.kept' l y.0 y.2))
 
@@ -295,21 +358,21 @@ module _ (b : Setting) (ts us : List TermEntry) (ns ms : List (List ℕ)) (two :
         ]
 
     term_found : (x : List ℕ) (t : TermEntry) → term_of e s x ≡ Some t → TermFound ns ms t (term_of f s' x)
-    term_found x t h = entry_found x ts us two.terms t h
+    term_found x t h = entry_found x e.terms f.terms two.terms t h
 
     place_alike : (x : List ℕ) (i : ℕ) (ks : List ℕ) → ((i k : ℕ) → slice_get ks i ≡ Some k → OfOneText ns ms k k) → position_from (λ n. n == number s.names x) i ks ≡ position_from (λ n. n == number s'.names x) i ks
     place_alike x i [] k = refl
     place_alike x i (j ∷ js) k = ap₂ (λ b o. cond b (Some i) o) (same_at j j x (k 0 j refl)) (place_alike x (i + 1) js (λ n u h. k (suc n) u h))
 
     type_alike : (x : List ℕ) → type_of_name e s x ≡ type_of_name f s' x
-    type_alike x = place_alike x 0 b.type_names two.type_names
+    type_alike x = place_alike x 0 e.type_names two.type_names
 
     look_alike : (x : List ℕ) (cs : List (ℕ × ℕ)) → ((i : ℕ) (c : ℕ × ℕ) → slice_get cs i ≡ Some c → OfOneText ns ms c.0 c.0) → look (λ n. n == number s.names x) cs ≡ look (λ n. n == number s'.names x) cs
     look_alike x [] k = refl
     look_alike x (c ∷ cs) k = ap₂ (λ b o. cond b (Some c.1) o) (same_at c.0 c.0 x (k 0 c refl)) (look_alike x cs (λ i u h. k (suc i) u h))
 
     constant_alike : (x : List ℕ) → type_of_constant e s x ≡ type_of_constant f s' x
-    constant_alike x = look_alike x b.constants two.constants
+    constant_alike x = look_alike x e.constants two.constants
 
     -- the name of a constant has one number
     constant_number : (x : List ℕ) (cs : List (ℕ × ℕ)) (ty : ℕ) → ((i : ℕ) (c : ℕ × ℕ) → slice_get cs i ≡ Some c → OfOneText ns ms c.0 c.0) → look (λ n. n == number s.names x) cs ≡ Some ty → number s'.names x ≡ number s.names x
@@ -345,141 +408,141 @@ module _ (b : Setting) (ts us : List TermEntry) (ns ms : List (List ℕ)) (two :
   module _ (multi : Bool) where
     mutual
       pattern_alike : {d ty n : ℕ} {p : PatternTree} {s t : Scope} {q : TypedPattern} → ElaboratesPattern e multi d p ty s q t n → (s' : Scope) → Alike s s' → PatternAlike multi d p ty s s' q t n
-      pattern_alike (new_name {d = d} {ty = ty} {name = name} {at = at} {s = s} h) s' a = (
+      pattern_alike (new_name {d = d} {ty = ty} {name = name} {at = at} h) s' a = (
         bound s' name.text ty,
-        subst (λ k. ElaboratesPattern f multi d (var_pattern name at) ty s' (match_bind ty k (match_any ty)) (bound s' name.text ty) 0) a.count (new_name (no_var s s' a name.text h)),
-        after_bound s s' name.text ty a,
+        subst (λ k. ElaboratesPattern f multi d (var_pattern name at) ty s' (match_bind ty k (match_any ty)) (bound s' name.text ty) 0) a.count (new_name (no_var a name.text h)),
+        after_bound name.text ty a,
       )
-      pattern_alike (bound_name {d = d} {ty = ty} {name = name} {at = at} {s = s} {v = v} h i) s' a =
-          let w = some_var s s' a name.text v h in
-          (s', subst (λ k. ElaboratesPattern f multi d (var_pattern name at) ty s' (match_var ty k) s' 0) w.2 (bound_name w.1 (w.3 ∙ i)), here s s' a)
-      pattern_alike (binding {d = d} {ty = ty} {n = n} {name = name} {p = p} {at = at} {s = s} {t = t} {q = q} g h) s' a =
+      pattern_alike (bound_name {d = d} {ty = ty} {name = name} {at = at} {v = v} h i) s' a =
+          let w = some_var a name.text v h in
+          (s', subst (λ k. ElaboratesPattern f multi d (var_pattern name at) ty s' (match_var ty k) s' 0) w.2 (bound_name w.1 (w.3 ∙ i)), here a)
+      pattern_alike (binding {d = d} {ty = ty} {n = n} {name = name} {p = p} {at = at} {q = q} g h) s' a =
           let r = pattern_alike g s' a in (
             bound r.0 name.text ty,
-            subst (λ k. ElaboratesPattern f multi d (bind_pattern name p at) ty s' (match_bind ty k q) (bound r.0 name.text ty) n) r.2.alike.count (binding r.1 (no_var t r.0 r.2.alike name.text h)),
-            beyond s s' t r.0 (bound t name.text ty) (bound r.0 name.text ty) r.2 (after_bound t r.0 name.text ty r.2.alike),
+            subst (λ k. ElaboratesPattern f multi d (bind_pattern name p at) ty s' (match_bind ty k q) (bound r.0 name.text ty) n) r.2.alike.count (binding r.1 (no_var r.2.alike name.text h)),
+            beyond r.2 (after_bound name.text ty r.2.alike),
           )
-      pattern_alike (a_truth {s = s} h) s' a = (s', a_truth h, here s s' a)
-      pattern_alike (an_integer {s = s} h) s' a = (s', an_integer h, here s s' a)
-      pattern_alike (a_constant {d = d} {ty = ty} {name = name} {at = at} {s = s} h) s' a = (
+      pattern_alike (a_truth h) s' a = (s', a_truth h, here a)
+      pattern_alike (an_integer h) s' a = (s', an_integer h, here a)
+      pattern_alike (a_constant {d = d} {ty = ty} {name = name} {at = at} h) s' a = (
         s',
-        subst (λ k. ElaboratesPattern f multi d (prim_pattern name at) ty s' (match_prim ty k) s' 0) (constant_number s s' a name.text b.constants ty two.constants h) (a_constant (sym (constant_alike s s' a name.text) ∙ h)),
-        here s s' a,
+        subst (λ k. ElaboratesPattern f multi d (prim_pattern name at) ty s' (match_prim ty k) s' 0) (constant_number a name.text e.constants ty two.constants h) (a_constant (sym (constant_alike a name.text) ∙ h)),
+        here a,
       )
-      pattern_alike (a_term {name = name} {s = s} {entry = entry} h i j k g) s' a =
-          let t = term_found s s' a name.text entry h in
+      pattern_alike (a_term {name = name} {entry = entry} h i j k g) s' a =
+          let t = term_found a name.text entry h in
           let r = parts_alike g s' a in
           (r.0, a_term t.there i (template_same entry.kind t.kind t.kinds ∙ j) (t.kinds.matchable multi ∙ k) r.1, r.2)
-      pattern_alike (a_template {name = name} {s = s} {entry = entry} h i j k g) s' a =
-          let t = term_found s s' a name.text entry h in
+      pattern_alike (a_template {name = name} {entry = entry} h i j k g) s' a =
+          let t = term_found a name.text entry h in
           let r = pattern_alike g s' a in
           (r.0, a_template t.there i (template_same entry.kind t.kind t.kinds ∙ j) k r.1, r.2)
-      pattern_alike (a_conversion {d = d} {ty = ty} {n = n} {name = name} {args = args} {at = at} {s = s} {entry = entry} {by = by} {q = q} h i j g) s' a =
-          let t' = term_found s s' a name.text entry h in
+      pattern_alike (a_conversion {d = d} {ty = ty} {n = n} {name = name} {args = args} {at = at} {entry = entry} {by = by} {q = q} h i j g) s' a =
+          let t' = term_found a name.text entry h in
           let c = pattern_by entry.ret_ty ty by j in
           let r = pattern_alike g s' a in
-          let same = one_text s s' a by c.name c.kind at c.named in (
+          let same = one_text a by c.name c.kind at c.named in (
             r.0,
             a_conversion t'.there i c.there
                 (subst (λ m. ElaboratesPattern f multi d (term_pattern m (pattern_and (term_pattern name args at) no_pattern) at) ty s' q r.0 n) same r.1),
             r.2,
           )
-      pattern_alike (anything {s = s}) s' a = (s', anything, here s s' a)
+      pattern_alike anything s' a = (s', anything, here a)
       pattern_alike (all_of g) s' a = (let r = each_alike g s' a in (r.0, all_of r.1, r.2))
 
       parts_alike : {d n : ℕ} {tys : List ℕ} {ps : PatternTrees} {s t : Scope} {qs : TypedPatterns} → ElaboratesParts e multi d ps tys s qs t n → (s' : Scope) → Alike s s' → (t' : Scope) × ElaboratesParts f multi d ps tys s' qs t' n × After s s' t t'
-      parts_alike (no_part {s = s}) s' a = (s', no_part, here s s' a)
-      parts_alike (part {s = s} {t = t} {u = u} g h) s' a =
+      parts_alike no_part s' a = (s', no_part, here a)
+      parts_alike (part g h) s' a =
           let r = pattern_alike g s' a in
           let l = parts_alike h r.0 r.2.alike in
-          (l.0, part r.1 l.1, beyond s s' t r.0 u l.0 r.2 l.2)
+          (l.0, part r.1 l.1, beyond r.2 l.2)
 
       each_alike : {d ty n : ℕ} {ps : PatternTrees} {s t : Scope} {qs : TypedPatterns} → ElaboratesEach e multi d ps ty s qs t n → (s' : Scope) → Alike s s' → (t' : Scope) × ElaboratesEach f multi d ps ty s' qs t' n × After s s' t t'
-      each_alike (no_more {s = s}) s' a = (s', no_more, here s s' a)
-      each_alike (one_more {s = s} {t = t} {u = u} g h) s' a =
+      each_alike no_more s' a = (s', no_more, here a)
+      each_alike (one_more g h) s' a =
           let r = pattern_alike g s' a in
           let l = each_alike h r.0 r.2.alike in
-          (l.0, one_more r.1 l.1, beyond s s' t r.0 u l.0 r.2 l.2)
+          (l.0, one_more r.1 l.1, beyond r.2 l.2)
 
   module _ (flags : Flags) where
     mutual
       expr_alike : {d n : ℕ} {ty : Option ℕ} {x : ExprTree} {s t : Scope} {q : TypedExpr} → ElaboratesExpr e flags d x ty s q t n → (s' : Scope) → Alike s s' → (t' : Scope) × ElaboratesExpr f flags d x ty s' q t' n × After s s' t t'
-      expr_alike (a_call {name = name} {s = s} {entry = entry} h i j g) s' a =
-          let t = term_found s s' a name.text entry h in
+      expr_alike (a_call {name = name} {entry = entry} h i j g) s' a =
+          let t = term_found a name.text entry h in
           let r = args_alike g s' a in
           (r.0, a_call t.there i (t.kinds.callable flags ∙ j) r.1, r.2)
-      expr_alike (converted_call {d = d} {ty = ty} {n = n} {name = name} {args = args} {at = at} {s = s} {entry = entry} {by = by} {q = q} h i j g) s' a =
-          let t' = term_found s s' a name.text entry h in
+      expr_alike (converted_call {d = d} {ty = ty} {n = n} {name = name} {args = args} {at = at} {entry = entry} {by = by} {q = q} h i j g) s' a =
+          let t' = term_found a name.text entry h in
           let c = expr_by entry.ret_ty ty by j in
           let r = expr_alike g s' a in
-          let same = one_text s s' a by c.name c.kind at c.named in (
+          let same = one_text a by c.name c.kind at c.named in (
             r.0,
             converted_call t'.there i c.there
                 (subst (λ m. ElaboratesExpr f flags d (term_expr m (expr_and (term_expr name args at) no_expr) at) (Some ty) s' q r.0 n) same r.1),
             r.2,
           )
-      expr_alike (a_variable {d = d} {ty = ty} {name = name} {at = at} {s = s} {v = v} h i) s' a =
-          let w = some_var s s' a name.text v h in (
+      expr_alike (a_variable {d = d} {ty = ty} {name = name} {at = at} {v = v} h i) s' a =
+          let w = some_var a name.text v h in (
             s',
             subst (λ k. ElaboratesExpr f flags d (var_expr name at) ty s' (make_var v.ty k) s' 0) w.2
                 (subst (λ k. is_expected ty k ≡ true → ElaboratesExpr f flags d (var_expr name at) ty s' (make_var k w.0.id) s' 0) w.3 (λ g. a_variable w.1 g) i),
-            here s s' a,
+            here a,
           )
-      expr_alike (converted_variable {d = d} {ty = ty} {n = n} {name = name} {at = at} {s = s} {v = v} {by = by} {q = q} h i j g) s' a =
-          let w = some_var s s' a name.text v h in
+      expr_alike (converted_variable {d = d} {ty = ty} {n = n} {name = name} {at = at} {v = v} {by = by} {q = q} h i j g) s' a =
+          let w = some_var a name.text v h in
           let c = expr_by v.ty ty by j in
           let r = expr_alike g s' a in
-          let same = one_text s s' a by c.name c.kind at c.named in (
+          let same = one_text a by c.name c.kind at c.named in (
             r.0,
             converted_variable w.1 (λ g. i (sym w.3 ∙ g)) (ap (λ k. expr_converter f k ty) w.3 ∙ c.there)
                 (subst (λ m. ElaboratesExpr f flags d (term_expr m (expr_and (var_expr name at) no_expr) at) (Some ty) s' q r.0 n) same r.1),
             r.2,
           )
-      expr_alike (truth_expr {s = s} h) s' a = (s', truth_expr h, here s s' a)
-      expr_alike (integer_expr {s = s} h) s' a = (s', integer_expr h, here s s' a)
-      expr_alike (constant_expr {d = d} {own = own} {ty = ty} {name = name} {at = at} {s = s} h i) s' a = (
+      expr_alike (truth_expr h) s' a = (s', truth_expr h, here a)
+      expr_alike (integer_expr h) s' a = (s', integer_expr h, here a)
+      expr_alike (constant_expr {d = d} {own = own} {ty = ty} {name = name} {at = at} h i) s' a = (
         s',
-        subst (λ k. ElaboratesExpr f flags d (prim_expr name at) ty s' (make_prim own k) s' 0) (constant_number s s' a name.text b.constants own two.constants h) (constant_expr (sym (constant_alike s s' a name.text) ∙ h) i),
-        here s s' a,
+        subst (λ k. ElaboratesExpr f flags d (prim_expr name at) ty s' (make_prim own k) s' 0) (constant_number a name.text e.constants own two.constants h) (constant_expr (sym (constant_alike a name.text) ∙ h) i),
+        here a,
       )
-      expr_alike (let_in {s = s} {t = t} {u = u} g h) s' a =
+      expr_alike (let_in g h) s' a =
           let r = lets_alike g s' a in
           let l = expr_alike h r.0 r.2.alike in
-          (after_let s' l.0, let_in r.1 l.1, after_scope s s' u l.0 a (beyond s s' t r.0 u l.0 r.2 l.2))
+          (after_let s' l.0, let_in r.1 l.1, after_scope a (beyond r.2 l.2))
 
       args_alike : {d n : ℕ} {tys : List ℕ} {xs : ExprTrees} {s t : Scope} {qs : TypedExprs} → ElaboratesArgs e flags d xs tys s qs t n → (s' : Scope) → Alike s s' → (t' : Scope) × ElaboratesArgs f flags d xs tys s' qs t' n × After s s' t t'
-      args_alike (no_arg {s = s}) s' a = (s', no_arg, here s s' a)
-      args_alike (an_arg {s = s} {t = t} {u = u} g h) s' a =
+      args_alike no_arg s' a = (s', no_arg, here a)
+      args_alike (an_arg g h) s' a =
           let r = expr_alike g s' a in
           let l = args_alike h r.0 r.2.alike in
-          (l.0, an_arg r.1 l.1, beyond s s' t r.0 u l.0 r.2 l.2)
+          (l.0, an_arg r.1 l.1, beyond r.2 l.2)
 
       lets_alike : {d n : ℕ} {ls : LetTrees} {s t : Scope} {ds : TypedLets} → ElaboratesLets e flags d ls s ds t n → (s' : Scope) → Alike s s' → (t' : Scope) × ElaboratesLets f flags d ls s' ds t' n × After s s' t t'
-      lets_alike (no_def {s = s}) s' a = (s', no_def, here s s' a)
-      lets_alike (a_def {d = d} {own = own} {n = n} {m = m} {name = name} {ty = ty} {value = value} {at = at} {rest = rest} {s = s} {t = t} {u = u} {q = q} {ds = ds} h g i) s' a =
-          let b = after_met s s' name.text a in
+      lets_alike no_def s' a = (s', no_def, here a)
+      lets_alike (a_def {d = d} {own = own} {n = n} {m = m} {name = name} {ty = ty} {value = value} {at = at} {rest = rest} {q = q} {ds = ds} h g i) s' a =
+          let b = after_met name.text a in
           let r = expr_alike g (met s' name.text) b.alike in
-          let c = after_bound t r.0 name.text own r.2.alike in
+          let c = after_bound name.text own r.2.alike in
           let l = lets_alike i (bound r.0 name.text own) c.alike in (
             l.0,
-            subst (λ k. ElaboratesLets f flags d (let_and name ty value at rest) s' (typed_let_and k own q ds) l.0 (n + m)) r.2.alike.count (a_def (sym (type_alike s s' a ty.text) ∙ h) r.1 l.1),
-            beyond s s' (bound t name.text own) (bound r.0 name.text own) u l.0
-                (beyond s s' t r.0 (bound t name.text own) (bound r.0 name.text own) (beyond s s' (met s name.text) (met s' name.text) t r.0 b r.2) c) l.2,
+            subst (λ k. ElaboratesLets f flags d (let_and name ty value at rest) s' (typed_let_and k own q ds) l.0 (n + m)) r.2.alike.count (a_def (sym (type_alike a ty.text) ∙ h) r.1 l.1),
+            beyond
+                (beyond (beyond b r.2) c) l.2,
           )
 
   iflets_alike : (flags : Flags) {d n : ℕ} {is : List IfLetTree} {s t : Scope} {qs : List TypedIfLet} → ElaboratesIfLets e flags d is s qs t n → (s' : Scope) → Alike s s' → (t' : Scope) × ElaboratesIfLets f flags d is s' qs t' n × After s s' t t'
-  iflets_alike flags (no_iflet {s = s}) s' a = (s', no_iflet, here s s' a)
-  iflets_alike flags (an_iflet {s = s} {t = t} {u = u} {w = w} g h i) s' a =
+  iflets_alike flags no_iflet s' a = (s', no_iflet, here a)
+  iflets_alike flags (an_iflet g h i) s' a =
       let r = expr_alike (on_lhs flags) g s' a in
       let l = pattern_alike flags.multi h r.0 r.2.alike in
       let m = iflets_alike flags i l.0 l.2.alike in
-      (m.0, an_iflet r.1 l.1 m.1, beyond s s' u l.0 w m.0 (beyond s s' t r.0 u l.0 r.2 l.2) m.2)
+      (m.0, an_iflet r.1 l.1 m.1, beyond (beyond r.2 l.2) m.2)
 
   -- 8. rules
   -- the scopes after a rule's own name
-  named_after : (s s' : Scope) (o : Option Name) → Alike s s' → After s s' (with_own_name o s) (with_own_name o s')
-  named_after s s' None a = here s s' a
-  named_after s s' (Some n) a = after_met s s' n.text a
+  named_after : {s s' : Scope} (o : Option Name) → Alike s s' → After s s' (with_own_name o s) (with_own_name o s')
+  named_after None a = here a
+  named_after (Some n) a = after_met n.text a
 
   own_alike : (s s' : Scope) (o : Option Name) → NumbersAlike (with_own_name o s).names (with_own_name o s').names (own_number s o) (own_number s' o)
   own_alike s s' None = tt
@@ -498,22 +561,22 @@ module _ (b : Setting) (ts us : List TermEntry) (ns ms : List (List ℕ)) (two :
   rule_found d id r names names' q t n a (a_rule {name = name} {entry = entry} {flags = flags} {s = v} {t = w} {u = u} {args = args} {iflets = iflets} {rhs = rhs} h i j k x g y) =
       let s : Scope = new_scope names in
       let s' : Scope = new_scope names' in
-      let m = term_found s s' a name.text entry i in
+      let m = term_found a name.text entry i in
       let p = parts_alike flags.multi x s' a in
       let l = iflets_alike flags g p.0 p.2.alike in
       let c = expr_alike flags y l.0 l.2.alike in
-      let z = named_after u c.0 r.name c.2.alike in
+      let z = named_after r.name c.2.alike in
       record {
         rule = rule_of_sides id r (record entry { name = m.name; kind = m.kind }) (args, (iflets, rhs)) c.0;
         scope = with_own_name r.name c.0;
         made = a_rule h m.there (m.kinds.declared ∙ j) k p.1 l.1 c.1;
-        after = beyond s s' u c.0 (with_own_name r.name u) (with_own_name r.name c.0) (beyond s s' w l.0 u c.0 (beyond s s' v p.0 w l.0 p.2 l.2) c.2) z;
+        after = beyond (beyond (beyond p.2 l.2) c.2) z;
         alike = record { term = refl; name = own_alike u c.0 r.name };
       }
 
   -- the next rule begins with the names alone
-  next_scope : (t t' : Scope) → Alike t t' → Alike (new_scope t.names) (new_scope t'.names)
-  next_scope t t' a = record { kept = a.kept; kept' = a.kept'; once = a.once; once' = a.once'; visible = tt; count = refl }
+  next_scope : {t t' : Scope} → Alike t t' → Alike (new_scope t.names) (new_scope t'.names)
+  next_scope {t = t} {t' = t'} a = names_alike t.names t'.names a.kept a.kept' a.once a.once'
 
   -- the rules of a list
   pub record RulesFound (id : ℕ) (rs : List RuleTree) (names names' after : List (List ℕ)) (qs : List TypedRule) : Type 0 where
@@ -530,7 +593,7 @@ module _ (b : Setting) (ts us : List TermEntry) (ns ms : List (List ℕ)) (two :
   rules_found no_rule names' a = record { rules = []; last = names'; made = no_rule; kept = λ k x h. h; kept' = λ k x h. h; alike = tt; scopes = a }
   rules_found (one_rule {id = id} {n = n} {r = r} {names = names} {after = after} {q = q} {t = t} g l rest) names' a =
       let x = rule_found _ id r names names' q t n a g in
-      let y = rules_found rest x.scope.names (next_scope t x.scope x.after.alike) in
+      let y = rules_found rest x.scope.names (next_scope x.after.alike) in
       record {
         rules = x.rule ∷ y.rules;
         last = y.last;
@@ -540,3 +603,36 @@ module _ (b : Setting) (ts us : List TermEntry) (ns ms : List (List ℕ)) (two :
         alike = (record { term = x.alike.term; name = numbers_kept t.names x.scope.names after y.last y.kept y.kept' q.name x.rule.name x.alike.name }, y.alike);
         scopes = y.scopes;
       }
+
+  -- 9. a rule has a typed rule by both tables, or by none
+  typing_found : (d id : ℕ) (r : RuleTree) (names names' : List (List ℕ)) → Alike (new_scope names) (new_scope names') → (q : Typing TypedRule) → elaborated_rule e d id r names ≡ Some q
+      → (b : Typing TypedRule) × (elaborated_rule f d id r names' ≡ Some b) × (q.expansions ≡ b.expansions)
+  typing_found d id r names names' a q h =
+      let g = rule_found d id r names names' q.made q.scope q.expansions a ((rules_agree e d id r names q.made q.scope q.expansions).1 h) in
+      (_, (rules_agree f d id r names' g.rule g.scope q.expansions).0 g.made, refl)
+
+-- from one another
+there_alike : (o p : Option (Typing TypedRule)) → ((a : Typing TypedRule) → o ≡ Some a → (b : Typing TypedRule) × (p ≡ Some b) × (a.expansions ≡ b.expansions))
+    → ((b : Typing TypedRule) → p ≡ Some b → (a : Typing TypedRule) × (o ≡ Some a) × (b.expansions ≡ a.expansions)) → AreThereAlike o p
+there_alike None None f g = tt
+there_alike None (Some b) f g = (let h = g b refl in absurd (none-some h.0 h.1))
+there_alike (Some a) None f g = (let h = f a refl in absurd (none-some h.0 h.1))
+there_alike (Some a) (Some b) f g = (let h = f a refl in h.2 ∙ ap (λ (x : Typing TypedRule). x.expansions) (sym (same_Some b h.0 h.1)))
+
+few_step : (a b : Typing TypedRule) (x y : Bool) → x ≡ y → a.expansions ≡ b.expansions → AreThereAlike (cond x (Some a) None) (cond y (Some b) None)
+few_step a b true true e h = h
+few_step a b false false e h = tt
+few_step a b true false e h = absurd (false≢true (sym e))
+few_step a b false true e h = absurd (false≢true e)
+
+pub few_alike : (o p : Option (Typing TypedRule)) → AreThereAlike o p → AreThereAlike (few_enough o) (few_enough p)
+few_alike None None h = tt
+few_alike None (Some b) h = absurd h
+few_alike (Some a) None h = absurd h
+few_alike (Some a) (Some b) h = few_step a b (nat_le a.expansions most_expansions) (nat_le b.expansions most_expansions) (ap (λ n. nat_le n most_expansions) h) h
+
+pub typings_alike : (two : TwoTables) (names names' : List (List ℕ)) → Alike two (new_scope names) (new_scope names') → (d id : ℕ) (r : RuleTree)
+    → AreThereAlike (elaborated_rule two.setting d id r names) (elaborated_rule (other_setting two) d id r names')
+typings_alike two names names' a d id r =
+    there_alike (elaborated_rule two.setting d id r names) (elaborated_rule (other_setting two) d id r names') (typing_found two d id r names names' a)
+    (typing_found (turned two) d id r names' names (names_alike (turned two) names' names a.kept' a.kept a.once' a.once))
