@@ -43,24 +43,24 @@ record IsReady (vars more : List (ℕ × ℕ)) (ks : List ℕ) : Type 0 where
   new : (y : ℕ) → has vars y ≡ false → has more y ≡ true → is_in y ks ≡ false
 
 -- how a part of a rule is visited: whether it can be where these variables are bound, and what is bound after it
-record Walk : Type 0 where
+record PartVisit : Type 0 where
   can_visit : List ℕ → Bool
   after : List ℕ → List ℕ
 
 -- one part after another
-abbrev and_then : Walk → Walk → Walk
+abbrev and_then : PartVisit → PartVisit → PartVisit
 and_then a b = record { can_visit = λ ks. a.can_visit ks && b.can_visit (a.after ks); after = λ ks. b.after (a.after ks) }
 
 -- a variable, which isn't bound yet, and then a part
-abbrev with_variable : ℕ → Walk → Walk
+abbrev with_variable : ℕ → PartVisit → PartVisit
 with_variable x a = record { can_visit = λ ks. not (is_in x ks) && a.can_visit (x ∷ ks); after = λ ks. a.after (x ∷ ks) }
 
 -- a part that binds nothing
-abbrev binds_nothing : (List ℕ → Bool) → Walk
+abbrev binds_nothing : (List ℕ → Bool) → PartVisit
 binds_nothing can_visit = record { can_visit = can_visit; after = λ ks. ks }
 
 -- a visit from these variables to those can be made wherever it may begin, and binds just what comes
-record Visits (vars more : List (ℕ × ℕ)) (a : Walk) : Type 0 where
+record Visits (vars more : List (ℕ × ℕ)) (a : PartVisit) : Type 0 where
   kept : (y : ℕ) → has vars y ≡ true → has more y ≡ true
   can : (ks : List ℕ) → IsReady vars more ks → a.can_visit ks ≡ true
   binds : (ks : List ℕ) → IsReady vars more ks → (y : ℕ) → is_in y (a.after ks) ≡ (is_in y ks || has more y)
@@ -88,11 +88,11 @@ unbound vars more can_visit e h = subst (λ vs. Visits vars vs (binds_nothing ca
     here : Visits vars vars (binds_nothing can_visit)
     here = record { kept = λ y k. k; can = λ ks r. h ks r.bound; binds = λ ks r y. among (is_in y ks) (has vars y) (r.bound y) }
 
-outside : {vars more : List (ℕ × ℕ)} {a : Walk} → Visits vars more a → (y : ℕ) → has more y ≡ false → has vars y ≡ false
+outside : {vars more : List (ℕ × ℕ)} {a : PartVisit} → Visits vars more a → (y : ℕ) → has more y ≡ false → has vars y ≡ false
 outside {vars = vars} v y h = elim (cases_Bool (has vars y)) [ inl t ↦ absurd (false≢true (sym h ∙ v.kept y t)) | inr n ↦ n ]
 
 -- one visit after another
-then_visits : {vars mid more : List (ℕ × ℕ)} {a b : Walk} → Visits vars mid a → Visits mid more b → Visits vars more (and_then a b)
+then_visits : {vars mid more : List (ℕ × ℕ)} {a b : PartVisit} → Visits vars mid a → Visits mid more b → Visits vars more (and_then a b)
 then_visits {vars = vars} {mid = mid} {more = more} {a = a} {b = b} v w =
     record {
       kept = λ y h. w.kept y (v.kept y h);
@@ -114,7 +114,7 @@ then_visits {vars = vars} {mid = mid} {more = more} {a = a} {b = b} v w =
         }
 
 -- a variable, and then a visit
-bind_visits : {vars mid : List (ℕ × ℕ)} (x ty : ℕ) {a : Walk} → Visits vars mid a → has mid x ≡ false → Visits vars ((x, ty) ∷ mid) (with_variable x a)
+bind_visits : {vars mid : List (ℕ × ℕ)} (x ty : ℕ) {a : PartVisit} → Visits vars mid a → has mid x ≡ false → Visits vars ((x, ty) ∷ mid) (with_variable x a)
 bind_visits {vars = vars} {mid = mid} x ty {a = a} v n =
     record {
       kept = λ y h. has_with x ty mid y ∙ or_right (x == y) (has mid y) (v.kept y h);
@@ -140,16 +140,16 @@ bind_visits {vars = vars} {mid = mid} x ty {a = a} v n =
 
 -- 2. rules
 module _ (p : Program) where
-  abbrev pattern_walk : TypedPattern → Walk
+  abbrev pattern_walk : TypedPattern → PartVisit
   pattern_walk q = record { can_visit = is_visitable_pattern p.terms q; after = bound_after q }
 
-  abbrev parts_walk : TypedPatterns → Walk
+  abbrev parts_walk : TypedPatterns → PartVisit
   parts_walk qs = record { can_visit = are_visitable_parts p.terms qs; after = bound_after_parts qs }
 
-  abbrev list_walk : List TypedPattern → Walk
+  abbrev list_walk : List TypedPattern → PartVisit
   list_walk qs = record { can_visit = are_visitable_list p.terms qs; after = bound_after_list qs }
 
-  abbrev iflets_walk : List TypedIfLet → Walk
+  abbrev iflets_walk : List TypedIfLet → PartVisit
   iflets_walk is = record { can_visit = are_visitable_iflets p.terms is; after = bound_after_iflets is }
 
   -- a pattern at its type, and more after it
@@ -250,10 +250,10 @@ module _ (p : Program) where
       (ap suc r.0, then_visits (pattern_visits q vars a.1 a.2) r.1)
 
   -- an if-let's expression is visited with what is bound before its pattern
-  abbrev value_first : TypedExpr → Walk → Walk
+  abbrev value_first : TypedExpr → PartVisit → PartVisit
   value_first e a = record { can_visit = λ ks. is_visitable_expr p.terms e ks && a.can_visit ks; after = a.after }
 
-  value_visits : (e : TypedExpr) {vars more : List (ℕ × ℕ)} {a : Walk} → is_formed_expr p e vars ≡ true → Visits vars more a → Visits vars more (value_first e a)
+  value_visits : (e : TypedExpr) {vars more : List (ℕ × ℕ)} {a : PartVisit} → is_formed_expr p e vars ≡ true → Visits vars more a → Visits vars more (value_first e a)
   value_visits e {vars = vars} {a = a} f v =
       record { kept = v.kept; can = λ ks r. and_from (is_visitable_expr p.terms e ks) (a.can_visit ks) (expr_visits e vars ks f r.bound) (v.can ks r); binds = v.binds }
 

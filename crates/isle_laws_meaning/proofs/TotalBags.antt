@@ -41,9 +41,6 @@ record QuietRule (two : TwoMaps) : Type 0 where
 
 -- 1. the sites of a rule that makes no impure call have the same contents under every pick
 module _ (two : TwoMaps) (q : QuietRule two) where
-  abbrev p : Program
-  p = two.program
-
   abbrev m : Meaning
   m = two.first.meaning
 
@@ -51,11 +48,11 @@ module _ (two : TwoMaps) (q : QuietRule two) where
   n = two.second.meaning
 
   abbrev made : List SiteTerm
-  made = (demands_of p q.rule).made
+  made = (demands_of two.program q.rule).made
 
   content_same : (k : Pick) (s : SiteTerm) → AllMade made s → site_content m two.args k s ≡ site_content n two.args k s
   content_same k s h =
-      same_content two k q.rule q.listed s h (no_calls_at (λ u. site_content m two.args k u ≡ site_content n two.args k u) made (none_is_impure p q.rule q.no_calls) s h)
+      same_content two k q.rule q.listed s h (no_calls_at (λ u. site_content m two.args k u ≡ site_content n two.args k u) made (none_is_impure two.program q.rule q.no_calls) s h)
 
   -- so the rule has the same picks
   over_same : (calls : List SiteTerm) → ((u : SiteTerm) → In calls u → AllMade made u) → (k : Pick) → picks_over m two.args k calls ≡ picks_over n two.args k calls
@@ -65,11 +62,11 @@ module _ (two : TwoMaps) (q : QuietRule two) where
       let b : (i : ℕ) → picks_over m two.args (k ++ (call, i) ∷ []) calls ≡ picks_over n two.args (k ++ (call, i) ∷ []) calls = λ i. over_same calls (λ u j. h u (inr j)) (k ++ (call, i) ∷ []) in
       λ j. flat_map (λ i. b i j) (places_in (a j))
 
-  call_made : (u : SiteTerm) → In (multi_calls p q.rule) u → AllMade made u
-  call_made u i = elim (with_sites_in [] (demands_of p q.rule).iterators u i) [ inl x ↦ absurd x | inr j ↦ (rule_makes p q.rule).0.over u j ]
+  call_made : (u : SiteTerm) → In (multi_calls two.program q.rule) u → AllMade made u
+  call_made u i = elim (with_sites_in [] (demands_of two.program q.rule).iterators u i) [ inl x ↦ absurd x | inr j ↦ (rule_makes two.program q.rule).0.over u j ]
 
-  picks_same : picks p m two.args q.rule ≡ picks p n two.args q.rule
-  picks_same = over_same (multi_calls p q.rule) call_made []
+  picks_same : picks two.program m two.args q.rule ≡ picks two.program n two.args q.rule
+  picks_same = over_same (multi_calls two.program q.rule) call_made []
 
 -- 2. and the same result under each
 module _ (p : Program) (h : IsWellTypedProgram p) (t : ℕ) where

@@ -93,7 +93,7 @@ module _ (clear : ClearWorld) (place : Place clear) where
       base = λ t i. inl i;
       MayList = IsOpen;
       deeper = λ s a may out c. (all_below_source clear.world.sites clear.sources ss s a may.0 c, (open_now may.1.0 s may.1.1 out).1 a c);
-      Holds = Binds;
+      Invariant = Binds;
       next = λ done b n may. put done b n may.0 (open_now may.1.0 n.site may.1.1 (or_parts (is_in n.site place.around.emitted) (is_in n.site done) n.unlisted).0).0;
     }
 

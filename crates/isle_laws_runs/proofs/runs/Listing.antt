@@ -97,8 +97,8 @@ closed_next sites emitted Base done closed n u a c i =
       | inr q ↦ stays_here Base done n.site a (n.sources a (subst (λ x. Contains (sources_at sites x) a) (sym q) i))
     ]
 
--- a walk down from sites: what is emitted is here from the start, sites that may be listed have sources that may be, and what
--- holds of all that is listed so far holds with the next site
+-- a walk down from sites: what is emitted is here from the start, sites that may be listed have sources that may be, and the
+-- invariant of all that is listed so far holds with the next site
 pub record Walk : Type 1 where
   pub sites : List Site
   pub before : SourcesBefore sites
@@ -107,18 +107,18 @@ pub record Walk : Type 1 where
   pub base : (t : ℕ) → is_in t emitted ≡ true → Base t
   pub MayList : ℕ → Type 0
   pub deeper : (s a : ℕ) → MayList s → is_in s emitted ≡ false → Contains (sources_at sites s) a → MayList a
-  pub Holds : List ℕ → Type 0
-  pub next : (done : List ℕ) → Holds done → (n : NextSite sites emitted Base done) → MayList n.site → Holds (done ++ n.site ∷ [])
+  pub Invariant : List ℕ → Type 0
+  pub next : (done : List ℕ) → Invariant done → (n : NextSite sites emitted Base done) → MayList n.site → Invariant (done ++ n.site ∷ [])
 
 module _ (walk : Walk) where
   -- from one list to another: it holds, what was here stays, and these sites are here now
   pub record WalkedTo (done more : List ℕ) (Now : ℕ → Type 0) : Type 0 where
-    pub holds : walk.Holds more
+    pub holds : walk.Invariant more
     pub grows : (t : ℕ) → IsHere walk.Base done t → IsHere walk.Base more t
     pub now : (s : ℕ) → Now s → IsHere walk.Base more s
 
-  each : (f : List ℕ → ℕ → List ℕ) (xs : List ℕ) → ((s : ℕ) → Contains xs s → (done : List ℕ) → walk.Holds done → WalkedTo done (f done s) (λ t. s ≡ t))
-      → (done : List ℕ) → walk.Holds done → WalkedTo done (each_after f done xs) (Contains xs)
+  each : (f : List ℕ → ℕ → List ℕ) (xs : List ℕ) → ((s : ℕ) → Contains xs s → (done : List ℕ) → walk.Invariant done → WalkedTo done (f done s) (λ t. s ≡ t))
+      → (done : List ℕ) → walk.Invariant done → WalkedTo done (each_after f done xs) (Contains xs)
   each f [] go done h = record { holds = h; grows = λ t i. i; now = λ s c. absurd (nothing_in s c) }
   each f (s ∷ xs) go done h =
       let m = go s (in_head s xs) done h in
@@ -129,7 +129,7 @@ module _ (walk : Walk) where
         now = λ t c. elim (in_cases s t xs c) [ inl e ↦ r.grows t (m.now t e) | inr d ↦ r.now t d ];
       }
 
-  one_listed : (n s : ℕ) → s < n → walk.MayList s → (done : List ℕ) → walk.Holds done → WalkedTo done (listed_below n walk.sites walk.emitted done s) (λ t. s ≡ t)
+  one_listed : (n s : ℕ) → s < n → walk.MayList s → (done : List ℕ) → walk.Invariant done → WalkedTo done (listed_below n walk.sites walk.emitted done s) (λ t. s ≡ t)
   one_listed zero s l may done h = absurd (omega (arith, l))
   one_listed (suc n) s l may done h =
       let rest = each_after (listed_below n walk.sites walk.emitted) done (sources_at walk.sites s) in
@@ -151,13 +151,13 @@ module _ (walk : Walk) where
 
   -- sites of a list, one after another
   pub all_listed : (n : ℕ) (xs : List ℕ) → ((s : ℕ) → Contains xs s → (s < n) × walk.MayList s)
-      → (done : List ℕ) → walk.Holds done → WalkedTo done (each_after (listed_below n walk.sites walk.emitted) done xs) (Contains xs)
+      → (done : List ℕ) → walk.Invariant done → WalkedTo done (each_after (listed_below n walk.sites walk.emitted) done xs) (Contains xs)
   all_listed n xs fine done h = each (listed_below n walk.sites walk.emitted) xs (λ s c. let f = fine s c in one_listed n s f.0 f.1) done h
 
-  pub below_listed : (s : ℕ) → walk.MayList s → (done : List ℕ) → walk.Holds done → WalkedTo done (listed_below (suc s) walk.sites walk.emitted done s) (λ t. s ≡ t)
+  pub below_listed : (s : ℕ) → walk.MayList s → (done : List ℕ) → walk.Invariant done → WalkedTo done (listed_below (suc s) walk.sites walk.emitted done s) (λ t. s ≡ t)
   below_listed s may done h = one_listed (suc s) s (omega arith) may done h
 
   -- so it holds of a bind order
-  pub order_listed : (ss : List ℕ) → ((s : ℕ) → Contains ss s → walk.MayList s) → walk.Holds []
+  pub order_listed : (ss : List ℕ) → ((s : ℕ) → Contains ss s → walk.MayList s) → walk.Invariant []
       → WalkedTo [] (each_after (λ done s. listed_below (suc s) walk.sites walk.emitted done s) [] ss) (Contains ss)
   order_listed ss may h = each (λ done s. listed_below (suc s) walk.sites walk.emitted done s) ss (λ s c. below_listed s (may s c)) [] h

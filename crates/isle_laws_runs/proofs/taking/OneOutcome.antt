@@ -266,7 +266,7 @@ module _ (w : World) (before : SourcesBefore w.sites) where
         base = λ t i. i;
         MayList = Below;
         deeper = λ s a b out c. all_below_source w.sites before ss s a b c;
-        Holds = BoundAlike;
+        Invariant = BoundAlike;
         next = put;
       }
 

@@ -144,7 +144,7 @@ module _ (taking : Taking) (uses : ReturnSites taking) where
       base = λ t i. i;
       MayList = λ s. Below s × Contains (all_below taking.world.sites xs) s;
       deeper = λ s a may out c. (all_below_source taking.world.sites taking.before uses.sites s a may.0 c, all_below_source taking.world.sites taking.before xs s a may.1 c);
-      Holds = IsWalked;
+      Invariant = IsWalked;
       next = λ more w n may. record { grows = λ t i. stays_here (Emitted taking) more n.site t (w.grows t i); reached = reached_next more w n may.0 may.1 w.reached };
     }
 

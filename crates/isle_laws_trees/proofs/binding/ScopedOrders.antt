@@ -138,7 +138,7 @@ module _ (b : BindableSet) (ar : Around) (scope : ScopeAt b ar) (ss : List ℕ) 
     base = λ t i. (t, member_found t ar.emitted i, below_itself sites t);
     MayList = Contains (all_below sites ss);
     deeper = λ s a may out c. all_below_source sites b.before ss s a may c;
-    Holds = BoundOnce;
+    Invariant = BoundOnce;
     next = put;
   }
 
@@ -188,7 +188,7 @@ module _ (b : BindableSet) (ar : Around) (more : (x : ℕ) → Contains ar.broug
     base = λ t i. i;
     MayList = λ s. (n : ℕ) × (is_available n b.set.sites ar.brought s ≡ true);
     deeper = λ s a may out c. (open_now may.0 s may.1 out).1 a c;
-    Holds = NoneWaits;
+    Invariant = NoneWaits;
     next = λ done h n may x c. elim (listed_last done n.site x c) [
       | inl d ↦ h x d
       | inr e ↦ subst (λ y. waits (slice_get b.set.sites y) ≡ false) e (open_now may.0 n.site may.1 (or_parts (is_in n.site ar.emitted) (is_in n.site done) n.unlisted).0).0
