@@ -1,6 +1,7 @@
 -- Building goes on by one rule after another, and what there is after the last.
 use Rattle.std.proofs.Common.{◌≡◌, ◌≢◌, ◌==◌, ℕ, zero, suc, ◌+◌, ◌<◌, ◌≤◌, Bool, List, [], ◌∷◌, ◌++◌, length, take, Some, slice_get, get_or, option_map, refl, sym, ap, ◌∙◌, subst, inl, inr, arith, eqb-true, eq-eqb, add-one}
-use Rattle.std.specs.BTreeMap.{BTreeMap, IsOrdered, get}
+use Rattle.std.specs.BTreeMap.{BTreeMap, IsOrdered, get, is_at}
+use Rattle.std.specs.Map.{lookup}
 use Rattle.std.specs.Ordering.{nat_cmp}
 use Rattle.std.proofs.lemmas.Bool.{cases_Bool, false≢true}
 use Rattle.std.proofs.lemmas.List.{length-map, map-append, take_all}
@@ -19,14 +20,15 @@ use Rattle.isle_model.specs.sites.RuleSets.{StandFor}
 use Rattle.isle_model.specs.sites.Sites.{SiteSet}
 use Rattle.isle_model.proofs.Elements.{contains_from_in, in_slice, none_some}
 use Rattle.isle_model.proofs.Positions.{distinct_nil}
-use Rattle.isle_laws_demands.specs.RuleByRule.{BuiltSetsAreAnswered, GoesPast, of_one_term, or_nothing_built}
-use Rattle.isle_laws_demands.proofs.building.SetsSoFar.{building_ends_lem, building_goes_on_lem, stands}
+use Rattle.isle_laws_demands.specs.RuleByRule.{AreBuiltSoFar, BuiltSetsAreAnswered, GoesPast, of_one_term, or_nothing_built}
+use Rattle.isle_laws_demands.proofs.building.SetsSoFar.{building_ends_lem, building_goes_on_lem, building_starts_lem, stands}
 use Rattle.isle_laws_demands.proofs.overlaps.Judged.{well_typed_rules_have_terms_lem}
 use Rattle.isle_laws_demands.proofs.visits.Once.{once_after}
 use Rattle.isle_laws_lists.specs.WellTypedPrograms.{ElaboratedProgramsAreWellTyped}
 use Rattle.isle_base.specs.declared.syntax.Error.{Error}
 use Rattle.isle_types.specs.declared.ids.TermId.{TermId}
 use Rattle.isle_terms.specs.TermViews.{term_views}
+use Rattle.isle_base.specs.ErrorViews.{error_views}
 use Rattle.isle_typed.specs.RuleViews.{rule_view, rule_views}
 use Rattle.isle_typed.specs.declared.rules.Rule.{Rule}
 use Rattle.isle_rules.specs.declared.term_env.TermEnv.{TermEnv}

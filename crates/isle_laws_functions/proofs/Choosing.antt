@@ -94,12 +94,6 @@ runs_by_functions_as_chosen_lem e defs expand rules t sites tree f args h single
     let m = first.meaning in
     let ran : run tree (world_of p t sites m args) ≡ one.outcome = one.runs first in
     let goes_on : (run tree (world_of p t sites m args)).ending ≡ stuck → ⊥ = λ x. chosen_not_stuck p m args (chosen p m rs args) (ap (λ (o : Outcome). o.ending) (one.chooses first ∙ sym ran) ∙ x) in
-    let asked_all : AsksOf f args (constants_in tree) (own ++ more) = λ u k q l. in_right own more q (asks_of_all f args (constants_in tree) u k q l) in
-    let values : HasValuesOf m (constants_in tree) = record {
-      bools = λ b ty i. ap is_some (bool_answered f args (own ++ more) (constants_in tree) asked_all b ty i);
-      ints = λ z ty i. ap is_some (int_answered f args (own ++ more) (constants_in tree) asked_all z ty i);
-      names = λ name i. ap is_some (constant_answered f args (own ++ more) (constants_in tree) asked_all name i);
-    } in
     let named : HasConstants m tree = λ s c.
     let i = in_from_contains (constants_in tree) s c in
     let a = tree_names tree s i in

@@ -1,22 +1,21 @@
 -- The rules of built sets ask all that follows from what the source rules demand, by the numbers of the set.
-use Rattle.std.proofs.Common.{◌≡◌, ◌≢◌, ap, sym, subst, ℕ, zero, suc, ◌<◌, List, [], ◌∷◌, length, Some, slice_get, Contains}
+use Rattle.std.proofs.Common.{◌≡◌, ◌≢◌, ap, subst, ℕ, ◌<◌, length, Contains}
 use Rattle.std.specs.Prelude.{IsTrue}
-use Rattle.std.proofs.lemmas.Option.{none-some}
 use Rattle.isle_model.specs.rules.Typed.{TypedRule}
 use Rattle.isle_model.specs.rules.Program.{Program}
-use Rattle.isle_model.specs.sites.Sites.{Site, Constraint, SetRule, SiteSet, SiteTerm, unfold_site}
+use Rattle.isle_model.specs.sites.Sites.{Constraint, SiteSet, SiteTerm, unfold_site}
 use Rattle.isle_model.specs.sites.Demands.{Demands, demands_of}
 use Rattle.isle_model.specs.sites.Closure.{HasConstraint, IsClosedEquality, ClosedIsWhole}
-use Rattle.isle_model.specs.sites.Overlap.{BuiltRule, built_rules}
-use Rattle.isle_model.specs.sites.RuleSets.{AreRulesOfSet, IsRuleOf}
+use Rattle.isle_model.specs.sites.Overlap.{built_rules}
 use Rattle.isle_model.specs.trees.Places.{joins_in}
 use Rattle.isle_model.specs.claims.Layers.{own_program}
-use Rattle.isle_model.proofs.Elements.{contains_from_in, in_slice, some_is}
-use Rattle.isle_model.proofs.Mapped.{get_mapped, get_map}
+use Rattle.isle_model.proofs.Elements.{contains_from_in, in_slice}
 use Rattle.isle_laws_lists.proofs.WellTypedRules.{read_programs_are_well_typed}
 use Rattle.isle_laws_demands.specs.BuiltLaws.{BuiltDemandsAreWhole}
+use Rattle.isle_laws_demands.proofs.visits.Built.{stands_for}
 use Rattle.isle_laws_demands.proofs.visits.BuiltSets.{BuiltSet, RuleOfSet}
 use Rattle.isle_laws_demands.proofs.visits.Once.{one_number}
+use Rattle.isle_laws_trees.proofs.headline.Places.{Pair, of_set_rule, of_typed_rule, typed_here}
 use Rattle.isle_laws_trees.specs.WholeDemands.{AsksAt, JoinsAt, AsksWhatFollows, AcceptedSetsAreWhole}
 
 module _ (b : BuiltSet) (x : RuleOfSet b) (whole : ClosedIsWhole (demands_of b.program x.typed.rule) x.typed.demands) where
@@ -86,48 +85,27 @@ module _ (b : BuiltSet) (x : RuleOfSet b) (whole : ClosedIsWhole (demands_of b.p
     all_classes = joins_at;
   }
 
--- rules at one place
-rule_at : (p : Program) (sites : List Site) (bs : List BuiltRule) (rs : List SetRule) (i : ℕ) (b : BuiltRule) → AreRulesOfSet p sites bs rs → slice_get bs i ≡ Some b
-    → (r : SetRule) × (slice_get rs i ≡ Some r) × IsRuleOf p sites b r
-rule_at p sites [] rs i b h e = absurd (none-some b e)
-rule_at p sites (c ∷ bs) [] i b h e = absurd h
-rule_at p sites (c ∷ bs) (q ∷ rs) zero b h e = (q, λ k. Some q, subst (λ x. IsRuleOf p sites x q) (some_is c b e) h.0)
-rule_at p sites (c ∷ bs) (q ∷ rs) (suc i) b h e = rule_at p sites bs rs i b h.1 e
-
-built_at : (p : Program) (sites : List Site) (bs : List BuiltRule) (rs : List SetRule) (i : ℕ) (r : SetRule) → AreRulesOfSet p sites bs rs → slice_get rs i ≡ Some r
-    → (b : BuiltRule) × (slice_get bs i ≡ Some b) × IsRuleOf p sites b r
-built_at p sites [] [] i r h e = absurd (none-some r e)
-built_at p sites [] (q ∷ rs) i r h e = absurd h
-built_at p sites (c ∷ bs) [] i r h e = absurd h
-built_at p sites (c ∷ bs) (q ∷ rs) zero r h e = (c, λ k. Some c, subst (IsRuleOf p sites c) (some_is q r e) h.0)
-built_at p sites (c ∷ bs) (q ∷ rs) (suc i) r h e = built_at p sites bs rs i r h.1 e
-
 pub accepted_sets_are_whole_lem : BuiltDemandsAreWhole → AcceptedSetsAreWhole
 accepted_sets_are_whole_lem law defs expand rules accepted t set built =
     let p = own_program defs rules in
     let s : BuiltSet = record { program = p; term = t; set = set; built = built } in
-    let of : (b : BuiltRule) (i : ℕ) → slice_get (built_rules p t) i ≡ Some b → (r : SetRule) → IsRuleOf p set.sites b r → RuleOfSet s = λ b i at r is.
-    record { typed = b; listed = in_slice (built_rules p t) i b at; rule = r; is = is } in
+    let follows : (i : ℕ) (x : Pair p t set i) → AsksWhatFollows p set.sites x.typed.rule x.built = λ i x.
+    asks_what_follows s (stands_for s x.typed x.built x.one)
+    (law p t (read_programs_are_well_typed accepted.read) x.typed (contains_from_in (built_rules p t) x.typed (in_slice (built_rules p t) i x.typed x.here))) in
     let all = accepted.checkable.built t in
     record {
       each_rule = λ i r h.
-          (let k = built_at p set.sites (built_rules p t) set.rules i r built.rules h in
+          (let x = of_set_rule p t set built i r h in
           record {
-            source = k.0.rule;
-            here = subst (λ (l : List TypedRule). slice_get l i ≡ Some k.0.rule) all (get_map (λ (b : BuiltRule). b.rule) (built_rules p t) i k.0 k.1);
-            asks = asks_what_follows s (of k.0 i k.1 r k.2) (whole k.0 i k.1);
+            source = x.0.typed.rule;
+            here = typed_here p t set built all i x.0;
+            asks = subst (AsksWhatFollows p set.sites x.0.typed.rule) x.1 (follows i x.0);
           });
       each_source = λ i q h.
-          (let m = get_mapped (λ (b : BuiltRule). b.rule) (built_rules p t) i q (subst (λ (l : List TypedRule). slice_get l i ≡ Some q) (sym all) h) in
-          let k = rule_at p set.sites (built_rules p t) set.rules i m.0 built.rules m.1 in
+          (let x = of_typed_rule p t set built all i q h in
           record {
-            rule = k.0;
-            here = k.1;
-            asks = subst (λ (x : TypedRule). AsksWhatFollows p set.sites x k.0) m.2 (asks_what_follows s (of m.0 i m.1 k.0 k.2) (whole m.0 i m.1));
+            rule = x.0.built;
+            here = x.0.there;
+            asks = subst (λ (k : TypedRule). AsksWhatFollows p set.sites k x.0.built) x.1 (follows i x.0);
           });
     }
-  where
-    whole : (b : BuiltRule) (i : ℕ) → slice_get (built_rules (own_program defs rules) t) i ≡ Some b → ClosedIsWhole (demands_of (own_program defs rules) b.rule) b.demands
-    whole b i e =
-        law (own_program defs rules) t (read_programs_are_well_typed accepted.read) b
-        (contains_from_in (built_rules (own_program defs rules) t) b (in_slice (built_rules (own_program defs rules) t) i b e))

@@ -1,16 +1,15 @@
 -- In a term that isn't multi, the run of a best tree is the choice by priority.
 use Rattle.std.proofs.Common.{◌≡◌, ◌<◌, ℕ, false, List, [], map, Some, is_some, slice_get, Contains, All, IsTrue, ◌≤ℤ◌, sym, ap, subst, ◌∙◌, inl, inr, arith}
 use Rattle.std.proofs.lemmas.Bool.{both_ways, false≢true, cases_lt}
-use Rattle.isle_model.specs.rules.Values.{Value, args_well_typed}
+use Rattle.isle_model.specs.rules.Values.{Value}
 use Rattle.isle_model.specs.rules.Meaning.{Meaning}
 use Rattle.isle_model.specs.rules.Outcome.{Outcome, no_rule}
-use Rattle.isle_model.specs.rules.Program.{Program, is_multi, arg_types, rules_of}
+use Rattle.isle_model.specs.rules.Program.{Program, is_multi, rules_of}
 use Rattle.isle_model.specs.rules.Matching.{matches}
 use Rattle.isle_model.specs.rules.Choice.{with_vars, outcome_of_rule, choice, MatchesOnce}
 use Rattle.isle_model.specs.rules.Typed.{TypedRule}
 use Rattle.isle_model.specs.sites.Sites.{SetRule, SiteSet}
 use Rattle.isle_model.specs.sites.Overlap.{BuiltRule, built_rules}
-use Rattle.isle_model.specs.sites.Serves.{Serves, TellsConstantsApart}
 use Rattle.isle_model.specs.trees.Trees.{Tree}
 use Rattle.isle_model.specs.trees.Run.{World, run, world_of}
 use Rattle.isle_model.specs.trees.Collects.{demands_hold}
@@ -66,29 +65,11 @@ module _ (laws : ChoosingLaws) (b : BuiltSet) (of : IsChosenFrom b) (serving : S
   abbrev set : SiteSet
   set = b.set
 
-  abbrev h : IsWellTypedProgram p
-  h = of.well_typed
-
-  abbrev check : IsCheckable p
-  check = of.checkable
-
-  abbrev without : is_multi p t ≡ false
-  without = of.single
-
   abbrev m : Meaning
   m = serving.meaning
 
   abbrev args : List Value
   args = serving.args
-
-  abbrev typed : IsTrue (args_well_typed p.types (arg_types p t) args)
-  typed = serving.typed
-
-  abbrev served : Serves p m args (rules_of p t)
-  served = serving.serves
-
-  abbrev apart : TellsConstantsApart p m (rules_of p t)
-  apart = serving.apart
 
   abbrev rs : List TypedRule
   rs = rules_of p t
@@ -101,7 +82,7 @@ module _ (laws : ChoosingLaws) (b : BuiltSet) (of : IsChosenFrom b) (serving : S
   listed i x = member_from_get (built_rules p t) i x.typed x.here
 
   none : All (λ r. r.iterators ≡ []) set.rules
-  none = set_goes_over_none laws.no_calls b h without
+  none = set_goes_over_none laws.no_calls b of.well_typed of.single
 
   -- 2. a rule matches exactly where its demands hold
   abbrev Matches : TypedRule → Type 0
@@ -109,21 +90,21 @@ module _ (laws : ChoosingLaws) (b : BuiltSet) (of : IsChosenFrom b) (serving : S
 
   alike : (i : ℕ) (x : Pair p t set i) → is_some (matches p m x.typed.rule args) ≡ demands_hold w [] x.built
   alike i x =
-      let n = rule_goes_over_none laws.no_calls b h without x.typed (listed i x) in
-      sym (same_match p m args x.typed.rule n) ∙ laws.match p t set h b.built m args typed served apart x.typed x.built [] x.one (empty_pick p m args x.typed.rule n)
+      let n = rule_goes_over_none laws.no_calls b of.well_typed of.single x.typed (listed i x) in
+      sym (same_match p m args x.typed.rule n) ∙ laws.match p t set of.well_typed b.built m args serving.typed serving.serves serving.apart x.typed x.built [] x.one (empty_pick p m args x.typed.rule n)
 
   prio_same : (i : ℕ) (x : Pair p t set i) → x.built.prio ≡ x.typed.rule.prio
   prio_same i x = (one_rule p t set x.typed x.built b.built x.one).prio
 
   all : map (λ (k : BuiltRule). k.rule) (built_rules p t) ≡ rs
-  all = check.built t
+  all = of.checkable.built t
 
   -- 3. of two rules of one priority one matches at most
   never_both : (i j : ℕ) (x : Pair p t set i) (y : Pair p t set j) → i < j → x.typed.rule.prio ≡ y.typed.rule.prio → Matches x.typed.rule → Matches y.typed.rule → ⊥
   never_both i j x y l same mx my =
-      (laws.apart p t h).overlap m args typed served apart x.typed y.typed
-      (record { one_of = listed i x; other_of = listed j y; one_result = without })
-      (λ o. check.overlaps t i j (record { first = x.typed; second = y.typed; one_result = without; here = x.here; there = y.here; before = l; one_priority = same; overlap = o })) mx my
+      (laws.apart p t of.well_typed).overlap m args serving.typed serving.serves serving.apart x.typed y.typed
+      (record { one_of = listed i x; other_of = listed j y; one_result = of.single })
+      (λ o. of.checkable.overlaps t i j (record { first = x.typed; second = y.typed; one_result = of.single; here = x.here; there = y.here; before = l; one_priority = same; overlap = o })) mx my
 
   pub once : MatchesOnce p m rs args
   once i j r q ri qj same mr mq =
@@ -145,7 +126,7 @@ module _ (laws : ChoosingLaws) (b : BuiltSet) (of : IsChosenFrom b) (serving : S
   taken_gives : (i : ℕ) (x : Pair p t set i) (o : Outcome) → Matches x.typed.rule → IsTaken w x.built o → o ≡ with_vars p m x.typed.rule (matches p m x.typed.rule args)
   taken_gives i x o mx taken =
       let v = is_there (matches p m x.typed.rule args) mx in
-      laws.taken p t set h b.built m args typed served apart x.typed x.built v.0 o x.one (pair_goes_over_none laws.no_calls b h without i x) v.1 (subst (λ u. IsTaken u x.built o) (once_world w without) taken)
+      laws.taken p t set of.well_typed b.built m args serving.typed serving.serves serving.apart x.typed x.built v.0 o x.one (pair_goes_over_none laws.no_calls b of.well_typed of.single i x) v.1 (subst (λ u. IsTaken u x.built o) (once_world w of.single) taken)
       ∙ sym (ap (with_vars p m x.typed.rule) v.1)
 
   chosen_here : (i : ℕ) (x : Pair p t set i) → Matches x.typed.rule → ((q : TypedRule) → In rs q → Matches q → q.prio ≤ℤ x.typed.rule.prio) → choice p m rs args ≡ with_vars p m x.typed.rule (matches p m x.typed.rule args)
@@ -191,8 +172,8 @@ module _ (laws : ChoosingLaws) (b : BuiltSet) (of : IsChosenFrom b) (serving : S
   pub runs_as_chosen : (tree : Tree) → IsBestTree set tree → run tree w ≡ choice p m rs args
   runs_as_chosen tree best =
       chosen_from (run tree w)
-      (sound_trees_choose_lem set tree w (laws.tested p t set h b.built without none) (laws.serve p t set h b.built m args typed served apart) without
-      (laws.sound p t set h b.built false tree none (λ q. absurd (false≢true q)) best))
+      (sound_trees_choose_lem set tree w (laws.tested p t set of.well_typed b.built of.single none) (laws.serve p t set of.well_typed b.built m args serving.typed serving.serves serving.apart) of.single
+      (laws.sound p t set of.well_typed b.built false tree none (λ q. absurd (false≢true q)) best))
 
 pub best_trees_run_as_chosen_lem : ChoosingLaws → OfBuiltSets (λ p t set. IsCheckable p → (tree : Tree) → IsBestTree set tree → RunsAsChosen p t set.sites tree)
 best_trees_run_as_chosen_lem laws p t set h b check tree best without m args typed served apart =

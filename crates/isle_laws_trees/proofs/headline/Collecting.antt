@@ -7,9 +7,9 @@ use Rattle.std.proofs.lemmas.Option.{none-some, same_Some}
 use Rattle.std.proofs.lemmas.List.Elements.{All-contains, Contains-append_left, Contains-append_right}
 use Rattle.std.proofs.lemmas.List.Sorted.{IsPermutation-refl, IsPermutation-trans, IsPermutation-append}
 use Rattle.isle_model.specs.lists.Names.{IsDistinct}
-use Rattle.isle_model.specs.rules.Values.{Value, args_well_typed}
+use Rattle.isle_model.specs.rules.Values.{Value}
 use Rattle.isle_model.specs.rules.Meaning.{Content, Meaning}
-use Rattle.isle_model.specs.rules.Program.{Program, arg_types, rules_of, is_multi, numbers_from}
+use Rattle.isle_model.specs.rules.Program.{Program, rules_of, is_multi, numbers_from}
 use Rattle.isle_model.specs.rules.Picks.{Pick, SitedVars, multi_calls, picks_over, picks, matches_under, results_with, results_under, bag}
 use Rattle.isle_model.specs.rules.Typed.{TypedRule}
 use Rattle.isle_model.specs.sites.Sites.{Constraint, SetRule, SiteSet, SiteTerm, unfold_site}
@@ -17,7 +17,6 @@ use Rattle.isle_model.specs.sites.Demands.{demands_of}
 use Rattle.isle_model.specs.sites.Gates.{gate_demanded}
 use Rattle.isle_model.specs.sites.Overlap.{BuiltRule, built_rules}
 use Rattle.isle_model.specs.sites.RuleSets.{IsRuleOf}
-use Rattle.isle_model.specs.sites.Serves.{Serves, TellsConstantsApart}
 use Rattle.isle_model.specs.trees.Trees.{Tree}
 use Rattle.isle_model.specs.trees.Places.{is_in, below, all_below}
 use Rattle.isle_model.specs.trees.Run.{World, run, world_of}
@@ -94,32 +93,11 @@ module _ (laws : CollectingLaws) (b : BuiltSet) (of : IsCollectedFrom b) (servin
   abbrev set : SiteSet
   set = b.set
 
-  abbrev h : IsWellTypedProgram p
-  h = of.well_typed
-
-  abbrev check : IsCheckable p
-  check = of.checkable
-
-  abbrev multi : is_multi p t ≡ true
-  multi = of.several
-
-  abbrev results : All (HasCollectedResults p) (rules_of p t)
-  results = of.results
-
   abbrev m : Meaning
   m = serving.meaning
 
   abbrev args : List Value
   args = serving.args
-
-  abbrev typed : IsTrue (args_well_typed p.types (arg_types p t) args)
-  typed = serving.typed
-
-  abbrev served : Serves p m args (rules_of p t)
-  served = serving.serves
-
-  abbrev apart : TellsConstantsApart p m (rules_of p t)
-  apart = serving.apart
 
   abbrev rs : List TypedRule
   rs = rules_of p t
@@ -130,14 +108,14 @@ module _ (laws : CollectingLaws) (b : BuiltSet) (of : IsCollectedFrom b) (servin
   -- 2. the set, its world and its best trees
   collected : IsCollectedSet set
   collected =
-      laws.collected p t set h b.built multi
-      (all_members (λ (k : BuiltRule). HasCollectedResults p k.rule) (built_rules p t) (λ k c. All-contains (HasCollectedResults p) rs k.rule results (built_listed p t k c)))
+      laws.collected p t set of.well_typed b.built of.several
+      (all_members (λ (k : BuiltRule). HasCollectedResults p k.rule) (built_rules p t) (λ k c. All-contains (HasCollectedResults p) rs k.rule of.results (built_listed p t k c)))
 
   rule_of : (r : SetRule) → Contains set.rules r → IsCollectedRule set.sites r
   rule_of r c = All-contains (IsCollectedRule set.sites) set.rules r collected.rules c
 
   serves : ServesSet set w
-  serves = laws.serve p t set h b.built (all_members (λ (r : SetRule). r.impure ≡ []) set.rules (λ r c. (rule_of r c).no_calls)) m args typed served apart
+  serves = laws.serve p t set of.well_typed b.built (all_members (λ (r : SetRule). r.impure ≡ []) set.rules (λ r c. (rule_of r c).no_calls)) m args serving.typed serving.serves serving.apart
 
   gate_at : (r : SetRule) → Contains set.rules r → (s u : ℕ) → Contains (sites_of_rule r) s → Contains (below (suc s) set.sites s) u → IsTrue (gate_demanded r (slice_get set.sites u))
   gate_at r c s u i k = All-contains (λ x. IsTrue (gate_demanded r (slice_get set.sites x))) (all_below set.sites (sites_of_rule r)) u (rule_of r c).gates (in_flat_map (λ x. below (suc x) set.sites x) (sites_of_rule r) s u i k)
@@ -170,7 +148,7 @@ module _ (laws : CollectingLaws) (b : BuiltSet) (of : IsCollectedFrom b) (servin
       let a = rule_at p set.sites (built_rules p t) set.rules b.built.rules r (in_from_contains set.rules r c) in
       record {
         asks_once = λ s d i. first_constraint r.constraints a.2.constraints.once s d (in_from_contains r.constraints (s, d) i);
-        asks_or_goes_over = laws.apart p t set h b.built r c;
+        asks_or_goes_over = laws.apart p t set of.well_typed b.built r c;
         gates = λ s u k i. gate_at r c s u (tested_site r s k) i;
       }
 
@@ -179,7 +157,7 @@ module _ (laws : CollectingLaws) (b : BuiltSet) (of : IsCollectedFrom b) (servin
 
   collects_set : (tree : Tree) → IsBestTree set tree → Collects (run tree w) (set_bag set w)
   collects_set tree best =
-      sound_trees_collect_lem set tree w collected serves multi (best_trees_are_sound_lem set true tree well_built (λ q. laws.one_priority p t set h b.built multi) best)
+      sound_trees_collect_lem set tree w collected serves of.several (best_trees_are_sound_lem set true tree well_built (λ q. laws.one_priority p t set of.well_typed b.built of.several) best)
 
   -- 3. the calls that a rule goes over, in the order of the set
   abbrev term_at : ℕ → SiteTerm
@@ -242,7 +220,7 @@ module _ (laws : CollectingLaws) (b : BuiltSet) (of : IsCollectedFrom b) (servin
     result_same k c = by (matches_under p m k x.typed.rule args) refl
       where
         matched : is_some (matches_under p m k x.typed.rule args) ≡ demands_hold w k r
-        matched = laws.match p t set h b.built m args typed served apart x.typed r k x.one c
+        matched = laws.match p t set of.well_typed b.built m args serving.typed serving.serves serving.apart x.typed r k x.one c
 
         by : (o : Option SitedVars) → matches_under p m k x.typed.rule args ≡ o → results_under p m args x.typed.rule k ≡ result_in w r k
         by None q =
@@ -250,7 +228,7 @@ module _ (laws : CollectingLaws) (b : BuiltSet) (of : IsCollectedFrom b) (servin
             ∙ sym (cond-false (demands_hold w k r) (as_list (content_at w k r.result)) [] (sym matched ∙ ap is_some q))
         by (Some vars) q =
             ap (results_with p m k x.typed.rule) q
-            ∙ laws.results p t set h b.built m args typed served apart x.typed r k vars x.one (rule_of r member).no_calls c q
+            ∙ laws.results p t set of.well_typed b.built m args serving.typed serving.serves serving.apart x.typed r k vars x.one (rule_of r member).no_calls c q
             ∙ sym (cond-true (demands_hold w k r) (as_list (content_at w k r.result)) [] (sym matched ∙ ap is_some q))
 
     rule_bag : IsPermutation (flat_map (results_under p m args x.typed.rule) (picks p m args x.typed.rule)) (flat_map (result_in w r) (picks_over m args [] (calls_gone_over set r)))
@@ -262,7 +240,7 @@ module _ (laws : CollectingLaws) (b : BuiltSet) (of : IsCollectedFrom b) (servin
 
   -- 5. those of all rules
   all : map (λ (k : BuiltRule). k.rule) (built_rules p t) ≡ rs
-  all = check.built t
+  all = of.checkable.built t
 
   abbrev typed_results : TypedRule → List Content
   typed_results r = flat_map (results_under p m args r) (picks p m args r)

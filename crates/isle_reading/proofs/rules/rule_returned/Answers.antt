@@ -1,4 +1,4 @@
-use Rattle.std.proofs.Common.{refl}
+use Rattle.std.proofs.Common.{rules, refl}
 use Rattle.isle_serialize.proofs.TreeLaws.{match_seen, equal_seen, loop_seen, return_seen}
 use Rattle.isle_reading.proofs.rules.rule_returned.Goals as goal
 
