@@ -25,7 +25,7 @@ five_answered _ _ ss h = absurd (false≢true h)
 
 serves : Serves impure_program five_at_first (given (pos 1)) (rules_of impure_program 1)
 serves =
-    serves_from impure_program five_at_first (given (pos 1)) (rules_of impure_program 1) call_of_g refl refl
+    serves_from impure_program five_at_first call_of_g (given (pos 1)) (rules_of impure_program 1) refl refl
     (λ k t s w h holds. absurd (false≢true h)) (λ k t ss vs h holds. absurd (pure_none t ss h)) (λ k r t before ss i matched made h gave. five_answered t before ss h)
 
 apart : TellsConstantsApart impure_program five_at_first (rules_of impure_program 1)

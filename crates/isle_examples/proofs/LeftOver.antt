@@ -70,7 +70,7 @@ none_called r t before ss i matched made =
 
 serves : Serves left_over_program left_over_meaning (given (pos 7)) left_over_rules.rules
 serves =
-    serves_from left_over_program left_over_meaning (given (pos 7)) left_over_rules.rules left_over_call refl refl
+    serves_from left_over_program left_over_meaning left_over_call (given (pos 7)) left_over_rules.rules refl refl
     (λ k t s w h holds. absurd (false≢true h)) pures (λ k r t before ss i matched made h gave. absurd (none_called r t before ss i matched made))
 
 tells_apart : TellsConstantsApart left_over_program left_over_meaning left_over_rules.rules

@@ -163,8 +163,12 @@ below_call =
 
 in_the_loop : IsReachedUnder in_world first_answer in_loop (loop_env all_of_m (one (v (pos 4))))
 in_the_loop =
-    reached_in_loop in_world first_answer all_of_m (one (v (pos 4))) (record { content = refl; as_used = refl; pure = below_call })
-    (record { content = refl; as_used = refl; pure = All-cons (IsPureAt multi_set.sites) 2 (1 ∷ (0 ∷ [])) (iterator_site 1, refl, tt) below_call })
+    reached_in_loop in_world first_answer record {
+      answers = all_of_m;
+      first = one (v (pos 4));
+      call = record { content = refl; as_used = refl; pure = below_call };
+      answer = record { content = refl; as_used = refl; pure = All-cons (IsPureAt multi_set.sites) 2 (1 ∷ (0 ∷ [])) (iterator_site 1, refl, tt) below_call };
+    }
 
 -- what the return uses: the loop's site, which is emitted, and what never waits
 needed : (s : ℕ) → Contains (2 ∷ (1 ∷ (0 ∷ []))) s → (waits (slice_get multi_set.sites s) ≡ false) ⊎ IsUnwrap (slice_get multi_set.sites s) ⊎ emitted_there s

@@ -36,7 +36,7 @@ answered k _ _ w h holds = absurd (false≢true h)
 
 pub picked_number_is_served : PickedNumberIsServed
 picked_number_is_served = (
-  serves_from picked_number_program one_and_five (given (pos 1)) (rules_of picked_number_program 1) call_of_me refl refl
+  serves_from picked_number_program one_and_five call_of_me (given (pos 1)) (rules_of picked_number_program 1) refl refl
       answered (λ k t ss vs h holds. absurd (false≢true h)) (λ k r t before ss i matched made h gave. absurd (false≢true h)),
   literals_apart picked_number_program one_and_five (rules_of picked_number_program 1) refl refl,
   record { no_calls = refl; no_call_unused = refl },
