@@ -18,6 +18,7 @@ use Rattle.isle_laws_demands.proofs.visits.Once.{one_number}
 use Rattle.isle_laws_trees.proofs.headline.Places.{Pair, of_set_rule, of_typed_rule, typed_here}
 use Rattle.isle_laws_trees.specs.WholeDemands.{AsksAt, JoinsAt, AsksWhatFollows, AcceptedSetsAreWhole}
 
+-- a rule of a built set, where the closed demands of the rule that it stands for are whole
 module _ (b : BuiltSet) (x : RuleOfSet b) (whole : ClosedIsWhole (demands_of b.program x.typed.rule) x.typed.demands) where
   abbrev p : Program
   p = b.program
