@@ -9,7 +9,7 @@ use Rattle.isle_model.specs.rules.Meaning.{bool_literal, int_literal, Meaning}
 use Rattle.isle_model.specs.rules.Program.{Program, Kind, a_variant, a_struct, a_call, unknown, kind, rules_of}
 use Rattle.isle_model.specs.rules.Typed.{TypedPattern, match_bind, match_var, match_bool, match_int, match_prim, match_term, match_any, match_and, TypedPatterns, no_typed_pattern, typed_pattern_and, TypedIfLet, TypedRule}
 use Rattle.isle_model.specs.sites.Sites.{Constraint, is_variant, is_struct, is_bool, is_int, is_prim, is_present, SiteTerm, bool_term, int_term, prim_term, argument, extractor_call, pick_of, some_part, variant_field, struct_field}
-use Rattle.isle_model.specs.sites.Demands.{site_term_eq, Visit, visit_start, making, asking, equating, binding, var_site, from_to, pattern_count, Opened, open_call, open_term, visit_pattern, visit_each, visit_all, visit_expr, unwraps, asking_all, visit_args, visit_iflets, demands_of}
+use Rattle.isle_model.specs.sites.Demands.{site_term_eq, Visit, visit_start, making, asking, equating, binding, var_site, from_to, pattern_count, Opened, open_call, open_term, visit_pattern, visit_each, visit_all, visit_expr, unwraps, asking_all, visit_args, visit_iflets, demands_of, taking_argument}
 use Rattle.isle_model.specs.sites.Serves.{constant_site, constant_type, written_type, written_value, tested_constants, is_open_constant, is_type_with_parts, TellsConstantsApart}
 use Rattle.isle_model.specs.claims.Environments.{program_of}
 use Rattle.isle_model.proofs.Either.{either}
@@ -103,8 +103,8 @@ module _ (p : Program) (P : SiteTerm → Type 0) where
   args_such : (i : ℕ) (qs : List TypedPattern) (v : Visit) → NameSuch (flat_map pattern_constants qs) → AsksSuch v → AsksSuch (visit_args p i qs v)
   args_such i [] v n h = h
   args_such i (q ∷ qs) v n h =
-      args_such (suc i) qs (visit_pattern p q (argument i) (making (argument i ∷ []) v)) (λ k j. n k (in_right (pattern_constants q) (flat_map pattern_constants qs) k j))
-      (pattern_such q (argument i) (making (argument i ∷ []) v) (λ k j. n k (in_left (pattern_constants q) (flat_map pattern_constants qs) k j)) h)
+      args_such (suc i) qs (visit_pattern p q (argument i) (taking_argument i v)) (λ k j. n k (in_right (pattern_constants q) (flat_map pattern_constants qs) k j))
+      (pattern_such q (argument i) (taking_argument i v) (λ k j. n k (in_left (pattern_constants q) (flat_map pattern_constants qs) k j)) h)
 
   iflets_such : (is : List TypedIfLet) (v : Visit) → NameSuch (flat_map (λ (i : TypedIfLet). pattern_constants i.lhs) is) → AsksSuch v → AsksSuch (visit_iflets p is v)
   iflets_such [] v n h = h
@@ -218,7 +218,7 @@ module _ (p : Program) where
   args_met i (q ∷ qs) [] v vars more f = absurd (none_some more f)
   args_met i (q ∷ qs) (ty ∷ tys) v vars more f =
       let a = from_part p q ty vars more (λ mid. formed_list p qs tys mid) f in
-      let u = making (argument i ∷ []) v in
+      let u = taking_argument i v in
       let w = visit_pattern p q (argument i) u in
       both_met (visit_args p (suc i) qs w) (pattern_constants q) (flat_map pattern_constants qs)
       (met_later w (visit_args p (suc i) qs w) (pattern_constants q) (args_grown p (suc i) qs w) (pattern_met q (argument i) u vars a.0 a.2)) (args_met (suc i) qs tys w a.0 more a.3)

@@ -6,7 +6,7 @@ use Rattle.isle_model.specs.lists.Tables.{Flags}
 use Rattle.isle_model.specs.rules.Program.{Program, Kind, a_variant, a_struct, a_call, unknown, kind, flags_of, rules_of}
 use Rattle.isle_model.specs.rules.Typed.{TypedPatterns, TypedRule}
 use Rattle.isle_model.specs.sites.Sites.{Site, bool_site, int_site, prim_site, argument_site, extractor_site, constructor_site, iterator_site, make_variant_site, match_variant_site, make_struct_site, extract_struct_site, make_some_site, match_some_site, match_tuple_site, is_present, SetRule, SiteSet, sources_of, SiteTerm, extractor_call, constructor_call, pick_of, variant_made, struct_made, some_part, SiteTerms, layer_at, unfold_site}
-use Rattle.isle_model.specs.sites.Demands.{demands_of, Visit, making, asking, iterating, calling, equating, site_term_eq, has_site, with_sites, opened, part_sites, output_sites, open_call, open_term, ValuedAll, valued, call_sites, call_result, where_multi, visit_call, visit_term, visit_rule}
+use Rattle.isle_model.specs.sites.Demands.{demands_of, Visit, making, asking, iterating, calling, equating, site_term_eq, has_site, with_sites, opened, part_sites, output_sites, open_call, open_term, ValuedAll, valued, call_sites, call_result, where_multi, visit_call, visit_term, visit_rule, outputs_opened}
 use Rattle.isle_model.specs.sites.DemandedGates.{HasNoPartialMulti}
 use Rattle.isle_model.specs.sites.Closure.{Closed, closed, before_closing, most_closing_steps, ascending, class_at, field_terms}
 use Rattle.isle_model.specs.sites.Limits.{most_sites, sites_after_rule, sites_after_rules, sites_reached, sites_wanted, made_walking, walked_rule}
@@ -48,7 +48,7 @@ picked call v h =
 equal_picked : (a b : SiteTerm) (v : Visit) → AllPicked v → AllPicked (equating a b v)
 equal_picked a b v h = of (site_term_eq a b)
   where
-    of : (q : Bool) → AllPicked (if q then v else (record { vars = v.vars; impure_calls = v.impure_calls; demands = record { constraints = v.demands.constraints; equalities = v.demands.equalities ++ (a, b) ∷ []; iterators = v.demands.iterators; impure = v.demands.impure; made = v.demands.made } }))
+    of : (q : Bool) → AllPicked (if q then v else (record { vars = v.vars; impure_calls = v.impure_calls; demands = record { constraints = v.demands.constraints; equalities = v.demands.equalities ++ (a, b) ∷ []; iterators = v.demands.iterators; impure = v.demands.impure; made = v.demands.made; counted = v.demands.counted } }))
     of true = h
     of false = h
 
@@ -56,10 +56,10 @@ call_opened : (flags : Flags) (infallible : Bool) (call : SiteTerm) (args : Type
 call_opened flags infallible call args v h = of flags.multi infallible
   where
     of : (multi certain : Bool) → AllPicked (if multi
-        then opened (output_sites (pick_of call) args) (making (part_sites (pick_of call) args) (iterating call (making (call ∷ (pick_of call ∷ [])) v)))
+        then outputs_opened (pick_of call) args (iterating call (making (call ∷ (pick_of call ∷ [])) v))
         else (if certain
-        then opened (output_sites call args) (making (part_sites call args) (making (call ∷ []) v))
-        else opened (output_sites (some_part call) args) (making (part_sites (some_part call) args) (asking call is_present (making (call ∷ (some_part call ∷ [])) v))))).visit
+        then outputs_opened call args (making (call ∷ []) v)
+        else outputs_opened (some_part call) args (asking call is_present (making (call ∷ (some_part call ∷ [])) v)))).visit
     of true certain = more_made (part_sites (pick_of call) args) (iterating call (making (call ∷ (pick_of call ∷ [])) v)) (picked call v h)
     of false true = more_made (part_sites call args) (making (call ∷ []) v) (more_made (call ∷ []) v h)
     of false false = more_made (part_sites (some_part call) args) (asking call is_present (making (call ∷ (some_part call ∷ [])) v)) (more_made (call ∷ (some_part call ∷ [])) v h)

@@ -12,7 +12,7 @@ use Rattle.isle_model.specs.rules.Typed.{TypedPattern, match_bind, match_var, ma
 use Rattle.isle_model.specs.rules.Picks.{picked, taken_answer, field_of_variant, field_of_struct, part_of_some, Sited, SitedVars, sited, input_sites, parts_under, holds_under, each_holds_under, all_hold_under}
 use Rattle.isle_model.specs.trees.Run.{from_value, content_fields, all_one}
 use Rattle.isle_model.specs.sites.Sites.{Constraint, is_variant, is_struct, is_bool, is_int, is_prim, is_present, SiteTerm, extractor_call, pick_of, variant_field, struct_field, some_part}
-use Rattle.isle_model.specs.sites.Demands.{Visit, visit_start, making, asking, iterating, binding, from_to, pattern_count, Opened, opened, output_sites, part_sites, open_call, open_term, visit_pattern, visit_each, visit_all}
+use Rattle.isle_model.specs.sites.Demands.{Visit, visit_start, making, asking, iterating, binding, from_to, pattern_count, Opened, opened, output_sites, part_sites, open_call, open_term, visit_pattern, visit_each, visit_all, outputs_opened}
 use Rattle.isle_model.specs.sites.Serves.{constant_type, term_args, fits_one, fits_answer, fits_extractor}
 use Rattle.isle_model.specs.lists.Setting.{bool_type, has_extractor}
 use Rattle.isle_model.specs.lists.Formed.{pattern_type, var_type, is_type, with_new, formed_pattern, formed_parts, formed_each}
@@ -258,7 +258,7 @@ module _ (g : Given) (z : Visit) (h : IsAnswered g z.demands) (parts : HasTypedP
         → Opens g v (open_call (record { pure = pure; multi = multi; partial = partial; rec = rec }) infallible call args v) e.arg_tys (call_parts multi t s x)
     call_opens pure true partial rec infallible q l =
         let made = making (call ∷ (pick_of call ∷ [])) v in
-        let o = opened (output_sites (pick_of call) args) (making (part_sites (pick_of call) args) (iterating call made)) in
+        let o = outputs_opened (pick_of call) args (iterating call made) in
         let k = then_grown made (iterating call made) z (grown_iterating call made) (then_grown (iterating call made) o.visit z (grown_making (part_sites (pick_of call) args) (iterating call made)) l) in
         let c = h.extractors t s x (k.made call (in_right v.demands.made (call ∷ (pick_of call ∷ [])) call (inl refl))) here.content in
         let d = h.picks call (l.calls call (in_right v.demands.iterators (call ∷ []) call (inl refl))) in
@@ -270,7 +270,7 @@ module _ (g : Given) (z : Visit) (h : IsAnswered g z.demands) (parts : HasTypedP
         (from_outputs true (pick_of call) d.0 w (ap (λ y. then_option y (taken_answer true g.pick call)) c.there ∙ taken) f) w.here
     call_opens pure false partial rec true q l =
         let made = making (call ∷ []) v in
-        let o = opened (output_sites call args) (making (part_sites call args) made) in
+        let o = outputs_opened call args made in
         let k = then_grown made o.visit z (grown_making (part_sites call args) made) l in
         let c = h.extractors t s x (k.made call (in_right v.demands.made (call ∷ []) call (inl refl))) here.content in
         let f = fits_sure (record { pure = pure; multi = false; partial = partial; rec = rec }) c.answer q c.right in
@@ -280,7 +280,7 @@ module _ (g : Given) (z : Visit) (h : IsAnswered g z.demands) (parts : HasTypedP
     call_opens pure false partial rec false q l =
         let made = making (call ∷ (some_part call ∷ [])) v in
         let asked = asking call is_present made in
-        let o = opened (output_sites (some_part call) args) (making (part_sites (some_part call) args) asked) in
+        let o = outputs_opened (some_part call) args asked in
         let k = then_grown made asked z (grown_asking call is_present made) (then_grown asked o.visit z (grown_making (part_sites (some_part call) args) asked) l) in
         let c = h.extractors t s x (k.made call (in_right v.demands.made (call ∷ (some_part call ∷ [])) call (inl refl))) here.content in
         let f = fits_maybe (record { pure = pure; multi = false; partial = partial; rec = rec }) c.answer q c.right in

@@ -9,7 +9,7 @@ use Rattle.isle_model.specs.rules.Typed.{TypedPattern, TypedIfLet, TypedRule}
 use Rattle.isle_model.specs.rules.Picks.{picked, field_of_variant, field_of_struct, part_of_some, call_answer, SitedVars, expr_site, holds_under, value_under, args_hold_under, iflets_hold_under, matches_under}
 use Rattle.isle_model.specs.trees.Run.{as_value, from_value, part_at}
 use Rattle.isle_model.specs.sites.Sites.{is_present, SiteTerm, bool_term, int_term, prim_term, argument, extractor_call, constructor_call, pick_of, variant_made, variant_field, struct_made, struct_field, some_made, some_part, tuple_part, no_site, SiteTerms, no_site_term, site_term_and}
-use Rattle.isle_model.specs.sites.Demands.{demands_of, Visit, visit_start, making, visit_pattern, Valued, visit_expr, unwraps, unwraps_all, asking_all, visit_args, visit_iflets, visit_rule}
+use Rattle.isle_model.specs.sites.Demands.{demands_of, Visit, visit_start, making, visit_pattern, Valued, visit_expr, unwraps, unwraps_all, asking_all, visit_args, visit_iflets, visit_rule, taking_argument}
 use Rattle.isle_model.specs.sites.DemandedGates.{IsPureExpr, ArePureIfLets}
 use Rattle.isle_model.specs.lists.Setting.{expr_type}
 use Rattle.isle_model.specs.lists.Formed.{pattern_type, formed_pattern, is_formed_expr, formed_list, formed_iflets, is_formed_rule}
@@ -85,10 +85,10 @@ module _ (g : Given) (z : Visit) (h : IsAnswered g z.demands) (well : IsWellType
   p = g.program
 
   arg_past : (i : ℕ) (q : TypedPattern) (v : Visit) (vars mid : List (ℕ × ℕ)) (e : SitedVars) (x : Value) → formed_pattern p q vars ≡ Some mid → Here g (argument i) (pattern_type q) x → AreBound g vars e v.vars
-      → Grown (visit_pattern p q (argument i) (making (argument i ∷ []) v)) z
-      → Past g mid e v (visit_pattern p q (argument i) (making (argument i ∷ []) v)) (holds_under p g.meaning g.pick q (argument i) x e)
+      → Grown (visit_pattern p q (argument i) (taking_argument i v)) z
+      → Past g mid e v (visit_pattern p q (argument i) (taking_argument i v)) (holds_under p g.meaning g.pick q (argument i) x e)
   arg_past i q v vars mid e x f here b l =
-      let a = pattern_after g z h well.parts q (argument i) (making (argument i ∷ []) v) vars mid e x f here b l in
+      let a = pattern_after g z h well.parts q (argument i) (taking_argument i v) vars mid e x f here b l in
       record { met = λ m e' k. a.met (record { asked = m.asked; equal = m.equal }) e' k; found = a.found; agree = a.agree }
 
   pub args_past : (i : ℕ) (qs : List TypedPattern) (tys : List ℕ) (xs : List Value) (v : Visit) (vars more : List (ℕ × ℕ)) (e : SitedVars) → formed_list p qs tys vars ≡ Some more
@@ -102,7 +102,7 @@ module _ (g : Given) (z : Visit) (h : IsAnswered g z.demands) (well : IsWellType
   args_past i (q ∷ qs) (ty ∷ tys) (x ∷ xs) v vars more e f t c b l =
       let a = from_part p q ty vars more (λ mid. formed_list p qs tys mid) f in
       let d = and_parts (well_typed p.types ty x) (all_well_typed p.types (Some tys) (of_list xs)) t in
-      let u = visit_pattern p q (argument i) (making (argument i ∷ []) v) in
+      let u = visit_pattern p q (argument i) (taking_argument i v) in
       let w = visit_args p (suc i) qs u in
       let k = args_grown p (suc i) qs u in
       let first : i + 0 ≡ i = omega arith in

@@ -4,7 +4,7 @@ use Rattle.std.proofs.lemmas.Bool.{cases_Bool, cond-true, cond-false, false≢tr
 use Rattle.isle_model.specs.rules.Program.{Program, Kind, a_variant, a_struct, a_call, unknown, kind}
 use Rattle.isle_model.specs.rules.Typed.{TypedPattern, match_bind, match_var, match_bool, match_int, match_prim, match_term, match_any, match_and, TypedPatterns, no_typed_pattern, typed_pattern_and, TypedIfLet, TypedRule}
 use Rattle.isle_model.specs.sites.Sites.{is_variant, is_struct, is_present, SiteTerm, argument, extractor_call, pick_of, variant_field, struct_field, some_part, tuple_part}
-use Rattle.isle_model.specs.sites.Demands.{demands_of, Visit, visit_start, making, asking, iterating, binding, from_to, pattern_count, Opened, opened, output_sites, part_sites, open_call, open_term, visit_pattern, visit_each, visit_all, visit_expr, unwraps, asking_all, visit_args, visit_iflets}
+use Rattle.isle_model.specs.sites.Demands.{demands_of, Visit, visit_start, making, asking, iterating, binding, from_to, pattern_count, Opened, opened, output_sites, part_sites, open_call, open_term, visit_pattern, visit_each, visit_all, visit_expr, unwraps, asking_all, visit_args, visit_iflets, taking_argument}
 use Rattle.isle_model.specs.sites.Limits.{most_arguments, width_of, Walked, WalkedAll, passes_width, unwalked, walked_term, walked_and, walked, walked_all, WalkedRule, ended_at, after_arg, walked_iflets, walked_args, walked_rule, made_walking}
 use Rattle.isle_model.proofs.Elements.{In, in_left, in_either}
 use Rattle.isle_laws_demands.proofs.matching.Grown.{each_grown, all_grown, iflets_grown, args_grown, rule_adds}
@@ -220,7 +220,7 @@ module _ (p : Program) where
   args_make is i [] v u j = iflets_make is v u (subst (λ x. In (visit_iflets p (walked_iflets p is).iflets (visit_args p i x v)).demands.made u) (no_args is) j)
   args_make is i (q ∷ qs) v u j =
       let rest = walked_args p is (suc i) qs in
-      let o = making (argument i ∷ []) v in
+      let o = taking_argument i v in
       let on : WalkedRule = record { args = (walked p q).pattern ∷ rest.args; iflets = rest.iflets; ended = rest.ended } in
       elim (cases_Bool (nat_lt i most_arguments)) [
         | inl t ↦

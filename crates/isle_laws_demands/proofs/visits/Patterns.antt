@@ -7,7 +7,7 @@ use Rattle.isle_model.specs.rules.Program.{Program, Kind, a_variant, a_struct, a
 use Rattle.isle_model.specs.sites.Serves.{constant_type}
 use Rattle.isle_model.specs.sites.Sites.{Constraint, is_variant, is_struct, is_bool, is_int, is_prim, is_present, SiteTerm, extractor_call, pick_of, variant_field, struct_field, some_part, tuple_part}
 use Rattle.isle_model.specs.rules.Typed.{TypedPattern, match_bind, match_var, match_bool, match_int, match_prim, match_term, match_any, match_and, TypedPatterns, no_typed_pattern, typed_pattern_and}
-use Rattle.isle_model.specs.sites.Demands.{Visit, making, asking, equating, iterating, binding, var_site, from_to, pattern_count, Opened, opened, output_sites, part_sites, open_call, open_term, visit_pattern, visit_each, visit_all}
+use Rattle.isle_model.specs.sites.Demands.{Visit, making, asking, equating, iterating, binding, var_site, from_to, pattern_count, Opened, opened, output_sites, part_sites, open_call, open_term, visit_pattern, visit_each, visit_all, outputs_opened}
 use Rattle.isle_model.specs.lists.Setting.{bool_type, has_extractor}
 use Rattle.isle_model.specs.lists.Formed.{pattern_type, var_type, is_type, with_new, formed_pattern, formed_parts, formed_each}
 use Rattle.isle_model.proofs.Elements.{In, some_is, none_some}
@@ -55,7 +55,7 @@ output_count s no_typed_pattern = tt
 output_count s (typed_pattern_and q no_typed_pattern) = tt
 output_count s (typed_pattern_and q (typed_pattern_and r rs)) = as_many (tuple_part s) 0 (typed_pattern_and q (typed_pattern_and r rs))
 
-with_parts : (v w : Visit) (s : SiteTerm) (args : TypedPatterns) → Later v w → w.vars ≡ v.vars → MayTest w s → IsOpened v (opened (output_sites s args) (making (part_sites s args) w)) args
+with_parts : (v w : Visit) (s : SiteTerm) (args : TypedPatterns) → Later v w → w.vars ≡ v.vars → MayTest w s → IsOpened v (outputs_opened s args w) args
 with_parts v w s args l e m = record {
   later = then_later v w (making (part_sites s args) w) l (later_making (part_sites s args) w);
   binds = e;

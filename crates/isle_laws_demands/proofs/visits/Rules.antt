@@ -6,7 +6,7 @@ use Rattle.isle_model.specs.rules.Outcome.{then_option}
 use Rattle.isle_model.specs.rules.Program.{Program, is_partial}
 use Rattle.isle_model.specs.sites.Sites.{SiteTerm, argument, some_made}
 use Rattle.isle_model.specs.rules.Typed.{TypedPattern, TypedIfLet, TypedRule}
-use Rattle.isle_model.specs.sites.Demands.{demands_of, Visit, visit_start, making, or_no_site, var_site, visit_pattern, Valued, visit_expr, unwraps, asking_all, visit_args, visit_iflets, finished, visit_rule}
+use Rattle.isle_model.specs.sites.Demands.{demands_of, Visit, visit_start, making, or_no_site, var_site, visit_pattern, Valued, visit_expr, unwraps, asking_all, visit_args, visit_iflets, finished, visit_rule, taking_argument}
 use Rattle.isle_model.specs.lists.Formed.{pattern_type, formed_pattern, is_formed_expr, formed_list, formed_iflets, is_formed_rule}
 use Rattle.isle_model.proofs.Elements.{in_from_contains, some_is, none_some}
 use Rattle.isle_model.specs.sites.DemandedGates.{IsPureExpr, ArePureIfLets, DemandsGates}
@@ -36,7 +36,7 @@ args_past p i (q ∷ qs) [] v vars more f g = absurd (none_some more f)
 args_past p i (q ∷ qs) (ty ∷ tys) v vars more f g =
     let a = from_if (pattern_type q == ty) (then_option (formed_pattern p q vars) (λ after. formed_list p qs tys after)) more f in
     let b = from_then (formed_pattern p q vars) (λ after. formed_list p qs tys after) more a.1 in
-    let u = making (argument i ∷ []) v in
+    let u = taking_argument i v in
     let w = visit_pattern p q (argument i) u in
     let r = pattern_after p q (argument i) u vars b.0 b.1 tt g in
     then_past v w (visit_args p (suc i) qs w) more (then_later v u w (later_making (argument i ∷ []) v) r.later) (args_past p (suc i) qs tys w b.0 more b.2 r.good)

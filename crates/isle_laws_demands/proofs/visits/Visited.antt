@@ -94,7 +94,7 @@ later_asking s c v g = record {
 
 -- with one equality more
 abbrev pub equated : SiteTerm → SiteTerm → Visit → Visit
-equated a b v = record { vars = v.vars; impure_calls = v.impure_calls; demands = record { constraints = v.demands.constraints; equalities = v.demands.equalities ++ (a, b) ∷ []; iterators = v.demands.iterators; impure = v.demands.impure; made = v.demands.made } }
+equated a b v = record { vars = v.vars; impure_calls = v.impure_calls; demands = record { constraints = v.demands.constraints; equalities = v.demands.equalities ++ (a, b) ∷ []; iterators = v.demands.iterators; impure = v.demands.impure; made = v.demands.made; counted = v.demands.counted } }
 
 later_equated : (a b : SiteTerm) (v : Visit) → MayTest v a → MayTest v b → Later v (equated a b v)
 later_equated a b v m n = record {

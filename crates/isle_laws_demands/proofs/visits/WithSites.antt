@@ -7,7 +7,7 @@ use Rattle.isle_model.specs.rules.Meaning.{look}
 use Rattle.isle_model.specs.rules.Program.{Program, Kind, a_variant, a_struct, a_call, unknown, kind, is_partial}
 use Rattle.isle_model.specs.rules.Typed.{TypedPattern, match_bind, match_var, match_bool, match_int, match_prim, match_term, match_any, match_and, TypedPatterns, no_typed_pattern, typed_pattern_and, TypedExpr, make_term, make_var, make_bool, make_int, make_prim, make_let, TypedExprs, no_typed_expr, typed_expr_and, TypedLets, no_typed_let, typed_let_and, TypedIfLet, TypedRule}
 use Rattle.isle_model.specs.sites.Sites.{Constraint, is_variant, is_struct, is_bool, is_int, is_prim, is_present, SiteTerm, bool_term, int_term, prim_term, argument, extractor_call, constructor_call, pick_of, variant_made, variant_field, struct_made, struct_field, some_made, some_part, tuple_part, no_site, SiteTerms, no_site_term, site_term_and}
-use Rattle.isle_model.specs.sites.Demands.{Demands, site_term_eq, Visit, visit_start, making, asking, equating, iterating, calling, binding, from_to, pattern_count, opened, output_sites, part_sites, call_result, call_sites, where_multi, unwraps_all, or_no_site, var_site, Opened, open_call, open_term, visit_pattern, visit_each, visit_all, Valued, ValuedAll, valued, visit_call, visit_term, visit_expr, visit_exprs, visit_lets, unwraps, asking_all, visit_args, visit_iflets, finished, visit_rule}
+use Rattle.isle_model.specs.sites.Demands.{Demands, site_term_eq, Visit, visit_start, making, asking, equating, iterating, calling, binding, from_to, pattern_count, opened, output_sites, part_sites, call_result, call_sites, where_multi, unwraps_all, or_no_site, var_site, Opened, open_call, open_term, visit_pattern, visit_each, visit_all, Valued, ValuedAll, valued, visit_call, visit_term, visit_expr, visit_exprs, visit_lets, unwraps, asking_all, visit_args, visit_iflets, finished, visit_rule, taking_argument, outputs_opened}
 use Rattle.isle_model.specs.sites.Closure.{fields_from, field_terms}
 use Rattle.isle_model.proofs.Elements.{In, in_right, in_either}
 use Rattle.isle_laws_demands.proofs.visits.Patterns.{in_numbers}
@@ -87,6 +87,7 @@ module _ (R : Demands → Type 0) (Q : Demands → SiteTerm → Type 0) where
     pub pick : (d : Demands) (t i : ℕ) (ss : SiteTerms) → In d.made (constructor_call t ss i) → In d.made (pick_of (constructor_call t ss i)) → AtEach d ss → Q d (pick_of (constructor_call t ss i))
     pub call : (d : Demands) (t i : ℕ) (ss : SiteTerms) (flags : Flags) (infallible : Bool) → kind p t ≡ a_call flags infallible → flags.partial ≡ false → flags.multi ≡ false
         → In d.made (constructor_call t ss i) → AtEach d ss → Q d (constructor_call t ss i)
+    pub counts : (c : Count) (v : Visit) → R v.demands → Onward v.demands (counting c v).demands
     pub makes : (ts : List SiteTerm) (v : Visit) → R v.demands → Onward v.demands (making ts v).demands
     pub calls : (s : SiteTerm) (v : Visit) → R v.demands → Q v.demands s → Onward v.demands (calling s v).demands
     pub equates : (a b : SiteTerm) (v : Visit) → R v.demands → Q v.demands a → Q v.demands b → Onward v.demands (equating a b v).demands
@@ -188,7 +189,7 @@ module _ (p : Program) (R : Demands → Type 0) (Q : Demands → SiteTerm → Ty
       let n = in_numbers (tuple_part s) 0 args u i in
       subst (Q d) n.2 (k.tuple d s n.0 (in_right w.demands.made (part_sites s args) (tuple_part s n.0) (subst (In (part_sites s args)) (sym n.2) i)) (o.stays s m))
 
-  with_parts : (d : Demands) (w : Visit) (s : SiteTerm) (args : TypedPatterns) → Onward R Q d w.demands → Q w.demands s → IsOpened R Q d (opened (output_sites s args) (making (part_sites s args) w))
+  with_parts : (d : Demands) (w : Visit) (s : SiteTerm) (args : TypedPatterns) → Onward R Q d w.demands → Q w.demands s → IsOpened R Q d (outputs_opened s args w)
   with_parts d w s args a m =
       let b = k.makes (part_sites s args) w a.holds in
       record { onward = then_onward R Q d w.demands (making (part_sites s args) w).demands a b; inputs = outputs_at w s args b m }
@@ -401,7 +402,7 @@ module _ (p : Program) (R : Demands → Type 0) (Q : Demands → SiteTerm → Ty
   pub args_past : (i : ℕ) (qs : List TypedPattern) (v : Visit) → IsAt R Q v → Past R Q v (visit_args p i qs v)
   args_past i [] v h = still_at R Q v h
   args_past i (q ∷ qs) v h =
-      let u = making (argument i ∷ []) v in
+      let u = taking_argument i v in
       let w = visit_pattern p q (argument i) u in
       let a = leaf_given (argument i) v tt h in
       let b = pattern_past q (argument i) u a.past.at a.site in

@@ -7,7 +7,7 @@ use Rattle.isle_model.specs.lists.Tables.{Flags}
 use Rattle.isle_model.specs.rules.Meaning.{look}
 use Rattle.isle_model.specs.rules.Program.{Program, Kind, a_variant, a_struct, a_call, unknown, kind, is_partial}
 use Rattle.isle_model.specs.sites.Sites.{Constraint, is_present, SiteTerm, argument, extractor_call, constructor_call, pick_of, variant_field, struct_field, some_part, tuple_part, SiteTerms}
-use Rattle.isle_model.specs.sites.Demands.{site_term_eq, Visit, visit_start, making, asking, equating, iterating, calling, binding, or_no_site, var_site, from_to, Opened, opened, output_sites, part_sites, open_call, open_term, visit_pattern, visit_each, visit_all, Valued, ValuedAll, valued, call_result, call_sites, where_multi, visit_call, visit_term, visit_expr, visit_exprs, visit_lets, unwraps, asking_all, visit_args, visit_iflets, finished, demands_of, has_site, with_sites}
+use Rattle.isle_model.specs.sites.Demands.{site_term_eq, Visit, visit_start, making, asking, equating, iterating, calling, binding, or_no_site, var_site, from_to, Opened, opened, output_sites, part_sites, open_call, open_term, visit_pattern, visit_each, visit_all, Valued, ValuedAll, valued, call_result, call_sites, where_multi, visit_call, visit_term, visit_expr, visit_exprs, visit_lets, unwraps, asking_all, visit_args, visit_iflets, finished, demands_of, has_site, with_sites, taking_argument, outputs_opened}
 use Rattle.isle_model.specs.trees.Collects.{calls_in, calls_in_all}
 use Rattle.isle_model.specs.rules.Picks.{multi_calls}
 use Rattle.isle_model.specs.rules.Typed.{TypedPattern, match_bind, match_var, match_bool, match_int, match_prim, match_term, match_any, match_and, TypedPatterns, no_typed_pattern, typed_pattern_and, TypedExpr, make_term, make_var, make_bool, make_int, make_prim, make_let, TypedExprs, no_typed_expr, typed_expr_and, TypedLets, no_typed_let, typed_let_and, TypedIfLet, TypedRule}
@@ -135,16 +135,16 @@ call_opens : (flags : Flags) (infallible : Bool) (call : SiteTerm) (args : Typed
 call_opens flags infallible call args v f h =
     either (λ o. OpensWell v o) flags.multi _ _ over (either (λ o. OpensWell v o) infallible _ _ plain asked)
   where
-    over : OpensWell v (opened (output_sites (pick_of call) args) (making (part_sites (pick_of call) args) (iterating call (making (call ∷ (pick_of call ∷ [])) v))))
+    over : OpensWell v (outputs_opened (pick_of call) args (iterating call (making (call ∷ (pick_of call ∷ [])) v)))
     over =
         let m = after_making (call ∷ (pick_of call ∷ [])) v f in
         let g = after_iterating call (making (call ∷ (pick_of call ∷ [])) v) m.fine h in
         record { follows = record { fine = record { order = g.fine.order; vars = g.fine.vars }; kept = g.kept }; inputs = outputs_covered (met v ++ call ∷ []) (pick_of call) args (picked_covered (met v) call h) }
 
-    plain : OpensWell v (opened (output_sites call args) (making (part_sites call args) (making (call ∷ []) v)))
+    plain : OpensWell v (outputs_opened call args (making (call ∷ []) v))
     plain = record { follows = record { fine = record { order = f.order; vars = f.vars }; kept = λ c k. k }; inputs = outputs_covered (met v) call args h }
 
-    asked : OpensWell v (opened (output_sites (some_part call) args) (making (part_sites (some_part call) args) (asking call is_present (making (call ∷ (some_part call ∷ [])) v))))
+    asked : OpensWell v (outputs_opened (some_part call) args (asking call is_present (making (call ∷ (some_part call ∷ [])) v)))
     asked = record { follows = record { fine = record { order = f.order; vars = f.vars }; kept = λ c k. k }; inputs = outputs_covered (met v) (some_part call) args h }
 
 term_opens : (k : Kind) (t : ℕ) (s : SiteTerm) (args : TypedPatterns) (v : Visit) → Fine v → Covered (met v) s → OpensWell v (open_term k t s args v)
@@ -275,8 +275,8 @@ module _ (p : Program) where
   args_follow i [] v f = f
   args_follow i (q ∷ qs) v f =
       let m = after_making (argument i ∷ []) v f in
-      let g = pattern_follows p q (argument i) (making (argument i ∷ []) v) m.fine (none_within (met v)) in
-      args_follow (suc i) qs (visit_pattern p q (argument i) (making (argument i ∷ []) v)) g.fine
+      let g = pattern_follows p q (argument i) (taking_argument i v) (record { order = m.fine.order; vars = m.fine.vars }) (none_within (met v)) in
+      args_follow (suc i) qs (visit_pattern p q (argument i) (taking_argument i v)) g.fine
 
   iflets_follow : (is : List TypedIfLet) (v : Visit) → Fine v → Fine (visit_iflets p is v)
   iflets_follow [] v f = f

@@ -129,14 +129,18 @@ part_sites s no_typed_pattern = []
 part_sites s (typed_pattern_and q no_typed_pattern) = []
 part_sites s (typed_pattern_and q (typed_pattern_and r rs)) = from_to (tuple_part s) 0 (typed_pattern_and q (typed_pattern_and r rs))
 
--- a multi call is gone over; a call that may answer nothing is asked to answer. Outputs are counted before parts are made
+-- outputs of a call are counted before their parts are made
+abbrev pub outputs_opened : SiteTerm → TypedPatterns → Visit → Opened
+outputs_opened s args v = opened (output_sites s args) (making (part_sites s args) (counting (outputs_taken (pattern_count args)) v))
+
+-- a multi call is gone over; a call that may answer nothing is asked to answer
 abbrev pub open_call : Flags → Bool → SiteTerm → TypedPatterns → Visit → Opened
 open_call flags infallible call args v =
     if flags.multi
-    then opened (output_sites (pick_of call) args) (making (part_sites (pick_of call) args) (counting (outputs_taken (pattern_count args)) (iterating call (making (call ∷ (pick_of call ∷ [])) v))))
+    then outputs_opened (pick_of call) args (iterating call (making (call ∷ (pick_of call ∷ [])) v))
     else (if infallible
-    then opened (output_sites call args) (making (part_sites call args) (counting (outputs_taken (pattern_count args)) (making (call ∷ []) v)))
-    else opened (output_sites (some_part call) args) (making (part_sites (some_part call) args) (counting (outputs_taken (pattern_count args)) (asking call is_present (making (call ∷ (some_part call ∷ [])) v)))))
+    then outputs_opened call args (making (call ∷ []) v)
+    else outputs_opened (some_part call) args (asking call is_present (making (call ∷ (some_part call ∷ [])) v)))
 
 abbrev pub open_term : Kind → ℕ → SiteTerm → TypedPatterns → Visit → Opened
 open_term (a_variant ty variant) t s args v =
@@ -257,6 +261,10 @@ unwraps_all ss = taken_by_all unwrapped_call ss
 abbrev pub asking_all : List SiteTerm → Visit → Visit
 asking_all [] v = v
 asking_all (s ∷ ss) v = asking_all ss (asking s is_present v)
+
+-- an argument is counted before it is made
+abbrev pub taking_argument : ℕ → Visit → Visit
+taking_argument i v = making (argument i ∷ []) (counting (argument_taken i) v)
 
 -- the arguments from i on
 abbrev pub visit_args : Program → ℕ → List TypedPattern → Visit → Visit

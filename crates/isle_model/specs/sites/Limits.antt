@@ -1,5 +1,5 @@
 -- Limits on the rules of a term: which a rule passes, which is met first, and the sites that the term then has.
-use Rattle.std.specs.Prelude.{ℕ, ◌<◌, List, [], ◌∷◌, length, map, take, nat_lt, Option, Some, None, if◌then◌else◌, Contains}
+use Rattle.std.specs.Prelude.{ℕ, ◌<◌, ◌≤◌, List, [], ◌∷◌, length, map, take, nat_lt, Option, Some, None, if◌then◌else◌, Contains}
 use Rattle.isle_model.specs.rules.Typed.{TypedRule}
 use Rattle.isle_model.specs.rules.Program.{Program}
 use Rattle.isle_model.specs.sites.Sites.{SiteTerm}
@@ -45,9 +45,11 @@ pub record PassesOutputs (p : Program) (r : TypedRule) : Type 0 where
   pub taken : Contains (counts_of_rule p r) (outputs_taken outputs)
   pub many : most_outputs < outputs
 
--- the rule's term has more than 256 arguments
-abbrev pub PassesArguments : TypedRule → Type 0
-PassesArguments r = most_arguments < length r.args
+-- the rule has an argument whose number is 256 or more
+pub record PassesArguments (p : Program) (r : TypedRule) : Type 0 where
+  pub argument : ℕ
+  pub taken : Contains (counts_of_rule p r) (argument_taken argument)
+  pub many : most_arguments ≤ argument
 
 -- the sites that the term would have after the rule, were no limit passed: those before it, those that its visit makes,
 -- and those that its closure makes where the rule is reachable
@@ -92,7 +94,7 @@ PassesSites p before r = most_sites < length (sites_reached p before r)
 abbrev pub PassesLimit : Program → List SiteTerm → TypedRule → RuleLimit → Type 0
 PassesLimit p before r fields_limit = PassesFields p r
 PassesLimit p before r outputs_limit = PassesOutputs p r
-PassesLimit p before r arguments_limit = PassesArguments r
+PassesLimit p before r arguments_limit = PassesArguments p r
 PassesLimit p before r sites_limit = PassesSites p before r
 
 -- the limit alone
