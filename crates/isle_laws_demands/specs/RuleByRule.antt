@@ -9,7 +9,7 @@ use Rattle.isle_model.specs.rules.Program.{Program, rules_of, terms_with_rules}
 use Rattle.isle_model.specs.sites.Sites.{Constraint, Site, SetRule, SiteSet, SiteTerm, sources_at, unfold_site}
 use Rattle.isle_model.specs.sites.Demands.{Demands, demands_of, has_site, with_sites}
 use Rattle.isle_model.specs.sites.Closure.{Closed, before_closing, closed, closing, constraint_of, in_order, is_unreachable, most_closing_steps, reported}
-use Rattle.isle_model.specs.sites.Limits.{RuleLimit, sites_limit, first_limit, limits_of_shape, made_walking, most_sites, sites_after_rule, sites_after_rules, sites_reached, sites_wanted, walked_rule}
+use Rattle.isle_model.specs.sites.Limits.{RuleLimit, sites_limit, first_limit, passed_in_visit, most_sites, sites_after_rule, sites_after_rules, sites_reached, sites_wanted}
 use Rattle.isle_model.specs.sites.Overlap.{RuleReport, limit_passed, not_reached, built_from, built_rule, build_reports, build_reports_after, build_reports_of}
 use Rattle.isle_model.specs.sites.RuleSets.{AreRulesOfSet, AsksFor, Equates, IsBuilt, IsRuleOf, StandFor}
 use Rattle.isle_model.specs.trees.Places.{constraint_at, joins_in}
@@ -112,16 +112,12 @@ BuiltSetsAreAnswered =
     → BuildAnswers p sets (build_reports p)
 
 -- 3. what one rule has to show
--- a visit ends before its rule's end exactly where a limit of the rule's shape is passed
-abbrev pub WalksEndAtLimits : Type 0
-WalksEndAtLimits = (p : Program) (r : TypedRule) → (walked_rule p r).ended ≡ is_some (slice_get (limits_of_shape p r) 0)
-
--- no limit is met where none of the rule's shape is and its sites have room; a limit of the shape is met first where the
+-- no limit is met where the visit passes none and its sites have room; one that the visit passes is met first where the
 -- sites that were reached have room, and these are what the visit made until then; and else that on sites is
 pub record LimitsAreMetSo (p : Program) (before : List SiteTerm) (r : TypedRule) : Type 0 where
-  pub none : limits_of_shape p r ≡ [] → length (sites_wanted p before r) ≤ most_sites → first_limit p before r ≡ None
-  pub of_shape : (limit : RuleLimit) (rest : List RuleLimit) → limits_of_shape p r ≡ limit ∷ rest → length (sites_reached p before r) ≤ most_sites → first_limit p before r ≡ Some limit
-  pub reached : (limit : RuleLimit) (rest : List RuleLimit) → limits_of_shape p r ≡ limit ∷ rest → sites_reached p before r ≡ with_sites before (made_walking p (walked_rule p r))
+  pub none : passed_in_visit p r ≡ None → length (sites_wanted p before r) ≤ most_sites → first_limit p before r ≡ None
+  pub of_visit : (limit : RuleLimit) (made : ℕ) → passed_in_visit p r ≡ Some (limit, made) → length (sites_reached p before r) ≤ most_sites → first_limit p before r ≡ Some limit
+  pub reached : (limit : RuleLimit) (made : ℕ) → passed_in_visit p r ≡ Some (limit, made) → sites_reached p before r ≡ with_sites before (take made (demands_of p r).made)
   pub of_sites : most_sites < length (sites_reached p before r) → first_limit p before r ≡ Some sites_limit
 
 abbrev pub LimitsAreMet : Type 0

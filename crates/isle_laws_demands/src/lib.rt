@@ -12,7 +12,7 @@ ghost use Rattle.isle_laws_demands.specs.ErrorLaws.{CheckErrorsNameLeftOut, Chec
 ghost use Rattle.isle_laws_demands.specs.LeftOutLaws.{LeftOutRulesAreReported};
 ghost use Rattle.isle_laws_demands.specs.FieldLaws.{ConflictFreeConstraintsAgree, FieldsAreGiven};
 ghost use Rattle.isle_laws_demands.specs.ReportLaws.{CheckIsExact, OverlapsAreListedOnce, ListedRulesOverlap, MasksAreReportedOnce, ReportedMasksShadow};
-ghost use Rattle.isle_laws_demands.specs.RuleByRule.{BuildingEnds, BuildingGoesOn, BuildingStarts, BuiltSetsAreAnswered, FullSitesStay, LimitsAreMet, ListedDemandsStand, OrderAsksTheSame, SetsEndBuilt, SetsGoPastRules, SetsStartEmpty, WalksEndAtLimits};
+ghost use Rattle.isle_laws_demands.specs.RuleByRule.{BuildingEnds, BuildingGoesOn, BuildingStarts, BuiltSetsAreAnswered, FullSitesStay, LimitsAreMet, ListedDemandsStand, OrderAsksTheSame, SetsEndBuilt, SetsGoPastRules, SetsStartEmpty};
 ghost use Rattle.isle_laws_demands.specs.SetOverlapLaws.{SetRulesOverlapAsTheirDemands, OverlapOfSetRulesIsSymmetric, SetRulesConstrainAsTheirDemands};
 ghost use Rattle.isle_laws_demands.specs.TotalLaws.{TotalMeaningsServe, AgreeingMapsTellApart, ChoiceIsOfFunctions, TotalMeaningsHaveOneOutcome};
 ghost use Rattle.isle_laws_demands.specs.SetReportLaws.{BuiltSetsAreChecked, BuiltSetsAreReported};
@@ -444,7 +444,7 @@ pub fn built_sets_are_answered()
     built_rules_are_told_apart();
 }
 
-/// Which limit is met first, by the rule's shape and by the number of sites.
+/// Which limit is met first, by what the rule's visit counts and by the number of sites.
 #[tactic(auto, using(crate::proofs::building::Limits::limits_are_met_lem))]
 pub fn limits_are_met()
     ensures { LimitsAreMet }
@@ -464,12 +464,6 @@ pub fn order_asks_the_same()
 /// What is listed over numbers at the end of the closing is what a rule's closed demands ask.
 pub fn listed_demands_stand()
     ensures { ListedDemandsStand }
-{}
-
-/// A visit ends before its rule's end exactly where a limit of the rule's shape is passed.
-#[tactic(auto, using(crate::proofs::building::Walks::walks_end_at_limits_lem))]
-pub fn walks_end_at_limits()
-    ensures { WalksEndAtLimits }
 {}
 
 /// Each rule that building leaves out is reported at its position, and each report of building is of such a rule.

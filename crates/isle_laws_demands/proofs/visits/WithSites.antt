@@ -7,7 +7,7 @@ use Rattle.isle_model.specs.rules.Meaning.{look}
 use Rattle.isle_model.specs.rules.Program.{Program, Kind, a_variant, a_struct, a_call, unknown, kind, is_partial}
 use Rattle.isle_model.specs.rules.Typed.{TypedPattern, match_bind, match_var, match_bool, match_int, match_prim, match_term, match_any, match_and, TypedPatterns, no_typed_pattern, typed_pattern_and, TypedExpr, make_term, make_var, make_bool, make_int, make_prim, make_let, TypedExprs, no_typed_expr, typed_expr_and, TypedLets, no_typed_let, typed_let_and, TypedIfLet, TypedRule}
 use Rattle.isle_model.specs.sites.Sites.{Constraint, is_variant, is_struct, is_bool, is_int, is_prim, is_present, SiteTerm, bool_term, int_term, prim_term, argument, extractor_call, constructor_call, pick_of, variant_made, variant_field, struct_made, struct_field, some_made, some_part, tuple_part, no_site, SiteTerms, no_site_term, site_term_and}
-use Rattle.isle_model.specs.sites.Demands.{Demands, site_term_eq, Visit, visit_start, making, asking, equating, iterating, calling, binding, from_to, pattern_count, opened, output_sites, part_sites, call_result, call_sites, where_multi, unwraps_all, or_no_site, var_site, Opened, open_call, open_term, visit_pattern, visit_each, visit_all, Valued, ValuedAll, valued, visit_call, visit_term, visit_expr, visit_exprs, visit_lets, unwraps, asking_all, visit_args, visit_iflets, finished, visit_rule, taking_argument, outputs_opened}
+use Rattle.isle_model.specs.sites.Demands.{Count, fields_matched, outputs_taken, argument_taken, counting, Demands, site_term_eq, Visit, visit_start, making, asking, equating, iterating, calling, binding, from_to, pattern_count, opened, output_sites, part_sites, call_result, call_sites, where_multi, unwraps_all, or_no_site, var_site, Opened, open_call, open_term, visit_pattern, visit_each, visit_all, Valued, ValuedAll, valued, visit_call, visit_term, visit_expr, visit_exprs, visit_lets, unwraps, asking_all, visit_args, visit_iflets, finished, visit_rule, taking_argument, outputs_opened}
 use Rattle.isle_model.specs.sites.Closure.{fields_from, field_terms}
 use Rattle.isle_model.proofs.Elements.{In, in_right, in_either}
 use Rattle.isle_laws_demands.proofs.visits.Patterns.{in_numbers}
@@ -191,8 +191,10 @@ module _ (p : Program) (R : Demands → Type 0) (Q : Demands → SiteTerm → Ty
 
   with_parts : (d : Demands) (w : Visit) (s : SiteTerm) (args : TypedPatterns) → Onward R Q d w.demands → Q w.demands s → IsOpened R Q d (outputs_opened s args w)
   with_parts d w s args a m =
-      let b = k.makes (part_sites s args) w a.holds in
-      record { onward = then_onward R Q d w.demands (making (part_sites s args) w).demands a b; inputs = outputs_at w s args b m }
+      let u = counting (outputs_taken (pattern_count args)) w in
+      let c = k.counts (outputs_taken (pattern_count args)) w a.holds in
+      let b = k.makes (part_sites s args) u c.holds in
+      record { onward = then_onward R Q d w.demands (outputs_opened s args w).visit.demands a (then_onward R Q w.demands u.demands (outputs_opened s args w).visit.demands c b); inputs = outputs_at u s args b (c.stays s m) }
 
   call_opened : (pure multi partial rec infallible : Bool) (t : ℕ) (s : SiteTerm) (args : TypedPatterns) (v : Visit) → kind p t ≡ a_call (record { pure = pure; multi = multi; partial = partial; rec = rec }) infallible → R v.demands → Q v.demands s
       → IsOpened R Q v.demands (open_call (record { pure = pure; multi = multi; partial = partial; rec = rec }) infallible (extractor_call t s) args v)
@@ -229,9 +231,18 @@ module _ (p : Program) (R : Demands → Type 0) (Q : Demands → SiteTerm → Ty
         inputs = λ u i. k.field z.demands c s u (in_right v.demands.made fields u i) (at_right v.demands.constraints (s, c)) (subst (λ l. In l u) same i) (o.stays s m);
       }
 
+  -- and which are counted before
+  counted_opened : (fields : List SiteTerm) (n : ℕ) (s : SiteTerm) (c : Constraint) (v : Visit) → fields ≡ field_terms c s → R v.demands → Q v.demands s
+      → IsOpened R Q v.demands (opened fields (asking s c (making fields (counting (fields_matched n) v))))
+  counted_opened fields n s c v same h m =
+      let u = counting (fields_matched n) v in
+      let a = k.counts (fields_matched n) v h in
+      let o = fields_opened fields s c u same a.holds (a.stays s m) in
+      record { onward = then_onward R Q v.demands u.demands (asking s c (making fields u)).demands a o.onward; inputs = o.inputs }
+
   term_opened : (n : Kind) (t : ℕ) (s : SiteTerm) (args : TypedPatterns) (v : Visit) → kind p t ≡ n → R v.demands → Q v.demands s → IsOpened R Q v.demands (open_term n t s args v)
-  term_opened (a_variant ty variant) t s args v e h m = fields_opened (from_to (variant_field s variant) 0 args) s (is_variant ty variant (pattern_count args)) v (same_fields (variant_field s variant) 0 args) h m
-  term_opened (a_struct ty) t s args v e h m = fields_opened (from_to (struct_field s) 0 args) s (is_struct ty (pattern_count args)) v (same_fields (struct_field s) 0 args) h m
+  term_opened (a_variant ty variant) t s args v e h m = counted_opened (from_to (variant_field s variant) 0 args) (pattern_count args) s (is_variant ty variant (pattern_count args)) v (same_fields (variant_field s variant) 0 args) h m
+  term_opened (a_struct ty) t s args v e h m = counted_opened (from_to (struct_field s) 0 args) (pattern_count args) s (is_struct ty (pattern_count args)) v (same_fields (struct_field s) 0 args) h m
   term_opened (a_call flags infallible) t s args v e h m = call_opened flags.pure flags.multi flags.partial flags.rec infallible t s args v e h m
   term_opened unknown t s args v e h m = record { onward = no_step R Q v.demands h; inputs = λ u i. absurd i }
 
@@ -404,9 +415,11 @@ module _ (p : Program) (R : Demands → Type 0) (Q : Demands → SiteTerm → Ty
   args_past i (q ∷ qs) v h =
       let u = taking_argument i v in
       let w = visit_pattern p q (argument i) u in
-      let a = leaf_given (argument i) v tt h in
+      let x = counting (argument_taken i) v in
+      let n = step_past R Q v x refl h (k.counts (argument_taken i) v h.holds) in
+      let a = leaf_given (argument i) x tt n.at in
       let b = pattern_past q (argument i) u a.past.at a.site in
-      then_past R Q v u (visit_args p (suc i) qs w) a.past (then_past R Q u w (visit_args p (suc i) qs w) b (args_past (suc i) qs w b.at))
+      then_past R Q v u (visit_args p (suc i) qs w) (then_past R Q v x u n a.past) (then_past R Q u w (visit_args p (suc i) qs w) b (args_past (suc i) qs w b.at))
 
   pub iflets_past : (is : List TypedIfLet) (v : Visit) → IsAt R Q v → Past R Q v (visit_iflets p is v)
   iflets_past [] v h = still_at R Q v h
