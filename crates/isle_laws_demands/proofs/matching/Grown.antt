@@ -62,7 +62,7 @@ grown_all [] v = now v
 grown_all (s ∷ ss) v = then_grown v (asking s is_present v) (asking_all ss (asking s is_present v)) (grown_asking s is_present v) (grown_all ss (asking s is_present v))
 
 -- 1. patterns
-outputs_grown : (u v : Visit) (s : SiteTerm) (args : TypedPatterns) → Grown u v → Grown u (outputs_opened s args v).visit
+pub outputs_grown : (u v : Visit) (s : SiteTerm) (args : TypedPatterns) → Grown u v → Grown u (outputs_opened s args v).visit
 outputs_grown u v s args g =
     let c = outputs_taken (pattern_count args) in
     let w = counting c v in

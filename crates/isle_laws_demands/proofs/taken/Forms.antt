@@ -10,7 +10,7 @@ use Rattle.isle_model.specs.rules.Outcome.{then_option}
 use Rattle.isle_model.specs.rules.Program.{Program, Kind, a_variant, a_struct, a_call, unknown, kind, kind_of, flags_of, is_partial, arg_types}
 use Rattle.isle_model.specs.rules.Typed.{TypedPattern, match_bind, match_var, match_bool, match_int, match_prim, match_term, match_any, match_and, TypedPatterns, no_typed_pattern, typed_pattern_and, TypedExpr, make_term, make_var, make_bool, make_int, make_prim, make_let, TypedExprs, no_typed_expr, typed_expr_and, TypedLets, no_typed_let, typed_let_and, TypedIfLet, TypedRule}
 use Rattle.isle_model.specs.sites.Sites.{Constraint, is_variant, is_struct, is_bool, is_int, is_prim, is_present, SiteTerm, bool_term, int_term, prim_term, argument, extractor_call, constructor_call, pick_of, variant_made, variant_field, struct_made, struct_field, some_made, some_part, tuple_part, no_site, SiteTerms, no_site_term, site_term_and}
-use Rattle.isle_model.specs.sites.Demands.{Demands, demands_of, site_term_eq, Visit, visit_start, making, asking, equating, iterating, calling, binding, or_no_site, var_site, from_to, pattern_count, Opened, output_sites, part_sites, open_call, open_term, visit_pattern, visit_each, visit_all, Valued, ValuedAll, visit_call, visit_term, visit_expr, visit_exprs, visit_lets, unwraps, asking_all, visit_args, visit_iflets, finished, taking_argument}
+use Rattle.isle_model.specs.sites.Demands.{Demands, demands_of, site_term_eq, Visit, visit_start, making, asking, equating, iterating, calling, binding, or_no_site, var_site, from_to, pattern_count, Opened, output_sites, part_sites, open_call, open_term, visit_pattern, visit_each, visit_all, Valued, ValuedAll, visit_call, visit_term, visit_expr, visit_exprs, visit_lets, unwraps, asking_all, visit_args, visit_iflets, finished, taking_argument, Count, fields_matched, outputs_taken, argument_taken, counting, outputs_opened}
 use Rattle.isle_model.specs.sites.Serves.{constant_type}
 use Rattle.isle_model.specs.lists.Setting.{bool_type, expr_type}
 use Rattle.isle_model.specs.lists.Formed.{pattern_type, var_type, is_type, formed_pattern, formed_parts, formed_each, is_formed_expr, are_formed_args, formed_lets, formed_list, formed_iflets, is_formed_rule}
@@ -126,6 +126,9 @@ module _ (p : Program) (n : ℕ) where
   onto_iterating : (s : SiteTerm) (v : Visit) → Onto v (iterating s v)
   onto_iterating s v = record { known = λ h. record { made = h.made; equal = h.equal }; keeps = λ x h. h }
 
+  onto_counting : (c : Count) (v : Visit) → Onto v (counting c v)
+  onto_counting c v = record { known = λ h. record { made = h.made; equal = h.equal }; keeps = λ x h. h }
+
   onto_calling : (s : SiteTerm) (v : Visit) → Onto v (calling s v)
   onto_calling s v = record { known = λ h. record { made = h.made; equal = h.equal }; keeps = λ x h. h }
 
@@ -196,6 +199,19 @@ module _ (p : Program) (n : ℕ) where
   parts_are s (typed_pattern_and q no_typed_pattern) h u i = absurd i
   parts_are s (typed_pattern_and q (typed_pattern_and r rs)) h u i = (a_value, outputs_are s (typed_pattern_and q (typed_pattern_and r rs)) h u i)
 
+  onto_outputs : (u v : Visit) (s : SiteTerm) (args : TypedPatterns) → Onto u v → IsOfForm p n s (form false false (pattern_count args)) → Onto u (outputs_opened s args v).visit
+  onto_outputs u v s args o h =
+      let c = outputs_taken (pattern_count args) in
+      let w = counting c v in
+      let z = making (part_sites s args) w in
+      then_onto u v z o (then_onto v w z (onto_counting c v) (onto_making_each (part_sites s args) w (parts_are s args h)))
+
+  onto_fields : (fields : List SiteTerm) (m : ℕ) (s : SiteTerm) (c : Constraint) (v : Visit) → ((u : SiteTerm) → In fields u → HasForm p n u) → Onto v (asking s c (making fields (counting (fields_matched m) v)))
+  onto_fields fields m s c v f =
+      let u = counting (fields_matched m) v in
+      let w = making fields u in
+      then_onto v u (asking s c w) (onto_counting (fields_matched m) v) (then_onto u w (asking s c w) (onto_making_each fields u f) (onto_asking s c w))
+
   record Opens (v : Visit) (o : Opened) (args : TypedPatterns) : Type 0 where
     onto : Onto v o.visit
     inputs : (u : SiteTerm) → In o.inputs u → IsValue p n u
@@ -214,15 +230,14 @@ module _ (p : Program) (n : ℕ) where
       let a = making (call ∷ (pick_of call ∷ [])) v in
       let b = iterating call a in
       record {
-        onto = then_onto v a (making (part_sites (pick_of call) args) b) (onto_making (call ∷ (pick_of call ∷ [])) v ((form true (not infallible) c, h), ((form false false c, pick), tt)))
-            (then_onto a b (making (part_sites (pick_of call) args) b) (onto_iterating call a) (onto_making_each (part_sites (pick_of call) args) b (parts_are (pick_of call) args pick)));
+        onto = onto_outputs v b (pick_of call) args (then_onto v a b (onto_making (call ∷ (pick_of call ∷ [])) v ((form true (not infallible) c, h), ((form false false c, pick), tt))) (onto_iterating call a)) pick;
         count = outputs_as_many (pick_of call) args;
         inputs = outputs_are (pick_of call) args pick;
       }
   call_opens pure false partial rec true call args v h =
       let a = making (call ∷ []) v in
       record {
-        onto = then_onto v a (making (part_sites call args) a) (onto_making (call ∷ []) v ((form false false (pattern_count args), h), tt)) (onto_making_each (part_sites call args) a (parts_are call args h));
+        onto = onto_outputs v a call args (onto_making (call ∷ []) v ((form false false (pattern_count args), h), tt)) h;
         count = outputs_as_many call args;
         inputs = outputs_are call args h;
       }
@@ -232,8 +247,7 @@ module _ (p : Program) (n : ℕ) where
       let a = making (call ∷ (some_part call ∷ [])) v in
       let b = asking call is_present a in
       record {
-        onto = then_onto v a (making (part_sites (some_part call) args) b) (onto_making (call ∷ (some_part call ∷ [])) v ((form false true c, h), ((form false false c, part), tt)))
-            (then_onto a b (making (part_sites (some_part call) args) b) (onto_asking call is_present a) (onto_making_each (part_sites (some_part call) args) b (parts_are (some_part call) args part)));
+        onto = onto_outputs v b (some_part call) args (then_onto v a b (onto_making (call ∷ (some_part call ∷ [])) v ((form false true c, h), ((form false false c, part), tt))) (onto_asking call is_present a)) part;
         count = outputs_as_many (some_part call) args;
         inputs = outputs_are (some_part call) args part;
       }
@@ -243,7 +257,7 @@ module _ (p : Program) (n : ℕ) where
       let fields = from_to (variant_field s i) 0 args in
       let all : (u : SiteTerm) → In fields u → IsValue p n u = λ u j. let k = in_numbers (variant_field s i) 0 args u j in subst (IsValue p n) k.2 (f, refl) in
       record {
-        onto = then_onto v (making fields v) (asking s (is_variant ty i (pattern_count args)) (making fields v)) (onto_making_each fields v (λ u j. (a_value, all u j))) (onto_asking s (is_variant ty i (pattern_count args)) (making fields v));
+        onto = onto_fields fields (pattern_count args) s (is_variant ty i (pattern_count args)) v (λ u j. (a_value, all u j));
         inputs = all;
         count = numbers_as_many (variant_field s i) 0 args;
       }
@@ -251,7 +265,7 @@ module _ (p : Program) (n : ℕ) where
       let fields = from_to (struct_field s) 0 args in
       let all : (u : SiteTerm) → In fields u → IsValue p n u = λ u j. let k = in_numbers (struct_field s) 0 args u j in subst (IsValue p n) k.2 (f, refl) in
       record {
-        onto = then_onto v (making fields v) (asking s (is_struct ty (pattern_count args)) (making fields v)) (onto_making_each fields v (λ u j. (a_value, all u j))) (onto_asking s (is_struct ty (pattern_count args)) (making fields v));
+        onto = onto_fields fields (pattern_count args) s (is_struct ty (pattern_count args)) v (λ u j. (a_value, all u j));
         inputs = all;
         count = numbers_as_many (struct_field s) 0 args;
       }
@@ -414,7 +428,8 @@ module _ (p : Program) (n : ℕ) where
         let a = from_part p q ty vars more (λ mid. formed_list p qs tys mid) f in
         let m : IsValue p n (argument i) = (omega (arith, e), refl) in
         let u = taking_argument i v in
-        let o = made_one (argument i) v m in
+        let x = counting (argument_taken i) v in
+        let o = then_onto v x u (onto_counting (argument_taken i) v) (made_one (argument i) x m) in
         let r = pattern_after q (argument i) u vars a.0 a.2 m (vars_onto vars v u o g) in
         let w = visit_pattern p q (argument i) u in
         then_after v w (visit_args p (suc i) qs w) a.0 more (record { onto = then_onto v u w o r.onto; vars = r.vars }) (args_after (suc i) qs tys w a.0 more (omega (arith, e)) a.3 r.vars)

@@ -191,7 +191,7 @@ calls_kept p = record {
   answer = λ d t i ss flags b e f c n m. (c, each_at d ss m);
   pick = λ d t i ss c n m. (c, each_at d ss m);
   call = λ d t i ss flags b e f g n m. (n, each_at d ss m);
-  counts = λ c v h. record { holds = h; stays = λ s m. m };
+  counts = λ c v h. record { holds = record { asked = h.asked; equal = h.equal; impure = h.impure; over = h.over }; stays = λ s m. m };
   makes = making_on;
   calls = calling_on;
   equates = equating_on;

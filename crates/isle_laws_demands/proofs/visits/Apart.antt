@@ -7,7 +7,7 @@ use Rattle.isle_model.specs.sites.Sites.{Constraint, is_present, SiteTerm, extra
 use Rattle.isle_model.specs.sites.Overlap.{BuiltRule, built_rule}
 use Rattle.isle_model.specs.sites.RuleSets.{IsRuleOf}
 use Rattle.isle_model.specs.rules.Typed.{TypedRule}
-use Rattle.isle_model.specs.sites.Demands.{Demands, demands_of, Visit, making, asking, equating, iterating, calling, unwraps, unwraps_all, asking_all}
+use Rattle.isle_model.specs.sites.Demands.{Demands, demands_of, Visit, making, asking, equating, iterating, calling, unwraps, unwraps_all, asking_all, counting}
 use Rattle.isle_model.specs.sites.Closure.{field_terms, Joined, given, itself, turned, chained, at_field, closed}
 use Rattle.isle_model.proofs.Elements.{In, in_from_contains, in_either, in_slice}
 use Rattle.isle_laws_demands.specs.VisitLaws.{NoRuleAsksAndGoesOver}
@@ -105,7 +105,7 @@ module _ (p : Program) (neither : HasNoPartialMulti p) where
         part_plain (constructor_call t us i) (λ k. neither t k (ap (λ x. (flags_of x).partial) e ∙ f)) (all_unwrapped d us m);
     pick = λ d t i us c n m. (λ k. k, all_unwrapped d us m);
     call = λ d t i us flags b e f g n m. (not_multi t flags b e g, all_unwrapped d us m);
-    counts = λ c v h. record { holds = h; stays = λ s m. m };
+    counts = λ c v h. onward v.demands (counting c v).demands (record { asked = h.asked; equal = h.equal; calls = h.calls });
     makes = λ ts v h. onward v.demands (making ts v).demands (record { asked = h.asked; equal = h.equal; calls = h.calls });
     calls = λ s v h m. onward v.demands (calling s v).demands (record { asked = h.asked; equal = h.equal; calls = h.calls });
     equates = λ a b v h m n. onward v.demands (equating a b v).demands (by_equating (λ w. IsApart w.demands) a b v h (after_equated a b v h m.0 n.0));

@@ -135,7 +135,7 @@ fields_kept p = record {
   answer = λ d t i ss flags b e f c n m. part_given d (constructor_call t ss i) refl (all_unwrapped d ss m);
   pick = λ d t i ss c n m. (no_field_given d.constraints (pick_of (constructor_call t ss i)) refl, all_unwrapped d ss m);
   call = λ d t i ss flags b e f g n m. (no_field_given d.constraints (constructor_call t ss i) refl, all_unwrapped d ss m);
-  counts = λ c v h. record { holds = h; stays = λ s m. m };
+  counts = λ c v h. record { holds = record { asked = h.asked; equal = h.equal; made = h.made }; stays = λ s m. m };
   makes = making_on;
   calls = λ s v h m. calling_on s v h;
   equates = equating_on;

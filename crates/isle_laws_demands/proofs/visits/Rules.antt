@@ -6,13 +6,13 @@ use Rattle.isle_model.specs.rules.Outcome.{then_option}
 use Rattle.isle_model.specs.rules.Program.{Program, is_partial}
 use Rattle.isle_model.specs.sites.Sites.{SiteTerm, argument, some_made}
 use Rattle.isle_model.specs.rules.Typed.{TypedPattern, TypedIfLet, TypedRule}
-use Rattle.isle_model.specs.sites.Demands.{demands_of, Visit, visit_start, making, or_no_site, var_site, visit_pattern, Valued, visit_expr, unwraps, asking_all, visit_args, visit_iflets, finished, visit_rule, taking_argument}
+use Rattle.isle_model.specs.sites.Demands.{demands_of, Visit, visit_start, making, or_no_site, var_site, visit_pattern, Valued, visit_expr, unwraps, asking_all, visit_args, visit_iflets, finished, visit_rule, taking_argument, argument_taken, counting}
 use Rattle.isle_model.specs.lists.Formed.{pattern_type, formed_pattern, is_formed_expr, formed_list, formed_iflets, is_formed_rule}
 use Rattle.isle_model.proofs.Elements.{in_from_contains, some_is, none_some}
 use Rattle.isle_model.specs.sites.DemandedGates.{IsPureExpr, ArePureIfLets, DemandsGates}
 use Rattle.isle_laws_demands.specs.VisitLaws.{WellTypedRulesDemandGates}
 use Rattle.isle_laws_demands.proofs.visits.Gates.{asking_of, gates_stay, weaker, stronger, unwrapped}
-use Rattle.isle_laws_demands.proofs.visits.Visited.{Good, MayTest, IsSound, Later, good_stays, now, then_later, later_making, asked_binds, asked_more, asked_calls, all_asked, later_asked, AreGood}
+use Rattle.isle_laws_demands.proofs.visits.Visited.{Good, MayTest, IsSound, Later, good_stays, now, then_later, later_making, asked_binds, asked_more, asked_calls, all_asked, later_asked, AreGood, later_counting}
 use Rattle.isle_laws_demands.proofs.visits.Patterns.{from_then, pattern_after}
 use Rattle.isle_laws_demands.proofs.visits.Exprs.{IsValued, expr_valued}
 use Rattle.isle_laws_demands.proofs.visits.RuleParts.{iflet_parts, RuleParts, rule_parts}
@@ -36,10 +36,11 @@ args_past p i (q ∷ qs) [] v vars more f g = absurd (none_some more f)
 args_past p i (q ∷ qs) (ty ∷ tys) v vars more f g =
     let a = from_if (pattern_type q == ty) (then_option (formed_pattern p q vars) (λ after. formed_list p qs tys after)) more f in
     let b = from_then (formed_pattern p q vars) (λ after. formed_list p qs tys after) more a.1 in
+    let x = counting (argument_taken i) v in
     let u = taking_argument i v in
     let w = visit_pattern p q (argument i) u in
     let r = pattern_after p q (argument i) u vars b.0 b.1 tt g in
-    then_past v w (visit_args p (suc i) qs w) more (then_later v u w (later_making (argument i ∷ []) v) r.later) (args_past p (suc i) qs tys w b.0 more b.2 r.good)
+    then_past v w (visit_args p (suc i) qs w) more (then_later v u w (then_later v x u (later_counting (argument_taken i) v) (later_making (argument i ∷ []) x)) r.later) (args_past p (suc i) qs tys w b.0 more b.2 r.good)
 
 pub less_good : (pure : Bool) (vars : List (ℕ × ℕ)) (v : Visit) → AreGood true true vars v → AreGood false pure vars v
 less_good pure vars v g x h = weaker v.demands.constraints v.demands.iterators pure (var_site v x) (g x h)

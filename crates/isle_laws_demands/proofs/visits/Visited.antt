@@ -3,7 +3,7 @@ use Rattle.std.proofs.Common.{◌≡◌, ◌⊎◌, ℕ, ◌==◌, Bool, true, f
 use Rattle.std.proofs.lemmas.Bool.{cases_Bool, cond-true, cond-false, false≢true}
 use Rattle.isle_model.specs.rules.Meaning.{look}
 use Rattle.isle_model.specs.sites.Sites.{Constraint, is_present, SiteTerm}
-use Rattle.isle_model.specs.sites.Demands.{site_term_eq, Visit, making, asking, equating, iterating, calling, binding, or_no_site, var_site, asking_all}
+use Rattle.isle_model.specs.sites.Demands.{Count, counting, site_term_eq, Visit, making, asking, equating, iterating, calling, binding, or_no_site, var_site, asking_all}
 use Rattle.isle_model.specs.lists.Formed.{var_type}
 use Rattle.isle_model.proofs.Elements.{In, in_from_contains, contains_from_in, in_left, in_right, in_either}
 use Rattle.isle_model.specs.sites.DemandedGates.{GatesDemanded}
@@ -40,6 +40,9 @@ then_later u v w a b = record { sound = λ h. b.sound (a.sound h); more = λ x c
 
 pub later_making : (ts : List SiteTerm) (v : Visit) → Later v (making ts v)
 later_making ts v = record { sound = λ h. record { asked = h.asked; equal = h.equal; impure = h.impure }; more = λ x c. c; calls = λ x c. c }
+
+pub later_counting : (c : Count) (v : Visit) → Later v (counting c v)
+later_counting c v = record { sound = λ h. record { asked = h.asked; equal = h.equal; impure = h.impure }; more = λ x k. k; calls = λ x k. k }
 
 pub later_calling : (s : SiteTerm) (v : Visit) → Good false false v s → Later v (calling s v)
 later_calling s v g = record {
