@@ -4,7 +4,7 @@ use Rattle.isle_model.specs.lists.Tables.{Flags}
 use Rattle.isle_model.specs.rules.Program.{Program, Kind, a_variant, a_struct, a_call, unknown, kind, is_partial}
 use Rattle.isle_model.specs.rules.Typed.{TypedPattern, match_bind, match_var, match_bool, match_int, match_prim, match_term, match_any, match_and, TypedPatterns, no_typed_pattern, typed_pattern_and, TypedExpr, make_term, make_var, make_bool, make_int, make_prim, make_let, TypedExprs, no_typed_expr, typed_expr_and, TypedLets, no_typed_let, typed_let_and, TypedIfLet, TypedRule}
 use Rattle.isle_model.specs.sites.Sites.{is_present, SiteTerm, bool_term, int_term, prim_term, argument, extractor_call, constructor_call, pick_of, variant_made, variant_field, struct_made, struct_field, some_made, some_part, tuple_part, no_site, SiteTerms, no_site_term, site_term_and}
-use Rattle.isle_model.specs.sites.Demands.{site_term_eq, Visit, visit_start, making, asking, equating, iterating, binding, var_site, from_to, Opened, part_sites, open_call, open_term, visit_pattern, visit_each, visit_all, Valued, ValuedAll, call_sites, visit_call, visit_term, visit_expr, visit_exprs, visit_lets, unwraps, asking_all, visit_args, visit_iflets, finished, demands_of, taking_argument}
+use Rattle.isle_model.specs.sites.Demands.{site_term_eq, Visit, visit_start, making, asking, equating, iterating, binding, var_site, from_to, Opened, part_sites, open_call, open_term, visit_pattern, visit_each, visit_all, Valued, ValuedAll, call_sites, visit_call, visit_term, visit_expr, visit_exprs, visit_lets, unwraps, asking_all, visit_args, visit_iflets, finished, demands_of, taking_argument, outputs_taken, counting, pattern_count, outputs_opened}
 use Rattle.isle_model.proofs.Either.{either}
 use Rattle.isle_model.proofs.Elements.{In, in_either}
 use Rattle.isle_model.proofs.FewElements.{not_nothing}
@@ -55,17 +55,17 @@ call_opened : (flags : Flags) (infallible : Bool) (call : SiteTerm) (args : Type
 call_opened flags infallible call args v q h =
     either (λ (o : Opened). MakesNoImpureCall o.visit) flags.multi _ _ over (either (λ (o : Opened). MakesNoImpureCall o.visit) infallible _ _ plain asked)
   where
-    over : MakesNoImpureCall (making (part_sites (pick_of call) args) (iterating call (making (call ∷ (pick_of call ∷ [])) v)))
+    over : MakesNoImpureCall (outputs_opened (pick_of call) args (iterating call (making (call ∷ (pick_of call ∷ [])) v))).visit
     over =
-        let w = iterating call (making (call ∷ (pick_of call ∷ [])) v) in
+        let w = counting (outputs_taken (pattern_count args)) (iterating call (making (call ∷ (pick_of call ∷ [])) v)) in
         quiet_making (part_sites (pick_of call) args) w (parts_quiet (pick_of call) args) (quiet_making (call ∷ (pick_of call ∷ [])) v (and_quiet call (pick_of call ∷ []) q (and_quiet (pick_of call) [] tt none_quiet)) h)
 
-    plain : MakesNoImpureCall (making (part_sites call args) (making (call ∷ []) v))
-    plain = quiet_making (part_sites call args) (making (call ∷ []) v) (parts_quiet call args) (one_quiet call v q h)
+    plain : MakesNoImpureCall (outputs_opened call args (making (call ∷ []) v)).visit
+    plain = quiet_making (part_sites call args) (counting (outputs_taken (pattern_count args)) (making (call ∷ []) v)) (parts_quiet call args) (one_quiet call v q h)
 
-    asked : MakesNoImpureCall (making (part_sites (some_part call) args) (asking call is_present (making (call ∷ (some_part call ∷ [])) v)))
+    asked : MakesNoImpureCall (outputs_opened (some_part call) args (asking call is_present (making (call ∷ (some_part call ∷ [])) v))).visit
     asked =
-        let w = asking call is_present (making (call ∷ (some_part call ∷ [])) v) in
+        let w = counting (outputs_taken (pattern_count args)) (asking call is_present (making (call ∷ (some_part call ∷ [])) v)) in
         quiet_making (part_sites (some_part call) args) w (parts_quiet (some_part call) args) (quiet_making (call ∷ (some_part call ∷ [])) v (and_quiet call (some_part call ∷ []) q (and_quiet (some_part call) [] tt none_quiet)) h)
 
 term_opened : (k : Kind) (t : ℕ) (s : SiteTerm) (args : TypedPatterns) (v : Visit) → MakesNoImpureCall v → MakesNoImpureCall (open_term k t s args v).visit
