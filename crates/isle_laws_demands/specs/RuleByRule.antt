@@ -1,6 +1,6 @@
 -- Building rule by rule: where the sets of a program's terms and the reports stand after some of its rules, what one more
 -- rule has to show, and what there is at the end.
-use Rattle.std.specs.Prelude.{◌≡◌, ◌≢◌, ◌↔◌, ℕ, ◌<◌, ◌≤◌, true, false, List, [], ◌∷◌, ◌++◌, length, map, take, Option, Some, None, is_some, slice_get, All, Contains, IsTrue, ◌&&◌}
+use Rattle.std.specs.Prelude.{◌≡◌, ◌≢◌, ◌↔◌, ℕ, ◌<◌, ◌≤◌, true, false, List, [], ◌∷◌, ◌++◌, length, map, take, Option, Some, None, is_some, All, Contains, IsTrue, ◌&&◌}
 use Rattle.std.specs.Bool.{◌==◌}
 use Rattle.std.specs.List.{filter, flat_map, list_any}
 use Rattle.isle_model.specs.lists.Names.{IsDistinct}

@@ -1,5 +1,5 @@
 -- Which limit is met first of a rule, and that sites which are too many stay the first of these.
-use Rattle.std.proofs.Common.{◌≡◌, ◌<◌, ◌≤◌, nat_lt, List, [], ◌∷◌, ◌++◌, length, Some, is_some, slice_get, refl, sym, ap, ◌∙◌, subst, inl, inr, arith}
+use Rattle.std.proofs.Common.{◌≡◌, ◌<◌, ◌≤◌, nat_lt, List, [], ◌∷◌, ◌++◌, length, Some, refl, sym, ap, ◌∙◌, subst, inl, inr, arith}
 use Rattle.std.proofs.lemmas.Bool.{cases_Bool, cond-true, cond-false, le-ltb, lt-ltb}
 use Rattle.std.proofs.lemmas.List.{append-nil, append_assoc}
 use Rattle.isle_model.specs.sites.Sites.{SiteTerm}

@@ -1,6 +1,6 @@
 -- The set of a term goes past one more rule: what was built before stays, and the rule is added or left out.
-use Rattle.std.proofs.Common.{◌≡◌, ℕ, ◌<◌, Bool, true, false, not, ◌&&◌, is_none, nat_lt, if◌then◌else◌, List, [], ◌∷◌, ◌++◌, map, length, Some, None, slice_get, All, Contains, refl, sym, ap, ◌∙◌, subst, inl, inr, arith}
-use Rattle.std.proofs.lemmas.Bool.{cases_Bool, cond-true, cond-false, ltb-false}
+use Rattle.std.proofs.Common.{◌≡◌, ℕ, ◌<◌, Bool, true, false, not, ◌&&◌, is_none, if◌then◌else◌, List, [], ◌∷◌, ◌++◌, map, length, Some, None, All, Contains, refl, sym, ap, ◌∙◌, subst, arith}
+use Rattle.std.proofs.lemmas.Bool.{cond-true, cond-false, ltb-false}
 use Rattle.std.proofs.lemmas.List.{append-nil, append_assoc, take_all}
 use Rattle.std.proofs.lemmas.List.Elements.{All-head, All-tail}
 use Rattle.isle_model.specs.rules.Typed.{TypedRule}
@@ -11,7 +11,6 @@ use Rattle.isle_model.specs.sites.Closure.{Closed, closed, is_unreachable, repor
 use Rattle.isle_model.specs.sites.Limits.{RuleLimit, first_limit, most_sites, sites_after_rule, sites_after_rules, sites_reached, sites_wanted}
 use Rattle.isle_model.specs.sites.Overlap.{BuiltRule, RuleReport, limit_passed, not_reached, built_from, built_rule, is_built, build_reports_of}
 use Rattle.isle_model.specs.sites.RuleSets.{AreRulesOfSet, AsksFor, Equates, GoesOver, IsRuleOf, StandFor}
-use Rattle.isle_model.proofs.Elements.{none_some}
 use Rattle.isle_model.proofs.Members.{all_members, nothing_in}
 use Rattle.std.proofs.lemmas.List.Elements.{All-contains}
 use Rattle.isle_laws_demands.specs.RuleByRule.{HaveGrown, SetsEndBuilt, SetsGoPastRules, SetsStartEmpty, StandsAfter, limit_met, rule_added, rule_unreachable}
