@@ -8,6 +8,7 @@ pub mod Calls
 pub mod Closing
 pub mod Collected
 pub mod Constrained
+pub mod Continued
 pub mod Exprs
 pub mod Gates
 pub mod GivenFields

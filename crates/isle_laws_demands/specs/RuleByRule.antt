@@ -7,9 +7,9 @@ use Rattle.isle_model.specs.lists.Names.{IsDistinct}
 use Rattle.isle_model.specs.rules.Typed.{TypedRule}
 use Rattle.isle_model.specs.rules.Program.{Program, rules_of, terms_with_rules}
 use Rattle.isle_model.specs.sites.Sites.{Constraint, Site, SetRule, SiteSet, SiteTerm, sources_at, unfold_site}
-use Rattle.isle_model.specs.sites.Demands.{Demands, demands_of, has_site, with_sites}
+use Rattle.isle_model.specs.sites.Demands.{Demands, demands_of, has_site, with_sites, Count, Visit, counting, visit_rule}
 use Rattle.isle_model.specs.sites.Closure.{Closed, before_closing, closed, closing, constraint_of, in_order, is_unreachable, most_closing_steps, reported}
-use Rattle.isle_model.specs.sites.Limits.{RuleLimit, sites_limit, first_limit, passed_in_visit, most_sites, sites_after_rule, sites_after_rules, sites_reached, sites_wanted}
+use Rattle.isle_model.specs.sites.Limits.{RuleLimit, sites_limit, first_limit, passed_in_visit, most_sites, sites_after_rule, sites_after_rules, sites_reached, sites_wanted, passed_by, first_passed}
 use Rattle.isle_model.specs.sites.Overlap.{RuleReport, limit_passed, not_reached, built_from, built_rule, build_reports, build_reports_after, build_reports_of}
 use Rattle.isle_model.specs.sites.RuleSets.{AreRulesOfSet, AsksFor, Equates, IsBuilt, IsRuleOf, StandFor}
 use Rattle.isle_model.specs.trees.Places.{constraint_at, joins_in}
@@ -112,6 +112,21 @@ BuiltSetsAreAnswered =
     → BuildAnswers p sets (build_reports p)
 
 -- 3. what one rule has to show
+-- a later visit: what it has made and counted begins with what was made and counted before
+pub record Continues (v w : Visit) : Type 0 where
+  pub made : List SiteTerm
+  pub counted : List (Count × ℕ)
+  pub makes : w.demands.made ≡ v.demands.made ++ made
+  pub counts : w.demands.counted ≡ v.demands.counted ++ counted
+
+-- where nothing that the visit of a rule has counted passes a limit, and what it counts next does, that is the first that
+-- is passed, and the sites made before are those that the visit has made
+abbrev pub VisitsEndAtCounts : Type 0
+VisitsEndAtCounts =
+    (p : Program) (r : TypedRule) (v : Visit) (c : Count) (l : RuleLimit)
+    → Continues (counting c v) (visit_rule p r).visit → first_passed v.demands.counted ≡ None → passed_by c ≡ Some l
+    → (passed_in_visit p r ≡ Some (l, length v.demands.made)) × (take (length v.demands.made) (demands_of p r).made ≡ v.demands.made)
+
 -- no limit is met where the visit passes none and its sites have room; one that the visit passes is met first where the
 -- sites that were reached have room, and these are what the visit made until then; and else that on sites is
 pub record LimitsAreMetSo (p : Program) (before : List SiteTerm) (r : TypedRule) : Type 0 where
