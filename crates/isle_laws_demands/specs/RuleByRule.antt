@@ -4,10 +4,10 @@ use Rattle.std.specs.Prelude.{◌≡◌, ◌≢◌, ◌↔◌, ℕ, ◌<◌, ◌
 use Rattle.std.specs.Bool.{◌==◌}
 use Rattle.std.specs.List.{filter, flat_map, list_any}
 use Rattle.isle_model.specs.lists.Names.{IsDistinct}
-use Rattle.isle_model.specs.rules.Typed.{TypedRule}
+use Rattle.isle_model.specs.rules.Typed.{TypedRule, TypedPattern, TypedExpr, TypedIfLet}
 use Rattle.isle_model.specs.rules.Program.{Program, rules_of, terms_with_rules}
 use Rattle.isle_model.specs.sites.Sites.{Constraint, Site, SetRule, SiteSet, SiteTerm, sources_at, unfold_site}
-use Rattle.isle_model.specs.sites.Demands.{Demands, demands_of, has_site, with_sites, Count, Visit, counting, visit_rule}
+use Rattle.isle_model.specs.sites.Demands.{Demands, demands_of, has_site, with_sites, Count, Visit, counting, visit_rule, visit_pattern, visit_args, visit_expr, visit_iflets}
 use Rattle.isle_model.specs.sites.Closure.{Closed, before_closing, closed, closing, constraint_of, in_order, is_unreachable, most_closing_steps, reported}
 use Rattle.isle_model.specs.sites.Limits.{RuleLimit, sites_limit, first_limit, passed_in_visit, most_sites, sites_after_rule, sites_after_rules, sites_reached, sites_wanted, passed_by, first_passed}
 use Rattle.isle_model.specs.sites.Overlap.{RuleReport, limit_passed, not_reached, built_from, built_rule, build_reports, build_reports_after, build_reports_of}
@@ -118,6 +118,16 @@ pub record Continues (v w : Visit) : Type 0 where
   pub counted : List (Count × ℕ)
   pub makes : w.demands.made ≡ v.demands.made ++ made
   pub counts : w.demands.counted ≡ v.demands.counted ++ counted
+
+-- so does each visit of a pattern, of an expression, of arguments and of if-lets
+pub record VisitContinues (p : Program) (v : Visit) : Type 0 where
+  pub pattern : (q : TypedPattern) (s : SiteTerm) → Continues v (visit_pattern p q s v)
+  pub args : (i : ℕ) (qs : List TypedPattern) → Continues v (visit_args p i qs v)
+  pub expr : (x : TypedExpr) → Continues v (visit_expr p x v).visit
+  pub iflets : (is : List TypedIfLet) → Continues v (visit_iflets p is v)
+
+abbrev pub VisitsContinue : Type 0
+VisitsContinue = (p : Program) (v : Visit) → VisitContinues p v
 
 -- where nothing that the visit of a rule has counted passes a limit, and what it counts next does, that is the first that
 -- is passed, and the sites made before are those that the visit has made

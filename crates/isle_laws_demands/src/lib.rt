@@ -12,7 +12,7 @@ ghost use Rattle.isle_laws_demands.specs.ErrorLaws.{CheckErrorsNameLeftOut, Chec
 ghost use Rattle.isle_laws_demands.specs.LeftOutLaws.{LeftOutRulesAreReported};
 ghost use Rattle.isle_laws_demands.specs.FieldLaws.{ConflictFreeConstraintsAgree, FieldsAreGiven};
 ghost use Rattle.isle_laws_demands.specs.ReportLaws.{CheckIsExact, OverlapsAreListedOnce, ListedRulesOverlap, MasksAreReportedOnce, ReportedMasksShadow};
-ghost use Rattle.isle_laws_demands.specs.RuleByRule.{BuildingEnds, BuildingGoesOn, BuildingStarts, BuiltSetsAreAnswered, FullSitesStay, LimitsAreMet, ListedDemandsStand, OrderAsksTheSame, SetsEndBuilt, SetsGoPastRules, SetsStartEmpty, VisitsEndAtCounts};
+ghost use Rattle.isle_laws_demands.specs.RuleByRule.{BuildingEnds, BuildingGoesOn, BuildingStarts, BuiltSetsAreAnswered, FullSitesStay, LimitsAreMet, ListedDemandsStand, OrderAsksTheSame, SetsEndBuilt, SetsGoPastRules, SetsStartEmpty, VisitsContinue, VisitsEndAtCounts};
 ghost use Rattle.isle_laws_demands.specs.SetOverlapLaws.{SetRulesOverlapAsTheirDemands, OverlapOfSetRulesIsSymmetric, SetRulesConstrainAsTheirDemands};
 ghost use Rattle.isle_laws_demands.specs.TotalLaws.{TotalMeaningsServe, AgreeingMapsTellApart, ChoiceIsOfFunctions, TotalMeaningsHaveOneOutcome};
 ghost use Rattle.isle_laws_demands.specs.SetReportLaws.{BuiltSetsAreChecked, BuiltSetsAreReported};
@@ -464,6 +464,12 @@ pub fn order_asks_the_same()
 /// What is listed over numbers at the end of the closing is what a rule's closed demands ask.
 pub fn listed_demands_stand()
     ensures { ListedDemandsStand }
+{}
+
+/// Visits only add to what is made and counted, at the end.
+#[tactic(auto, using(crate::proofs::visits::Continued::visits_continue_lem))]
+pub fn visits_continue()
+    ensures { VisitsContinue }
 {}
 
 /// The visit of a rule ends at the first count that passes a limit, with the sites that it has made.

@@ -5,7 +5,7 @@ use Rattle.isle_model.specs.rules.Typed.{TypedRule}
 use Rattle.isle_model.specs.rules.Program.{Program}
 use Rattle.isle_model.specs.sites.Sites.{SiteTerm}
 use Rattle.isle_model.specs.sites.Demands.{Count, fields_matched, outputs_taken, argument_taken, demands_of}
-use Rattle.isle_model.specs.sites.Limits.{most_fields, most_outputs, most_arguments, most_sites, RuleLimit, fields_limit, outputs_limit, arguments_limit, sites_limit, counts_of_rule, PassesLimit, passed_by, passed_first, first_passed, passed_in_visit, limit_of_passed, sites_reached, first_limit}
+use Rattle.isle_model.specs.sites.Limits.{most_fields, most_outputs, most_arguments, most_sites, RuleLimit, fields_limit, outputs_limit, arguments_limit, sites_limit, counts_of_rule, PassesLimit, passed_by, passed_or_later, first_passed, passed_in_visit, limit_of_passed, sites_reached, first_limit}
 use Rattle.isle_model.proofs.Elements.{In, in_from_contains, contains_from_in, some_is, none_some}
 
 -- 1. counts
@@ -35,7 +35,7 @@ first_among : (cs : List (Count × ℕ)) (x : RuleLimit × ℕ) → first_passed
 first_among [] x e = absurd (none_some x e)
 first_among (c ∷ cs) x e = by (passed_by c.0) refl e (first_among cs x)
   where
-    by : (o : Option RuleLimit) → passed_by c.0 ≡ o → passed_first o c.1 (first_passed cs) ≡ Some x
+    by : (o : Option RuleLimit) → passed_by c.0 ≡ o → passed_or_later o c.1 (first_passed cs) ≡ Some x
         → (first_passed cs ≡ Some x → (d : Count) × In (map (λ k. k.0) cs) d × (passed_by d ≡ Some x.0))
         → (d : Count) × In (map (λ k. k.0) (c ∷ cs)) d × (passed_by d ≡ Some x.0)
     by (Some l) q f later = (c.0, inl refl, q ∙ ap (λ (y : RuleLimit × ℕ). Some y.0) (some_is (l, c.1) x f))
@@ -46,14 +46,14 @@ some_passed [] c l i e = absurd i
 some_passed (d ∷ cs) c l i e = by (passed_by d.0) refl (λ j. some_passed cs c l j e)
   where
     by : (o : Option RuleLimit) → passed_by d.0 ≡ o → (In (map (λ k. k.0) cs) c → (x : RuleLimit × ℕ) × (first_passed cs ≡ Some x))
-        → (x : RuleLimit × ℕ) × (passed_first o d.1 (first_passed cs) ≡ Some x)
+        → (x : RuleLimit × ℕ) × (passed_or_later o d.1 (first_passed cs) ≡ Some x)
     by (Some m) q later = ((m, d.1), refl)
     by None q later = elim i [ inl s ↦ absurd (none_some l (sym q ∙ ap passed_by s ∙ e)) | inr j ↦ later j ]
 
 -- 2. the first limit is passed
-limit_passed : (o : Option (RuleLimit × ℕ)) (l : RuleLimit) → limit_of_passed o ≡ Some l → (made : ℕ) × (o ≡ Some (l, made))
-limit_passed None l e = absurd (none_some l e)
-limit_passed (Some x) l e = let s = some_is x.0 l e in (x.1, (λ i. Some (s i, x.1)))
+limit_of_first : (o : Option (RuleLimit × ℕ)) (l : RuleLimit) → limit_of_passed o ≡ Some l → (made : ℕ) × (o ≡ Some (l, made))
+limit_of_first None l e = absurd (none_some l e)
+limit_of_first (Some x) l e = let s = some_is x.0 l e in (x.1, (λ i. Some (s i, x.1)))
 
 pub first_limit_is_passed_lem : (p : Program) (before : List SiteTerm) (r : TypedRule) (l : RuleLimit) → first_limit p before r ≡ Some l → PassesLimit p before r l
 first_limit_is_passed_lem p before r l e =
@@ -62,7 +62,7 @@ first_limit_is_passed_lem p before r l e =
           let same = some_is sites_limit l (sym (cond-true (nat_lt most_sites (length (sites_reached p before r))) (Some sites_limit) (limit_of_passed (passed_in_visit p r)) t) ∙ e) in
           subst (PassesLimit p before r) same (ltb-true most_sites (length (sites_reached p before r)) t)
       | inr f ↦
-          let x = limit_passed (passed_in_visit p r) l (sym (cond-false (nat_lt most_sites (length (sites_reached p before r))) (Some sites_limit) (limit_of_passed (passed_in_visit p r)) f) ∙ e) in
+          let x = limit_of_first (passed_in_visit p r) l (sym (cond-false (nat_lt most_sites (length (sites_reached p before r))) (Some sites_limit) (limit_of_passed (passed_in_visit p r)) f) ∙ e) in
           let c = first_among (demands_of p r).counted (l, x.0) x.1 in
           count_passes p before r c.0 l c.1 c.2
     ]

@@ -64,14 +64,14 @@ passed_by (outputs_taken n) = if nat_lt most_outputs n then Some outputs_limit e
 passed_by (argument_taken i) = if nat_lt i most_arguments then None else Some arguments_limit
 
 -- the limit that is passed at one count, or else one passed later, with how many sites were made before
-abbrev pub passed_first : Option RuleLimit → ℕ → Option (RuleLimit × ℕ) → Option (RuleLimit × ℕ)
-passed_first (Some limit) made later = Some (limit, made)
-passed_first None made later = later
+abbrev pub passed_or_later : Option RuleLimit → ℕ → Option (RuleLimit × ℕ) → Option (RuleLimit × ℕ)
+passed_or_later (Some limit) made later = Some (limit, made)
+passed_or_later None made later = later
 
 -- the first limit that is passed, with how many sites were made before
 abbrev pub first_passed : List (Count × ℕ) → Option (RuleLimit × ℕ)
 first_passed [] = None
-first_passed (c ∷ cs) = passed_first (passed_by c.0) c.1 (first_passed cs)
+first_passed (c ∷ cs) = passed_or_later (passed_by c.0) c.1 (first_passed cs)
 
 -- that of a rule's visit
 abbrev pub passed_in_visit : Program → TypedRule → Option (RuleLimit × ℕ)
