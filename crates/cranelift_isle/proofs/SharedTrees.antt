@@ -1,7 +1,9 @@
 -- What the best tree of a built set is besides: shared, and it binds before use.
 use Rattle.isle_model.specs.sites.Sites.{SiteSet}
 use Rattle.isle_model.specs.trees.Trees.{Tree}
+use Rattle.isle_model.specs.claims.Environments.{program_of}
 use Rattle.isle_model.specs.claims.Layers.{IsBuiltForSome, IsSerialized}
+use Rattle.isle_laws_lists.proofs.WellTypedRules.{elaborated_programs_are_well_typed_lem}
 use Rattle.isle_laws_trees.specs.BestLaws.{BestTreesShareMost}
 use Rattle.isle_laws_trees.specs.BuiltLaws.{BestTreesBindBeforeUse}
 use Rattle.cranelift_isle.specs.Lowerings.{SharesTests, BindsBeforeAnyUse}
@@ -14,4 +16,5 @@ shares_tests most set tree s = record {
 }
 
 pub binds_before_any_use : BestTreesBindBeforeUse → (set : SiteSet) (tree : Tree) → IsBuiltForSome set → IsSerialized set tree → BindsBeforeAnyUse set tree
-binds_before_any_use binds set tree b s multi = binds b.types b.defs b.expand b.rules b.term set b.elaborated b.built multi tree s.best
+binds_before_any_use binds set tree b s multi =
+    binds (program_of b.types b.defs b.rules.rules) b.term set (elaborated_programs_are_well_typed_lem b.types b.defs b.expand b.rules b.elaborated) b.built multi tree s.best

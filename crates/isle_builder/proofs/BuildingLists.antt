@@ -10,7 +10,6 @@ use Rattle.isle_model.specs.claims.Environments.{TypesRead, IsElaborated, progra
 use Rattle.isle_model.specs.claims.Layers.{BuildAnswers}
 use Rattle.isle_model.specs.claims.Refusals.{refusal_of}
 use Rattle.isle_model.specs.lists.Elaborated.{TypedRules}
-use Rattle.isle_model.specs.lists.Formed.{RulesAreFormed}
 use Rattle.isle_model.specs.lists.Syntax.{Definition}
 use Rattle.isle_model.specs.lists.Tables.{TermEntry}
 use Rattle.isle_model.specs.rules.Program.{Program}
@@ -19,14 +18,13 @@ use Rattle.isle_model.specs.sites.Limits.{sites_after_rules}
 use Rattle.isle_model.specs.sites.Overlap.{build_reports}
 use Rattle.isle_model.specs.sites.RuleSets.{StandFor}
 use Rattle.isle_model.specs.sites.Sites.{SiteSet}
-use Rattle.isle_model.proofs.Elements.{in_slice, none_some}
+use Rattle.isle_model.proofs.Elements.{contains_from_in, in_slice, none_some}
 use Rattle.isle_model.proofs.Positions.{distinct_nil}
 use Rattle.isle_laws_demands.specs.RuleByRule.{AreBuiltSoFar, BuiltSetsAreAnswered, GoesPast, of_one_term, or_nothing_built}
 use Rattle.isle_laws_demands.proofs.building.SetsSoFar.{building_ends_lem, building_goes_on_lem, building_starts_lem, stands}
-use Rattle.isle_laws_demands.proofs.overlaps.Judged.{elaborated_rules_have_terms_lem}
-use Rattle.isle_laws_demands.proofs.visits.Elaborated.{elaborated_rules_hang}
+use Rattle.isle_laws_demands.proofs.overlaps.Judged.{well_typed_rules_have_terms_lem}
 use Rattle.isle_laws_demands.proofs.visits.Once.{once_after}
-use Rattle.isle_laws_lists.specs.TypingLaws.{ListsAgree}
+use Rattle.isle_laws_lists.specs.WellTypedPrograms.{ElaboratedProgramsAreWellTyped}
 use Rattle.isle_base.specs.declared.syntax.Error.{Error}
 use Rattle.isle_types.specs.declared.ids.TermId.{TermId}
 use Rattle.isle_terms.specs.TermViews.{term_views}
@@ -90,11 +88,11 @@ module _ (e : TypesRead) (defs : List Definition) (expand : Bool) (rules : Typed
   whole = program_of e defs rules.rules
 
   -- its next rule may be read
-  pub may_go_on : RulesAreFormed → ListsAgree → (i : ℕ) (r : Rule) (sets : BTreeMap ℕ TermSet) (errors : List Error) → slice_get (rule_views env.rules.items) i ≡ Some (rule_view r)
+  pub may_go_on : ElaboratedProgramsAreWellTyped → (i : ℕ) (r : Rule) (sets : BTreeMap ℕ TermSet) (errors : List Error) → slice_get (rule_views env.rules.items) i ≡ Some (rule_view r)
       → StandAfter whole (take i rules.rules) sets errors → MayGoOn (term_views env.terms.items) (rule_view r) whole (take i rules.rules) sets errors
-  may_go_on formed agree i r sets errors at s = record {
+  may_go_on typed i r sets errors at s = record {
     terms = sym shown.terms;
-    formed = (elaborated_rules_hang formed agree e defs expand rules h (rule_view r) (in_slice rules.rules i (rule_view r) (ap (λ l. slice_get l i) (sym shown.rules) ∙ at))).0;
+    formed = ((typed e defs expand rules h).rules (rule_view r) (contains_from_in rules.rules (rule_view r) (in_slice rules.rules i (rule_view r) (ap (λ l. slice_get l i) (sym shown.rules) ∙ at)))).formed;
     stand = s;
   }
 
@@ -110,15 +108,15 @@ module _ (e : TypesRead) (defs : List Definition) (expand : Bool) (rules : Typed
       subst (λ done. StandAfter whole done sets errors) (take_all i rules.rules (omega (arith, same, past))) s
 
   -- after the last, all is built
-  pub all_built : BuiltSetsAreAnswered → (sets : BTreeMap ℕ TermSet) (errors : List Error) (listed : List (TermId × RuleSet)) → IsOrdered nat_cmp sets
+  pub all_built : ElaboratedProgramsAreWellTyped → BuiltSetsAreAnswered → (sets : BTreeMap ℕ TermSet) (errors : List Error) (listed : List (TermId × RuleSet)) → IsOrdered nat_cmp sets
       → term_set_views listed ≡ sets_so_far sets.entries → StandAfter whole rules.rules sets errors → WereBuilt env whole listed errors (build_reports whole)
-  all_built answered sets errors listed ordered same s =
+  all_built typed answered sets errors listed ordered same s =
       let views = sets_so_far sets.entries in
-      let known = elaborated_rules_have_terms_lem e defs expand rules h in
+      let known = well_typed_rules_have_terms_lem whole (typed e defs expand rules h) in
       let built = building_ends_lem whole (set_at sets) views s.reports s.built (looked_up sets ordered) in
       record {
         terms = sym shown.terms;
         known = known;
-        answers = subst (λ v. BuildAnswers whole v (build_reports whole)) (sym same) (answered e defs expand rules views h (terms_listed sets ordered whole known s.built.terms) built.0);
+        answers = subst (λ v. BuildAnswers whole v (build_reports whole)) (sym same) (answered whole views (typed e defs expand rules h) (terms_listed sets ordered whole known s.built.terms) built.0);
         errors_are = s.reported ∙ ap report_views built.1;
       }

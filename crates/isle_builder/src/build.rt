@@ -17,7 +17,7 @@ ghost use Rattle.isle_builder.specs.Built.{IsOfElaborated, ShowsElaborated, Were
 
 use isle_base::syntax::Error;
 use isle_laws_demands::built_sets_are_answered;
-use isle_laws_lists::{lists_agree, rules_are_formed};
+use isle_laws_lists::elaborated_programs_are_well_typed;
 use isle_rules::TermEnv;
 use isle_sets::trie_again::RuleSet;
 use isle_term_sets::TermSet;
@@ -46,8 +46,7 @@ pub fn build(
     ensures single { IfOk result (λ b. All HasSingleSpans b.1.items) }
 {
     // laws, without code: what building asks of elaborated rules, and what its sets are
-    rules_are_formed();
-    lists_agree();
+    elaborated_programs_are_well_typed();
     built_sets_are_answered();
     let mut sets = BTreeMap::new(alloc);
     let mut errors = Vec::new(alloc);

@@ -9,16 +9,13 @@ use Rattle.isle_model.specs.rules.Program.{terms_with_rules}
 use Rattle.isle_model.specs.sites.Overlap.{build_reports}
 use Rattle.isle_model.specs.sites.RuleSets.{IsBuilt}
 use Rattle.isle_model.specs.sites.Sites.{SiteSet}
-use Rattle.isle_laws_lists.proofs.FormedRules.{rules_are_formed}
-use Rattle.isle_laws_lists.proofs.TypedRules.{lists_agree}
-use Rattle.isle_laws_demands.specs.BuiltLaws.{BuiltDemandsAreWhole}
 use Rattle.isle_laws_demands.proofs.building.Answered.{built_sets_are_answered_lem}
 use Rattle.isle_laws_demands.proofs.matching.BuiltMatches.{built_sets_match_by_demands_lem}
 use Rattle.isle_laws_demands.proofs.matching.ToldApart.{built_rules_are_told_apart_lem}
 use Rattle.isle_laws_demands.proofs.outcomes.Outcomes.{taken_lem, taken_under_picks_lem}
 use Rattle.isle_laws_demands.proofs.results.Held.{results_are_held_lem}
 use Rattle.isle_laws_demands.proofs.taken.NumbersInRange.{built_sets_have_numbers_in_range_lem}
-use Rattle.isle_laws_demands.proofs.visits.Elaborated.{elaborated_rules_demand_gates_lem}
+use Rattle.isle_laws_lists.proofs.WellTypedRules.{elaborated_programs_are_well_typed_lem}
 use Rattle.isle_laws_demands.proofs.visits.Served.{can_be_served_lem}
 use Rattle.isle_laws_demands.proofs.visits.WholeDemands.{built_demands_are_whole_lem}
 use Rattle.isle_examples.proofs.ReadLists.{left_over_read}
@@ -28,21 +25,18 @@ use Rattle.isle_examples.specs.Answered.{ExtractIsAnswered, LeftOverIsAnswered}
 use Rattle.isle_examples.specs.Extract.{extract_defs, extract_rules, extract_set}
 use Rattle.isle_examples.specs.LeftOver.{left_over_defs, left_over_rules, left_over_set}
 
-whole : BuiltDemandsAreWhole
-whole = built_demands_are_whole_lem rules_are_formed lists_agree
-
 -- of a list with one term with rules
 answered : (defs : List Definition) (rules : TypedRules) (t : ℕ) (set : SiteSet) → IsElaborated (types_read defs) defs true rules → t ∷ [] ≡ terms_with_rules (own_program defs rules)
     → IsBuilt (own_program defs rules) t set → BuildAnswers (own_program defs rules) ((t, set) ∷ []) (build_reports (own_program defs rules))
 answered defs rules t set h terms built =
-    built_sets_are_answered_lem whole (can_be_served_lem rules_are_formed lists_agree (elaborated_rules_demand_gates_lem rules_are_formed lists_agree)) built_sets_have_numbers_in_range_lem
-    (λ e ds expand rs u s a b. record {
-      match = built_sets_match_by_demands_lem whole e ds expand rs u s a b;
-      outcome = taken_lem e ds expand rs u s a b;
-      outcome_under_picks = taken_under_picks_lem e ds expand rs u s a b;
-      results = results_are_held_lem e ds expand rs u s a b;
+    built_sets_are_answered_lem built_demands_are_whole_lem can_be_served_lem built_sets_have_numbers_in_range_lem
+    (λ p u s a b. record {
+      match = built_sets_match_by_demands_lem built_demands_are_whole_lem p u s a b;
+      outcome = taken_lem p u s a b;
+      outcome_under_picks = taken_under_picks_lem p u s a b;
+      results = results_are_held_lem p u s a b;
     })
-    (built_rules_are_told_apart_lem whole) (types_read defs) defs true rules ((t, set) ∷ []) h terms
+    (built_rules_are_told_apart_lem built_demands_are_whole_lem) (own_program defs rules) ((t, set) ∷ []) (elaborated_programs_are_well_typed_lem (types_read defs) defs true rules h) terms
     (All-cons (λ (s : ℕ × SiteSet). IsBuilt (own_program defs rules) s.0 s.1) (t, set) [] built (All-nil (λ (s : ℕ × SiteSet). IsBuilt (own_program defs rules) s.0 s.1)))
 
 pub extract_is_answered : ExtractIsAnswered

@@ -1,15 +1,13 @@
 -- The term of the sample with an extractor isn't multi, so the laws of choice apply.
-use Rattle.std.proofs.Common.{pos, true, refl}
-use Rattle.isle_model.specs.claims.Environments.{types_read}
+use Rattle.std.proofs.Common.{pos, refl}
 use Rattle.isle_model.specs.claims.Headline.{RunsAsChosen}
-use Rattle.isle_laws_lists.proofs.FormedRules.{rules_are_formed}
-use Rattle.isle_laws_lists.proofs.TypedRules.{lists_agree}
+use Rattle.isle_model.specs.claims.Layers.{own_program}
+use Rattle.isle_laws_lists.proofs.WellTypedRules.{read_programs_are_well_typed}
 use Rattle.isle_laws_demands.proofs.matching.BuiltMatches.{built_sets_match_by_demands_lem}
 use Rattle.isle_laws_demands.proofs.matching.NoMulti.{rules_without_multi_go_over_no_calls_lem}
 use Rattle.isle_laws_demands.proofs.matching.ToldApart.{built_rules_are_told_apart_lem}
 use Rattle.isle_laws_demands.proofs.outcomes.Outcomes.{taken_lem}
 use Rattle.isle_laws_demands.proofs.taken.ServesRuns.{served_sets_serve_tests_lem}
-use Rattle.isle_laws_demands.proofs.visits.Elaborated.{elaborated_rules_demand_gates_lem}
 use Rattle.isle_laws_demands.proofs.visits.Sets.{built_sets_are_tested_lem, built_sets_are_well_built_lem}
 use Rattle.isle_laws_demands.proofs.visits.WholeDemands.{built_demands_are_whole_lem}
 use Rattle.isle_laws_trees.proofs.Soundness.{best_trees_are_sound_lem}
@@ -25,12 +23,11 @@ extract_is_without_multi = (refl, refl)
 
 laws : ChoosingLaws
 laws =
-    let gates = elaborated_rules_demand_gates_lem rules_are_formed lists_agree in
-    let whole = built_demands_are_whole_lem rules_are_formed lists_agree in
+    let whole = built_demands_are_whole_lem in
     record {
-      tested = built_sets_are_tested_lem gates;
+      tested = built_sets_are_tested_lem;
       serve = served_sets_serve_tests_lem;
-      sound = λ e defs expand rules t set multi tree h b none one best. best_trees_are_sound_lem set multi tree (built_sets_are_well_built_lem gates e defs expand rules t set h b none) one best;
+      sound = λ p t set h b multi tree none one best. best_trees_are_sound_lem set multi tree (built_sets_are_well_built_lem p t set h b none) one best;
       match = built_sets_match_by_demands_lem whole;
       apart = built_rules_are_told_apart_lem whole;
       no_calls = rules_without_multi_go_over_no_calls_lem;
@@ -39,12 +36,12 @@ laws =
 
 runs : RunsAsChosen extract_program 1 extract_set.sites extract_tree
 runs =
-    best_trees_run_as_chosen_lem laws (types_read extract_defs) extract_defs true extract_rules 1 extract_set extract_stages.accepted.0.read.elaborated extract_stages.built.0 extract_stages.accepted.0.checkable extract_tree
+    best_trees_run_as_chosen_lem laws (own_program extract_defs extract_rules) 1 extract_set (read_programs_are_well_typed extract_stages.accepted.0.read) extract_stages.built.0 extract_stages.accepted.0.checkable extract_tree
     extract_stages.judged.best
 
 pub extract_is_chosen : ExtractIsChosen
 extract_is_chosen = (
-  rules_without_multi_go_over_no_calls_lem (types_read extract_defs) extract_defs true extract_rules 1 extract_stages.accepted.0.read.elaborated extract_is_without_multi.0,
+  rules_without_multi_go_over_no_calls_lem (own_program extract_defs extract_rules) 1 (read_programs_are_well_typed extract_stages.accepted.0.read) extract_is_without_multi.0,
   runs,
   (runs extract_is_without_multi.0 (extract_meaning (just_number (pos 1))) (given (pos 7)) extract_is_without_multi.1 extract_served.0 (extract_served.3 (just_number (pos 1)))).1,
 )

@@ -29,33 +29,40 @@ x_bound : (n : ℕ) → (q : TypedPattern) × ElaboratesPattern (template_settin
 x_bound zero = (_, new_name refl)
 x_bound (suc n) = let r = x_bound n in let u = x_used n in (_, a_template refl refl refl refl (all_of (one_more r.1 (one_more u.1 no_more))))
 
-any_one : (q : TypedPattern) × ElaboratesPattern (template_setting twice 3) false 256 (any 3) u8 after_x q after_x 0
-any_one = (_, anything)
+-- a pattern that is elaborated from these names on, after which x is bound, and how many expansions it takes
+record Expanded (from : Scope) : Type 0 where
+  pattern : PatternTree
+  count : ℕ
+  typed : TypedPattern
+  made : ElaboratesPattern (template_setting twice 3) false 256 pattern u8 from typed after_x count
 
-first_one : (n : ℕ) → n ≤ 256 → (q : TypedPattern) × ElaboratesPattern (template_setting twice 3) false 256 (nested_uses n) u8 start q after_x (doubled n)
-first_one n h = let r = x_bound n in let i : (256 - n) + n ≡ 256 = omega arith in (r.0, raised (template_setting twice 3) false (256 - n) i r.1)
+abbrev any_one : Expanded after_x
+any_one = record { pattern = any 3; count = 0; typed = _; made = anything }
+
+abbrev first_one : (n : ℕ) → n ≤ 256 → Expanded start
+first_one n h =
+    let r = x_bound n in
+    let i : (256 - n) + n ≡ 256 = omega arith in
+    record { pattern = nested_uses n; count = doubled n; typed = r.0; made = raised (template_setting twice 3) false (256 - n) i r.1 }
 
 -- the whole rule
-module _ (p q r : PatternTree) (i j k : ℕ)
-    (a : (t : TypedPattern) × ElaboratesPattern (template_setting twice 3) false 256 p u8 start t after_x i)
-    (b : (t : TypedPattern) × ElaboratesPattern (template_setting twice 3) false 256 q u8 after_x t after_x j)
-    (c : (t : TypedPattern) × ElaboratesPattern (template_setting twice 3) false 256 r u8 after_x t after_x k) where
+module _ (a : Expanded start) (b c : Expanded after_x) where
   total : ℕ
-  total = (i + (j + (k + 0))) + (0 + 0)
+  total = (a.count + (b.count + (c.count + 0))) + (0 + 0)
 
-  whole : (t : TypedRule) × (s : Scope) × (elaborated_rule (template_setting twice 3) 256 0 (rule_tree 3 (of_f 3 (p ∷ q ∷ r ∷ [])) (number 3 (pos 1))) start.names ≡ Some (typing t s total))
+  whole : (t : TypedRule) × (s : Scope) × (elaborated_rule (template_setting twice 3) 256 0 (rule_tree 3 (of_f 3 (a.pattern ∷ b.pattern ∷ c.pattern ∷ [])) (number 3 (pos 1))) start.names ≡ Some (typing t s total))
   unfolding total
   whole = (
     _,
     _,
-    (rules_agree (template_setting twice 3) 256 0 (rule_tree 3 (of_f 3 (p ∷ q ∷ r ∷ [])) (number 3 (pos 1))) start.names _ _ total).0
-        (a_rule refl refl refl refl (part a.1 (part b.1 (part c.1 no_part))) no_iflet (integer_expr refl)),
+    (rules_agree (template_setting twice 3) 256 0 (rule_tree 3 (of_f 3 (a.pattern ∷ b.pattern ∷ c.pattern ∷ [])) (number 3 (pos 1))) start.names _ _ total).0
+        (a_rule refl refl refl refl (part a.made (part b.made (part c.made no_part))) no_iflet (integer_expr refl)),
   )
 
-  within : total ≤ 65536 → expansions_of p q r ≡ Some total
+  within : total ≤ 65536 → expansions_of a.pattern b.pattern c.pattern ≡ Some total
   within h = rw (whole.2, le-leb total 65536 h) refl
 
-  past : 65536 < total → expansions_of p q r ≡ None
+  past : 65536 < total → expansions_of a.pattern b.pattern c.pattern ≡ None
   past h = rw (whole.2, lt-leb total 65536 h) refl
 
 grows : (k n : ℕ) → doubled n ≤ doubled (k + n)
@@ -75,10 +82,10 @@ nested_uses_double = record {
       let small : doubled n ≤ 65535 = subst (λ m. doubled n ≤ doubled m) i g in
       let few : (doubled n + (0 + (0 + 0))) + (0 + 0) ≤ 65536 = omega (arith, small) in
       let same : (doubled n + (0 + (0 + 0))) + (0 + 0) ≡ doubled n = omega arith in
-      within (nested_uses n) (any 3) (any 3) (doubled n) 0 0 (first_one n l) any_one any_one few ∙ ap Some same;
+      within (first_one n l) any_one any_one few ∙ ap Some same;
   most = refl;
   past =
       let l : 17 ≤ 256 = omega arith in
       let many : 65536 < (131071 + (0 + (0 + 0))) + (0 + 0) = omega arith in
-      past (nested_uses 17) (any 3) (any 3) 131071 0 0 (first_one 17 l) any_one any_one many;
+      past (first_one 17 l) any_one any_one many;
 }

@@ -1,12 +1,13 @@
 -- The sample with an impure call is served on 1, and taking its rule gives its right side's outcome.
 use Rattle.std.proofs.Common.{◌≡◌, [], ℕ, pos, zero, suc, true, IsTrue, IsSomeAnd, refl}
 use Rattle.std.proofs.lemmas.Bool.{false≢true}
-use Rattle.isle_model.specs.claims.Environments.{types_read}
 use Rattle.isle_model.specs.rules.Meaning.{impure_answer}
 use Rattle.isle_model.specs.rules.Program.{kind, rules_of}
 use Rattle.isle_model.specs.sites.Overlap.{built_rule}
 use Rattle.isle_model.specs.sites.Serves.{Serves, TellsConstantsApart, fits_constructor}
 use Rattle.isle_model.specs.sites.Sites.{SiteTerms, constructor_call}
+use Rattle.isle_model.specs.claims.Layers.{own_program}
+use Rattle.isle_laws_lists.proofs.WellTypedRules.{read_programs_are_well_typed}
 use Rattle.isle_laws_demands.proofs.outcomes.Outcomes.{taken_lem}
 use Rattle.isle_laws_demands.proofs.taken.ServesRuns.{served_sets_serve_tests_lem}
 use Rattle.isle_examples.proofs.Impure.{impure_is_called}
@@ -24,7 +25,7 @@ five_answered _ _ ss h = absurd (false≢true h)
 
 serves : Serves impure_program five_at_first (given (pos 1)) (rules_of impure_program 1)
 serves =
-    serves_from impure_program five_at_first (given (pos 1)) (rules_of impure_program 1) call_of_g refl refl
+    serves_from impure_program five_at_first call_of_g (given (pos 1)) (rules_of impure_program 1) refl refl
     (λ k t s w h holds. absurd (false≢true h)) (λ k t ss vs h holds. absurd (pure_none t ss h)) (λ k r t before ss i matched made h gave. five_answered t before ss h)
 
 apart : TellsConstantsApart impure_program five_at_first (rules_of impure_program 1)
@@ -35,7 +36,7 @@ impure_is_served = (
   serves,
   apart,
   tested impure_defs impure_rules 1 impure_set impure_stages.accepted impure_stages.built refl refl,
-  served_sets_serve_tests_lem (types_read impure_defs) impure_defs true impure_rules 1 impure_set impure_stages.accepted.0.read.elaborated impure_stages.built.0 five_at_first (given (pos 1)) refl serves apart,
+  served_sets_serve_tests_lem (own_program impure_defs impure_rules) 1 impure_set (read_programs_are_well_typed impure_stages.accepted.0.read) impure_stages.built.0 five_at_first (given (pos 1)) refl serves apart,
 )
 
 pub impure_is_taken : ImpureIsTaken
@@ -43,6 +44,6 @@ impure_is_taken =
     let taken = impure_is_called.can_be_taken five_at_first (v (pos 1)) in (
       taken,
       λ e matched.
-          taken_lem (types_read impure_defs) impure_defs true impure_rules 1 impure_set impure_stages.accepted.0.read.elaborated impure_stages.built.0 five_at_first (given (pos 1)) refl serves apart
+          taken_lem (own_program impure_defs impure_rules) 1 impure_set (read_programs_are_well_typed impure_stages.accepted.0.read) impure_stages.built.0 five_at_first (given (pos 1)) refl serves apart
           (built_rule impure_program [] impure_rule) call_on_argument e five_called (record { place = 0; typed = refl; built = refl }) refl matched taken,
     )

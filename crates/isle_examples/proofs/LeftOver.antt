@@ -6,7 +6,6 @@ use Rattle.std.proofs.lemmas.List.Elements.{All-cons, All-nil}
 use Rattle.std.proofs.lemmas.List.Sorted.{IsPermutation-refl}
 use Rattle.std.proofs.lemmas.Option.{none-some}
 use Rattle.isle_model.proofs.Members.{in_alone, in_cases}
-use Rattle.isle_model.specs.claims.Environments.{types_read}
 use Rattle.isle_model.specs.rules.Matching.{matches}
 use Rattle.isle_model.specs.rules.Meaning.{pure_answer}
 use Rattle.isle_model.specs.rules.Outcome.{then_option}
@@ -19,6 +18,8 @@ use Rattle.isle_model.specs.sites.Serves.{Serves, TellsConstantsApart, fits_cons
 use Rattle.isle_model.specs.sites.Sites.{SetRule, SiteTerm, SiteTerms, constructor_call, constructor_site, extractor_call, no_site_term, site_term_and}
 use Rattle.isle_model.specs.trees.Collects.{content_at}
 use Rattle.isle_model.specs.trees.Run.{as_value}
+use Rattle.isle_model.specs.claims.Layers.{own_program}
+use Rattle.isle_laws_lists.proofs.WellTypedRules.{read_programs_are_well_typed}
 use Rattle.isle_laws_demands.proofs.served.ServesSets.{served_multi_sets_serve_lem}
 use Rattle.isle_examples.proofs.ReadLists.{left_over_read}
 use Rattle.isle_examples.proofs.Served.{literals_apart, serves_from}
@@ -69,7 +70,7 @@ none_called r t before ss i matched made =
 
 serves : Serves left_over_program left_over_meaning (given (pos 7)) left_over_rules.rules
 serves =
-    serves_from left_over_program left_over_meaning (given (pos 7)) left_over_rules.rules left_over_call refl refl
+    serves_from left_over_program left_over_meaning left_over_call (given (pos 7)) left_over_rules.rules refl refl
     (λ k t s w h holds. absurd (false≢true h)) pures (λ k r t before ss i matched made h gave. absurd (none_called r t before ss i matched made))
 
 tells_apart : TellsConstantsApart left_over_program left_over_meaning left_over_rules.rules
@@ -82,7 +83,7 @@ left_over_is_served = (serves, tells_apart)
 pub left_over_is_collected : LeftOverIsCollected
 left_over_is_collected = (
   collected left_over_set refl refl,
-  served_multi_sets_serve_lem (types_read left_over_defs) left_over_defs true left_over_rules 2 left_over_set left_over_read.0.elaborated left_over_built.0
+  served_multi_sets_serve_lem (own_program left_over_defs left_over_rules) 2 left_over_set (read_programs_are_well_typed left_over_read.0) left_over_built.0
       (All-cons (λ (r : SetRule). r.impure ≡ []) kept_rule [] refl (All-nil (λ (r : SetRule). r.impure ≡ [])))
       left_over_meaning (given (pos 7)) refl serves tells_apart,
 )

@@ -24,28 +24,35 @@ pub record HoldsThere (w : World) (k : Pick) (env : Env) (c : Content) (s : ℕ)
 abbrev pub emitted_there : ℕ → Type 0
 emitted_there s = IsTrue (is_in s in_loop.emitted)
 
-module _ (w : World) (k : Pick) (answers first : Content) (call : HoldsThere w k (loop_env answers first) answers 1) (answer : HoldsThere w k (loop_env answers first) first 2) where
+-- the list that the loop's call answers, and the answer that the loop brought, as they are held there
+pub record InLoop (w : World) (k : Pick) : Type 0 where
+  pub answers : Content
+  pub first : Content
+  pub call : HoldsThere w k (loop_env answers first) answers 1
+  pub answer : HoldsThere w k (loop_env answers first) first 2
+
+module _ (w : World) (k : Pick) (at : InLoop w k) where
   abbrev Held : ℕ → Type 0
-  Held s = (IsTrue (is_some (content_at w k s)) × (used w (loop_env answers first) s ≡ content_at w k s)) × All (IsPureAt w.sites) (all_below w.sites (s ∷ []))
+  Held s = (IsTrue (is_some (content_at w k s)) × (used w (loop_env at.answers at.first) s ≡ content_at w k s)) × All (IsPureAt w.sites) (all_below w.sites (s ∷ []))
 
   held : (s : ℕ) → emitted_there s → Held s
   held s h = split (2 == s) (1 == s) refl refl h
     where
       split : (a b : Bool) → (2 == s) ≡ a → (1 == s) ≡ b → (a || (b || false)) ≡ true → Held s
-      split true b e f t = subst Held (eqb-true 2 s e) ((subst (λ o. IsTrue (is_some o)) (sym answer.content) refl, answer.as_used), answer.pure)
-      split false true e f t = subst Held (eqb-true 1 s f) ((subst (λ o. IsTrue (is_some o)) (sym call.content) refl, call.as_used), call.pure)
+      split true b e f t = subst Held (eqb-true 2 s e) ((subst (λ o. IsTrue (is_some o)) (sym at.answer.content) refl, at.answer.as_used), at.answer.pure)
+      split false true e f t = subst Held (eqb-true 1 s f) ((subst (λ o. IsTrue (is_some o)) (sym at.call.content) refl, at.call.as_used), at.call.pure)
       split false false e f t = absurd (false≢true t)
 
   abbrev BoundAsHeld : Content → ℕ → Type 0
   BoundAsHeld c s = emitted_there s × (content_at w k s ≡ Some c)
 
-  bound_holds : (s : ℕ) (c : Content) → bound_to (loop_env answers first) s ≡ Some c → BoundAsHeld c s
+  bound_holds : (s : ℕ) (c : Content) → bound_to (loop_env at.answers at.first) s ≡ Some c → BoundAsHeld c s
   bound_holds s c h = split (2 == s) (1 == s) refl refl h
     where
-      split : (a b : Bool) → (2 == s) ≡ a → (1 == s) ≡ b → (if a then Some first else (if b then Some answers else None)) ≡ Some c → BoundAsHeld c s
-      split true b e f t = subst (BoundAsHeld c) (eqb-true 2 s e) (refl, answer.content ∙ t)
-      split false true e f t = subst (BoundAsHeld c) (eqb-true 1 s f) (refl, call.content ∙ t)
+      split : (a b : Bool) → (2 == s) ≡ a → (1 == s) ≡ b → (if a then Some at.first else (if b then Some at.answers else None)) ≡ Some c → BoundAsHeld c s
+      split true b e f t = subst (BoundAsHeld c) (eqb-true 2 s e) (refl, at.answer.content ∙ t)
+      split false true e f t = subst (BoundAsHeld c) (eqb-true 1 s f) (refl, at.call.content ∙ t)
       split false false e f t = absurd (none-some c t)
 
-  pub reached_in_loop : IsReachedUnder w k in_loop (loop_env answers first)
+  pub reached_in_loop : IsReachedUnder w k in_loop (loop_env at.answers at.first)
   reached_in_loop = record { emitted = λ s h. (held s h).0; pure = λ s h. (held s h).1; bound = bound_holds }

@@ -15,27 +15,25 @@ use Rattle.isle_model.specs.trees.Collects.{HasCollectedResults, IsCollectedSet,
 use Rattle.isle_model.specs.trees.Places.{fields_of, joins_in, waits}
 use Rattle.isle_model.specs.trees.Run.{World, content_fields}
 use Rattle.isle_model.specs.trees.SetRuns.{IsReachedUnder, IsUnwrap}
-use Rattle.isle_model.specs.claims.Environments.{types_read}
 use Rattle.isle_model.specs.sites.Overlap.{built_rule}
-use Rattle.isle_laws_lists.proofs.FormedRules.{rules_are_formed}
-use Rattle.isle_laws_lists.proofs.TypedRules.{lists_agree}
+use Rattle.isle_model.specs.claims.Layers.{own_program}
+use Rattle.isle_laws_lists.proofs.WellTypedRules.{read_programs_are_well_typed}
 use Rattle.isle_laws_demands.proofs.matching.BuiltMatches.{built_sets_match_by_demands_lem}
 use Rattle.isle_laws_demands.proofs.outcomes.Outcomes.{taken_under_picks_lem}
 use Rattle.isle_laws_demands.proofs.results.Held.{results_are_held_lem}
 use Rattle.isle_laws_demands.proofs.served.ServesSets.{served_multi_sets_serve_lem}
 use Rattle.isle_laws_demands.proofs.visits.Collected.{are_collected_lem}
-use Rattle.isle_laws_demands.proofs.visits.Declared.{no_rule_asks_and_goes_over_lem}
-use Rattle.isle_laws_demands.proofs.visits.Elaborated.{elaborated_rules_demand_gates_lem}
+use Rattle.isle_laws_demands.proofs.visits.Apart.{no_rule_asks_and_goes_over_lem}
 use Rattle.isle_laws_demands.proofs.visits.Priorities.{one_priority_lem}
 use Rattle.isle_laws_demands.proofs.visits.WholeDemands.{built_demands_are_whole_lem}
-use Rattle.isle_laws_runs.proofs.runs.Collected.{sound_trees_collect_lem}
+use Rattle.isle_laws_runs.proofs.runs.Collection.{sound_trees_collect_lem}
 use Rattle.isle_laws_trees.proofs.headline.Collecting.{CollectingLaws, best_trees_collect_the_bag_lem}
 use Rattle.isle_examples.proofs.LoopPlaces.{emitted_there, in_loop, loop_env, reached_in_loop}
 use Rattle.isle_examples.proofs.Served.{multi_served}
 use Rattle.isle_examples.proofs.SampleStages.{multi_stages}
 use Rattle.isle_examples.proofs.SetStages.{collected}
 use Rattle.isle_examples.specs.MeaningForms.{all_of, answers, each, given, v}
-use Rattle.isle_laws_trees.proofs.binding.Judged.{binding_judge_is_exact_lem}
+use Rattle.isle_laws_trees.proofs.binding.BindingJudge.{binding_judge_is_exact_lem}
 use Rattle.isle_examples.proofs.Used.{does_not_bind}
 use Rattle.isle_examples.specs.Multi.{looped_with, LoopsMayBindAgain, MultiCollects, MultiIsCollected, MultiIsNot, MultiResultsAreHeld, MultiIsTaken, MultiSetCollects, MultiTakenGives, MultiTreeCollects, each_m, each_of_m, first_answer, multi_defs, multi_meaning, multi_program, multi_rules, multi_set, multi_tree, multi_world, nine, nine_for_one}
 
@@ -101,21 +99,21 @@ multi_set_collects = sound_trees_collect_lem multi_set multi_tree (multi_world (
 -- its best tree collects the bag
 pub laws : CollectingLaws
 laws = record {
-  collected = are_collected_lem rules_are_formed lists_agree (elaborated_rules_demand_gates_lem rules_are_formed lists_agree);
+  collected = are_collected_lem;
   serve = served_multi_sets_serve_lem;
-  one_priority = one_priority_lem rules_are_formed lists_agree;
+  one_priority = one_priority_lem;
   apart = no_rule_asks_and_goes_over_lem;
-  match = built_sets_match_by_demands_lem (built_demands_are_whole_lem rules_are_formed lists_agree);
+  match = built_sets_match_by_demands_lem built_demands_are_whole_lem;
   results = results_are_held_lem;
 }
 
 pub multi_tree_collects : MultiTreeCollects
 multi_tree_collects =
-    best_trees_collect_the_bag_lem laws (types_read multi_defs) multi_defs true multi_rules 1 multi_set multi_stages.accepted.0.read.elaborated multi_stages.built.0 multi_stages.accepted.0.checkable multi_tree multi_stages.judged.best
+    best_trees_collect_the_bag_lem laws (own_program multi_defs multi_rules) 1 multi_set (read_programs_are_well_typed multi_stages.accepted.0.read) multi_stages.built.0 multi_stages.accepted.0.checkable multi_tree multi_stages.judged.best
 
 pub multi_results_are_held : MultiResultsAreHeld
 multi_results_are_held k e pick matched =
-    results_are_held_lem (types_read multi_defs) multi_defs true multi_rules 1 multi_set multi_stages.accepted.0.read.elaborated multi_stages.built.0 multi_meaning (given (pos 1)) refl multi_served.0 multi_served.1
+    results_are_held_lem (own_program multi_defs multi_rules) 1 multi_set (read_programs_are_well_typed multi_stages.accepted.0.read) multi_stages.built.0 multi_meaning (given (pos 1)) refl multi_served.0 multi_served.1
     (built_rule multi_program [] each_m) each_of_m k e (record { place = 0; typed = refl; built = refl }) refl pick matched
 
 -- 3. what the run collects
@@ -165,8 +163,12 @@ below_call =
 
 in_the_loop : IsReachedUnder in_world first_answer in_loop (loop_env all_of_m (one (v (pos 4))))
 in_the_loop =
-    reached_in_loop in_world first_answer all_of_m (one (v (pos 4))) (record { content = refl; as_used = refl; pure = below_call })
-    (record { content = refl; as_used = refl; pure = All-cons (IsPureAt multi_set.sites) 2 (1 ∷ (0 ∷ [])) (iterator_site 1, refl, tt) below_call })
+    reached_in_loop in_world first_answer record {
+      answers = all_of_m;
+      first = one (v (pos 4));
+      call = record { content = refl; as_used = refl; pure = below_call };
+      answer = record { content = refl; as_used = refl; pure = All-cons (IsPureAt multi_set.sites) 2 (1 ∷ (0 ∷ [])) (iterator_site 1, refl, tt) below_call };
+    }
 
 -- what the return uses: the loop's site, which is emitted, and what never waits
 needed : (s : ℕ) → Contains (2 ∷ (1 ∷ (0 ∷ []))) s → (waits (slice_get multi_set.sites s) ≡ false) ⊎ IsUnwrap (slice_get multi_set.sites s) ⊎ emitted_there s
@@ -208,5 +210,5 @@ multi_is_taken = (
 
 pub multi_taken_gives : MultiTakenGives
 multi_taken_gives e matched =
-    taken_under_picks_lem (types_read multi_defs) multi_defs true multi_rules 1 multi_set multi_stages.accepted.0.read.elaborated multi_stages.built.0 multi_meaning (given (pos 1)) refl multi_served.0 multi_served.1
+    taken_under_picks_lem (own_program multi_defs multi_rules) 1 multi_set (read_programs_are_well_typed multi_stages.accepted.0.read) multi_stages.built.0 multi_meaning (given (pos 1)) refl multi_served.0 multi_served.1
     (built_rule multi_program [] each_m) each_of_m first_answer e (answers (pos 4)) (record { place = 0; typed = refl; built = refl }) refl multi_is_taken.0 matched multi_is_taken.2

@@ -66,6 +66,6 @@ none_impure t before ss h = by t ss h
 pub one_call_is_served : OneCallIsServed
 one_call_is_served = (
   refl,
-  serves_from calls_program calls_meaning (given (pos 1)) (pure_twice ∷ []) twice_called refl refl
+  serves_from calls_program calls_meaning twice_called (given (pos 1)) (pure_twice ∷ []) refl refl
       (λ k t s w h holds. absurd (false≢true h)) calls_answered (λ k r t before ss i matched made h gave. absurd (none_impure t before ss h)),
 )

@@ -1,8 +1,9 @@
 -- Two rules for different numbers: their set is served, and the demands of one alone hold.
-use Rattle.std.proofs.Common.{pos, true, refl}
-use Rattle.isle_model.specs.claims.Environments.{types_read}
+use Rattle.std.proofs.Common.{pos, refl}
 use Rattle.isle_model.specs.rules.Program.{rules_of}
 use Rattle.isle_model.specs.trees.SetRuns.{ServesTests}
+use Rattle.isle_model.specs.claims.Layers.{own_program}
+use Rattle.isle_laws_lists.proofs.WellTypedRules.{read_programs_are_well_typed}
 use Rattle.isle_laws_demands.proofs.taken.ServesRuns.{served_sets_serve_tests_lem}
 use Rattle.isle_laws_runs.proofs.runs.HoldsOnce.{rules_hold_once_lem}
 use Rattle.isle_examples.proofs.Mended.{overlaps_may_hold_twice_lem}
@@ -25,7 +26,7 @@ one_or_two_is_served =
 
 tests : ServesTests one_or_two_set one_or_two_world
 tests =
-    served_sets_serve_tests_lem (types_read one_or_two_defs) one_or_two_defs true one_or_two_rules 0 one_or_two_set one_or_two_stages.accepted.0.read.elaborated one_or_two_stages.built.0 one_or_two_world.meaning (given (pos 1)) refl
+    served_sets_serve_tests_lem (own_program one_or_two_defs one_or_two_rules) 0 one_or_two_set (read_programs_are_well_typed one_or_two_stages.accepted.0.read) one_or_two_stages.built.0 one_or_two_world.meaning (given (pos 1)) refl
     one_or_two_is_served.0 one_or_two_is_served.1
 
 pub one_or_two_holds_once : OneOrTwoHoldsOnce

@@ -4,11 +4,11 @@ use Rattle.isle_model.proofs.Members.{in_alone, nothing_in}
 use Rattle.isle_model.proofs.SameSites.{term_means}
 use Rattle.isle_model.specs.sites.Demands.{site_term_eq}
 use Rattle.isle_model.specs.sites.Sites.{SiteTerm}
-use Rattle.isle_laws_runs.specs.Exact.{GiveSamePlaces}
+use Rattle.isle_laws_runs.specs.PickLaws.{GiveSamePlaces}
 use Rattle.isle_laws_runs.specs.Orders.{IsOfPlaces}
-use Rattle.isle_laws_runs.proofs.picks.Enumerated.{picks_are_exact_lem}
+use Rattle.isle_laws_runs.proofs.picks.PickLists.{picks_are_exact_lem}
 use Rattle.isle_laws_runs.proofs.picks.FirstCall.{calls_can_come_first_lem, results_are_of_places_lem}
-use Rattle.isle_laws_runs.proofs.picks.SamePlaces.{content_same, ends_same, matching_same}
+use Rattle.isle_laws_runs.proofs.picks.SamePlaces.{only_places_matter_lem}
 use Rattle.isle_examples.specs.MeaningForms.{given}
 use Rattle.isle_examples.specs.MultiCalls.{calls_meaning, calls_program, impure_twice}
 use Rattle.isle_examples.specs.PickOrders.{MayComeFirst, OrderDoesNotMatter, OuterCallDoesNot, ResultIsOfPlaces, SecondCallComesFirst, first_of_w, in_visit_order, inner_of_m, results_on_one, second_of_w, turned_round}
@@ -34,11 +34,7 @@ order_does_not_matter = (
   (1, omega arith, refl),
   λ c. two_calls (sym (first_calls second_of_w first_of_w (first_of_w ∷ []) (second_of_w ∷ []) ((picks_are_exact_lem calls_program calls_meaning (given (pos 1)) impure_twice).only turned_round c).calls)),
   same_places,
-  record {
-    contents = λ s. content_same calls_meaning in_visit_order turned_round same_places (given (pos 1)) s;
-    matching = matching_same calls_program calls_meaning in_visit_order turned_round same_places impure_twice (given (pos 1));
-    ends = λ e. ends_same calls_program calls_meaning in_visit_order turned_round same_places impure_twice e;
-  },
+  only_places_matter_lem calls_program calls_meaning (given (pos 1)) impure_twice in_visit_order turned_round same_places,
 )
 
 of_places : IsOfPlaces (results_on_one impure_twice)

@@ -1,7 +1,6 @@
 -- A rule that goes over a call and constrains its answers: it is served, and its tree collects the bag.
 use Rattle.std.proofs.Common.{◌≡◌, [], ℕ, pos, zero, Bool, true, false, Some, IsTrue, IsSomeAnd, refl, arith}
 use Rattle.std.proofs.lemmas.Bool.{false≢true}
-use Rattle.isle_model.specs.claims.Environments.{types_read}
 use Rattle.isle_model.specs.rules.Meaning.{extractor_answer, one}
 use Rattle.isle_model.specs.rules.Picks.{Pick, site_content}
 use Rattle.isle_model.specs.rules.Program.{kind, rules_of}
@@ -9,8 +8,8 @@ use Rattle.isle_model.specs.rules.Values.{Value}
 use Rattle.isle_model.specs.sites.Overlap.{built_rule}
 use Rattle.isle_model.specs.sites.Serves.{fits_extractor}
 use Rattle.isle_model.specs.sites.Sites.{SiteTerm, argument, constructor_call, extractor_call}
-use Rattle.isle_laws_lists.proofs.FormedRules.{rules_are_formed}
-use Rattle.isle_laws_lists.proofs.TypedRules.{lists_agree}
+use Rattle.isle_model.specs.claims.Layers.{own_program}
+use Rattle.isle_laws_lists.proofs.WellTypedRules.{read_programs_are_well_typed}
 use Rattle.isle_laws_demands.proofs.matching.BuiltMatches.{built_sets_match_by_demands_lem}
 use Rattle.isle_laws_demands.proofs.visits.WholeDemands.{built_demands_are_whole_lem}
 use Rattle.isle_laws_trees.proofs.headline.Collecting.{best_trees_collect_the_bag_lem}
@@ -37,7 +36,7 @@ answered k _ _ w h holds = absurd (false≢true h)
 
 pub picked_number_is_served : PickedNumberIsServed
 picked_number_is_served = (
-  serves_from picked_number_program one_and_five (given (pos 1)) (rules_of picked_number_program 1) call_of_me refl refl
+  serves_from picked_number_program one_and_five call_of_me (given (pos 1)) (rules_of picked_number_program 1) refl refl
       answered (λ k t ss vs h holds. absurd (false≢true h)) (λ k r t before ss i matched made h gave. absurd (false≢true h)),
   literals_apart picked_number_program one_and_five (rules_of picked_number_program 1) refl refl,
   record { no_calls = refl; no_call_unused = refl },
@@ -48,7 +47,7 @@ picked_number_gives = (
   refl,
   refl,
   refl,
-  best_trees_collect_the_bag_lem laws (types_read picked_number_defs) picked_number_defs true picked_number_rules 1 picked_number_set picked_number_stages.accepted.0.read.elaborated picked_number_stages.built.0
+  best_trees_collect_the_bag_lem laws (own_program picked_number_defs picked_number_rules) 1 picked_number_set (read_programs_are_well_typed picked_number_stages.accepted.0.read) picked_number_stages.built.0
       picked_number_stages.accepted.0.checkable picked_number_tree picked_number_stages.judged.best,
 )
 
@@ -56,7 +55,7 @@ pub fives_are_not_matched : FivesAreNotMatched
 fives_are_not_matched = (
   (1, omega arith, refl),
   refl,
-  built_sets_match_by_demands_lem (built_demands_are_whole_lem rules_are_formed lists_agree) (types_read picked_number_defs) picked_number_defs true picked_number_rules 1 picked_number_set
-      picked_number_stages.accepted.0.read.elaborated picked_number_stages.built.0 one_and_five (given (pos 1)) refl picked_number_is_served.0 picked_number_is_served.1
+  built_sets_match_by_demands_lem built_demands_are_whole_lem (own_program picked_number_defs picked_number_rules) 1 picked_number_set
+      (read_programs_are_well_typed picked_number_stages.accepted.0.read) picked_number_stages.built.0 one_and_five (given (pos 1)) refl picked_number_is_served.0 picked_number_is_served.1
       (built_rule picked_number_program [] picked_number_rule) seven_for_one (the_answer 1) (record { place = 0; typed = refl; built = refl }) (1, omega arith, refl),
 )

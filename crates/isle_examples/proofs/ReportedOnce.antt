@@ -2,12 +2,13 @@
 use Rattle.std.proofs.Common.{◌≡◌, ◌∷◌, [], ◌∙◌, zero, suc, true, Some, refl, sym, ap, arith}
 use Rattle.std.proofs.lemmas.Bool.{false≢true}
 use Rattle.std.proofs.lemmas.Option.{none-some, same_Some}
-use Rattle.isle_model.specs.claims.Environments.{types_read}
 use Rattle.isle_model.specs.lists.Syntax.{Position}
 use Rattle.isle_model.specs.sites.DemandedGates.{HasNoPartialMulti}
 use Rattle.isle_model.specs.sites.Limits.{sites_after_rules}
 use Rattle.isle_model.specs.sites.Overlap.{BuiltRule, HasDistinctPositions, OverlapsWrongly, built_rule}
-use Rattle.isle_laws_demands.proofs.overlaps.Judged.{elaborated_rules_have_terms_lem}
+use Rattle.isle_model.specs.claims.Layers.{own_program}
+use Rattle.isle_laws_lists.proofs.WellTypedRules.{read_programs_are_well_typed}
+use Rattle.isle_laws_demands.proofs.overlaps.Judged.{well_typed_rules_have_terms_lem}
 use Rattle.isle_laws_demands.proofs.overlaps.Listed.{overlaps_are_listed_once_lem}
 use Rattle.isle_laws_demands.proofs.overlaps.Masks.{masks_are_reported_once_lem}
 use Rattle.isle_laws_demands.proofs.overlaps.Overlaps.{overlaps_decides}
@@ -40,7 +41,7 @@ positions_apart (suc zero) (suc (suc j)) x e f = absurd (none-some x f)
 pub shadow_is_reported_once : ShadowIsReportedOnce
 shadow_is_reported_once = (
   positions_apart,
-  masks_are_reported_once_lem shadow_program (elaborated_rules_have_terms_lem (types_read shadow_defs) shadow_defs true shadow_rules shadow_read.0.elaborated) positions_apart 0 mask shadowed refl (0, omega arith, refl)
+  masks_are_reported_once_lem shadow_program (well_typed_rules_have_terms_lem (own_program shadow_defs shadow_rules) (read_programs_are_well_typed shadow_read.0)) positions_apart 0 mask shadowed refl (0, omega arith, refl)
       (1, omega arith, refl) shadow_is_told.2,
 )
 
@@ -63,7 +64,7 @@ wrong = record {
 pub overlap_is_listed_once : OverlapIsListedOnce
 overlap_is_listed_once = (
   wrong,
-  overlaps_are_listed_once_lem overlap_program (elaborated_rules_have_terms_lem (types_read overlap_defs) overlap_defs true overlap_rules overlap_read.0.elaborated) 0 0 1 wrong,
+  overlaps_are_listed_once_lem overlap_program (well_typed_rules_have_terms_lem (own_program overlap_defs overlap_rules) (read_programs_are_well_typed overlap_read.0)) 0 0 1 wrong,
 )
 
 -- 3. multi calls

@@ -39,7 +39,7 @@ pub some_and_means : (o : Option Value) (f : Value → Bool) → some_and o f �
 some_and_means None f h = absurd (false≢true h)
 some_and_means (Some w) f h = h
 
-module _ (p : Program) (m : Meaning) (args : List Value) (rs : List TypedRule) (call : SiteTerm → Bool) where
+module _ (p : Program) (m : Meaning) (call : SiteTerm → Bool) where
   -- a literal of a built-in type has the value that is written
   abbrev written : ℤ → ℕ → Bool
   written z ty = if is_own_type (slice_get p.types ty) then some_and (literal_value m (int_literal z ty)) (λ w. well_typed p.types ty w && value_eq w (atom ty z)) else true
@@ -50,14 +50,14 @@ module _ (p : Program) (m : Meaning) (args : List Value) (rs : List TypedRule) (
   passes (prim_term name) = some_and (constant_value m name) (λ w. typed_as p (constant_type p name) w)
   passes u = call u
 
-  pub serves_from : list_all passes (asked p rs) ≡ true → list_all (λ r. list_all passes (demands_of p r).made) rs ≡ true
+  pub serves_from : (args : List Value) (rs : List TypedRule) → list_all passes (asked p rs) ≡ true → list_all (λ r. list_all passes (demands_of p r).made) rs ≡ true
       → ((k : Pick) (t : ℕ) (s : SiteTerm) (w : Value) → call (extractor_call t s) ≡ true → site_content m args k s ≡ Some (one w) → IsSomeAnd (extractor_answer m t w) (λ c. IsTrue (fits_extractor p t (kind p t) c)))
       → ((k : Pick) (t : ℕ) (ss : SiteTerms) (vs : Values) → call (constructor_call t ss 0) ≡ true → site_values m args k ss ≡ Some vs → IsSomeAnd (pure_answer m t vs) (λ c. IsTrue (fits_constructor p t (kind p t) c)))
       → ((k : Pick) (r : TypedRule) (t before : ℕ) (ss : SiteTerms) → Contains rs r → IsTrue (is_some (matches p m r args)) → Contains (demands_of p r).made (constructor_call t ss (suc before))
       → call (constructor_call t ss (suc before)) ≡ true → All (HasContent m args k) (take before (demands_of p r).impure)
       → IsSomeAnd (impure_answer m t before) (λ c. IsTrue (fits_constructor p t (kind p t) c)))
       → Serves p m args rs
-  serves_from h g extractors pures impures = record {
+  serves_from args rs h g extractors pures impures = record {
     bools = λ b ty c.
         some_and_means (literal_value m (bool_literal b ty)) (λ w. well_typed p.types ty w)
         (some_and_first (literal_value m (bool_literal b ty)) (λ w. well_typed p.types ty w) (λ w. value_eq w (truth b)) (each_passes passes (asked p rs) h (bool_term b ty) c));
@@ -113,7 +113,7 @@ module _ (answer : Content) (fits : IsTrue (fits_extractor extract_program 0 (ki
 
   extract_serves : Serves extract_program (extract_meaning answer) (given (pos 7)) extract_rules.rules
   extract_serves =
-      serves_from extract_program (extract_meaning answer) (given (pos 7)) extract_rules.rules extract_call refl refl
+      serves_from extract_program (extract_meaning answer) extract_call (given (pos 7)) extract_rules.rules refl refl
       extract_answers (λ k t ss vs h holds. absurd (false≢true h)) (λ k r t before ss i matched made h gave. absurd (false≢true h))
 
 pub extract_served : ExtractMeaningServes
@@ -148,7 +148,7 @@ pure_none (suc t) ss h = false≢true h
 
 pub partial_served : PartialIsServed
 partial_served = (
-  serves_from partial_program (partial_meaning nothing) (given (pos 1)) partial_rules.rules call_of_g refl refl
+  serves_from partial_program (partial_meaning nothing) call_of_g (given (pos 1)) partial_rules.rules refl refl
       (λ k t s w h holds. absurd (false≢true h)) (λ k t ss vs h holds. absurd (pure_none t ss h)) (λ k r t before ss i matched made h gave. partial_answers t before ss h),
   literals_apart partial_program (partial_meaning nothing) partial_rules.rules refl refl,
 )
@@ -179,7 +179,7 @@ impure_none _ before _ h = false≢true h
 
 pub multi_served : MultiIsServed
 multi_served = (
-  serves_from multi_program multi_meaning (given (pos 1)) multi_rules.rules multi_call refl refl
+  serves_from multi_program multi_meaning multi_call (given (pos 1)) multi_rules.rules refl refl
       (λ k t s w h holds. absurd (false≢true h)) multi_answers (λ k r t before ss i matched made h gave. absurd (impure_none t before ss h)),
   literals_apart multi_program multi_meaning multi_rules.rules refl refl,
 )
@@ -196,7 +196,7 @@ no_call (extractor_call t s) = false
 no_call (constructor_call t ss i) = false
 no_call u = true
 
-pub serves_without_calls : (p : Program) (m : Meaning) (args : List Value) (rs : List TypedRule) → list_all (passes p m args rs no_call) (asked p rs) ≡ true
-    → list_all (λ r. list_all (passes p m args rs no_call) (demands_of p r).made) rs ≡ true → Serves p m args rs
+pub serves_without_calls : (p : Program) (m : Meaning) (args : List Value) (rs : List TypedRule) → list_all (passes p m no_call) (asked p rs) ≡ true
+    → list_all (λ r. list_all (passes p m no_call) (demands_of p r).made) rs ≡ true → Serves p m args rs
 serves_without_calls p m args rs h g =
-    serves_from p m args rs no_call h g (λ k t s w c e. absurd (false≢true c)) (λ k t ss vs c e. absurd (false≢true c)) (λ k r t before ss i matched made c gave. absurd (false≢true c))
+    serves_from p m no_call args rs h g (λ k t s w c e. absurd (false≢true c)) (λ k t ss vs c e. absurd (false≢true c)) (λ k r t before ss i matched made c gave. absurd (false≢true c))

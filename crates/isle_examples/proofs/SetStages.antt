@@ -4,7 +4,6 @@ use Rattle.std.specs.List.{list_all, flat_map}
 use Rattle.std.proofs.lemmas.Bool.{and_parts, false≢true, leb-true}
 use Rattle.std.proofs.lemmas.Option.{none-some, same_Some}
 use Rattle.isle_model.proofs.Members.{all_members, each_passes, member_from_get, member_is_in}
-use Rattle.isle_model.specs.claims.Environments.{types_read}
 use Rattle.isle_model.specs.claims.Layers.{own_program}
 use Rattle.isle_model.specs.lists.Elaborated.{TypedRules}
 use Rattle.isle_model.specs.lists.Names.{IsDistinct}
@@ -20,11 +19,9 @@ use Rattle.isle_model.specs.trees.Best.{are_distinct}
 use Rattle.isle_model.specs.trees.Collects.{IsCollectedRule, IsCollectedSet, IsPureAt, sites_of_rule}
 use Rattle.isle_model.specs.trees.Places.{all_below, is_in}
 use Rattle.isle_model.specs.trees.SetRuns.{IsTestedSet}
-use Rattle.isle_laws_demands.proofs.visits.Elaborated.{elaborated_rules_demand_gates_lem}
 use Rattle.isle_laws_demands.proofs.visits.Sets.{built_sets_are_tested_lem}
-use Rattle.isle_laws_lists.proofs.FormedRules.{rules_are_formed}
-use Rattle.isle_laws_lists.proofs.TypedRules.{lists_agree}
-use Rattle.isle_laws_trees.proofs.Exact.{not_exact}
+use Rattle.isle_laws_lists.proofs.WellTypedRules.{read_programs_are_well_typed}
+use Rattle.isle_laws_trees.proofs.JudgeExactness.{not_exact}
 use Rattle.isle_laws_trees.proofs.JudgedSets.{are_below, asks, calls_pass, can_be_served, equates, goes_over, multi_can_be_served, only_sites, serves, stand, unfolded_demand}
 use Rattle.isle_laws_trees.proofs.WellBuilt.{passes_well_built, set_passes}
 use Rattle.isle_examples.proofs.TreeStages.{has_no_priorities}
@@ -175,7 +172,7 @@ module _ (defs : List Definition) (rules : TypedRules) (t : ℕ) (set : SiteSet)
 pub tested : (defs : List Definition) (rules : TypedRules) (t : ℕ) (set : SiteSet) → IsAcceptedBoth defs rules → IsBuiltOf defs rules t set → is_multi (own_program defs rules) t ≡ false
     → list_all (λ (r : SetRule). is_none_of r.iterators) set.rules ≡ true → IsTestedSet set
 tested defs rules t set a b m none =
-    built_sets_are_tested_lem (elaborated_rules_demand_gates_lem rules_are_formed lists_agree) (types_read defs) defs true rules t set a.0.read.elaborated b.0 m
+    built_sets_are_tested_lem (own_program defs rules) t set (read_programs_are_well_typed a.0.read) b.0 m
     (all_members (λ r. r.iterators ≡ []) set.rules (λ r c. empty r.iterators (each_passes (λ (q : SetRule). is_none_of q.iterators) set.rules none r c)))
 
 -- whether a site is there, and makes no impure call

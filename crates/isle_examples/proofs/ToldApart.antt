@@ -1,10 +1,9 @@
 -- The laws on rules that are told apart, on samples.
-use Rattle.std.proofs.Common.{pos, true, refl, arith}
-use Rattle.isle_model.specs.claims.Environments.{types_read}
+use Rattle.std.proofs.Common.{pos, refl, arith}
 use Rattle.isle_model.specs.claims.SetMeanings.{TellsRulesApart}
 use Rattle.isle_model.specs.rules.Program.{rules_of}
-use Rattle.isle_laws_lists.proofs.FormedRules.{rules_are_formed}
-use Rattle.isle_laws_lists.proofs.TypedRules.{lists_agree}
+use Rattle.isle_model.specs.claims.Layers.{own_program}
+use Rattle.isle_laws_lists.proofs.WellTypedRules.{read_programs_are_well_typed}
 use Rattle.isle_laws_demands.proofs.matching.ToldApart.{built_rules_are_told_apart_lem}
 use Rattle.isle_laws_demands.proofs.overlaps.Agreements.{shadows_decides}
 use Rattle.isle_laws_demands.proofs.visits.WholeDemands.{built_demands_are_whole_lem}
@@ -28,7 +27,7 @@ shadow_is_served = (
 )
 
 shadow_apart : TellsRulesApart shadow_program 0
-shadow_apart = built_rules_are_told_apart_lem (built_demands_are_whole_lem rules_are_formed lists_agree) (types_read shadow_defs) shadow_defs true shadow_rules 0 shadow_is_told.0.0.elaborated
+shadow_apart = built_rules_are_told_apart_lem built_demands_are_whole_lem (own_program shadow_defs shadow_rules) 0 (read_programs_are_well_typed shadow_is_told.0.0)
 
 pub masks_match_too : MasksMatchToo
 masks_match_too = (refl, shadow_apart.shadow one_and_ten (given (pos 1)) refl shadow_is_served.0 shadow_is_served.1 mask shadowed shadow_is_told.1 shadow_is_told.2 refl)

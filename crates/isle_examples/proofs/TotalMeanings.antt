@@ -16,7 +16,8 @@ use Rattle.isle_model.specs.rules.Choice.{choice}
 use Rattle.isle_model.specs.rules.Typed.{TypedRule}
 use Rattle.isle_model.specs.sites.Demands.{demands_of}
 use Rattle.isle_examples.proofs.SampleStages.{extract_stages}
-use Rattle.isle_model.specs.claims.Environments.{types_read}
+use Rattle.isle_model.specs.claims.Layers.{own_program}
+use Rattle.isle_laws_lists.proofs.WellTypedRules.{read_programs_are_well_typed}
 use Rattle.isle_examples.specs.Extract.{extract_defs, extract_rules, extract_program, extract_one, extract_any}
 use Rattle.isle_examples.specs.MeaningForms.{given, v}
 use Rattle.isle_examples.specs.TotalMeanings.{echo, EchoIsTotal, MisfitIsNotTotal, EchoRestricts, EchoGives}
@@ -57,7 +58,7 @@ pub misfit_is_not_total : MisfitIsNotTotal
 misfit_is_not_total h = absurd (false≢true (h.extractors 0 _ (v (pos 0)) (in_head 0 (0 ∷ [])) refl refl refl))
 
 pub echo_restricts : EchoRestricts
-echo_restricts z = total_meanings_serve_lem (types_read extract_defs) extract_defs true extract_rules 1 echo (given z) extract_stages.accepted.0.read.elaborated echo_is_total.0 refl
+echo_restricts z = total_meanings_serve_lem (own_program extract_defs extract_rules) 1 echo (given z) (read_programs_are_well_typed extract_stages.accepted.0.read) echo_is_total.0 refl
 
 -- no rule goes over a call
 quiet : (r : TypedRule) → Contains (rules_of extract_program 1) r → (demands_of extract_program r).iterators ≡ []
@@ -68,12 +69,12 @@ quiet r c = elim (in_cases extract_one r (extract_any ∷ []) c) [
 
 -- finite maps that serve
 abbrev first : (z : ℤ) → Restricts extract_program echo (given z) (rules_of extract_program 1)
-first z = answers_restrict (types_read extract_defs) extract_defs true extract_rules 1 echo (given z) extract_stages.accepted.0.read.elaborated echo_is_total.0 refl []
+first z = answers_restrict (own_program extract_defs extract_rules) 1 echo (given z) (read_programs_are_well_typed extract_stages.accepted.0.read) echo_is_total.0 refl []
 
 same : (z : ℤ) (r : Restricts extract_program echo (given z) (rules_of extract_program 1))
     → choice extract_program r.meaning (rules_of extract_program 1) (given z) ≡ choice extract_program (first z).meaning (rules_of extract_program 1) (given z)
 same z r =
-    choice_is_of_functions_lem (types_read extract_defs) extract_defs true extract_rules 1 echo r.meaning (first z).meaning (given z) extract_stages.accepted.0.read.elaborated
+    choice_is_of_functions_lem (own_program extract_defs extract_rules) 1 echo r.meaning (first z).meaning (given z) (read_programs_are_well_typed extract_stages.accepted.0.read)
     quiet refl r.agrees r.serves (first z).agrees (first z).serves
 
 pub echo_gives_ten : EchoGives (pos 1) (pos 10)

@@ -9,8 +9,8 @@ use Rattle.isle_model.specs.sites.Sites.{SetRule, SiteSet}
 use Rattle.isle_model.specs.trees.Judge.{is_best_tree, returns_apart}
 use Rattle.isle_model.specs.trees.Trees.{Tree}
 use Rattle.isle_model.specs.trees.WellBuilt.{HasOnePriority}
-use Rattle.isle_laws_trees.proofs.Exact.{not_exact}
-use Rattle.isle_laws_trees.proofs.binding.Judged.{binding_judge_is_exact_lem}
+use Rattle.isle_laws_trees.proofs.JudgeExactness.{not_exact}
+use Rattle.isle_laws_trees.proofs.binding.BindingJudge.{binding_judge_is_exact_lem}
 use Rattle.isle_laws_trees.proofs.Marking.{tree_judge_is_exact_lem}
 use Rattle.isle_laws_trees.proofs.Soundness.{best_trees_are_sound_lem}
 use Rattle.isle_laws_trees.proofs.WellBuilt.{passes_well_built, set_passes}

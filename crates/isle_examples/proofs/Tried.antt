@@ -1,12 +1,11 @@
 -- The laws on demands that hold alike, and on rules that never match, on samples.
 use Rattle.std.proofs.Common.{[], ℤ, pos, true, refl, arith}
 use Rattle.std.proofs.lemmas.Bool.{false≢true}
-use Rattle.isle_model.specs.claims.Environments.{types_read}
 use Rattle.isle_model.specs.rules.Program.{rules_of}
 use Rattle.isle_model.specs.sites.Overlap.{built_rule}
-use Rattle.isle_laws_lists.proofs.FormedRules.{rules_are_formed}
-use Rattle.isle_laws_lists.proofs.TypedRules.{lists_agree}
+use Rattle.isle_laws_lists.proofs.WellTypedRules.{read_programs_are_well_typed}
 use Rattle.isle_model.specs.sites.Demands.{demands_of}
+use Rattle.isle_model.specs.claims.Layers.{own_program}
 use Rattle.isle_laws_demands.proofs.closure.Settled.{verdict_is_exact_lem}
 use Rattle.isle_laws_demands.proofs.matching.BuiltMatches.{built_demands_hold_alike_lem}
 use Rattle.isle_laws_demands.proofs.matching.NeverMatches.{unreachable_rules_never_match_lem}
@@ -23,7 +22,7 @@ use Rattle.isle_examples.specs.Tried.{ConstEqHolds, ConstEqHoldsAlike, ConstEqIs
 use Rattle.isle_examples.specs.VariantEq.{variant_eq_defs, variant_eq_program, variant_eq_rule, variant_eq_rules}
 
 whole : BuiltDemandsAreWhole
-whole = built_demands_are_whole_lem rules_are_formed lists_agree
+whole = built_demands_are_whole_lem
 
 -- 1. a literal that stands again
 pub two_is_tried : ConstEqIsTried (pos 2)
@@ -33,18 +32,18 @@ pub three_is_tried : ConstEqIsTried (pos 3)
 three_is_tried = record { typed = refl; served = serves_without_calls const_eq_program (just_this (pos 2)) (two_and (pos 3)) (rules_of const_eq_program 0) refl refl; rule = (0, omega arith, refl); pick = (0, omega arith, refl) }
 
 pub two_holds : ConstEqHolds (pos 2)
-two_holds = (visits_match_lem (types_read const_eq_defs) const_eq_defs true const_eq_rules 0 (just_this (pos 2)) (two_and (pos 2)) const_eq_rule [] const_eq_read.0.elaborated two_is_tried).matching.0 refl
+two_holds = (visits_match_lem (own_program const_eq_defs const_eq_rules) 0 (just_this (pos 2)) (two_and (pos 2)) const_eq_rule [] (read_programs_are_well_typed const_eq_read.0) two_is_tried).matching.0 refl
 
 pub three_does_not : ConstEqHolds (pos 3) → ⊥
 three_does_not d =
-    false≢true ((visits_match_lem (types_read const_eq_defs) const_eq_defs true const_eq_rules 0 (just_this (pos 2)) (two_and (pos 3)) const_eq_rule [] const_eq_read.0.elaborated three_is_tried).matching.1 d)
+    false≢true ((visits_match_lem (own_program const_eq_defs const_eq_rules) 0 (just_this (pos 2)) (two_and (pos 3)) const_eq_rule [] (read_programs_are_well_typed const_eq_read.0) three_is_tried).matching.1 d)
 
 const_eq_alike : (z : ℤ) → ConstEqIsTried z → ConstEqHoldsAlike z
 const_eq_alike z tried =
     let b = built_rule const_eq_program [] const_eq_rule in
-    let h = const_eq_read.0.elaborated in (
-      whole (types_read const_eq_defs) const_eq_defs true const_eq_rules 0 h b (0, omega arith, refl),
-      built_demands_hold_alike_lem whole (types_read const_eq_defs) const_eq_defs true const_eq_rules 0 (just_this (pos 2)) (two_and z) b [] h (0, omega arith, refl) tried,
+    let h = read_programs_are_well_typed const_eq_read.0 in (
+      whole (own_program const_eq_defs const_eq_rules) 0 h b (0, omega arith, refl),
+      built_demands_hold_alike_lem whole (own_program const_eq_defs const_eq_rules) 0 (just_this (pos 2)) (two_and z) b [] h (0, omega arith, refl) tried,
     )
 
 pub two_holds_alike : ConstEqHoldsAlike (pos 2)
@@ -58,14 +57,14 @@ pub variant_is_tried : VariantEqIsTried
 variant_is_tried = record { typed = refl; served = serves_without_calls variant_eq_program blank five_twice (rules_of variant_eq_program 0) refl refl; rule = (0, omega arith, refl); pick = (0, omega arith, refl) }
 
 pub variant_holds : VariantEqHolds
-variant_holds = (visits_match_lem (types_read variant_eq_defs) variant_eq_defs true variant_eq_rules 0 blank five_twice variant_eq_rule [] variant_eq_stages.accepted.0.read.elaborated variant_is_tried).matching.0 refl
+variant_holds = (visits_match_lem (own_program variant_eq_defs variant_eq_rules) 0 blank five_twice variant_eq_rule [] (read_programs_are_well_typed variant_eq_stages.accepted.0.read) variant_is_tried).matching.0 refl
 
 pub variant_holds_alike : VariantEqHoldsAlike
 variant_holds_alike =
     let b = built_rule variant_eq_program [] variant_eq_rule in
-    let h = variant_eq_stages.accepted.0.read.elaborated in (
-      whole (types_read variant_eq_defs) variant_eq_defs true variant_eq_rules 0 h b (0, omega arith, refl),
-      built_demands_hold_alike_lem whole (types_read variant_eq_defs) variant_eq_defs true variant_eq_rules 0 blank five_twice b [] h (0, omega arith, refl) variant_is_tried,
+    let h = read_programs_are_well_typed variant_eq_stages.accepted.0.read in (
+      whole (own_program variant_eq_defs variant_eq_rules) 0 h b (0, omega arith, refl),
+      built_demands_hold_alike_lem whole (own_program variant_eq_defs variant_eq_rules) 0 blank five_twice b [] h (0, omega arith, refl) variant_is_tried,
     )
 
 -- 3. a value that would be a part of itself
@@ -77,5 +76,5 @@ one_step_is_tried = (
 
 pub one_step_does_not_match : OneStepDoesNotMatch
 one_step_does_not_match =
-    unreachable_rules_never_match_lem (types_read one_step_defs) one_step_defs true one_step_rules 0 (just_this (pos 1)) plain_variant one_step_rule [] one_step_read.0.elaborated one_step_is_tried.0
+    unreachable_rules_never_match_lem (own_program one_step_defs one_step_rules) 0 (just_this (pos 1)) plain_variant one_step_rule [] (read_programs_are_well_typed one_step_read.0) one_step_is_tried.0
     one_step_is_tried.1 ((verdict_is_exact_lem (demands_of one_step_program one_step_rule)).0 refl)

@@ -41,7 +41,7 @@ pub unreached_calls_are_not_asked : UnreachedCallsAreNotAsked
 unreached_calls_are_not_asked = (
   refl,
   refl,
-  serves_from unreached_program (first_answers nothing) (given (pos 1)) unreached_rules.rules call_of_im refl refl
+  serves_from unreached_program (first_answers nothing) call_of_im (given (pos 1)) unreached_rules.rules refl refl
       (λ k t s w h holds. absurd (false≢true h)) (λ k t ss vs h holds. absurd (pure_none t ss h)) (λ k r t before ss i matched made h gave. answers k r t before ss i h gave),
   literals_apart unreached_program (first_answers nothing) unreached_rules.rules refl refl,
 )

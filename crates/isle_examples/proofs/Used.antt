@@ -6,7 +6,7 @@ use Rattle.isle_model.specs.sites.Sites.{SiteSet}
 use Rattle.isle_model.specs.trees.Judge.{returns_apart}
 use Rattle.isle_model.specs.trees.Trees.{Tree}
 use Rattle.isle_laws_trees.specs.BestLaws.{binds_as_marked}
-use Rattle.isle_laws_trees.proofs.binding.Judged.{binding_judge_is_exact_lem}
+use Rattle.isle_laws_trees.proofs.binding.BindingJudge.{binding_judge_is_exact_lem}
 use Rattle.isle_examples.specs.Dropped.{CallsAreBoundToo, dropped_set, dropped_with}
 use Rattle.isle_examples.specs.Used.{NearTreesDoNotBind, used_set, used_with}
 

@@ -1,12 +1,12 @@
 -- Typed rules that no list becomes: rules that don't hang together, and what those that do may still test and return.
-use Rattle.std.specs.Prelude.{◌≡◌, ◌∷◌, [], ℕ, pos, true, false, List, None, length, replicate}
+use Rattle.std.specs.Prelude.{◌≡◌, ◌∷◌, [], ℕ, pos, true, false, List, None, Some, replicate}
 use Rattle.isle_model.specs.lists.Formed.{is_formed_rule}
 use Rattle.isle_model.specs.lists.Tables.{Flags}
 use Rattle.isle_model.specs.rules.Program.{Program}
 use Rattle.isle_model.specs.rules.Typed.{TypedExpr, TypedPattern, TypedRule, make_int, make_term, make_var, match_any, match_int, match_var}
 use Rattle.isle_model.specs.sites.DemandedGates.{ArePureIfLets}
 use Rattle.isle_model.specs.sites.Demands.{demands_of, result_of}
-use Rattle.isle_model.specs.sites.Limits.{arguments_limit, limits_of_shape, walked_rule}
+use Rattle.isle_model.specs.sites.Limits.{arguments_limit, passed_in_visit}
 use Rattle.isle_model.specs.sites.Sites.{constructor_call, some_made, some_part}
 use Rattle.isle_examples.specs.SetForms.{a0, is_byte, one_source}
 use Rattle.isle_examples.specs.TypedForms.{bind_any, builtins, by_rules, e_list, entry, flags, no_flags, typed, typed_iflet, u8}
@@ -63,12 +63,11 @@ ResultsMayUnwrap =
     × ((demands_of f_partial calls_itself).constraints ≡ [])
     × (result_of f_partial calls_itself ≡ some_made (some_part (constructor_call 0 (one_source a0) 0)))
 
--- a rule of n arguments: one of 257 passes the limit on arguments, and the 256 before it are walked
+-- a rule of n arguments: one of 257 passes the limit on arguments, after the 256 before it were made
 abbrev pub wide_rule : ℕ → TypedRule
 wide_rule n = with_sides (replicate n (match_any u8)) (make_int u8 (pos 1))
 
 abbrev pub ArgumentsAreLimited : Type 0
 ArgumentsAreLimited =
-    (limits_of_shape (f_alone no_flags []) (wide_rule 256) ≡ [])
-    × (limits_of_shape (f_alone no_flags []) (wide_rule 257) ≡ arguments_limit ∷ [])
-    × (length (walked_rule (f_alone no_flags []) (wide_rule 257)).args ≡ 256)
+    (passed_in_visit (f_alone no_flags []) (wide_rule 256) ≡ None)
+    × (passed_in_visit (f_alone no_flags []) (wide_rule 257) ≡ Some (arguments_limit, 256))

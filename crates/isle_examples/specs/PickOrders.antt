@@ -6,7 +6,7 @@ use Rattle.isle_model.specs.rules.Meaning.{Content}
 use Rattle.isle_model.specs.rules.Picks.{Pick, picks, picks_over, results_under}
 use Rattle.isle_model.specs.rules.Typed.{TypedRule}
 use Rattle.isle_model.specs.sites.Sites.{SiteTerm, constructor_call, pick_of}
-use Rattle.isle_laws_runs.specs.Exact.{ActAlike, GiveSamePlaces}
+use Rattle.isle_laws_runs.specs.PickLaws.{ActAlike, GiveSamePlaces}
 use Rattle.isle_laws_runs.specs.Orders.{Covered, IsOfPlaces, OrderedFrom}
 use Rattle.isle_examples.specs.MeaningForms.{each, given}
 use Rattle.isle_examples.specs.MultiCalls.{call_in_call, calls_meaning, calls_program, impure_twice}

@@ -28,7 +28,7 @@ one_source s = site_term_and s no_site_term
 
 -- demands without calls
 abbrev pub asking : List (SiteTerm × Constraint) → List (SiteTerm × SiteTerm) → List SiteTerm → Demands
-asking constraints equalities made = record { constraints = constraints; equalities = equalities; iterators = []; impure = []; made = made }
+asking constraints equalities made = record { constraints = constraints; equalities = equalities; iterators = []; impure = []; made = made; counted = [] }
 
 -- a rule by its number, its definition's, its priority, its demands and what it returns
 abbrev pub a_rule : ℕ → ℕ → ℤ → List (ℕ × Constraint) → List (List ℕ) → ℕ → SetRule

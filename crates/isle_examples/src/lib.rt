@@ -354,7 +354,7 @@ pub fn templates()
 
 /// A rule whose right side is of another type doesn't hang together; those that do may test an impure call, if an if-let isn't
 /// pure, and what they return may unwrap a call that nothing asks to answer. A term of 257 arguments passes the limit, and
-/// the 256 before it are walked.
+/// the 256 before it are made.
 pub fn formed_rules()
     ensures others { OthersAreNotFormed }
     ensures impure { FormedRulesMayTestImpureCalls }

@@ -5,4 +5,3 @@ pub mod Listed
 pub mod Ordered
 pub mod RulesPassed
 pub mod SetsSoFar
-pub mod Walks

@@ -17,7 +17,6 @@ pub mod Rules
 pub mod SameExprs
 pub mod Shapes
 pub mod ToldApart
-pub mod TypedParts
 pub mod Unreachable
 pub mod Variables
 pub mod Visits

@@ -5,4 +5,3 @@ pub mod Forms
 pub mod NumbersInRange
 pub mod ServesRuns
 pub mod SitesKnown
-pub mod Walked

@@ -1,16 +1,14 @@
 -- What visits of typed rules demand, and so what built sets are.
 pub mod Afresh
-pub mod Allowed
 pub mod Apart
 pub mod BoundSites
 pub mod Built
+pub mod BuiltSets
 pub mod Calls
 pub mod Closing
 pub mod Collected
 pub mod Constrained
-pub mod Declared
-pub mod Elaborated
-pub mod ElaboratedCalls
+pub mod Continued
 pub mod Exprs
 pub mod Gates
 pub mod GivenFields

@@ -3,15 +3,14 @@ use Rattle.std.specs.Prelude.{◌≡◌, ◌↔◌, Bool, List, Some, None, Deci
 use Rattle.isle_model.specs.lists.Syntax.{Definition}
 use Rattle.isle_model.specs.lists.Elaborated.{TypedRules}
 use Rattle.isle_model.specs.rules.Program.{Program}
-use Rattle.isle_model.specs.claims.Environments.{TypesRead, IsElaborated, program_of}
 use Rattle.isle_model.specs.claims.Layers.{IsCheckable, IsAccepted}
 use Rattle.isle_model.specs.claims.AcceptJudge.{is_checkable, accepted_list}
+use Rattle.isle_laws_lists.specs.WellTypedPrograms.{IsWellTypedProgram}
 use Rattle.isle_laws_demands.specs.ReportLaws.{RulesHaveTerms}
 
--- the term of each rule that elaborates is one of the table
-abbrev pub ElaboratedRulesHaveTerms : Type 0
-ElaboratedRulesHaveTerms =
-    (e : TypesRead) (defs : List Definition) (expand : Bool) (rules : TypedRules) → IsElaborated e defs expand rules → RulesHaveTerms (program_of e defs rules.rules)
+-- the term of each rule of a well-typed program is one of its terms
+abbrev pub WellTypedRulesHaveTerms : Type 0
+WellTypedRulesHaveTerms = (p : Program) → IsWellTypedProgram p → RulesHaveTerms p
 
 -- the judge says so exactly where the rules of a program can be told apart
 abbrev pub RulesAreJudged : Type 0

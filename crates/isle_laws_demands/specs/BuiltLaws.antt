@@ -1,17 +1,18 @@
 -- What theory proves of the closed demands of rules that are built, and so of the rules of built sets.
-use Rattle.std.specs.Prelude.{◌≡◌, ℕ, Bool, true, List, All, Contains}
-use Rattle.isle_model.specs.lists.Elaborated.{TypedRules}
+use Rattle.std.specs.Prelude.{◌≡◌, ℕ, true, false, [], List, All, Contains}
 use Rattle.isle_model.specs.lists.Formed.{is_formed_rule}
-use Rattle.isle_model.specs.lists.Syntax.{Definition}
-use Rattle.isle_model.specs.rules.Program.{Program}
+use Rattle.isle_model.specs.rules.Program.{Program, is_multi}
 use Rattle.isle_model.specs.rules.Typed.{TypedRule}
 use Rattle.isle_model.specs.sites.Sites.{Constraint, SiteTerm, SiteSet}
 use Rattle.isle_model.specs.sites.Demands.{demands_of}
 use Rattle.isle_model.specs.sites.Closure.{ClosedIsWhole, closed}
-use Rattle.isle_model.specs.sites.Overlap.{is_built}
+use Rattle.isle_model.specs.sites.Overlap.{is_built, built_rules}
 use Rattle.isle_model.specs.sites.RuleSets.{IsBuilt}
-use Rattle.isle_model.specs.claims.Environments.{TypesRead, IsElaborated, program_of}
-use Rattle.isle_model.specs.claims.SetMeanings.{ConstrainsOrEquates, DemandsAreWhole}
+use Rattle.isle_model.specs.trees.Collects.{HasCollectedResults, IsCollectedSet}
+use Rattle.isle_model.specs.trees.SetRuns.{IsTestedSet}
+use Rattle.isle_model.specs.claims.SetMeanings.{ConstrainsOrEquates, DemandsAreWhole, CanBeServed, HasNumbersInRange}
+use Rattle.isle_laws_lists.specs.WellTypedPrograms.{IsWellTypedProgram}
+use Rattle.isle_laws_demands.specs.BuiltSets.{OfBuiltSets}
 use Rattle.isle_laws_demands.specs.ClosureLaws.{EqualSitesAreMade}
 
 -- the closed demands of a built rule are all that follows, where its visit makes the sites that it equates
@@ -35,8 +36,21 @@ BuiltRulesConstrainOrEquate = (p : Program) (t : ℕ) (set : SiteSet) → IsBuil
 abbrev pub FormedRulesMakeEqualSites : Type 0
 FormedRulesMakeEqualSites = (p : Program) (r : TypedRule) → is_formed_rule p r ≡ true → EqualSitesAreMade (demands_of p r)
 
--- so the closed demands of each rule that is built of elaborated rules are all that follows
+-- so the closed demands of each rule that is built of a well-typed program's are all that follows
 abbrev pub BuiltDemandsAreWhole : Type 0
-BuiltDemandsAreWhole =
-    (e : TypesRead) (defs : List Definition) (expand : Bool) (rules : TypedRules) (t : ℕ) → IsElaborated e defs expand rules
-    → DemandsAreWhole (program_of e defs rules.rules) t
+BuiltDemandsAreWhole = (p : Program) (t : ℕ) → IsWellTypedProgram p → DemandsAreWhole p t
+
+-- a set that is built of a well-typed program's rules can be served
+abbrev pub BuiltSetsCanBeServed : Type 0
+BuiltSetsCanBeServed = OfBuiltSets CanBeServed
+
+-- its integer literals lie in the ranges of their types
+abbrev pub BuiltSetsHaveNumbersInRange : Type 0
+BuiltSetsHaveNumbersInRange = OfBuiltSets (λ p t set. HasNumbersInRange p set)
+
+-- and it meets what choosing from it, and collecting of it, asks
+abbrev pub BuiltSetsAreTested : Type 0
+BuiltSetsAreTested = OfBuiltSets (λ p t set. is_multi p t ≡ false → All (λ r. r.iterators ≡ []) set.rules → IsTestedSet set)
+
+abbrev pub BuiltSetsAreCollected : Type 0
+BuiltSetsAreCollected = OfBuiltSets (λ p t set. is_multi p t ≡ true → All (λ b. HasCollectedResults p b.rule) (built_rules p t) → IsCollectedSet set)

@@ -1,16 +1,15 @@
 -- What the errors that checking answers name: rules that are left out, wrong overlaps and masks.
 use Rattle.std.specs.Prelude.{◌≡◌, ℕ, ◌≤◌, Bool, false, ◌&&◌, ◌||◌, List, ◌∷◌, length, map, Some, slice_get, Contains}
-use Rattle.isle_model.specs.lists.Syntax.{Position, Definition}
-use Rattle.isle_model.specs.lists.Elaborated.{TypedRules}
+use Rattle.isle_model.specs.lists.Syntax.{Position}
 use Rattle.isle_model.specs.rules.Typed.{TypedRule}
 use Rattle.isle_model.specs.rules.Program.{Program}
 use Rattle.isle_model.specs.sites.Demands.{demands_of}
 use Rattle.isle_model.specs.sites.Closure.{reported}
 use Rattle.isle_model.specs.sites.Limits.{RuleLimit, PassesLimit, sites_wanted}
 use Rattle.isle_model.specs.sites.Overlap.{HasDistinctPositions, BuiltRule, OverlapsWrongly, RuleReport, position_eq}
-use Rattle.isle_model.specs.claims.Environments.{TypesRead, IsElaborated, program_of}
 use Rattle.isle_model.specs.claims.Refusals.{Refusal, unreachable, overlapping, shadowing, past_limit, refusal_of, sites_before}
 use Rattle.isle_model.specs.claims.Layers.{CheckReports}
+use Rattle.isle_laws_lists.specs.WellTypedPrograms.{IsWellTypedProgram}
 use Rattle.isle_laws_demands.specs.LeftOutLaws.{IsLeftOut}
 use Rattle.isle_laws_demands.specs.PairLaws.{has_place, times}
 use Rattle.isle_laws_demands.specs.ReportLaws.{OverlapAt}
@@ -78,17 +77,14 @@ pub record NamesMasks (p : Program) (errors : List Refusal) : Type 0 where
   pub each_mask : (t : ℕ) (m : BuiltRule) → IsMask p t m → IsNamedMask p errors t m
   pub only : (listed : List Position) (at : Position) → Contains errors (shadowing listed at) → IsOfMask p listed at
 
--- what checking an elaborated list may answer names the rules that are left out
+-- what checking a well-typed program may answer names the rules that are left out
 abbrev pub CheckErrorsNameLeftOut : Type 0
 CheckErrorsNameLeftOut =
-    (e : TypesRead) (defs : List Definition) (expand : Bool) (rules : TypedRules) (reports : List RuleReport) → IsElaborated e defs expand rules
-    → CheckReports (program_of e defs rules.rules) reports → NamesLeftOut (program_of e defs rules.rules) (map refusal_of reports)
+    (p : Program) (reports : List RuleReport) → IsWellTypedProgram p → CheckReports p reports → NamesLeftOut p (map refusal_of reports)
 
--- what holds of the errors of an elaborated list's check
+-- what holds of the errors of a well-typed program's check
 abbrev pub OfCheckErrors : (Program → List Refusal → Type 0) → Type 0
-OfCheckErrors P =
-    (e : TypesRead) (defs : List Definition) (expand : Bool) (rules : TypedRules) → IsElaborated e defs expand rules
-    → P (program_of e defs rules.rules) (check_errors (program_of e defs rules.rules))
+OfCheckErrors P = (p : Program) → IsWellTypedProgram p → P p (check_errors p)
 
 abbrev pub CheckErrorsNamePairs : Type 0
 CheckErrorsNamePairs = OfCheckErrors NamesPairs

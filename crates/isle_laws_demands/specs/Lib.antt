@@ -1,5 +1,6 @@
 pub mod AcceptLaws
 pub mod BuiltLaws
+pub mod BuiltSets
 pub mod ClosureLaws
 pub mod ErrorLaws
 pub mod FieldLaws

@@ -1,7 +1,5 @@
 -- What theory proves of matching by demands: of one rule, of its closed demands, of what can't be met, and of built sets.
-use Rattle.std.specs.Prelude.{[], ◌≡◌, ◌↔◌, ℕ, Bool, false, List, Some, is_some, IsTrue, Contains}
-use Rattle.isle_model.specs.lists.Syntax.{Definition}
-use Rattle.isle_model.specs.lists.Elaborated.{TypedRules}
+use Rattle.std.specs.Prelude.{[], ◌≡◌, ◌↔◌, ℕ, false, List, Some, is_some, IsTrue, Contains}
 use Rattle.isle_model.specs.rules.Values.{Value, args_well_typed}
 use Rattle.isle_model.specs.rules.Meaning.{many, Contents, Meaning}
 use Rattle.isle_model.specs.rules.Program.{Program, is_multi, arg_types, rules_of}
@@ -12,8 +10,9 @@ use Rattle.isle_model.specs.sites.Demands.{demands_of}
 use Rattle.isle_model.specs.sites.Closure.{ClosedIsWhole, IsUnreachable, DemandsHold, closed, ClosedDemandsHold}
 use Rattle.isle_model.specs.sites.Overlap.{BuiltRule, built_rules}
 use Rattle.isle_model.specs.sites.Serves.{Serves, TellsConstantsApart}
-use Rattle.isle_model.specs.claims.Environments.{TypesRead, IsElaborated, program_of}
-use Rattle.isle_model.specs.claims.SetMeanings.{OfBuiltSets, MatchesByDemands, ResultsAreHeld, TellsRulesApart}
+use Rattle.isle_model.specs.claims.SetMeanings.{MatchesByDemands, ResultsAreHeld, TellsRulesApart}
+use Rattle.isle_laws_lists.specs.WellTypedPrograms.{IsWellTypedProgram}
+use Rattle.isle_laws_demands.specs.BuiltSets.{OfBuiltSets}
 
 -- a rule on arguments of its term's types, a meaning that serves the rules of the term, and one of the rule's picks
 pub record IsTried (p : Program) (t : ℕ) (m : Meaning) (args : List Value) (r : TypedRule) (k : Pick) : Type 0 where
@@ -22,11 +21,11 @@ pub record IsTried (p : Program) (t : ℕ) (m : Meaning) (args : List Value) (r 
   pub rule : Contains (rules_of p t) r
   pub pick : Contains (picks p m args r) k
 
--- of rules that elaborate
+-- of well-typed programs
 abbrev pub WhereTried : (Program → ℕ → Meaning → List Value → TypedRule → Pick → Type 0) → Type 0
 WhereTried P =
-    (e : TypesRead) (defs : List Definition) (expand : Bool) (rules : TypedRules) (t : ℕ) (m : Meaning) (args : List Value) (r : TypedRule) (k : Pick)
-    → IsElaborated e defs expand rules → IsTried (program_of e defs rules.rules) t m args r k → P (program_of e defs rules.rules) t m args r k
+    (p : Program) (t : ℕ) (m : Meaning) (args : List Value) (r : TypedRule) (k : Pick)
+    → IsWellTypedProgram p → IsTried p t m args r k → P p t m args r k
 
 -- a rule matches exactly where its demands hold, and each call that it goes over answers a list
 pub record MatchesByVisit (p : Program) (m : Meaning) (args : List Value) (r : TypedRule) (k : Pick) : Type 0 where
@@ -47,31 +46,28 @@ ClosedDemandsHoldAlike =
     WhereTried (λ p t m args r k. (before : List SiteTerm) → ClosedIsWhole (demands_of p r) (closed before (demands_of p r))
     → DemandsHold m args k (demands_of p r) ↔ ClosedDemandsHold m args k (closed before (demands_of p r)))
 
--- so those of each rule that is built of elaborated rules do
+-- so those of each rule that is built of well-typed ones do
 abbrev pub BuiltDemandsHoldAlike : Type 0
 BuiltDemandsHoldAlike =
-    (e : TypesRead) (defs : List Definition) (expand : Bool) (rules : TypedRules) (t : ℕ) (m : Meaning) (args : List Value) (b : BuiltRule) (k : Pick)
-    → IsElaborated e defs expand rules → Contains (built_rules (program_of e defs rules.rules) t) b → IsTried (program_of e defs rules.rules) t m args b.rule k
-    → DemandsHold m args k (demands_of (program_of e defs rules.rules) b.rule) ↔ ClosedDemandsHold m args k b.demands
+    (p : Program) (t : ℕ) (m : Meaning) (args : List Value) (b : BuiltRule) (k : Pick)
+    → IsWellTypedProgram p → Contains (built_rules p t) b → IsTried p t m args b.rule k
+    → DemandsHold m args k (demands_of p b.rule) ↔ ClosedDemandsHold m args k b.demands
 
--- and under each of its picks a rule of a set that is built of elaborated rules matches exactly where its demands hold
+-- and under each of its picks a rule of a set that is built of well-typed ones matches exactly where its demands hold
 abbrev pub BuiltSetsMatchByDemands : Type 0
 BuiltSetsMatchByDemands = OfBuiltSets MatchesByDemands
 
--- the closed demands of rules that are built of elaborated rules tell those of a term apart that isn't multi
+-- the closed demands of rules that are built of well-typed ones tell those of a term apart that isn't multi
 abbrev pub BuiltRulesAreToldApart : Type 0
-BuiltRulesAreToldApart =
-    (e : TypesRead) (defs : List Definition) (expand : Bool) (rules : TypedRules) (t : ℕ)
-    → IsElaborated e defs expand rules → TellsRulesApart (program_of e defs rules.rules) t
+BuiltRulesAreToldApart = (p : Program) (t : ℕ) → IsWellTypedProgram p → TellsRulesApart p t
 
 -- the rules of a term that isn't multi go over no calls
 abbrev pub RulesWithoutMultiGoOverNoCalls : Type 0
 RulesWithoutMultiGoOverNoCalls =
-    (e : TypesRead) (defs : List Definition) (expand : Bool) (rules : TypedRules) (t : ℕ)
-    → IsElaborated e defs expand rules → is_multi (program_of e defs rules.rules) t ≡ false
-    → (r : TypedRule) → Contains (rules_of (program_of e defs rules.rules) t) r → (demands_of (program_of e defs rules.rules) r).iterators ≡ []
+    (p : Program) (t : ℕ) → IsWellTypedProgram p → is_multi p t ≡ false
+    → (r : TypedRule) → Contains (rules_of p t) r → (demands_of p r).iterators ≡ []
 
--- under each of its picks the result's site of a rule that makes no impure call, of a set that is built of elaborated rules,
+-- under each of its picks the result's site of a rule that makes no impure call, of a set that is built of well-typed ones,
 -- holds what its right side gives
 abbrev pub BuiltSetsHoldResults : Type 0
 BuiltSetsHoldResults = OfBuiltSets ResultsAreHeld

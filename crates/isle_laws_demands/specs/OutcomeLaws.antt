@@ -1,5 +1,6 @@
 -- What theory proves of taking rules of built sets: the outcome is that of the right side.
-use Rattle.isle_model.specs.claims.SetMeanings.{OfBuiltSets, TakenGivesOutcome, TakenUnderPickGivesOutcome, MeansItsRules}
+use Rattle.isle_laws_demands.specs.BuiltSets.{OfBuiltSets}
+use Rattle.isle_model.specs.claims.SetMeanings.{TakenGivesOutcome, TakenUnderPickGivesOutcome, MeansItsRules}
 
 -- of a rule that goes over no calls: its impure calls in order, then its result or a failure
 abbrev pub TakenRulesGiveTheirOutcome : Type 0

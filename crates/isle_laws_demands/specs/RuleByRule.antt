@@ -1,22 +1,20 @@
 -- Building rule by rule: where the sets of a program's terms and the reports stand after some of its rules, what one more
 -- rule has to show, and what there is at the end.
-use Rattle.std.specs.Prelude.{◌≡◌, ◌≢◌, ◌↔◌, ℕ, ◌<◌, ◌≤◌, Bool, true, false, List, [], ◌∷◌, ◌++◌, length, map, take, Option, Some, None, is_some, slice_get, All, Contains, IsTrue, ◌&&◌}
+use Rattle.std.specs.Prelude.{◌≡◌, ◌≢◌, ◌↔◌, ℕ, ◌<◌, ◌≤◌, true, false, List, [], ◌∷◌, ◌++◌, length, map, take, Option, Some, None, is_some, All, Contains, IsTrue, ◌&&◌}
 use Rattle.std.specs.Bool.{◌==◌}
 use Rattle.std.specs.List.{filter, flat_map, list_any}
-use Rattle.isle_model.specs.lists.Syntax.{Definition}
-use Rattle.isle_model.specs.lists.Elaborated.{TypedRules}
 use Rattle.isle_model.specs.lists.Names.{IsDistinct}
-use Rattle.isle_model.specs.rules.Typed.{TypedRule}
+use Rattle.isle_model.specs.rules.Typed.{TypedRule, TypedPattern, TypedExpr, TypedIfLet}
 use Rattle.isle_model.specs.rules.Program.{Program, rules_of, terms_with_rules}
 use Rattle.isle_model.specs.sites.Sites.{Constraint, Site, SetRule, SiteSet, SiteTerm, sources_at, unfold_site}
-use Rattle.isle_model.specs.sites.Demands.{Demands, demands_of, has_site, with_sites}
+use Rattle.isle_model.specs.sites.Demands.{Demands, demands_of, has_site, with_sites, Count, Visit, counting, visit_rule, visit_pattern, visit_args, visit_expr, visit_iflets}
 use Rattle.isle_model.specs.sites.Closure.{Closed, before_closing, closed, closing, constraint_of, in_order, is_unreachable, most_closing_steps, reported}
-use Rattle.isle_model.specs.sites.Limits.{RuleLimit, sites_limit, first_limit, limits_of_shape, made_walking, most_sites, sites_after_rule, sites_after_rules, sites_reached, sites_wanted, walked_rule}
+use Rattle.isle_model.specs.sites.Limits.{RuleLimit, sites_limit, first_limit, passed_in_visit, most_sites, sites_after_rule, sites_after_rules, sites_reached, sites_wanted, passed_by, first_passed}
 use Rattle.isle_model.specs.sites.Overlap.{RuleReport, limit_passed, not_reached, built_from, built_rule, build_reports, build_reports_after, build_reports_of}
 use Rattle.isle_model.specs.sites.RuleSets.{AreRulesOfSet, AsksFor, Equates, IsBuilt, IsRuleOf, StandFor}
 use Rattle.isle_model.specs.trees.Places.{constraint_at, joins_in}
-use Rattle.isle_model.specs.claims.Environments.{TypesRead, IsElaborated, program_of}
 use Rattle.isle_model.specs.claims.Layers.{BuildAnswers}
+use Rattle.isle_laws_lists.specs.WellTypedPrograms.{IsWellTypedProgram}
 
 -- 1. one term
 -- a set without rules and sites
@@ -106,25 +104,45 @@ BuildingEnds =
     (p : Program) (set_of : ℕ → Option SiteSet) (sets : List (ℕ × SiteSet)) (reports : List RuleReport)
     → AreBuiltSoFar p p.rules set_of reports → AreLookedUp set_of sets → All (λ s. IsBuilt p s.0 s.1) sets × (reports ≡ build_reports p)
 
--- and so, of a list that elaborates, what building gives
+-- and so, of a well-typed program, what building gives
 abbrev pub BuiltSetsAreAnswered : Type 0
 BuiltSetsAreAnswered =
-    (e : TypesRead) (defs : List Definition) (expand : Bool) (rules : TypedRules) (sets : List (ℕ × SiteSet))
-    → IsElaborated e defs expand rules → map (λ s. s.0) sets ≡ terms_with_rules (program_of e defs rules.rules)
-    → All (λ s. IsBuilt (program_of e defs rules.rules) s.0 s.1) sets
-    → BuildAnswers (program_of e defs rules.rules) sets (build_reports (program_of e defs rules.rules))
+    (p : Program) (sets : List (ℕ × SiteSet)) → IsWellTypedProgram p → map (λ s. s.0) sets ≡ terms_with_rules p
+    → All (λ s. IsBuilt p s.0 s.1) sets
+    → BuildAnswers p sets (build_reports p)
 
 -- 3. what one rule has to show
--- a visit ends before its rule's end exactly where a limit of the rule's shape is passed
-abbrev pub WalksEndAtLimits : Type 0
-WalksEndAtLimits = (p : Program) (r : TypedRule) → (walked_rule p r).ended ≡ is_some (slice_get (limits_of_shape p r) 0)
+-- a later visit: what it has made and counted begins with what was made and counted before
+pub record Continues (v w : Visit) : Type 0 where
+  pub made : List SiteTerm
+  pub counted : List (Count × ℕ)
+  pub makes : w.demands.made ≡ v.demands.made ++ made
+  pub counts : w.demands.counted ≡ v.demands.counted ++ counted
 
--- no limit is met where none of the rule's shape is and its sites have room; a limit of the shape is met first where the
+-- so does each visit of a pattern, of an expression, of arguments and of if-lets
+pub record VisitContinues (p : Program) (v : Visit) : Type 0 where
+  pub pattern : (q : TypedPattern) (s : SiteTerm) → Continues v (visit_pattern p q s v)
+  pub args : (i : ℕ) (qs : List TypedPattern) → Continues v (visit_args p i qs v)
+  pub expr : (x : TypedExpr) → Continues v (visit_expr p x v).visit
+  pub iflets : (is : List TypedIfLet) → Continues v (visit_iflets p is v)
+
+abbrev pub VisitsContinue : Type 0
+VisitsContinue = (p : Program) (v : Visit) → VisitContinues p v
+
+-- where nothing that the visit of a rule has counted passes a limit, and what it counts next does, that is the first that
+-- is passed, and the sites made before are those that the visit has made
+abbrev pub VisitsEndAtCounts : Type 0
+VisitsEndAtCounts =
+    (p : Program) (r : TypedRule) (v : Visit) (c : Count) (l : RuleLimit)
+    → Continues (counting c v) (visit_rule p r).visit → first_passed v.demands.counted ≡ None → passed_by c ≡ Some l
+    → (passed_in_visit p r ≡ Some (l, length v.demands.made)) × (take (length v.demands.made) (demands_of p r).made ≡ v.demands.made)
+
+-- no limit is met where the visit passes none and its sites have room; one that the visit passes is met first where the
 -- sites that were reached have room, and these are what the visit made until then; and else that on sites is
 pub record LimitsAreMetSo (p : Program) (before : List SiteTerm) (r : TypedRule) : Type 0 where
-  pub none : limits_of_shape p r ≡ [] → length (sites_wanted p before r) ≤ most_sites → first_limit p before r ≡ None
-  pub of_shape : (limit : RuleLimit) (rest : List RuleLimit) → limits_of_shape p r ≡ limit ∷ rest → length (sites_reached p before r) ≤ most_sites → first_limit p before r ≡ Some limit
-  pub reached : (limit : RuleLimit) (rest : List RuleLimit) → limits_of_shape p r ≡ limit ∷ rest → sites_reached p before r ≡ with_sites before (made_walking p (walked_rule p r))
+  pub none : passed_in_visit p r ≡ None → length (sites_wanted p before r) ≤ most_sites → first_limit p before r ≡ None
+  pub of_visit : (limit : RuleLimit) (made : ℕ) → passed_in_visit p r ≡ Some (limit, made) → length (sites_reached p before r) ≤ most_sites → first_limit p before r ≡ Some limit
+  pub reached : (limit : RuleLimit) (made : ℕ) → passed_in_visit p r ≡ Some (limit, made) → sites_reached p before r ≡ with_sites before (take made (demands_of p r).made)
   pub of_sites : most_sites < length (sites_reached p before r) → first_limit p before r ≡ Some sites_limit
 
 abbrev pub LimitsAreMet : Type 0

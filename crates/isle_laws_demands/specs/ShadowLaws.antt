@@ -1,16 +1,15 @@
 -- Shadows in what checking answers.
 use Rattle.std.specs.Prelude.{◌≡◌, ◌≢◌, ℕ, Bool, false, List, [], ◌∷◌, ◌++◌, map, Some, Contains}
 use Rattle.std.specs.List.{filter}
-use Rattle.isle_model.specs.lists.Syntax.{Position, Definition}
-use Rattle.isle_model.specs.lists.Elaborated.{TypedRules}
+use Rattle.isle_model.specs.lists.Syntax.{Position}
 use Rattle.isle_model.specs.rules.Program.{Program, is_multi, rules_of}
 use Rattle.isle_model.specs.rules.Typed.{TypedRule}
 use Rattle.isle_model.specs.rules.Choice.{chosen, choice}
 use Rattle.isle_model.specs.sites.Overlap.{HasDistinctPositions, BuiltRule, built_rules, Shadows, shadows, RuleReport, position_eq, check_reports}
 use Rattle.isle_model.specs.claims.Refusals.{Refusal, shadowing, refusal_of}
-use Rattle.isle_model.specs.claims.Environments.{TypesRead, IsElaborated, program_of}
 use Rattle.isle_model.specs.claims.Layers.{CheckReports}
 use Rattle.isle_model.specs.claims.SetMeanings.{WhereServed}
+use Rattle.isle_laws_lists.specs.WellTypedPrograms.{IsWellTypedProgram}
 use Rattle.isle_laws_demands.specs.ReportLaws.{RulesHaveTerms}
 use Rattle.isle_laws_demands.specs.PairLaws.{times}
 
@@ -69,13 +68,11 @@ abbrev pub CheckErrorsAreAnswered : Type 0
 CheckErrorsAreAnswered =
     (p : Program) (reports : List RuleReport) → CheckReports p reports → HasDistinctPositions p → map refusal_of reports ≡ check_errors p
 
--- what holds of two rules of a term that isn't multi, the first of which shadows the second
+-- what holds of two rules of a well-typed program's term that isn't multi, the first of which shadows the second
 abbrev pub OfShadowed : (Program → ℕ → BuiltRule → BuiltRule → Type 0) → Type 0
 OfShadowed P =
-    (e : TypesRead) (defs : List Definition) (expand : Bool) (rules : TypedRules) (t : ℕ) (mask r : BuiltRule)
-    → IsElaborated e defs expand rules → is_multi (program_of e defs rules.rules) t ≡ false
-    → Contains (built_rules (program_of e defs rules.rules) t) mask → Contains (built_rules (program_of e defs rules.rules) t) r → Shadows mask r
-    → P (program_of e defs rules.rules) t mask r
+    (p : Program) (t : ℕ) (mask r : BuiltRule) → IsWellTypedProgram p → is_multi p t ≡ false
+    → Contains (built_rules p t) mask → Contains (built_rules p t) r → Shadows mask r → P p t mask r
 
 -- a rule that is shadowed is never chosen
 abbrev pub ShadowedRulesAreNeverChosen : Type 0

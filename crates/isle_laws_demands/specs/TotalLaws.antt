@@ -1,9 +1,7 @@
 -- Total meanings: what the called terms mean as functions, and that each that is well typed restricts to finite maps that serve.
 use Rattle.std.specs.Prelude.{◌≡◌, ◌||◌, [], ◌∷◌, ◌++◌, ℕ, ℤ, Bool, true, false, List, Option, Some, None, is_some, slice_get, Contains, IsTrue}
 use Rattle.std.specs.List.{flat_map}
-use Rattle.isle_model.specs.lists.Syntax.{Definition}
 use Rattle.isle_model.specs.lists.Tables.{TermEntry, TermKindEntry, declared_term}
-use Rattle.isle_model.specs.lists.Elaborated.{TypedRules}
 use Rattle.isle_model.specs.rules.Values.{Value, truth, atom, Values, is_truth_type, is_atom_type, well_typed, all_well_typed, args_well_typed}
 use Rattle.isle_model.specs.rules.Meaning.{Content, Literal, bool_literal, int_literal, Meaning, literal_value, constant_value, extractor_answer, pure_answer, impure_answer}
 use Rattle.isle_model.specs.rules.Program.{Program, kind, is_pure, arg_types, rules_of}
@@ -15,8 +13,8 @@ use Rattle.isle_model.specs.sites.Demands.{demands_of}
 use Rattle.isle_model.specs.sites.Serves.{fits_extractor, fits_constructor, constant_type, written_type, is_type_with_parts, tested_constants, is_own_type, is_open_constant, Serves, TellsConstantsApart}
 use Rattle.isle_model.specs.trees.Run.{run, world_of}
 use Rattle.isle_model.specs.trees.Trees.{Tree}
-use Rattle.isle_model.specs.claims.Environments.{TypesRead, IsElaborated, program_of}
 use Rattle.isle_model.specs.claims.SetMeanings.{WhereServed}
+use Rattle.isle_laws_lists.specs.WellTypedPrograms.{IsWellTypedProgram}
 
 -- what is called means, as total functions: the value of each literal and of each named constant, and what is answered to
 -- each call of an extractor, by its argument, of a pure constructor, by its arguments, and of an impure one, by the number
@@ -113,13 +111,13 @@ pub record Restricts (p : Program) (f : TotalMeaning) (args : List Value) (rs : 
 abbrev pub IsTotalFor : Program → ℕ → TotalMeaning → Type 0
 IsTotalFor p t f = IsWellTyped p (matched_terms (rules_of p t)) (called_terms (rules_of p t)) f
 
--- every well-typed total meaning has such maps, for each term of rules that elaborate, on all well-typed arguments
+-- every well-typed total meaning has such maps, for each term of a well-typed program, on all well-typed arguments
 abbrev pub TotalMeaningsServe : Type 0
 TotalMeaningsServe =
-    (e : TypesRead) (defs : List Definition) (expand : Bool) (rules : TypedRules) (t : ℕ) (f : TotalMeaning) (args : List Value)
-    → IsElaborated e defs expand rules → IsTotalFor (program_of e defs rules.rules) t f
-    → IsTrue (args_well_typed (program_of e defs rules.rules).types (arg_types (program_of e defs rules.rules) t) args)
-    → Restricts (program_of e defs rules.rules) f args (rules_of (program_of e defs rules.rules) t)
+    (p : Program) (t : ℕ) (f : TotalMeaning) (args : List Value)
+    → IsWellTypedProgram p → IsTotalFor p t f
+    → IsTrue (args_well_typed p.types (arg_types p t) args)
+    → Restricts p f args (rules_of p t)
 
 -- the value of a constant as it is written
 abbrev pub total_value : TotalMeaning → SiteTerm → Option Value
@@ -144,12 +142,12 @@ AgreeingMapsTellApart =
 -- term that go over no calls give one outcome
 abbrev pub ChoiceIsOfFunctions : Type 0
 ChoiceIsOfFunctions =
-    (e : TypesRead) (defs : List Definition) (expand : Bool) (rules : TypedRules) (t : ℕ) (f : TotalMeaning) (m n : Meaning) (args : List Value)
-    → IsElaborated e defs expand rules → ((r : TypedRule) → Contains (rules_of (program_of e defs rules.rules) t) r → (demands_of (program_of e defs rules.rules) r).iterators ≡ [])
-    → IsTrue (args_well_typed (program_of e defs rules.rules).types (arg_types (program_of e defs rules.rules) t) args)
-    → Agrees m f → Serves (program_of e defs rules.rules) m args (rules_of (program_of e defs rules.rules) t)
-    → Agrees n f → Serves (program_of e defs rules.rules) n args (rules_of (program_of e defs rules.rules) t)
-    → choice (program_of e defs rules.rules) m (rules_of (program_of e defs rules.rules) t) args ≡ choice (program_of e defs rules.rules) n (rules_of (program_of e defs rules.rules) t) args
+    (p : Program) (t : ℕ) (f : TotalMeaning) (m n : Meaning) (args : List Value)
+    → IsWellTypedProgram p → ((r : TypedRule) → Contains (rules_of p t) r → (demands_of p r).iterators ≡ [])
+    → IsTrue (args_well_typed p.types (arg_types p t) args)
+    → Agrees m f → Serves p m args (rules_of p t)
+    → Agrees n f → Serves p n args (rules_of p t)
+    → choice p m (rules_of p t) args ≡ choice p n (rules_of p t) args
 
 -- a tree chooses wherever a term's rules are served and their constants told apart
 abbrev pub ChoosesWhereServed : Program → ℕ → List Site → Tree → Type 0
@@ -167,9 +165,9 @@ pub record HasOneOutcome (p : Program) (t : ℕ) (sites : List Site) (tree : Tre
 
 abbrev pub TotalMeaningsHaveOneOutcome : Type 0
 TotalMeaningsHaveOneOutcome =
-    (e : TypesRead) (defs : List Definition) (expand : Bool) (rules : TypedRules) (t : ℕ) (sites : List Site) (tree : Tree) (f : TotalMeaning) (args : List Value)
-    → IsElaborated e defs expand rules → ((r : TypedRule) → Contains (rules_of (program_of e defs rules.rules) t) r → (demands_of (program_of e defs rules.rules) r).iterators ≡ [])
-    → ChoosesWhereServed (program_of e defs rules.rules) t sites tree
-    → IsTotalFor (program_of e defs rules.rules) t f → KeepsConstantsApart (program_of e defs rules.rules) f (rules_of (program_of e defs rules.rules) t)
-    → IsTrue (args_well_typed (program_of e defs rules.rules).types (arg_types (program_of e defs rules.rules) t) args)
-    → HasOneOutcome (program_of e defs rules.rules) t sites tree f args
+    (p : Program) (t : ℕ) (sites : List Site) (tree : Tree) (f : TotalMeaning) (args : List Value)
+    → IsWellTypedProgram p → ((r : TypedRule) → Contains (rules_of p t) r → (demands_of p r).iterators ≡ [])
+    → ChoosesWhereServed p t sites tree
+    → IsTotalFor p t f → KeepsConstantsApart p f (rules_of p t)
+    → IsTrue (args_well_typed p.types (arg_types p t) args)
+    → HasOneOutcome p t sites tree f args

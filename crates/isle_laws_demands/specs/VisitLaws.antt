@@ -1,7 +1,6 @@
 -- What visits demand, and so what built sets are.
-use Rattle.std.specs.Prelude.{[], ◌≡◌, ℕ, Bool, true, List, All, Contains}
+use Rattle.std.specs.Prelude.{[], ◌≡◌, ℕ, true, List, All, Contains}
 use Rattle.isle_model.specs.lists.Names.{IsDistinct}
-use Rattle.isle_model.specs.lists.Syntax.{Definition}
 use Rattle.isle_model.specs.rules.Program.{Program, is_multi}
 use Rattle.isle_model.specs.rules.Typed.{TypedRule}
 use Rattle.isle_model.specs.sites.Sites.{Constraint, SetRule, SiteTerm, SiteSet}
@@ -9,11 +8,11 @@ use Rattle.isle_model.specs.sites.Demands.{Demands, demands_of}
 use Rattle.isle_model.specs.sites.Closure.{IsUnreachable, closed}
 use Rattle.isle_model.specs.trees.WellBuilt.{IsWellBuilt, HasOnePriority}
 use Rattle.isle_model.specs.lists.Formed.{is_formed_rule}
-use Rattle.isle_model.specs.lists.Elaborated.{TypedRules}
-use Rattle.isle_model.specs.claims.Environments.{TypesRead, IsElaborated, program_of}
 use Rattle.isle_model.specs.sites.RuleSets.{IsBuilt}
 use Rattle.isle_model.specs.claims.SetMeanings.{DemandsItsGates}
 use Rattle.isle_model.specs.sites.DemandedGates.{ArePureIfLets, CanBeTested, ClosedCanBeTested, DemandsGates, HasNoPartialMulti, GoesOverMultiCalls}
+use Rattle.isle_laws_lists.specs.WellTypedPrograms.{IsWellTypedProgram}
+use Rattle.isle_laws_demands.specs.BuiltSets.{OfBuiltSets}
 
 -- no site of a built set stands twice
 abbrev pub SitesStandOnce : Type 0
@@ -29,23 +28,17 @@ ClosingKeepsGates =
     (before : List SiteTerm) (d : Demands) → (IsUnreachable d → ⊥) → CanBeTested d
     → ((u : SiteTerm) (c : Constraint) → Contains d.constraints (u, c) → Contains (closed before d).constraints (u, c)) × ClosedCanBeTested d.iterators (closed before d)
 
--- rules that elaborate demand their gates
-abbrev pub ElaboratedRulesDemandGates : Type 0
-ElaboratedRulesDemandGates =
-    (e : TypesRead) (defs : List Definition) (expand : Bool) (rules : TypedRules) → IsElaborated e defs expand rules
-    → (r : TypedRule) → Contains rules.rules r → DemandsGates (program_of e defs rules.rules) r
+-- so do those of a well-typed program
+abbrev pub WellTypedRulesDemandGates : Type 0
+WellTypedRulesDemandGates = (p : Program) → IsWellTypedProgram p → (r : TypedRule) → Contains p.rules r → DemandsGates p r
 
--- in a set that is built of elaborated rules, each rule demands the gates at and below the sites that it tests
+-- in a set that is built of such, each rule demands the gates at and below the sites that it tests
 abbrev pub BuiltRulesDemandGates : Type 0
-BuiltRulesDemandGates =
-    (e : TypesRead) (defs : List Definition) (expand : Bool) (rules : TypedRules) (t : ℕ) (set : SiteSet)
-    → IsElaborated e defs expand rules → IsBuilt (program_of e defs rules.rules) t set → All (DemandsItsGates set.sites) set.rules
+BuiltRulesDemandGates = OfBuiltSets (λ p t set. All (DemandsItsGates set.sites) set.rules)
 
--- a set that is built of elaborated rules, none of which goes over calls, is well built
+-- such a set, none of whose rules goes over calls, is well built
 abbrev pub BuiltSetsAreWellBuilt : Type 0
-BuiltSetsAreWellBuilt =
-    (e : TypesRead) (defs : List Definition) (expand : Bool) (rules : TypedRules) (t : ℕ) (set : SiteSet)
-    → IsElaborated e defs expand rules → IsBuilt (program_of e defs rules.rules) t set → All (λ r. r.iterators ≡ []) set.rules → IsWellBuilt set
+BuiltSetsAreWellBuilt = OfBuiltSets (λ p t set. All (λ r. r.iterators ≡ []) set.rules → IsWellBuilt set)
 
 -- where no term is multi and partial at once, a rule goes over multi calls, and tests none
 abbrev pub MultiCallsAreGoneOver : Type 0
@@ -57,15 +50,11 @@ NoneAskedAndGoneOver =
     (p : Program) (r : TypedRule) (before : List SiteTerm) → HasNoPartialMulti p
     → (u : SiteTerm) (c : Constraint) → Contains (closed before (demands_of p r)).constraints (u, c) → Contains (demands_of p r).iterators u → ⊥
 
--- so no rule of a set that is built of elaborated rules goes over a call that it constrains
+-- so no rule of a set that is built of a well-typed program goes over a call that it constrains
 abbrev pub NoRuleAsksAndGoesOver : Type 0
 NoRuleAsksAndGoesOver =
-    (e : TypesRead) (defs : List Definition) (expand : Bool) (rules : TypedRules) (t : ℕ) (set : SiteSet)
-    → IsElaborated e defs expand rules → IsBuilt (program_of e defs rules.rules) t set
-    → (r : SetRule) → Contains set.rules r → (s : ℕ) (c : Constraint) → Contains r.constraints (s, c) → Contains r.iterators s → ⊥
+    OfBuiltSets (λ p t set. (r : SetRule) → Contains set.rules r → (s : ℕ) (c : Constraint) → Contains r.constraints (s, c) → Contains r.iterators s → ⊥)
 
 -- the rules of a multi term have one priority in such a set
 abbrev pub MultiTermsHaveOnePriority : Type 0
-MultiTermsHaveOnePriority =
-    (e : TypesRead) (defs : List Definition) (expand : Bool) (rules : TypedRules) (t : ℕ) (set : SiteSet)
-    → IsElaborated e defs expand rules → IsBuilt (program_of e defs rules.rules) t set → is_multi (program_of e defs rules.rules) t ≡ true → HasOnePriority set.rules
+MultiTermsHaveOnePriority = OfBuiltSets (λ p t set. is_multi p t ≡ true → HasOnePriority set.rules)

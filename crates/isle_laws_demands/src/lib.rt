@@ -5,26 +5,23 @@
 #![tactic(auto)]
 
 ghost use Rattle.isle_laws_demands.specs.ClosureLaws.{JoinedIsEquivalence, ClassesBoundJoined, VerdictIsExact, NamesAreExact, ClosingAddsNothing, ConstraintsAreKept, ClosingIsSound, OverlapIsSymmetric, OverlapIsExact, ClashIsExact, FirstLimitIsPassed, PassedLimitIsMet, ClosingIsWhole, ReportsAreExact, ShadowsAreExact, VisitsMakeEqualSites, PlainClosingEnds, ClosingEnds};
-ghost use Rattle.isle_laws_demands.specs.AcceptLaws.{ElaboratedRulesHaveTerms, RulesAreJudged, ListsAreAccepted, ListsAreNotAccepted};
+ghost use Rattle.isle_laws_demands.specs.AcceptLaws.{WellTypedRulesHaveTerms, RulesAreJudged, ListsAreAccepted, ListsAreNotAccepted};
 ghost use Rattle.isle_laws_demands.specs.PairLaws.{WrongPairsStandOnce, OnlyWrongPairsStand};
 ghost use Rattle.isle_laws_demands.specs.ShadowLaws.{MasksAreNamedOnce, OnlyMasksAreNamed, CheckErrorsAreAnswered, ShadowedRulesAreNeverChosen, ShadowedRulesCanBeTakenAway};
 ghost use Rattle.isle_laws_demands.specs.ErrorLaws.{CheckErrorsNameLeftOut, CheckErrorsNamePairs, CheckErrorsNameMasks};
 ghost use Rattle.isle_laws_demands.specs.LeftOutLaws.{LeftOutRulesAreReported};
 ghost use Rattle.isle_laws_demands.specs.FieldLaws.{ConflictFreeConstraintsAgree, FieldsAreGiven};
 ghost use Rattle.isle_laws_demands.specs.ReportLaws.{CheckIsExact, OverlapsAreListedOnce, ListedRulesOverlap, MasksAreReportedOnce, ReportedMasksShadow};
-ghost use Rattle.isle_laws_demands.specs.RuleByRule.{BuildingEnds, BuildingGoesOn, BuildingStarts, BuiltSetsAreAnswered, FullSitesStay, LimitsAreMet, ListedDemandsStand, OrderAsksTheSame, SetsEndBuilt, SetsGoPastRules, SetsStartEmpty, WalksEndAtLimits};
+ghost use Rattle.isle_laws_demands.specs.RuleByRule.{BuildingEnds, BuildingGoesOn, BuildingStarts, BuiltSetsAreAnswered, FullSitesStay, LimitsAreMet, ListedDemandsStand, OrderAsksTheSame, SetsEndBuilt, SetsGoPastRules, SetsStartEmpty, VisitsContinue, VisitsEndAtCounts};
 ghost use Rattle.isle_laws_demands.specs.SetOverlapLaws.{SetRulesOverlapAsTheirDemands, OverlapOfSetRulesIsSymmetric, SetRulesConstrainAsTheirDemands};
 ghost use Rattle.isle_laws_demands.specs.TotalLaws.{TotalMeaningsServe, AgreeingMapsTellApart, ChoiceIsOfFunctions, TotalMeaningsHaveOneOutcome};
 ghost use Rattle.isle_laws_demands.specs.SetReportLaws.{BuiltSetsAreChecked, BuiltSetsAreReported};
-ghost use Rattle.isle_laws_demands.specs.VisitLaws.{SitesStandOnce, FormedRulesDemandGates, ClosingKeepsGates, ElaboratedRulesDemandGates, BuiltRulesDemandGates, BuiltSetsAreWellBuilt, NoneAskedAndGoneOver, MultiCallsAreGoneOver, NoRuleAsksAndGoesOver, MultiTermsHaveOnePriority};
-ghost use Rattle.isle_model.specs.claims.SetMeanings.{BuiltSetsAreTested, BuiltSetsCanBeServed, BuiltSetsHaveNumbersInRange, BuiltSetsAreCollected};
-ghost use Rattle.isle_laws_demands.specs.BuiltLaws.{ClosingsOfBuiltRulesAreWhole, ConstrainedSitesStandInNoClass, BuiltRulesConstrainOrEquate, FormedRulesMakeEqualSites, BuiltDemandsAreWhole};
+ghost use Rattle.isle_laws_demands.specs.VisitLaws.{SitesStandOnce, FormedRulesDemandGates, ClosingKeepsGates, WellTypedRulesDemandGates, BuiltRulesDemandGates, BuiltSetsAreWellBuilt, NoneAskedAndGoneOver, MultiCallsAreGoneOver, NoRuleAsksAndGoesOver, MultiTermsHaveOnePriority};
+ghost use Rattle.isle_laws_demands.specs.BuiltLaws.{BuiltSetsAreTested, BuiltSetsCanBeServed, BuiltSetsHaveNumbersInRange, BuiltSetsAreCollected, ClosingsOfBuiltRulesAreWhole, ConstrainedSitesStandInNoClass, BuiltRulesConstrainOrEquate, FormedRulesMakeEqualSites, BuiltDemandsAreWhole};
 ghost use Rattle.isle_laws_demands.specs.MatchLaws.{VisitsMatch, UnreachableRulesNeverMatch, ClosedDemandsHoldAlike, BuiltDemandsHoldAlike, BuiltSetsMatchByDemands, BuiltRulesAreToldApart, RulesWithoutMultiGoOverNoCalls, BuiltSetsHoldResults};
 ghost use Rattle.isle_laws_demands.specs.OutcomeLaws.{TakenRulesGiveTheirOutcome, TakenRulesGiveTheirOutcomeUnderPicks, BuiltSetsMeanTheirRules};
 ghost use Rattle.isle_laws_demands.specs.RefusalLaws.{ReportsNamePassedLimits};
 ghost use Rattle.isle_laws_demands.specs.ServeLaws.{ServedSetsServeTests, ServedMultiSetsServe};
-
-use isle_laws_lists::{lists_agree, rules_are_formed};
 
 /// Sites that must be equal are an equivalence.
 #[tactic(auto, using(crate::proofs::closure::Classes::joined_is_equivalence_lem))]
@@ -193,34 +190,25 @@ pub fn closing_keeps_gates()
     ensures { ClosingKeepsGates }
 {}
 
-/// So do rules that elaborate.
-pub fn elaborated_rules_demand_gates()
-    ensures { ElaboratedRulesDemandGates }
-{
-    rules_are_formed();
-    lists_agree();
-}
+/// So do the rules of a well-typed program.
+pub fn well_typed_rules_demand_gates()
+    ensures { WellTypedRulesDemandGates }
+{}
 
 /// In a built set each rule demands the gates of the sites that it tests.
 pub fn built_rules_demand_gates()
     ensures { BuiltRulesDemandGates }
-{
-    elaborated_rules_demand_gates();
-}
+{}
 
-/// A set that is built of elaborated rules, none of which goes over calls, is well built.
+/// A set that is built of well-typed rules, none of which goes over calls, is well built.
 pub fn built_sets_are_well_built()
     ensures { BuiltSetsAreWellBuilt }
-{
-    elaborated_rules_demand_gates();
-}
+{}
 
 /// And in a term that isn't multi it meets what choosing from it asks.
 pub fn built_sets_are_tested()
     ensures { BuiltSetsAreTested }
-{
-    elaborated_rules_demand_gates();
-}
+{}
 
 /// Where no term is multi and partial at once, no call that a rule goes over is constrained.
 pub fn none_asked_and_gone_over()
@@ -241,14 +229,11 @@ pub fn no_rule_asks_and_goes_over()
 /// The rules of a multi term have one priority in a built set.
 pub fn multi_terms_have_one_priority()
     ensures { MultiTermsHaveOnePriority }
-{
-    rules_are_formed();
-    lists_agree();
-}
+{}
 
-/// The term of each rule that elaborates is one of the table.
-pub fn elaborated_rules_have_terms()
-    ensures { ElaboratedRulesHaveTerms }
+/// The term of each rule of a well-typed program is one of its terms.
+pub fn well_typed_rules_have_terms()
+    ensures { WellTypedRulesHaveTerms }
 {}
 
 /// The judge of rules is exact, where each rule's term is one of the program's.
@@ -289,15 +274,11 @@ pub fn built_rules_constrain_or_equate()
     ensures { BuiltRulesConstrainOrEquate }
 {}
 
-/// A set that is built of elaborated rules can be served: no site stands twice or is both constrained and equated, the
+/// A set that is built of well-typed rules can be served: no site stands twice or is both constrained and equated, the
 /// gates below what a rule tests and goes over are demanded, and the rules of a multi term have one priority.
 pub fn built_sets_can_be_served()
     ensures { BuiltSetsCanBeServed }
-{
-    rules_are_formed();
-    lists_agree();
-    elaborated_rules_demand_gates();
-}
+{}
 
 /// Its integer literals lie in the ranges of their types, as sites and as constraints.
 pub fn built_sets_have_numbers_in_range()
@@ -307,26 +288,19 @@ pub fn built_sets_have_numbers_in_range()
 /// And in a multi term whose rules make no impure call and leave no multi call unused it meets what collecting asks.
 pub fn built_sets_are_collected()
     ensures { BuiltSetsAreCollected }
-{
-    rules_are_formed();
-    lists_agree();
-    elaborated_rules_demand_gates();
-}
+{}
 
 /// The visit of a rule that hangs together makes the sites that it equates.
 pub fn formed_rules_make_equal_sites()
     ensures { FormedRulesMakeEqualSites }
 {}
 
-/// So the closed demands of each rule that is built of elaborated rules are all that follows.
+/// So the closed demands of each rule that is built of well-typed ones are all that follows.
 pub fn built_demands_are_whole()
     ensures { BuiltDemandsAreWhole }
-{
-    rules_are_formed();
-    lists_agree();
-}
+{}
 
-/// A rule that elaborates matches under a pick exactly where the demands of its visit hold.
+/// A rule of a well-typed program matches under a pick exactly where the demands of its visit hold.
 pub fn visits_match()
     ensures { VisitsMatch }
 {}
@@ -341,21 +315,21 @@ pub fn closed_demands_hold_alike()
     ensures { ClosedDemandsHoldAlike }
 {}
 
-/// So those of each rule that is built of elaborated rules do.
+/// So those of each rule that is built of well-typed ones do.
 pub fn built_demands_hold_alike()
     ensures { BuiltDemandsHoldAlike }
 {
     built_demands_are_whole();
 }
 
-/// And so, under each of its picks, a rule of a set that is built of elaborated rules matches exactly where its demands hold.
+/// And so, under each of its picks, a rule of a set that is built of well-typed ones matches exactly where its demands hold.
 pub fn built_sets_match_by_demands()
     ensures { BuiltSetsMatchByDemands }
 {
     built_demands_are_whole();
 }
 
-/// Of two rules of a term that isn't multi, built of elaborated rules, those that don't overlap never match together, and a
+/// Of two rules of a term that isn't multi, built of well-typed rules, those that don't overlap never match together, and a
 /// shadowed one matches only where its mask does.
 pub fn built_rules_are_told_apart()
     ensures { BuiltRulesAreToldApart }
@@ -373,7 +347,7 @@ pub fn reports_name_passed_limits()
     ensures { ReportsNamePassedLimits }
 {}
 
-/// For a built set of elaborated rules, a meaning that serves the term's rules and tells constants apart has what the tests
+/// For a built set of well-typed rules, a meaning that serves the term's rules and tells constants apart has what the tests
 /// of trees ask.
 pub fn served_sets_serve_tests()
     ensures { ServedSetsServeTests }
@@ -389,7 +363,7 @@ pub fn served_multi_sets_serve()
     ensures { ServedMultiSetsServe }
 {}
 
-/// For a built set of elaborated rules, taking a rule that matches and goes over no calls gives its right side's outcome: its
+/// For a built set of well-typed rules, taking a rule that matches and goes over no calls gives its right side's outcome: its
 /// impure calls in order, and its result or a failure.
 pub fn taken_rules_give_their_outcome()
     ensures { TakenRulesGiveTheirOutcome }
@@ -400,7 +374,7 @@ pub fn taken_rules_give_their_outcome_under_picks()
     ensures { TakenRulesGiveTheirOutcomeUnderPicks }
 {}
 
-/// A set that is built of elaborated rules means what they do: under each of its picks a rule matches exactly where its demands
+/// A set that is built of well-typed rules means what they do: under each of its picks a rule matches exactly where its demands
 /// hold, taking it gives its right side's outcome, and the result's site holds what the right side gives.
 pub fn built_sets_mean_their_rules()
     ensures { BuiltSetsMeanTheirRules }
@@ -459,7 +433,7 @@ pub fn building_ends()
     ensures { BuildingEnds }
 {}
 
-/// Of a list that elaborates, built sets of all its terms with rules, and these reports, are what building gives.
+/// Of a well-typed program, built sets of all its terms with rules, and these reports, are what building gives.
 pub fn built_sets_are_answered()
     ensures { BuiltSetsAreAnswered }
 {
@@ -470,7 +444,7 @@ pub fn built_sets_are_answered()
     built_rules_are_told_apart();
 }
 
-/// Which limit is met first, by the rule's shape and by the number of sites.
+/// Which limit is met first, by what the rule's visit counts and by the number of sites.
 #[tactic(auto, using(crate::proofs::building::Limits::limits_are_met_lem))]
 pub fn limits_are_met()
     ensures { LimitsAreMet }
@@ -492,10 +466,15 @@ pub fn listed_demands_stand()
     ensures { ListedDemandsStand }
 {}
 
-/// A visit ends before its rule's end exactly where a limit of the rule's shape is passed.
-#[tactic(auto, using(crate::proofs::building::Walks::walks_end_at_limits_lem))]
-pub fn walks_end_at_limits()
-    ensures { WalksEndAtLimits }
+/// Visits only add to what is made and counted, at the end.
+#[tactic(auto, using(crate::proofs::visits::Continued::visits_continue_lem))]
+pub fn visits_continue()
+    ensures { VisitsContinue }
+{}
+
+/// The visit of a rule ends at the first count that passes a limit, with the sites that it has made.
+pub fn visits_end_at_counts()
+    ensures { VisitsEndAtCounts }
 {}
 
 /// Each rule that building leaves out is reported at its position, and each report of building is of such a rule.
@@ -533,7 +512,7 @@ pub fn check_errors_are_answered()
     ensures { CheckErrorsAreAnswered }
 {}
 
-/// Of the errors that checking an elaborated list answers: each rule that is left out has one at its position, and each that
+/// Of the errors that checking a well-typed program answers: each rule that is left out has one at its position, and each that
 /// says so is of a rule that is left out. If no two rules stand at one position, a rule that passes a limit has exactly one.
 pub fn check_errors_name_left_out()
     ensures { CheckErrorsNameLeftOut }

@@ -1,25 +1,23 @@
 -- A choice by functions asks finitely many questions, and under maps that answer these it is the choice under the maps.
 use Rattle.std.proofs.Common.{◌≡◌, ℕ, Bool, true, false, List, [], ◌∷◌, ◌++◌, length, Option, Some, None, if◌then◌else◌, is_some, flat_map, refl, ap, ◌∙◌, inl}
-use Rattle.isle_model.specs.lists.Tables.{TermEntry}
-use Rattle.isle_model.specs.lists.Syntax.{Definition}
-use Rattle.isle_model.specs.lists.Elaborated.{TypedRules}
 use Rattle.isle_model.specs.rules.Values.{Value, truth, atom, of_variant, of_struct, Values, no_value, value_and}
-use Rattle.isle_model.specs.rules.Meaning.{Content, Literal, bool_literal, int_literal, Meaning, literal_value, constant_value, extractor_answer, pure_answer, impure_answer, answered_outputs}
-use Rattle.isle_model.specs.rules.Outcome.{Call, Outcome, then_option}
+use Rattle.isle_model.specs.rules.Meaning.{Literal, bool_literal, int_literal, Meaning, literal_value, constant_value, extractor_answer, pure_answer, impure_answer, answered_outputs}
+use Rattle.isle_model.specs.rules.Outcome.{Call, then_option}
 use Rattle.isle_model.specs.rules.Program.{Program, Kind, a_variant, a_struct, a_call, unknown, kind, is_partial, rules_of}
 use Rattle.isle_model.specs.rules.Typed.{TypedPattern, match_bind, match_var, match_bool, match_int, match_prim, match_term, match_any, match_and, TypedPatterns, no_typed_pattern, typed_pattern_and, TypedExpr, make_term, make_var, make_bool, make_int, make_prim, make_let, TypedExprs, no_typed_expr, typed_expr_and, TypedLets, no_typed_let, typed_let_and, TypedIfLet, TypedRule}
 use Rattle.isle_model.specs.rules.Matching.{Vars, where_equal, single, parts_seen, holds, each_holds, all_hold, pure_term, pure_value, pure_values, pure_lets, args_hold, iflets_hold, matches}
-use Rattle.isle_model.specs.rules.RightSide.{Eval, gives, ends, EvalAll, gives_all, ends_all, EvalLets, gives_vars, ends_lets, or_end, impure_call, applied, apply, pair_up, then_rest, then_lets, then_body, eval, eval_all, eval_lets, outcome_of, right_side}
+use Rattle.isle_model.specs.rules.RightSide.{Eval, gives, ends, EvalAll, gives_all, ends_all, EvalLets, gives_vars, ends_lets, or_end, impure_call, applied, apply, pair_up, then_rest, then_lets, then_body, eval, eval_all, eval_lets, outcome_of}
 use Rattle.isle_model.specs.rules.Choice.{higher, chosen, with_vars, outcome_of_rule, choice}
 use Rattle.isle_model.specs.sites.Serves.{asked}
 use Rattle.isle_model.specs.claims.Environments.{program_of}
 use Rattle.isle_model.proofs.Elements.{In, in_left, in_right}
 use Rattle.isle_laws_demands.specs.TotalLaws.{TotalMeaning, Restricts}
+use Rattle.isle_laws_lists.proofs.WellTypedRules.{elaborated_programs_are_well_typed_lem}
 use Rattle.isle_laws_demands.proofs.matching.NoMulti.{rules_without_multi_go_over_no_calls_lem}
 use Rattle.isle_laws_demands.proofs.total.Listed.{Question, of_literal, of_constant, of_extractor, of_pure, of_impure, questions_of, answers_to, literal_there, constant_there, extractor_there, pure_there, impure_there}
 use Rattle.isle_laws_demands.proofs.total.SameChoice.{choice_is_of_functions_lem}
 use Rattle.isle_laws_demands.proofs.total.Total.{answers_restrict}
-use Rattle.isle_laws_functions.specs.ChoiceBy.{entry_kind, parts_seen_by, holds_by, each_holds_by, all_hold_by, pure_term_by, pure_value_by, pure_values_by, pure_lets_by, args_hold_by, iflets_hold_by, matches_by, impure_call_by, applied_by, apply_by, eval_by, eval_all_by, eval_lets_by, right_side_by, chosen_by, with_vars_by, outcome_of_rule_by, choice_by}
+use Rattle.isle_laws_functions.specs.ChoiceBy.{entry_kind, parts_seen_by, holds_by, each_holds_by, all_hold_by, pure_term_by, pure_value_by, pure_values_by, pure_lets_by, args_hold_by, iflets_hold_by, matches_by, impure_call_by, applied_by, apply_by, eval_by, eval_all_by, eval_lets_by, chosen_by, with_vars_by, outcome_of_rule_by, choice_by}
 use Rattle.isle_laws_functions.specs.FunctionLaws.{ChoosesAsUnderMeanings}
 
 abbrev AllIn : List Question → List Question → Type 0
@@ -263,6 +261,7 @@ chooses_as_under_meanings_lem e defs expand rules t f args h plain total fit r =
     let rs = rules_of p t in
     let c = choice_comes p f rs args in
     let own = flat_map (questions_of f args) (asked p rs) in
-    let n : Restricts p f args rs = answers_restrict e defs expand rules t f args h total fit c.asks in
-    choice_is_of_functions_lem e defs expand rules t f r.meaning n.meaning args h (rules_without_multi_go_over_no_calls_lem e defs expand rules t h plain) fit r.agrees r.serves n.agrees n.serves
+    let w = elaborated_programs_are_well_typed_lem e defs expand rules h in
+    let n : Restricts p f args rs = answers_restrict p t f args w total fit c.asks in
+    choice_is_of_functions_lem p t f r.meaning n.meaning args w (rules_without_multi_go_over_no_calls_lem p t w plain) fit r.agrees r.serves n.agrees n.serves
     ∙ c.same (own ++ c.asks) (λ q i. in_right own c.asks q i)

@@ -15,8 +15,9 @@ use Rattle.isle_model.specs.trees.Run.{run, world_of}
 use Rattle.isle_model.specs.claims.Environments.{program_of}
 use Rattle.isle_model.proofs.Elements.{In, in_right, in_either, in_from_contains}
 use Rattle.isle_laws_demands.specs.TotalLaws.{TotalMeaning, Restricts}
+use Rattle.isle_laws_lists.proofs.WellTypedRules.{elaborated_programs_are_well_typed_lem}
 use Rattle.isle_laws_demands.proofs.matching.NoMulti.{rules_without_multi_go_over_no_calls_lem}
-use Rattle.isle_laws_demands.proofs.total.Listed.{Question, questions_of, answers_to, AsksOf, asks_of_all, bool_answered, int_answered, constant_answered}
+use Rattle.isle_laws_demands.proofs.total.Listed.{questions_of, answers_to, QuestionsOf, asks_of_all, bool_answered, int_answered, constant_answered}
 use Rattle.isle_laws_demands.proofs.total.Total.{answers_restrict}
 use Rattle.isle_laws_demands.proofs.total.SameChoice.{total_meanings_have_one_outcome_lem}
 use Rattle.isle_laws_functions.specs.RunBy.{run_by, stage_by}
@@ -61,18 +62,18 @@ mutual
         | inr a ↦ elim (in_either (constants_in body) (constants_in_arms rest) s a) [ inl b ↦ tree_names body s b | inr b ↦ arms_name rest s b ]
       ]
 
-module _ (f : TotalMeaning) (args : List Value) (asks : List Question) (sites : List SiteTerm) (all : AsksOf f args sites asks) where
+module _ (f : TotalMeaning) (args : List Value) (sites : List SiteTerm) (questions : QuestionsOf f args sites) where
   abbrev HasValue : SiteTerm → Type 0
-  HasValue s = is_some (written_value (answers_to f asks) s) ≡ true
+  HasValue s = is_some (written_value (answers_to f questions.asks) s) ≡ true
 
   at_site : (s u : SiteTerm) → u ≡ s → (In sites u → HasValue u) → In sites s → HasValue s
   at_site s u e = subst (λ x. (In sites x → HasValue x) → In sites s → HasValue s) (sym e) (λ g. g)
 
   -- a constant among the sites has a value
   has_value : (s : SiteTerm) (c : Constraint) → In (constant_site c) s → In sites s → HasValue s
-  has_value s (is_bool b ty) (inl e) i = at_site s (bool_term b ty) e (λ j. ap is_some (bool_answered f args asks sites all b ty j)) i
-  has_value s (is_int z ty) (inl e) i = at_site s (int_term z ty) e (λ j. ap is_some (int_answered f args asks sites all z ty j)) i
-  has_value s (is_prim name) (inl e) i = at_site s (prim_term name) e (λ j. ap is_some (constant_answered f args asks sites all name j)) i
+  has_value s (is_bool b ty) (inl e) i = at_site s (bool_term b ty) e (λ j. ap is_some (bool_answered f args sites questions b ty j)) i
+  has_value s (is_int z ty) (inl e) i = at_site s (int_term z ty) e (λ j. ap is_some (int_answered f args sites questions z ty j)) i
+  has_value s (is_prim name) (inl e) i = at_site s (prim_term name) e (λ j. ap is_some (constant_answered f args sites questions name j)) i
   has_value s (is_bool b ty) (inr n) i = absurd n
   has_value s (is_int z ty) (inr n) i = absurd n
   has_value s (is_prim name) (inr n) i = absurd n
@@ -87,15 +88,16 @@ runs_by_functions_as_chosen_lem e defs expand rules t sites tree f args h single
     let rs = rules_of p t in
     let own = flat_map (questions_of f args) (asked p rs) in
     let more = flat_map (questions_of f args) (constants_in tree) in
-    let one = total_meanings_have_one_outcome_lem e defs expand rules t sites tree f args h (rules_without_multi_go_over_no_calls_lem e defs expand rules t h single) (runs single) total apart fit in
-    let first : Restricts p f args rs = answers_restrict e defs expand rules t f args h total fit more in
+    let w = elaborated_programs_are_well_typed_lem e defs expand rules h in
+    let one = total_meanings_have_one_outcome_lem p t sites tree f args w (rules_without_multi_go_over_no_calls_lem p t w single) (runs single) total apart fit in
+    let first : Restricts p f args rs = answers_restrict p t f args w total fit more in
     let m = first.meaning in
     let ran : run tree (world_of p t sites m args) ≡ one.outcome = one.runs first in
     let goes_on : (run tree (world_of p t sites m args)).ending ≡ stuck → ⊥ = λ x. chosen_not_stuck p m args (chosen p m rs args) (ap (λ (o : Outcome). o.ending) (one.chooses first ∙ sym ran) ∙ x) in
     let named : HasConstants m tree = λ s c.
     let i = in_from_contains (constants_in tree) s c in
     let a = tree_names tree s i in
-    has_value f args (own ++ more) (constants_in tree) (λ u k q l. in_right own more q (asks_of_all f args (constants_in tree) u k q l)) s a.0 a.1 i in
+    has_value f args (constants_in tree) (record { asks = own ++ more; all = λ u k q l. in_right own more q (asks_of_all f args (constants_in tree) u k q l) }) s a.0 a.1 i in
     let by : run_by tree (stage_by f sites (is_multi p t) args) ≡ run tree (world_of p t sites m args) = runs_as_under_meanings_lem tree (world_of p t sites m args) f first.agrees named goes_on in
     let chooses : (r : Restricts p f args rs) → run_by tree (stage_by f sites (is_multi p t) args) ≡ choice p r.meaning rs args = λ r. by ∙ ran ∙ sym (one.chooses r) in
     record { as_source = chooses first ∙ chooses_as_under_meanings_lem e defs expand rules t f args h single total fit first; restricts = first; chooses = chooses; once = one.once }

@@ -5,7 +5,7 @@ use Rattle.std.proofs.lemmas.Bool.{false≢true}
 use Rattle.std.proofs.lemmas.Bool.Decides.{Decides-at, Decides-like, Decides-and, Decides-eqb, Decides-ltb, not_from_Decides}
 use Rattle.std.proofs.lemmas.Option.{none-some, same_Some}
 use Rattle.isle_model.specs.lists.Names.{has_name}
-use Rattle.isle_model.specs.lists.Tables.{TypeEntry, builtin_type, primitive_type, enum_type, struct_type}
+use Rattle.isle_model.specs.lists.Tables.{VariantEntry, TypeEntry, builtin_type, primitive_type, enum_type, struct_type}
 use Rattle.isle_model.specs.lists.TypeTable.{builtin_names, builtin_from}
 use Rattle.isle_model.specs.lists.KnownTypes.{KnownTypes, entry_id, types_inside, entry_numbers, IsWellFormed}
 use Rattle.isle_model.specs.lists.KnownJudge.{is_builtin, begin_with_builtins, stand_at_ids, are_well_formed}
@@ -37,31 +37,43 @@ begins n (x ∷ xs) (t ∷ types) =
     Decides-like (begin_with_builtins n (x ∷ xs) (t ∷ types)) (λ h. ap₂ ◌∷◌ h.0 h.1) (same_rest n (suc n) xs t (take (length xs) types))
     (both (builtin_there n t) (begins (suc n) xs types))
 
--- ids that count up
-module _ {X : Type 0} (id : X → ℕ) (count_up : ℕ → List X → Bool) (none : (n : ℕ) → count_up n [] ≡ true) (more : (n : ℕ) (x : X) (xs : List X) → count_up n (x ∷ xs) ≡ ((id x == n) && count_up (suc n) xs)) where
-  abbrev Counts : ℕ → List X → Type 0
-  Counts n xs = (i : ℕ) (x : X) → slice_get xs i ≡ Some x → id x ≡ n + i
+-- a test whether the ids of things count up from a number
+record CountTest (X : Type 0) : Type 0 where
+  id : X → ℕ
+  count_up : ℕ → List X → Bool
+  none : (n : ℕ) → count_up n [] ≡ true
+  more : (n : ℕ) (x : X) (xs : List X) → count_up n (x ∷ xs) ≡ ((id x == n) && count_up (suc n) xs)
 
-  one_more : (n : ℕ) (x : X) (xs : List X) → (id x ≡ n) × Counts (suc n) xs → Counts n (x ∷ xs)
-  one_more n x xs h zero y e = (let first = h.0 in let same = ap id (same_Some x y e) in omega arith)
+module _ {X : Type 0} (t : CountTest X) where
+  abbrev Counts : ℕ → List X → Type 0
+  Counts n xs = (i : ℕ) (x : X) → slice_get xs i ≡ Some x → t.id x ≡ n + i
+
+  one_more : (n : ℕ) (x : X) (xs : List X) → (t.id x ≡ n) × Counts (suc n) xs → Counts n (x ∷ xs)
+  one_more n x xs h zero y e = (let first = h.0 in let same = ap t.id (same_Some x y e) in omega arith)
   one_more n x xs h (suc i) y e = (let later = h.1 i y e in omega arith)
 
-  one_less : (n : ℕ) (x : X) (xs : List X) → Counts n (x ∷ xs) → (id x ≡ n) × Counts (suc n) xs
+  one_less : (n : ℕ) (x : X) (xs : List X) → Counts n (x ∷ xs) → (t.id x ≡ n) × Counts (suc n) xs
   one_less n x xs h = ((let first = h 0 x refl in omega arith), λ i y e. (let later = h (suc i) y e in omega arith))
 
-  counts : (n : ℕ) (xs : List X) → Decides (count_up n xs) (Counts n xs)
-  counts n [] = ((λ _ i x h. absurd (none-some x h)), λ _. none n)
+  counts : (n : ℕ) (xs : List X) → Decides (t.count_up n xs) (Counts n xs)
+  counts n [] = ((λ _ i x h. absurd (none-some x h)), λ _. t.none n)
   counts n (x ∷ xs) =
-      Decides-at (count_up n (x ∷ xs)) ((id x == n) && count_up (suc n) xs) (more n x xs)
-      (Decides-like ((id x == n) && count_up (suc n) xs) (one_more n x xs) (one_less n x xs)
-      (Decides-and (id x == n) (count_up (suc n) xs) (Decides-eqb (id x) n) (counts (suc n) xs)))
+      Decides-at (t.count_up n (x ∷ xs)) ((t.id x == n) && t.count_up (suc n) xs) (t.more n x xs)
+      (Decides-like ((t.id x == n) && t.count_up (suc n) xs) (one_more n x xs) (one_less n x xs)
+      (Decides-and (t.id x == n) (t.count_up (suc n) xs) (Decides-eqb (t.id x) n) (counts (suc n) xs)))
 
-  places_count : (xs : List X) → Decides (count_up 0 xs) ((i : ℕ) (x : X) → slice_get xs i ≡ Some x → id x ≡ i)
+  places_count : (xs : List X) → Decides (t.count_up 0 xs) ((i : ℕ) (x : X) → slice_get xs i ≡ Some x → t.id x ≡ i)
   places_count xs =
-      Decides-like (count_up 0 xs)
+      Decides-like (t.count_up 0 xs)
       (λ h i x e. (let at = h i x e in omega arith))
       (λ h i x e. (let at = h i x e in omega arith))
       (counts 0 xs)
+
+abbrev types_count : CountTest TypeEntry
+types_count = record { id = entry_id; count_up = stand_at_ids; none = λ _. refl; more = λ _ _ _. refl }
+
+abbrev variants_count : CountTest VariantEntry
+variants_count = record { id = λ v. v.id; count_up = variants_at_ids; none = λ _. refl; more = λ _ _ _. refl }
 
 pub known_types_are_judged_lem : KnownTypesAreJudged
 known_types_are_judged_lem k =
@@ -80,7 +92,7 @@ known_types_are_judged_lem k =
     (both (both (both (both (both (both (both
     (names_differ k.names)
     (begins 0 builtin_names k.types))
-    (places_count entry_id stand_at_ids (λ _. refl) (λ _ _ _. refl) k.types))
+    (places_count types_count k.types))
     (names_differ k.type_names))
     (Decides-eqb (length k.type_names) (length k.types)))
     (each (has_name k.names) (λ x. IsTrue (has_name k.names x)) (λ x. itself (has_name k.names x)) k.type_names))
@@ -98,6 +110,6 @@ read_types_are_judged_lem e =
     (λ r. (((r.well_formed, r.variants), r.names_of_constants), r.types_of_constants))
     (both (both (both
     (known_types_are_judged_lem e.known)
-    (each (λ t. variants_at_ids 0 (variants_in t)) HasVariantsAtIds (λ t. places_count (λ v. v.id) variants_at_ids (λ _. refl) (λ _ _ _. refl) (variants_in t)) e.known.types))
+    (each (λ t. variants_at_ids 0 (variants_in t)) HasVariantsAtIds (λ t. places_count variants_count (variants_in t)) e.known.types))
     (each (λ c. nat_lt c.0 (length e.known.names)) (λ c. c.0 < length e.known.names) (λ c. Decides-ltb c.0 (length e.known.names)) e.constants))
     (each (λ c. nat_lt c.1 (length e.known.types)) (λ c. c.1 < length e.known.types) (λ c. Decides-ltb c.1 (length e.known.types)) e.constants))

@@ -1,7 +1,7 @@
 -- The judge of types is exact.
-use Rattle.std.proofs.Common.{◌≡◌, Bool, true, false, not, ◌&&◌, ◌||◌, List, All, Decides, IsTrue, refl, sym, ℕ, ◌<◌, nat_lt}
+use Rattle.std.proofs.Common.{◌≡◌, Bool, true, false, not, ◌&&◌, ◌||◌, List, All, Decides, IsTrue, refl, ℕ, ◌<◌, nat_lt}
 use Rattle.std.specs.List.{list_all}
-use Rattle.std.proofs.lemmas.Bool.{false≢true}
+use Rattle.std.proofs.lemmas.Bool.{false≢true, not-true, not_from_false}
 use Rattle.std.proofs.lemmas.Bool.Decides.{Decides-like, Decides-and, Decides-by_and, not_from_Decides, Decides-ltb}
 use Rattle.isle_model.specs.lists.Syntax.{Definition}
 use Rattle.isle_model.specs.lists.TypeTable.{type_trees, constant_trees, all_type_names, field_lists, field_names, field_type_names, is_primitive, variants_of, IsKnownType, IsUnmarkedIfPrimitive, HasAtMostOneMark, HasDistinctVariants, HasDistinctFields, HasKnownTypes, IsOfKnownType, IsValidTypes}
@@ -24,8 +24,7 @@ pub below : (n : ℕ) (xs : List ℕ) → Decides (list_all (λ x. nat_lt x n) x
 below n xs = each (λ x. nat_lt x n) (λ x. x < n) (λ x. Decides-ltb x n) xs
 
 clear : (b : Bool) → Decides (not b) (b ≡ false)
-clear true = (λ h. absurd (false≢true h), λ h. absurd (false≢true (sym h)))
-clear false = (λ _. refl, λ _. refl)
+clear b = (not-true b, not_from_false b)
 
 unmarked : (a b c : Bool) → Decides (not a || (not b && not c)) (IsTrue a → (b ≡ false) × (c ≡ false))
 unmarked true b c = Decides-like (not b && not c) (λ h _. h) (λ h. h refl) (both (clear b) (clear c))

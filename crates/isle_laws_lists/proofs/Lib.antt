@@ -1,4 +1,5 @@
 pub mod Converters
+pub mod ElaboratedCalls
 pub mod EnvironmentsRead
 pub mod EnvironmentsShown
 pub mod FormedParts
@@ -16,6 +17,7 @@ pub mod RefusedTerms
 pub mod TermLaws
 pub mod TermTypes
 pub mod Twice
+pub mod TwoTables
 pub mod TypeLaws
 pub mod TypedExprs
 pub mod TypedPatterns
@@ -27,3 +29,5 @@ pub mod UsesFound
 pub mod VariantTerms
 pub mod VisitableRules
 pub mod WellFormed
+pub mod WellTypedRules
+pub mod WellTypedTerms

@@ -42,11 +42,28 @@ record IsReady (vars more : List (ℕ × ℕ)) (ks : List ℕ) : Type 0 where
   bound : Holds vars ks
   new : (y : ℕ) → has vars y ≡ false → has more y ≡ true → is_in y ks ≡ false
 
+-- how a part of a rule is visited: whether it can be where these variables are bound, and what is bound after it
+record PartVisit : Type 0 where
+  can_visit : List ℕ → Bool
+  after : List ℕ → List ℕ
+
+-- one part after another
+abbrev and_then : PartVisit → PartVisit → PartVisit
+and_then a b = record { can_visit = λ ks. a.can_visit ks && b.can_visit (a.after ks); after = λ ks. b.after (a.after ks) }
+
+-- a variable, which isn't bound yet, and then a part
+abbrev with_variable : ℕ → PartVisit → PartVisit
+with_variable x a = record { can_visit = λ ks. not (is_in x ks) && a.can_visit (x ∷ ks); after = λ ks. a.after (x ∷ ks) }
+
+-- a part that binds nothing
+abbrev binds_nothing : (List ℕ → Bool) → PartVisit
+binds_nothing can_visit = record { can_visit = can_visit; after = λ ks. ks }
+
 -- a visit from these variables to those can be made wherever it may begin, and binds just what comes
-record Visits (vars more : List (ℕ × ℕ)) (can_visit : List ℕ → Bool) (after : List ℕ → List ℕ) : Type 0 where
+record Visits (vars more : List (ℕ × ℕ)) (a : PartVisit) : Type 0 where
   kept : (y : ℕ) → has vars y ≡ true → has more y ≡ true
-  can : (ks : List ℕ) → IsReady vars more ks → can_visit ks ≡ true
-  binds : (ks : List ℕ) → IsReady vars more ks → (y : ℕ) → is_in y (after ks) ≡ (is_in y ks || has more y)
+  can : (ks : List ℕ) → IsReady vars more ks → a.can_visit ks ≡ true
+  binds : (ks : List ℕ) → IsReady vars more ks → (y : ℕ) → is_in y (a.after ks) ≡ (is_in y ks || has more y)
 
 among : (a b : Bool) → (b ≡ true → a ≡ true) → a ≡ (a || b)
 among true b h = refl
@@ -65,66 +82,76 @@ exchanged false true c = refl
 exchanged false false c = refl
 
 -- where nothing is bound
-unbound : (vars more : List (ℕ × ℕ)) (can_visit : List ℕ → Bool) → Some vars ≡ Some more → ((ks : List ℕ) → Holds vars ks → can_visit ks ≡ true) → Visits vars more can_visit (λ ks. ks)
-unbound vars more can_visit e h = subst (λ vs. Visits vars vs can_visit (λ ks. ks)) (same_Some vars more e) here
+unbound : (vars more : List (ℕ × ℕ)) (can_visit : List ℕ → Bool) → Some vars ≡ Some more → ((ks : List ℕ) → Holds vars ks → can_visit ks ≡ true) → Visits vars more (binds_nothing can_visit)
+unbound vars more can_visit e h = subst (λ vs. Visits vars vs (binds_nothing can_visit)) (same_Some vars more e) here
   where
-    here : Visits vars vars can_visit (λ ks. ks)
+    here : Visits vars vars (binds_nothing can_visit)
     here = record { kept = λ y k. k; can = λ ks r. h ks r.bound; binds = λ ks r y. among (is_in y ks) (has vars y) (r.bound y) }
 
-outside : (vars more : List (ℕ × ℕ)) (can_visit : List ℕ → Bool) (after : List ℕ → List ℕ) → Visits vars more can_visit after → (y : ℕ) → has more y ≡ false → has vars y ≡ false
-outside vars more can_visit after v y h = elim (cases_Bool (has vars y)) [ inl t ↦ absurd (false≢true (sym h ∙ v.kept y t)) | inr n ↦ n ]
+outside : {vars more : List (ℕ × ℕ)} {a : PartVisit} → Visits vars more a → (y : ℕ) → has more y ≡ false → has vars y ≡ false
+outside {vars = vars} v y h = elim (cases_Bool (has vars y)) [ inl t ↦ absurd (false≢true (sym h ∙ v.kept y t)) | inr n ↦ n ]
 
 -- one visit after another
-module _ (vars mid more : List (ℕ × ℕ)) (can_visit can_visit_next : List ℕ → Bool) (after after_next : List ℕ → List ℕ) (v : Visits vars mid can_visit after) (w : Visits mid more can_visit_next after_next) where
-  ready_first : (ks : List ℕ) → IsReady vars more ks → IsReady vars mid ks
-  ready_first ks r = record { bound = r.bound; new = λ y h k. r.new y h (w.kept y k) }
+then_visits : {vars mid more : List (ℕ × ℕ)} {a b : PartVisit} → Visits vars mid a → Visits mid more b → Visits vars more (and_then a b)
+then_visits {vars = vars} {mid = mid} {more = more} {a = a} {b = b} v w =
+    record {
+      kept = λ y h. w.kept y (v.kept y h);
+      can = λ ks r. and_from (a.can_visit ks) (b.can_visit (a.after ks)) (v.can ks (ready_first ks r)) (w.can (a.after ks) (ready_next ks r));
+      binds = λ ks r y.
+          (w.binds (a.after ks) (ready_next ks r) y ∙ ap (λ c. c || has more y) (v.binds ks (ready_first ks r) y)
+          ∙ absorbed (is_in y ks) (has mid y) (has more y) (w.kept y));
+    }
+  where
+    ready_first : (ks : List ℕ) → IsReady vars more ks → IsReady vars mid ks
+    ready_first ks r = record { bound = r.bound; new = λ y h k. r.new y h (w.kept y k) }
 
-  ready_next : (ks : List ℕ) → IsReady vars more ks → IsReady mid more (after ks)
-  ready_next ks r =
-      let first = ready_first ks r in
-      record {
-        bound = λ y h. v.binds ks first y ∙ or_right (is_in y ks) (has mid y) h;
-        new = λ y h k. v.binds ks first y ∙ or_from (is_in y ks) (has mid y) (r.new y (outside vars mid can_visit after v y h) k) h;
-      }
-
-  then_visits : Visits vars more (λ ks. can_visit ks && can_visit_next (after ks)) (λ ks. after_next (after ks))
-  then_visits =
-      record {
-        kept = λ y h. w.kept y (v.kept y h);
-        can = λ ks r. and_from (can_visit ks) (can_visit_next (after ks)) (v.can ks (ready_first ks r)) (w.can (after ks) (ready_next ks r));
-        binds = λ ks r y.
-            (w.binds (after ks) (ready_next ks r) y ∙ ap (λ b. b || has more y) (v.binds ks (ready_first ks r) y)
-            ∙ absorbed (is_in y ks) (has mid y) (has more y) (w.kept y));
-      }
+    ready_next : (ks : List ℕ) → IsReady vars more ks → IsReady mid more (a.after ks)
+    ready_next ks r =
+        let first = ready_first ks r in
+        record {
+          bound = λ y h. v.binds ks first y ∙ or_right (is_in y ks) (has mid y) h;
+          new = λ y h k. v.binds ks first y ∙ or_from (is_in y ks) (has mid y) (r.new y (outside v y h) k) h;
+        }
 
 -- a variable, and then a visit
-module _ (vars mid : List (ℕ × ℕ)) (x ty : ℕ) (can_visit : List ℕ → Bool) (after : List ℕ → List ℕ) (v : Visits vars mid can_visit after) (n : has mid x ≡ false) where
-  ready_within : (ks : List ℕ) → IsReady vars ((x, ty) ∷ mid) ks → IsReady vars mid (x ∷ ks)
-  ready_within ks r =
-      record {
-        bound = λ y h. or_right (x == y) (is_in y ks) (r.bound y h);
-        new = λ y h k.
-            or_from (x == y) (is_in y ks) (apart y k (x == y) refl) (r.new y h (has_with x ty mid y ∙ or_right (x == y) (has mid y) k));
-      }
-    where
-      apart : (y : ℕ) → has mid y ≡ true → (b : Bool) → (x == y) ≡ b → b ≡ false
-      apart y k false e = refl
-      apart y k true e = absurd (false≢true (sym n ∙ ap (has mid) (eqb-true x y e) ∙ k))
+bind_visits : {vars mid : List (ℕ × ℕ)} (x ty : ℕ) {a : PartVisit} → Visits vars mid a → has mid x ≡ false → Visits vars ((x, ty) ∷ mid) (with_variable x a)
+bind_visits {vars = vars} {mid = mid} x ty {a = a} v n =
+    record {
+      kept = λ y h. has_with x ty mid y ∙ or_right (x == y) (has mid y) (v.kept y h);
+      can = λ ks r. and_from (not (is_in x ks)) (a.can_visit (x ∷ ks)) (ap not (r.new x (outside v x n) comes)) (v.can (x ∷ ks) (ready_within ks r));
+      binds = λ ks r y.
+          (v.binds (x ∷ ks) (ready_within ks r) y ∙ exchanged (x == y) (is_in y ks) (has mid y) ∙ ap (λ b. is_in y ks || b) (sym (has_with x ty mid y)));
+    }
+  where
+    comes : has ((x, ty) ∷ mid) x ≡ true
+    comes = has_with x ty mid x ∙ or_left (x == x) (has mid x) (eq-eqb x x refl)
 
-  bind_visits : Visits vars ((x, ty) ∷ mid) (λ ks. not (is_in x ks) && can_visit (x ∷ ks)) (λ ks. after (x ∷ ks))
-  bind_visits =
-      record {
-        kept = λ y h. has_with x ty mid y ∙ or_right (x == y) (has mid y) (v.kept y h);
-        can = λ ks r. and_from (not (is_in x ks)) (can_visit (x ∷ ks)) (ap not (r.new x (outside vars mid can_visit after v x n) comes)) (v.can (x ∷ ks) (ready_within ks r));
-        binds = λ ks r y.
-            (v.binds (x ∷ ks) (ready_within ks r) y ∙ exchanged (x == y) (is_in y ks) (has mid y) ∙ ap (λ b. is_in y ks || b) (sym (has_with x ty mid y)));
-      }
-    where
-      comes : has ((x, ty) ∷ mid) x ≡ true
-      comes = has_with x ty mid x ∙ or_left (x == x) (has mid x) (eq-eqb x x refl)
+    apart : (y : ℕ) → has mid y ≡ true → (b : Bool) → (x == y) ≡ b → b ≡ false
+    apart y k false e = refl
+    apart y k true e = absurd (false≢true (sym n ∙ ap (has mid) (eqb-true x y e) ∙ k))
+
+    ready_within : (ks : List ℕ) → IsReady vars ((x, ty) ∷ mid) ks → IsReady vars mid (x ∷ ks)
+    ready_within ks r =
+        record {
+          bound = λ y h. or_right (x == y) (is_in y ks) (r.bound y h);
+          new = λ y h k.
+              or_from (x == y) (is_in y ks) (apart y k (x == y) refl) (r.new y h (has_with x ty mid y ∙ or_right (x == y) (has mid y) k));
+        }
 
 -- 2. rules
 module _ (p : Program) where
+  abbrev pattern_walk : TypedPattern → PartVisit
+  pattern_walk q = record { can_visit = is_visitable_pattern p.terms q; after = bound_after q }
+
+  abbrev parts_walk : TypedPatterns → PartVisit
+  parts_walk qs = record { can_visit = are_visitable_parts p.terms qs; after = bound_after_parts qs }
+
+  abbrev list_walk : List TypedPattern → PartVisit
+  list_walk qs = record { can_visit = are_visitable_list p.terms qs; after = bound_after_list qs }
+
+  abbrev iflets_walk : List TypedIfLet → PartVisit
+  iflets_walk is = record { can_visit = are_visitable_iflets p.terms is; after = bound_after_iflets is }
+
   -- a pattern at its type, and more after it
   then_rest : (q : TypedPattern) (b : Bool) (rest : List (ℕ × ℕ) → Option (List (ℕ × ℕ))) (vars more : List (ℕ × ℕ)) → (if b then then_option (formed_pattern p q vars) rest else None) ≡ Some more
       → (b ≡ true) × (mid : List (ℕ × ℕ)) × (formed_pattern p q vars ≡ Some mid) × (rest mid ≡ Some more)
@@ -134,12 +161,12 @@ module _ (p : Program) where
       (a.0, c.0, c.1, c.2)
 
   mutual
-    pattern_visits : (q : TypedPattern) (vars more : List (ℕ × ℕ)) → formed_pattern p q vars ≡ Some more → Visits vars more (is_visitable_pattern p.terms q) (bound_after q)
+    pattern_visits : (q : TypedPattern) (vars more : List (ℕ × ℕ)) → formed_pattern p q vars ≡ Some more → Visits vars more (pattern_walk q)
     pattern_visits (match_bind ty x of) vars more f =
         let a = then_rest of (pattern_type of == ty) (with_new x ty) vars more f in
         let n = cond_some (is_none (var_type a.1 x)) ((x, ty) ∷ a.1) more a.3 in
-        subst (λ vs. Visits vars vs (is_visitable_pattern p.terms (match_bind ty x of)) (bound_after (match_bind ty x of))) n.1
-        (bind_visits vars a.1 x ty (is_visitable_pattern p.terms of) (bound_after of) (pattern_visits of vars a.1 a.2) (has_none (var_type a.1 x) n.0))
+        subst (λ vs. Visits vars vs (pattern_walk (match_bind ty x of))) n.1
+        (bind_visits x ty (pattern_visits of vars a.1 a.2) (has_none (var_type a.1 x) n.0))
     pattern_visits (match_var ty x) vars more f =
         let a = from_if (is_type (var_type vars x) ty) (Some vars) more f in unbound vars more (is_in x) a.1 (λ ks h. h x (has_type (var_type vars x) ty a.0))
     pattern_visits (match_bool ty b) vars more f = unbound vars more (λ ks. true) (from_if (ty == bool_type) (Some vars) more f).1 (λ ks h. refl)
@@ -157,20 +184,20 @@ module _ (p : Program) where
     pattern_visits (match_and ty parts) vars more f = each_visit parts ty vars more f
 
     parts_visit : (qs : TypedPatterns) (tys : List ℕ) (vars more : List (ℕ × ℕ)) → formed_parts p qs tys vars ≡ Some more
-        → (length tys ≡ pattern_count qs) × Visits vars more (are_visitable_parts p.terms qs) (bound_after_parts qs)
+        → (length tys ≡ pattern_count qs) × Visits vars more (parts_walk qs)
     parts_visit no_typed_pattern [] vars more f = (refl, unbound vars more (λ ks. true) f (λ ks h. refl))
     parts_visit no_typed_pattern (ty ∷ tys) vars more f = absurd (none-some more f)
     parts_visit (typed_pattern_and q rest) [] vars more f = absurd (none-some more f)
     parts_visit (typed_pattern_and q rest) (ty ∷ tys) vars more f =
         let a = then_rest q (pattern_type q == ty) (λ mid. formed_parts p rest tys mid) vars more f in
         let r = parts_visit rest tys a.1 more a.3 in
-        (ap suc r.0, then_visits vars a.1 more (is_visitable_pattern p.terms q) (are_visitable_parts p.terms rest) (bound_after q) (bound_after_parts rest) (pattern_visits q vars a.1 a.2) r.1)
+        (ap suc r.0, then_visits (pattern_visits q vars a.1 a.2) r.1)
 
-    each_visit : (qs : TypedPatterns) (ty : ℕ) (vars more : List (ℕ × ℕ)) → formed_each p qs ty vars ≡ Some more → Visits vars more (are_visitable_parts p.terms qs) (bound_after_parts qs)
+    each_visit : (qs : TypedPatterns) (ty : ℕ) (vars more : List (ℕ × ℕ)) → formed_each p qs ty vars ≡ Some more → Visits vars more (parts_walk qs)
     each_visit no_typed_pattern ty vars more f = unbound vars more (λ ks. true) f (λ ks h. refl)
     each_visit (typed_pattern_and q rest) ty vars more f =
         let a = then_rest q (pattern_type q == ty) (λ mid. formed_each p rest ty mid) vars more f in
-        then_visits vars a.1 more (is_visitable_pattern p.terms q) (are_visitable_parts p.terms rest) (bound_after q) (bound_after_parts rest) (pattern_visits q vars a.1 a.2) (each_visit rest ty a.1 more a.3)
+        then_visits (pattern_visits q vars a.1 a.2) (each_visit rest ty a.1 more a.3)
 
   mutual
     expr_visits : (e : TypedExpr) (vars : List (ℕ × ℕ)) (ks : List ℕ) → is_formed_expr p e vars ≡ true → Holds vars ks → is_visitable_expr p.terms e ks ≡ true
@@ -213,29 +240,31 @@ module _ (p : Program) where
         (and_from (is_visitable_expr p.terms value ks) (are_visitable_lets p.terms rest (x ∷ ks)) (expr_visits value vars ks (and_parts (expr_type value == ty) (is_formed_expr p value vars) a.0).1 h) r.0, r.1)
 
   list_visits : (qs : List TypedPattern) (tys : List ℕ) (vars more : List (ℕ × ℕ)) → formed_list p qs tys vars ≡ Some more
-      → (length tys ≡ length qs) × Visits vars more (are_visitable_list p.terms qs) (bound_after_list qs)
+      → (length tys ≡ length qs) × Visits vars more (list_walk qs)
   list_visits [] [] vars more f = (refl, unbound vars more (λ ks. true) f (λ ks h. refl))
   list_visits [] (ty ∷ tys) vars more f = absurd (none-some more f)
   list_visits (q ∷ qs) [] vars more f = absurd (none-some more f)
   list_visits (q ∷ qs) (ty ∷ tys) vars more f =
       let a = then_rest q (pattern_type q == ty) (λ mid. formed_list p qs tys mid) vars more f in
       let r = list_visits qs tys a.1 more a.3 in
-      (ap suc r.0, then_visits vars a.1 more (is_visitable_pattern p.terms q) (are_visitable_list p.terms qs) (bound_after q) (bound_after_list qs) (pattern_visits q vars a.1 a.2) r.1)
+      (ap suc r.0, then_visits (pattern_visits q vars a.1 a.2) r.1)
 
   -- an if-let's expression is visited with what is bound before its pattern
-  value_first : (e : TypedExpr) (vars more : List (ℕ × ℕ)) (can_visit : List ℕ → Bool) (after : List ℕ → List ℕ) → is_formed_expr p e vars ≡ true → Visits vars more can_visit after
-      → Visits vars more (λ ks. is_visitable_expr p.terms e ks && can_visit ks) after
-  value_first e vars more can_visit after f v =
-      record { kept = v.kept; can = λ ks r. and_from (is_visitable_expr p.terms e ks) (can_visit ks) (expr_visits e vars ks f r.bound) (v.can ks r); binds = v.binds }
+  abbrev value_first : TypedExpr → PartVisit → PartVisit
+  value_first e a = record { can_visit = λ ks. is_visitable_expr p.terms e ks && a.can_visit ks; after = a.after }
 
-  iflets_visit : (is : List TypedIfLet) (vars more : List (ℕ × ℕ)) → formed_iflets p is vars ≡ Some more → Visits vars more (are_visitable_iflets p.terms is) (bound_after_iflets is)
+  value_visits : (e : TypedExpr) {vars more : List (ℕ × ℕ)} {a : PartVisit} → is_formed_expr p e vars ≡ true → Visits vars more a → Visits vars more (value_first e a)
+  value_visits e {vars = vars} {a = a} f v =
+      record { kept = v.kept; can = λ ks r. and_from (is_visitable_expr p.terms e ks) (a.can_visit ks) (expr_visits e vars ks f r.bound) (v.can ks r); binds = v.binds }
+
+  iflets_visit : (is : List TypedIfLet) (vars more : List (ℕ × ℕ)) → formed_iflets p is vars ≡ Some more → Visits vars more (iflets_walk is)
   iflets_visit [] vars more f = unbound vars more (λ ks. true) f (λ ks h. refl)
   iflets_visit (i ∷ is) vars more f =
       let typed = is_formed_expr p i.rhs vars && (pattern_type i.lhs == expr_type i.rhs) in
       let a = then_rest i.lhs typed (λ mid. formed_iflets p is mid) vars more f in
-      value_first i.rhs vars more (λ ks. is_visitable_pattern p.terms i.lhs ks && are_visitable_iflets p.terms is (bound_after i.lhs ks)) (λ ks. bound_after_iflets is (bound_after i.lhs ks))
+      value_visits i.rhs
       (and_parts (is_formed_expr p i.rhs vars) (pattern_type i.lhs == expr_type i.rhs) a.0).0
-      (then_visits vars a.1 more (is_visitable_pattern p.terms i.lhs) (are_visitable_iflets p.terms is) (bound_after i.lhs) (bound_after_iflets is) (pattern_visits i.lhs vars a.1 a.2) (iflets_visit is a.1 more a.3))
+      (then_visits (pattern_visits i.lhs vars a.1 a.2) (iflets_visit is a.1 more a.3))
 
 ready_start : (vars : List (ℕ × ℕ)) → IsReady [] vars []
 ready_start vars = record { bound = λ y h. h; new = λ y h k. refl }
@@ -247,7 +276,7 @@ formed_rules_can_be_visited p r f =
     let c = then_some (formed_list p r.args a.0.arg_tys []) (formed_iflets p r.iflets) b.0 b.1 in
     let args = list_visits p r.args a.0.arg_tys [] c.0 c.1 in
     let iflets = iflets_visit p r.iflets c.0 b.0 c.2 in
-    let whole = then_visits [] c.0 b.0 (are_visitable_list p.terms r.args) (are_visitable_iflets p.terms r.iflets) (bound_after_list r.args) (bound_after_iflets r.iflets) args.1 iflets in
+    let whole = then_visits args.1 iflets in
     let start = ready_start b.0 in
     let last = bound_after_iflets r.iflets (bound_after_list r.args []) in
     let visited = and_parts (are_visitable_list p.terms r.args []) (are_visitable_iflets p.terms r.iflets (bound_after_list r.args [])) (whole.can [] start) in

@@ -8,3 +8,4 @@ pub mod RefusedTerms
 pub mod TableLaws
 pub mod TypingLaws
 pub mod TypingResults
+pub mod WellTypedPrograms

@@ -6,6 +6,7 @@
 ghost use Rattle.isle_laws_lists.specs.TypingLaws.{PatternsAgree, ExprsAgree, RulesAgree, TypedWithinLimits, ListsAgree, MoreMayNest, PatternsOneWay, ExprsOneWay, RulesOneWay};
 ghost use Rattle.isle_laws_lists.specs.TypingResults.{TypesAreExpected, VariablesAtPlaces, NamesStay, NamesStayInLists, FormedRulesCanBeVisited};
 ghost use Rattle.isle_model.specs.lists.Formed.{RulesAreFormed};
+ghost use Rattle.isle_laws_lists.specs.WellTypedPrograms.{ElaboratedProgramsAreWellTyped};
 ghost use Rattle.isle_laws_lists.specs.OwnTypes.{OwnTypesAreReadable};
 ghost use Rattle.isle_laws_lists.specs.JudgeLaws.{TypesAreJudged, CyclesAreFound, TermsAreJudged, DefinedAreJudged, KnownTypesAreJudged, ReadTypesAreJudged, ListsAreElaborated, TypedRulesAreFound, ListsAreRead, ListsAreRefused};
 ghost use Rattle.isle_laws_lists.specs.TableLaws.{OwnTypesAreWellFormed, NamesStandOnce, NumbersStay, TypesStandAtIds, TypesAreFound, LastDefinitionCounts, TermsStandAtIds, TermsAreOfTypes, TermsHaveNames, TermsAreFound, TypesMakeTerms, ConvertersStandOnce};
@@ -91,6 +92,12 @@ pub fn rules_are_formed()
 #[tactic(auto, using(crate::proofs::VisitableRules::formed_rules_can_be_visited))]
 pub fn formed_rules_can_be_visited()
     ensures { FormedRulesCanBeVisited }
+{}
+
+/// Rules that elaborate make a well-typed program: its types and terms stand at their ids, and its rules hang together and
+/// call what their terms' flags allow.
+pub fn elaborated_programs_are_well_typed()
+    ensures { ElaboratedProgramsAreWellTyped }
 {}
 
 /// Terms and rules can be read with the types of a list, if these are valid.

@@ -1,4 +1,4 @@
-pub mod CallsGoneOver
+pub mod ImpureCalls
 pub mod OneMeaning
 pub mod PatternConstants
 pub mod ReadAgain
@@ -6,5 +6,4 @@ pub mod RefusedAgain
 pub mod RulesAgain
 pub mod SetsServed
 pub mod TotalBags
-pub mod TwoTables
 pub mod Uses

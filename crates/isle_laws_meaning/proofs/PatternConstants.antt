@@ -1,30 +1,28 @@
 -- The constants that demands ask of sites are those that patterns name.
 use Rattle.std.proofs.Common.{◌≡◌, ◌&&◌, ◌||◌, not, ℕ, suc, Bool, true, false, List, [], ◌∷◌, ◌++◌, Option, Some, slice_get, Contains, IsTrue, flat_map, refl, sym, ap, ◌∙◌, subst, inl, inr}
-use Rattle.std.proofs.lemmas.Bool.{false≢true}
+use Rattle.std.proofs.lemmas.Bool.{and_from, false≢true, not-true}
 use Rattle.std.proofs.lemmas.List.Elements.{All-contains}
-use Rattle.isle_model.specs.lists.Syntax.{Definition}
-use Rattle.isle_model.specs.lists.Elaborated.{TypedRules}
 use Rattle.isle_model.specs.lists.Formed.{is_type, formed_pattern, formed_parts, formed_each, formed_list, formed_iflets, is_formed_rule}
+use Rattle.isle_model.specs.lists.Tables.{Flags}
 use Rattle.isle_model.specs.rules.Values.{Value}
 use Rattle.isle_model.specs.rules.Meaning.{bool_literal, int_literal, Meaning}
 use Rattle.isle_model.specs.rules.Program.{Program, Kind, a_variant, a_struct, a_call, unknown, kind, rules_of}
 use Rattle.isle_model.specs.rules.Typed.{TypedPattern, match_bind, match_var, match_bool, match_int, match_prim, match_term, match_any, match_and, TypedPatterns, no_typed_pattern, typed_pattern_and, TypedIfLet, TypedRule}
-use Rattle.isle_model.specs.sites.Sites.{Constraint, is_variant, is_struct, is_bool, is_int, is_prim, is_present, SiteTerm, bool_term, int_term, prim_term, argument, extractor_call, some_part, variant_field, struct_field}
-use Rattle.isle_model.specs.sites.Demands.{site_term_eq, Visit, visit_start, making, asking, equating, binding, var_site, from_to, pattern_count, open_call, open_term, visit_pattern, visit_each, visit_all, visit_expr, unwraps, asking_all, visit_args, visit_iflets, demands_of}
+use Rattle.isle_model.specs.sites.Sites.{Constraint, is_variant, is_struct, is_bool, is_int, is_prim, is_present, SiteTerm, bool_term, int_term, prim_term, argument, extractor_call, pick_of, some_part, variant_field, struct_field}
+use Rattle.isle_model.specs.sites.Demands.{site_term_eq, Visit, visit_start, making, asking, equating, binding, var_site, from_to, pattern_count, Opened, open_call, open_term, visit_pattern, visit_each, visit_all, visit_expr, unwraps, asking_all, visit_args, visit_iflets, demands_of, taking_argument}
 use Rattle.isle_model.specs.sites.Serves.{constant_site, constant_type, written_type, written_value, tested_constants, is_open_constant, is_type_with_parts, TellsConstantsApart}
-use Rattle.isle_model.specs.claims.Environments.{TypesRead, IsElaborated, program_of}
+use Rattle.isle_model.specs.claims.Environments.{program_of}
 use Rattle.isle_model.proofs.Either.{either}
 use Rattle.isle_model.proofs.Elements.{In, in_from_contains, contains_from_in, in_left, in_right, in_either, some_is, none_some, in_flat_map, from_flat_map}
 use Rattle.isle_laws_lists.proofs.FormedParts.{from_if, type_is}
-use Rattle.isle_laws_lists.proofs.FormedRules.{rules_are_formed}
-use Rattle.isle_laws_lists.proofs.TypedRules as typed
 use Rattle.isle_laws_demands.specs.TotalLaws.{TotalMeaning, total_value, KeepsConstantsApart}
-use Rattle.isle_laws_demands.proofs.visits.Elaborated.{elaborated_rules_hang}
+use Rattle.isle_laws_lists.proofs.WellTypedRules.{elaborated_programs_are_well_typed_lem}
 use Rattle.isle_laws_demands.proofs.visits.Patterns.{AsMany, term_known, as_many, output_count}
 use Rattle.isle_laws_demands.proofs.visits.RuleParts.{iflet_parts, rule_parts}
 use Rattle.isle_laws_demands.proofs.matching.Grown.{equated, Grown, each_grown, all_grown, args_grown, iflets_grown, expr_adds, rule_adds}
 use Rattle.isle_laws_demands.proofs.matching.Patterns.{from_term, from_part, from_bind}
-use Rattle.isle_laws_demands.proofs.matching.Visits.{of_term}
+use Rattle.isle_laws_demands.proofs.visits.BuiltSets.{typed_rule}
+use Rattle.isle_laws_lists.specs.WellTypedPrograms.{IsWellTypedProgram}
 use Rattle.isle_laws_meaning.specs.PatternConstants.{PatternConstant, a_literal, a_name, pattern_constants, patterns_constants, rule_constants, rules_constants, type_of_constant, means_itself, AreToldApart, value_in, value_by, TellsPatternsApart, KeepsPatternsApart, LiteralsAreToldApart, ConstantsAreOfPatterns, FunctionsConstantsAreOfPatterns, HeadlineIsOfPatterns}
 
 -- 1. each constant that demands ask for is named by a pattern
@@ -66,16 +64,15 @@ module _ (p : Program) (P : SiteTerm → Type 0) where
   unfolding equated
   equated_such a b v h = either AsksSuch (site_term_eq a b) v (equated a b v) h h
 
-  call_such : (pure multi partial rec infallible : Bool) (c : SiteTerm) (args : TypedPatterns) (v : Visit) → AsksSuch v
-      → AsksSuch (open_call (record { pure = pure; multi = multi; partial = partial; rec = rec }) infallible c args v).visit
-  call_such pure true partial rec infallible c args v h = h
-  call_such pure false partial rec true c args v h = h
-  call_such pure false partial rec false c args v h = asked_such c is_present (making (c ∷ (some_part c ∷ [])) v) none_such h
+  call_such : (flags : Flags) (infallible : Bool) (c : SiteTerm) (args : TypedPatterns) (v : Visit) → AsksSuch v → AsksSuch (open_call flags infallible c args v).visit
+  call_such flags infallible c args v h =
+      either (λ (o : Opened). AsksSuch o.visit) flags.multi _ _ h
+      (either (λ (o : Opened). AsksSuch o.visit) infallible _ _ h (asked_such c is_present (making (c ∷ (some_part c ∷ [])) v) none_such h))
 
   term_such : (k : Kind) (t : ℕ) (s : SiteTerm) (args : TypedPatterns) (v : Visit) → AsksSuch v → AsksSuch (open_term k t s args v).visit
   term_such (a_variant ty i) t s args v h = asked_such s (is_variant ty i (pattern_count args)) (making (from_to (variant_field s i) 0 args) v) none_such h
   term_such (a_struct ty) t s args v h = asked_such s (is_struct ty (pattern_count args)) (making (from_to (struct_field s) 0 args) v) none_such h
-  term_such (a_call flags infallible) t s args v h = call_such flags.pure flags.multi flags.partial flags.rec infallible (extractor_call t s) args v h
+  term_such (a_call flags infallible) t s args v h = call_such flags infallible (extractor_call t s) args v h
   term_such unknown t s args v h = h
 
   mutual
@@ -106,8 +103,8 @@ module _ (p : Program) (P : SiteTerm → Type 0) where
   args_such : (i : ℕ) (qs : List TypedPattern) (v : Visit) → NameSuch (flat_map pattern_constants qs) → AsksSuch v → AsksSuch (visit_args p i qs v)
   args_such i [] v n h = h
   args_such i (q ∷ qs) v n h =
-      args_such (suc i) qs (visit_pattern p q (argument i) (making (argument i ∷ []) v)) (λ k j. n k (in_right (pattern_constants q) (flat_map pattern_constants qs) k j))
-      (pattern_such q (argument i) (making (argument i ∷ []) v) (λ k j. n k (in_left (pattern_constants q) (flat_map pattern_constants qs) k j)) h)
+      args_such (suc i) qs (visit_pattern p q (argument i) (taking_argument i v)) (λ k j. n k (in_right (pattern_constants q) (flat_map pattern_constants qs) k j))
+      (pattern_such q (argument i) (taking_argument i v) (λ k j. n k (in_left (pattern_constants q) (flat_map pattern_constants qs) k j)) h)
 
   iflets_such : (is : List TypedIfLet) (v : Visit) → NameSuch (flat_map (λ (i : TypedIfLet). pattern_constants i.lhs) is) → AsksSuch v → AsksSuch (visit_iflets p is v)
   iflets_such [] v n h = h
@@ -148,16 +145,15 @@ asked_later v w k g a = record { asked = a.asked; listed = g.asked a.asked a.lis
 asked_now : (s : SiteTerm) (c : Constraint) (v : Visit) (k : PatternConstant) → In (constant_site c) (site_of k) → IsAsked (asking s c v) k
 asked_now s c v k i = record { asked = (s, c); listed = in_right v.demands.constraints ((s, c) ∷ []) (s, c) (inl refl); constant = i }
 
-call_inputs : (pure multi partial rec infallible : Bool) (c : SiteTerm) (args : TypedPatterns) (v : Visit)
-    → AsMany (open_call (record { pure = pure; multi = multi; partial = partial; rec = rec }) infallible c args v).inputs args
-call_inputs pure true partial rec infallible c args v = output_count _ args
-call_inputs pure false partial rec true c args v = output_count c args
-call_inputs pure false partial rec false c args v = output_count (some_part c) args
+call_inputs : (flags : Flags) (infallible : Bool) (c : SiteTerm) (args : TypedPatterns) (v : Visit) → AsMany (open_call flags infallible c args v).inputs args
+call_inputs flags infallible c args v =
+    either (λ (o : Opened). AsMany o.inputs args) flags.multi _ _ (output_count (pick_of c) args)
+    (either (λ (o : Opened). AsMany o.inputs args) infallible _ _ (output_count c args) (output_count (some_part c) args))
 
 term_inputs : (k : Kind) (t : ℕ) (s : SiteTerm) (args : TypedPatterns) (v : Visit) → (k ≡ unknown → ⊥) → AsMany (open_term k t s args v).inputs args
 term_inputs (a_variant ty i) t s args v known = as_many (variant_field s i) 0 args
 term_inputs (a_struct ty) t s args v known = as_many (struct_field s) 0 args
-term_inputs (a_call flags infallible) t s args v known = call_inputs flags.pure flags.multi flags.partial flags.rec infallible (extractor_call t s) args v
+term_inputs (a_call flags infallible) t s args v known = call_inputs flags infallible (extractor_call t s) args v
 term_inputs unknown t s args v known = absurd (known refl)
 
 -- it is asked for, and is of the type that the pattern says
@@ -222,7 +218,7 @@ module _ (p : Program) where
   args_met i (q ∷ qs) [] v vars more f = absurd (none_some more f)
   args_met i (q ∷ qs) (ty ∷ tys) v vars more f =
       let a = from_part p q ty vars more (λ mid. formed_list p qs tys mid) f in
-      let u = making (argument i ∷ []) v in
+      let u = taking_argument i v in
       let w = visit_pattern p q (argument i) u in
       both_met (visit_args p (suc i) qs w) (pattern_constants q) (flat_map pattern_constants qs)
       (met_later w (visit_args p (suc i) qs w) (pattern_constants q) (args_grown p (suc i) qs w) (pattern_met q (argument i) u vars a.0 a.2)) (args_met (suc i) qs tys w a.0 more a.3)
@@ -261,11 +257,7 @@ open_or_itself p (a_literal (int_literal z ty)) = refl
 open_or_itself p (a_name name ty) = refl
 
 one_open : (a b : Bool) → (not a || not b) ≡ true → (a && b) ≡ false
-one_open true b h = by b h
-  where
-    by : (b : Bool) → not b ≡ true → b ≡ false
-    by true h = absurd (false≢true h)
-    by false h = refl
+one_open true b h = not-true b h
 one_open false b h = refl
 
 not_both : (a b : Bool) → (a && b) ≡ false → (not a || not b) ≡ true
@@ -369,20 +361,19 @@ module _ (p : Program) (rs : List TypedRule) (formed : (r : TypedRule) → In rs
   are_open a b h = ap (λ x. x || is_open_constant p (site_of b)) (open_or_itself p a) ∙ ap (λ x. not (means_itself p a) || x) (open_or_itself p b) ∙ not_both (means_itself p a) (means_itself p b) h
 
   -- from patterns to sites, for whatever values of constants
-  module _ (value : PatternConstant → Option Value) (h : AreToldApart p value rs) where
-    same_site : (a b : SiteTerm) (ty : ℕ) (x : IsTested a) (y : IsTested b) → (is_open_constant p a || is_open_constant p b) ≡ true → written_type p a ≡ Some ty → written_type p b ≡ Some ty
-        → (v : Value) → value x.constant ≡ Some v → value y.constant ≡ Some v → a ≡ b
-    same_site a b ty x y o s t v g k =
-        let opened = ap (λ u. is_open_constant p u || is_open_constant p (site_of y.constant)) x.site ∙ ap (λ u. is_open_constant p a || is_open_constant p u) y.site ∙ o in
-        let one = some_is (type_of_constant x.constant) ty (sym x.typed ∙ s) in
-        let two = some_is (type_of_constant y.constant) ty (sym y.typed ∙ t) in
-        sym x.site ∙ ap site_of (h.different x.constant y.constant v x.named y.named (one ∙ sym two) (one_is_open x.constant y.constant opened) g k) ∙ y.site
+  same_site : {value : PatternConstant → Option Value} → AreToldApart p value rs → (a b : SiteTerm) (ty : ℕ) (x : IsTested a) (y : IsTested b) → (is_open_constant p a || is_open_constant p b) ≡ true → written_type p a ≡ Some ty → written_type p b ≡ Some ty
+      → (v : Value) → value x.constant ≡ Some v → value y.constant ≡ Some v → a ≡ b
+  same_site h a b ty x y o s t v g k =
+      let opened = ap (λ u. is_open_constant p u || is_open_constant p (site_of y.constant)) x.site ∙ ap (λ u. is_open_constant p a || is_open_constant p u) y.site ∙ o in
+      let one = some_is (type_of_constant x.constant) ty (sym x.typed ∙ s) in
+      let two = some_is (type_of_constant y.constant) ty (sym y.typed ∙ t) in
+      sym x.site ∙ ap site_of (h.different x.constant y.constant v x.named y.named (one ∙ sym two) (one_is_open x.constant y.constant opened) g k) ∙ y.site
 
-    no_parts : (r : TypedRule) (s : SiteTerm) (name ty : ℕ) → Contains rs r → Contains (demands_of p r).constraints (s, is_prim name) → constant_type p name ≡ Some ty → is_type_with_parts (slice_get p.types ty) ≡ false
-    no_parts r s name ty c i t =
-        let x = of_rule r (in_from_contains rs r c) (s, is_prim name) (in_from_contains (demands_of p r).constraints (s, is_prim name) i) (prim_term name) (inl refl) in
-        let one = some_is (type_of_constant x.constant) ty (sym x.typed ∙ t) in
-        h.without_parts name ty (subst (Contains (rules_constants rs)) (of_name x.constant name x.site ∙ ap (a_name name) one) x.named)
+  no_parts : {value : PatternConstant → Option Value} → AreToldApart p value rs → (r : TypedRule) (s : SiteTerm) (name ty : ℕ) → Contains rs r → Contains (demands_of p r).constraints (s, is_prim name) → constant_type p name ≡ Some ty → is_type_with_parts (slice_get p.types ty) ≡ false
+  no_parts h r s name ty c i t =
+      let x = of_rule r (in_from_contains rs r c) (s, is_prim name) (in_from_contains (demands_of p r).constraints (s, is_prim name) i) (prim_term name) (inl refl) in
+      let one = some_is (type_of_constant x.constant) ty (sym x.typed ∙ t) in
+      h.without_parts name ty (subst (Contains (rules_constants rs)) (of_name x.constant name x.site ∙ ap (a_name name) one) x.named)
 
   -- and back
   parts_back : ((r : TypedRule) (s : SiteTerm) (name ty : ℕ) → Contains rs r → Contains (demands_of p r).constraints (s, is_prim name) → constant_type p name ≡ Some ty → is_type_with_parts (slice_get p.types ty) ≡ false)
@@ -400,8 +391,8 @@ module _ (p : Program) (rs : List TypedRule) (formed : (r : TypedRule) → In rs
     different = λ a b ty v i j o s t g k.
         (let x = tested a i in
         let y = tested b j in
-        same_site (value_in m) h a b ty x y o s t v (sym (value_there m x.constant) ∙ ap (written_value m) x.site ∙ g) (sym (value_there m y.constant) ∙ ap (written_value m) y.site ∙ k));
-    without_parts = no_parts (value_in m) h;
+        same_site h a b ty x y o s t v (sym (value_there m x.constant) ∙ ap (written_value m) x.site ∙ g) (sym (value_there m y.constant) ∙ ap (written_value m) y.site ∙ k));
+    without_parts = no_parts h;
   }
 
   told : (m : Meaning) → TellsConstantsApart p m rs → TellsPatternsApart p m rs
@@ -420,9 +411,9 @@ module _ (p : Program) (rs : List TypedRule) (formed : (r : TypedRule) → In rs
         (let x = tested a i in
         let y = tested b j in
         let v = total_some f x.constant in
-        same_site (value_by f) h a b ty x y o s t v.0 v.1
+        same_site h a b ty x y o s t v.0 v.1
         (sym (total_there f y.constant) ∙ ap (total_value f) y.site ∙ sym g ∙ sym (ap (total_value f) x.site) ∙ total_there f x.constant ∙ v.1));
-    without_parts = no_parts (value_by f) h;
+    without_parts = no_parts h;
   }
 
   kept : (f : TotalMeaning) → KeepsConstantsApart p f rs → KeepsPatternsApart p f rs
@@ -436,42 +427,38 @@ module _ (p : Program) (rs : List TypedRule) (formed : (r : TypedRule) → In rs
   }
 
 -- 4. rules that elaborate
-module _ (e : TypesRead) (defs : List Definition) (expand : Bool) (rules : TypedRules) (t : ℕ) (h : IsElaborated e defs expand rules) where
-  abbrev p : Program
-  p = program_of e defs rules.rules
+all_formed : (p : Program) (t : ℕ) → IsWellTypedProgram p → (r : TypedRule) → In (rules_of p t) r → is_formed_rule p r ≡ true
+all_formed p t h r i = (typed_rule p t r h (contains_from_in (rules_of p t) r i)).formed
 
-  all_formed : (r : TypedRule) → In (rules_of p t) r → is_formed_rule p r ≡ true
-  all_formed r i =
-      let b = of_term e defs expand rules h t r (contains_from_in (rules_of p t) r i) in (elaborated_rules_hang rules_are_formed typed.lists_agree e defs expand rules h r b.0).0
-
-  pub tells_constants : (m : Meaning) → TellsPatternsApart p m (rules_of p t) → TellsConstantsApart p m (rules_of p t)
-  tells_constants m = tells p (rules_of p t) all_formed m
+pub tells_constants : (p : Program) (t : ℕ) (m : Meaning) → IsWellTypedProgram p → TellsPatternsApart p m (rules_of p t) → TellsConstantsApart p m (rules_of p t)
+tells_constants p t m h = tells p (rules_of p t) (all_formed p t h) m
 
 pub constants_are_of_patterns_lem : ConstantsAreOfPatterns
 constants_are_of_patterns_lem e defs expand rules t m h =
     let p = program_of e defs rules.rules in
-    (tells p (rules_of p t) (all_formed e defs expand rules t h) m, told p (rules_of p t) (all_formed e defs expand rules t h) m)
+    let formed = all_formed p t (elaborated_programs_are_well_typed_lem e defs expand rules h) in
+    (tells p (rules_of p t) formed m, told p (rules_of p t) formed m)
 
 pub functions_constants_are_of_patterns_lem : FunctionsConstantsAreOfPatterns
 functions_constants_are_of_patterns_lem e defs expand rules t f h =
     let p = program_of e defs rules.rules in
-    (keeps p (rules_of p t) (all_formed e defs expand rules t h) f, kept p (rules_of p t) (all_formed e defs expand rules t h) f)
+    let formed = all_formed p t (elaborated_programs_are_well_typed_lem e defs expand rules h) in
+    (keeps p (rules_of p t) formed f, kept p (rules_of p t) formed f)
 
 pub headline_is_of_patterns_lem : HeadlineIsOfPatterns
-headline_is_of_patterns_lem e defs expand rules t sites tree h = record {
-  chooses = λ runs without m args typed served apart. runs without m args typed served (tells_constants e defs expand rules t h m apart);
-  collects = λ bags multi results m args typed served apart. bags multi results m args typed served (tells_constants e defs expand rules t h m apart);
-}
+headline_is_of_patterns_lem e defs expand rules t sites tree h =
+    let p = program_of e defs rules.rules in
+    let w = elaborated_programs_are_well_typed_lem e defs expand rules h in
+    record {
+      chooses = λ runs without m args typed served apart. runs without m args typed served (tells_constants p t m w apart);
+      collects = λ bags multi results m args typed served apart. bags multi results m args typed served (tells_constants p t m w apart);
+    }
 
 -- 5. literals that mean what they write
-both : (a b : Bool) → a ≡ true → b ≡ true → (a && b) ≡ true
-both true b g h = h
-both false b g h = absurd (false≢true g)
-
 pub literals_are_told_apart_lem : LiteralsAreToldApart
 literals_are_told_apart_lem p value rs all =
     let itself : (c : PatternConstant) → Contains (rules_constants rs) c → means_itself p c ≡ true = λ c i. All-contains (λ k. IsTrue (means_itself p k)) (rules_constants rs) c all i in
     record {
-      different = λ a b v i j same o g k. absurd (false≢true (sym o ∙ both (means_itself p a) (means_itself p b) (itself a i) (itself b j)));
+      different = λ a b v i j same o g k. absurd (false≢true (sym o ∙ and_from (means_itself p a) (means_itself p b) (itself a i) (itself b j)));
       without_parts = λ name ty i. absurd (false≢true (itself (a_name name ty) i));
     }

@@ -31,7 +31,7 @@ made_inside (enum_type name id is_extern is_nodebug variants at) n i = inr (by v
     by (v ∷ vs) (inl e) = inl e
     by (v ∷ vs) (inr j) = inr (inr (in_right (field_numbers v.fields) (flat_map variant_numbers vs) n (by vs j)))
 
-pub all_made_inside : (ts : List TypeEntry) (n : ℕ) → In (flat_map made_by ts) n → In (flat_map entry_numbers ts) n
+all_made_inside : (ts : List TypeEntry) (n : ℕ) → In (flat_map made_by ts) n → In (flat_map entry_numbers ts) n
 all_made_inside [] n i = absurd i
 all_made_inside (t ∷ ts) n i =
     elim (in_either (made_by t) (flat_map made_by ts) n i) [
@@ -71,52 +71,70 @@ moved k l defs types names h = record {
 }
 
 -- 3. types with more names
-module _ (e : TypesRead) (more : List (List ℕ)) (r : AreReadable e) where
-  abbrev names : List (List ℕ)
-  names = e.known.names
+-- types that can be read, and further names that were met since: none has two numbers
+pub record TypesReadAgain : Type 0 where
+  pub types : TypesRead
+  pub more : List (List ℕ)
+  pub readable : AreReadable types
+  pub once : IsDistinct (types.known.names ++ more)
 
-  longer : (n : ℕ) → n < length names → n < length (names ++ more)
-  longer n l = let same = length-append names more in omega (arith, l, same)
+module _ (a : TypesReadAgain) where
+  abbrev k : KnownTypes
+  k = a.types.known
 
-  pub readable : IsDistinct (names ++ more) → AreReadable (with_more e more)
-  readable once = record {
+  abbrev pub later : TypesRead
+  later = with_more a.types a.more
+
+  longer : (n : ℕ) → n < length k.names → n < length (k.names ++ a.more)
+  longer n l = let same = length-append k.names a.more in omega (arith, l, same)
+
+  pub still_readable : AreReadable later
+  still_readable = record {
     well_formed = record {
-      names_distinct = once;
-      builtins = r.well_formed.builtins;
-      ids = r.well_formed.ids;
-      type_names_distinct = r.well_formed.type_names_distinct;
-      as_many_names = r.well_formed.as_many_names;
-      names_of_types_met = all_members (λ x. IsTrue (has_name (names ++ more) x)) e.known.type_names
-          (λ x c. has_left names more x (All-contains (λ y. IsTrue (has_name names y)) e.known.type_names x r.well_formed.names_of_types_met c));
-      types_in_range = r.well_formed.types_in_range;
-      numbers_in_range = all_members (λ n. n < length (names ++ more)) (flat_map entry_numbers e.known.types)
-          (λ n c. longer n (All-contains (λ m. m < length names) (flat_map entry_numbers e.known.types) n r.well_formed.numbers_in_range c));
+      names_distinct = a.once;
+      builtins = a.readable.well_formed.builtins;
+      ids = a.readable.well_formed.ids;
+      type_names_distinct = a.readable.well_formed.type_names_distinct;
+      as_many_names = a.readable.well_formed.as_many_names;
+      names_of_types_met = all_members (λ x. IsTrue (has_name (k.names ++ a.more) x)) k.type_names
+          (λ x c. has_left k.names a.more x (All-contains (λ y. IsTrue (has_name k.names y)) k.type_names x a.readable.well_formed.names_of_types_met c));
+      types_in_range = a.readable.well_formed.types_in_range;
+      numbers_in_range = all_members (λ n. n < length (k.names ++ a.more)) (flat_map entry_numbers k.types)
+          (λ n c. longer n (All-contains (λ m. m < length k.names) (flat_map entry_numbers k.types) n a.readable.well_formed.numbers_in_range c));
     };
-    variants = r.variants;
-    names_of_constants = all_members (λ (c : ℕ × ℕ). c.0 < length (names ++ more)) e.constants
-        (λ c i. longer c.0 (All-contains (λ (d : ℕ × ℕ). d.0 < length names) e.constants c r.names_of_constants i));
-    types_of_constants = r.types_of_constants;
+    variants = a.readable.variants;
+    names_of_constants = all_members (λ (c : ℕ × ℕ). c.0 < length (k.names ++ a.more)) a.types.constants
+        (λ c i. longer c.0 (All-contains (λ (d : ℕ × ℕ). d.0 < length k.names) a.types.constants c a.readable.names_of_constants i));
+    types_of_constants = a.readable.types_of_constants;
   }
 
-  pub names_alike : (defs : List Definition) → term_names e.known defs ≡ term_names (with_more e more).known defs
-  names_alike defs =
-      ap (λ l. decl_names defs ++ l)
-      (read_alike names more (flat_map made_by e.known.types)
-      (λ n i. All-contains (λ m. m < length names) (flat_map entry_numbers e.known.types) n r.well_formed.numbers_in_range (contains_from_in (flat_map entry_numbers e.known.types) n (all_made_inside e.known.types n i))))
+  -- a name of a term that a type makes is one of those that were met before
+  pub made_below : (n : ℕ) → In (flat_map made_by k.types) n → n < length k.names
+  made_below n i =
+      All-contains (λ m. m < length k.names) (flat_map entry_numbers k.types) n a.readable.well_formed.numbers_in_range
+      (contains_from_in (flat_map entry_numbers k.types) n (all_made_inside k.types n i))
 
-  pub valid_alike : (defs : List Definition) → IsValidTerms e.known defs ↔ IsValidTerms (with_more e more).known defs
-  valid_alike defs = (moved e.known (with_more e more).known defs refl (names_alike defs), moved (with_more e more).known e.known defs refl (sym (names_alike defs)))
+  pub names_stay : (defs : List Definition) → term_names k defs ≡ term_names later.known defs
+  names_stay defs = ap (λ l. decl_names defs ++ l) (read_alike k.names a.more (flat_map made_by k.types) made_below)
+
+  pub valid_alike : (defs : List Definition) → IsValidTerms k defs ↔ IsValidTerms later.known defs
+  valid_alike defs = (moved k later.known defs refl (names_stay defs), moved later.known k defs refl (sym (names_stay defs)))
 
 -- the names of an environment that is left stand once
 pub more_once : (e : TypesRead) (env : TypeEnvironment) (left : IsLeftByRefusal e env) → IsDistinct (e.known.names ++ left.more)
 more_once e env left =
     let inverse = left.types.inverse in subst IsDistinct left.types.names (λ j k x a b. same_Some j k (sym (inverse.numbered x j a) ∙ inverse.numbered x k b))
 
+-- so what a refusal leaves can be read again
+abbrev pub left_again : (e : TypesRead) (env : TypeEnvironment) → AreReadable e → IsLeftByRefusal e env → TypesReadAgain
+left_again e env r left = record { types = e; more = left.more; readable = r; once = more_once e env left }
+
 pub refused_environments_can_be_read_again_lem : RefusedEnvironmentsCanBeReadAgain
 refused_environments_can_be_read_again_lem e env r left =
-    let valid = valid_alike e left.more r in
+    let a = left_again e env r left in
+    let valid = valid_alike a in
     record {
-      readable = readable e left.more r (more_once e env left);
+      readable = still_readable a;
       shown = left.types;
       terms = valid;
       refused = λ defs errors. (

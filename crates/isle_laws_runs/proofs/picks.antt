@@ -1,12 +1,12 @@
 -- Picks, bags, and rules without multi calls.
+pub mod CallOrders
 pub mod Calls
-pub mod Enumerated
 pub mod FirstCall
-pub mod Grown
-pub mod Held
+pub mod HeldContents
+pub mod LongerPicks
 pub mod NoIterators
 pub mod OnePick
-pub mod Ordered
-pub mod Plain
-pub mod Reordered
+pub mod PickLists
+pub mod PlainMatching
 pub mod SamePlaces
+pub mod VisitOrder

@@ -1,8 +1,14 @@
 -- Taking a rule: binding what it returns for, from whatever place.
-pub mod ByCalls
+pub mod BindOrderGrowth
+pub mod CallAnswers
 pub mod CallsIn
-pub mod Followed
-pub mod Once
+pub mod FollowedCalls
+pub mod ImpureCalls
+pub mod OneOutcome
 pub mod PureSites
-pub mod Settled
-pub mod Used
+pub mod SettledSites
+pub mod SitesBelow
+pub mod TakenOutcomes
+pub mod Taking
+pub mod TakingProgress
+pub mod UsedSites

@@ -1,4 +1,4 @@
 pub mod ChoiceLaws
-pub mod Exact
 pub mod Orders
+pub mod PickLaws
 pub mod WithoutMulti

@@ -9,7 +9,7 @@ use Rattle.isle_model.specs.trees.Collects.{calls_in, result_in}
 use Rattle.isle_model.specs.rules.Program.{Program}
 use Rattle.isle_model.specs.rules.Typed.{TypedRule}
 use Rattle.isle_model.specs.trees.Run.{World}
-use Rattle.isle_laws_runs.specs.Exact.{GiveSamePlaces}
+use Rattle.isle_laws_runs.specs.PickLaws.{GiveSamePlaces}
 
 -- calls that stand in a list
 abbrev pub Within : List SiteTerm → List SiteTerm → Type 0

@@ -6,7 +6,7 @@
 ghost use Rattle.isle_model.specs.trees.Collects.{SoundTreesCollect};
 ghost use Rattle.isle_laws_runs.specs.WithoutMulti.{NoMultiIsNoIterators, MatchesAsPlain, EndsAsPlain, BagAsPlain};
 ghost use Rattle.isle_model.specs.rules.Meaning.{one};
-ghost use Rattle.isle_laws_runs.specs.Exact.{PicksAreExact, OnlyPlacesMatter, ContentsAreHeld, HeldAreContents};
+ghost use Rattle.isle_laws_runs.specs.PickLaws.{PicksAreExact, OnlyPlacesMatter, ContentsAreHeld, HeldAreContents};
 ghost use Rattle.isle_laws_runs.specs.ChoiceLaws.{ChoiceAsksTerms, OrderDoesntMatter, OthersCanBeTakenAway, OrderInProgramsDoesntMatter, OthersInProgramsCanBeTakenAway};
 ghost use Rattle.isle_laws_runs.specs.Orders.{CallsCanComeFirst, ResultsAreOfPlaces};
 ghost use Rattle.isle_model.specs.rules.Values.{Value, value_eq};
@@ -26,13 +26,13 @@ pub fn no_multi_is_no_iterators()
 {}
 
 /// A rule without multi calls matches under every pick as it does without one.
-#[tactic(auto, using(crate::proofs::picks::Plain::matches_as_plain_lem))]
+#[tactic(auto, using(crate::proofs::picks::PlainMatching::matches_as_plain_lem))]
 pub fn matches_as_plain()
     ensures { MatchesAsPlain }
 {}
 
 /// The right side of a rule without multi calls ends under every pick as it does without one.
-#[tactic(auto, using(crate::proofs::picks::Plain::ends_as_plain_lem))]
+#[tactic(auto, using(crate::proofs::picks::PlainMatching::ends_as_plain_lem))]
 pub fn ends_as_plain()
     ensures { EndsAsPlain }
 {}
@@ -49,7 +49,6 @@ pub fn picks_are_exact()
 {}
 
 /// Of a pick only the places of its calls matter: two picks with the same places act alike, whatever their order.
-#[tactic(auto, using(crate::proofs::picks::SamePlaces::content_same, crate::proofs::picks::SamePlaces::matching_same, crate::proofs::picks::SamePlaces::ends_same))]
 pub fn only_places_matter()
     ensures { OnlyPlacesMatter }
 {}
@@ -68,13 +67,13 @@ pub fn results_are_of_places()
 {}
 
 /// What a site has under a pick, it can hold.
-#[tactic(auto, using(crate::proofs::picks::Held::contents_are_held_lem))]
+#[tactic(auto, using(crate::proofs::picks::HeldContents::contents_are_held_lem))]
 pub fn contents_are_held()
     ensures { ContentsAreHeld }
 {}
 
 /// What a site can hold, it has under every pick, where it takes no answers of multi calls.
-#[tactic(auto, using(crate::proofs::picks::Held::held_are_contents_lem))]
+#[tactic(auto, using(crate::proofs::picks::HeldContents::held_are_contents_lem))]
 pub fn held_are_contents()
     ensures { HeldAreContents }
 {}

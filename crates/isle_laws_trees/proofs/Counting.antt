@@ -6,7 +6,7 @@ use Rattle.std.specs.Prelude.{if◌then◌else◌}
 use Rattle.isle_model.specs.trees.Places.{is_in}
 use Rattle.isle_model.specs.trees.Best.{are_distinct}
 use Rattle.isle_model.proofs.Members.{nothing_in, in_head, in_tail, in_cases, member_is_in}
-use Rattle.isle_laws_trees.proofs.Exact.{not_exact}
+use Rattle.isle_laws_trees.proofs.JudgeExactness.{not_exact}
 
 -- the list without the first place of a number
 abbrev without : ℕ → List ℕ → List ℕ

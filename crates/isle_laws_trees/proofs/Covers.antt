@@ -13,7 +13,7 @@ use Rattle.isle_model.specs.trees.Sound.{NoneHigher}
 use Rattle.isle_model.specs.trees.Tests.{Test, priority, needs_at, is_lower, is_covered, cover, needs, is_needed}
 use Rattle.isle_model.specs.trees.Best.{comes_first, descend}
 use Rattle.isle_model.proofs.Members.{nothing_in, in_head, in_tail, in_cases, in_filter, from_filter, each_passes, all_pass}
-use Rattle.isle_laws_trees.proofs.Exact.{not_exact}
+use Rattle.isle_laws_trees.proofs.JudgeExactness.{not_exact}
 use Rattle.isle_model.proofs.Priorities.{at_most, at_least}
 
 -- 1. priorities

@@ -12,8 +12,8 @@ use Rattle.isle_model.specs.sites.Closure.{Closed}
 use Rattle.isle_model.specs.sites.Overlap.{BuiltRule, built_rules}
 use Rattle.isle_model.proofs.Members.{member_from_get, each_passes, all_members, in_map, from_map, member_found, member_is_in}
 use Rattle.isle_laws_trees.proofs.WellBuilt.{set_passes, passes_well_built}
-use Rattle.isle_laws_trees.proofs.Exact.{not_exact}
-use Rattle.isle_laws_trees.proofs.Few.{members, joined_member}
+use Rattle.isle_laws_trees.proofs.JudgeExactness.{not_exact}
+use Rattle.isle_laws_trees.proofs.StepCounts.{members, joined_member}
 use Rattle.isle_model.specs.trees.Places.{all_below, is_in}
 use Rattle.isle_model.specs.trees.SetRuns.{tested_sites}
 use Rattle.isle_model.specs.sites.Gates.{gate_demanded}

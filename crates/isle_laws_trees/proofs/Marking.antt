@@ -12,7 +12,7 @@ use Rattle.isle_model.specs.trees.Best.{NoSiteTwice, HasFewSteps, IsBestTree}
 use Rattle.isle_model.specs.trees.Judge.{returns_as, rule_returned, marking, marking_check, marking_arms, is_best, returns_apart}
 use Rattle.isle_model.proofs.Members.{in_head, get_within, member_from_get, each_passes}
 use Rattle.isle_laws_trees.specs.BestLaws.{IsBestMarked, TreeJudgeIsExact}
-use Rattle.isle_laws_trees.proofs.Exact.{judge_exact, not_exact}
+use Rattle.isle_laws_trees.proofs.JudgeExactness.{judge_exact, not_exact}
 use Rattle.isle_model.proofs.SameSites.{parts_mean}
 use Rattle.isle_laws_runs.proofs.runs.Claims.{Known, known_left, known_right}
 

@@ -8,7 +8,7 @@ use Rattle.isle_model.specs.lists.Setting.{Setting, Scope}
 use Rattle.isle_model.specs.lists.Elaborated.{TypedRules, typed_rules, named, few_enough, most_nested, most_expansions}
 use Rattle.isle_model.specs.lists.Elaborates.{ElaboratesRule, ElaboratesRules, no_rule, one_rule}
 use Rattle.isle_model.specs.rules.Typed.{TypedRule}
-use Rattle.isle_model.specs.claims.Environments.{TypesRead, setting_of, IsElaborated}
+use Rattle.isle_model.specs.claims.Environments.{TypesRead, AreReadable, setting_of, IsElaborated}
 use Rattle.isle_model.specs.claims.Refusals.{nesting_passes, expansions_pass}
 use Rattle.isle_model.proofs.Elements.{some_is, none_some}
 use Rattle.isle_model.proofs.Names.{distinct_names}
@@ -64,25 +64,21 @@ module _ (e : Setting) where
   typed_there trees names None l g h = absurd (none_some l h)
   typed_there trees names (Some k) l g h = (k, g)
 
-module _ (e : TypesRead) (defs : List Definition) (expand : Bool) (rules : TypedRules) (h : IsElaborated e defs expand rules) where
-  abbrev s : Setting
-  s = setting_of e defs expand
+names_once : (e : TypesRead) (defs : List Definition) → AreReadable e → IsDistinct (term_names_met e.known defs)
+names_once e defs readable = distinct_names e.known.names (decl_names defs ++ flat_map function_of defs) readable.well_formed.names_distinct
 
-  abbrev names : List (List ℕ)
-  names = term_names_met e.known defs
-
-  once : IsDistinct names
-  once = distinct_names e.known.names (decl_names defs ++ flat_map function_of defs) h.readable.well_formed.names_distinct
-
-  derived : (i : ℕ) (r : RuleTree) → slice_get (rule_trees defs) i ≡ Some r → Derived s names i r
-  derived i r at =
-      let k = typed_there s (rule_trees defs) names (typed_rules s 0 (rule_trees defs) names) rules refl h.elaborate.typed in
-      derived_at s ((typed.lists_agree s 0 (rule_trees defs) names k.0.rules k.0.names).1 k.1) i r at i (let q : i ≡ 0 + i = omega arith in q)
+derived : (e : TypesRead) (defs : List Definition) (expand : Bool) (rules : TypedRules) → IsElaborated e defs expand rules → (i : ℕ) (r : RuleTree) → slice_get (rule_trees defs) i ≡ Some r
+    → Derived (setting_of e defs expand) (term_names_met e.known defs) i r
+derived e defs expand rules h i r at =
+    let s = setting_of e defs expand in
+    let names = term_names_met e.known defs in
+    let k = typed_there s (rule_trees defs) names (typed_rules s 0 (rule_trees defs) names) rules refl h.elaborate.typed in
+    derived_at s ((typed.lists_agree s 0 (rule_trees defs) names k.0.rules k.0.names).1 k.1) i r at i (let q : i ≡ 0 + i = omega arith in q)
 
 pub elaborated_rules_are_within_limits_lem : ElaboratedRulesAreWithinLimits
 elaborated_rules_are_within_limits_lem e defs expand rules h id r here none =
     let d = derived e defs expand rules h id r here in
-    let alike = names_of_rules_dont_matter_lem e defs expand most_nested id r d.more h.readable (d.once (once e defs expand rules h)) in
+    let alike = names_of_rules_dont_matter_lem e defs expand most_nested id r d.more h.readable (d.once (names_once e defs h.readable)) in
     let made = (typed.typed_within_limits (setting_of e defs expand) id r (term_names_met e.known defs ++ d.more) d.rule d.scope d.count).0 (d.made, d.few) in
     subst₂ (λ a b. AreThereAlike a b) none made alike.1
 

@@ -15,8 +15,8 @@ use Rattle.isle_model.proofs.Members.{nothing_in, in_head, in_cases, some_member
 use Rattle.isle_laws_trees.specs.OneTree.{BestTreesAreOne}
 use Rattle.isle_laws_trees.proofs.Counting.{distinct_within}
 use Rattle.isle_laws_trees.proofs.Covers.{first_at_least, at_least_not_lower, descend_rest}
-use Rattle.isle_laws_trees.proofs.Exact.{not_exact}
-use Rattle.isle_laws_trees.proofs.Few.{once_distinct}
+use Rattle.isle_laws_trees.proofs.JudgeExactness.{not_exact}
+use Rattle.isle_laws_trees.proofs.StepCounts.{once_distinct}
 use Rattle.isle_laws_trees.proofs.Scores.{one_test_is_greatest_lem}
 use Rattle.isle_laws_runs.proofs.runs.Order.{before_chain, before_itself}
 
@@ -86,52 +86,67 @@ rest_same xs ys zs ws h k s f = record {
   from = λ i c. elim (Contains-append_cases xs ys i (s.from i (Contains-append_right zs ws i c))) [ inl z ↦ absurd (never_both zs ws k i (f.to i z) c) | inr w ↦ w ];
 }
 
--- 2. covers, scores and greatest tests are of the members alone
-module _ (rules : List SetRule) (t : Test) (xs ys : List ℕ) (s : Same xs ys) where
-  covered_same : (i : ℕ) → is_covered rules xs t i ≡ is_covered rules ys t i
-  covered_same i = ap (λ b. needs_at rules t i && b) (all_same (λ j. needs_at rules t j || not (is_lower rules i j)) xs ys s)
+-- the same rules in two lists, none of which stands twice
+record SameRules (xs ys : List ℕ) : Type 0 where
+  once : are_distinct xs ≡ true
+  other_once : are_distinct ys ≡ true
+  same : Same xs ys
 
-  cover_to : (i : ℕ) → Contains (cover rules xs t) i → Contains (cover rules ys t) i
-  cover_to i c = (let q = from_filter (is_covered rules xs t) xs i c in in_filter (is_covered rules ys t) ys i (s.to i q.0) (sym (covered_same i) ∙ q.1))
+turned_rules : {xs ys : List ℕ} → SameRules xs ys → SameRules ys xs
+turned_rules {xs} {ys} s = record { once = s.other_once; other_once = s.once; same = turned xs ys s.same }
+
+-- parts of them
+left_same : (xs ys zs ws : List ℕ) → SameRules (xs ++ ys) (zs ++ ws) → Same xs zs → SameRules xs zs
+left_same xs ys zs ws s f = record { once = distinct_left xs ys s.once; other_once = distinct_left zs ws s.other_once; same = f }
+
+right_same : (xs ys zs ws : List ℕ) → SameRules (xs ++ ys) (zs ++ ws) → Same xs zs → SameRules ys ws
+right_same xs ys zs ws s f = record { once = distinct_right xs ys s.once; other_once = distinct_right zs ws s.other_once; same = rest_same xs ys zs ws s.once s.other_once s.same f }
+
+-- 2. covers, scores and greatest tests are of the members alone
+covered_same : (rules : List SetRule) (t : Test) (xs ys : List ℕ) → Same xs ys → (i : ℕ) → is_covered rules xs t i ≡ is_covered rules ys t i
+covered_same rules t xs ys s i = ap (λ b. needs_at rules t i && b) (all_same (λ j. needs_at rules t j || not (is_lower rules i j)) xs ys s)
+
+cover_to : (rules : List SetRule) (t : Test) (xs ys : List ℕ) → Same xs ys → (i : ℕ) → Contains (cover rules xs t) i → Contains (cover rules ys t) i
+cover_to rules t xs ys s i c = (let q = from_filter (is_covered rules xs t) xs i c in in_filter (is_covered rules ys t) ys i (s.to i q.0) (sym (covered_same rules t xs ys s i) ∙ q.1))
 
 cover_same : (rules : List SetRule) (t : Test) (xs ys : List ℕ) → Same xs ys → Same (cover rules xs t) (cover rules ys t)
 cover_same rules t xs ys s = record { to = cover_to rules t xs ys s; from = cover_to rules t ys xs (turned xs ys s) }
 
-cover_length : (rules : List SetRule) (t : Test) (xs ys : List ℕ) → are_distinct xs ≡ true → are_distinct ys ≡ true → Same xs ys → length (cover rules xs t) ≡ length (cover rules ys t)
-cover_length rules t xs ys h k s = same_length (cover rules xs t) (cover rules ys t) (filter_distinct (is_covered rules xs t) xs h) (filter_distinct (is_covered rules ys t) ys k) (cover_same rules t xs ys s)
+cover_length : (rules : List SetRule) (t : Test) {xs ys : List ℕ} → SameRules xs ys → length (cover rules xs t) ≡ length (cover rules ys t)
+cover_length rules t {xs} {ys} s =
+    same_length (cover rules xs t) (cover rules ys t) (filter_distinct (is_covered rules xs t) xs s.once) (filter_distinct (is_covered rules ys t) ys s.other_once) (cover_same rules t xs ys s.same)
 
-module _ (set : SiteSet) (ar : Around) (xs ys : List ℕ) (h : are_distinct xs ≡ true) (k : are_distinct ys ≡ true) (s : Same xs ys) where
-  score_same : (t : Test) → score set ar xs t ≡ score set ar ys t
-  score_same (match_test a) = ap (λ n. record (score set ar ys (match_test a)) { count = n }) (cover_length set.rules (match_test a) xs ys h k s)
-  score_same (equal_test a b) = ap (λ n. record (score set ar ys (equal_test a b)) { count = n }) (cover_length set.rules (equal_test a b) xs ys h k s)
-  score_same (loop_test a) = ap (λ n. record (score set ar ys (loop_test a)) { count = n }) (cover_length set.rules (loop_test a) xs ys h k s)
+module _ (set : SiteSet) {xs ys : List ℕ} (s : SameRules xs ys) where
+  score_same : (ar : Around) (t : Test) → score set ar xs t ≡ score set ar ys t
+  score_same ar (match_test a) = ap (λ n. record (score set ar ys (match_test a)) { count = n }) (cover_length set.rules (match_test a) s)
+  score_same ar (equal_test a b) = ap (λ n. record (score set ar ys (equal_test a b)) { count = n }) (cover_length set.rules (equal_test a b) s)
+  score_same ar (loop_test a) = ap (λ n. record (score set ar ys (loop_test a)) { count = n }) (cover_length set.rules (loop_test a) s)
 
-  greatest_same : (t : Test) → IsGreatest set ar xs t → IsGreatest set ar ys t
-  greatest_same t g = record { open_here = g.open_here; greatest = λ u o. subst₂ (λ a b. is_greater a b ≡ false) (score_same u) (score_same t) (g.greatest u o) }
+  greatest_same : (ar : Around) (t : Test) → IsGreatest set ar xs t → IsGreatest set ar ys t
+  greatest_same ar t g = record { open_here = g.open_here; greatest = λ u o. subst₂ (λ a b. is_greater a b ≡ false) (score_same ar u) (score_same ar t) (g.greatest u o) }
 
 -- 3. at a place one test is made, for the same rules
-module _ (set : SiteSet) (ar : Around) (held later held' later' : List ℕ) (h : are_distinct (held ++ later) ≡ true) (k : are_distinct (held' ++ later') ≡ true) (s : Same (held ++ later) (held' ++ later')) where
-  one_test : (t u : Test) → IsMade set ar held later t → IsMade set ar held' later' u → t ≡ u
-  one_test t u m n =
-      let o = one_test_is_greatest_lem set ar (held ++ later) t m.test.open_here in
-      o.2 t m.test ∙ sym (o.2 u (greatest_same set ar (held' ++ later') (held ++ later) k h (turned (held ++ later) (held' ++ later') s) u n.test))
+one_test : (set : SiteSet) (ar : Around) {held later held' later' : List ℕ} → SameRules (held ++ later) (held' ++ later') → (t u : Test) → IsMade set ar held later t → IsMade set ar held' later' u → t ≡ u
+one_test set ar {held} {later} s t u m n =
+    let o = one_test_is_greatest_lem set ar (held ++ later) t m.test.open_here in
+    o.2 t m.test ∙ sym (o.2 u (greatest_same set (turned_rules s) ar u n.test))
 
-  held_same : (t u : Test) → IsMade set ar held later t → IsMade set ar held' later' u → Same held held'
-  held_same t u m n =
-      let e = one_test t u m n in
-      let c = cover_same set.rules t (held ++ later) (held' ++ later') s in
-      let rules' : cover set.rules (held' ++ later') t ≡ held' = ap (cover set.rules (held' ++ later')) e ∙ n.rules in
-      record {
-        to = λ i x. subst (λ l. Contains l i) rules' (c.to i (subst (λ l. Contains l i) (sym m.rules) x));
-        from = λ i x. subst (λ l. Contains l i) m.rules (c.from i (subst (λ l. Contains l i) (sym rules') x));
-      }
+held_same : (set : SiteSet) (ar : Around) {held later held' later' : List ℕ} → SameRules (held ++ later) (held' ++ later') → (t u : Test) → IsMade set ar held later t → IsMade set ar held' later' u → Same held held'
+held_same set ar {held} {later} {held'} {later'} s t u m n =
+    let e = one_test set ar s t u m n in
+    let c = cover_same set.rules t (held ++ later) (held' ++ later') s.same in
+    let rules' : cover set.rules (held' ++ later') t ≡ held' = ap (cover set.rules (held' ++ later')) e ∙ n.rules in
+    record {
+      to = λ i x. subst (λ l. Contains l i) rules' (c.to i (subst (λ l. Contains l i) (sym m.rules) x));
+      from = λ i x. subst (λ l. Contains l i) m.rules (c.from i (subst (λ l. Contains l i) (sym rules') x));
+    }
 
-  -- a test is made in one tree alone where the other one's block doesn't end
-  no_end : (t : Test) → IsMade set ar held later t → IsEnd set ar (held' ++ later') → ⊥
-  no_end t m end =
-      let i = some_member held m.some_rule in
-      let c = cover_same set.rules t (held ++ later) (held' ++ later') s in
-      nothing_in i.0 (subst (λ l. Contains l i.0) (end.over t m.test.open_here) (c.to i.0 (subst (λ l. Contains l i.0) (sym m.rules) i.1)))
+-- a test is made in one tree alone where the other one's block doesn't end
+no_end : (set : SiteSet) (ar : Around) {held later here : List ℕ} → SameRules (held ++ later) here → (t : Test) → IsMade set ar held later t → IsEnd set ar here → ⊥
+no_end set ar {held} {later} {here} s t m end =
+    let i = some_member held m.some_rule in
+    let c = cover_same set.rules t (held ++ later) here s.same in
+    nothing_in i.0 (subst (λ l. Contains l i.0) (end.over t m.test.open_here) (c.to i.0 (subst (λ l. Contains l i.0) (sym m.rules) i.1)))
 
 -- what a test is
 abbrev form_of : Test → ℕ
@@ -244,99 +259,98 @@ module _ (set : SiteSet) (sites_once : IsDistinct set.sites) where
       ]
 
   mutual
-    steps_same : (m n : Marked) (ar : Around) (closing : Bool) → Known (marks m) → Known (marks n) → are_distinct (marks m) ≡ true → are_distinct (marks n) ≡ true → Same (marks m) (marks n)
+    steps_same : (m n : Marked) (ar : Around) (closing : Bool) → Known (marks m) → Known (marks n) → SameRules (marks m) (marks n)
         → (closing ≡ true → descend set.rules (marks m) ≡ true) → (closing ≡ true → descend set.rules (marks n) ≡ true)
         → BestSteps set ar closing m → BestSteps set ar closing n → m ≡ n
-    steps_same m_no_step m_no_step ar closing km kn h k s d e x y = refl
-    steps_same m_no_step (m_step binds check rest) ar closing km kn h k s d e x y =
-        let i = some_marks check ar closing (marks rest) y.1 in absurd (nothing_in i.0 (s.from i.0 (Contains-append_left (marks_check check) (marks rest) i.0 i.1)))
-    steps_same (m_step binds check rest) m_no_step ar closing km kn h k s d e x y =
-        let i = some_marks check ar closing (marks rest) x.1 in absurd (nothing_in i.0 (s.to i.0 (Contains-append_left (marks_check check) (marks rest) i.0 i.1)))
-    steps_same (m_step binds check rest) (m_step binds' check' rest') ar closing km kn h k s d e x y =
-        let c : check ≡ check' = check_same check check' ar closing (marks rest) (marks rest') km kn h k s d e x.1 y.1 in
+    steps_same m_no_step m_no_step ar closing km kn s d e x y = refl
+    steps_same m_no_step (m_step binds check rest) ar closing km kn s d e x y =
+        let i = some_marks check ar closing (marks rest) y.1 in absurd (nothing_in i.0 (s.same.from i.0 (Contains-append_left (marks_check check) (marks rest) i.0 i.1)))
+    steps_same (m_step binds check rest) m_no_step ar closing km kn s d e x y =
+        let i = some_marks check ar closing (marks rest) x.1 in absurd (nothing_in i.0 (s.same.to i.0 (Contains-append_left (marks_check check) (marks rest) i.0 i.1)))
+    steps_same (m_step binds check rest) (m_step binds' check' rest') ar closing km kn s d e x y =
+        let c : check ≡ check' = check_same check check' ar closing (marks rest) (marks rest') km kn s d e x.1 y.1 in
         let b : binds ≡ binds' = x.0 ∙ ap (λ q. bind_order set.sites ar (uses set q)) c ∙ sym y.0 in
         let here : Same (marks_check check) (marks_check check') = subst (λ q. Same (marks_check check) (marks_check q)) c (record { to = λ i z. z; from = λ i z. z }) in
         let r : rest ≡ rest' =
         steps_same rest rest' (after_step set ar check) (is_return check)
         (known_right (marks_check check) (marks rest) km) (known_right (marks_check check') (marks rest') kn)
-        (distinct_right (marks_check check) (marks rest) h) (distinct_right (marks_check check') (marks rest') k)
-        (rest_same (marks_check check) (marks rest) (marks_check check') (marks rest') h k s here)
+        (right_same (marks_check check) (marks rest) (marks_check check') (marks rest') s here)
         (rest_ordered check ar closing (marks rest) x.1 d)
         (λ t. rest_ordered check' ar closing (marks rest') y.1 e (sym (ap is_return c) ∙ t))
         x.2 (subst (λ q. BestSteps set (after_step set ar q) (is_return q) rest') (sym c) y.2) in
         λ i. m_step (b i) (c i) (r i)
 
     check_same : (check check' : MarkedCheck) (ar : Around) (closing : Bool) (later later' : List ℕ) → Known (marks_check check ++ later) → Known (marks_check check' ++ later')
-        → are_distinct (marks_check check ++ later) ≡ true → are_distinct (marks_check check' ++ later') ≡ true → Same (marks_check check ++ later) (marks_check check' ++ later')
+        → SameRules (marks_check check ++ later) (marks_check check' ++ later')
         → (closing ≡ true → descend set.rules (marks_check check ++ later) ≡ true) → (closing ≡ true → descend set.rules (marks_check check' ++ later') ≡ true)
         → BestCheck set ar closing later check → BestCheck set ar closing later' check' → check ≡ check'
-    check_same (m_match source arms) (m_match source' arms') ar closing later later' km kn h k s d e x y =
-        let t = one_test set ar (marks_arms arms) later (marks_arms arms') later' h k s (match_test source) (match_test source') x.1 y.1 in
-        let f = held_same set ar (marks_arms arms) later (marks_arms arms') later' h k s (match_test source) (match_test source') x.1 y.1 in
+    check_same (m_match source arms) (m_match source' arms') ar closing later later' km kn s d e x y =
+        let t = one_test set ar s (match_test source) (match_test source') x.1 y.1 in
+        let f = held_same set ar s (match_test source) (match_test source') x.1 y.1 in
         let p : source ≡ source' = ap site_of t in
         let q : arms ≡ arms' =
         arms_same arms arms' ar source None None (known_left (marks_arms arms) later km) (known_left (marks_arms arms') later' kn)
-        (distinct_left (marks_arms arms) later h) (distinct_left (marks_arms arms') later' k) f
+        (left_same (marks_arms arms) later (marks_arms arms') later' s f)
         x.2 (subst (λ z. BestArms set ar z None arms') (sym p) y.2) in
         λ i. m_match (p i) (q i)
-    check_same (m_equal a b body) (m_equal a' b' body') ar closing later later' km kn h k s d e x y =
-        let t = one_test set ar (marks body) later (marks body') later' h k s (equal_test a b) (equal_test a' b') x.1 y.1 in
-        let f = held_same set ar (marks body) later (marks body') later' h k s (equal_test a b) (equal_test a' b') x.1 y.1 in
+    check_same (m_equal a b body) (m_equal a' b' body') ar closing later later' km kn s d e x y =
+        let t = one_test set ar s (equal_test a b) (equal_test a' b') x.1 y.1 in
+        let f = held_same set ar s (equal_test a b) (equal_test a' b') x.1 y.1 in
         let p : a ≡ a' = ap site_of t in
         let q : b ≡ b' = ap other_of t in
         let r : body ≡ body' =
         steps_same body body' (in_equal set ar a b) false (known_left (marks body) later km) (known_left (marks body') later' kn)
-        (distinct_left (marks body) later h) (distinct_left (marks body') later' k) f (λ z. absurd (false≢true z)) (λ z. absurd (false≢true z))
+        (left_same (marks body) later (marks body') later' s f) (λ z. absurd (false≢true z)) (λ z. absurd (false≢true z))
         x.2 (subst₂ (λ u v. BestSteps set (in_equal set ar u v) false body') (sym p) (sym q) y.2) in
         λ i. m_equal (p i) (q i) (r i)
-    check_same (m_loop result body) (m_loop result' body') ar closing later later' km kn h k s d e x y =
-        let t = one_test set ar (marks body) later (marks body') later' h k s (loop_test x.1.0) (loop_test y.1.0) x.1.2 y.1.2 in
-        let f = held_same set ar (marks body) later (marks body') later' h k s (loop_test x.1.0) (loop_test y.1.0) x.1.2 y.1.2 in
+    check_same (m_loop result body) (m_loop result' body') ar closing later later' km kn s d e x y =
+        let t = one_test set ar s (loop_test x.1.0) (loop_test y.1.0) x.1.2 y.1.2 in
+        let f = held_same set ar s (loop_test x.1.0) (loop_test y.1.0) x.1.2 y.1.2 in
         let o : x.1.0 ≡ y.1.0 = ap site_of t in
         let p : result ≡ result' = sites_once result result' (iterator_site x.1.0) x.1.1 (y.1.1 ∙ ap (λ z. Some (iterator_site z)) (sym o)) in
         let r : body ≡ body' =
         steps_same body body' (in_loop set ar result) false (known_left (marks body) later km) (known_left (marks body') later' kn)
-        (distinct_left (marks body) later h) (distinct_left (marks body') later' k) f (λ z. absurd (false≢true z)) (λ z. absurd (false≢true z))
+        (left_same (marks body) later (marks body') later' s f) (λ z. absurd (false≢true z)) (λ z. absurd (false≢true z))
         x.2 (subst (λ u. BestSteps set (in_loop set ar u) false body') (sym p) y.2) in
         λ i. m_loop (p i) (r i)
-    check_same (m_return rule) (m_return rule') ar closing later later' km kn h k s d e x y =
+    check_same (m_return rule) (m_return rule') ar closing later later' km kn s d e x y =
         ap m_return (one_first set.rules rule rule' later later'
         (elim (cases_Bool closing) [ inl t ↦ d t | inr f ↦ (x f).ordered ])
-        (elim (cases_Bool closing) [ inl t ↦ e t | inr f ↦ (y f).ordered ]) s)
-    check_same (m_match source arms) (m_equal a b body) ar closing later later' km kn h k s d e x y =
-        (let t : ◌≡◌ {A = ℕ} 0 1 = ap form_of (one_test set ar (marks_arms arms) later (marks body) later' h k s (match_test source) (equal_test a b) x.1 y.1) in absurd (omega arith))
-    check_same (m_match source arms) (m_loop result body) ar closing later later' km kn h k s d e x y =
-        (let t : ◌≡◌ {A = ℕ} 0 2 = ap form_of (one_test set ar (marks_arms arms) later (marks body) later' h k s (match_test source) (loop_test y.1.0) x.1 y.1.2) in absurd (omega arith))
-    check_same (m_equal a b body) (m_match source arms) ar closing later later' km kn h k s d e x y =
-        (let t : ◌≡◌ {A = ℕ} 1 0 = ap form_of (one_test set ar (marks body) later (marks_arms arms) later' h k s (equal_test a b) (match_test source) x.1 y.1) in absurd (omega arith))
-    check_same (m_equal a b body) (m_loop result body') ar closing later later' km kn h k s d e x y =
-        (let t : ◌≡◌ {A = ℕ} 1 2 = ap form_of (one_test set ar (marks body) later (marks body') later' h k s (equal_test a b) (loop_test y.1.0) x.1 y.1.2) in absurd (omega arith))
-    check_same (m_loop result body) (m_match source arms) ar closing later later' km kn h k s d e x y =
-        (let t : ◌≡◌ {A = ℕ} 2 0 = ap form_of (one_test set ar (marks body) later (marks_arms arms) later' h k s (loop_test x.1.0) (match_test source) x.1.2 y.1) in absurd (omega arith))
-    check_same (m_loop result body) (m_equal a b body') ar closing later later' km kn h k s d e x y =
-        (let t : ◌≡◌ {A = ℕ} 2 1 = ap form_of (one_test set ar (marks body) later (marks body') later' h k s (loop_test x.1.0) (equal_test a b) x.1.2 y.1) in absurd (omega arith))
-    check_same (m_match source arms) (m_return rule) ar closing later later' km kn h k s d e x y =
-        absurd (no_end set ar (marks_arms arms) later (rule ∷ []) later' h k s (match_test source) x.1 (y x.0))
-    check_same (m_equal a b body) (m_return rule) ar closing later later' km kn h k s d e x y =
-        absurd (no_end set ar (marks body) later (rule ∷ []) later' h k s (equal_test a b) x.1 (y x.0))
-    check_same (m_loop result body) (m_return rule) ar closing later later' km kn h k s d e x y =
-        absurd (no_end set ar (marks body) later (rule ∷ []) later' h k s (loop_test x.1.0) x.1.2 (y x.0))
-    check_same (m_return rule) (m_match source arms) ar closing later later' km kn h k s d e x y =
-        absurd (no_end set ar (marks_arms arms) later' (rule ∷ []) later k h (turned (rule ∷ later) (marks_arms arms ++ later') s) (match_test source) y.1 (x y.0))
-    check_same (m_return rule) (m_equal a b body) ar closing later later' km kn h k s d e x y =
-        absurd (no_end set ar (marks body) later' (rule ∷ []) later k h (turned (rule ∷ later) (marks body ++ later') s) (equal_test a b) y.1 (x y.0))
-    check_same (m_return rule) (m_loop result body) ar closing later later' km kn h k s d e x y =
-        absurd (no_end set ar (marks body) later' (rule ∷ []) later k h (turned (rule ∷ later) (marks body ++ later') s) (loop_test y.1.0) y.1.2 (x y.0))
+        (elim (cases_Bool closing) [ inl t ↦ e t | inr f ↦ (y f).ordered ]) s.same)
+    check_same (m_match source arms) (m_equal a b body) ar closing later later' km kn s d e x y =
+        (let t : ◌≡◌ {A = ℕ} 0 1 = ap form_of (one_test set ar s (match_test source) (equal_test a b) x.1 y.1) in absurd (omega arith))
+    check_same (m_match source arms) (m_loop result body) ar closing later later' km kn s d e x y =
+        (let t : ◌≡◌ {A = ℕ} 0 2 = ap form_of (one_test set ar s (match_test source) (loop_test y.1.0) x.1 y.1.2) in absurd (omega arith))
+    check_same (m_equal a b body) (m_match source arms) ar closing later later' km kn s d e x y =
+        (let t : ◌≡◌ {A = ℕ} 1 0 = ap form_of (one_test set ar s (equal_test a b) (match_test source) x.1 y.1) in absurd (omega arith))
+    check_same (m_equal a b body) (m_loop result body') ar closing later later' km kn s d e x y =
+        (let t : ◌≡◌ {A = ℕ} 1 2 = ap form_of (one_test set ar s (equal_test a b) (loop_test y.1.0) x.1 y.1.2) in absurd (omega arith))
+    check_same (m_loop result body) (m_match source arms) ar closing later later' km kn s d e x y =
+        (let t : ◌≡◌ {A = ℕ} 2 0 = ap form_of (one_test set ar s (loop_test x.1.0) (match_test source) x.1.2 y.1) in absurd (omega arith))
+    check_same (m_loop result body) (m_equal a b body') ar closing later later' km kn s d e x y =
+        (let t : ◌≡◌ {A = ℕ} 2 1 = ap form_of (one_test set ar s (loop_test x.1.0) (equal_test a b) x.1.2 y.1) in absurd (omega arith))
+    check_same (m_match source arms) (m_return rule) ar closing later later' km kn s d e x y =
+        absurd (no_end set ar s (match_test source) x.1 (y x.0))
+    check_same (m_equal a b body) (m_return rule) ar closing later later' km kn s d e x y =
+        absurd (no_end set ar s (equal_test a b) x.1 (y x.0))
+    check_same (m_loop result body) (m_return rule) ar closing later later' km kn s d e x y =
+        absurd (no_end set ar s (loop_test x.1.0) x.1.2 (y x.0))
+    check_same (m_return rule) (m_match source arms) ar closing later later' km kn s d e x y =
+        absurd (no_end set ar (turned_rules s) (match_test source) y.1 (x y.0))
+    check_same (m_return rule) (m_equal a b body) ar closing later later' km kn s d e x y =
+        absurd (no_end set ar (turned_rules s) (equal_test a b) y.1 (x y.0))
+    check_same (m_return rule) (m_loop result body) ar closing later later' km kn s d e x y =
+        absurd (no_end set ar (turned_rules s) (loop_test y.1.0) y.1.2 (x y.0))
 
     arms_same : (arms arms' : MarkedArms) (ar : Around) (source : ℕ) (before before' : Option Constraint) → Known (marks_arms arms) → Known (marks_arms arms')
-        → are_distinct (marks_arms arms) ≡ true → are_distinct (marks_arms arms') ≡ true → Same (marks_arms arms) (marks_arms arms')
+        → SameRules (marks_arms arms) (marks_arms arms')
         → BestArms set ar source before arms → BestArms set ar source before' arms' → arms ≡ arms'
-    arms_same m_no_arm m_no_arm ar source before before' km kn h k s x y = refl
-    arms_same m_no_arm (m_arm c fields body rest) ar source before before' km kn h k s x y =
-        let i = some_member (marks body) y.1 in absurd (nothing_in i.0 (s.from i.0 (Contains-append_left (marks body) (marks_arms rest) i.0 i.1)))
-    arms_same (m_arm c fields body rest) m_no_arm ar source before before' km kn h k s x y =
-        let i = some_member (marks body) x.1 in absurd (nothing_in i.0 (s.to i.0 (Contains-append_left (marks body) (marks_arms rest) i.0 i.1)))
-    arms_same (m_arm c fields body rest) (m_arm c' fields' body' rest') ar source before before' km kn h k s x y =
+    arms_same m_no_arm m_no_arm ar source before before' km kn s x y = refl
+    arms_same m_no_arm (m_arm c fields body rest) ar source before before' km kn s x y =
+        let i = some_member (marks body) y.1 in absurd (nothing_in i.0 (s.same.from i.0 (Contains-append_left (marks body) (marks_arms rest) i.0 i.1)))
+    arms_same (m_arm c fields body rest) m_no_arm ar source before before' km kn s x y =
+        let i = some_member (marks body) x.1 in absurd (nothing_in i.0 (s.same.to i.0 (Contains-append_left (marks body) (marks_arms rest) i.0 i.1)))
+    arms_same (m_arm c fields body rest) (m_arm c' fields' body' rest') ar source before before' km kn s x y =
         let kl = known_left (marks body) (marks_arms rest) km in
         let kl' = known_left (marks body') (marks_arms rest') kn in
         let kr = known_right (marks body) (marks_arms rest) km in
@@ -344,26 +358,25 @@ module _ (set : SiteSet) (sites_once : IsDistinct set.sites) where
         let i = some_member (marks body) x.1 in
         let j = some_member (marks body') y.1 in
         let p : c ≡ c' =
-        elim (least c' body' rest' ar source kl' kr' y.2 y.5 i.0 c (s.to i.0 (Contains-append_left (marks body) (marks_arms rest) i.0 i.1)) (asks_in (marks body) source c kl x.2 i.0 i.1)) [
+        elim (least c' body' rest' ar source kl' kr' y.2 y.5 i.0 c (s.same.to i.0 (Contains-append_left (marks body) (marks_arms rest) i.0 i.1)) (asks_in (marks body) source c kl x.2 i.0 i.1)) [
           | inl q ↦ sym q
           | inr b ↦
-              elim (least c body rest ar source kl kr x.2 x.5 j.0 c' (s.from j.0 (Contains-append_left (marks body') (marks_arms rest') j.0 j.1)) (asks_in (marks body') source c' kl' y.2 j.0 j.1)) [
+              elim (least c body rest ar source kl kr x.2 x.5 j.0 c' (s.same.from j.0 (Contains-append_left (marks body') (marks_arms rest') j.0 j.1)) (asks_in (marks body') source c' kl' y.2 j.0 j.1)) [
                 | inl q ↦ q
                 | inr a ↦ absurd (before_itself c (before_chain c c' c a b))
               ]
         ] in
         let f : fields ≡ fields' = x.3 ∙ ap (fields_of set.sites source) p ∙ sym y.3 in
         let here : Same (marks body) (marks body') = record {
-          to = λ n z. in_first c' body' rest' ar source kr' y.5 n (subst (λ (q : Constraint). Asks source n q) p (asks_in (marks body) source c kl x.2 n z)) (s.to n (Contains-append_left (marks body) (marks_arms rest) n z));
-          from = λ n z. in_first c body rest ar source kr x.5 n (subst (λ (q : Constraint). Asks source n q) (sym p) (asks_in (marks body') source c' kl' y.2 n z)) (s.from n (Contains-append_left (marks body') (marks_arms rest') n z));
+          to = λ n z. in_first c' body' rest' ar source kr' y.5 n (subst (λ (q : Constraint). Asks source n q) p (asks_in (marks body) source c kl x.2 n z)) (s.same.to n (Contains-append_left (marks body) (marks_arms rest) n z));
+          from = λ n z. in_first c body rest ar source kr x.5 n (subst (λ (q : Constraint). Asks source n q) (sym p) (asks_in (marks body') source c' kl' y.2 n z)) (s.same.from n (Contains-append_left (marks body') (marks_arms rest') n z));
         } in
         let b : body ≡ body' =
-        steps_same body body' (in_arm set ar source c fields) false kl kl' (distinct_left (marks body) (marks_arms rest) h) (distinct_left (marks body') (marks_arms rest') k) here
+        steps_same body body' (in_arm set ar source c fields) false kl kl' (left_same (marks body) (marks_arms rest) (marks body') (marks_arms rest') s here)
         (λ z. absurd (false≢true z)) (λ z. absurd (false≢true z))
         x.4 (subst₂ (λ u v. BestSteps set (in_arm set ar source u v) false body') (sym p) (sym f) y.4) in
         let r : rest ≡ rest' =
-        arms_same rest rest' ar source (Some c) (Some c') kr kr' (distinct_right (marks body) (marks_arms rest) h) (distinct_right (marks body') (marks_arms rest') k)
-        (rest_same (marks body) (marks_arms rest) (marks body') (marks_arms rest') h k s here) x.5 y.5 in
+        arms_same rest rest' ar source (Some c) (Some c') kr kr' (right_same (marks body) (marks_arms rest) (marks body') (marks_arms rest') s here) x.5 y.5 in
         λ n. m_arm (p n) (f n) (b n) (r n)
 
 pub best_trees_are_one_lem : BestTreesAreOne
@@ -378,5 +391,5 @@ best_trees_are_one_lem set a b sites_once x y =
       to = λ i c. member_counted i (marks n) (y.returns.once i (km i c));
       from = λ i c. member_counted i (marks m) (x.returns.once i (kn i c));
     } in
-    let same : m ≡ n = steps_same set sites_once m n nothing_around false km kn h k s (λ z. absurd (false≢true z)) (λ z. absurd (false≢true z)) x.steps y.steps in
+    let same : m ≡ n = steps_same set sites_once m n nothing_around false km kn (record { once = h; other_once = k; same = s }) (λ z. absurd (false≢true z)) (λ z. absurd (false≢true z)) x.steps y.steps in
     sym x.returns.same ∙ ap (plain set.rules) same ∙ y.returns.same

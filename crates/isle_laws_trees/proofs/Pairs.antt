@@ -7,7 +7,7 @@ use Rattle.isle_model.specs.trees.Places.{is_in, class, joins}
 use Rattle.isle_model.specs.trees.Best.{are_distinct, are_apart}
 use Rattle.isle_laws_runs.proofs.runs.Classes.{SameAtPairs, joined_same}
 use Rattle.isle_model.proofs.Members.{nothing_in, in_head, in_tail, in_cases, member_found}
-use Rattle.isle_laws_trees.proofs.Exact.{not_exact}
+use Rattle.isle_laws_trees.proofs.JudgeExactness.{not_exact}
 use Rattle.isle_laws_trees.proofs.Counting.{distinct_within}
 
 abbrev pub Independent : List (ℕ × ℕ) → Type 0

@@ -6,10 +6,10 @@ use Rattle.isle_model.specs.lists.Tables.{Flags}
 use Rattle.isle_model.specs.rules.Program.{Program, Kind, a_variant, a_struct, a_call, unknown, kind, flags_of, rules_of}
 use Rattle.isle_model.specs.rules.Typed.{TypedPatterns, TypedRule}
 use Rattle.isle_model.specs.sites.Sites.{Site, bool_site, int_site, prim_site, argument_site, extractor_site, constructor_site, iterator_site, make_variant_site, match_variant_site, make_struct_site, extract_struct_site, make_some_site, match_some_site, match_tuple_site, is_present, SetRule, SiteSet, sources_of, SiteTerm, extractor_call, constructor_call, pick_of, variant_made, struct_made, some_part, SiteTerms, layer_at, unfold_site}
-use Rattle.isle_model.specs.sites.Demands.{demands_of, Visit, making, asking, iterating, calling, equating, site_term_eq, has_site, with_sites, opened, part_sites, output_sites, open_call, open_term, ValuedAll, valued, call_sites, call_result, where_multi, visit_call, visit_term, visit_rule}
+use Rattle.isle_model.specs.sites.Demands.{pattern_count, outputs_taken, counting, demands_of, Visit, making, asking, iterating, calling, equating, site_term_eq, has_site, with_sites, opened, part_sites, open_call, open_term, ValuedAll, valued, call_sites, call_result, where_multi, visit_call, visit_term, visit_rule, outputs_opened}
 use Rattle.isle_model.specs.sites.DemandedGates.{HasNoPartialMulti}
 use Rattle.isle_model.specs.sites.Closure.{Closed, closed, before_closing, most_closing_steps, ascending, class_at, field_terms}
-use Rattle.isle_model.specs.sites.Limits.{most_sites, sites_after_rule, sites_after_rules, sites_reached, sites_wanted, made_walking, walked_rule}
+use Rattle.isle_model.specs.sites.Limits.{RuleLimit, most_sites, passed_in_visit, sites_after_rule, sites_after_rules, sites_reached, sites_until}
 use Rattle.isle_model.specs.sites.Closure.{is_unreachable}
 use Rattle.isle_model.specs.sites.Overlap.{BuiltRule, is_built, built_rule, built_from, built_rules}
 use Rattle.isle_model.specs.claims.Environments.{program_of}
@@ -20,7 +20,7 @@ use Rattle.isle_laws_demands.proofs.closure.Classes.{in_with_sites}
 use Rattle.isle_laws_demands.proofs.closure.Closing.{closing_keeps}
 use Rattle.isle_laws_demands.proofs.closure.WholeVisits.{reached_closed, few_made}
 use Rattle.isle_laws_demands.proofs.visits.Built.{rule_at}
-use Rattle.isle_laws_demands.proofs.visits.Declared.{program_not_both}
+use Rattle.isle_laws_lists.proofs.WellTypedRules.{elaborated_programs_are_well_typed_lem}
 use Rattle.isle_laws_demands.proofs.visits.Once.{one_number}
 use Rattle.isle_laws_demands.proofs.visits.Unfolding.{unfolds}
 use Rattle.isle_laws_demands.proofs.visits.Kept.{rule_kept}
@@ -48,7 +48,7 @@ picked call v h =
 equal_picked : (a b : SiteTerm) (v : Visit) → AllPicked v → AllPicked (equating a b v)
 equal_picked a b v h = of (site_term_eq a b)
   where
-    of : (q : Bool) → AllPicked (if q then v else (record { vars = v.vars; impure_calls = v.impure_calls; demands = record { constraints = v.demands.constraints; equalities = v.demands.equalities ++ (a, b) ∷ []; iterators = v.demands.iterators; impure = v.demands.impure; made = v.demands.made } }))
+    of : (q : Bool) → AllPicked (if q then v else (record { vars = v.vars; impure_calls = v.impure_calls; demands = record { constraints = v.demands.constraints; equalities = v.demands.equalities ++ (a, b) ∷ []; iterators = v.demands.iterators; impure = v.demands.impure; made = v.demands.made; counted = v.demands.counted } }))
     of true = h
     of false = h
 
@@ -56,13 +56,15 @@ call_opened : (flags : Flags) (infallible : Bool) (call : SiteTerm) (args : Type
 call_opened flags infallible call args v h = of flags.multi infallible
   where
     of : (multi certain : Bool) → AllPicked (if multi
-        then opened (output_sites (pick_of call) args) (making (part_sites (pick_of call) args) (iterating call (making (call ∷ (pick_of call ∷ [])) v)))
+        then outputs_opened (pick_of call) args (iterating call (making (call ∷ (pick_of call ∷ [])) v))
         else (if certain
-        then opened (output_sites call args) (making (part_sites call args) (making (call ∷ []) v))
-        else opened (output_sites (some_part call) args) (making (part_sites (some_part call) args) (asking call is_present (making (call ∷ (some_part call ∷ [])) v))))).visit
-    of true certain = more_made (part_sites (pick_of call) args) (iterating call (making (call ∷ (pick_of call ∷ [])) v)) (picked call v h)
-    of false true = more_made (part_sites call args) (making (call ∷ []) v) (more_made (call ∷ []) v h)
-    of false false = more_made (part_sites (some_part call) args) (asking call is_present (making (call ∷ (some_part call ∷ [])) v)) (more_made (call ∷ (some_part call ∷ [])) v h)
+        then outputs_opened call args (making (call ∷ []) v)
+        else outputs_opened (some_part call) args (asking call is_present (making (call ∷ (some_part call ∷ [])) v)))).visit
+    of true certain = more_made (part_sites (pick_of call) args) (counting (outputs_taken (pattern_count args)) (iterating call (making (call ∷ (pick_of call ∷ [])) v))) (picked call v h)
+    of false true = more_made (part_sites call args) (counting (outputs_taken (pattern_count args)) (making (call ∷ []) v)) (more_made (call ∷ []) v h)
+    of false false =
+        more_made (part_sites (some_part call) args) (counting (outputs_taken (pattern_count args)) (asking call is_present (making (call ∷ (some_part call ∷ [])) v)))
+        (more_made (call ∷ (some_part call ∷ [])) v h)
 
 term_opened : (k : Kind) (t : ℕ) (s : SiteTerm) (args : TypedPatterns) (v : Visit) → AllPicked v → AllPicked (open_term k t s args v).visit
 term_opened (a_variant ty variant) t s args v h = λ call i. in_left v.demands.made _ (pick_of call) (h call i)
@@ -101,7 +103,7 @@ visited_term unknown neither t a h = h
 rule_picked : (p : Program) → HasNoPartialMulti p → (r : TypedRule) → AllPicked (visit_rule p r).visit
 rule_picked p neither r =
     rule_kept p AllPicked
-    (record { bound = λ x s v h. h; equal = equal_picked; asked = λ s c v h. h; opened = λ t s args v h. term_opened (kind p t) t s args v h })
+    (record { bound = λ x s v h. h; equal = equal_picked; asked = λ s c v h. h; counted = λ c v h. h; opened = λ t s args v h. term_opened (kind p t) t s args v h })
     (record { bound = λ x s v h. h; made = more_made; valued = λ t a h. visited_term (kind p t) (neither t) t a h })
     r (λ call i. absurd i)
 
@@ -136,15 +138,15 @@ few_taken (suc n) (t ∷ ts) = let l = few_taken n ts in omega arith
 
 module _ (p : Program) where
   reached_keeps : (before : List SiteTerm) (r : TypedRule) → Keeps before (sites_reached p before r)
-  reached_keeps before r k u e = of (walked_rule p r).ended
+  reached_keeps before r k u e = of (passed_in_visit p r)
     where
       wanted : (q : Bool) → slice_get (if q then with_sites before (demands_of p r).made else (closed before (demands_of p r)).made) k ≡ Some u
       wanted true = with_keeps before (demands_of p r).made k u e
       wanted false = closing_keeps_made before p r k u (with_keeps before (demands_of p r).made k u e)
 
-      of : (q : Bool) → slice_get (if q then with_sites before (made_walking p (walked_rule p r)) else sites_wanted p before r) k ≡ Some u
-      of true = with_keeps before (made_walking p (walked_rule p r)) k u e
-      of false = wanted (is_unreachable (demands_of p r))
+      of : (o : Option (RuleLimit × ℕ)) → slice_get (sites_until p before r o) k ≡ Some u
+      of (Some passed) = with_keeps before (take passed.1 (demands_of p r).made) k u e
+      of None = wanted (is_unreachable (demands_of p r))
 
   rule_keeps : (before : List SiteTerm) (r : TypedRule) → length before ≤ most_sites → Keeps before (sites_after_rule p before r)
   rule_keeps before r l k u e =
@@ -217,7 +219,7 @@ module _ (set : SiteSet) (built : IsBuiltForSome set) where
   picks_are_made r s c g =
       let a = rule_at program set.sites (built_rules program built.term) set.rules built.built.rules r (in_from_contains set.rules r c) in
       let call = a.2.iterators.gone_over s g in
-      let made = rule_picked program (program_not_both built.types built.defs built.expand built.rules built.elaborated) a.0.rule (unfold_site set.sites s) (in_from_contains (demands_of program a.0.rule).iterators (unfold_site set.sites s) call.1) in
+      let made = rule_picked program ((elaborated_programs_are_well_typed_lem built.types built.defs built.expand built.rules built.elaborated).not_both) a.0.rule (unfold_site set.sites s) (in_from_contains (demands_of program a.0.rule).iterators (unfold_site set.sites s) call.1) in
       let n = all_numbered program [] (rules_of program built.term) a.0 a.1 (pick_of (unfold_site set.sites s)) made in
       let within = slice_get_within (sites_after_rules program [] (rules_of program built.term)) n.0 (pick_of (unfold_site set.sites s)) n.1 in
       let count = built.built.sites.count in

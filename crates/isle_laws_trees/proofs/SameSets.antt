@@ -17,7 +17,8 @@ use Rattle.isle_model.proofs.SameSites.{term_means, same_term}
 use Rattle.isle_laws_demands.proofs.visits.Once.{once_of_term, one_number}
 use Rattle.isle_laws_demands.proofs.visits.Unfolding.{unfolds}
 use Rattle.isle_laws_trees.specs.OneAnswer.{EachTwo, ShowSame, BuiltSetsShowSame}
-use Rattle.isle_laws_trees.proofs.Meant.{asked_once}
+use Rattle.isle_laws_runs.proofs.runs.Contents.{StandApart}
+use Rattle.isle_laws_trees.proofs.TreeMeanings.{asked_once}
 
 -- 1. values that answer alike
 pub options_one : {X : Type 0} (o q : Option X) → ((x : X) → o ≡ Some x → q ≡ Some x) → ((x : X) → q ≡ Some x → o ≡ Some x) → o ≡ q
@@ -133,7 +134,7 @@ module _ (p : Program) (t : ℕ) where
       site_read a x s l ∙ ap (read (place made)) same ∙ sym (site_read b y s k))
 
 -- 3. rules
-module _ (p : Program) (sites : List Site) (number : (j k : ℕ) → j < length sites → k < length sites → unfold_site sites j ≡ unfold_site sites k → j ≡ k) where
+module _ (p : Program) (sites : List Site) (number : StandApart sites) where
   asked_too : (b : BuiltRule) (r q : SetRule) → IsRuleOf p sites b r → IsRuleOf p sites b q → (s : ℕ) (c : Constraint) → Contains r.constraints (s, c) → Contains q.constraints (s, c)
   asked_too b r q x y s c k =
       let asked = x.constraints.asked s c k in

@@ -10,7 +10,7 @@ use Rattle.isle_model.specs.trees.Sound.{or_later, AllAsk, is_return}
 use Rattle.isle_model.specs.trees.Tests.{Test, match_test, equal_test, loop_test, needs, is_needed, priority, needs_at, is_lower, is_covered, cover, is_open, score, is_greater}
 use Rattle.isle_model.specs.trees.Best.{IsGreatest, IsMade, IsEnd, BestSteps, BestCheck, BestArms, comes_first, descend, IsBestTree}
 use Rattle.isle_laws_trees.specs.OneAnswer.{EachTwo, ShowSame, BestTreesAreOfWhatIsShown}
-use Rattle.isle_laws_trees.proofs.Few.{steps_make_best_trees_lem}
+use Rattle.isle_laws_trees.proofs.StepCounts.{steps_make_best_trees_lem}
 
 -- 1. rules at one place
 abbrev BothShowSame : Option SetRule → Option SetRule → Type 0

@@ -17,70 +17,97 @@ module _ (a : ℕ) (t : Bool) where
   pub one_itself : or_later (nat_lt a a) (a == a) t ≡ true → t ≡ true
   one_itself h = elim (or_cases (nat_lt a a) ((a == a) && t) h) [ inl l ↦ absurd (not_below a l) | inr r ↦ (and_parts (a == a) t r).1 ]
 
-module _ (a b c : ℕ) (t t' t'' : Bool) (next : t ≡ true → t' ≡ true → t'' ≡ true) where
+-- three numbers, and the tests that decide where two of them are the same: of the first and the second, of the second and
+-- the third, and so of the first and the third
+record ThreeNumbers : Type 0 where
+  first : ℕ
+  second : ℕ
+  third : ℕ
+  after_first : Bool
+  after_second : Bool
+  after_both : Bool
+  next : after_first ≡ true → after_second ≡ true → after_both ≡ true
+
+module _ (of : ThreeNumbers) where
   -- whatever compares the numbers
-  chain : (p q r : Bool) → (p ≡ true → q ≡ true → r ≡ true) → (p ≡ true → b ≡ c → r ≡ true) → (a ≡ b → q ≡ true → r ≡ true)
-      → or_later p (a == b) t ≡ true → or_later q (b == c) t' ≡ true → or_later r (a == c) t'' ≡ true
+  chain : (p q r : Bool) → (p ≡ true → q ≡ true → r ≡ true) → (p ≡ true → of.second ≡ of.third → r ≡ true) → (of.first ≡ of.second → q ≡ true → r ≡ true)
+      → or_later p (of.first == of.second) of.after_first ≡ true → or_later q (of.second == of.third) of.after_second ≡ true → or_later r (of.first == of.third) of.after_both ≡ true
   chain p q r both left right h k =
-      elim (or_cases p ((a == b) && t) h) [
+      elim (or_cases p ((of.first == of.second) && of.after_first) h) [
         | inl x ↦
-            elim (or_cases q ((b == c) && t') k) [
+            elim (or_cases q ((of.second == of.third) && of.after_second) k) [
               | inl y ↦ strictly (both x y)
-              | inr y ↦ strictly (left x (eqb-true b c (and_parts (b == c) t' y).0))
+              | inr y ↦ strictly (left x (eqb-true of.second of.third (and_parts (of.second == of.third) of.after_second y).0))
             ]
         | inr x ↦
-            let d = and_parts (a == b) t x in
-            let same = eqb-true a b d.0 in
-            elim (or_cases q ((b == c) && t') k) [
+            let d = and_parts (of.first == of.second) of.after_first x in
+            let same = eqb-true of.first of.second d.0 in
+            elim (or_cases q ((of.second == of.third) && of.after_second) k) [
               | inl y ↦ strictly (right same y)
               | inr y ↦
-                  let e = and_parts (b == c) t' y in
-                  or_right r ((a == c) && t'') (and_from (a == c) t'' (eq-eqb a c (same ∙ eqb-true b c e.0)) (next d.1 e.1))
+                  let e = and_parts (of.second == of.third) of.after_second y in
+                  or_right r ((of.first == of.third) && of.after_both) (and_from (of.first == of.third) of.after_both (eq-eqb of.first of.third (same ∙ eqb-true of.second of.third e.0)) (of.next d.1 e.1))
             ]
       ]
     where
-      strictly : r ≡ true → or_later r (a == c) t'' ≡ true
-      strictly l = or_left r ((a == c) && t'') l
+      strictly : r ≡ true → or_later r (of.first == of.third) of.after_both ≡ true
+      strictly l = or_left r ((of.first == of.third) && of.after_both) l
 
-  chain_up : or_later (nat_lt a b) (a == b) t ≡ true → or_later (nat_lt b c) (b == c) t' ≡ true → or_later (nat_lt a c) (a == c) t'' ≡ true
+  chain_up : or_later (nat_lt of.first of.second) (of.first == of.second) of.after_first ≡ true
+      → or_later (nat_lt of.second of.third) (of.second == of.third) of.after_second ≡ true → or_later (nat_lt of.first of.third) (of.first == of.third) of.after_both ≡ true
   chain_up =
-      chain (nat_lt a b) (nat_lt b c) (nat_lt a c)
-      (below_chain a b c)
-      (λ x e. subst (λ n. nat_lt a n ≡ true) e x)
-      (λ e y. subst (λ n. nat_lt n c ≡ true) (sym e) y)
+      chain (nat_lt of.first of.second) (nat_lt of.second of.third) (nat_lt of.first of.third)
+      (below_chain of.first of.second of.third)
+      (λ x e. subst (λ n. nat_lt of.first n ≡ true) e x)
+      (λ e y. subst (λ n. nat_lt n of.third ≡ true) (sym e) y)
 
-  chain_down : or_later (nat_lt b a) (a == b) t ≡ true → or_later (nat_lt c b) (b == c) t' ≡ true → or_later (nat_lt c a) (a == c) t'' ≡ true
+  chain_down : or_later (nat_lt of.second of.first) (of.first == of.second) of.after_first ≡ true
+      → or_later (nat_lt of.third of.second) (of.second == of.third) of.after_second ≡ true → or_later (nat_lt of.third of.first) (of.first == of.third) of.after_both ≡ true
   chain_down =
-      chain (nat_lt b a) (nat_lt c b) (nat_lt c a)
-      (λ x y. below_chain c b a y x)
-      (λ x e. subst (λ n. nat_lt n a ≡ true) e x)
-      (λ e y. subst (λ n. nat_lt c n ≡ true) (sym e) y)
+      chain (nat_lt of.second of.first) (nat_lt of.third of.second) (nat_lt of.third of.first)
+      (λ x y. below_chain of.third of.second of.first y x)
+      (λ x e. subst (λ n. nat_lt n of.first ≡ true) e x)
+      (λ e y. subst (λ n. nat_lt of.third n ≡ true) (sym e) y)
 
-module _ (a b : ℕ) (t t' : Bool) (next : a ≡ b → (t ≡ true) ⊎ (t' ≡ true)) where
-  first : a < b → or_later (nat_lt a b) (a == b) t ≡ true
-  first l = or_left (nat_lt a b) ((a == b) && t) (lt-ltb a b l)
+-- two numbers, and the tests that decide where they are the same: of the first and the second, and turned round
+record TwoNumbers : Type 0 where
+  first : ℕ
+  second : ℕ
+  after : Bool
+  turned : Bool
+  next : first ≡ second → (after ≡ true) ⊎ (turned ≡ true)
 
-  second : b < a → or_later (nat_lt b a) (b == a) t' ≡ true
-  second l = or_left (nat_lt b a) ((b == a) && t') (lt-ltb b a l)
+module _ (of : TwoNumbers) where
+  first_lower : of.first < of.second → or_later (nat_lt of.first of.second) (of.first == of.second) of.after ≡ true
+  first_lower l = or_left (nat_lt of.first of.second) ((of.first == of.second) && of.after) (lt-ltb of.first of.second l)
 
-  here : (x : Bool) → a ≡ b → t ≡ true → or_later x (a == b) t ≡ true
-  here x e h = or_right x ((a == b) && t) (and_from (a == b) t (eq-eqb a b e) h)
+  second_lower : of.second < of.first → or_later (nat_lt of.second of.first) (of.second == of.first) of.turned ≡ true
+  second_lower l = or_left (nat_lt of.second of.first) ((of.second == of.first) && of.turned) (lt-ltb of.second of.first l)
 
-  there : (x : Bool) → a ≡ b → t' ≡ true → or_later x (b == a) t' ≡ true
-  there x e h = or_right x ((b == a) && t') (and_from (b == a) t' (eq-eqb b a (sym e)) h)
+  here : (x : Bool) → of.first ≡ of.second → of.after ≡ true → or_later x (of.first == of.second) of.after ≡ true
+  here x e h = or_right x ((of.first == of.second) && of.after) (and_from (of.first == of.second) of.after (eq-eqb of.first of.second e) h)
 
-  compare_up : (or_later (nat_lt a b) (a == b) t ≡ true) ⊎ (or_later (nat_lt b a) (b == a) t' ≡ true)
+  there : (x : Bool) → of.first ≡ of.second → of.turned ≡ true → or_later x (of.second == of.first) of.turned ≡ true
+  there x e h = or_right x ((of.second == of.first) && of.turned) (and_from (of.second == of.first) of.turned (eq-eqb of.second of.first (sym e)) h)
+
+  compare_up : (or_later (nat_lt of.first of.second) (of.first == of.second) of.after ≡ true) ⊎ (or_later (nat_lt of.second of.first) (of.second == of.first) of.turned ≡ true)
   compare_up =
-      elim (cases_lt a b) [
-        | inl l ↦ inl (first l)
-        | inr l ↦ elim (cases_lt b a) [ inl m ↦ inr (second m) | inr m ↦ let e : a ≡ b = omega arith in elim (next e) [ inl h ↦ inl (here (nat_lt a b) e h) | inr h ↦ inr (there (nat_lt b a) e h) ] ]
+      elim (cases_lt of.first of.second) [
+        | inl l ↦ inl (first_lower l)
+        | inr l ↦ elim (cases_lt of.second of.first) [
+          | inl m ↦ inr (second_lower m)
+          | inr m ↦ let e : of.first ≡ of.second = omega arith in elim (of.next e) [ inl h ↦ inl (here (nat_lt of.first of.second) e h) | inr h ↦ inr (there (nat_lt of.second of.first) e h) ]
+        ]
       ]
 
-  compare_down : (or_later (nat_lt b a) (a == b) t ≡ true) ⊎ (or_later (nat_lt a b) (b == a) t' ≡ true)
+  compare_down : (or_later (nat_lt of.second of.first) (of.first == of.second) of.after ≡ true) ⊎ (or_later (nat_lt of.first of.second) (of.second == of.first) of.turned ≡ true)
   compare_down =
-      elim (cases_lt a b) [
-        | inl l ↦ inr (or_left (nat_lt a b) ((b == a) && t') (lt-ltb a b l))
-        | inr l ↦ elim (cases_lt b a) [ inl m ↦ inl (or_left (nat_lt b a) ((a == b) && t) (lt-ltb b a m)) | inr m ↦ let e : a ≡ b = omega arith in elim (next e) [ inl h ↦ inl (here (nat_lt b a) e h) | inr h ↦ inr (there (nat_lt a b) e h) ] ]
+      elim (cases_lt of.first of.second) [
+        | inl l ↦ inr (or_left (nat_lt of.first of.second) ((of.second == of.first) && of.turned) (lt-ltb of.first of.second l))
+        | inr l ↦ elim (cases_lt of.second of.first) [
+          | inl m ↦ inl (or_left (nat_lt of.second of.first) ((of.first == of.second) && of.after) (lt-ltb of.second of.first m))
+          | inr m ↦ let e : of.first ≡ of.second = omega arith in elim (of.next e) [ inl h ↦ inl (here (nat_lt of.second of.first) e h) | inr h ↦ inr (there (nat_lt of.first of.second) e h) ]
+        ]
       ]
 
 -- 2. scores
@@ -101,23 +128,69 @@ not_greater_itself : (x : Score) → is_greater x x ≡ false
 not_greater_itself x = elim (cases_Bool (is_greater x x)) [ inl t ↦ absurd (greater_itself x t) | inr f ↦ f ]
 
 greater_chain : (x y z : Score) → is_greater x y ≡ true → is_greater y z ≡ true → is_greater x z ≡ true
-greater_chain x y z =
-    chain_down x.count y.count z.count (by_emitted x y) (by_emitted y z) (by_emitted x z)
-    (chain_down x.emitted y.emitted z.emitted (by_form x y) (by_form y z) (by_form x z)
-    (chain_up x.form y.form z.form (by_site x y) (by_site y z) (by_site x z)
-    (chain_up x.site y.site z.site (nat_lt x.other y.other) (nat_lt y.other z.other) (nat_lt x.other z.other)
-    (λ h k. let p = ltb-true x.other y.other h in let q = ltb-true y.other z.other k in lt-ltb x.other z.other (omega arith)))))
+greater_chain x y z = chain_down record {
+  first = x.count;
+  second = y.count;
+  third = z.count;
+  after_first = by_emitted x y;
+  after_second = by_emitted y z;
+  after_both = by_emitted x z;
+  next = chain_down record {
+    first = x.emitted;
+    second = y.emitted;
+    third = z.emitted;
+    after_first = by_form x y;
+    after_second = by_form y z;
+    after_both = by_form x z;
+    next = chain_up record {
+      first = x.form;
+      second = y.form;
+      third = z.form;
+      after_first = by_site x y;
+      after_second = by_site y z;
+      after_both = by_site x z;
+      next = chain_up record {
+        first = x.site;
+        second = y.site;
+        third = z.site;
+        after_first = nat_lt x.other y.other;
+        after_second = nat_lt y.other z.other;
+        after_both = nat_lt x.other z.other;
+        next = λ h k. let p = ltb-true x.other y.other h in let q = ltb-true y.other z.other k in lt-ltb x.other z.other (omega arith);
+      };
+    };
+  };
+}
 
 differ_last : (a b : ℕ) → a ≢ b → (nat_lt a b ≡ true) ⊎ (nat_lt b a ≡ true)
 differ_last a b d = elim (cases_lt a b) [ inl l ↦ inl (lt-ltb a b l) | inr l ↦ inr (lt-ltb b a (omega arith)) ]
 
 compare_scores : (x y : Score) → (x.form ≡ y.form → x.site ≡ y.site → x.other ≡ y.other → ⊥) → (is_greater x y ≡ true) ⊎ (is_greater y x ≡ true)
-compare_scores x y d =
-    compare_down x.count y.count (by_emitted x y) (by_emitted y x)
-    (λ e. compare_down x.emitted y.emitted (by_form x y) (by_form y x)
-    (λ f. compare_up x.form y.form (by_site x y) (by_site y x)
-    (λ g. compare_up x.site y.site (nat_lt x.other y.other) (nat_lt y.other x.other)
-    (λ h. differ_last x.other y.other (d g h)))))
+compare_scores x y d = compare_down record {
+  first = x.count;
+  second = y.count;
+  after = by_emitted x y;
+  turned = by_emitted y x;
+  next = λ e. compare_down record {
+    first = x.emitted;
+    second = y.emitted;
+    after = by_form x y;
+    turned = by_form y x;
+    next = λ f. compare_up record {
+      first = x.form;
+      second = y.form;
+      after = by_site x y;
+      turned = by_site y x;
+      next = λ g. compare_up record {
+        first = x.site;
+        second = y.site;
+        after = nat_lt x.other y.other;
+        turned = nat_lt y.other x.other;
+        next = λ h. differ_last x.other y.other (d g h);
+      };
+    };
+  };
+}
 
 same_tests : (set : SiteSet) (ar : Around) (here : List ℕ) (t u : Test)
     → (score set ar here t).form ≡ (score set ar here u).form → (score set ar here t).site ≡ (score set ar here u).site → (score set ar here t).other ≡ (score set ar here u).other → t ≡ u

@@ -11,10 +11,10 @@ use Rattle.isle_model.specs.trees.Tests.{match_test, equal_test, loop_test, prio
 use Rattle.isle_model.specs.trees.Best.{IsEnd, descend, BestSteps, BestArms}
 use Rattle.isle_model.specs.trees.WellBuilt.{IsWellBuilt, HasOnePriority, BestTreesAreSound}
 use Rattle.isle_model.proofs.Members.{nothing_in, in_head, in_tail, in_cases, get_within, member_found, member_is_in}
-use Rattle.isle_laws_trees.proofs.Available.{Brings}
+use Rattle.isle_laws_trees.proofs.Availability.{Brings}
 use Rattle.isle_laws_trees.proofs.Covers.{prio_at, none_higher, first_is_top, descend_rest, cover_over, needed_here}
 use Rattle.isle_laws_trees.proofs.Ends.{end_is_tested}
-use Rattle.isle_laws_trees.proofs.Exact.{not_exact}
+use Rattle.isle_laws_trees.proofs.JudgeExactness.{not_exact}
 use Rattle.isle_laws_trees.proofs.Passing.{Passed, sources_there, passed_after, passed_arm, passed_equal, passed_loop, passed_at_start}
 
 module _ (set : SiteSet) (multi : Bool) (built : IsWellBuilt set) (one : multi ≡ true → HasOnePriority set.rules) where
@@ -92,7 +92,7 @@ module _ (set : SiteSet) (multi : Bool) (built : IsWellBuilt set) (one : multi �
   -- a rule's demands were tested, at an end where none is higher
   tested_at_end : (ar : Around) (here : List ℕ) → Keeps ar here → IsEnd set ar here → (i : ℕ) (r : SetRule) → Contains here i → slice_get set.rules i ≡ Some r
       → ((j : ℕ) → Contains here j → prio_at set.rules j ≤ℤ prio_at set.rules i) → IsTested ar r
-  tested_at_end ar here k end i r c at top = end_is_tested set built ar here k.brings end.over i r c at top (k.passed i r c at)
+  tested_at_end ar here k end i r c at top = end_is_tested set (record { place = record { built = built; around = ar; brings = k.brings }; here = here; over = end.over }) (record { number = i; rule = r; in_here = c; at = at; top = top; passed = k.passed i r c at })
 
   itself : (x : _) → x ≤ℤ x
   itself x = omega (arith, ints)

@@ -13,8 +13,8 @@ use Rattle.isle_model.specs.trees.Tests.{match_test, equal_test, loop_test, need
 use Rattle.isle_model.specs.trees.Best.{are_distinct}
 use Rattle.isle_model.specs.trees.WellBuilt.{tests_site, IsWellBuiltRule, IsWellBuilt}
 use Rattle.isle_model.proofs.Members.{nothing_in, in_cases, constraint_in, member_from_get, each_passes, in_map, member_found, member_is_in, in_up_to}
-use Rattle.isle_laws_trees.proofs.Exact.{not_exact}
-use Rattle.isle_laws_trees.proofs.Few.{members, joined_member}
+use Rattle.isle_laws_trees.proofs.JudgeExactness.{not_exact}
+use Rattle.isle_laws_trees.proofs.StepCounts.{members, joined_member}
 use Rattle.isle_model.specs.sites.Gates.{gate_demanded}
 
 -- 1. sites by their parts

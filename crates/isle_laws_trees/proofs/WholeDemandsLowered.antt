@@ -1,7 +1,8 @@
 -- The demands of accepted definitions are whole.
-use Rattle.isle_model.specs.claims.Environments.{types_read}
+use Rattle.isle_laws_lists.proofs.WellTypedRules.{read_programs_are_well_typed}
+use Rattle.isle_model.specs.claims.Layers.{own_program}
 use Rattle.isle_laws_demands.specs.BuiltLaws.{BuiltDemandsAreWhole}
 use Rattle.isle_laws_trees.specs.WholeDemands.{AcceptedDemandsAreWhole}
 
 pub accepted_demands_are_whole_lem : BuiltDemandsAreWhole → AcceptedDemandsAreWhole
-accepted_demands_are_whole_lem law defs expand rules accepted t = law (types_read defs) defs expand rules t accepted.read.elaborated
+accepted_demands_are_whole_lem law defs expand rules accepted t = law (own_program defs rules) t (read_programs_are_well_typed accepted.read)

@@ -1,7 +1,8 @@
 -- Best trees bind sites before they use them.
-pub mod BindOnce
-pub mod Brought
-pub mod InPlace
-pub mod Judged
+pub mod BindingJudge
+pub mod BroughtSites
+pub mod PlacedSites
+pub mod Scope
+pub mod ScopedOrders
 pub mod Scopes
 pub mod Trees

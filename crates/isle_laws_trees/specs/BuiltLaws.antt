@@ -1,24 +1,17 @@
 -- Best trees of built sets.
-use Rattle.std.specs.Prelude.{[], ◌≡◌, ℕ, Bool, true, List, All}
-use Rattle.isle_model.specs.lists.Syntax.{Definition}
-use Rattle.isle_model.specs.sites.Sites.{SiteSet}
+use Rattle.std.specs.Prelude.{[], ◌≡◌, Bool, true, All}
 use Rattle.isle_model.specs.trees.Trees.{Tree}
 use Rattle.isle_model.specs.trees.Sound.{IsSound}
 use Rattle.isle_model.specs.trees.Best.{IsBestTree}
 use Rattle.isle_model.specs.trees.Collects.{CollectsTheBag}
 use Rattle.isle_model.specs.trees.WellBuilt.{HasOnePriority}
-use Rattle.isle_model.specs.lists.Elaborated.{TypedRules}
-use Rattle.isle_model.specs.claims.Environments.{TypesRead, IsElaborated, program_of}
 use Rattle.isle_model.specs.claims.Layers.{BindsBeforeUse, IsCheckable}
-use Rattle.isle_model.specs.claims.SetMeanings.{OfBuiltSets}
-use Rattle.isle_model.specs.sites.RuleSets.{IsBuilt}
+use Rattle.isle_laws_demands.specs.BuiltSets.{OfBuiltSets}
 
 -- so its best trees are sound
 abbrev pub BestTreesOfBuiltSetsAreSound : Type 0
 BestTreesOfBuiltSetsAreSound =
-    (e : TypesRead) (defs : List Definition) (expand : Bool) (rules : TypedRules) (t : ℕ) (set : SiteSet) (multi : Bool) (tree : Tree)
-    → IsElaborated e defs expand rules → IsBuilt (program_of e defs rules.rules) t set → All (λ r. r.iterators ≡ []) set.rules
-    → (multi ≡ true → HasOnePriority set.rules) → IsBestTree set tree → IsSound set multi tree
+    OfBuiltSets (λ p t set. (multi : Bool) (tree : Tree) → All (λ r. r.iterators ≡ []) set.rules → (multi ≡ true → HasOnePriority set.rules) → IsBestTree set tree → IsSound set multi tree)
 
 -- they bind sites before they use them, in each step, whether a run reaches it or not
 abbrev pub BestTreesBindBeforeUse : Type 0

@@ -1,9 +1,9 @@
 pub mod BestLaws
 pub mod BuiltLaws
-pub mod Scores
-pub mod Meant
-pub mod NoLoops
-pub mod OneTree
-pub mod OneAnswer
 pub mod NoLimits
+pub mod NoLoops
+pub mod OneAnswer
+pub mod OneTree
+pub mod Scores
+pub mod TreeMeanings
 pub mod WholeDemands

@@ -9,7 +9,7 @@ ghost use Rattle.isle_laws_trees.specs.Scores.{ScoresAreOrdered, OneTestIsGreate
 ghost use Rattle.isle_model.specs.trees.WellBuilt.{BestTreesAreSound};
 ghost use Rattle.isle_laws_trees.specs.BuiltLaws.{BestTreesOfBuiltSetsAreSound, BestTreesBindBeforeUse, BestTreesCollectTheBag};
 ghost use Rattle.isle_model.specs.claims.Layers.{BestTreesKeepTheHeadline};
-ghost use Rattle.isle_laws_trees.specs.Meant.{BestTreesMeanTheirSets};
+ghost use Rattle.isle_laws_trees.specs.TreeMeanings.{BestTreesMeanTheirSets};
 ghost use Rattle.isle_laws_trees.specs.OneTree.{BestTreesAreOne, BuiltSetsHaveOneBestTree, LoweredTreesAreOnlyBest};
 ghost use Rattle.isle_laws_trees.specs.OneAnswer.{BestTreesAreOfWhatIsShown, BuiltSetsShowSame, ReadingGivesOne, SerializingGivesOne, BuildingGivesOne, LoweringGivesOne, NoneIsAcceptedAndRefused, RefusingGivesOne};
 ghost use Rattle.isle_laws_trees.specs.NoLimits.{CheckableProgramsPassNoLimit, ElaboratedRulesAreWithinLimits, ElaboratedListsPassNoLimit, AcceptedPassNoLimit};
@@ -48,25 +48,25 @@ pub fn best_trees_share_most()
 {}
 
 /// And no site is tested twice around a return.
-#[tactic(auto, using(crate::proofs::Once::sites_are_tested_once_lem))]
+#[tactic(auto, using(crate::proofs::SingleTests::sites_are_tested_once_lem))]
 pub fn sites_are_tested_once()
     ensures { SitesAreTestedOnce }
 {}
 
 /// And all blocks together hold at most a step for each demand of a rule, and its return.
-#[tactic(auto, using(crate::proofs::Few::steps_are_few_lem))]
+#[tactic(auto, using(crate::proofs::StepCounts::steps_are_few_lem))]
 pub fn steps_are_few()
     ensures { StepsAreFew }
 {}
 
 /// So the facts of a tree's steps are enough.
-#[tactic(auto, using(crate::proofs::Few::steps_make_best_trees_lem))]
+#[tactic(auto, using(crate::proofs::StepCounts::steps_make_best_trees_lem))]
 pub fn steps_make_best_trees()
     ensures { StepsMakeBestTrees }
 {}
 
 /// The judge of a marked tree passes it exactly where it is a best tree.
-#[tactic(auto, using(crate::proofs::Exact::judge_is_exact_lem))]
+#[tactic(auto, using(crate::proofs::JudgeExactness::judge_is_exact_lem))]
 pub fn judge_is_exact()
     ensures { JudgeIsExact }
 {}
@@ -78,7 +78,7 @@ pub fn tree_judge_is_exact()
 {}
 
 /// Likewise the judge of binding before use passes a tree exactly where it binds each site before it is used.
-#[tactic(auto, using(crate::proofs::binding::Judged::binding_judge_is_exact_lem))]
+#[tactic(auto, using(crate::proofs::binding::BindingJudge::binding_judge_is_exact_lem))]
 pub fn binding_judge_is_exact()
     ensures { BindingJudgeIsExact }
 {}
@@ -96,7 +96,7 @@ pub fn best_trees_of_built_sets_are_sound()
     built_sets_are_well_built();
 }
 
-/// A best tree of a set that is built of elaborated rules binds each site before it is used, also the impure calls of a rule before
+/// A best tree of a set that is built of well-typed rules binds each site before it is used, also the impure calls of a rule before
 /// its return, and none twice in one scope but for the calls of loops.
 pub fn best_trees_bind_before_use()
     ensures { BestTreesBindBeforeUse }

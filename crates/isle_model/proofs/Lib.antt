@@ -1,6 +1,7 @@
 pub mod Bags
 pub mod ByNumber
 pub mod Bytes
+pub mod CalledTerms
 pub mod DistinctCounts
 pub mod DistinctJoined
 pub mod Either

@@ -1,5 +1,6 @@
 -- What typed rules mean: values, meanings, matching, right sides, choice, picks and bags.
 pub mod CalledTerms
+pub mod CallsNoMulti
 pub mod Choice
 pub mod Matching
 pub mod Meaning

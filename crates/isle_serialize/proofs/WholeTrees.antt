@@ -7,9 +7,9 @@ use Rattle.isle_model.specs.trees.Trees.{Tree}
 use Rattle.isle_model.specs.trees.Places.{nothing_around}
 use Rattle.isle_model.specs.trees.Tests.{up_to}
 use Rattle.isle_model.specs.claims.Layers.{IsBuiltForSome, IsSerialized}
-use Rattle.isle_laws_trees.specs.Meant.{BestTreesMeanTheirSets}
+use Rattle.isle_laws_trees.specs.TreeMeanings.{BestTreesMeanTheirSets}
 use Rattle.isle_laws_trees.proofs.PicksMade.{picks_are_made}
-use Rattle.isle_laws_trees.proofs.Serialized.{best_steps_serialize}
+use Rattle.isle_laws_trees.proofs.SerializedSteps.{best_steps_serialize}
 use Rattle.isle_serialize.specs.Growing.{IsBestFrom, CanGrow}
 
 pub can_grow : (set : SiteSet) → IsBuiltForSome set → CanGrow set

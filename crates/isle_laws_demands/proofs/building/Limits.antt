@@ -1,30 +1,23 @@
 -- Which limit is met first of a rule, and that sites which are too many stay the first of these.
-use Rattle.std.proofs.Common.{◌≡◌, ◌<◌, ◌≤◌, nat_lt, List, [], ◌∷◌, ◌++◌, length, Some, is_some, slice_get, refl, sym, ap, ◌∙◌, subst, inl, inr, arith}
+use Rattle.std.proofs.Common.{◌≡◌, ◌<◌, ◌≤◌, nat_lt, List, [], ◌∷◌, ◌++◌, length, Some, refl, sym, ap, ◌∙◌, subst, inl, inr, arith}
 use Rattle.std.proofs.lemmas.Bool.{cases_Bool, cond-true, cond-false, le-ltb, lt-ltb}
 use Rattle.std.proofs.lemmas.List.{append-nil, append_assoc}
 use Rattle.isle_model.specs.sites.Sites.{SiteTerm}
 use Rattle.isle_model.specs.sites.Demands.{has_site, with_sites}
-use Rattle.isle_model.specs.sites.Limits.{first_limit, limits_of_shape, made_walking, most_sites, sites_limit, sites_reached, sites_wanted, walked_rule}
+use Rattle.isle_model.specs.sites.Limits.{first_limit, limit_of_passed, most_sites, passed_in_visit, sites_limit, sites_reached, sites_until}
 use Rattle.isle_laws_demands.specs.RuleByRule.{FullSitesStay, LimitsAreMet, first_sites}
-use Rattle.isle_laws_demands.proofs.building.Walks.{walks_end_at_limits_lem}
-use Rattle.isle_laws_demands.proofs.closure.WholeVisits.{none_first, rule_goes_on}
 use Rattle.std.proofs.lemmas.List.{length-append, take-append-le}
 
 pub limits_are_met_lem : LimitsAreMet
 limits_are_met_lem p before r = record {
-  none = λ e few.
-      let wanted = cond-false (walked_rule p r).ended (with_sites before (made_walking p (walked_rule p r))) (sites_wanted p before r)
-      (rule_goes_on p r (none_first (limits_of_shape p r) (ap (λ l. slice_get l 0) e))) in
-      room (subst (λ s. length s ≤ most_sites) (sym wanted) few) ∙ ap (λ l. slice_get l 0) e;
-  of_shape = λ limit rest e few. room few ∙ ap (λ l. slice_get l 0) e;
-  reached = λ limit rest e.
-      cond-true (walked_rule p r).ended (with_sites before (made_walking p (walked_rule p r))) (sites_wanted p before r)
-      (walks_end_at_limits_lem p r ∙ ap (λ l. is_some (slice_get l 0)) e);
-  of_sites = λ many. cond-true (nat_lt most_sites (length (sites_reached p before r))) (Some sites_limit) (slice_get (limits_of_shape p r) 0) (lt-ltb most_sites (length (sites_reached p before r)) many);
+  none = λ e few. room (subst (λ s. length s ≤ most_sites) (sym (ap (sites_until p before r) e)) few) ∙ ap limit_of_passed e;
+  of_visit = λ limit made e few. room few ∙ ap limit_of_passed e;
+  reached = λ limit made e. ap (sites_until p before r) e;
+  of_sites = λ many. cond-true (nat_lt most_sites (length (sites_reached p before r))) (Some sites_limit) (limit_of_passed (passed_in_visit p r)) (lt-ltb most_sites (length (sites_reached p before r)) many);
 }
   where
-    room : length (sites_reached p before r) ≤ most_sites → first_limit p before r ≡ slice_get (limits_of_shape p r) 0
-    room few = cond-false (nat_lt most_sites (length (sites_reached p before r))) (Some sites_limit) (slice_get (limits_of_shape p r) 0) (le-ltb most_sites (length (sites_reached p before r)) few)
+    room : length (sites_reached p before r) ≤ most_sites → first_limit p before r ≡ limit_of_passed (passed_in_visit p r)
+    room few = cond-false (nat_lt most_sites (length (sites_reached p before r))) (Some sites_limit) (limit_of_passed (passed_in_visit p r)) (le-ltb most_sites (length (sites_reached p before r)) few)
 
 -- sites stay first where others are made
 grown : (ts xs : List SiteTerm) → (rest : List SiteTerm) × (with_sites ts xs ≡ ts ++ rest)

@@ -37,9 +37,24 @@ number_of sites terms h u i =
     let m : k.0 < length sites = omega (arith, l, e) in
     (k.0, m, same_Some (unfold_site sites k.0) u (sym (h.exact k.0 m) ∙ k.1))
 
-module _ (sites : List Site) (k : Closed) (once : StandOnce k.constraints) (constraints : List (ℕ × Constraint)) (classes : List (List ℕ)) (h : AreListedAs sites k constraints classes) where
-  asks : AsksFor sites k constraints
-  asks = record {
+-- constraints and classes over the numbers of sites that are listed as those of demands that are being closed
+record Listing (sites : List Site) (k : Closed) : Type 0 where
+  constraints : List (ℕ × Constraint)
+  classes : List (List ℕ)
+  listed : AreListedAs sites k constraints classes
+
+module _ (sites : List Site) (k : Closed) (of : Listing sites k) where
+  abbrev constraints : List (ℕ × Constraint)
+  constraints = of.constraints
+
+  abbrev classes : List (List ℕ)
+  classes = of.classes
+
+  abbrev h : AreListedAs sites k constraints classes
+  h = of.listed
+
+  asks : StandOnce k.constraints → AsksFor sites k constraints
+  asks once = record {
     asked = λ s c i.
         let l = All-contains (λ (x : ℕ × Constraint). x.0 < length sites) constraints (s, c) h.asked_within i in
         (l, contains_from_in k.constraints (unfold_site sites s, c) (found_constraint k.constraints (unfold_site sites s) c (sym (h.asked s l) ∙ first_constraint constraints h.asked_once s c (in_from_contains constraints (s, c) i))));
@@ -80,7 +95,8 @@ module _ (sites : List Site) (k : Closed) (once : StandOnce k.constraints) (cons
 pub listed_demands_stand_lem : ListedDemandsStand
 listed_demands_stand_lem sites before d constraints classes h =
     let k = closing most_closing_steps (before_closing before d) in
-    let a = asks sites k (closed_once before d) constraints classes h in (
+    let of : Listing sites k = record { constraints = constraints; classes = classes; listed = h } in
+    let a = asks sites k of (closed_once before d) in (
       record { asked = a.asked; all_asked = a.all_asked; once = a.once },
-      order_asks_the_same_lem sites k classes h.joined_made (equates sites k (closed_once before d) constraints classes h),
+      order_asks_the_same_lem sites k classes h.joined_made (equates sites k of),
     )

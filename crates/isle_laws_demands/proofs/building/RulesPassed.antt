@@ -1,6 +1,6 @@
 -- The set of a term goes past one more rule: what was built before stays, and the rule is added or left out.
-use Rattle.std.proofs.Common.{◌≡◌, ℕ, ◌<◌, Bool, true, false, not, ◌&&◌, is_none, nat_lt, if◌then◌else◌, List, [], ◌∷◌, ◌++◌, map, length, Some, None, slice_get, All, Contains, refl, sym, ap, ◌∙◌, subst, inl, inr, arith}
-use Rattle.std.proofs.lemmas.Bool.{cases_Bool, cond-true, cond-false, ltb-false}
+use Rattle.std.proofs.Common.{◌≡◌, ℕ, ◌<◌, Bool, true, false, not, ◌&&◌, is_none, if◌then◌else◌, List, [], ◌∷◌, ◌++◌, map, length, Some, None, All, Contains, refl, sym, ap, ◌∙◌, subst, arith}
+use Rattle.std.proofs.lemmas.Bool.{cond-true, cond-false, ltb-false}
 use Rattle.std.proofs.lemmas.List.{append-nil, append_assoc, take_all}
 use Rattle.std.proofs.lemmas.List.Elements.{All-head, All-tail}
 use Rattle.isle_model.specs.rules.Typed.{TypedRule}
@@ -8,14 +8,13 @@ use Rattle.isle_model.specs.rules.Program.{Program}
 use Rattle.isle_model.specs.sites.Sites.{Constraint, Site, SetRule, SiteSet, SiteTerm, unfold_site}
 use Rattle.isle_model.specs.sites.Demands.{demands_of, with_sites}
 use Rattle.isle_model.specs.sites.Closure.{Closed, closed, is_unreachable, reported}
-use Rattle.isle_model.specs.sites.Limits.{RuleLimit, first_limit, limits_of_shape, made_walking, most_sites, sites_after_rule, sites_after_rules, sites_limit, sites_reached, sites_wanted, walked_rule}
+use Rattle.isle_model.specs.sites.Limits.{RuleLimit, first_limit, most_sites, sites_after_rule, sites_after_rules, sites_reached, sites_wanted}
 use Rattle.isle_model.specs.sites.Overlap.{BuiltRule, RuleReport, limit_passed, not_reached, built_from, built_rule, is_built, build_reports_of}
 use Rattle.isle_model.specs.sites.RuleSets.{AreRulesOfSet, AsksFor, Equates, GoesOver, IsRuleOf, StandFor}
-use Rattle.isle_model.proofs.Elements.{none_some}
 use Rattle.isle_model.proofs.Members.{all_members, nothing_in}
 use Rattle.std.proofs.lemmas.List.Elements.{All-contains}
 use Rattle.isle_laws_demands.specs.RuleByRule.{HaveGrown, SetsEndBuilt, SetsGoPastRules, SetsStartEmpty, StandsAfter, limit_met, rule_added, rule_unreachable}
-use Rattle.isle_laws_demands.proofs.closure.WholeVisits.{none_first, rule_goes_on}
+use Rattle.isle_laws_demands.proofs.closure.WholeVisits.{has_room, all_wanted}
 use Rattle.isle_laws_demands.proofs.overlaps.Checked.{built_silent, sites_on}
 
 -- 1. what was built stays where sites have grown
@@ -105,21 +104,9 @@ module _ (p : Program) where
 
 -- 3. one rule, after the sites of those before
 module _ (p : Program) (before : List SiteTerm) (r : TypedRule) (none : first_limit p before r ≡ None) where
-  has_room : nat_lt most_sites (length (sites_reached p before r)) ≡ false
-  has_room =
-      elim (cases_Bool (nat_lt most_sites (length (sites_reached p before r)))) [
-        | inl t ↦ absurd (none_some sites_limit (sym none ∙ cond-true (nat_lt most_sites (length (sites_reached p before r))) (Some sites_limit) (slice_get (limits_of_shape p r) 0) t))
-        | inr f ↦ f
-      ]
-
-  all_wanted : sites_reached p before r ≡ sites_wanted p before r
-  all_wanted =
-      cond-false (walked_rule p r).ended (with_sites before (made_walking p (walked_rule p r))) (sites_wanted p before r)
-      (rule_goes_on p r (none_first (limits_of_shape p r) (sym (cond-false (nat_lt most_sites (length (sites_reached p before r))) (Some sites_limit) (slice_get (limits_of_shape p r) 0) has_room) ∙ none)))
-
   -- the sites after it are all that were wanted
   all_kept : sites_after_rule p before r ≡ sites_wanted p before r
-  all_kept = take_all most_sites (sites_reached p before r) (let l = ltb-false most_sites (length (sites_reached p before r)) has_room in omega (arith, l)) ∙ all_wanted
+  all_kept = take_all most_sites (sites_reached p before r) (let l = ltb-false most_sites (length (sites_reached p before r)) (has_room p before r none) in omega (arith, l)) ∙ all_wanted p before r none
 
   reports_none : build_reports_of p before r ≡ map (λ why. not_reached why r.at) (reported (sites_wanted p before r) (demands_of p r))
   reports_none = ap (λ o. elim o as (λ _. List RuleReport) [ Some l ↦ limit_passed l r.at ∷ [] | None ↦ map (λ why. not_reached why r.at) (reported (sites_wanted p before r) (demands_of p r)) ]) none
@@ -134,15 +121,15 @@ not_built : (p : Program) (before : List SiteTerm) (r : TypedRule) (l : RuleLimi
 not_built p before r l e = ap (λ o. is_none o && not (is_unreachable (demands_of p r))) e
 
 -- 4. the set goes on
-module _ (p : Program) (done : List TypedRule) (r : TypedRule) (old new : SiteSet) (h : StandsAfter p done old) where
+module _ (p : Program) (done : List TypedRule) (r : TypedRule) where
   abbrev then_sites : List SiteTerm
   then_sites = sites_after_rules p [] done
 
   abbrev here : List SiteTerm → BuiltRule
   here s = built_rule p s r
 
-  left : HaveGrown old.sites new.sites → is_built p then_sites r ≡ false → StandFor new.sites (sites_after_rule p then_sites r) → new.rules ≡ old.rules → StandsAfter p (done ++ r ∷ []) new
-  left g f s e = record {
+  left : (old new : SiteSet) → StandsAfter p done old → HaveGrown old.sites new.sites → is_built p then_sites r ≡ false → StandFor new.sites (sites_after_rule p then_sites r) → new.rules ≡ old.rules → StandsAfter p (done ++ r ∷ []) new
+  left old new h g f s e = record {
     rules = subst (λ bs. AreRulesOfSet p new.sites bs new.rules) (sym none_more)
         (subst (AreRulesOfSet p new.sites (built_from p [] done)) (sym e) (rules_still old.sites new.sites g p (built_from p [] done) old.rules h.rules));
     sites = subst (StandFor new.sites) (sym (sites_on p [] done r)) s;
@@ -156,9 +143,9 @@ module _ (p : Program) (done : List TypedRule) (r : TypedRule) (old new : SiteSe
           ∙ ap (λ l. built_from p [] done ++ (l ++ [])) (cond-false (is_built p then_sites r) (here then_sites ∷ []) [] f)
           ∙ append-nil (built_from p [] done)
 
-  added : (rule : SetRule) → HaveGrown old.sites new.sites → is_built p then_sites r ≡ true → StandFor new.sites (sites_after_rule p then_sites r) → new.rules ≡ old.rules ++ rule ∷ []
+  added : (old new : SiteSet) → StandsAfter p done old → (rule : SetRule) → HaveGrown old.sites new.sites → is_built p then_sites r ≡ true → StandFor new.sites (sites_after_rule p then_sites r) → new.rules ≡ old.rules ++ rule ∷ []
       → IsRuleOf p new.sites (here then_sites) rule → StandsAfter p (done ++ r ∷ []) new
-  added rule g t s e q = record {
+  added old new h rule g t s e q = record {
     rules = subst (λ bs. AreRulesOfSet p new.sites bs new.rules) (sym one_more)
         (subst (AreRulesOfSet p new.sites (built_from p [] done ++ here then_sites ∷ [])) (sym e)
         (rules_and p new.sites (built_from p [] done) (here then_sites ∷ []) old.rules (rule ∷ []) (rules_still old.sites new.sites g p (built_from p [] done) old.rules h.rules) (q, tt)));

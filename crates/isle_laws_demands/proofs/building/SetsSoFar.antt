@@ -55,14 +55,13 @@ none_of_term t (q ∷ done) e =
       | inr h ↦ cond-false (q.root_term == t) (q ∷ of_one_term t done) (of_one_term t done) h ∙ none_of_term t done (sym (ap (λ x. x || list_any (λ q. q.root_term == t) done) h) ∙ e)
     ]
 
-module _ (p : Program) (done : List TypedRule) (old : ℕ → Option SiteSet) (reports : List RuleReport) (h : AreBuiltSoFar p done old reports) where
-  -- the set of a term, or nothing, stands where its rules are
-  pub stands : (t : ℕ) → StandsAfter p (of_one_term t done) (or_nothing_built (old t))
-  stands t = by (old t) refl
-    where
-      by : (o : Option SiteSet) → old t ≡ o → StandsAfter p (of_one_term t done) (or_nothing_built o)
-      by None e = subst (λ rs. StandsAfter p rs nothing_built) (sym (none_of_term t done (sym (h.terms t) ∙ ap is_some e))) (sets_start_empty_lem p)
-      by (Some set) e = h.each t set e
+-- the set of a term, or nothing, stands where its rules are
+pub stands : (p : Program) (done : List TypedRule) (old : ℕ → Option SiteSet) (reports : List RuleReport) → AreBuiltSoFar p done old reports → (t : ℕ) → StandsAfter p (of_one_term t done) (or_nothing_built (old t))
+stands p done old reports h t = by (old t) refl
+  where
+    by : (o : Option SiteSet) → old t ≡ o → StandsAfter p (of_one_term t done) (or_nothing_built o)
+    by None e = subst (λ rs. StandsAfter p rs nothing_built) (sym (none_of_term t done (sym (h.terms t) ∙ ap is_some e))) (sets_start_empty_lem p)
+    by (Some set) e = h.each t set e
 
 pub building_starts_lem : BuildingStarts
 building_starts_lem p = record { terms = λ t. refl; each = λ t set e. absurd (none-some set e); reported = refl }

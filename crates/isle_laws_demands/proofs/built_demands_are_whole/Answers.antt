@@ -2,4 +2,4 @@ use Rattle.isle_laws_demands.proofs.visits.WholeDemands.{built_demands_are_whole
 use Rattle.isle_laws_demands.proofs.built_demands_are_whole.Goals as goal
 
 pub returns : goal.returns
-returns c = built_demands_are_whole_lem c.rules_are_formed.ensures c.lists_agree.ensures
+returns c = built_demands_are_whole_lem

@@ -2,4 +2,4 @@ use Rattle.isle_laws_demands.proofs.visits.Served.{can_be_served_lem}
 use Rattle.isle_laws_demands.proofs.built_sets_can_be_served.Goals as goal
 
 pub returns : goal.returns
-returns c = can_be_served_lem c.rules_are_formed.ensures c.lists_agree.ensures c.elaborated_rules_demand_gates.ensures
+returns c = can_be_served_lem

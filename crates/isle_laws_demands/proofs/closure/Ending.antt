@@ -40,24 +40,27 @@ no_more_than false true was owner f g =
     elim (g refl) [ inl h ↦ let a = ap bit h.0 in omega (arith, a) | inr h ↦ let a = ap bit h in omega (arith, a) ]
 no_more_than false false was owner f g = omega arith
 
--- where each site that passes after passed before and isn't taken, or is a field of one that is taken, no site has more
--- such owners after, and one that is taken has fewer
-module _ (took after was : SiteTerm → Bool) (from : (x : SiteTerm) → took x ≡ true → was x ≡ true)
-    (new : (x : SiteTerm) → after x ≡ true → ((was x ≡ true) × (took x ≡ false)) ⊎ ((a : SiteTerm) × (owner_of x ≡ Some a) × (took a ≡ true))) where
+-- each site that is taken passed before; each that passes after passed before and isn't taken, or is a field of one that is
+record TakesOwners (took after was : SiteTerm → Bool) : Type 0 where
+  from : (x : SiteTerm) → took x ≡ true → was x ≡ true
+  new : (x : SiteTerm) → after x ≡ true → ((was x ≡ true) × (took x ≡ false)) ⊎ ((a : SiteTerm) × (owner_of x ≡ Some a) × (took a ≡ true))
+
+-- then no site has more such owners after, and one that is taken has fewer
+module _ (took after was : SiteTerm → Bool) (of : TakesOwners took after was) where
   lessened : (u : SiteTerm) → bit (took u) + owners_by after u ≤ owners_by was u
   lessened =
       by_owners (λ u. bit (took u) + owners_by after u ≤ owners_by was u)
       (λ s o e.
       let x = counted_alone after s e in
       let y = counted_alone was s e in
-      let l = no_more_than (took s) (after s) (was s) false (from s)
-      (λ t. elim (new s t) [ inl h ↦ inl h | inr h ↦ absurd (none_some h.0 (sym o ∙ h.1)) ]) in
+      let l = no_more_than (took s) (after s) (was s) false (of.from s)
+      (λ t. elim (of.new s t) [ inl h ↦ inl h | inr h ↦ absurd (none_some h.0 (sym o ∙ h.1)) ]) in
       omega (arith, x, y, l))
       (λ s a o e h.
       let x = counted_field after s a e in
       let y = counted_field was s a e in
-      let l = no_more_than (took s) (after s) (was s) (took a) (from s)
-      (λ t. elim (new s t) [ inl k ↦ inl k | inr k ↦ inr (ap took (some_is a k.0 (sym o ∙ k.1)) ∙ k.2) ]) in
+      let l = no_more_than (took s) (after s) (was s) (took a) (of.from s)
+      (λ t. elim (of.new s t) [ inl k ↦ inl k | inr k ↦ inr (ap took (some_is a k.0 (sym o ∙ k.1)) ∙ k.2) ]) in
       omega (arith, x, y, l, h))
 
 -- 2. a site has no more owners among sites than there are
@@ -242,8 +245,30 @@ next_is ks cs (s ∷ ss) c e = at_site (constraint_of cs s) e (λ f. let k = nex
           | inr n ↦ later (sym (cond-false (is_in_class ks s) (Some (s, b)) (next_constrained ks cs ss) n) ∙ f)
         ]
 
-module _ (us : List SiteTerm) (k : Closed) (apart : IsApart k.classes) (within : (x : SiteTerm) → In k.made x → In us x)
-    (c : SiteTerm × Constraint) (next : IsNext k.classes k.made c.0) where
+-- a step of a closing: the class of the next constraint is taken, where all that is made stands among some sites
+record StepAmong (us : List SiteTerm) : Type 0 where
+  closing : Closed
+  apart : IsApart closing.classes
+  within : (x : SiteTerm) → In closing.made x → In us x
+  constraint : SiteTerm × Constraint
+  next : IsNext closing.classes closing.made constraint.0
+
+module _ (us : List SiteTerm) (step : StepAmong us) where
+  abbrev k : Closed
+  k = step.closing
+
+  abbrev apart : IsApart k.classes
+  apart = step.apart
+
+  abbrev within : (x : SiteTerm) → In k.made x → In us x
+  within = step.within
+
+  abbrev c : SiteTerm × Constraint
+  c = step.constraint
+
+  abbrev next : IsNext k.classes k.made c.0
+  next = step.next
+
   abbrev class : List SiteTerm
   class = class_at k.classes c.0
 
@@ -315,7 +340,7 @@ module _ (us : List SiteTerm) (k : Closed) (apart : IsApart k.classes) (within :
 
   step_lessens : pairs_held us classes_after < pairs_held us k.classes
   step_lessens =
-      let less = lessened (has_site members) (is_held us classes_after) (is_held us k.classes) member_held held_after in
+      let less = lessened (has_site members) (is_held us classes_after) (is_held us k.classes) (record { from = member_held; new = held_after }) in
       less_in_one (owners_by (is_held us classes_after)) (owners_by (is_held us k.classes))
       (λ u. let l = less u in omega (arith, l)) us c.0 (within c.0 next.made_site)
       (let l = less c.0 in let t = ap bit (in_has members c.0 next_member) in omega (arith, l, t))
@@ -339,7 +364,7 @@ ends_within us zero k apart within few = at_end (next_constrained k.classes k.co
   where
     at_end : (o : Option (SiteTerm × Constraint)) → next_constrained k.classes k.constraints k.made ≡ o → next_constrained k.classes k.constraints k.made ≡ None
     at_end None e = e
-    at_end (Some c) e = let l = step_lessens us k apart within c (next_is k.classes k.constraints k.made c e) in absurd (omega (arith, l, few))
+    at_end (Some c) e = let l = step_lessens us (record { closing = k; apart = apart; within = within; constraint = c; next = next_is k.classes k.constraints k.made c e }) in absurd (omega (arith, l, few))
 ends_within us (suc n) k apart within few = go_on (next_constrained k.classes k.constraints k.made) refl (ends_within us n) within
   where
     go_on : (o : Option (SiteTerm × Constraint)) → next_constrained k.classes k.constraints k.made ≡ o
@@ -350,8 +375,9 @@ ends_within us (suc n) k apart within few = go_on (next_constrained k.classes k.
         let after = taken k c (ascending k.made (class_at k.classes c.0)) in
         let next = next_is k.classes k.constraints k.made c e in
         let made : (x : SiteTerm) → In k.made x → In us x = λ x i. w x (made_stay n after x (in_with_sites k.made (flat_map (field_terms c.1) (ascending k.made (class_at k.classes c.0))) x (inl i))) in
-        let l = step_lessens us k apart made c next in
-        later after (after_apart us k apart made c next) w (omega (arith, l, few))
+        let step : StepAmong us = record { closing = k; apart = apart; within = made; constraint = c; next = next } in
+        let l = step_lessens us step in
+        later after (after_apart us step) w (omega (arith, l, few))
 
 -- and there are, where no more sites than there may be are made
 pub few_made_end : (before : List SiteTerm) (d : Demands) → length (closing most_closing_steps (before_closing before d)).made ≤ most_sites

@@ -17,7 +17,11 @@ counted : {X : Type 0} → (X → Bool) → List X → ℕ
 counted p [] = 0
 counted p (x ∷ xs) = if p x then suc (counted p xs) else counted p xs
 
-module _ {X : Type 0} (p q : X → Bool) (within : (x : X) → p x ≡ true → q x ≡ true) where
+-- what passes one test passes another
+abbrev Implies : {X : Type 0} → (X → Bool) → (X → Bool) → Type 0
+Implies p q = (x : _) → p x ≡ true → q x ≡ true
+
+module _ {X : Type 0} (p q : X → Bool) (within : Implies p q) where
   counted_within : (xs : List X) → counted p xs ≤ counted q xs
   unfolding counted
   counted_within [] = omega arith
@@ -78,7 +82,7 @@ is_own rs x = site_term_eq (class_name rs x) x
 
 module _ (us : List SiteTerm) where
   -- one more renaming, of the names of two classes
-  module _ (rs : List (SiteTerm × SiteTerm)) (good : AreNames us rs) (a b : SiteTerm) (apart : class_name rs a ≢ class_name rs b) where
+  module _ (rs : List (SiteTerm × SiteTerm)) (a b : SiteTerm) where
     added : List (SiteTerm × SiteTerm)
     added = (class_name rs a, class_name rs b) ∷ rs
 
@@ -97,15 +101,18 @@ module _ (us : List SiteTerm) where
           | inr f ↦ f
         ]
 
-    not_first : class_name rs (class_name rs b) ≢ class_name rs a
-    not_first e = apart (sym e ∙ good.again b)
+    abbrev AreDifferent : Type 0
+    AreDifferent = class_name rs a ≢ class_name rs b
 
-    added_names : In us b → AreNames us added
-    added_names m = record {
+    not_first : AreNames us rs → AreDifferent → class_name rs (class_name rs b) ≢ class_name rs a
+    not_first good apart e = apart (sym e ∙ good.again b)
+
+    added_names : AreNames us rs → AreDifferent → In us b → AreNames us added
+    added_names good apart m = record {
       again = λ x. elim (cases_Bool (site_term_eq (class_name rs x) (class_name rs a))) [
         | inl t ↦
             let e = new_here x (term_means (class_name rs x) (class_name rs a) t) in
-            ap (class_name added) e ∙ new_there (class_name rs b) (differs (class_name rs b) not_first) ∙ good.again b ∙ sym e
+            ap (class_name added) e ∙ new_there (class_name rs b) (differs (class_name rs b) (not_first good apart)) ∙ good.again b ∙ sym e
         | inr f ↦
             let e = new_there x f in
             ap (class_name added) e ∙ new_there (class_name rs x) (ap (λ n. site_term_eq n (class_name rs a)) (good.again x) ∙ f) ∙ good.again x ∙ sym e
@@ -116,21 +123,21 @@ module _ (us : List SiteTerm) where
       ];
     }
 
-    own_before : (x : SiteTerm) → is_own added x ≡ true → is_own rs x ≡ true
+    own_before : AreNames us rs → AreDifferent → (x : SiteTerm) → is_own added x ≡ true → is_own rs x ≡ true
     unfolding is_own
-    own_before x h =
+    own_before good apart x h =
         elim (cases_Bool (site_term_eq (class_name rs x) (class_name rs a))) [
           | inl t ↦
               let e = new_here x (term_means (class_name rs x) (class_name rs a) t) in
               let x_is : class_name rs b ≡ x = sym e ∙ term_means (class_name added x) x h in
-              absurd (not_first (ap (class_name rs) x_is ∙ term_means (class_name rs x) (class_name rs a) t))
+              absurd (not_first good apart (ap (class_name rs) x_is ∙ term_means (class_name rs x) (class_name rs a) t))
           | inr f ↦ ap (λ n. site_term_eq n x) (sym (new_there x f)) ∙ h
         ]
 
-    less_own : In us a → suc (counted (is_own added) us) ≤ counted (is_own rs) us
+    less_own : AreNames us rs → AreDifferent → In us a → suc (counted (is_own added) us) ≤ counted (is_own rs) us
     unfolding is_own
-    less_own m =
-        counted_less (is_own added) (is_own rs) own_before us (class_name rs a) (good.stay a m)
+    less_own good apart m =
+        counted_less (is_own added) (is_own rs) (own_before good apart) us (class_name rs a) (good.stay a m)
         (same_term (class_name rs (class_name rs a)) (class_name rs a) (good.again a))
         (elim (cases_Bool (site_term_eq (class_name added (class_name rs a)) (class_name rs a))) [
           | inl t ↦ absurd (apart (sym (sym (new_here (class_name rs a) (good.again a)) ∙ term_means (class_name added (class_name rs a)) (class_name rs a) t)))
@@ -152,7 +159,7 @@ module _ (us : List SiteTerm) where
         | inl t ↦ subst (After rs) (sym (cond-true (same_class rs a b) rs ((class_name rs a, class_name rs b) ∷ rs) t)) (record { good = good; no_more = omega arith })
         | inr f ↦
             subst (After rs) (sym (cond-false (same_class rs a b) rs ((class_name rs a, class_name rs b) ∷ rs) f))
-            (record { good = added_names rs good a b (apart_from rs a b f) n; no_more = let l = less_own rs good a b (apart_from rs a b f) m in omega (arith, l) })
+            (record { good = added_names rs a b good (apart_from rs a b f) n; no_more = let l = less_own rs a b good (apart_from rs a b f) m in omega (arith, l) })
       ]
 
   fewer : (rs : List (SiteTerm × SiteTerm)) → AreNames us rs → (a b : SiteTerm) → In us a → In us b → same_class rs a b ≡ false
@@ -160,7 +167,7 @@ module _ (us : List SiteTerm) where
   unfolding added
   fewer rs good a b m n f =
       subst (λ l. suc (counted (is_own l) us) ≤ counted (is_own rs) us) (sym (cond-false (same_class rs a b) rs ((class_name rs a, class_name rs b) ∷ rs) f))
-      (less_own rs good a b (apart_from rs a b f) m)
+      (less_own rs a b good (apart_from rs a b f) m)
 
   abbrev AllWithin : List (SiteTerm × SiteTerm) → Type 0
   AllWithin es = (e : SiteTerm × SiteTerm) → In es e → In us e.0 × In us e.1

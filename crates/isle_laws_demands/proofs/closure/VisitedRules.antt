@@ -54,6 +54,7 @@ equal_kept p = record {
   answer = λ d t i ss flags b e f c n m. inl n;
   pick = λ d t i ss c n m. inl n;
   call = λ d t i ss flags b e f g n m. inl n;
+  counts = λ c v h. record { holds = h; stays = λ s m. m };
   makes = making_on;
   calls = λ s v h m. record { holds = h; stays = λ u m. m };
   equates = λ a b v h m n. by_equating (λ w. OnwardMade v.demands w.demands) a b v (no_step MakesEqual IsMade v.demands h) (equated_on a b v h m n);
@@ -61,7 +62,7 @@ equal_kept p = record {
   asks_all = λ s v h m. asking_all_on (unwraps s) v h;
   asks_call = λ t s v flags e f c n h m. record { onward = record { holds = h; stays = λ u q. q }; site = inl n };
   iterates_extractor = λ t s v flags b e f c n h m. record { onward = record { holds = h; stays = λ u q. q }; site = inl n };
-  iterates_constructor = λ t i ss v flags b e f h. record { holds = h; stays = λ u m. m };
+  iterates_constructor = λ t i ss v flags b e f n m h. record { holds = h; stays = λ u m. m };
 }
 
 shown : (d : Demands) (s : SiteTerm) → IsMade d s → Contains d.made s ⊎ (s ≡ no_site)

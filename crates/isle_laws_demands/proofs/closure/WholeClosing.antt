@@ -22,7 +22,30 @@ module _ (d : Demands) (reachable : IsUnreachable d → ⊥) where
     equal : (a b : SiteTerm) → In d.equalities (a, b) → Chain k.classes h a b
     history : (a b : SiteTerm) → In h (a, b) → IsTaken k.constraints k.classes h a b
 
-  module _ (k : Closed) (h : List (SiteTerm × SiteTerm)) (w : Stands k h) (c : SiteTerm × Constraint) (m : In k.constraints c) where
+  -- a step of a closing: where it stands, and the constraint that is taken next
+  record StandingStep : Type 0 where
+    closing : Closed
+    joined : List (SiteTerm × SiteTerm)
+    stands : Stands closing joined
+    constraint : SiteTerm × Constraint
+    asked : In closing.constraints constraint
+
+  module _ (step : StandingStep) where
+    abbrev k : Closed
+    k = step.closing
+
+    abbrev h : List (SiteTerm × SiteTerm)
+    h = step.joined
+
+    abbrev w : Stands k h
+    w = step.stands
+
+    abbrev c : SiteTerm × Constraint
+    c = step.constraint
+
+    abbrev m : In k.constraints c
+    m = step.asked
+
     abbrev members : List SiteTerm
     members = ascending k.made (class_at k.classes c.0)
 
@@ -117,7 +140,7 @@ module _ (d : Demands) (reachable : IsUnreachable d → ⊥) where
   Standing k = (h : List (SiteTerm × SiteTerm)) × Stands k h
 
   closing_stands : (n : ℕ) (k : Closed) → Standing k → Standing (closing n k)
-  closing_stands = closing_keeps Standing (λ k s c e. (pairs_of (ascending k.made (class_at k.classes c.0)) ++ s.0, stands_after k s.0 s.1 c (next_asked d k.classes k.constraints k.made c e)))
+  closing_stands = closing_keeps Standing (λ k s c e. (pairs_of (ascending k.made (class_at k.classes c.0)) ++ s.0, stands_after (record { closing = k; joined = s.0; stands = s.1; constraint = c; asked = next_asked d k.classes k.constraints k.made c e })))
 
   before_closing_stands : (before : List SiteTerm) → EqualSitesAreMade d → Standing (before_closing before d)
   before_closing_stands before made = (

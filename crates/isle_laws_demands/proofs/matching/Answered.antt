@@ -46,9 +46,18 @@ place_there (e ∷ k) call i =
         false_true h = cc
     later (inr j) f = j
 
-module _ (p : Program) (m : Meaning) (args : List Value) (r : TypedRule) (k : Pick) where
-  abbrev g : Given
-  g = record { program = p; meaning = m; args = args; pick = k }
+module _ (g : Given) (r : TypedRule) where
+  abbrev p : Program
+  p = g.program
+
+  abbrev m : Meaning
+  m = g.meaning
+
+  abbrev args : List Value
+  args = g.args
+
+  abbrev k : Pick
+  k = g.pick
 
   module _ (pick : IsPick p m args r k) where
     -- where a call that is gone over has its place

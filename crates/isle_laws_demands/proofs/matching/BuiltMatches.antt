@@ -1,44 +1,36 @@
 -- Under each of its picks a rule of a built set matches exactly where its demands hold, by the numbers of the set.
-use Rattle.std.proofs.Common.{◌↔◌, ◌≡◌, ap, ◌∙◌, ℕ, zero, suc, List, [], ◌∷◌, Some, is_some, slice_get, Contains, sym, subst}
+use Rattle.std.proofs.Common.{◌↔◌, ◌≡◌, ap, ◌∙◌, ℕ, [], is_some, Contains, sym, subst}
 use Rattle.isle_model.specs.rules.Program.{Program, rules_of}
 use Rattle.isle_model.specs.rules.Picks.{matches_under}
 use Rattle.isle_model.specs.trees.Run.{world_of}
 use Rattle.isle_model.specs.trees.Collects.{demands_hold}
-use Rattle.isle_model.specs.sites.Sites.{Site, SetRule, SiteSet}
+use Rattle.isle_model.specs.sites.Sites.{SetRule, SiteSet}
 use Rattle.isle_model.specs.sites.Demands.{demands_of}
 use Rattle.isle_model.specs.sites.Closure.{ClosedIsWhole, DemandsHold, closed, ClosedDemandsHold}
 use Rattle.isle_model.specs.sites.Overlap.{BuiltRule, built_rules}
-use Rattle.isle_model.specs.sites.RuleSets.{IsRuleOf, AreRulesOfSet, IsBuilt}
-use Rattle.isle_model.specs.claims.Environments.{program_of}
+use Rattle.isle_model.specs.sites.RuleSets.{IsRuleOf, IsBuilt}
 use Rattle.isle_model.specs.claims.SetMeanings.{AreOneRule}
-use Rattle.isle_model.proofs.Elements.{in_from_contains, contains_from_in, in_slice, some_is, none_some}
+use Rattle.isle_model.proofs.Elements.{in_from_contains, contains_from_in, in_slice}
 use Rattle.isle_laws_demands.specs.BuiltLaws.{BuiltDemandsAreWhole}
 use Rattle.isle_laws_demands.specs.MatchLaws.{IsTried, BuiltDemandsHoldAlike, BuiltSetsMatchByDemands}
 use Rattle.isle_laws_demands.proofs.overlaps.Overlaps.{bool_same}
-use Rattle.isle_laws_demands.proofs.visits.Built.{was_built}
+use Rattle.isle_laws_demands.proofs.visits.Built.{rule_at_place, was_built}
 use Rattle.isle_laws_demands.proofs.matching.ClosedAlike.{closed_demands_hold_alike_lem}
 use Rattle.isle_laws_demands.proofs.matching.Numbers.{numbers_hold}
-use Rattle.isle_laws_demands.proofs.matching.Visits.{visits_match_lem}
+use Rattle.isle_laws_demands.proofs.matching.Visits.{given, visits_match_lem}
 
--- rules at one place
-one_place : (p : Program) (sites : List Site) (bs : List BuiltRule) (rs : List SetRule) (i : ℕ) (b : BuiltRule) (r : SetRule) → AreRulesOfSet p sites bs rs → slice_get bs i ≡ Some b → slice_get rs i ≡ Some r → IsRuleOf p sites b r
-one_place p sites [] rs i b r h e f = absurd (none_some b e)
-one_place p sites (c ∷ bs) [] i b r h e f = absurd (none_some r f)
-one_place p sites (c ∷ bs) (q ∷ rs) zero b r h e f = subst (λ x. IsRuleOf p sites x r) (some_is c b e) (subst (IsRuleOf p sites c) (some_is q r f) h.0)
-one_place p sites (c ∷ bs) (q ∷ rs) (suc i) b r h e f = one_place p sites bs rs i b r h.1 e f
-
+-- a built rule and the rule of a set at one place
 pub one_rule : (p : Program) (t : ℕ) (set : SiteSet) (b : BuiltRule) (r : SetRule) → IsBuilt p t set → AreOneRule p t set b r → IsRuleOf p set.sites b r
-one_rule p t set b r h a = one_place p set.sites (built_rules p t) set.rules a.place b r h.rules a.typed a.built
+one_rule p t set b r h a = rule_at_place p set.sites (built_rules p t) set.rules h.rules a.place b r a.typed a.built
 
 -- a built rule's demands, after the sites of the rules before it
 pub built_demands_hold_alike_lem : BuiltDemandsAreWhole → BuiltDemandsHoldAlike
-built_demands_hold_alike_lem whole e defs expand rules t m args b k h i a =
-    let p = program_of e defs rules.rules in
+built_demands_hold_alike_lem whole p t m args b k h i a =
     let w = was_built p [] (rules_of p t) b (in_from_contains (built_rules p t) b i) in
     let rule = ap (λ (x : BuiltRule). x.rule) w.same in
     let demands : closed w.before (demands_of p b.rule) ≡ b.demands = ap (λ x. closed w.before (demands_of p x)) (sym rule) ∙ ap (λ (x : BuiltRule). x.demands) w.same in
     subst (λ d. DemandsHold m args k (demands_of p b.rule) ↔ ClosedDemandsHold m args k d) demands
-    (closed_demands_hold_alike_lem e defs expand rules t m args b.rule k h a w.before (subst (ClosedIsWhole (demands_of p b.rule)) (sym demands) (whole e defs expand rules t h b i)))
+    (closed_demands_hold_alike_lem p t m args b.rule k h a w.before (subst (ClosedIsWhole (demands_of p b.rule)) (sym demands) (whole p t h b i)))
 
 -- a built rule is one of its term
 pub built_listed : (p : Program) (t : ℕ) (b : BuiltRule) → Contains (built_rules p t) b → Contains (rules_of p t) b.rule
@@ -47,13 +39,12 @@ built_listed p t b i =
     subst (Contains (rules_of p t)) (ap (λ (x : BuiltRule). x.rule) w.same) (contains_from_in (rules_of p t) w.rule w.listed)
 
 pub built_sets_match_by_demands_lem : BuiltDemandsAreWhole → BuiltSetsMatchByDemands
-built_sets_match_by_demands_lem whole e defs expand rules t set h built m args typed served apart b r k one pick =
-    let p = program_of e defs rules.rules in
+built_sets_match_by_demands_lem whole p t set h built m args typed served apart b r k one pick =
     let q = one_rule p t set b r built one in
     let i = contains_from_in (built_rules p t) b (in_slice (built_rules p t) one.place b one.typed) in
     let a : IsTried p t m args b.rule k = record { typed = typed; served = served; rule = built_listed p t b i; pick = pick } in
-    let v = visits_match_lem e defs expand rules t m args b.rule k h a in
-    let c = built_demands_hold_alike_lem whole e defs expand rules t m args b k h i a in
-    let n = numbers_hold p t set.sites m args k b.demands r q.constraints q.classes in
+    let v = visits_match_lem p t m args b.rule k h a in
+    let c = built_demands_hold_alike_lem whole p t m args b k h i a in
+    let n = numbers_hold (given p m args k) t set.sites b.demands r q.constraints q.classes in
     bool_same (is_some (matches_under p m k b.rule args)) (demands_hold (world_of p t set.sites m args) k r)
     (λ j. n.1 (c.0 (v.matching.0 j))) (λ j. v.matching.1 (c.1 (n.0 j)))

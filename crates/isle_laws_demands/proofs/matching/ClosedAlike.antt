@@ -1,26 +1,22 @@
--- Of a rule that elaborates, the closed demands hold exactly where the demands do, if they are all that follows.
+-- Of a rule of a well-typed program, the closed demands hold exactly where the demands do, if they are all that follows.
 use Rattle.isle_model.specs.rules.Program.{rules_of}
 use Rattle.isle_model.specs.sites.Demands.{demands_of}
 use Rattle.isle_model.specs.sites.Closure.{closed}
-use Rattle.isle_model.specs.claims.Environments.{program_of}
 use Rattle.isle_laws_demands.specs.MatchLaws.{ClosedDemandsHoldAlike}
 use Rattle.isle_laws_demands.proofs.closure.Closing.{closed_follows}
 use Rattle.isle_laws_demands.proofs.matching.ClosedDemands.{closed_hold, ask_enough}
 use Rattle.isle_laws_demands.proofs.matching.FormedDemands.{rule_formed}
-use Rattle.isle_laws_demands.proofs.matching.NeverMatches.{program_has_types}
-use Rattle.isle_laws_demands.proofs.matching.TypedParts.{program_has_typed_parts}
 use Rattle.isle_laws_demands.proofs.matching.Unreachable.{joined_content, constrained_field}
 use Rattle.isle_laws_demands.proofs.matching.Visits.{given, holds_enough, met_holds, tried}
 
 pub closed_demands_hold_alike_lem : ClosedDemandsHoldAlike
-closed_demands_hold_alike_lem e defs expand rules t m args r k h a before whole =
-    let p = program_of e defs rules.rules in
+closed_demands_hold_alike_lem p t m args r k h a before whole =
     let g = given p m args k in
     let d = demands_of p r in
-    let b = tried e defs expand rules h t m args r k a in
-    let formed = rule_formed p (program_has_typed_parts e defs expand rules h) r b.formed in (
+    let b = tried p t m args r k h a in
+    let formed = rule_formed p h.parts r b.rule.formed in (
       λ i.
           (let met = b.matches.met (b.matches.found (holds_enough p m args k d i)) in
-          closed_hold g before d met (constrained_field g r (rules_of p t) a.rule a.served (program_has_types e defs expand rules h) formed met) (joined_content g d met.equal) (closed_follows d before)),
-      λ i. met_holds p m args k d (b.matches.met (b.matches.found (ask_enough g d (closed before d) whole formed i))),
+          closed_hold g before d met (constrained_field g (rules_of p t) r (record { here = a.rule; served = a.served; types = h.types; formed = formed; met = met })) (joined_content g d met.equal) (closed_follows d before)),
+      λ i. met_holds p m args k d (b.matches.met (b.matches.found (ask_enough g d (record { closing = closed before d; whole = whole; formed = formed; hold = i })))),
     )

@@ -143,7 +143,26 @@ struct_parts s fs t hs e = cc
 not_struct : (s n : ℕ) (fs : Values) (t : ℕ) (hs : Values) → of_variant s n fs ≡ of_struct t hs → ⊥
 not_struct s n fs t hs e = cc
 
-module _ (g : Given) (d : Demands) (k : Closed) (whole : ClosedIsWhole d k) (formed : AreFormed g.program d) (hold : ClosedDemandsHold g.meaning g.args g.pick k) where
+-- closed demands that hold, and are all that follows from well-formed ones
+pub record AreHeld (g : Given) (d : Demands) : Type 0 where
+  pub closing : Closed
+  pub whole : ClosedIsWhole d closing
+  pub formed : AreFormed g.program d
+  pub hold : ClosedDemandsHold g.meaning g.args g.pick closing
+
+module _ (g : Given) (d : Demands) (held : AreHeld g d) where
+  abbrev k : Closed
+  k = held.closing
+
+  abbrev whole : ClosedIsWhole d k
+  whole = held.whole
+
+  abbrev formed : AreFormed g.program d
+  formed = held.formed
+
+  abbrev hold : ClosedDemandsHold g.meaning g.args g.pick k
+  hold = held.hold
+
   abbrev p : Program
   p = g.program
 

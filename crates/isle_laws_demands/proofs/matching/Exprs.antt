@@ -13,7 +13,7 @@ use Rattle.isle_model.specs.trees.Run.{as_value, from_value}
 use Rattle.isle_model.specs.sites.Sites.{SiteTerm, bool_term, int_term, prim_term, constructor_call, pick_of, variant_made, struct_made, some_part, SiteTerms}
 use Rattle.isle_model.specs.sites.Demands.{Visit, binding, ValuedAll, visit_term, visit_expr, visit_exprs, visit_lets, unwraps, unwraps_all}
 use Rattle.isle_model.specs.sites.Serves.{constant_type, term_results, fits_answer, fits_constructor}
-use Rattle.isle_model.specs.sites.DemandedGates.{IsPureExpr, ArePureExprs, ArePureLets, HasNoPartialMulti}
+use Rattle.isle_model.specs.sites.DemandedGates.{IsPureExpr, ArePureExprs, ArePureLets}
 use Rattle.isle_model.specs.lists.Setting.{expr_type}
 use Rattle.isle_model.specs.lists.Formed.{var_type, is_formed_expr, are_formed_args, formed_lets}
 use Rattle.isle_model.proofs.Elements.{In, in_left, in_right, some_is, none_some}
@@ -23,7 +23,7 @@ use Rattle.isle_laws_demands.proofs.visits.Patterns.{from_then, term_known}
 use Rattle.isle_laws_demands.proofs.matching.Contents.{Given, content_of, value_of, values_of, IsValueOf, Fits, IsAnswered, one_fits, maybe_fits, picked_fits}
 use Rattle.isle_laws_demands.proofs.matching.Grown.{Grown, then_grown, grown_binding, expr_adds, exprs_add, lets_add, term_adds}
 use Rattle.isle_laws_demands.proofs.matching.SameExprs.{from_let, from_term, from_args, from_body, expr_keeps, term_site, pure_site, expr_alike, exprs_alike}
-use Rattle.isle_laws_demands.proofs.matching.TypedParts.{HasTypedParts}
+use Rattle.isle_laws_lists.specs.WellTypedPrograms.{IsWellTypedProgram}
 use Rattle.isle_laws_demands.proofs.matching.Variables.{AllPresent, IsValued, AreVars, var_moved, vars_and}
 use Rattle.isle_laws_lists.proofs.FormedParts.{type_is}
 
@@ -51,7 +51,7 @@ record AreValued (g : Given) (own : SiteTerms) (o : Option Values) (tys : List �
   typed : (vs : Values) → o ≡ Some vs → all_well_typed g.program.types (Some tys) vs ≡ true
   reached : AllPresent g (unwraps_all ss) → (vs : Values) × (o ≡ Some vs)
 
-module _ (g : Given) (z : Visit) (h : IsAnswered g z.demands) (parts : HasTypedParts g.program) (neither : HasNoPartialMulti g.program) where
+module _ (g : Given) (z : Visit) (h : IsAnswered g z.demands) (well : IsWellTypedProgram g.program) where
   abbrev p : Program
   p = g.program
 
@@ -173,7 +173,7 @@ module _ (g : Given) (z : Visit) (h : IsAnswered g z.demands) (parts : HasTypedP
         (then_option o (λ vs. term_under (a_call (record { pure = pure; multi = multi; partial = partial; rec = rec }) infallible) g.meaning g.pick t a.sites vs)) x.ret_ty
         (term_site (a_call (record { pure = pure; multi = multi; partial = partial; rec = rec }) infallible) t a.sites)
     call_valued false multi partial rec infallible y a o q l v = absurd (false≢true y)
-    call_valued true true true rec infallible y a o q l v = absurd (neither t (ap (λ k. (flags_of k).multi) q) (ap (λ k. (flags_of k).partial) q))
+    call_valued true true true rec infallible y a o q l v = absurd (well.not_both t (ap (λ k. (flags_of k).multi) q) (ap (λ k. (flags_of k).partial) q))
     call_valued true true false rec infallible y a o q l v =
         let call = call_of t a.sites in
         picked_valued rec infallible a.sites o q (l.made call (in_right a.visit.demands.made (call ∷ (pick_of call ∷ [])) call (inl refl))) (l.calls call (in_right a.visit.demands.iterators (call ∷ []) call (inl refl))) v
@@ -186,13 +186,13 @@ module _ (g : Given) (z : Visit) (h : IsAnswered g z.demands) (parts : HasTypedP
     same_valued : (k : Kind) → kind p t ≡ k → kind_of x ≡ k → (flags_of k).pure ≡ true → (a : ValuedAll) (o : Option Values) → Grown (visit_term k t a).visit z → AreValued g a.sites o x.arg_tys a.sites
         → IsValued g (term_site k t a.sites) (then_option o (λ vs. term_under k g.meaning g.pick t a.sites vs)) x.ret_ty (term_site k t a.sites)
     same_valued (a_variant ty i) q e y a o l v =
-        let s = parts.variants t x there ty i e in
+        let s = well.parts.variants t x there ty i e in
         made_valued (variant_made ty i a.sites) a.sites o x.arg_tys x.ret_ty (of_variant ty i) refl refl
         (λ vs w.
         and_from (ty == x.ret_ty) (all_well_typed p.types (variant_types (slice_get p.types x.ret_ty) i) vs) (eq-eqb ty x.ret_ty (sym s.0))
         (subst (λ o. all_well_typed p.types o vs ≡ true) (sym s.1 ∙ ap (λ n. variant_types (slice_get p.types n) i) (sym s.0)) w)) v
     same_valued (a_struct ty) q e y a o l v =
-        let s = parts.structs t x there ty e in
+        let s = well.parts.structs t x there ty e in
         made_valued (struct_made ty a.sites) a.sites o x.arg_tys x.ret_ty (of_struct ty) refl refl
         (λ vs w.
         and_from (ty == x.ret_ty) (all_well_typed p.types (struct_types (slice_get p.types x.ret_ty)) vs) (eq-eqb ty x.ret_ty (sym s.0))

@@ -8,7 +8,7 @@ use Rattle.isle_model.specs.rules.Outcome.{then_option}
 use Rattle.isle_model.specs.rules.Program.{Program, Kind, a_variant, a_struct, a_call, unknown, kind, kind_of}
 use Rattle.isle_model.specs.rules.Typed.{TypedPattern, match_bind, match_var, match_bool, match_int, match_prim, match_term, match_any, match_and, TypedPatterns, no_typed_pattern, typed_pattern_and, TypedIfLet, TypedRule}
 use Rattle.isle_model.specs.sites.Sites.{Constraint, is_variant, is_struct, is_bool, is_int, is_prim, is_present, SiteTerm, argument, extractor_call, some_part, variant_field, struct_field}
-use Rattle.isle_model.specs.sites.Demands.{Demands, demands_of, site_term_eq, Visit, visit_start, making, asking, equating, binding, var_site, from_to, pattern_count, open_call, open_term, visit_pattern, visit_each, visit_all, visit_expr, unwraps, asking_all, visit_args, visit_iflets}
+use Rattle.isle_model.specs.sites.Demands.{Demands, demands_of, site_term_eq, Visit, visit_start, making, asking, equating, binding, var_site, from_to, pattern_count, open_call, open_term, visit_pattern, visit_each, visit_all, visit_expr, unwraps, asking_all, visit_args, visit_iflets, taking_argument}
 use Rattle.isle_model.specs.sites.Serves.{constant_type}
 use Rattle.isle_model.specs.lists.Setting.{bool_type, expr_type}
 use Rattle.isle_model.specs.lists.Formed.{pattern_type, is_type, formed_pattern, formed_parts, formed_each, is_formed_expr, formed_list, formed_iflets, is_formed_rule}
@@ -18,7 +18,7 @@ use Rattle.isle_laws_demands.proofs.matching.Contents.{AsMany, as_many_types}
 use Rattle.isle_laws_demands.proofs.matching.Grown.{equated, expr_adds, rule_adds}
 use Rattle.isle_laws_demands.proofs.matching.Patterns.{from_term, from_part, from_bind, as_many}
 use Rattle.isle_laws_demands.proofs.matching.Rules.{rule_parts}
-use Rattle.isle_laws_demands.proofs.matching.TypedParts.{HasTypedParts}
+use Rattle.isle_laws_lists.specs.WellTypedPrograms.{HasTypedParts}
 use Rattle.isle_model.proofs.Either.{either}
 use Rattle.isle_laws_lists.proofs.FormedParts.{from_if, type_is}
 
@@ -105,7 +105,7 @@ module _ (p : Program) (fields : HasTypedParts p) where
       none e = cc
   args_formed i (q ∷ qs) (ty ∷ tys) v vars more f h =
       let a = from_part p q ty vars more (λ mid. formed_list p qs tys mid) f in
-      args_formed (suc i) qs tys (visit_pattern p q (argument i) (making (argument i ∷ []) v)) a.0 more a.3 (pattern_formed q (argument i) (making (argument i ∷ []) v) vars a.0 a.2 h)
+      args_formed (suc i) qs tys (visit_pattern p q (argument i) (taking_argument i v)) a.0 more a.3 (pattern_formed q (argument i) (taking_argument i v) vars a.0 a.2 h)
 
   iflets_formed : (is : List TypedIfLet) (v : Visit) (vars more : List (ℕ × ℕ)) → formed_iflets p is vars ≡ Some more → AreFormed p v.demands → AreFormed p (visit_iflets p is v).demands
   iflets_formed [] v vars more f h = h

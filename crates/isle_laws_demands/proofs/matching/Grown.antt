@@ -4,7 +4,7 @@ use Rattle.isle_model.specs.lists.Tables.{Flags}
 use Rattle.isle_model.specs.rules.Program.{Program, Kind, a_variant, a_struct, a_call, unknown, kind, is_partial}
 use Rattle.isle_model.specs.sites.Sites.{Constraint, is_variant, is_struct, is_present, SiteTerm, extractor_call, constructor_call, pick_of, variant_made, variant_field, struct_made, struct_field, some_made, some_part, SiteTerms}
 use Rattle.isle_model.specs.rules.Typed.{TypedPattern, TypedPatterns, TypedExpr, TypedExprs, TypedLets, TypedIfLet, TypedRule}
-use Rattle.isle_model.specs.sites.Demands.{Visit, site_term_eq, making, asking, equating, iterating, calling, binding, from_to, pattern_count, part_sites, open_call, open_term, visit_pattern, visit_each, visit_all, Valued, ValuedAll, call_result, call_sites, where_multi, visit_call, visit_term, visit_expr, visit_exprs, visit_lets, asking_all, visit_args, visit_iflets, finished}
+use Rattle.isle_model.specs.sites.Demands.{Count, fields_matched, outputs_taken, Visit, counting, outputs_opened, site_term_eq, making, asking, equating, iterating, calling, binding, from_to, pattern_count, part_sites, open_call, open_term, visit_pattern, visit_each, visit_all, Valued, ValuedAll, call_result, call_sites, where_multi, visit_call, visit_term, visit_expr, visit_exprs, visit_lets, asking_all, visit_args, visit_iflets, finished}
 use Rattle.isle_model.proofs.Elements.{In, in_left}
 use Rattle.isle_model.proofs.Either.{either}
 use Rattle.isle_laws_demands.proofs.visits.Kept.{KeptByTests, KeptByValues, pattern_kept, each_kept, all_kept, expr_kept, exprs_kept, lets_kept, iflets_kept, args_kept}
@@ -33,6 +33,9 @@ grown_making ts v = record { made = λ u i. in_left v.demands.made ts u i; calls
 pub grown_asking : (s : SiteTerm) (c : Constraint) (v : Visit) → Grown v (asking s c v)
 grown_asking s c v = record { made = λ u i. i; calls = λ u i. i; asked = λ x i. in_left v.demands.constraints ((s, c) ∷ []) x i; equal = λ x i. i }
 
+pub grown_counting : (c : Count) (v : Visit) → Grown v (counting c v)
+grown_counting c v = record { made = λ u i. i; calls = λ u i. i; asked = λ x i. i; equal = λ x i. i }
+
 pub grown_iterating : (s : SiteTerm) (v : Visit) → Grown v (iterating s v)
 grown_iterating s v = record { made = λ u i. i; calls = λ u i. in_left v.demands.iterators (s ∷ []) u i; asked = λ x i. i; equal = λ x i. i }
 
@@ -44,7 +47,7 @@ grown_binding x s v = record { made = λ u i. i; calls = λ u i. i; asked = λ x
 
 -- the visit after two sites that are two were equated
 unfoldable pub equated : SiteTerm → SiteTerm → Visit → Visit
-equated a b v = record { vars = v.vars; impure_calls = v.impure_calls; demands = record { constraints = v.demands.constraints; equalities = v.demands.equalities ++ (a, b) ∷ []; iterators = v.demands.iterators; impure = v.demands.impure; made = v.demands.made } }
+equated a b v = record { vars = v.vars; impure_calls = v.impure_calls; demands = record { constraints = v.demands.constraints; equalities = v.demands.equalities ++ (a, b) ∷ []; iterators = v.demands.iterators; impure = v.demands.impure; made = v.demands.made; counted = v.demands.counted } }
 
 grown_equated : (a b : SiteTerm) (v : Visit) → Grown v (equated a b v)
 unfolding equated
@@ -59,28 +62,33 @@ grown_all [] v = now v
 grown_all (s ∷ ss) v = then_grown v (asking s is_present v) (asking_all ss (asking s is_present v)) (grown_asking s is_present v) (grown_all ss (asking s is_present v))
 
 -- 1. patterns
+pub outputs_grown : (u v : Visit) (s : SiteTerm) (args : TypedPatterns) → Grown u v → Grown u (outputs_opened s args v).visit
+outputs_grown u v s args g =
+    let c = outputs_taken (pattern_count args) in
+    let w = counting c v in
+    then_grown u v (making (part_sites s args) w) g (then_grown v w (making (part_sites s args) w) (grown_counting c v) (grown_making (part_sites s args) w))
+
 call_grown : (pure multi partial rec infallible : Bool) (call : SiteTerm) (args : TypedPatterns) (v : Visit)
     → Grown v (open_call (record { pure = pure; multi = multi; partial = partial; rec = rec }) infallible call args v).visit
 call_grown pure true partial rec infallible call args v =
     let a = making (call ∷ (pick_of call ∷ [])) v in
     let b = iterating call a in
-    then_grown v a (making (part_sites (pick_of call) args) b) (grown_making (call ∷ (pick_of call ∷ [])) v)
-    (then_grown a b (making (part_sites (pick_of call) args) b) (grown_iterating call a) (grown_making (part_sites (pick_of call) args) b))
-call_grown pure false partial rec true call args v =
-    then_grown v (making (call ∷ []) v) (making (part_sites call args) (making (call ∷ []) v)) (grown_making (call ∷ []) v) (grown_making (part_sites call args) (making (call ∷ []) v))
+    outputs_grown v b (pick_of call) args (then_grown v a b (grown_making (call ∷ (pick_of call ∷ [])) v) (grown_iterating call a))
+call_grown pure false partial rec true call args v = outputs_grown v (making (call ∷ []) v) call args (grown_making (call ∷ []) v)
 call_grown pure false partial rec false call args v =
     let a = making (call ∷ (some_part call ∷ [])) v in
     let b = asking call is_present a in
-    then_grown v a (making (part_sites (some_part call) args) b) (grown_making (call ∷ (some_part call ∷ [])) v)
-    (then_grown a b (making (part_sites (some_part call) args) b) (grown_asking call is_present a) (grown_making (part_sites (some_part call) args) b))
+    outputs_grown v b (some_part call) args (then_grown v a b (grown_making (call ∷ (some_part call ∷ [])) v) (grown_asking call is_present a))
+
+fields_grown : (fields : List SiteTerm) (n : ℕ) (s : SiteTerm) (c : Constraint) (v : Visit) → Grown v (asking s c (making fields (counting (fields_matched n) v)))
+fields_grown fields n s c v =
+    let u = counting (fields_matched n) v in
+    let w = making fields u in
+    then_grown v u (asking s c w) (grown_counting (fields_matched n) v) (then_grown u w (asking s c w) (grown_making fields u) (grown_asking s c w))
 
 pub term_grown : (k : Kind) (t : ℕ) (s : SiteTerm) (args : TypedPatterns) (v : Visit) → Grown v (open_term k t s args v).visit
-term_grown (a_variant ty variant) t s args v =
-    let fields = from_to (variant_field s variant) 0 args in
-    then_grown v (making fields v) (asking s (is_variant ty variant (pattern_count args)) (making fields v)) (grown_making fields v) (grown_asking s (is_variant ty variant (pattern_count args)) (making fields v))
-term_grown (a_struct ty) t s args v =
-    let fields = from_to (struct_field s) 0 args in
-    then_grown v (making fields v) (asking s (is_struct ty (pattern_count args)) (making fields v)) (grown_making fields v) (grown_asking s (is_struct ty (pattern_count args)) (making fields v))
+term_grown (a_variant ty variant) t s args v = fields_grown (from_to (variant_field s variant) 0 args) (pattern_count args) s (is_variant ty variant (pattern_count args)) v
+term_grown (a_struct ty) t s args v = fields_grown (from_to (struct_field s) 0 args) (pattern_count args) s (is_struct ty (pattern_count args)) v
 term_grown (a_call flags infallible) t s args v = call_grown flags.pure flags.multi flags.partial flags.rec infallible (extractor_call t s) args v
 term_grown unknown t s args v = now v
 
@@ -89,6 +97,7 @@ tests_grow p v = record {
   bound = λ x s w g. then_grown v w (binding x s w) g (grown_binding x s w);
   equal = λ a b w g. then_grown v w (equating a b w) g (grown_equating a b w);
   asked = λ s c w g. then_grown v w (asking s c w) g (grown_asking s c w);
+  counted = λ c w g. then_grown v w (counting c w) g (grown_counting c w);
   opened = λ t s args w g. then_grown v w (open_term (kind p t) t s args w).visit g (term_grown (kind p t) t s args w);
 }
 

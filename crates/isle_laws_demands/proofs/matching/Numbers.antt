@@ -5,7 +5,6 @@ use Rattle.std.specs.List.{list_all}
 use Rattle.isle_model.specs.rules.Values.{Value}
 use Rattle.isle_model.specs.rules.Meaning.{Content, one, Meaning}
 use Rattle.isle_model.specs.rules.Outcome.{then_option}
-use Rattle.isle_model.specs.rules.Program.{Program}
 use Rattle.isle_model.specs.rules.Picks.{Pick, site_content}
 use Rattle.isle_model.specs.trees.Run.{World, as_value, content_fields, world_of}
 use Rattle.isle_model.specs.trees.Places.{is_in, joins_in}
@@ -16,7 +15,7 @@ use Rattle.isle_model.specs.sites.RuleSets.{AsksFor, Equates}
 use Rattle.isle_model.proofs.Elements.{In, in_from_contains, contains_from_in, in_any, any_in, all_in, all_from}
 use Rattle.isle_model.proofs.ValuesEqual.{eq_means, eq_same}
 use Rattle.isle_laws_demands.proofs.visits.Sets.{in_from_all}
-use Rattle.isle_laws_demands.proofs.matching.Contents.{is_value}
+use Rattle.isle_laws_demands.proofs.matching.Contents.{Given, is_value}
 
 found_in : (x : ℕ) (xs : List ℕ) → is_in x xs ≡ true → In xs x
 found_in x xs h = let a = in_any (λ y. y == x) xs h in subst (In xs) (eqb-true a.0 x a.2) a.1
@@ -33,9 +32,18 @@ both_same None q h = absurd (false≢true h)
 same_both : (o q : Option Value) (v : Value) → o ≡ Some v → q ≡ Some v → same_value o q ≡ true
 same_both o q v e f = ap (λ x. same_value x q) e ∙ ap (same_value (Some v)) f ∙ eq_same v
 
-module _ (p : Program) (t : ℕ) (sites : List Site) (m : Meaning) (args : List Value) (k : Pick) where
+module _ (g : Given) (t : ℕ) (sites : List Site) where
+  abbrev m : Meaning
+  m = g.meaning
+
+  abbrev args : List Value
+  args = g.args
+
+  abbrev k : Pick
+  k = g.pick
+
   abbrev w : World
-  w = world_of p t sites m args
+  w = world_of g.program t sites m args
 
   met_means : (c : Constraint) (o : Option Content) → meets m c o ≡ true → (x : Content) × (o ≡ Some x) × (is_some (content_fields m c x) ≡ true)
   met_means c None h = absurd (false≢true h)

@@ -12,7 +12,7 @@ use Rattle.isle_model.specs.rules.Typed.{TypedPattern, match_bind, match_var, ma
 use Rattle.isle_model.specs.rules.Picks.{picked, taken_answer, field_of_variant, field_of_struct, part_of_some, Sited, SitedVars, sited, input_sites, parts_under, holds_under, each_holds_under, all_hold_under}
 use Rattle.isle_model.specs.trees.Run.{from_value, content_fields, all_one}
 use Rattle.isle_model.specs.sites.Sites.{Constraint, is_variant, is_struct, is_bool, is_int, is_prim, is_present, SiteTerm, extractor_call, pick_of, variant_field, struct_field, some_part}
-use Rattle.isle_model.specs.sites.Demands.{Visit, visit_start, making, asking, iterating, binding, from_to, pattern_count, Opened, opened, output_sites, part_sites, open_call, open_term, visit_pattern, visit_each, visit_all}
+use Rattle.isle_model.specs.sites.Demands.{Visit, visit_start, making, asking, iterating, binding, from_to, pattern_count, Opened, opened, output_sites, open_call, open_term, visit_pattern, visit_each, visit_all, outputs_opened, fields_matched, counting}
 use Rattle.isle_model.specs.sites.Serves.{constant_type, term_args, fits_one, fits_answer, fits_extractor}
 use Rattle.isle_model.specs.lists.Setting.{bool_type, has_extractor}
 use Rattle.isle_model.specs.lists.Formed.{pattern_type, var_type, is_type, with_new, formed_pattern, formed_parts, formed_each}
@@ -21,9 +21,9 @@ use Rattle.isle_model.proofs.Options.{is_there, some_then}
 use Rattle.isle_laws_demands.proofs.visits.Patterns.{from_then, from_new, term_known}
 use Rattle.isle_laws_demands.proofs.matching.Contents.{Given, content_of, Here, AreHere, AsMany, IsAnswered, has_value, maybe_fits, picked_fits, fits_answered, fields_here, PutOut, put_out}
 use Rattle.isle_laws_demands.proofs.matching.Demanded.{one_not_just, AreMet, AskEnough, same_content, here_typed, met_asking, asked_now, IsBound, AreBound, bound_kept, After, outside, then_after, unbound, constant_after, var_after}
-use Rattle.isle_laws_demands.proofs.matching.Grown.{Grown, then_grown, grown_making, grown_asking, grown_iterating, each_grown, all_grown}
+use Rattle.isle_laws_demands.proofs.matching.Grown.{Grown, then_grown, grown_asking, grown_iterating, each_grown, all_grown, outputs_grown, now}
 use Rattle.isle_laws_demands.proofs.matching.SameExprs.{AreWithin, within_new}
-use Rattle.isle_laws_demands.proofs.matching.TypedParts.{HasTypedParts}
+use Rattle.isle_laws_lists.specs.WellTypedPrograms.{HasTypedParts}
 use Rattle.isle_laws_demands.proofs.matching.Variables.{here_valued, var_bound, not_among}
 use Rattle.isle_laws_lists.proofs.FormedParts.{from_if, type_is}
 
@@ -106,15 +106,15 @@ both_there true x y = refl
 both_there false x y = refl
 
 -- where a constraint is asked that is met exactly where the parts are seen
-asked_opens : (g : Given) (v : Visit) (s : SiteTerm) (c : Constraint) (ty : ℕ) (x : Value) (ins : List SiteTerm) (tys : List ℕ) (seen : Option Values) → Here g s ty x
-    → is_some (content_fields g.meaning c (one x)) ≡ is_some seen → ((ws : Values) → seen ≡ Some ws → AreHere g ins tys ws) → Opens g v (opened ins (asking s c (making ins v))) tys seen
-asked_opens g v s c ty x ins tys seen h q i = record {
+asked_opens : (g : Given) (v : Visit) (n : ℕ) (s : SiteTerm) (c : Constraint) (ty : ℕ) (x : Value) (ins : List SiteTerm) (tys : List ℕ) (seen : Option Values) → Here g s ty x
+    → is_some (content_fields g.meaning c (one x)) ≡ is_some seen → ((ws : Values) → seen ≡ Some ws → AreHere g ins tys ws) → Opens g v (opened ins (asking s c (making ins (counting (fields_matched n) v)))) tys seen
+asked_opens g v n s c ty x ins tys seen h q i = record {
   binds = refl;
   met = λ m ws e.
-      met_asking g s c (making ins v) (record { content = one x; held = h.content; meets = q ∙ ap is_some e }) (here_typed g s ty x h)
+      met_asking g s c (making ins (counting (fields_matched n) v)) (record { content = one x; held = h.content; meets = q ∙ ap is_some e }) (here_typed g s ty x h)
       (record { asked = m.asked; equal = m.equal });
   found = λ a.
-      (let m = a.asked (s, c) (asked_now s c (making ins v)) in
+      (let m = a.asked (s, c) (asked_now s c (making ins (counting (fields_matched n) v))) in
       let same = same_content g s m.content (one x) m.held h.content in
       is_there seen (sym q ∙ sym (ap (λ d. is_some (content_fields g.meaning c d)) same) ∙ m.meets));
   inputs = i;
@@ -122,7 +122,7 @@ asked_opens g v s c ty x ins tys seen h q i = record {
 
 variant_opens : (g : Given) (v : Visit) (s : SiteTerm) (ty i t : ℕ) (args : TypedPatterns) (tys : List ℕ) (x : Value) → AsMany args tys → variant_types (slice_get g.program.types ty) i ≡ Some tys → Here g s ty x
     → Opens g v (open_term (a_variant ty i) t s args v) tys (parts_seen (a_variant ty i) g.meaning t x)
-variant_opens g v s ty i t args tys x n k h = asked_opens g v s (is_variant ty i (pattern_count args)) ty x (from_to (variant_field s i) 0 args) tys (parts_seen (a_variant ty i) g.meaning t x) h (same x) (each x h)
+variant_opens g v s ty i t args tys x n k h = asked_opens g v (pattern_count args) s (is_variant ty i (pattern_count args)) ty x (from_to (variant_field s i) 0 args) tys (parts_seen (a_variant ty i) g.meaning t x) h (same x) (each x h)
   where
     same : (y : Value) → is_some (content_fields g.meaning (is_variant ty i (pattern_count args)) (one y)) ≡ is_some (parts_seen (a_variant ty i) g.meaning t y)
     same (of_variant u j fields) = both_there ((u == ty) && (j == i)) (all_one (listed fields)) fields
@@ -148,7 +148,7 @@ variant_opens g v s ty i t args tys x n k h = asked_opens g v s (is_variant ty i
 
 struct_opens : (g : Given) (v : Visit) (s : SiteTerm) (ty t : ℕ) (args : TypedPatterns) (tys : List ℕ) (x : Value) → AsMany args tys → struct_types (slice_get g.program.types ty) ≡ Some tys → Here g s ty x
     → Opens g v (open_term (a_struct ty) t s args v) tys (parts_seen (a_struct ty) g.meaning t x)
-struct_opens g v s ty t args tys x n k h = asked_opens g v s (is_struct ty (pattern_count args)) ty x (from_to (struct_field s) 0 args) tys (parts_seen (a_struct ty) g.meaning t x) h (same x) (each x h)
+struct_opens g v s ty t args tys x n k h = asked_opens g v (pattern_count args) s (is_struct ty (pattern_count args)) ty x (from_to (struct_field s) 0 args) tys (parts_seen (a_struct ty) g.meaning t x) h (same x) (each x h)
   where
     same : (y : Value) → is_some (content_fields g.meaning (is_struct ty (pattern_count args)) (one y)) ≡ is_some (parts_seen (a_struct ty) g.meaning t y)
     same (of_struct u fields) = both_there (u == ty) (all_one (listed fields)) fields
@@ -187,7 +187,46 @@ module _ (g : Given) (z : Visit) (h : IsAnswered g z.demands) (parts : HasTypedP
   abbrev call_parts : Bool → ℕ → SiteTerm → Value → Option Values
   call_parts multi t s x = then_option (then_option (extractor_answer g.meaning t x) (taken_answer multi g.pick (extractor_call t s))) answered_outputs
 
-  module _ (t : ℕ) (e : TermEntry) (there : slice_get p.terms t ≡ Some e) (s : SiteTerm) (x : Value) (ty : ℕ) (here : Here g s ty x) (args : TypedPatterns) (n : AsMany args e.arg_tys) (v : Visit) where
+  -- a term whose parts a pattern takes: its entry, the value at the site, and the patterns of the parts
+  record TermTaken : Type 0 where
+    term : ℕ
+    entry : TermEntry
+    there : slice_get p.terms term ≡ Some entry
+    site : SiteTerm
+    value : Value
+    ty : ℕ
+    here : Here g site ty value
+    args : TypedPatterns
+    many : AsMany args entry.arg_tys
+
+  module _ (of : TermTaken) (v : Visit) where
+    abbrev t : ℕ
+    t = of.term
+
+    abbrev e : TermEntry
+    e = of.entry
+
+    abbrev there : slice_get p.terms t ≡ Some e
+    there = of.there
+
+    abbrev s : SiteTerm
+    s = of.site
+
+    abbrev x : Value
+    x = of.value
+
+    abbrev ty : ℕ
+    ty = of.ty
+
+    abbrev here : Here g s ty x
+    here = of.here
+
+    abbrev args : TypedPatterns
+    args = of.args
+
+    abbrev n : AsMany args e.arg_tys
+    n = of.many
+
     abbrev call : SiteTerm
     call = extractor_call t s
 
@@ -219,8 +258,8 @@ module _ (g : Given) (z : Visit) (h : IsAnswered g z.demands) (parts : HasTypedP
         → Opens g v (open_call (record { pure = pure; multi = multi; partial = partial; rec = rec }) infallible call args v) e.arg_tys (call_parts multi t s x)
     call_opens pure true partial rec infallible q l =
         let made = making (call ∷ (pick_of call ∷ [])) v in
-        let o = opened (output_sites (pick_of call) args) (making (part_sites (pick_of call) args) (iterating call made)) in
-        let k = then_grown made (iterating call made) z (grown_iterating call made) (then_grown (iterating call made) o.visit z (grown_making (part_sites (pick_of call) args) (iterating call made)) l) in
+        let o = outputs_opened (pick_of call) args (iterating call made) in
+        let k = then_grown made o.visit z (outputs_grown made (iterating call made) (pick_of call) args (grown_iterating call made)) l in
         let c = h.extractors t s x (k.made call (in_right v.demands.made (call ∷ (pick_of call ∷ [])) call (inl refl))) here.content in
         let d = h.picks call (l.calls call (in_right v.demands.iterators (call ∷ []) call (inl refl))) in
         let taken : picked g.pick call c.answer ≡ Some d.0 = sym (ap (λ y. then_option y (picked g.pick call)) (call_content c.answer c.there)) ∙ d.1 in
@@ -231,8 +270,8 @@ module _ (g : Given) (z : Visit) (h : IsAnswered g z.demands) (parts : HasTypedP
         (from_outputs true (pick_of call) d.0 w (ap (λ y. then_option y (taken_answer true g.pick call)) c.there ∙ taken) f) w.here
     call_opens pure false partial rec true q l =
         let made = making (call ∷ []) v in
-        let o = opened (output_sites call args) (making (part_sites call args) made) in
-        let k = then_grown made o.visit z (grown_making (part_sites call args) made) l in
+        let o = outputs_opened call args made in
+        let k = then_grown made o.visit z (outputs_grown made made call args (now made)) l in
         let c = h.extractors t s x (k.made call (in_right v.demands.made (call ∷ []) call (inl refl))) here.content in
         let f = fits_sure (record { pure = pure; multi = false; partial = partial; rec = rec }) c.answer q c.right in
         let w = put_out g call args e.arg_tys c.answer n f (call_content c.answer c.there) in
@@ -241,8 +280,8 @@ module _ (g : Given) (z : Visit) (h : IsAnswered g z.demands) (parts : HasTypedP
     call_opens pure false partial rec false q l =
         let made = making (call ∷ (some_part call ∷ [])) v in
         let asked = asking call is_present made in
-        let o = opened (output_sites (some_part call) args) (making (part_sites (some_part call) args) asked) in
-        let k = then_grown made asked z (grown_asking call is_present made) (then_grown asked o.visit z (grown_making (part_sites (some_part call) args) asked) l) in
+        let o = outputs_opened (some_part call) args asked in
+        let k = then_grown made o.visit z (outputs_grown made asked (some_part call) args (grown_asking call is_present made)) l in
         let c = h.extractors t s x (k.made call (in_right v.demands.made (call ∷ (some_part call ∷ [])) call (inl refl))) here.content in
         let f = fits_maybe (record { pure = pure; multi = false; partial = partial; rec = rec }) c.answer q c.right in
         elim (maybe_fits p e.arg_tys c.answer f) [
@@ -376,7 +415,7 @@ module _ (g : Given) (z : Visit) (h : IsAnswered g z.demands) (parts : HasTypedP
         let o = open_term (kind p t) t s args v in
         let w = visit_each p args o.inputs o.visit in
         let k = each_grown p args o.inputs o.visit in
-        let u = term_opens t a.entry a.there s x ty here args (as_many p args a.entry.arg_tys vars more a.formed) v (kind p t) refl
+        let u = term_opens (record { term = t; entry = a.entry; there = a.there; site = s; value = x; ty = ty; here = here; args = args; many = as_many p args a.entry.arg_tys vars more a.formed }) v (kind p t) refl
         (sym (ap (λ o. elim o as (λ _. Kind) [ None ↦ unknown | Some i ↦ kind_of i ]) a.there)) a.ret (then_grown o.visit w z k l) in
         subst (λ ins. After g more e v w (then_option (parts_under (kind p t) g.meaning g.pick t s x) (λ vs. each_holds_under p g.meaning g.pick args ins vs e))) (same_inputs (kind p t) t s args v)
         (opened_after more e v w o a.entry.arg_tys (parts_under (kind p t) g.meaning g.pick t s x) (λ vs. each_holds_under p g.meaning g.pick args o.inputs vs e) u k

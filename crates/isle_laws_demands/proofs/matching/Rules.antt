@@ -9,8 +9,8 @@ use Rattle.isle_model.specs.rules.Typed.{TypedPattern, TypedIfLet, TypedRule}
 use Rattle.isle_model.specs.rules.Picks.{picked, field_of_variant, field_of_struct, part_of_some, call_answer, SitedVars, expr_site, holds_under, value_under, args_hold_under, iflets_hold_under, matches_under}
 use Rattle.isle_model.specs.trees.Run.{as_value, from_value, part_at}
 use Rattle.isle_model.specs.sites.Sites.{is_present, SiteTerm, bool_term, int_term, prim_term, argument, extractor_call, constructor_call, pick_of, variant_made, variant_field, struct_made, struct_field, some_made, some_part, tuple_part, no_site, SiteTerms, no_site_term, site_term_and}
-use Rattle.isle_model.specs.sites.Demands.{demands_of, Visit, visit_start, making, visit_pattern, Valued, visit_expr, unwraps, unwraps_all, asking_all, visit_args, visit_iflets, visit_rule}
-use Rattle.isle_model.specs.sites.DemandedGates.{IsPureExpr, ArePureIfLets, HasNoPartialMulti}
+use Rattle.isle_model.specs.sites.Demands.{demands_of, Visit, visit_start, visit_pattern, Valued, visit_expr, unwraps, unwraps_all, asking_all, visit_args, visit_iflets, visit_rule, taking_argument}
+use Rattle.isle_model.specs.sites.DemandedGates.{IsPureExpr, ArePureIfLets}
 use Rattle.isle_model.specs.lists.Setting.{expr_type}
 use Rattle.isle_model.specs.lists.Formed.{pattern_type, formed_pattern, is_formed_expr, formed_list, formed_iflets, is_formed_rule}
 use Rattle.isle_model.proofs.Elements.{In, in_from_contains, in_either, some_is, none_some}
@@ -23,10 +23,10 @@ use Rattle.isle_laws_demands.proofs.matching.Exprs.{expr_valued}
 use Rattle.isle_laws_demands.proofs.matching.Grown.{Grown, then_grown, grown_all, expr_adds, pattern_grown, iflets_grown, args_grown, rule_adds}
 use Rattle.isle_laws_demands.proofs.matching.Patterns.{from_part, pattern_after}
 use Rattle.isle_laws_demands.proofs.matching.SameExprs.{expr_keeps}
-use Rattle.isle_laws_demands.proofs.matching.TypedParts.{HasTypedParts}
+use Rattle.isle_laws_lists.specs.WellTypedPrograms.{IsWellTypedProgram}
 use Rattle.isle_laws_demands.proofs.matching.Variables.{named, IsPresent, AllPresent, var_moved}
 use Rattle.isle_laws_demands.proofs.visits.RuleParts.{iflet_parts}
-use Rattle.isle_laws_runs.proofs.picks.Held.{is_just}
+use Rattle.isle_laws_runs.proofs.picks.HeldContents.{is_just}
 pub use Rattle.isle_laws_demands.proofs.visits.RuleParts.{RuleParts, rule_parts}
 
 -- 1. the calls that a site with a content unwraps answer
@@ -80,15 +80,15 @@ nothing_past g vars more e v f b = record {
   agree = λ e' q. subst (λ x. AreBound g more x v.vars) (some_is e e' q) (subst (λ vs. AreBound g vs e v.vars) (some_is vars more f) b);
 }
 
-module _ (g : Given) (z : Visit) (h : IsAnswered g z.demands) (parts : HasTypedParts g.program) (neither : HasNoPartialMulti g.program) where
+module _ (g : Given) (z : Visit) (h : IsAnswered g z.demands) (well : IsWellTypedProgram g.program) where
   abbrev p : Program
   p = g.program
 
   arg_past : (i : ℕ) (q : TypedPattern) (v : Visit) (vars mid : List (ℕ × ℕ)) (e : SitedVars) (x : Value) → formed_pattern p q vars ≡ Some mid → Here g (argument i) (pattern_type q) x → AreBound g vars e v.vars
-      → Grown (visit_pattern p q (argument i) (making (argument i ∷ []) v)) z
-      → Past g mid e v (visit_pattern p q (argument i) (making (argument i ∷ []) v)) (holds_under p g.meaning g.pick q (argument i) x e)
+      → Grown (visit_pattern p q (argument i) (taking_argument i v)) z
+      → Past g mid e v (visit_pattern p q (argument i) (taking_argument i v)) (holds_under p g.meaning g.pick q (argument i) x e)
   arg_past i q v vars mid e x f here b l =
-      let a = pattern_after g z h parts q (argument i) (making (argument i ∷ []) v) vars mid e x f here b l in
+      let a = pattern_after g z h well.parts q (argument i) (taking_argument i v) vars mid e x f here b l in
       record { met = λ m e' k. a.met (record { asked = m.asked; equal = m.equal }) e' k; found = a.found; agree = a.agree }
 
   pub args_past : (i : ℕ) (qs : List TypedPattern) (tys : List ℕ) (xs : List Value) (v : Visit) (vars more : List (ℕ × ℕ)) (e : SitedVars) → formed_list p qs tys vars ≡ Some more
@@ -102,7 +102,7 @@ module _ (g : Given) (z : Visit) (h : IsAnswered g z.demands) (parts : HasTypedP
   args_past i (q ∷ qs) (ty ∷ tys) (x ∷ xs) v vars more e f t c b l =
       let a = from_part p q ty vars more (λ mid. formed_list p qs tys mid) f in
       let d = and_parts (well_typed p.types ty x) (all_well_typed p.types (Some tys) (of_list xs)) t in
-      let u = visit_pattern p q (argument i) (making (argument i ∷ []) v) in
+      let u = visit_pattern p q (argument i) (taking_argument i v) in
       let w = visit_args p (suc i) qs u in
       let k = args_grown p (suc i) qs u in
       let first : i + 0 ≡ i = omega arith in
@@ -138,7 +138,7 @@ module _ (g : Given) (z : Visit) (h : IsAnswered g z.demands) (parts : HasTypedP
       let w = after_iflet i v in
       let adds = expr_adds p i.rhs v in
       let grown_u : Grown u z = then_grown u w z (pattern_grown p i.lhs a.site u) l in
-      let r = expr_valued g z h parts neither i.rhs v vars e f y (bound_vars g vars e v.vars b) (then_grown a.visit u z (grown_all (unwraps a.site) a.visit) grown_u) in
+      let r = expr_valued g z h well i.rhs v vars e f y (bound_vars g vars e v.vars b) (then_grown a.visit u z (grown_all (unwraps a.site) a.visit) grown_u) in
       let moved : AreBound g vars e u.vars = λ x ty k.
       (let n = b x ty k in
       record {
@@ -148,7 +148,7 @@ module _ (g : Given) (z : Visit) (h : IsAnswered g z.demands) (parts : HasTypedP
       }) in
       let rest : (x : Value) → value_in i e ≡ Some x → After g mid e u w (holds_in i e x) = λ x k.
       subst (λ n. After g mid e u w (holds_under p g.meaning g.pick i.lhs n x e)) (sym r.site)
-      (pattern_after g z h parts i.lhs a.site u vars mid e x q
+      (pattern_after g z h well.parts i.lhs a.site u vars mid e x q
       (record { content = is_value (content_of g a.site) x (sym r.value ∙ k); typed = subst (λ n. well_typed p.types n x ≡ true) (sym s) (r.typed x k) }) moved l) in
       record {
         met = λ m e' k.
@@ -193,9 +193,9 @@ before_result p r = visit_iflets p r.iflets (visit_args p 0 r.args visit_start)
 
 -- a rule's arguments and if-lets, past all of them
 pub rule_past : (g : Given) (r : TypedRule) (a : RuleParts g.program r) → ArePureIfLets g.program r.iflets → args_well_typed g.program.types (arg_types g.program r.root_term) g.args ≡ true
-    → HasTypedParts g.program → HasNoPartialMulti g.program → IsAnswered g (demands_of g.program r)
+    → IsWellTypedProgram g.program → IsAnswered g (demands_of g.program r)
     → Past g a.vars [] visit_start (before_result g.program r) (matches_under g.program g.meaning g.pick r g.args)
-rule_past g r a y t fields neither h =
+rule_past g r a y t well h =
     let p = g.program in
     let z = (visit_rule p r).visit in
     let u = visit_args p 0 r.args visit_start in
@@ -203,18 +203,18 @@ rule_past g r a y t fields neither h =
     let adds = rule_adds p r w in
     let typed : all_well_typed p.types (Some a.entry.arg_tys) (of_list g.args) ≡ true =
     subst (λ o. args_well_typed p.types (elim o as (λ _. List ℕ) [ None ↦ [] | Some e ↦ e.arg_tys ]) g.args ≡ true) a.there t in
-    let first = args_past g z h fields neither 0 r.args a.entry.arg_tys g.args visit_start [] a.mid [] a.args typed
+    let first = args_past g z h well 0 r.args a.entry.arg_tys g.args visit_start [] a.mid [] a.args typed
     (λ j x s. (let same : 0 + j ≡ j = omega arith in ap (slice_get g.args) same ∙ s)) (λ x ty i. absurd (none_some ty i)) (then_grown u w z (iflets_grown p r.iflets u) adds.grown) in
     then_past g a.mid a.vars [] visit_start u w (args_hold_under p g.meaning g.pick 0 r.args g.args []) (λ e. iflets_hold_under p g.meaning g.pick r.iflets e) first (iflets_grown p r.iflets u)
-    (λ e i. iflets_past g z h fields neither r.iflets u a.mid a.vars e a.iflets y (first.agree e i) adds.grown)
+    (λ e i. iflets_past g z h well r.iflets u a.mid a.vars e a.iflets y (first.agree e i) adds.grown)
 
 pub rule_matches : (g : Given) (r : TypedRule) → is_formed_rule g.program r ≡ true → ArePureIfLets g.program r.iflets → args_well_typed g.program.types (arg_types g.program r.root_term) g.args ≡ true
-    → HasTypedParts g.program → HasNoPartialMulti g.program → IsAnswered g (demands_of g.program r) → Matches g r
-rule_matches g r f y t fields neither h =
+    → IsWellTypedProgram g.program → IsAnswered g (demands_of g.program r) → Matches g r
+rule_matches g r f y t well h =
     let p = g.program in
     let w = before_result p r in
     let adds = rule_adds p r w in
-    let all = rule_past g r (rule_parts p r f) y t fields neither h in
+    let all = rule_past g r (rule_parts p r f) y t well h in
     record {
       met = λ m.
           (let e = is_there (matches_under p g.meaning g.pick r g.args) m in

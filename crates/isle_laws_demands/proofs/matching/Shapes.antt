@@ -2,19 +2,14 @@
 use Rattle.std.proofs.Common.{◌≡◌, ◌==◌, ℕ, ℤ, zero, suc, Bool, true, false, ◌&&◌, cond, List, [], ◌∷◌, length, Option, Some, None, is_some, slice_get, refl, sym, ap, ◌∙◌, eqb-true, subst, IsTrue, IsSomeAnd}
 use Rattle.std.proofs.lemmas.Bool.{and_parts, false≢true}
 use Rattle.isle_model.specs.lists.Tables.{TypeEntry, builtin_type, primitive_type, enum_type, struct_type}
-use Rattle.isle_model.specs.lists.KnownTypes.{StandAtIds}
 use Rattle.isle_model.specs.lists.Ranges.{is_literal_of}
 use Rattle.isle_model.specs.rules.Values.{Value, truth, atom, of_variant, of_struct, Values, no_value, value_and, listed, is_truth_type, is_atom_type, variant_types, struct_types, well_typed, all_well_typed}
 use Rattle.isle_model.specs.rules.Meaning.{Content, one, parts, nothing, just, many, Meaning, bool_literal, int_literal, literal_value, constant_value}
 use Rattle.isle_model.specs.trees.Run.{content_fields, all_one}
 use Rattle.isle_model.specs.sites.Sites.{Constraint, is_variant, is_struct, is_bool, is_int, is_prim, is_present}
 use Rattle.isle_model.specs.sites.Serves.{is_type_with_parts}
+use Rattle.isle_laws_lists.specs.WellTypedPrograms.{HasTypes}
 use Rattle.isle_laws_demands.proofs.matching.Demanded.{constant_found}
-
--- the first type is that of booleans, and each type stands at its id
-pub record HasTypes (types : List TypeEntry) : Type 0 where
-  pub ids : StandAtIds types
-  pub first : slice_get types 0 ≡ Some (builtin_type 0)
 
 -- 1. types of values
 truth_type : (types : List TypeEntry) → HasTypes types → (ty : ℕ) → is_truth_type (slice_get types ty) ≡ true → ty ≡ 0

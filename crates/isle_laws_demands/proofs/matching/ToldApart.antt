@@ -10,12 +10,11 @@ use Rattle.isle_model.specs.rules.Picks.{picks, SitedVars, matches_under}
 use Rattle.isle_model.specs.sites.Demands.{demands_of}
 use Rattle.isle_model.specs.sites.Closure.{Closed, ClosedDemandsHold}
 use Rattle.isle_model.specs.sites.Overlap.{BuiltRule, built_rules, AreAmong}
-use Rattle.isle_model.specs.claims.Environments.{program_of}
 use Rattle.isle_model.proofs.Elements.{in_from_contains, contains_from_in}
 use Rattle.isle_laws_runs.specs.WithoutMulti.{without_sites}
 use Rattle.isle_laws_runs.proofs.picks.NoIterators.{calls_no_multi}
 use Rattle.isle_laws_runs.proofs.picks.OnePick.{bag_as_plain_lem}
-use Rattle.isle_laws_runs.proofs.picks.Plain.{matches_as_plain_lem}
+use Rattle.isle_laws_runs.proofs.picks.PlainMatching.{matches_as_plain_lem}
 use Rattle.isle_laws_demands.specs.BuiltLaws.{BuiltDemandsAreWhole}
 use Rattle.isle_laws_demands.specs.MatchLaws.{IsTried, BuiltRulesAreToldApart}
 use Rattle.isle_laws_demands.proofs.closure.Closing.{FollowsSoFar, closed_follows}
@@ -24,10 +23,8 @@ use Rattle.isle_laws_demands.proofs.matching.BuiltMatches.{built_demands_hold_al
 use Rattle.isle_laws_demands.proofs.matching.ConstrainedOnce.{StandOnce, closed_once, all_among}
 use Rattle.isle_laws_demands.proofs.matching.Contents.{content_of}
 use Rattle.isle_laws_demands.proofs.matching.FormedDemands.{rule_formed}
-use Rattle.isle_laws_demands.proofs.matching.NeverMatches.{program_has_types}
 use Rattle.isle_laws_demands.proofs.matching.NoMulti.{rules_without_multi_go_over_no_calls_lem}
-use Rattle.isle_laws_demands.proofs.matching.TypedParts.{program_has_typed_parts}
-use Rattle.isle_laws_demands.proofs.matching.Unreachable.{shape_there, same_shape}
+use Rattle.isle_laws_demands.proofs.matching.Unreachable.{IsMetRule, shape_there, same_shape}
 use Rattle.isle_laws_demands.proofs.matching.Visits.{given, tried, visits_match_lem}
 
 -- 1. without calls, under the empty pick
@@ -71,40 +68,40 @@ among_back a b once na nb few among s c i =
     (all_among b.constraints a.constraints once (λ w j. in_from_contains a.constraints w (among w.0 w.1 (contains_from_in b.constraints w j))) l (s, c) (in_from_contains a.constraints (s, c) i))
 
 pub built_rules_are_told_apart_lem : BuiltDemandsAreWhole → BuiltRulesAreToldApart
-built_rules_are_told_apart_lem whole e defs expand rules t h = record {
+built_rules_are_told_apart_lem whole p t h = record {
   overlap = λ m args typed served apart a b without no ma mb.
       (let i = without.one_of in
       let j = without.other_of in
-      let na = rules_without_multi_go_over_no_calls_lem e defs expand rules t h without.one_result a.rule (built_listed (program_of e defs rules.rules) t a i) in
-      let nb = rules_without_multi_go_over_no_calls_lem e defs expand rules t h without.one_result b.rule (built_listed (program_of e defs rules.rules) t b j) in
-      let g = given (program_of e defs rules.rules) m args [] in
-      let types = program_has_types e defs expand rules h in
-      let fields = program_has_typed_parts e defs expand rules h in
-      let ta : IsTried (program_of e defs rules.rules) t m args a.rule [] = record { typed = typed; served = served; rule = built_listed (program_of e defs rules.rules) t a i; pick = empty_pick (program_of e defs rules.rules) m args a.rule na } in
-      let tb : IsTried (program_of e defs rules.rules) t m args b.rule [] = record { typed = typed; served = served; rule = built_listed (program_of e defs rules.rules) t b j; pick = empty_pick (program_of e defs rules.rules) m args b.rule nb } in
-      let ka = tried e defs expand rules h t m args a.rule [] ta in
-      let kb = tried e defs expand rules h t m args b.rule [] tb in
-      let xa = ka.matches.met (same_match (program_of e defs rules.rules) m args a.rule na ∙ ma) in
-      let xb = kb.matches.met (same_match (program_of e defs rules.rules) m args b.rule nb ∙ mb) in
+      let na = rules_without_multi_go_over_no_calls_lem p t h without.one_result a.rule (built_listed p t a i) in
+      let nb = rules_without_multi_go_over_no_calls_lem p t h without.one_result b.rule (built_listed p t b j) in
+      let g = given p m args [] in
+      let ta : IsTried p t m args a.rule [] = record { typed = typed; served = served; rule = built_listed p t a i; pick = empty_pick p m args a.rule na } in
+      let tb : IsTried p t m args b.rule [] = record { typed = typed; served = served; rule = built_listed p t b j; pick = empty_pick p m args b.rule nb } in
+      let ka = tried p t m args a.rule [] h ta in
+      let kb = tried p t m args b.rule [] h tb in
+      let xa = ka.matches.met (same_match p m args a.rule na ∙ ma) in
+      let xb = kb.matches.met (same_match p m args b.rule nb ∙ mb) in
+      let first_met : IsMetRule g (rules_of p t) a.rule = record { here = ta.rule; served = served; types = h.types; formed = rule_formed p h.parts a.rule ka.rule.formed; met = xa } in
+      let second_met : IsMetRule g (rules_of p t) b.rule = record { here = tb.rule; served = served; types = h.types; formed = rule_formed p h.parts b.rule kb.rule.formed; met = xb } in
       no (λ s c d u v.
-      same_shape g (rules_of (program_of e defs rules.rules) t) types apart (content_of g s) c d
-      (shape_there g a.rule (rules_of (program_of e defs rules.rules) t) ta.rule served types (rule_formed (program_of e defs rules.rules) fields a.rule ka.formed) xa apart s c ((built_follows (program_of e defs rules.rules) t a i).constraints (s, c) (in_from_contains a.demands.constraints (s, c) u)))
-      (shape_there g b.rule (rules_of (program_of e defs rules.rules) t) tb.rule served types (rule_formed (program_of e defs rules.rules) fields b.rule kb.formed) xb apart s d ((built_follows (program_of e defs rules.rules) t b j).constraints (s, d) (in_from_contains b.demands.constraints (s, d) v)))));
+      same_shape g (rules_of p t) h.types apart (content_of g s) c d
+      (shape_there g (rules_of p t) a.rule first_met apart s c ((built_follows p t a i).constraints (s, c) (in_from_contains a.demands.constraints (s, c) u)))
+      (shape_there g (rules_of p t) b.rule second_met apart s d ((built_follows p t b j).constraints (s, d) (in_from_contains b.demands.constraints (s, d) v)))));
   shadow = λ m args typed served apart mask b without x mb.
       (let i = without.one_of in
       let j = without.other_of in
-      let na = rules_without_multi_go_over_no_calls_lem e defs expand rules t h without.one_result mask.rule (built_listed (program_of e defs rules.rules) t mask i) in
-      let nb = rules_without_multi_go_over_no_calls_lem e defs expand rules t h without.one_result b.rule (built_listed (program_of e defs rules.rules) t b j) in
-      let ta : IsTried (program_of e defs rules.rules) t m args mask.rule [] = record { typed = typed; served = served; rule = built_listed (program_of e defs rules.rules) t mask i; pick = empty_pick (program_of e defs rules.rules) m args mask.rule na } in
-      let tb : IsTried (program_of e defs rules.rules) t m args b.rule [] = record { typed = typed; served = served; rule = built_listed (program_of e defs rules.rules) t b j; pick = empty_pick (program_of e defs rules.rules) m args b.rule nb } in
-      let va = visits_match_lem e defs expand rules t m args mask.rule [] h ta in
-      let vb = visits_match_lem e defs expand rules t m args b.rule [] h tb in
-      let ca = built_demands_hold_alike_lem whole e defs expand rules t m args mask [] h i ta in
-      let cb = built_demands_hold_alike_lem whole e defs expand rules t m args b [] h j tb in
+      let na = rules_without_multi_go_over_no_calls_lem p t h without.one_result mask.rule (built_listed p t mask i) in
+      let nb = rules_without_multi_go_over_no_calls_lem p t h without.one_result b.rule (built_listed p t b j) in
+      let ta : IsTried p t m args mask.rule [] = record { typed = typed; served = served; rule = built_listed p t mask i; pick = empty_pick p m args mask.rule na } in
+      let tb : IsTried p t m args b.rule [] = record { typed = typed; served = served; rule = built_listed p t b j; pick = empty_pick p m args b.rule nb } in
+      let va = visits_match_lem p t m args mask.rule [] h ta in
+      let vb = visits_match_lem p t m args b.rule [] h tb in
+      let ca = built_demands_hold_alike_lem whole p t m args mask [] h i ta in
+      let cb = built_demands_hold_alike_lem whole p t m args b [] h j tb in
       let among : AreAmong mask.demands.constraints b.demands.constraints = elim x.subset.among [
         | inl k ↦ k
-        | inr k ↦ among_back mask.demands b.demands (built_once (program_of e defs rules.rules) t b j) x.subset.first_has_none x.subset.second_has_none x.no_more k
+        | inr k ↦ among_back mask.demands b.demands (built_once p t b j) x.subset.first_has_none x.subset.second_has_none x.no_more k
       ] in
-      let holds = fewer_hold m args mask.demands b.demands x.subset.first_has_none among (cb.0 (vb.matching.0 (same_match (program_of e defs rules.rules) m args b.rule nb ∙ mb))) in
-      sym (same_match (program_of e defs rules.rules) m args mask.rule na) ∙ va.matching.1 (ca.1 holds));
+      let holds = fewer_hold m args mask.demands b.demands x.subset.first_has_none among (cb.0 (vb.matching.0 (same_match p m args b.rule nb ∙ mb))) in
+      sym (same_match p m args mask.rule na) ∙ va.matching.1 (ca.1 holds));
 }

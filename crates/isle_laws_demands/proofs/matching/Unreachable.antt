@@ -14,10 +14,11 @@ use Rattle.isle_model.specs.sites.Closure.{fields_from, field_terms, Joined, giv
 use Rattle.isle_model.specs.sites.Serves.{asked_by, asked, constant_site, constant_type, typed_as, written_type, written_value, is_type_with_parts, tested_constants, is_own_type, is_open_constant, Serves, TellsConstantsApart}
 use Rattle.isle_model.proofs.Elements.{In, in_from_contains, contains_from_in, in_right, in_flat_map, slice_in, some_is, none_some}
 use Rattle.isle_model.proofs.Members.{get_within}
+use Rattle.isle_laws_lists.specs.WellTypedPrograms.{HasTypes}
 use Rattle.isle_laws_demands.proofs.matching.Contents.{Given, content_of}
 use Rattle.isle_laws_demands.proofs.matching.Demanded.{one_not_just, Equal, AreMet, one_is}
 use Rattle.isle_laws_demands.proofs.matching.FormedDemands.{AreFormed}
-use Rattle.isle_laws_demands.proofs.matching.Shapes.{HasTypes, one_type, no_variant, no_struct, literal_without_parts, as_many_values, has_form, holds_there}
+use Rattle.isle_laws_demands.proofs.matching.Shapes.{one_type, no_variant, no_struct, literal_without_parts, as_many_values, has_form, holds_there}
 
 -- 1. fields
 pub field_is : (f : ℕ → SiteTerm) (j n i : ℕ) (x : SiteTerm) → slice_get (fields_from f j n) i ≡ Some x → (f (j + i) ≡ x) × (i < n)
@@ -115,18 +116,18 @@ module _ (g : Given) (rs : List TypedRule) (types : HasTypes g.program.types) (a
   Shape o is_present = (c : Content) × (o ≡ Some (just c))
 
   -- two constants with one value, and one type, are one
-  module _ (o : Option Content) (a b : SiteTerm) (x : IsConstant o a) (y : IsConstant o b) where
-    same_value : x.value ≡ y.value
-    same_value = one_is x.value y.value (some_is (one x.value) (one y.value) (sym x.there ∙ y.there))
+  same_value : (o : Option Content) (a b : SiteTerm) (x : IsConstant o a) (y : IsConstant o b) → x.value ≡ y.value
+  same_value o a b x y = one_is x.value y.value (some_is (one x.value) (one y.value) (sym x.there ∙ y.there))
 
-    same_type : y.ty ≡ x.ty
-    same_type = one_type q.types types y.value y.ty x.ty y.typed (subst (λ v. well_typed q.types x.ty v ≡ true) same_value x.typed)
+  same_type : (o : Option Content) (a b : SiteTerm) (x : IsConstant o a) (y : IsConstant o b) → y.ty ≡ x.ty
+  same_type o a b x y = one_type q.types types y.value y.ty x.ty y.typed (subst (λ v. well_typed q.types x.ty v ≡ true) (same_value o a b x y) x.typed)
 
-    open_same : (is_open_constant q a || is_open_constant q b) ≡ true → a ≡ b
-    open_same h = apart.different a b x.ty x.value x.tested y.tested h x.written (y.written ∙ ap Some same_type) x.worth (y.worth ∙ ap Some (sym same_value))
+  open_same : (o : Option Content) (a b : SiteTerm) → IsConstant o a → IsConstant o b → (is_open_constant q a || is_open_constant q b) ≡ true → a ≡ b
+  open_same o a b x y h =
+      apart.different a b x.ty x.value x.tested y.tested h x.written (y.written ∙ ap Some (same_type o a b x y)) x.worth (y.worth ∙ ap Some (sym (same_value o a b x y)))
 
-    same_written : written_type q a ≡ written_type q b
-    same_written = x.written ∙ ap Some (sym same_type) ∙ sym y.written
+  same_written : (o : Option Content) (a b : SiteTerm) → IsConstant o a → IsConstant o b → written_type q a ≡ written_type q b
+  same_written o a b x y = x.written ∙ ap Some (sym (same_type o a b x y)) ∙ sym y.written
 
   bools_same : (o : Option Content) (b c : Bool) (s t : ℕ) → IsConstant o (bool_term b s) → IsConstant o (bool_term c t) → bool_term b s ≡ bool_term c t
   bools_same o b c s t x y =
@@ -237,8 +238,30 @@ module _ (g : Given) (rs : List TypedRule) (types : HasTypes g.program.types) (a
   same_shape o (is_prim name) is_present x y = absurd (not_just o x.value y.0 x.there y.1)
 
 -- 4. what is met
-module _ (g : Given) (r : TypedRule) (rs : List TypedRule) (here : Contains rs r) (served : Serves g.program g.meaning g.args rs) (types : HasTypes g.program.types)
-    (formed : AreFormed g.program (demands_of g.program r)) (met : AreMet g (demands_of g.program r)) where
+-- one of the rules that a meaning serves, whose demands are well formed and met
+pub record IsMetRule (g : Given) (rs : List TypedRule) (r : TypedRule) : Type 0 where
+  pub here : Contains rs r
+  pub served : Serves g.program g.meaning g.args rs
+  pub types : HasTypes g.program.types
+  pub formed : AreFormed g.program (demands_of g.program r)
+  pub met : AreMet g (demands_of g.program r)
+
+module _ (g : Given) (rs : List TypedRule) (r : TypedRule) (of : IsMetRule g rs r) where
+  abbrev here : Contains rs r
+  here = of.here
+
+  abbrev served : Serves g.program g.meaning g.args rs
+  served = of.served
+
+  abbrev types : HasTypes g.program.types
+  types = of.types
+
+  abbrev formed : AreFormed g.program (demands_of g.program r)
+  formed = of.formed
+
+  abbrev met : AreMet g (demands_of g.program r)
+  met = of.met
+
   abbrev p : Program
   p = g.program
 

@@ -2,4 +2,4 @@ use Rattle.isle_laws_demands.proofs.visits.Priorities.{one_priority_lem}
 use Rattle.isle_laws_demands.proofs.multi_terms_have_one_priority.Goals as goal
 
 pub returns : goal.returns
-returns c = one_priority_lem c.rules_are_formed.ensures c.lists_agree.ensures
+returns c = one_priority_lem

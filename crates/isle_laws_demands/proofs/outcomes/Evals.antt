@@ -22,7 +22,7 @@ use Rattle.isle_model.specs.sites.Serves.{term_results, fits_answer, fits_constr
 use Rattle.isle_model.specs.lists.Formed.{var_type, is_formed_expr, are_formed_args, formed_lets}
 use Rattle.isle_model.proofs.Elements.{In, in_right, some_is}
 use Rattle.isle_model.proofs.Options.{is_there}
-use Rattle.isle_laws_runs.proofs.taking.Followed.{Followed, goes_on, stops, then_follow, follow_with, follow, follow_there, follow_append, result_after}
+use Rattle.isle_laws_runs.proofs.taking.FollowedCalls.{Followed, goes_on, stops, then_follow, follow_with, follow, follow_there, follow_append, result_after}
 use Rattle.isle_laws_demands.proofs.visits.Visited.{Same}
 use Rattle.isle_laws_demands.proofs.visits.Patterns.{term_known}
 use Rattle.isle_laws_demands.proofs.matching.Contents.{Given, content_of, values_of, Fits, IsAnswered, one_fits, maybe_fits, picked_fits}

@@ -10,7 +10,7 @@ use Rattle.isle_model.specs.sites.Sites.{SiteTerm, constructor_call, some_part, 
 use Rattle.isle_model.specs.sites.Demands.{Visit, making, calling, binding, or_no_site, Valued, ValuedAll, valued, visit_call, visit_term, visit_expr, visit_exprs, visit_lets}
 use Rattle.isle_model.specs.lists.Formed.{var_type, is_formed_expr, are_formed_args, formed_lets}
 use Rattle.isle_model.proofs.Elements.{In, in_right, some_is}
-use Rattle.isle_laws_runs.proofs.taking.Followed.{answered_call}
+use Rattle.isle_laws_runs.proofs.taking.FollowedCalls.{answered_call}
 use Rattle.isle_laws_runs.proofs.taking.CallsIn.{CallsOnly, CallOnly, calls_more, call_more, Known, known_more, IsNext, InOrder}
 use Rattle.isle_laws_demands.proofs.visits.Visited.{Same}
 use Rattle.isle_laws_demands.proofs.matching.Grown.{Grown, then_grown, grown_binding, expr_adds, exprs_add, lets_add, term_adds}

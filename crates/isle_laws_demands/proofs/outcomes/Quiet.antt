@@ -38,6 +38,7 @@ module _ (p : Program) where
     bound = λ x s w k. record { count = k.count; impure = k.impure };
     equal = λ a b w k. then_keeps_calls v w (equating a b w) k (equating_keeps a b w);
     asked = λ s c w k. record { count = k.count; impure = k.impure };
+    counted = λ c w k. record { count = k.count; impure = k.impure };
     opened = λ t s args w k. then_keeps_calls v w (open_term (kind p t) t s args w).visit k (open_keeps (kind p t) t s args w);
   }
 

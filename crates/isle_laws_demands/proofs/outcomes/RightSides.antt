@@ -9,17 +9,17 @@ use Rattle.isle_model.specs.rules.Picks.{SitedVars, matches_under, eval_under, r
 use Rattle.isle_model.specs.trees.Run.{from_value}
 use Rattle.isle_model.specs.sites.Sites.{Constraint, SiteTerm, bool_term, int_term, prim_term, argument, extractor_call, constructor_call, pick_of, variant_made, variant_field, struct_made, struct_field, some_made, some_part, tuple_part, no_site, SiteTerms, no_site_term, site_term_and}
 use Rattle.isle_model.specs.sites.Demands.{demands_of, result_of, visit_start, Valued, visit_expr, visit_args, finished, visit_rule}
-use Rattle.isle_model.specs.sites.DemandedGates.{IsPureCall, GatesDemanded, AllGatesDemanded, ArePureIfLets, HasNoPartialMulti}
+use Rattle.isle_model.specs.sites.DemandedGates.{IsPureCall, GatesDemanded, AllGatesDemanded, ArePureIfLets}
 use Rattle.isle_model.specs.lists.Formed.{is_formed_rule}
 use Rattle.isle_laws_runs.proofs.taking.CallsIn.{WhereImpure, CallsOnly, CallOnly, Known, InOrder}
-use Rattle.isle_laws_runs.proofs.taking.Followed.{result_after}
-use Rattle.isle_laws_demands.proofs.visits.Calls.{calls_such}
+use Rattle.isle_laws_runs.proofs.taking.FollowedCalls.{result_after}
+use Rattle.isle_model.proofs.CalledTerms.{calls_such}
 use Rattle.isle_laws_demands.proofs.visits.Rules.{sides_past}
 use Rattle.isle_laws_demands.proofs.matching.Contents.{Given, content_of, IsAnswered, is_value}
 use Rattle.isle_laws_demands.proofs.matching.Demanded.{AreBound}
 use Rattle.isle_laws_demands.proofs.matching.Grown.{Grown, now, grown_making}
 use Rattle.isle_laws_demands.proofs.matching.Rules.{rule_parts, before_result, rule_past}
-use Rattle.isle_laws_demands.proofs.matching.TypedParts.{HasTypedParts}
+use Rattle.isle_laws_lists.specs.WellTypedPrograms.{IsWellTypedProgram}
 use Rattle.isle_laws_demands.proofs.matching.Variables.{named}
 use Rattle.isle_laws_demands.proofs.outcomes.Evals.{AreWorth, MayBeCalled, follow_in, expr_came, outcome_follows}
 use Rattle.isle_laws_demands.proofs.outcomes.Ordered.{IsPureOrSingle, VarsKnownTo, IsOrderly, expr_ordered}
@@ -79,9 +79,9 @@ pub record RightFollows (g : Given) (r : TypedRule) (e : SitedVars) : Type 0 whe
   pub only : CallsOnly (Known (demands_of g.program r).impure) (result_of g.program r)
 
 pub right_follows : (g : Given) (r : TypedRule) → is_formed_rule g.program r ≡ true → ArePureIfLets g.program r.iflets → args_well_typed g.program.types (arg_types g.program r.root_term) g.args ≡ true
-    → HasTypedParts g.program → HasNoPartialMulti g.program → IsAnswered g (demands_of g.program r) → CallsAlone (MayBeCalled g (visit_rule g.program r).visit) r.rhs
+    → IsWellTypedProgram g.program → IsAnswered g (demands_of g.program r) → CallsAlone (MayBeCalled g (visit_rule g.program r).visit) r.rhs
     → (e : SitedVars) → matches_under g.program g.meaning g.pick r g.args ≡ Some e → RightFollows g r e
-right_follows g r f y t fields neither h may e i =
+right_follows g r f y t well h may e i =
     let p = g.program in
     let z = (visit_rule p r).visit in
     let a = rule_parts p r f in
@@ -90,8 +90,8 @@ right_follows g r f y t fields neither h may e i =
     let x = visit_expr p r.rhs w in
     let b = is_partial p r.root_term in
     let keeps = then_keeps_calls visit_start u w (args_keep p 0 r.args visit_start) (iflets_keep p r.iflets u y) in
-    let past = rule_past g r a y t fields neither h in
-    let came = expr_came g z h neither r.rhs w a.vars e [] a.right may (bound_worth g a.vars e w.vars (past.agree e i))
+    let past = rule_past g r a y t well h in
+    let came = expr_came g z h well.not_both r.rhs w a.vars e [] a.right may (bound_worth g a.vars e w.vars (past.agree e i))
     (record { made = sym keeps.count; count = ap length keeps.impure ∙ sym keeps.count; gave = subst (All (HasContent g.meaning g.args g.pick)) (sym keeps.impure) (All-nil (HasContent g.meaning g.args g.pick)) })
     (finished_grown b x) (adds_kept x.visit z (finished_impure b x)) in
     let good = (sides_past p r a y).iflets.good in

@@ -5,7 +5,6 @@ use Rattle.std.proofs.lemmas.List.Elements.{All-contains}
 use Rattle.isle_model.specs.lists.Syntax.{Position}
 use Rattle.isle_model.specs.rules.Program.{Program}
 use Rattle.isle_model.specs.sites.Overlap.{wrong_overlaps, OverlapReport, RuleReport, limit_passed, not_reached, rules_overlap, rule_shadows, report_position, build_reports, check_reports}
-use Rattle.isle_model.specs.claims.Environments.{program_of}
 use Rattle.isle_model.specs.claims.Refusals.{Refusal, overlapping, shadowing, refusal_of}
 use Rattle.isle_model.specs.claims.Layers.{is_left_out, CheckReports}
 use Rattle.isle_model.proofs.Elements.{In, in_from_contains, contains_from_in, in_left, in_either, in_map, map_in}
@@ -14,7 +13,7 @@ use Rattle.isle_laws_demands.specs.PairLaws.{lists_both, one_if, times}
 use Rattle.isle_laws_demands.specs.ReportLaws.{RulesHaveTerms, OverlapAt}
 use Rattle.isle_laws_demands.specs.ShadowLaws.{check_errors}
 use Rattle.isle_laws_demands.proofs.overlaps.Counted.{said_once}
-use Rattle.isle_laws_demands.proofs.overlaps.Judged.{elaborated_rules_have_terms_lem}
+use Rattle.isle_laws_demands.proofs.overlaps.Judged.{well_typed_rules_have_terms_lem}
 use Rattle.isle_laws_demands.proofs.overlaps.LeftOut.{build_reports_are_left_out, left_out_rules_are_reported_lem}
 use Rattle.isle_laws_demands.proofs.overlaps.Listed.{reports_list}
 use Rattle.isle_laws_demands.proofs.overlaps.Pairs.{times_map, overlap_reported, wrong_pairs_stand_once_lem, only_wrong_pairs_stand_lem}
@@ -148,10 +147,10 @@ module _ (p : Program) (terms : RulesHaveTerms p) where
   }
 
 pub check_errors_name_left_out_lem : CheckErrorsNameLeftOut
-check_errors_name_left_out_lem e defs expand rules reports is c = names_left_out (program_of e defs rules.rules) reports c
+check_errors_name_left_out_lem p reports is c = names_left_out p reports c
 
 pub check_errors_name_pairs_lem : CheckErrorsNamePairs
-check_errors_name_pairs_lem e defs expand rules is = names_pairs (program_of e defs rules.rules) (elaborated_rules_have_terms_lem e defs expand rules is)
+check_errors_name_pairs_lem p is = names_pairs p (well_typed_rules_have_terms_lem p is)
 
 pub check_errors_name_masks_lem : CheckErrorsNameMasks
-check_errors_name_masks_lem e defs expand rules is = names_masks (program_of e defs rules.rules) (elaborated_rules_have_terms_lem e defs expand rules is)
+check_errors_name_masks_lem p is = names_masks p (well_typed_rules_have_terms_lem p is)

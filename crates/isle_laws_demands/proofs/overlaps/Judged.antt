@@ -5,21 +5,17 @@ use Rattle.std.proofs.lemmas.Bool.Decides.{Decides-like}
 use Rattle.std.proofs.lemmas.Option.{none-some, same_Some, slice_get_within}
 use Rattle.isle_model.specs.lists.Syntax.{Definition}
 use Rattle.isle_model.specs.lists.Tables.{TermEntry}
-use Rattle.isle_model.specs.lists.Formed.{of_entry, is_formed_rule}
+use Rattle.isle_model.specs.lists.Formed.{of_entry}
 use Rattle.isle_model.specs.lists.Elaborated.{TypedRules}
 use Rattle.isle_model.specs.rules.Outcome.{then_option}
 use Rattle.isle_model.specs.sites.Overlap.{check_reports}
-use Rattle.isle_model.specs.claims.Environments.{types_read, program_of}
 use Rattle.isle_model.specs.claims.Layers.{own_program, IsCheckable, IsAccepted}
 use Rattle.isle_model.specs.claims.ReadJudge.{read_list}
 use Rattle.isle_model.specs.claims.AcceptJudge.{is_checkable, accepted_list}
-use Rattle.isle_model.proofs.Elements.{in_from_contains}
-use Rattle.isle_laws_lists.proofs.FormedRules.{rules_are_formed}
-use Rattle.isle_laws_lists.proofs.TypedRules.{lists_agree}
 use Rattle.isle_laws_lists.proofs.Typings.{then_gives, if_gives}
 use Rattle.isle_laws_lists.proofs.JudgedReading.{lists_are_read_lem}
-use Rattle.isle_laws_demands.specs.AcceptLaws.{ElaboratedRulesHaveTerms, RulesAreJudged, ListsAreAccepted, ListsAreNotAccepted}
-use Rattle.isle_laws_demands.proofs.visits.Elaborated.{elaborated_rules_hang}
+use Rattle.isle_laws_lists.proofs.WellTypedRules.{read_programs_are_well_typed}
+use Rattle.isle_laws_demands.specs.AcceptLaws.{WellTypedRulesHaveTerms, RulesAreJudged, ListsAreAccepted, ListsAreNotAccepted}
 use Rattle.isle_laws_demands.proofs.overlaps.Checked.{check_is_exact_lem}
 use Rattle.isle_laws_demands.proofs.overlaps.Overlaps.{none_listed}
 
@@ -27,12 +23,8 @@ some_entry : (o : Option TermEntry) (f : TermEntry → Bool) → of_entry o f �
 some_entry None f h = absurd (false≢true h)
 some_entry (Some t) f h = (t, refl)
 
-pub elaborated_rules_have_terms_lem : ElaboratedRulesHaveTerms
-elaborated_rules_have_terms_lem e defs expand rules h r c =
-    let p = program_of e defs rules.rules in
-    let formed : is_formed_rule p r ≡ true = (elaborated_rules_hang rules_are_formed lists_agree e defs expand rules h r (in_from_contains rules.rules r c)).0 in
-    let t = some_entry (slice_get p.terms r.root_term) _ formed in
-    slice_get_within p.terms r.root_term t.0 t.1
+pub well_typed_rules_have_terms_lem : WellTypedRulesHaveTerms
+well_typed_rules_have_terms_lem p h r c = let t = some_entry (slice_get p.terms r.root_term) _ (h.rules r c).formed in slice_get_within p.terms r.root_term t.0 t.1
 
 pub rules_are_judged_lem : RulesAreJudged
 rules_are_judged_lem p terms =
@@ -43,7 +35,7 @@ module _ (defs : List Definition) (expand : Bool) where
   judged : (rules : TypedRules) → read_list defs expand ≡ Some rules → Decides (is_checkable (own_program defs rules)) (IsCheckable (own_program defs rules))
   judged rules h =
       rules_are_judged_lem (own_program defs rules)
-      (elaborated_rules_have_terms_lem (types_read defs) defs expand rules ((lists_are_read_lem defs expand rules).0 h).elaborated)
+      (well_typed_rules_have_terms_lem (own_program defs rules) (read_programs_are_well_typed ((lists_are_read_lem defs expand rules).0 h)))
 
   accepted : (rules : TypedRules) → accepted_list defs expand ≡ Some rules → IsAccepted defs expand rules
   accepted rules h =

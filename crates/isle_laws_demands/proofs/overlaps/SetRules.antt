@@ -7,16 +7,16 @@ use Rattle.isle_model.specs.sites.Sites.{Constraint, SetRule, SiteSet, SiteTerm,
 use Rattle.isle_model.specs.sites.Demands.{constraint_eq, demands_of}
 use Rattle.isle_model.specs.sites.Closure.{Closed, ascending, begins_with, in_order, closing, before_closing, most_closing_steps}
 use Rattle.isle_model.specs.sites.Overlap.{Overlaps, AreAmong, IsSubsetPair, BuiltRule, built_rules}
-use Rattle.isle_model.specs.sites.RuleSets.{IsRuleOf, IsBuilt}
+use Rattle.isle_model.specs.sites.RuleSets.{IsRuleOf}
 use Rattle.isle_model.specs.sites.SetRules.{differs_at, sites_differ, agrees_at, all_agree, equates_none, is_subset_of_sites, no_overlap, some_overlap, overlap_between}
 use Rattle.isle_model.specs.trees.Places.{is_in, joins_in}
-use Rattle.isle_model.proofs.Elements.{In, in_from_contains, contains_from_in, in_slice, any_in, in_any, all_in, all_from, from_flat_map, passed_filter, or_split, or_left, or_right}
+use Rattle.isle_model.proofs.Elements.{In, in_from_contains, contains_from_in, any_in, in_any, all_in, all_from, from_flat_map, passed_filter, or_split, or_left, or_right}
 use Rattle.isle_model.proofs.SameSites.{constraint_means, same_constraint, constraint_cases}
 use Rattle.isle_laws_demands.specs.SetOverlapLaws.{SetRulesOverlapAsTheirDemands, OverlapOfSetRulesIsSymmetric}
 use Rattle.isle_laws_demands.proofs.overlaps.Overlaps.{bool_same, none_listed}
-use Rattle.isle_laws_demands.proofs.visits.Built.{was_built}
+use Rattle.isle_laws_demands.proofs.visits.Built.{stands_for, was_built}
+use Rattle.isle_laws_demands.proofs.visits.BuiltSets.{BuiltSet, RuleOfSet}
 use Rattle.isle_laws_demands.proofs.visits.Once.{one_number}
-use Rattle.isle_laws_demands.proofs.matching.BuiltMatches.{one_rule}
 
 -- 1. the tests
 -- two constraints of one site that differ
@@ -121,32 +121,53 @@ built_filled p t b i =
     (λ l j. class_filled (closing most_closing_steps (before_closing w.before (demands_of p w.rule))) l j)
 
 -- a rule of a built set has no class exactly where its closed demands have none
-module _ (p : Program) (t : ℕ) (set : SiteSet) (b : BuiltRule) (there : In (built_rules p t) b) (r : SetRule) (q : IsRuleOf p set.sites b r) where
-  none_closed : r.classes ≡ [] → b.demands.classes ≡ []
-  none_closed e = of b.demands.classes (built_filled p t b there) (λ l u i m. all l u i m)
+module _ (of : BuiltSet) (x : RuleOfSet of) where
+  none_closed : x.rule.classes ≡ [] → x.typed.demands.classes ≡ []
+  none_closed e = filled x.typed.demands.classes (built_filled of.program of.term x.typed x.listed) (λ l u i m. all l u i m)
     where
-      all : (l : List SiteTerm) (u : SiteTerm) → In b.demands.classes l → In l u → ⊥
+      all : (l : List SiteTerm) (u : SiteTerm) → In x.typed.demands.classes l → In l u → ⊥
       all l u i m =
           let c = contains_from_in l u m in
-          let x = q.classes.all_joined l u u (contains_from_in b.demands.classes l i) c c in
-          false≢true (subst (λ k. joins_in k x.0 x.1 ≡ true) e x.2)
+          let y = x.is.classes.all_joined l u u (contains_from_in x.typed.demands.classes l i) c c in
+          false≢true (subst (λ k. joins_in k y.0 y.1 ≡ true) e y.2)
 
-      of : (ks : List (List SiteTerm)) → ((l : List SiteTerm) → In ks l → (u : SiteTerm) × In l u) → ((l : List SiteTerm) (u : SiteTerm) → In ks l → In l u → ⊥) → ks ≡ []
-      of [] f n = refl
-      of (l ∷ ks) f n = let u = f l (inl refl) in absurd (n l u.0 (inl refl) u.1)
+      filled : (ks : List (List SiteTerm)) → ((l : List SiteTerm) → In ks l → (u : SiteTerm) × In l u) → ((l : List SiteTerm) (u : SiteTerm) → In ks l → In l u → ⊥) → ks ≡ []
+      filled [] f n = refl
+      filled (l ∷ ks) f n = let u = f l (inl refl) in absurd (n l u.0 (inl refl) u.1)
 
-  none_numbered : b.demands.classes ≡ [] → r.classes ≡ []
-  none_numbered e = of r.classes q.classes.many (λ x h. let c = q.classes.joined x x h in in_from_contains [] c.2 (subst (λ k. Contains k c.2) e c.3))
+  none_numbered : x.typed.demands.classes ≡ [] → x.rule.classes ≡ []
+  none_numbered e = unfilled x.rule.classes x.is.classes.many (λ n h. let c = x.is.classes.joined n n h in in_from_contains [] c.2 (subst (λ k. Contains k c.2) e c.3))
     where
-      of : (ks : List (List ℕ)) → All (λ c. 2 ≤ length c) ks → ((x : ℕ) → joins_in ks x x ≡ true → ⊥) → ks ≡ []
-      of [] m n = refl
-      of ([] ∷ ks) m n = absurd (let l : 2 ≤ 0 = m 0 [] (omega arith) in omega (arith, l))
-      of ((x ∷ c) ∷ ks) m n =
+      unfilled : (ks : List (List ℕ)) → All (λ c. 2 ≤ length c) ks → ((x : ℕ) → joins_in ks x x ≡ true → ⊥) → ks ≡ []
+      unfilled [] m n = refl
+      unfilled ([] ∷ ks) m n = absurd (let l : 2 ≤ 0 = m 0 [] (omega arith) in omega (arith, l))
+      unfilled ((x ∷ c) ∷ ks) m n =
           let here = any_in (λ y. y == x) (x ∷ c) x (inl refl) (eq-eqb x x refl) in
           absurd (n x (any_in (λ k. is_in x k && is_in x k) ((x ∷ c) ∷ ks) (x ∷ c) (inl refl) (and_from (is_in x (x ∷ c)) (is_in x (x ∷ c)) here here)))
 
 -- 5. two rules of a built set
-module _ (p : Program) (t : ℕ) (set : SiteSet) (h : IsBuilt p t set) (a b : BuiltRule) (r s : SetRule) (q : IsRuleOf p set.sites a r) (w : IsRuleOf p set.sites b s) where
+module _ (of : BuiltSet) (first second : RuleOfSet of) where
+  abbrev set : SiteSet
+  set = of.set
+
+  abbrev a : BuiltRule
+  a = first.typed
+
+  abbrev b : BuiltRule
+  b = second.typed
+
+  abbrev r : SetRule
+  r = first.rule
+
+  abbrev s : SetRule
+  s = second.rule
+
+  abbrev q : IsRuleOf of.program set.sites a r
+  q = first.is
+
+  abbrev w : IsRuleOf of.program set.sites b s
+  w = second.is
+
   apart_above : DifferingAt r.constraints s.constraints → Overlaps a.demands b.demands → ⊥
   apart_above d o =
       d.two (o (unfold_site set.sites d.site) d.first d.second
@@ -157,7 +178,7 @@ module _ (p : Program) (t : ℕ) (set : SiteSet) (h : IsBuilt p t set) (a b : Bu
   apart_below u c d i j n =
       let x = q.constraints.all_asked u c i in
       let y = w.constraints.all_asked u d j in
-      let same = one_number p t set h y.0 x.0 (w.constraints.asked y.0 d y.1).0 (q.constraints.asked x.0 c x.1).0 (y.2 ∙ sym x.2) in
+      let same = one_number of.program of.term set of.built y.0 x.0 (w.constraints.asked y.0 d y.1).0 (q.constraints.asked x.0 c x.1).0 (y.2 ∙ sym x.2) in
       record {
         site = x.0;
         first = c;
@@ -191,32 +212,29 @@ module _ (p : Program) (t : ℕ) (set : SiteSet) (h : IsBuilt p t set) (a b : Bu
   among_below f d i =
       let x = q.constraints.asked d.0 d.1 (contains_from_in r.constraints d i) in
       let y = w.constraints.all_asked (unfold_site set.sites d.0) d.1 (f (unfold_site set.sites d.0) d.1 x.1) in
-      let same = one_number p t set h y.0 d.0 (w.constraints.asked y.0 d.1 y.1).0 x.0 y.2 in
+      let same = one_number of.program of.term set of.built y.0 d.0 (w.constraints.asked y.0 d.1 y.1).0 x.0 y.2 in
       subst (λ k. In s.constraints (k, d.1)) same (in_from_contains s.constraints (y.0, d.1) y.1)
 
 pub set_rules_overlap_as_their_demands_lem : SetRulesOverlapAsTheirDemands
 set_rules_overlap_as_their_demands_lem p t set h a b r s one other = record {
   none = (
-    λ e o. apart_above p t set h a b r s q w (differing r.constraints s.constraints (told_none (sites_differ r.constraints s.constraints) (is_subset_of_sites r s) e)) o,
+    λ e o. apart_above of first second (differing r.constraints s.constraints (told_none (sites_differ r.constraints s.constraints) (is_subset_of_sites r s) e)) o,
     λ n. elim (cases_Bool (sites_differ r.constraints s.constraints)) [
       | inl y ↦ cond-true (sites_differ r.constraints s.constraints) no_overlap (some_overlap (is_subset_of_sites r s)) y
-      | inr f ↦ absurd (n (overlap_above p t set h a b r s q w f))
+      | inr f ↦ absurd (n (overlap_above of first second f))
     ],
   );
   subset = (above, below);
 }
   where
-    q : IsRuleOf p set.sites a r
-    q = one_rule p t set a r h one
+    of : BuiltSet
+    of = record { program = p; term = t; set = set; built = h }
 
-    w : IsRuleOf p set.sites b s
-    w = one_rule p t set b s h other
+    first : RuleOfSet of
+    first = stands_for of a r one
 
-    a_there : In (built_rules p t) a
-    a_there = in_slice (built_rules p t) one.place a one.typed
-
-    b_there : In (built_rules p t) b
-    b_there = in_slice (built_rules p t) other.place b other.typed
+    second : RuleOfSet of
+    second = stands_for of b s other
 
     above : overlap_between r s ≡ some_overlap true → IsSubsetPair a.demands b.demands
     above e =
@@ -224,21 +242,21 @@ set_rules_overlap_as_their_demands_lem p t set h a b r s one other = record {
         let x = and_parts (equates_none r && equates_none s) (all_agree r.constraints s.constraints || all_agree s.constraints r.constraints) k.1 in
         let y = and_parts (equates_none r) (equates_none s) x.0 in
         record {
-          overlap = overlap_above p t set h a b r s q w k.0;
-          first_has_none = none_closed p t set a a_there r q ((none_listed r.classes).0 y.0);
-          second_has_none = none_closed p t set b b_there s w ((none_listed s.classes).0 y.1);
+          overlap = overlap_above of first second k.0;
+          first_has_none = none_closed of first ((none_listed r.classes).0 y.0);
+          second_has_none = none_closed of second ((none_listed s.classes).0 y.1);
           among = elim (or_split (all_agree r.constraints s.constraints) (all_agree s.constraints r.constraints) x.1) [
-            | inl z ↦ inl (among_above p t set h a b r s q w (agree_means r.constraints s.constraints z))
-            | inr z ↦ inr (among_above p t set h b a s r w q (agree_means s.constraints r.constraints z))
+            | inl z ↦ inl (among_above of first second (agree_means r.constraints s.constraints z))
+            | inr z ↦ inr (among_above of second first (agree_means s.constraints r.constraints z))
           ];
         }
 
     below : IsSubsetPair a.demands b.demands → overlap_between r s ≡ some_overlap true
     below k =
-        cond-false (sites_differ r.constraints s.constraints) no_overlap (some_overlap (is_subset_of_sites r s)) (overlap_below p t set h a b r s q w k.overlap)
+        cond-false (sites_differ r.constraints s.constraints) no_overlap (some_overlap (is_subset_of_sites r s)) (overlap_below of first second k.overlap)
         ∙ ap some_overlap (and_from (equates_none r && equates_none s) (all_agree r.constraints s.constraints || all_agree s.constraints r.constraints)
-        (and_from (equates_none r) (equates_none s) ((none_listed r.classes).1 (none_numbered p t set a a_there r q k.first_has_none)) ((none_listed s.classes).1 (none_numbered p t set b b_there s w k.second_has_none)))
+        (and_from (equates_none r) (equates_none s) ((none_listed r.classes).1 (none_numbered of first k.first_has_none)) ((none_listed s.classes).1 (none_numbered of second k.second_has_none)))
         (elim k.among [
-          | inl z ↦ or_left (all_agree r.constraints s.constraints) (all_agree s.constraints r.constraints) (agree_from r.constraints s.constraints (among_below p t set h a b r s q w z))
-          | inr z ↦ or_right (all_agree r.constraints s.constraints) (all_agree s.constraints r.constraints) (agree_from s.constraints r.constraints (among_below p t set h b a s r w q z))
+          | inl z ↦ or_left (all_agree r.constraints s.constraints) (all_agree s.constraints r.constraints) (agree_from r.constraints s.constraints (among_below of first second z))
+          | inr z ↦ or_right (all_agree r.constraints s.constraints) (all_agree s.constraints r.constraints) (agree_from s.constraints r.constraints (among_below of second first z))
         ]))

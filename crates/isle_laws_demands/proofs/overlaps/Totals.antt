@@ -10,19 +10,20 @@ use Rattle.isle_model.specs.sites.Sites.{Constraint, SetRule, SiteSet, SiteTerm,
 use Rattle.isle_model.specs.sites.Demands.{Demands, has_site, demands_of}
 use Rattle.isle_model.specs.sites.Closure.{Closed, class_at, without_class_of, merged_classes, merged_all, ascending, field_equalities, closing, before_closing, most_closing_steps, begins_with, closed}
 use Rattle.isle_model.specs.sites.Limits.{sites_after_rule}
-use Rattle.isle_model.specs.sites.Overlap.{BuiltRule, is_built, built_rule, built_from, built_rules}
-use Rattle.isle_model.specs.sites.RuleSets.{IsRuleOf, IsBuilt}
+use Rattle.isle_model.specs.sites.Overlap.{BuiltRule, is_built, built_rule, built_from}
+use Rattle.isle_model.specs.sites.RuleSets.{IsRuleOf}
 use Rattle.isle_model.specs.trees.Places.{is_in, joins_in}
 use Rattle.isle_model.proofs.DistinctCounts.{no_more_distinct}
 use Rattle.isle_model.proofs.DistinctJoined.{distinct_cons, distinct_tail, not_in_tail, distinct_append, distinct_filter, distinct_map}
-use Rattle.isle_model.proofs.Elements.{In, in_from_contains, contains_from_in, in_either, in_slice, in_filter, passed_filter, in_map, map_in, in_flat_map, from_flat_map, any_in, in_any}
+use Rattle.isle_model.proofs.Elements.{In, in_from_contains, contains_from_in, in_either, in_filter, passed_filter, in_map, map_in, in_flat_map, from_flat_map, any_in, in_any}
 use Rattle.isle_model.proofs.Positions.{distinct_nil, distinct_one}
 use Rattle.isle_model.proofs.SameSites.{term_means}
 use Rattle.isle_model.proofs.SitesMade.{in_has, has_in}
 use Rattle.isle_laws_demands.specs.SetOverlapLaws.{SetRulesConstrainAsTheirDemands}
 use Rattle.isle_laws_demands.proofs.closure.Closing.{closing_keeps}
 use Rattle.isle_laws_demands.proofs.closure.Whole.{IsApart, class_cases, class_found, class_shares, joint_apart}
-use Rattle.isle_laws_demands.proofs.matching.BuiltMatches.{one_rule}
+use Rattle.isle_laws_demands.proofs.visits.Built.{stands_for}
+use Rattle.isle_laws_demands.proofs.visits.BuiltSets.{BuiltSet, RuleOfSet}
 use Rattle.isle_laws_demands.proofs.matching.ConstrainedOnce.{StandOnce, closed_once}
 use Rattle.isle_laws_demands.proofs.visits.Once.{once_closed, once_after_rule, one_number}
 
@@ -187,9 +188,21 @@ keys_distinct (x ∷ cs) h =
     (keys_distinct cs h.1)
 
 -- 5. a rule of a built set
-module _ (p : Program) (t : ℕ) (set : SiteSet) (h : IsBuilt p t set) (b : BuiltRule) (there : In (built_rules p t) b) (r : SetRule) (q : IsRuleOf p set.sites b r) where
+module _ (of : BuiltSet) (x : RuleOfSet of) where
+  abbrev set : SiteSet
+  set = of.set
+
+  abbrev b : BuiltRule
+  b = x.typed
+
+  abbrev r : SetRule
+  r = x.rule
+
+  abbrev q : IsRuleOf of.program set.sites b r
+  q = x.is
+
   once : ListsOnce b.demands
-  once = built_once p [] (rules_of p t) distinct_nil b there
+  once = built_once of.program [] (rules_of of.program of.term) distinct_nil b x.listed
 
   -- different numbers of a list stand for as many sites as another list has, where each is one of these, and these all
   as_many : (ns : List ℕ) (us : List SiteTerm) → IsDistinct ns → IsDistinct us → ((n : ℕ) → In ns n → (n < length set.sites) × In us (unfold_site set.sites n))
@@ -197,7 +210,7 @@ module _ (p : Program) (t : ℕ) (set : SiteSet) (h : IsBuilt p t set) (b : Buil
   as_many ns us d e f g =
       let same = length-map ns (unfold_site set.sites) in
       let few = no_more_distinct (map (unfold_site set.sites) ns) us
-      (distinct_map (unfold_site set.sites) ns d (λ x y i j k. one_number p t set h x y (f x (in_from_contains ns x i)).0 (f y (in_from_contains ns y j)).0 k))
+      (distinct_map (unfold_site set.sites) ns d (λ x y i j k. one_number of.program of.term set of.built x y (f x (in_from_contains ns x i)).0 (f y (in_from_contains ns y j)).0 k))
       (λ u i. let m = in_map (unfold_site set.sites) ns u i in subst (In us) m.2 (f m.0 m.1).1) in
       let many = no_more_distinct us (map (unfold_site set.sites) ns) e
       (λ u i. let m = g u i in subst (In (map (unfold_site set.sites) ns)) m.2 (map_in (unfold_site set.sites) ns m.0 m.1)) in
@@ -245,8 +258,8 @@ module _ (p : Program) (t : ℕ) (set : SiteSet) (h : IsBuilt p t set) (b : Buil
 
 pub set_rules_constrain_as_their_demands_lem : SetRulesConstrainAsTheirDemands
 set_rules_constrain_as_their_demands_lem p t set h b r one =
-    let q = one_rule p t set b r h one in
-    let there = in_slice (built_rules p t) one.place b one.typed in
-    let x = constraints_count p t set h b there r q in
-    let y = sym (length-flat_map (λ (c : List ℕ). c) r.classes) ∙ members_count p t set h b there r q ∙ length-flat_map (λ (c : List SiteTerm). c) b.demands.classes in
-    (λ k. x k + y k)
+    let of : BuiltSet = record { program = p; term = t; set = set; built = h } in
+    let x = stands_for of b r one in
+    let y = sym (length-flat_map (λ (c : List ℕ). c) r.classes) ∙ members_count of x ∙ length-flat_map (λ (c : List SiteTerm). c) b.demands.classes in
+    let z = constraints_count of x in
+    (λ k. z k + y k)

@@ -1,9 +1,9 @@
 -- The result of a rule that makes no impure call is what its site holds.
-use Rattle.std.proofs.Common.{◌≡◌, ℕ, Bool, true, false, [], map, Option, Some, None, refl, sym, ap, subst, ◌∙◌}
+use Rattle.std.proofs.Common.{◌≡◌, ℕ, Bool, true, false, [], map, Option, Some, None, refl, sym, ap, ◌∙◌}
 use Rattle.isle_model.specs.rules.Values.{Value, args_well_typed}
 use Rattle.isle_model.specs.rules.Meaning.{Content, just}
 use Rattle.isle_model.specs.rules.Outcome.{then_option}
-use Rattle.isle_model.specs.rules.Program.{arg_types, is_partial, rules_of}
+use Rattle.isle_model.specs.rules.Program.{arg_types, is_partial}
 use Rattle.isle_model.specs.rules.RightSide.{gives, outcome_of}
 use Rattle.isle_model.specs.rules.Typed.{TypedRule}
 use Rattle.isle_model.specs.rules.Picks.{SitedVars, matches_under, value_under, right_side_under}
@@ -11,29 +11,22 @@ use Rattle.isle_model.specs.trees.Run.{as_value, from_value}
 use Rattle.isle_model.specs.trees.Collects.{as_list}
 use Rattle.isle_model.specs.sites.Sites.{SiteTerm, unfold_site}
 use Rattle.isle_model.specs.sites.Demands.{demands_of, Valued, visit_expr, visit_rule, finished, result_of}
-use Rattle.isle_model.specs.sites.DemandedGates.{ArePureIfLets, HasNoPartialMulti}
+use Rattle.isle_model.specs.sites.DemandedGates.{ArePureIfLets}
 use Rattle.isle_model.specs.sites.Overlap.{built_rules}
 use Rattle.isle_model.specs.lists.Formed.{is_formed_rule}
 use Rattle.isle_model.specs.lists.Setting.{expr_type}
-use Rattle.isle_model.specs.claims.Environments.{program_of}
 use Rattle.isle_model.proofs.Elements.{contains_from_in, in_slice}
-use Rattle.isle_laws_runs.proofs.picks.Enumerated.{picks_are_exact_lem}
-use Rattle.isle_laws_lists.proofs.FormedRules.{rules_are_formed}
-use Rattle.isle_laws_lists.proofs.TypedRules as typed_rules
-use Rattle.isle_laws_demands.specs.MatchLaws.{BuiltSetsHoldResults}
-use Rattle.isle_laws_demands.proofs.visits.Declared.{program_not_both}
-use Rattle.isle_laws_demands.proofs.visits.Elaborated.{elaborated_rules_hang}
+use Rattle.isle_laws_demands.specs.MatchLaws.{IsTried, BuiltSetsHoldResults}
 use Rattle.isle_laws_demands.proofs.visits.GoneOver.{pure_right_side}
-use Rattle.isle_laws_demands.proofs.matching.Answered.{is_answered}
 use Rattle.isle_laws_demands.proofs.matching.BuiltMatches.{one_rule, built_listed}
 use Rattle.isle_laws_demands.proofs.matching.Contents.{Given, content_of, IsAnswered, is_value}
 use Rattle.isle_laws_demands.proofs.matching.Demanded.{bound_vars}
 use Rattle.isle_laws_demands.proofs.matching.Exprs.{expr_valued}
 use Rattle.isle_laws_demands.proofs.matching.Grown.{finished_adds}
 use Rattle.isle_laws_demands.proofs.matching.Rules.{rule_parts, before_result, rule_past, unwrapped_present}
-use Rattle.isle_laws_demands.proofs.matching.TypedParts.{HasTypedParts, program_has_typed_parts}
+use Rattle.isle_laws_lists.specs.WellTypedPrograms.{IsWellTypedProgram}
 use Rattle.isle_laws_demands.proofs.matching.Variables.{IsValued}
-use Rattle.isle_laws_demands.proofs.matching.Visits.{given, of_term}
+use Rattle.isle_laws_demands.proofs.matching.Visits.{given, tried}
 use Rattle.isle_laws_demands.proofs.results.PureRuns.{pure_runs}
 
 -- 1. what has a value holds it, and what has none holds nothing
@@ -55,30 +48,25 @@ finished_holds g true a (Some v) e = sym (ap (λ c. as_list (then_option c (λ x
 
 -- 2. rules
 pub result_held : (g : Given) (r : TypedRule) (e : SitedVars) → is_formed_rule g.program r ≡ true → ArePureIfLets g.program r.iflets → args_well_typed g.program.types (arg_types g.program r.root_term) g.args ≡ true
-    → HasTypedParts g.program → HasNoPartialMulti g.program → IsAnswered g (demands_of g.program r) → (demands_of g.program r).impure ≡ [] → matches_under g.program g.meaning g.pick r g.args ≡ Some e
+    → IsWellTypedProgram g.program → IsAnswered g (demands_of g.program r) → (demands_of g.program r).impure ≡ [] → matches_under g.program g.meaning g.pick r g.args ≡ Some e
     → (right_side_under g.program g.meaning g.pick r e).results ≡ as_list (content_of g (result_of g.program r))
-result_held g r e f y t fields neither h quiet q =
+result_held g r e f y t well h quiet q =
     let p = g.program in
     let a = rule_parts p r f in
     let w = before_result p r in
     let x = visit_expr p r.rhs w in
     let pure = pure_right_side p r quiet in
-    let bound = (rule_past g r a y t fields neither h).agree e q in
-    let v = expr_valued g (visit_rule p r).visit h fields neither r.rhs w a.vars e a.right pure (bound_vars g a.vars e w.vars bound) (finished_adds (is_partial p r.root_term) x).grown in
+    let bound = (rule_past g r a y t well h).agree e q in
+    let v = expr_valued g (visit_rule p r).visit h well r.rhs w a.vars e a.right pure (bound_vars g a.vars e w.vars bound) (finished_adds (is_partial p r.root_term) x).grown in
     ap (λ o. (outcome_of (is_partial p r.root_term) o).results) (pure_runs p g.meaning g.pick r.rhs a.vars e a.right pure)
     ∙ finished_holds g (is_partial p r.root_term) x (value_under p g.meaning g.pick r.rhs e) (valued_holds g _ x.site (value_under p g.meaning g.pick r.rhs e) (expr_type r.rhs) v)
 
 -- 3. rules of built sets
 pub results_are_held_lem : BuiltSetsHoldResults
-results_are_held_lem e defs expand rules t set h built m args typed served apart b r k vars one quiet pick matched =
-    let p = program_of e defs rules.rules in
+results_are_held_lem p t set h built m args typed served apart b r k vars one quiet pick matched =
     let q = one_rule p t set b r built one in
-    let i = contains_from_in (built_rules p t) b (in_slice (built_rules p t) one.place b one.typed) in
-    let listed = built_listed p t b i in
-    let term = of_term e defs expand rules h t b.rule listed in
-    let c = elaborated_rules_hang rules_are_formed typed_rules.lists_agree e defs expand rules h b.rule term.0 in
+    let listed = built_listed p t b (contains_from_in (built_rules p t) b (in_slice (built_rules p t) one.place b one.typed)) in
+    let a : IsTried p t m args b.rule k = record { typed = typed; served = served; rule = listed; pick = pick } in
+    let c = tried p t m args b.rule k h a in
     let none : (demands_of p b.rule).impure ≡ [] = sym q.impure.1 ∙ ap (λ l. map (unfold_site set.sites) l) quiet in
-    result_held (given p m args k) b.rule vars c.0 c.1 (subst (λ n. args_well_typed p.types (arg_types p n) args ≡ true) (sym term.1) typed)
-    (program_has_typed_parts e defs expand rules h) (program_not_both e defs expand rules h)
-    (is_answered p m args b.rule k ((picks_are_exact_lem p m args b.rule).only k pick) (rules_of p t) served listed) none matched
-    ∙ ap (λ s. as_list (content_of (given p m args k) s)) (sym q.result.1)
+    result_held (given p m args k) b.rule vars c.rule.formed c.rule.pure_iflets c.typed h c.answered none matched ∙ ap (λ s. as_list (content_of (given p m args k) s)) (sym q.result.1)

@@ -53,6 +53,6 @@ made_none unknown t a h = h
 pub rule_goes_over_none : (p : Program) (r : TypedRule) → (demands_of p r).impure ≡ [] → (u : SiteTerm) → In (demands_of p r).iterators u → IsNoImpureCall u
 rule_goes_over_none p r =
     rule_kept p GoesOverNone
-    (record { bound = λ x s v h. h; equal = none_equating; asked = λ s c v h. h; opened = λ t s args v h. opened_none (kind p t) t s args v h })
+    (record { bound = λ x s v h. h; equal = none_equating; asked = λ s c v h. h; counted = λ c v h. h; opened = λ t s args v h. opened_none (kind p t) t s args v h })
     (record { bound = λ x s v h. h; made = λ ts v h. h; valued = λ t a h. made_none (kind p t) t a h })
     r (λ e x i. absurd i)

@@ -259,7 +259,30 @@ pub record IsServed (p : Program) (n : ℕ) (rs : List TypedRule) (w : World) : 
   pub serves : Serves p w.meaning w.args rs
   pub args : (i : ℕ) → i < n → (v : Value) × (slice_get w.args i ≡ Some v) × IsWhole p.types v
 
-module _ (p : Program) (n : ℕ) (rs : List TypedRule) (w : World) (k : Pick) (h : IsServed p n rs w) where
+-- such a world, with the program, the number of its term's arguments and the rules
+pub record ServedWorld : Type 0 where
+  pub program : Program
+  pub arity : ℕ
+  pub rules : List TypedRule
+  pub world : World
+  pub served : IsServed program arity rules world
+
+module _ (stage : ServedWorld) (k : Pick) where
+  abbrev p : Program
+  p = stage.program
+
+  abbrev n : ℕ
+  n = stage.arity
+
+  abbrev rs : List TypedRule
+  rs = stage.rules
+
+  abbrev w : World
+  w = stage.world
+
+  abbrev h : IsServed p n rs w
+  h = stage.served
+
   abbrev U : ℕ → SiteTerm
   U = unfold_site w.sites
 

@@ -10,8 +10,7 @@ use Rattle.isle_model.specs.rules.Outcome.{then_option}
 use Rattle.isle_model.specs.rules.Program.{Program, Kind, a_variant, a_struct, a_call, unknown, kind, kind_of, flags_of, is_partial, arg_types}
 use Rattle.isle_model.specs.rules.Typed.{TypedPattern, match_bind, match_var, match_bool, match_int, match_prim, match_term, match_any, match_and, TypedPatterns, no_typed_pattern, typed_pattern_and, TypedExpr, make_term, make_var, make_bool, make_int, make_prim, make_let, TypedExprs, no_typed_expr, typed_expr_and, TypedLets, no_typed_let, typed_let_and, TypedIfLet, TypedRule}
 use Rattle.isle_model.specs.sites.Sites.{Constraint, is_variant, is_struct, is_bool, is_int, is_prim, is_present, SiteTerm, bool_term, int_term, prim_term, argument, extractor_call, constructor_call, pick_of, variant_made, variant_field, struct_made, struct_field, some_made, some_part, tuple_part, no_site, SiteTerms, no_site_term, site_term_and}
-use Rattle.isle_model.specs.sites.Demands.{Demands, demands_of, site_term_eq, Visit, visit_start, making, asking, equating, iterating, calling, binding, or_no_site, var_site, from_to, pattern_count, Opened, output_sites, part_sites, open_call, open_term, visit_pattern, visit_each, visit_all, Valued, ValuedAll, visit_call, visit_term, visit_expr, visit_exprs, visit_lets, unwraps, asking_all, visit_args, visit_iflets, finished}
-use Rattle.isle_model.specs.sites.DemandedGates.{HasNoPartialMulti}
+use Rattle.isle_model.specs.sites.Demands.{Demands, demands_of, site_term_eq, Visit, visit_start, making, asking, equating, iterating, calling, binding, or_no_site, var_site, from_to, pattern_count, Opened, output_sites, part_sites, open_call, open_term, visit_pattern, visit_each, visit_all, Valued, ValuedAll, visit_call, visit_term, visit_expr, visit_exprs, visit_lets, unwraps, asking_all, visit_args, visit_iflets, finished, taking_argument, Count, fields_matched, outputs_taken, argument_taken, counting, outputs_opened}
 use Rattle.isle_model.specs.sites.Serves.{constant_type}
 use Rattle.isle_model.specs.lists.Setting.{bool_type, expr_type}
 use Rattle.isle_model.specs.lists.Formed.{pattern_type, var_type, is_type, formed_pattern, formed_parts, formed_each, is_formed_expr, are_formed_args, formed_lets, formed_list, formed_iflets, is_formed_rule}
@@ -23,7 +22,7 @@ use Rattle.isle_laws_demands.proofs.matching.Grown.{equated}
 use Rattle.isle_laws_demands.proofs.matching.Patterns.{from_term as pattern_parts, from_part, from_bind, as_many}
 use Rattle.isle_laws_demands.proofs.matching.Rules.{rule_parts}
 use Rattle.isle_laws_demands.proofs.matching.SameExprs.{from_let, from_term, from_args, from_body}
-use Rattle.isle_laws_demands.proofs.matching.TypedParts.{HasTypedParts}
+use Rattle.isle_laws_lists.specs.WellTypedPrograms.{IsWellTypedProgram}
 use Rattle.isle_model.proofs.Either.{either}
 use Rattle.isle_laws_lists.proofs.FormedParts.{from_if, has_type}
 
@@ -127,6 +126,9 @@ module _ (p : Program) (n : ℕ) where
   onto_iterating : (s : SiteTerm) (v : Visit) → Onto v (iterating s v)
   onto_iterating s v = record { known = λ h. record { made = h.made; equal = h.equal }; keeps = λ x h. h }
 
+  onto_counting : (c : Count) (v : Visit) → Onto v (counting c v)
+  onto_counting c v = record { known = λ h. record { made = h.made; equal = h.equal }; keeps = λ x h. h }
+
   onto_calling : (s : SiteTerm) (v : Visit) → Onto v (calling s v)
   onto_calling s v = record { known = λ h. record { made = h.made; equal = h.equal }; keeps = λ x h. h }
 
@@ -197,6 +199,19 @@ module _ (p : Program) (n : ℕ) where
   parts_are s (typed_pattern_and q no_typed_pattern) h u i = absurd i
   parts_are s (typed_pattern_and q (typed_pattern_and r rs)) h u i = (a_value, outputs_are s (typed_pattern_and q (typed_pattern_and r rs)) h u i)
 
+  onto_outputs : (u v : Visit) (s : SiteTerm) (args : TypedPatterns) → Onto u v → IsOfForm p n s (form false false (pattern_count args)) → Onto u (outputs_opened s args v).visit
+  onto_outputs u v s args o h =
+      let c = outputs_taken (pattern_count args) in
+      let w = counting c v in
+      let z = making (part_sites s args) w in
+      then_onto u v z o (then_onto v w z (onto_counting c v) (onto_making_each (part_sites s args) w (parts_are s args h)))
+
+  onto_fields : (fields : List SiteTerm) (m : ℕ) (s : SiteTerm) (c : Constraint) (v : Visit) → ((u : SiteTerm) → In fields u → HasForm p n u) → Onto v (asking s c (making fields (counting (fields_matched m) v)))
+  onto_fields fields m s c v f =
+      let u = counting (fields_matched m) v in
+      let w = making fields u in
+      then_onto v u (asking s c w) (onto_counting (fields_matched m) v) (then_onto u w (asking s c w) (onto_making_each fields u f) (onto_asking s c w))
+
   record Opens (v : Visit) (o : Opened) (args : TypedPatterns) : Type 0 where
     onto : Onto v o.visit
     inputs : (u : SiteTerm) → In o.inputs u → IsValue p n u
@@ -215,15 +230,14 @@ module _ (p : Program) (n : ℕ) where
       let a = making (call ∷ (pick_of call ∷ [])) v in
       let b = iterating call a in
       record {
-        onto = then_onto v a (making (part_sites (pick_of call) args) b) (onto_making (call ∷ (pick_of call ∷ [])) v ((form true (not infallible) c, h), ((form false false c, pick), tt)))
-            (then_onto a b (making (part_sites (pick_of call) args) b) (onto_iterating call a) (onto_making_each (part_sites (pick_of call) args) b (parts_are (pick_of call) args pick)));
+        onto = onto_outputs v b (pick_of call) args (then_onto v a b (onto_making (call ∷ (pick_of call ∷ [])) v ((form true (not infallible) c, h), ((form false false c, pick), tt))) (onto_iterating call a)) pick;
         count = outputs_as_many (pick_of call) args;
         inputs = outputs_are (pick_of call) args pick;
       }
   call_opens pure false partial rec true call args v h =
       let a = making (call ∷ []) v in
       record {
-        onto = then_onto v a (making (part_sites call args) a) (onto_making (call ∷ []) v ((form false false (pattern_count args), h), tt)) (onto_making_each (part_sites call args) a (parts_are call args h));
+        onto = onto_outputs v a call args (onto_making (call ∷ []) v ((form false false (pattern_count args), h), tt)) h;
         count = outputs_as_many call args;
         inputs = outputs_are call args h;
       }
@@ -233,8 +247,7 @@ module _ (p : Program) (n : ℕ) where
       let a = making (call ∷ (some_part call ∷ [])) v in
       let b = asking call is_present a in
       record {
-        onto = then_onto v a (making (part_sites (some_part call) args) b) (onto_making (call ∷ (some_part call ∷ [])) v ((form false true c, h), ((form false false c, part), tt)))
-            (then_onto a b (making (part_sites (some_part call) args) b) (onto_asking call is_present a) (onto_making_each (part_sites (some_part call) args) b (parts_are (some_part call) args part)));
+        onto = onto_outputs v b (some_part call) args (then_onto v a b (onto_making (call ∷ (some_part call ∷ [])) v ((form false true c, h), ((form false false c, part), tt))) (onto_asking call is_present a)) part;
         count = outputs_as_many (some_part call) args;
         inputs = outputs_are (some_part call) args part;
       }
@@ -244,7 +257,7 @@ module _ (p : Program) (n : ℕ) where
       let fields = from_to (variant_field s i) 0 args in
       let all : (u : SiteTerm) → In fields u → IsValue p n u = λ u j. let k = in_numbers (variant_field s i) 0 args u j in subst (IsValue p n) k.2 (f, refl) in
       record {
-        onto = then_onto v (making fields v) (asking s (is_variant ty i (pattern_count args)) (making fields v)) (onto_making_each fields v (λ u j. (a_value, all u j))) (onto_asking s (is_variant ty i (pattern_count args)) (making fields v));
+        onto = onto_fields fields (pattern_count args) s (is_variant ty i (pattern_count args)) v (λ u j. (a_value, all u j));
         inputs = all;
         count = numbers_as_many (variant_field s i) 0 args;
       }
@@ -252,7 +265,7 @@ module _ (p : Program) (n : ℕ) where
       let fields = from_to (struct_field s) 0 args in
       let all : (u : SiteTerm) → In fields u → IsValue p n u = λ u j. let k = in_numbers (struct_field s) 0 args u j in subst (IsValue p n) k.2 (f, refl) in
       record {
-        onto = then_onto v (making fields v) (asking s (is_struct ty (pattern_count args)) (making fields v)) (onto_making_each fields v (λ u j. (a_value, all u j))) (onto_asking s (is_struct ty (pattern_count args)) (making fields v));
+        onto = onto_fields fields (pattern_count args) s (is_struct ty (pattern_count args)) v (λ u j. (a_value, all u j));
         inputs = all;
         count = numbers_as_many (struct_field s) 0 args;
       }
@@ -261,7 +274,7 @@ module _ (p : Program) (n : ℕ) where
       (record { entry = e; flags = flags; infallible = infallible; there = there; call = q }, f, ap (form flags.multi (not infallible)) (sym (as_many_types args e.arg_tys m)))
   term_opens t e there unknown q s args m v f = absurd (term_known p t e there q)
 
-  module _ (neither : HasNoPartialMulti p) (fields : HasTypedParts p) where
+  module _ (well : IsWellTypedProgram p) where
     mutual
       pattern_after : (q : TypedPattern) (s : SiteTerm) (v : Visit) (vars more : List (ℕ × ℕ)) → formed_pattern p q vars ≡ Some more → IsValue p n s → VarsAre vars v → IsAfter v (visit_pattern p q s v) more
       pattern_after (match_bind ty x sub) s v vars more f m g =
@@ -355,14 +368,14 @@ module _ (p : Program) (n : ℕ) where
     term_gives : (t : ℕ) (e : TermEntry) → slice_get p.terms t ≡ Some e → (k : Kind) → kind p t ≡ k → kind_of e ≡ k → (v : Visit) (a : ValuedAll) → GivesAll v a e.arg_tys → Gives v (visit_term k t a)
     term_gives t e there (a_variant ty i) q r v a g =
         let s = variant_made ty i a.sites in
-        let f : IsValue p n s = (e.arg_tys, (fields.variants t e there ty i r).1, g.count, g.sites, refl) in
+        let f : IsValue p n s = (e.arg_tys, (well.parts.variants t e there ty i r).1, g.count, g.sites, refl) in
         record { onto = then_onto v a.visit (making (s ∷ []) a.visit) g.onto (made_one s a.visit f); site = f }
     term_gives t e there (a_struct ty) q r v a g =
         let s = struct_made ty a.sites in
-        let f : IsValue p n s = (e.arg_tys, (fields.structs t e there ty r).1, g.count, g.sites, refl) in
+        let f : IsValue p n s = (e.arg_tys, (well.parts.structs t e there ty r).1, g.count, g.sites, refl) in
         record { onto = then_onto v a.visit (making (s ∷ []) a.visit) g.onto (made_one s a.visit f); site = f }
     term_gives t e there (a_call flags infallible) q r v a g =
-        let c = call_gives flags.pure flags.multi flags.partial flags.rec t a.sites a.visit (λ m o. neither t (ap (λ k. (flags_of k).multi) q ∙ m) (ap (λ k. (flags_of k).partial) q ∙ o))
+        let c = call_gives flags.pure flags.multi flags.partial flags.rec t a.sites a.visit (λ m o. well.not_both t (ap (λ k. (flags_of k).multi) q ∙ m) (ap (λ k. (flags_of k).partial) q ∙ o))
         (λ i. (record { entry = e; flags = flags; infallible = infallible; there = there; call = q }, g.sites, refl)) in
         record { onto = then_onto v a.visit (visit_call flags t a.sites a.visit).visit g.onto c.onto; site = c.site }
     term_gives t e there unknown q r v a g = absurd (term_known p t e there q)
@@ -414,8 +427,9 @@ module _ (p : Program) (n : ℕ) where
     args_after i (q ∷ qs) (ty ∷ tys) v vars more e f g =
         let a = from_part p q ty vars more (λ mid. formed_list p qs tys mid) f in
         let m : IsValue p n (argument i) = (omega (arith, e), refl) in
-        let u = making (argument i ∷ []) v in
-        let o = made_one (argument i) v m in
+        let u = taking_argument i v in
+        let x = counting (argument_taken i) v in
+        let o = then_onto v x u (onto_counting (argument_taken i) v) (made_one (argument i) x m) in
         let r = pattern_after q (argument i) u vars a.0 a.2 m (vars_onto vars v u o g) in
         let w = visit_pattern p q (argument i) u in
         then_after v w (visit_args p (suc i) qs w) a.0 more (record { onto = then_onto v u w o r.onto; vars = r.vars }) (args_after (suc i) qs tys w a.0 more (omega (arith, e)) a.3 r.vars)
@@ -437,15 +451,15 @@ module _ (p : Program) (n : ℕ) where
     finished_onto false a f = onto_now a.visit
     finished_onto true a f = onto_making (some_made a.site ∷ []) a.visit ((form false true 1, (1, f, refl)), tt)
 
-pub rule_known : (p : Program) (n : ℕ) → HasNoPartialMulti p → HasTypedParts p → (r : TypedRule) → is_formed_rule p r ≡ true → length (arg_types p r.root_term) ≡ n → AreKnown p n (demands_of p r)
-rule_known p n neither fields r f e =
+pub rule_known : (p : Program) (n : ℕ) → IsWellTypedProgram p → (r : TypedRule) → is_formed_rule p r ≡ true → length (arg_types p r.root_term) ≡ n → AreKnown p n (demands_of p r)
+rule_known p n well r f e =
     let a = rule_parts p r f in
     let u = visit_args p 0 r.args visit_start in
     let w = visit_iflets p r.iflets u in
     let x = visit_expr p r.rhs w in
     let same : 0 + length a.entry.arg_tys ≡ n = (let l = ap (λ o. length (elim o as (λ _. List ℕ) [ None ↦ [] | Some i ↦ i.arg_tys ])) (sym a.there) ∙ e in omega (arith, l)) in
-    let first = args_after p n neither fields 0 r.args a.entry.arg_tys visit_start [] a.mid same a.args (λ y i. absurd (false≢true i)) in
-    let second = iflets_after p n neither fields r.iflets u a.mid a.vars a.iflets first.vars in
-    let third = expr_gives p n neither fields r.rhs w a.vars a.right second.vars in
-    (finished_onto p n neither fields (is_partial p r.root_term) x third.site).known
+    let first = args_after p n well 0 r.args a.entry.arg_tys visit_start [] a.mid same a.args (λ y i. absurd (false≢true i)) in
+    let second = iflets_after p n well r.iflets u a.mid a.vars a.iflets first.vars in
+    let third = expr_gives p n well r.rhs w a.vars a.right second.vars in
+    (finished_onto p n well (is_partial p r.root_term) x third.site).known
     (third.onto.known (second.onto.known (first.onto.known (record { made = λ y i. absurd i; equal = λ y i. absurd i }))))

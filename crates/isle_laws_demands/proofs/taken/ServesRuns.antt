@@ -2,10 +2,8 @@
 use Rattle.std.proofs.Common.{◌≡◌, ℕ, zero, suc, ◌<◌, ◌==◌, Bool, true, false, ◌&&◌, List, [], ◌∷◌, length, Option, Some, None, is_some, slice_get, IsSomeAnd, Contains, All, IsTrue, flat_map, refl, sym, ap, subst, ◌∙◌, inl, inr, arith, eq-eqb}
 use Rattle.std.proofs.lemmas.Bool.{and_parts, and_from, cases_Bool, cond-true, cond-false, false≢true}
 use Rattle.std.proofs.lemmas.List.Elements.{All-contains}
-use Rattle.isle_model.specs.lists.Syntax.{Definition}
 use Rattle.isle_model.specs.lists.Tables.{TypeEntry}
-use Rattle.isle_model.specs.lists.Elaborated.{TypedRules}
-use Rattle.isle_model.specs.rules.Values.{Value, truth, atom, value_eq, of_variant, of_struct, Values, listed, of_list, well_typed, all_well_typed, args_well_typed, variant_types, struct_types}
+use Rattle.isle_model.specs.rules.Values.{Value, truth, atom, value_eq, of_variant, of_struct, Values, listed, of_list, well_typed, all_well_typed, variant_types, struct_types}
 use Rattle.isle_model.specs.rules.Meaning.{Content, one, Meaning, bool_literal, int_literal, literal_value, constant_value}
 use Rattle.isle_model.specs.rules.Program.{Program, rules_of, arg_types}
 use Rattle.isle_model.specs.rules.Picks.{Pick}
@@ -13,35 +11,30 @@ use Rattle.isle_model.specs.rules.Typed.{TypedRule}
 use Rattle.isle_model.specs.sites.Sites.{Site, Constraint, is_variant, is_struct, is_bool, is_int, is_prim, is_present, SetRule, SiteSet, SiteTerm, bool_term, int_term, prim_term, sources_at, unfold_site}
 use Rattle.isle_model.specs.sites.Demands.{demands_of}
 use Rattle.isle_model.specs.sites.Closure.{HasConstraint, closed}
-use Rattle.isle_model.specs.sites.Overlap.{BuiltRule, built_rules}
-use Rattle.isle_model.specs.sites.RuleSets.{IsRuleOf, IsBuilt}
+use Rattle.isle_model.specs.sites.Overlap.{BuiltRule}
 use Rattle.isle_model.specs.sites.Serves.{asked_by, asked, constant_site, typed_as, written_type, written_value, is_type_with_parts, tested_constants, Serves, TellsConstantsApart}
-use Rattle.isle_model.specs.claims.Environments.{TypesRead, IsElaborated, program_of}
 use Rattle.isle_model.specs.trees.Places.{joins_in, below, all_below, waits, each_field, fields_of}
 use Rattle.isle_model.specs.trees.Run.{World, all_one, where_constant, content_fields, world_of}
 use Rattle.isle_model.specs.trees.Collects.{content_at, meets, IsPureAt}
 use Rattle.isle_model.proofs.Elements.{In, in_from_contains, contains_from_in, in_right, in_flat_map, none_some, some_is}
 use Rattle.isle_model.proofs.Members.{in_head}
 use Rattle.isle_model.proofs.Members as members
-use Rattle.isle_laws_lists.proofs.FormedRules.{rules_are_formed}
-use Rattle.isle_laws_lists.proofs.TypedRules as typed_rules
+use Rattle.isle_laws_lists.specs.WellTypedPrograms.{IsWellTypedProgram}
 use Rattle.isle_laws_runs.proofs.runs.Below.{IsPureBelow}
 use Rattle.isle_laws_demands.specs.ServeLaws.{ServedSetsServeTests}
 use Rattle.isle_laws_demands.proofs.closure.Closing.{closing_is_sound_lem}
-use Rattle.isle_laws_demands.proofs.visits.Built.{rule_at, BuiltGates, built_gates}
-use Rattle.isle_laws_demands.proofs.visits.Elaborated.{elaborated_rules_hang, elaborated_rules_demand_gates_lem}
-use Rattle.isle_laws_demands.proofs.visits.Sets.{IsTested, constrained_tested, joined_tested, tested_good}
+use Rattle.isle_laws_demands.proofs.visits.Built.{set_rule}
+use Rattle.isle_laws_demands.proofs.visits.BuiltSets.{BuiltSet, RuleOfSet, ServingMeaning, typed_rule}
+use Rattle.isle_laws_demands.proofs.visits.Sets.{gates_of, IsTested, constrained_tested, joined_tested, tested_good}
 use Rattle.isle_laws_demands.proofs.matching.FormedDemands.{IsFormed, rule_formed}
-use Rattle.isle_laws_demands.proofs.matching.NeverMatches.{program_has_types}
-use Rattle.isle_laws_demands.proofs.matching.Shapes.{HasTypes, has_form, literal_without_parts, holds_there}
-use Rattle.isle_laws_demands.proofs.matching.TypedParts.{program_has_typed_parts}
+use Rattle.isle_laws_demands.proofs.matching.Shapes.{has_form, literal_without_parts, holds_there}
 use Rattle.isle_laws_demands.proofs.matching.Unreachable.{IsConstant, MustBe, Shape, same_shape}
-use Rattle.isle_laws_demands.proofs.matching.Visits.{given, of_term}
+use Rattle.isle_laws_demands.proofs.matching.Visits.{given}
 use Rattle.isle_laws_demands.proofs.taken.BuiltSites.{rules_known, sites_stand}
-use Rattle.isle_laws_demands.proofs.taken.Fits.{IsWhole, AsManyFields, typed_whole, FitsAs, FitsForm, the_value, IsServed, fits, found}
+use Rattle.isle_laws_demands.proofs.taken.Fits.{IsWhole, AsManyFields, typed_whole, FitsAs, FitsForm, the_value, IsServed, ServedWorld, fits, found}
 use Rattle.isle_laws_demands.proofs.taken.Forms.{Form, a_value, AreKnown}
 use Rattle.isle_laws_demands.proofs.taken.SitesKnown.{Stands, made_stands, closed_known, before_stands}
-use Rattle.isle_laws_runs.proofs.runs.Demanded.{joined_itself}
+use Rattle.isle_laws_runs.proofs.runs.RuleDemands.{joined_itself}
 
 -- 1. arguments
 arg_there : (types : List TypeEntry) (tys : List ℕ) (args : List Value) → all_well_typed types (Some tys) (of_list args) ≡ true → (i : ℕ) → i < length tys → (v : Value) × (slice_get args i ≡ Some v) × IsWhole types v
@@ -72,50 +65,58 @@ meets_some : (m : Meaning) (c : Constraint) (o : Option Content) → IsTrue (mee
 meets_some m c None h = absurd (false≢true h)
 meets_some m c (Some x) h = (x, refl, h)
 
-module _ (e : TypesRead) (defs : List Definition) (expand : Bool) (rules : TypedRules) (t : ℕ) (set : SiteSet) (h : IsElaborated e defs expand rules) (b : IsBuilt (program_of e defs rules.rules) t set)
-    (m : Meaning) (args : List Value) (typed : IsTrue (args_well_typed (program_of e defs rules.rules).types (arg_types (program_of e defs rules.rules) t) args))
-    (served : Serves (program_of e defs rules.rules) m args (rules_of (program_of e defs rules.rules) t)) (apart : TellsConstantsApart (program_of e defs rules.rules) m (rules_of (program_of e defs rules.rules) t)) (k : Pick) where
+module _ (b : BuiltSet) (h : IsWellTypedProgram b.program) (serving : ServingMeaning b.program b.term) (k : Pick) where
   abbrev p : Program
-  p = program_of e defs rules.rules
+  p = b.program
+
+  abbrev set : SiteSet
+  set = b.set
+
+  abbrev m : Meaning
+  m = serving.meaning
+
+  abbrev args : List Value
+  args = serving.args
 
   abbrev n : ℕ
-  n = length (arg_types p t)
+  n = length (arg_types p b.term)
 
   abbrev rs : List TypedRule
-  rs = rules_of p t
+  rs = rules_of p b.term
 
   abbrev w : World
-  w = world_of p t set.sites m args
+  w = world_of p b.term set.sites m args
+
+  abbrev served : Serves p m args rs
+  served = serving.serves
+
+  abbrev apart : TellsConstantsApart p m rs
+  apart = serving.apart
 
   known : (r : TypedRule) → In rs r → AreKnown p n (demands_of p r)
-  known = rules_known e defs expand rules t set h b
+  known = rules_known b h
 
   stands : (s : ℕ) → s < length set.sites → Stands p n rs (unfold_site set.sites s)
-  stands = sites_stand e defs expand rules t set h b
+  stands = sites_stand b h
 
   pub is_served : IsServed p n rs w
   is_served = record {
-    before = b.sources;
+    before = b.built.sources;
     forms = λ s l. (stands s l).form;
     asks = λ s l. (stands s l).asks;
     serves = served;
-    args = arg_there p.types (arg_types p t) args typed;
+    args = arg_there p.types (arg_types p b.term) args serving.typed;
   }
 
+  abbrev stage : ServedWorld
+  stage = record { program = p; arity = n; rules = rs; world = w; served = is_served }
+
   -- 3. rules of the set
-  pub record OfSet (r : SetRule) : Type 0 where
-    pub built : BuiltRule
-    pub listed : In (built_rules p t) built
-    pub is : IsRuleOf p set.sites built r
-    pub gates : BuiltGates p built
+  abbrev at : (r : SetRule) → Contains set.rules r → RuleOfSet b
+  at r c = set_rule b r (in_from_contains set.rules r c)
 
-  pub of_set : (r : SetRule) → Contains set.rules r → OfSet r
-  of_set r c =
-      let a = rule_at p set.sites (built_rules p t) set.rules b.rules r (in_from_contains set.rules r c) in
-      record { built = a.0; listed = a.1; is = a.2; gates = built_gates p t (elaborated_rules_demand_gates_lem rules_are_formed typed_rules.lists_agree e defs expand rules h) a.0 a.1 }
-
-  pure_tested : (r : SetRule) (o : OfSet r) (s : ℕ) → IsTested p t set b o.built r o.is o.gates s → IsPureBelow set.sites s
-  pure_tested r o s x u i = (let g = tested_good p t set b o.built r o.is o.gates s u x (in_from_contains (below (suc s) set.sites s) u i) in (g.site, g.there, g.pure_site))
+  pure_tested : (x : RuleOfSet b) (s : ℕ) → IsTested b x (gates_of b h x) s → IsPureBelow set.sites s
+  pure_tested x s z u i = (let g = tested_good b x (gates_of b h x) s u z (in_from_contains (below (suc s) set.sites s) u i) in (g.site, g.there, g.pure_site))
 
   -- a constrained site holds what fits, and its constraint is one of a rule's, of a site that must be equal
   pub record IsAsked (s : ℕ) (c : Constraint) : Type 0 where
@@ -127,13 +128,12 @@ module _ (e : TypesRead) (defs : List Definition) (expand : Bool) (rules : Typed
 
   pub is_asked : (r : SetRule) → Contains set.rules r → (s : ℕ) (c : Constraint) → Contains r.constraints (s, c) → IsAsked s c
   is_asked r i s c j =
-      let o = of_set r i in
-      let x = constrained_tested p t set b o.built r o.is o.gates s c (in_from_contains r.constraints (s, c) j) in
+      let o = at r i in
       let a = o.is.constraints.asked s c j in
-      let f = before_stands p n rs [] (λ u y. absurd y) rs (λ q y. (y, known q y)) o.built o.listed in
+      let f = before_stands p n rs [] (λ u y. absurd y) rs (λ q y. (y, known q y)) o.typed o.listed in
       record {
         known_site = a.0;
-        pure = pure_tested r o s x;
+        pure = pure_tested o s (constrained_tested b o (gates_of b h o) s c (in_from_contains r.constraints (s, c) j));
         rule = f.1;
         listed = f.3;
         constrained = (closing_is_sound_lem f.0 (demands_of p f.1)).constraints (unfold_site set.sites s) c
@@ -142,12 +142,10 @@ module _ (e : TypesRead) (defs : List Definition) (expand : Bool) (rules : Typed
 
   asked_formed : (s : ℕ) (c : Constraint) → IsAsked s c → IsFormed p c
   asked_formed s c a =
-      let o = of_term e defs expand rules h t a.rule (contains_from_in rs a.rule a.listed) in
-      let f = elaborated_rules_hang rules_are_formed typed_rules.lists_agree e defs expand rules h a.rule o.0 in
-      rule_formed p (program_has_typed_parts e defs expand rules h) a.rule f.0 (a.constrained.source, c) (in_from_contains (demands_of p a.rule).constraints (a.constrained.source, c) a.constrained.asked)
+      rule_formed p h.parts a.rule (typed_rule p b.term a.rule h (contains_from_in rs a.rule a.listed)).formed (a.constrained.source, c) (in_from_contains (demands_of p a.rule).constraints (a.constrained.source, c) a.constrained.asked)
 
   whole_here : (s : ℕ) (c : Constraint) → IsAsked s c → (v : Value) → content_at w k s ≡ Some (one v) → IsWhole p.types v
-  whole_here s c a v x = (let f = is_served.forms s a.known_site in value_whole p.types f.0 v (fits p n rs w k is_served s a.pure f.0 f.1 (one v) x))
+  whole_here s c a v x = (let f = is_served.forms s a.known_site in value_whole p.types f.0 v (fits stage k s a.pure f.0 f.1 (one v) x))
 
   constant_count : (o : Option Value) (v : Value) (cs : List Content) → where_constant o v ≡ Some cs → length cs ≡ 0
   constant_count None v cs e = absurd (none_some cs e)
@@ -204,18 +202,15 @@ module _ (e : TypesRead) (defs : List Definition) (expand : Bool) (rules : Typed
       (in_flat_map (λ (q : TypedRule). flat_map (λ (x : SiteTerm × Constraint). constant_site x.1) (demands_of p q).constraints) rs a.rule u a.listed
       (in_flat_map (λ (x : SiteTerm × Constraint). constant_site x.1) (demands_of p a.rule).constraints (a.constrained.source, c) u (in_from_contains (demands_of p a.rule).constraints (a.constrained.source, c) a.constrained.asked) i))
 
-  types : HasTypes e.known.types
-  types = program_has_types e defs expand rules h
-
   abbrev ShapeAt : ℕ → Constraint → Type 0
-  ShapeAt s d = Shape (given p m args k) rs types apart (content_at w k s) d
+  ShapeAt s d = Shape (given p m args k) rs h.types apart (content_at w k s) d
 
   -- the content that meets a constant's constraint is its value, of its type, which has no parts
   constant_shape : (s ty : ℕ) (d : Constraint) (a : IsAsked s d) (u : SiteTerm) → In (constant_site d) u → (c : Content) → content_at w k s ≡ Some c
       → (v : Value) × (c ≡ one v) × (written_value m u ≡ Some v) → written_type p u ≡ Some ty
       → (Contains (asked p rs) u → IsSomeAnd (written_value m u) (λ v. IsTrue (well_typed p.types ty v))) → is_type_with_parts (slice_get p.types ty) ≡ false
-      → ((v : Value) → written_value m u ≡ Some v → MustBe (given p m args k) rs types apart u v)
-      → IsConstant (given p m args k) rs types apart (content_at w k s) u
+      → ((v : Value) → written_value m u ≡ Some v → MustBe (given p m args k) rs h.types apart u v)
+      → IsConstant (given p m args k) rs h.types apart (content_at w k s) u
   constant_shape s ty d a u i c x g written has atomic exact = record {
     value = g.0;
     there = x ∙ ap Some g.1;
@@ -239,7 +234,7 @@ module _ (e : TypesRead) (defs : List Definition) (expand : Bool) (rules : Typed
       (g.0, x ∙ ap Some g.1, same_count (struct_types (slice_get p.types ty)) g.0 f z.0 (asked_formed s (is_struct ty f) a))
   shape_at s (is_bool v ty) a c x y =
       constant_shape s ty (is_bool v ty) a (bool_term v ty) (inl refl) c x (has_form m (is_bool v ty) c y) refl (served.bools v ty)
-      (ap (λ i. is_type_with_parts (slice_get p.types i)) (asked_formed s (is_bool v ty) a) ∙ ap is_type_with_parts types.first)
+      (ap (λ i. is_type_with_parts (slice_get p.types i)) (asked_formed s (is_bool v ty) a) ∙ ap is_type_with_parts h.types.first)
       (λ w f. some_is w (truth v) (sym f ∙ served.written_bools v ty (constant_asked s (is_bool v ty) a (bool_term v ty) (inl refl))))
   shape_at s (is_int z ty) a c x y =
       constant_shape s ty (is_int z ty) a (int_term z ty) (inl refl) c x (has_form m (is_int z ty) c y) refl (served.ints z ty)
@@ -257,34 +252,39 @@ module _ (e : TypesRead) (defs : List Definition) (expand : Bool) (rules : Typed
   one_constraint s d f a c x y =
       let u = meets_some m d (content_at w k s) x in
       let v = meets_some m f (content_at w k s) y in
-      same_shape (given p m args k) rs types apart (content_at w k s) d f (shape_at s d a u.0 u.1 u.2) (shape_at s f c v.0 v.1 v.2)
+      same_shape (given p m args k) rs h.types apart (content_at w k s) d f (shape_at s d a u.0 u.1 u.2) (shape_at s f c v.0 v.1 v.2)
 
   -- 5. equal sites
 
   pub equal_value : (r : SetRule) → Contains set.rules r → (a c : ℕ) → IsTrue (joins_in r.classes a c) → (x : Content) → content_at w k a ≡ Some x → (v : Value) × (x ≡ one v)
   equal_value r i a c j x z =
-      let o = of_set r i in
+      let o = at r i in
       let q = o.is.classes.joined a c j in
-      let f = before_stands p n rs [] (λ u y. absurd y) rs (λ s y. (y, known s y)) o.built o.listed in
+      let f = before_stands p n rs [] (λ u y. absurd y) rs (λ s y. (y, known s y)) o.typed o.listed in
       let l = closed_known p n rs f.0 f.2 (demands_of p f.1) (made_stands p n rs f.1 f.3 f.4) f.4 in
       let v = l.members q.2 (unfold_site set.sites a) (in_from_contains (closed f.0 (demands_of p f.1)).classes q.2 (subst (λ (y : BuiltRule). Contains y.demands.classes q.2) (sym f.5) q.3)) (in_from_contains q.2 (unfold_site set.sites a) q.4) in
-      let g = the_value p.types x (fits p n rs w k is_served a (pure_tested r o a (joined_tested p t set b o.built r o.is o.gates a (joined_itself r.classes a c j))) a_value v x z) in
+      let g = the_value p.types x (fits stage k a (pure_tested o a (joined_tested b o (gates_of b h o) a (joined_itself r.classes a c j))) a_value v x z) in
       (g.0, g.1)
 
   -- 6. sites that wait for nothing
   pub found_there : (s : ℕ) → All (IsPureAt set.sites) (all_below set.sites (s ∷ [])) → waits (slice_get set.sites s) ≡ false
       → All (λ a. IsTrue (is_some (content_at w k a))) (sources_at set.sites s) → IsTrue (is_some (content_at w k s))
   found_there s pure wait f =
-      found p n rs w k is_served s
+      found stage k s
       (λ u i. All-contains (IsPureAt set.sites) (all_below set.sites (s ∷ [])) u pure (members.in_flat_map (λ x. below (suc x) set.sites x) (s ∷ []) s u (in_head s []) i)) wait
       (λ a c. All-contains (λ x. IsTrue (is_some (content_at w k x))) (sources_at set.sites s) a f c)
 
 pub served_sets_serve_tests_lem : ServedSetsServeTests
-served_sets_serve_tests_lem e defs expand rules t set h b m args typed served apart = record {
+served_sets_serve_tests_lem p t set h built m args typed served apart = record {
   sites = refl;
-  found = λ s pure wait f. found_there e defs expand rules t set h b m args typed served apart [] s pure wait f;
-  values = λ r a c x i j z. equal_value e defs expand rules t set h b m args typed served apart [] r i a c j x z;
-  fields = λ r s d c cs i j x y. fields_counted e defs expand rules t set h b m args typed served apart [] s d (is_asked e defs expand rules t set h b m args typed served apart [] r i s d j) c cs x y;
-  apart = λ r q s d f i j x y u v. one_constraint e defs expand rules t set h b m args typed served apart [] s d f
-      (is_asked e defs expand rules t set h b m args typed served apart [] r i s d x) (is_asked e defs expand rules t set h b m args typed served apart [] q j s f y) u v;
+  found = found_there b h serving [];
+  values = λ r a c x i j z. equal_value b h serving [] r i a c j x z;
+  fields = λ r s d c cs i j x y. fields_counted b h serving [] s d (is_asked b h serving [] r i s d j) c cs x y;
+  apart = λ r q s d f i j x y u v. one_constraint b h serving [] s d f (is_asked b h serving [] r i s d x) (is_asked b h serving [] q j s f y) u v;
 }
+  where
+    b : BuiltSet
+    b = record { program = p; term = t; set = set; built = built }
+
+    serving : ServingMeaning p t
+    serving = record { meaning = m; args = args; typed = typed; serves = served; apart = apart }

@@ -7,7 +7,7 @@ use Rattle.isle_model.specs.rules.Typed.{TypedRule}
 use Rattle.isle_model.specs.sites.Sites.{Constraint, is_variant, is_struct, is_bool, is_int, is_prim, is_present, SiteTerm, variant_field, struct_field}
 use Rattle.isle_model.specs.sites.Demands.{Demands, demands_of, has_site, with_sites}
 use Rattle.isle_model.specs.sites.Closure.{field_terms, constraint_of, Closed, class_at, is_in_class, next_constrained, ascending, field_equalities, taken, closing, before_closing, begins_with, in_order, most_closing_steps, closed, is_unreachable}
-use Rattle.isle_model.specs.sites.Limits.{most_sites, walked_rule, made_walking, sites_wanted, sites_reached, sites_after_rule, sites_after_rules}
+use Rattle.isle_model.specs.sites.Limits.{RuleLimit, most_sites, passed_in_visit, sites_until, sites_reached, sites_after_rule, sites_after_rules}
 use Rattle.isle_model.specs.sites.Overlap.{BuiltRule, is_built, built_rule, built_from}
 use Rattle.isle_model.specs.sites.Serves.{asked_by, asked, constant_site}
 use Rattle.isle_model.proofs.Elements.{In, contains_from_in, in_left, in_either, in_slice, in_any, in_map, in_flat_map, from_flat_map, in_zip, in_filter, passed_filter, none_some, some_is}
@@ -16,7 +16,6 @@ use Rattle.isle_laws_demands.proofs.closure.Classes.{with_sites_in}
 use Rattle.isle_laws_demands.proofs.closure.Closing.{closing_keeps}
 use Rattle.isle_laws_demands.proofs.visits.Closing.{Members, in_class_at, without_members, all_merged_members, in_fields}
 use Rattle.isle_laws_demands.proofs.taken.Fits.{IsField}
-use Rattle.isle_laws_demands.proofs.taken.Walked.{walked_made}
 use Rattle.isle_laws_demands.proofs.taken.Forms.{a_value, IsValue, HasForm, AreKnown}
 
 module _ (p : Program) (n : ℕ) (rs : List TypedRule) where
@@ -122,23 +121,20 @@ module _ (p : Program) (n : ℕ) (rs : List TypedRule) where
 
   rule_stands : (before : List SiteTerm) → ((u : SiteTerm) → In before u → Stands u) → (r : TypedRule) → In rs r → AreKnown p n (demands_of p r) → (u : SiteTerm) → In (sites_after_rule p before r) u → Stands u
   rule_stands before b r i h u j =
-      by (cases_Bool (walked_rule p r).ended) (cases_Bool (is_unreachable (demands_of p r))) (from_take most_sites (sites_reached p before r) u j)
+      by (passed_in_visit p r) (cases_Bool (is_unreachable (demands_of p r))) (from_take most_sites (sites_reached p before r) u j)
     where
       made : (x : SiteTerm) → In (demands_of p r).made x → Stands x
       made = made_stands r i h
 
-      by : ((walked_rule p r).ended ≡ true) ⊎ ((walked_rule p r).ended ≡ false) → (is_unreachable (demands_of p r) ≡ true) ⊎ (is_unreachable (demands_of p r) ≡ false) → In (sites_reached p before r) u → Stands u
-      by (inl w) x k =
-          with_both before (made_walking p (walked_rule p r)) b (λ y l. made y (walked_made p r y l)) u
-          (subst (λ l. In l u) (cond-true (walked_rule p r).ended (with_sites before (made_walking p (walked_rule p r))) (sites_wanted p before r) w) k)
-      by (inr w) (inl x) k =
+      by : (o : Option (RuleLimit × ℕ)) → (is_unreachable (demands_of p r) ≡ true) ⊎ (is_unreachable (demands_of p r) ≡ false) → In (sites_until p before r o) u → Stands u
+      by (Some passed) x k =
+          with_both before (take passed.1 (demands_of p r).made) b (λ y l. made y (from_take passed.1 (demands_of p r).made y l)) u k
+      by None (inl x) k =
           with_both before (demands_of p r).made b made u
-          (subst (λ l. In l u) (cond-false (walked_rule p r).ended (with_sites before (made_walking p (walked_rule p r))) (sites_wanted p before r) w
-          ∙ cond-true (is_unreachable (demands_of p r)) (with_sites before (demands_of p r).made) (closed before (demands_of p r)).made x) k)
-      by (inr w) (inr x) k =
+          (subst (λ l. In l u) (cond-true (is_unreachable (demands_of p r)) (with_sites before (demands_of p r).made) (closed before (demands_of p r)).made x) k)
+      by None (inr x) k =
           (closed_known before b (demands_of p r) made h).made u
-          (subst (λ l. In l u) (cond-false (walked_rule p r).ended (with_sites before (made_walking p (walked_rule p r))) (sites_wanted p before r) w
-          ∙ cond-false (is_unreachable (demands_of p r)) (with_sites before (demands_of p r).made) (closed before (demands_of p r)).made x) k)
+          (subst (λ l. In l u) (cond-false (is_unreachable (demands_of p r)) (with_sites before (demands_of p r).made) (closed before (demands_of p r)).made x) k)
 
   pub rules_stand : (before : List SiteTerm) → ((u : SiteTerm) → In before u → Stands u) → (qs : List TypedRule) → ((r : TypedRule) → In qs r → In rs r × AreKnown p n (demands_of p r))
       → (u : SiteTerm) → In (sites_after_rules p before qs) u → Stands u

@@ -1,4 +1,5 @@
--- Each call, literal and constant at or in a site that a rule asks, equates, calls or returns is one of the sites made.
+-- Each call, literal and constant at or in a site that a rule asks, equates, calls, goes over or returns is one of the sites
+-- made.
 use Rattle.std.proofs.Common.{List, [], ◌∷◌, ◌++◌, refl, subst, inl, inr}
 use Rattle.isle_model.specs.rules.Program.{Program}
 use Rattle.isle_model.specs.rules.Typed.{TypedRule}
@@ -58,11 +59,12 @@ module _ (ms more : List SiteTerm) where
 abbrev IsMade : Demands → SiteTerm → Type 0
 IsMade d s = AllMade d.made s
 
--- so it is of all that is asked, equated and called
+-- so it is of all that is asked, equated, called and gone over
 pub record MakesCalls (d : Demands) : Type 0 where
   pub asked : (e : SiteTerm × Constraint) → In d.constraints e → AllMade d.made e.0
   pub equal : (e : SiteTerm × SiteTerm) → In d.equalities e → AllMade d.made e.0 × AllMade d.made e.1
   pub impure : (u : SiteTerm) → In d.impure u → AllMade d.made u
+  pub over : (u : SiteTerm) → In d.iterators u → AllMade d.made u
 
 abbrev OnwardMade : Demands → Demands → Type 0
 OnwardMade = Onward MakesCalls IsMade
@@ -73,6 +75,7 @@ making_on ts v h = record {
     asked = λ e i. more e.0 (h.asked e i);
     equal = λ e i. (more e.0 (h.equal e i).0, more e.1 (h.equal e i).1);
     impure = λ u i. more u (h.impure u i);
+    over = λ u i. more u (h.over u i);
   };
   stays = more;
 }
@@ -80,8 +83,16 @@ making_on ts v h = record {
     more : (s : SiteTerm) → AllMade v.demands.made s → AllMade (v.demands.made ++ ts) s
     more = made_more v.demands.made ts
 
-iterating_on : (s : SiteTerm) (v : Visit) → MakesCalls v.demands → OnwardMade v.demands (iterating s v).demands
-iterating_on s v h = record { holds = record { asked = h.asked; equal = h.equal; impure = h.impure }; stays = λ u m. m }
+iterating_on : (s : SiteTerm) (v : Visit) → MakesCalls v.demands → AllMade v.demands.made s → OnwardMade v.demands (iterating s v).demands
+iterating_on s v h m = record {
+  holds = record {
+    asked = h.asked;
+    equal = h.equal;
+    impure = h.impure;
+    over = λ u i. elim (in_either v.demands.iterators (s ∷ []) u i) [ inl j ↦ h.over u j | inr j ↦ elim j [ inl e ↦ subst (AllMade v.demands.made) e m | inr n ↦ absurd n ] ];
+  };
+  stays = λ u k. k;
+}
 
 calling_on : (s : SiteTerm) (v : Visit) → MakesCalls v.demands → AllMade v.demands.made s → OnwardMade v.demands (calling s v).demands
 calling_on s v h m = record {
@@ -89,6 +100,7 @@ calling_on s v h m = record {
     asked = h.asked;
     equal = h.equal;
     impure = λ u i. elim (in_either v.demands.impure (s ∷ []) u i) [ inl j ↦ h.impure u j | inr j ↦ elim j [ inl e ↦ subst (AllMade v.demands.made) e m | inr n ↦ absurd n ] ];
+    over = h.over;
   };
   stays = λ u k. k;
 }
@@ -102,6 +114,7 @@ asking_on s c v m h = record {
     ];
     equal = h.equal;
     impure = h.impure;
+    over = h.over;
   };
   stays = λ u k. k;
 }
@@ -122,6 +135,7 @@ equated_on a b v m n h = record {
       | inr j ↦ elim j [ inl q ↦ subst (λ (x : SiteTerm × SiteTerm). AllMade v.demands.made x.0 × AllMade v.demands.made x.1) q (m, n) | inr x ↦ absurd x ]
     ];
     impure = h.impure;
+    over = h.over;
   };
   stays = λ s k. k;
 }
@@ -177,15 +191,16 @@ calls_kept p = record {
   answer = λ d t i ss flags b e f c n m. (c, each_at d ss m);
   pick = λ d t i ss c n m. (c, each_at d ss m);
   call = λ d t i ss flags b e f g n m. (n, each_at d ss m);
+  counts = λ c v h. record { holds = record { asked = h.asked; equal = h.equal; impure = h.impure; over = h.over }; stays = λ s m. m };
   makes = making_on;
   calls = calling_on;
   equates = equating_on;
   asks = λ s c v f h m. asking_on s c v m h;
   asks_all = λ s v h m. asking_all_on (unwraps s) v (unwrapped_made v.demands.made s m) h;
   asks_call = λ t s v flags e f c n h m. record { onward = asking_on (extractor_call t s) is_present v (c, m) h; site = (c, m) };
-  iterates_extractor = λ t s v flags b e f c n h m. record { onward = iterating_on (extractor_call t s) v h; site = (c, m) };
-  iterates_constructor = λ t i ss v flags b e f h. iterating_on (constructor_call t ss i) v h;
+  iterates_extractor = λ t s v flags b e f c n h m. record { onward = iterating_on (extractor_call t s) v h (c, m); site = (c, m) };
+  iterates_constructor = λ t i ss v flags b e f n m h. iterating_on (constructor_call t ss i) v h (n, each_at v.demands ss m);
 }
 
 pub rule_makes : (p : Program) (r : TypedRule) → MakesCalls (demands_of p r) × AllMade (demands_of p r).made (result_of p r)
-rule_makes p r = rule_given p MakesCalls IsMade (calls_kept p) r (record { asked = λ e i. absurd i; equal = λ e i. absurd i; impure = λ u i. absurd i })
+rule_makes p r = rule_given p MakesCalls IsMade (calls_kept p) r (record { asked = λ e i. absurd i; equal = λ e i. absurd i; impure = λ u i. absurd i; over = λ u i. absurd i })

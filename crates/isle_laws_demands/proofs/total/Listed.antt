@@ -9,7 +9,7 @@ use Rattle.isle_model.specs.rules.Values.{Value, of_variant, of_struct, Values, 
 use Rattle.isle_model.specs.rules.Meaning.{Content, one, parts, just, many, contents, Literal, bool_literal, int_literal, literal_eq, look, Meaning, literal_value, constant_value, extractor_answer, pure_answer, impure_answer}
 use Rattle.isle_model.specs.sites.Sites.{SiteTerm, bool_term, int_term, prim_term, argument, extractor_call, constructor_call, pick_of, variant_made, variant_field, struct_made, struct_field, some_made, some_part, tuple_part, no_site, SiteTerms, no_site_term, site_term_and}
 use Rattle.isle_model.specs.sites.Serves.{Holds, holds_bool, holds_int, holds_prim, holds_argument, holds_extractor, holds_pure, holds_impure, holds_pick, holds_variant, holds_variant_field, holds_struct, holds_struct_field, holds_some, holds_part, holds_tuple_part, HoldsAll, holds_none, holds_and}
-use Rattle.isle_model.proofs.Elements.{In, in_from_contains, in_slice, some_is, none_some, in_map, map_in, in_flat_map, from_flat_map}
+use Rattle.isle_model.proofs.Elements.{In, in_from_contains, in_slice, some_is, none_some, map_in, in_flat_map, from_flat_map}
 use Rattle.isle_model.proofs.Options.{is_there}
 use Rattle.isle_model.proofs.SameSites.{beq_means, beq_same}
 use Rattle.isle_model.proofs.ValuesEqual.{eq_means, eq_all_means, eq_same, eq_all_same}
@@ -95,7 +95,22 @@ module _ (f : TotalMeaning) (m : Meaning) (agrees : Agrees m f) (args : List Val
         (value_listed (contents_listed f args s) v (held_listed s (one v) h)) (map_in (value_and v) (values_listed f args ss) vs (all_listed ss vs g))
 
 -- 2. lists of entries that a function gives
-module _ {K V : Type 0} (test : K → Bool) (key : K) (means : (k : K) → test k ≡ true → k ≡ key) (given : K → V) where
+-- a test that only one key passes
+pub record TestOfKey (K : Type 0) : Type 0 where
+  pub test : K → Bool
+  pub key : K
+  pub means : (k : K) → test k ≡ true → k ≡ key
+
+module _ {K V : Type 0} (of : TestOfKey K) (given : K → V) where
+  abbrev test : K → Bool
+  test = of.test
+
+  abbrev key : K
+  key = of.key
+
+  abbrev means : (k : K) → test k ≡ true → k ≡ key
+  means = of.means
+
   pub look_gives : (es : List (K × V)) → ((e : K × V) → In es e → e.1 ≡ given e.0) → (v : V) → look test es ≡ Some v → v ≡ given key
   look_gives [] all v h = absurd (none_some v h)
   look_gives (e ∷ es) all v h =
@@ -240,40 +255,40 @@ module _ (f : TotalMeaning) (asks : List Question) where
   -- the maps agree with the functions
   pub answers_agree : Agrees m f
   answers_agree = record {
-    literals = λ l v h. look_gives (λ k. literal_eq k l) l (λ k q. literal_means k l q) f.literals m.literals (all_given f.literals (literal_entries f) (literals_given f) asks) v h;
-    constants = λ name v h. look_gives (λ k. k == name) name (λ k q. eqb-true k name q) f.constants m.constants (all_given f.constants (constant_entries f) (constants_given f) asks) v h;
+    literals = λ l v h. look_gives (record { test = λ k. literal_eq k l; key = l; means = λ k q. literal_means k l q }) f.literals m.literals (all_given f.literals (literal_entries f) (literals_given f) asks) v h;
+    constants = λ name v h. look_gives (record { test = λ k. k == name; key = name; means = λ k q. eqb-true k name q }) f.constants m.constants (all_given f.constants (constant_entries f) (constants_given f) asks) v h;
     extractors = λ t v c h.
-        look_gives (λ (k : ℕ × Value). (k.0 == t) && value_eq k.1 v) (t, v) (value_means t v) (of_value f) m.extractor_calls (all_given (of_value f) (extractor_entries f) (extractors_given f) asks) c h;
+        look_gives (record { test = λ (k : ℕ × Value). (k.0 == t) && value_eq k.1 v; key = (t, v); means = value_means t v }) (of_value f) m.extractor_calls (all_given (of_value f) (extractor_entries f) (extractors_given f) asks) c h;
     pures = λ t vs c h.
-        look_gives (λ (k : ℕ × Values). (k.0 == t) && values_eq k.1 vs) (t, vs) (values_mean t vs) (of_values f) m.pure_calls (all_given (of_values f) (pure_entries f) (pures_given f) asks) c h;
+        look_gives (record { test = λ (k : ℕ × Values). (k.0 == t) && values_eq k.1 vs; key = (t, vs); means = values_mean t vs }) (of_values f) m.pure_calls (all_given (of_values f) (pure_entries f) (pures_given f) asks) c h;
     impures = λ t n c h.
-        look_gives (λ (k : ℕ × ℕ). (k.0 == t) && (k.1 == n)) (t, n) (place_means t n) (of_place f) m.impure_calls (all_given (of_place f) (impure_entries f) (impures_given f) asks) c h;
+        look_gives (record { test = λ (k : ℕ × ℕ). (k.0 == t) && (k.1 == n); key = (t, n); means = place_means t n }) (of_place f) m.impure_calls (all_given (of_place f) (impure_entries f) (impures_given f) asks) c h;
   }
 
   -- and have what is asked
   pub literal_there : (l : Literal) → In asks (of_literal l) → literal_value m l ≡ Some (f.literals l)
   literal_there l i =
-      look_finds (λ k. literal_eq k l) l (λ k q. literal_means k l q) f.literals m.literals (all_given f.literals (literal_entries f) (literals_given f) asks) (literal_same l) (f.literals l)
+      look_finds (record { test = λ k. literal_eq k l; key = l; means = λ k q. literal_means k l q }) f.literals m.literals (all_given f.literals (literal_entries f) (literals_given f) asks) (literal_same l) (f.literals l)
       (in_flat_map (literal_entries f) asks (of_literal l) (l, f.literals l) i (inl refl))
 
   pub constant_there : (name : ℕ) → In asks (of_constant name) → constant_value m name ≡ Some (f.constants name)
   constant_there name i =
-      look_finds (λ k. k == name) name (λ k q. eqb-true k name q) f.constants m.constants (all_given f.constants (constant_entries f) (constants_given f) asks) (eq-eqb name name refl) (f.constants name)
+      look_finds (record { test = λ k. k == name; key = name; means = λ k q. eqb-true k name q }) f.constants m.constants (all_given f.constants (constant_entries f) (constants_given f) asks) (eq-eqb name name refl) (f.constants name)
       (in_flat_map (constant_entries f) asks (of_constant name) (name, f.constants name) i (inl refl))
 
   pub extractor_there : (t : ℕ) (v : Value) → In asks (of_extractor t v) → extractor_answer m t v ≡ Some (f.extractors t v)
   extractor_there t v i =
-      look_finds (λ (k : ℕ × Value). (k.0 == t) && value_eq k.1 v) (t, v) (value_means t v) (of_value f) m.extractor_calls (all_given (of_value f) (extractor_entries f) (extractors_given f) asks)
+      look_finds (record { test = λ (k : ℕ × Value). (k.0 == t) && value_eq k.1 v; key = (t, v); means = value_means t v }) (of_value f) m.extractor_calls (all_given (of_value f) (extractor_entries f) (extractors_given f) asks)
       (value_same t v) (f.extractors t v) (in_flat_map (extractor_entries f) asks (of_extractor t v) ((t, v), f.extractors t v) i (inl refl))
 
   pub pure_there : (t : ℕ) (vs : Values) → In asks (of_pure t vs) → pure_answer m t vs ≡ Some (f.pures t vs)
   pure_there t vs i =
-      look_finds (λ (k : ℕ × Values). (k.0 == t) && values_eq k.1 vs) (t, vs) (values_mean t vs) (of_values f) m.pure_calls (all_given (of_values f) (pure_entries f) (pures_given f) asks)
+      look_finds (record { test = λ (k : ℕ × Values). (k.0 == t) && values_eq k.1 vs; key = (t, vs); means = values_mean t vs }) (of_values f) m.pure_calls (all_given (of_values f) (pure_entries f) (pures_given f) asks)
       (values_same t vs) (f.pures t vs) (in_flat_map (pure_entries f) asks (of_pure t vs) ((t, vs), f.pures t vs) i (inl refl))
 
   pub impure_there : (t before : ℕ) → In asks (of_impure t before) → impure_answer m t before ≡ Some (f.impures t before)
   impure_there t before i =
-      look_finds (λ (k : ℕ × ℕ). (k.0 == t) && (k.1 == before)) (t, before) (place_means t before) (of_place f) m.impure_calls (all_given (of_place f) (impure_entries f) (impures_given f) asks)
+      look_finds (record { test = λ (k : ℕ × ℕ). (k.0 == t) && (k.1 == before); key = (t, before); means = place_means t before }) (of_place f) m.impure_calls (all_given (of_place f) (impure_entries f) (impures_given f) asks)
       (place_same t before) (f.impures t before) (in_flat_map (impure_entries f) asks (of_impure t before) ((t, before), f.impures t before) i (inl refl))
 
 -- 5. sites, all of whose questions are among those asked
@@ -283,7 +298,18 @@ AsksOf f args sites asks = (u : SiteTerm) → In sites u → (q : Question) → 
 pub asks_of_all : (f : TotalMeaning) (args : List Value) (sites : List SiteTerm) → AsksOf f args sites (flat_map (questions_of f args) sites)
 asks_of_all f args sites u i q j = in_flat_map (questions_of f args) sites u q i j
 
-module _ (f : TotalMeaning) (args : List Value) (asks : List Question) (sites : List SiteTerm) (all : AsksOf f args sites asks) where
+-- questions, among which are all of some sites
+pub record QuestionsOf (f : TotalMeaning) (args : List Value) (sites : List SiteTerm) : Type 0 where
+  pub asks : List Question
+  pub all : AsksOf f args sites asks
+
+module _ (f : TotalMeaning) (args : List Value) (sites : List SiteTerm) (questions : QuestionsOf f args sites) where
+  abbrev asks : List Question
+  asks = questions.asks
+
+  abbrev all : AsksOf f args sites asks
+  all = questions.all
+
   abbrev maps : Meaning
   maps = answers_to f asks
 

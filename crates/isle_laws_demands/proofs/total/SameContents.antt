@@ -5,7 +5,7 @@ use Rattle.isle_laws_runs.proofs.runs.Binding.{content_of}
 use Rattle.isle_model.specs.rules.Values.{Value, truth, atom, of_variant, of_struct, Values, value_and}
 use Rattle.isle_model.specs.rules.Meaning.{Content, one, just, Meaning, bool_literal, int_literal, literal_value, constant_value, extractor_answer, pure_answer, impure_answer}
 use Rattle.isle_model.specs.rules.Outcome.{Call, then_option}
-use Rattle.isle_model.specs.rules.Program.{Program}
+use Rattle.isle_model.specs.rules.Program.{Program, rules_of}
 use Rattle.isle_model.specs.rules.Matching.{matches}
 use Rattle.isle_model.specs.rules.Typed.{TypedRule}
 use Rattle.isle_model.specs.rules.Picks.{Pick, picked, field_of_variant, field_of_struct, part_of_some, call_answer, site_content, site_values, HasContent}
@@ -16,13 +16,13 @@ use Rattle.isle_model.specs.sites.DemandedGates.{CanBeTested}
 use Rattle.isle_model.specs.sites.Closure.{DemandsHold}
 use Rattle.isle_model.specs.sites.Serves.{asked_by, asked, constant_site, written_value, Serves}
 use Rattle.isle_model.proofs.Elements.{In, in_from_contains, contains_from_in, in_left, in_right, in_either, in_flat_map}
-use Rattle.isle_laws_runs.proofs.picks.Held.{is_just}
+use Rattle.isle_laws_runs.proofs.picks.HeldContents.{is_just}
 use Rattle.isle_model.proofs.Options.{then_some}
 use Rattle.isle_laws_runs.proofs.taking.CallsIn.{CallsOnly, CallOnly, calls_more, call_more, Known, IsNext, InOrder}
-use Rattle.isle_laws_runs.proofs.taking.Followed.{Followed, goes_on, stops, then_follow, follow_with, answered_call, follow_call, follow, follow_there, result_after}
+use Rattle.isle_laws_runs.proofs.taking.FollowedCalls.{Followed, goes_on, stops, then_follow, follow_with, answered_call, follow_call, follow, follow_there, result_after}
 use Rattle.isle_laws_demands.proofs.matching.Contents.{is_value}
 use Rattle.isle_laws_demands.proofs.outcomes.RightSides.{tested_calls}
-use Rattle.isle_laws_demands.specs.TotalLaws.{TotalMeaning, Agrees}
+use Rattle.isle_laws_demands.specs.TotalLaws.{TotalMeaning, Agrees, Restricts}
 use Rattle.isle_laws_demands.proofs.total.CallsMade.{AllMade, EachMade, MakesCalls}
 
 -- what is there is what is given
@@ -70,8 +70,49 @@ never_on : (a b : List Call) → stops a ≡ goes_on b → ⊥
 never_on a b e = cc
 
 -- 2. contents
-module _ (p : Program) (rs : List TypedRule) (f : TotalMeaning) (m n : Meaning) (am : Agrees m f) (an : Agrees n f) (args : List Value) (sm : Serves p m args rs) (sn : Serves p n args rs)
-    (k : Pick) (r : TypedRule) (listed : Contains rs r) where
+-- total functions, and two finite maps that agree with them and serve a term's rules on one list of arguments
+pub record TwoMaps : Type 0 where
+  pub program : Program
+  pub term : ℕ
+  pub functions : TotalMeaning
+  pub args : List Value
+  pub first : Restricts program functions args (rules_of program term)
+  pub second : Restricts program functions args (rules_of program term)
+
+abbrev pub turned : TwoMaps → TwoMaps
+turned two = record { program = two.program; term = two.term; functions = two.functions; args = two.args; first = two.second; second = two.first }
+
+module _ (two : TwoMaps) (k : Pick) (r : TypedRule) (listed : Contains (rules_of two.program two.term) r) where
+  abbrev p : Program
+  p = two.program
+
+  abbrev rs : List TypedRule
+  rs = rules_of two.program two.term
+
+  abbrev f : TotalMeaning
+  f = two.functions
+
+  abbrev args : List Value
+  args = two.args
+
+  abbrev m : Meaning
+  m = two.first.meaning
+
+  abbrev n : Meaning
+  n = two.second.meaning
+
+  abbrev am : Agrees m f
+  am = two.first.agrees
+
+  abbrev an : Agrees n f
+  an = two.second.agrees
+
+  abbrev sm : Serves p m args rs
+  sm = two.first.serves
+
+  abbrev sn : Serves p n args rs
+  sn = two.second.serves
+
   abbrev d : Demands
   d = demands_of p r
 
@@ -130,7 +171,7 @@ module _ (p : Program) (rs : List TypedRule) (f : TotalMeaning) (m n : Meaning) 
       ∙ sym (there (pure_answer n t vs) (f.pures t vs) _ (sn.pures k t ss vs c (sym a ∙ e)) (an.pures t vs))
 
   mutual
-    same_content : (s : SiteTerm) → AllMade d.made s → CallsOnly Alike s → Alike s
+    pub same_content : (s : SiteTerm) → AllMade d.made s → CallsOnly Alike s → Alike s
     same_content (bool_term b ty) h c = ap from_value (bool_same b ty (ask (bool_term b ty) h))
     same_content (int_term z ty) h c = ap from_value (int_same z ty (ask (int_term z ty) h))
     same_content (prim_term name) h c = ap from_value (prim_same name (ask (prim_term name) h))

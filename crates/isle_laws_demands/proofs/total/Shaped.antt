@@ -82,7 +82,34 @@ module _ (p : Program) where
   extractor_fits t e flags false c there h = subst (λ o. fits_answer p flags.multi true (term_args o) c ≡ true) there h
 
 -- 2. what is held fits
-module _ (p : Program) (uses : Uses) (f : TotalMeaning) (typed : IsWellTyped p uses.matched uses.called f) (m : Meaning) (agrees : Agrees m f) (args : List Value) (given : all_well_typed p.types (Some uses.args) (of_list args) ≡ true) where
+-- a map that agrees with total functions which are well typed for what is used, and well-typed arguments
+pub record TypedMap (p : Program) (uses : Uses) : Type 0 where
+  pub functions : TotalMeaning
+  pub typed : IsWellTyped p uses.matched uses.called functions
+  pub meaning : Meaning
+  pub agrees : Agrees meaning functions
+  pub args : List Value
+  pub given : all_well_typed p.types (Some uses.args) (of_list args) ≡ true
+
+module _ (p : Program) (uses : Uses) (of : TypedMap p uses) where
+  abbrev f : TotalMeaning
+  f = of.functions
+
+  abbrev typed : IsWellTyped p uses.matched uses.called f
+  typed = of.typed
+
+  abbrev m : Meaning
+  m = of.meaning
+
+  abbrev agrees : Agrees m f
+  agrees = of.agrees
+
+  abbrev args : List Value
+  args = of.args
+
+  abbrev given : all_well_typed p.types (Some uses.args) (of_list args) ≡ true
+  given = of.given
+
   constructor_fits : (t : ℕ) (e : TermEntry) (flags : Flags) (infallible : Bool) (c : Content) → slice_get p.terms t ≡ Some e → kind p t ≡ a_call flags infallible → fits_constructor p t (kind p t) c ≡ true
       → fits_answer p flags.multi flags.partial (e.ret_ty ∷ []) c ≡ true
   constructor_fits t e flags infallible c there k h =

@@ -1,7 +1,5 @@
 -- Every well-typed total meaning restricts to finite maps that serve.
 use Rattle.std.proofs.Common.{◌≡◌, ℕ, suc, Bool, true, false, List, [], ◌++◌, Option, Some, IsSomeAnd, IsTrue, Contains, flat_map, sym, ap, ◌∙◌, subst, inl, inr}
-use Rattle.isle_model.specs.lists.Syntax.{Definition}
-use Rattle.isle_model.specs.lists.Elaborated.{TypedRules}
 use Rattle.isle_model.specs.rules.Values.{Value, of_variant, Values, of_list, well_typed, all_well_typed, args_well_typed}
 use Rattle.isle_model.specs.rules.Meaning.{Content, one, Meaning, bool_literal, int_literal}
 use Rattle.isle_model.specs.rules.Outcome.{then_option}
@@ -11,19 +9,13 @@ use Rattle.isle_model.specs.rules.Typed.{TypedRule}
 use Rattle.isle_model.specs.sites.Sites.{Constraint, SiteTerm, bool_term, int_term, prim_term, extractor_call, constructor_call, variant_made, SiteTerms}
 use Rattle.isle_model.specs.sites.Demands.{demands_of}
 use Rattle.isle_model.specs.sites.Serves.{Holds, holds_variant, HoldsAll, asked_by, asked, constant_site, constant_type, typed_as, fits_extractor, fits_constructor, written_value, Serves}
-use Rattle.isle_model.specs.claims.Environments.{TypesRead, IsElaborated, program_of}
 use Rattle.isle_model.proofs.Elements.{In, in_from_contains, contains_from_in, none_some, in_either, in_left, in_flat_map, from_flat_map}
-use Rattle.isle_laws_lists.proofs.FormedRules.{rules_are_formed}
-use Rattle.isle_laws_lists.proofs.TypedRules as typed
-use Rattle.isle_laws_runs.proofs.picks.Held.{contents_are_held_lem}
-use Rattle.isle_laws_demands.proofs.visits.Declared.{program_not_both}
-use Rattle.isle_laws_demands.proofs.visits.Elaborated.{elaborated_rules_hang}
-use Rattle.isle_laws_demands.proofs.matching.NeverMatches.{program_has_types}
-use Rattle.isle_laws_demands.proofs.matching.TypedParts.{program_has_typed_parts}
-use Rattle.isle_laws_demands.proofs.matching.Visits.{of_term}
+use Rattle.isle_laws_lists.specs.WellTypedPrograms.{IsWellTypedProgram}
+use Rattle.isle_laws_runs.proofs.picks.HeldContents.{contents_are_held_lem}
+use Rattle.isle_laws_demands.proofs.visits.BuiltSets.{of_term}
 use Rattle.isle_laws_demands.specs.TotalLaws.{TotalMeaning, matched_in, called_in, matched_terms, called_terms, IsTotalFor, Agrees, Restricts, TotalMeaningsServe, total_value, AgreeingMapsTellApart}
-use Rattle.isle_laws_demands.proofs.total.Listed.{Question, questions_of, answers_to, answers_agree, AsksOf, asks_of_all, bool_answered, int_answered, constant_answered, extractor_answered, pure_answered, impure_answered}
-use Rattle.isle_laws_demands.proofs.total.Shaped.{Uses, HasShape, held_fits, all_held_fit, bool_shape, int_shape, prim_shape, ExtractorShape, extractor_shape, ConstructorShape, pure_shape, impure_shape}
+use Rattle.isle_laws_demands.proofs.total.Listed.{Question, questions_of, answers_to, answers_agree, QuestionsOf, asks_of_all, bool_answered, int_answered, constant_answered, extractor_answered, pure_answered, impure_answered}
+use Rattle.isle_laws_demands.proofs.total.Shaped.{Uses, TypedMap, HasShape, held_fits, all_held_fit, bool_shape, int_shape, prim_shape, ExtractorShape, extractor_shape, ConstructorShape, pure_shape, impure_shape}
 use Rattle.isle_laws_demands.proofs.total.ShapedSites.{rule_shaped}
 
 -- 1. constants that are told apart
@@ -48,10 +40,7 @@ values_held m args k ss vs e =
     made_held (contents_are_held_lem m args k (variant_made 0 0 ss) (one (of_variant 0 0 vs)) (ap (λ (o : Option Values). then_option o (λ ws. Some (one (of_variant 0 0 ws)))) e))
 
 -- 3. the maps serve
-module _ (e : TypesRead) (defs : List Definition) (expand : Bool) (rules : TypedRules) (h : IsElaborated e defs expand rules) (t : ℕ) where
-  abbrev p : Program
-  p = program_of e defs rules.rules
-
+module _ (p : Program) (h : IsWellTypedProgram p) (t : ℕ) where
   abbrev rs : List TypedRule
   rs = rules_of p t
 
@@ -62,34 +51,55 @@ module _ (e : TypesRead) (defs : List Definition) (expand : Bool) (rules : Typed
   asked_shaped : (u : SiteTerm) → Contains (asked p rs) u → HasShape p uses u
   asked_shaped u c =
       let a = from_flat_map (λ (r : TypedRule). asked_by (demands_of p r)) rs u (in_from_contains (asked p rs) u c) in
-      let b = of_term e defs expand rules h t a.0 (contains_from_in rs a.0 a.1) in
-      let formed = (elaborated_rules_hang rules_are_formed typed.lists_agree e defs expand rules h a.0 b.0).0 in
-      let s = rule_shaped p uses (program_has_typed_parts e defs expand rules h) (program_has_types e defs expand rules h) (program_not_both e defs expand rules h) a.0 formed
+      let b = of_term p t a.0 (contains_from_in rs a.0 a.1) in
+      let s = rule_shaped p uses h a.0 (h.rules a.0 b.0).formed
       (λ x i. contains_from_in (matched_terms rs) x (in_flat_map matched_in rs a.0 x a.1 i)) (λ x i. contains_from_in (called_terms rs) x (in_flat_map called_in rs a.0 x a.1 i)) (ap (arg_types p) b.1) in
       elim (in_either (demands_of p a.0).made (flat_map (λ (x : SiteTerm × Constraint). constant_site x.1) (demands_of p a.0).constraints) u a.2) [
         | inl i ↦ s.0 u i
         | inr i ↦ let d = from_flat_map (λ (x : SiteTerm × Constraint). constant_site x.1) (demands_of p a.0).constraints u i in s.1 d.0 d.1 u d.2
       ]
 
-  module _ (f : TotalMeaning) (args : List Value) (well : IsTotalFor p t f) (given : all_well_typed p.types (Some uses.args) (of_list args) ≡ true)
-      (asks : List Question) (all : AsksOf f args (asked p rs) asks) where
+  -- total functions that are well typed for the rules, well-typed arguments, and questions with all that the rules ask
+  pub record Questioned : Type 0 where
+    pub functions : TotalMeaning
+    pub args : List Value
+    pub total : IsTotalFor p t functions
+    pub typed : all_well_typed p.types (Some uses.args) (of_list args) ≡ true
+    pub questions : QuestionsOf functions args (asked p rs)
+
+  module _ (of : Questioned) where
+    abbrev f : TotalMeaning
+    f = of.functions
+
+    abbrev args : List Value
+    args = of.args
+
+    abbrev well : IsTotalFor p t f
+    well = of.total
+
+    abbrev asks : List Question
+    asks = of.questions.asks
+
     abbrev m : Meaning
     m = answers_to f asks
 
     abbrev agrees : Agrees m f
     agrees = answers_agree f asks
 
+    abbrev typed_map : TypedMap p uses
+    typed_map = record { functions = f; typed = well; meaning = m; agrees = agrees; args = args; given = of.typed }
+
     constant_fits : (name ty : ℕ) → constant_type p name ≡ Some ty → typed_as p (constant_type p name) (f.constants name) ≡ true
     constant_fits name ty there = subst (λ o. typed_as p o (f.constants name) ≡ true) (sym there) (well.constants name ty there)
 
     extractor_fits : (u : ℕ) (s : SiteTerm) (v : Value) → ExtractorShape p uses u s → Holds m args s (one v) → fits_extractor p u (kind p u) (f.extractors u v) ≡ true
-    extractor_fits u s v x g = well.extractors u x.entry v x.used x.there x.can (held_fits p uses f well m agrees args given s x.of (one v) g)
+    extractor_fits u s v x g = well.extractors u x.entry v x.used x.there x.can (held_fits p uses typed_map s x.of (one v) g)
 
     pure_fits : (u : ℕ) (ss : SiteTerms) (vs : Values) → ConstructorShape p uses u ss true → HoldsAll m args ss vs → fits_constructor p u (kind p u) (f.pures u vs) ≡ true
-    pure_fits u ss vs x g = well.pures u x.entry vs x.used x.there x.can x.is (all_held_fit p uses f well m agrees args given ss x.of vs g)
+    pure_fits u ss vs x g = well.pures u x.entry vs x.used x.there x.can x.is (all_held_fit p uses typed_map ss x.of vs g)
 
     impure_fits : (u before : ℕ) (ss : SiteTerms) (vs : Values) → ConstructorShape p uses u ss false → HoldsAll m args ss vs → fits_constructor p u (kind p u) (f.impures u before) ≡ true
-    impure_fits u before ss vs x g = well.impures u before x.entry vs x.used x.there x.can x.is (all_held_fit p uses f well m agrees args given ss x.of vs g)
+    impure_fits u before ss vs x g = well.impures u before x.entry vs x.used x.there x.can x.is (all_held_fit p uses typed_map ss x.of vs g)
 
     made_asked : (r : TypedRule) (u : SiteTerm) → Contains rs r → Contains (demands_of p r).made u → Contains (asked p rs) u
     made_asked r u c i =
@@ -109,46 +119,46 @@ module _ (e : TypesRead) (defs : List Definition) (expand : Bool) (rules : Typed
     pub answers_serve : Serves p m args rs
     answers_serve = record {
       bools = λ b ty c.
-          valued _ (f.literals (bool_literal b ty)) (well_typed p.types ty) (bool_answered f args asks (asked p rs) all b ty (is_here (bool_term b ty) c))
+          valued _ (f.literals (bool_literal b ty)) (well_typed p.types ty) (bool_answered f args (asked p rs) of.questions b ty (is_here (bool_term b ty) c))
           (well.bools b ty (bool_shape (asked_shaped (bool_term b ty) c).shaped));
       ints = λ z ty c.
-          valued _ (f.literals (int_literal z ty)) (well_typed p.types ty) (int_answered f args asks (asked p rs) all z ty (is_here (int_term z ty) c))
+          valued _ (f.literals (int_literal z ty)) (well_typed p.types ty) (int_answered f args (asked p rs) of.questions z ty (is_here (int_term z ty) c))
           (well.ints z ty (int_shape (asked_shaped (int_term z ty) c).shaped));
       written_bools = λ b ty c.
-          bool_answered f args asks (asked p rs) all b ty (is_here (bool_term b ty) c) ∙ ap Some (well.written_bools b ty (bool_shape (asked_shaped (bool_term b ty) c).shaped));
-      written_ints = λ z ty c own. int_answered f args asks (asked p rs) all z ty (is_here (int_term z ty) c) ∙ ap Some (well.written_ints z ty own);
+          bool_answered f args (asked p rs) of.questions b ty (is_here (bool_term b ty) c) ∙ ap Some (well.written_bools b ty (bool_shape (asked_shaped (bool_term b ty) c).shaped));
+      written_ints = λ z ty c own. int_answered f args (asked p rs) of.questions z ty (is_here (int_term z ty) c) ∙ ap Some (well.written_ints z ty own);
       prims = λ name c.
           (let x = prim_shape (asked_shaped (prim_term name) c).shaped in
-          valued _ (f.constants name) (typed_as p (constant_type p name)) (constant_answered f args asks (asked p rs) all name (is_here (prim_term name) c)) (constant_fits name x.0 x.1));
+          valued _ (f.constants name) (typed_as p (constant_type p name)) (constant_answered f args (asked p rs) of.questions name (is_here (prim_term name) c)) (constant_fits name x.0 x.1));
       extractors = λ k u s v c i.
           (let g = contents_are_held_lem m args k s (one v) i in
-          answered _ (f.extractors u v) (fits_extractor p u (kind p u)) (extractor_answered f args asks (asked p rs) all u s v (is_here (extractor_call u s) c) g)
+          answered _ (f.extractors u v) (fits_extractor p u (kind p u)) (extractor_answered f args (asked p rs) of.questions u s v (is_here (extractor_call u s) c) g)
           (extractor_fits u s v (extractor_shape (asked_shaped (extractor_call u s) c).shaped) g));
       pures = λ k u ss vs c i.
           (let g = values_held m args k ss vs i in
-          answered _ (f.pures u vs) (fits_constructor p u (kind p u)) (pure_answered f args asks (asked p rs) all u ss vs (is_here (constructor_call u ss 0) c) g)
+          answered _ (f.pures u vs) (fits_constructor p u (kind p u)) (pure_answered f args (asked p rs) of.questions u ss vs (is_here (constructor_call u ss 0) c) g)
           (pure_fits u ss vs (pure_shape (asked_shaped (constructor_call u ss 0) c).shaped) g));
       impures = λ k r u before ss vs c matched i had j.
           (let g = values_held m args k ss vs j in
           let a = made_asked r (constructor_call u ss (suc before)) c i in
-          answered _ (f.impures u before) (fits_constructor p u (kind p u)) (impure_answered f args asks (asked p rs) all u before ss (is_here (constructor_call u ss (suc before)) a))
+          answered _ (f.impures u before) (fits_constructor p u (kind p u)) (impure_answered f args (asked p rs) of.questions u before ss (is_here (constructor_call u ss (suc before)) a))
           (impure_fits u before ss vs (impure_shape (asked_shaped (constructor_call u ss (suc before)) a).shaped) g));
     }
 
 -- for all questions of the rules and any others
-abbrev pub answers_restrict : (e : TypesRead) (defs : List Definition) (expand : Bool) (rules : TypedRules) (t : ℕ) (f : TotalMeaning) (args : List Value)
-    → IsElaborated e defs expand rules → IsTotalFor (program_of e defs rules.rules) t f
-    → args_well_typed (program_of e defs rules.rules).types (arg_types (program_of e defs rules.rules) t) args ≡ true → (more : List Question)
-    → Restricts (program_of e defs rules.rules) f args (rules_of (program_of e defs rules.rules) t)
-answers_restrict e defs expand rules t f args h well given more =
-    let p = program_of e defs rules.rules in
+abbrev pub answers_restrict : (p : Program) (t : ℕ) (f : TotalMeaning) (args : List Value)
+    → IsWellTypedProgram p → IsTotalFor p t f
+    → args_well_typed p.types (arg_types p t) args ≡ true → (more : List Question)
+    → Restricts p f args (rules_of p t)
+answers_restrict p t f args h well given more =
     let sites = asked p (rules_of p t) in
     let asks = flat_map (questions_of f args) sites ++ more in
     record {
       meaning = answers_to f asks;
       agrees = answers_agree f asks;
-      serves = answers_serve e defs expand rules h t f args well given asks (λ u i q j. in_left (flat_map (questions_of f args) sites) more q (asks_of_all f args sites u i q j));
+      serves = answers_serve p h t
+          (record { functions = f; args = args; total = well; typed = given; questions = record { asks = asks; all = λ u i q j. in_left (flat_map (questions_of f args) sites) more q (asks_of_all f args sites u i q j) } });
     }
 
 pub total_meanings_serve_lem : TotalMeaningsServe
-total_meanings_serve_lem e defs expand rules t f args h well given = answers_restrict e defs expand rules t f args h well given []
+total_meanings_serve_lem p t f args h well given = answers_restrict p t f args h well given []

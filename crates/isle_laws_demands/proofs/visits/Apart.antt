@@ -2,12 +2,16 @@
 use Rattle.std.proofs.Common.{◌≡◌, ℕ, Bool, true, false, List, [], ◌∷◌, Contains, refl, sym, ap, subst, inl, inr, ◌∙◌}
 use Rattle.std.proofs.lemmas.Bool.{false≢true}
 use Rattle.isle_model.specs.lists.Tables.{Flags}
-use Rattle.isle_model.specs.rules.Program.{Program, a_call, kind, flags_of, is_multi}
-use Rattle.isle_model.specs.sites.Sites.{Constraint, is_present, SiteTerm, extractor_call, constructor_call, some_part, SiteTerms}
+use Rattle.isle_model.specs.rules.Program.{Program, a_call, kind, flags_of, is_multi, rules_of}
+use Rattle.isle_model.specs.sites.Sites.{Constraint, is_present, SiteTerm, extractor_call, constructor_call, some_part, SiteTerms, unfold_site}
+use Rattle.isle_model.specs.sites.Overlap.{BuiltRule, built_rule}
+use Rattle.isle_model.specs.sites.RuleSets.{IsRuleOf}
 use Rattle.isle_model.specs.rules.Typed.{TypedRule}
-use Rattle.isle_model.specs.sites.Demands.{Demands, demands_of, Visit, making, asking, equating, iterating, calling, unwraps, unwraps_all, asking_all}
+use Rattle.isle_model.specs.sites.Demands.{Demands, demands_of, Visit, making, asking, equating, iterating, calling, unwraps, unwraps_all, asking_all, counting}
 use Rattle.isle_model.specs.sites.Closure.{field_terms, Joined, given, itself, turned, chained, at_field, closed}
 use Rattle.isle_model.proofs.Elements.{In, in_from_contains, in_either, in_slice}
+use Rattle.isle_laws_demands.specs.VisitLaws.{NoRuleAsksAndGoesOver}
+use Rattle.isle_laws_demands.proofs.visits.Built.{set_rule, was_built}
 use Rattle.isle_laws_demands.proofs.closure.Closing.{closing_is_sound_lem}
 use Rattle.isle_model.specs.sites.DemandedGates.{IsMultiCall, HasNoPartialMulti, GoesOverMultiCalls}
 use Rattle.isle_laws_demands.proofs.closure.Owners.{by_field}
@@ -101,6 +105,7 @@ module _ (p : Program) (neither : HasNoPartialMulti p) where
         part_plain (constructor_call t us i) (λ k. neither t k (ap (λ x. (flags_of x).partial) e ∙ f)) (all_unwrapped d us m);
     pick = λ d t i us c n m. (λ k. k, all_unwrapped d us m);
     call = λ d t i us flags b e f g n m. (not_multi t flags b e g, all_unwrapped d us m);
+    counts = λ c v h. onward v.demands (counting c v).demands (record { asked = h.asked; equal = h.equal; calls = h.calls });
     makes = λ ts v h. onward v.demands (making ts v).demands (record { asked = h.asked; equal = h.equal; calls = h.calls });
     calls = λ s v h m. onward v.demands (calling s v).demands (record { asked = h.asked; equal = h.equal; calls = h.calls });
     equates = λ a b v h m n. onward v.demands (equating a b v).demands (by_equating (λ w. IsApart w.demands) a b v h (after_equated a b v h m.0 n.0));
@@ -113,7 +118,7 @@ module _ (p : Program) (neither : HasNoPartialMulti p) where
     iterates_extractor = λ t s v flags b e f c n h m.
         let call = extractor_call t s in
         record { onward = onward v.demands (iterating call v).demands (after_iterating call v h (its_multi t flags b e ∙ f)); site = (λ k. k, m.1) };
-    iterates_constructor = λ t i us v flags b e f h.
+    iterates_constructor = λ t i us v flags b e f n m h.
         let call = constructor_call t us i in onward v.demands (iterating call v).demands (after_iterating call v h (its_multi t flags b e ∙ f));
   }
 
@@ -146,3 +151,10 @@ multi_calls_are_gone_over_lem p r n = record {
   asked = λ u c i. (rule_apart p n r).asked (u, c) (in_from_contains (demands_of p r).constraints (u, c) i);
   equal = λ u w i. (rule_apart p n r).equal (u, w) (in_from_contains (demands_of p r).equalities (u, w) i);
 }
+
+pub no_rule_asks_and_goes_over_lem : NoRuleAsksAndGoesOver
+no_rule_asks_and_goes_over_lem p t set h b r i n c k j =
+    let x = set_rule (record { program = p; term = t; set = set; built = b }) r (in_from_contains set.rules r i) in
+    let w = was_built p [] (rules_of p t) x.typed x.listed in
+    let q : IsRuleOf p set.sites (built_rule p w.before w.rule) r = subst (λ (y : BuiltRule). IsRuleOf p set.sites y r) (sym w.same) x.is in
+    none_asked_and_gone_over_lem p w.rule w.before h.not_both (unfold_site set.sites n) c (q.constraints.asked n c k).1 (q.iterators.gone_over n j).1

@@ -12,14 +12,18 @@ use Rattle.isle_model.specs.trees.SetRuns.{IsUnwrap}
 use Rattle.isle_model.specs.sites.Closure.{IsUnreachable, closed}
 use Rattle.isle_model.specs.sites.Limits.{sites_after_rule}
 use Rattle.isle_model.specs.sites.Overlap.{BuiltRule, is_built, built_rule, built_from, built_rules}
-use Rattle.isle_model.specs.sites.RuleSets.{IsRuleOf, AreRulesOfSet, IsBuilt}
-use Rattle.isle_model.proofs.Elements.{In, in_from_contains, contains_from_in, in_either, any_in, from_flat_map, in_filter}
+use Rattle.isle_model.specs.sites.RuleSets.{IsRuleOf, AreRulesOfSet}
+use Rattle.isle_model.specs.claims.SetMeanings.{AreOneRule}
+use Rattle.isle_model.proofs.Elements.{In, in_from_contains, contains_from_in, none_some, some_is, in_either, in_slice, any_in, from_flat_map}
 use Rattle.isle_laws_demands.proofs.closure.BuiltRules.{reachable}
 use Rattle.isle_model.specs.sites.DemandedGates.{AsksAnswer, IsPureCall, GatesDemanded, AllGatesDemanded, ClosedCanBeTested, DemandsGates}
 use Rattle.isle_laws_demands.proofs.visits.Unfolding.{unfolds}
+use Rattle.isle_laws_lists.specs.WellTypedPrograms.{IsWellTypedRule, IsWellTypedProgram}
+use Rattle.isle_laws_demands.proofs.visits.BuiltSets.{BuiltSet, RuleOfSet, of_term, typed_rule}
 use Rattle.isle_laws_demands.proofs.visits.Once.{one_number}
-use Rattle.isle_laws_demands.proofs.visits.Gates.{gates_stay}
+use Rattle.isle_laws_demands.proofs.visits.Gates.{asking_of, gates_stay}
 use Rattle.isle_laws_demands.proofs.visits.Closing.{closing_keeps_gates_lem}
+use Rattle.isle_laws_demands.proofs.visits.Rules.{formed_rules_demand_gates_lem}
 
 -- 1. the rules of a set
 pub rule_at : (p : Program) (sites : List Site) (bs : List BuiltRule) (rs : List SetRule) → AreRulesOfSet p sites bs rs → (r : SetRule) → In rs r → (b : BuiltRule) × In bs b × IsRuleOf p sites b r
@@ -28,6 +32,28 @@ rule_at p sites [] (q ∷ rs) h r i = absurd h
 rule_at p sites (b ∷ bs) [] h r i = absurd h
 rule_at p sites (b ∷ bs) (q ∷ rs) h r (inl e) = (b, inl refl, subst (IsRuleOf p sites b) e h.0)
 rule_at p sites (b ∷ bs) (q ∷ rs) h r (inr i) = let k = rule_at p sites bs rs h.1 r i in (k.0, inr k.1, k.2)
+
+-- each stands for a built rule
+abbrev pub set_rule : (s : BuiltSet) (r : SetRule) → In s.set.rules r → RuleOfSet s
+set_rule s r i =
+    let a = rule_at s.program s.set.sites (built_rules s.program s.term) s.set.rules s.built.rules r i in
+    record { typed = a.0; listed = a.1; rule = r; is = a.2 }
+
+pub rule_at_place : (p : Program) (sites : List Site) (bs : List BuiltRule) (rs : List SetRule) → AreRulesOfSet p sites bs rs → (k : ℕ) (b : BuiltRule) (r : SetRule)
+    → slice_get bs k ≡ Some b → slice_get rs k ≡ Some r → IsRuleOf p sites b r
+rule_at_place p sites [] rs h k b r x y = absurd (none_some b x)
+rule_at_place p sites (a ∷ bs) [] h k b r x y = absurd (none_some r y)
+rule_at_place p sites (a ∷ bs) (q ∷ rs) h zero b r x y = subst (λ d. IsRuleOf p sites d r) (some_is a b x) (subst (IsRuleOf p sites a) (some_is q r y) h.0)
+rule_at_place p sites (a ∷ bs) (q ∷ rs) h (suc k) b r x y = rule_at_place p sites bs rs h.1 k b r x y
+
+-- so do a built rule and a rule of the set at one place
+abbrev pub stands_for : (s : BuiltSet) (b : BuiltRule) (r : SetRule) → AreOneRule s.program s.term s.set b r → RuleOfSet s
+stands_for s b r same = record {
+  typed = b;
+  listed = in_slice (built_rules s.program s.term) same.place b same.typed;
+  rule = r;
+  is = rule_at_place s.program s.set.sites (built_rules s.program s.term) s.set.rules s.built.rules same.place b r same.typed same.built;
+}
 
 -- a built rule is one of these, after some sites
 pub record WasBuilt (p : Program) (rs : List TypedRule) (b : BuiltRule) : Type 0 where
@@ -49,14 +75,27 @@ was_built p before (r ∷ rs) b i =
     here true e j = elim j [ inl s ↦ record { rule = r; before = before; listed = inl refl; built = e; same = s } | inr n ↦ absurd n ]
     here false e j = absurd j
 
+-- the rules of a term are built of its typed rules
+pub root_of_built : (p : Program) (t : ℕ) (b : BuiltRule) → In (built_rules p t) b → b.rule.root_term ≡ t
+root_of_built p t b i =
+    let w = was_built p [] (rules_of p t) b i in
+    subst (λ (k : BuiltRule). k.rule.root_term ≡ t) w.same (of_term p t w.rule (contains_from_in (rules_of p t) w.rule w.listed)).1
+
+pub typed_built : (p : Program) (t : ℕ) (b : BuiltRule) → IsWellTypedProgram p → In (built_rules p t) b → IsWellTypedRule p b.rule
+typed_built p t b h i =
+    let w = was_built p [] (rules_of p t) b i in
+    subst (λ (k : BuiltRule). IsWellTypedRule p k.rule) w.same (typed_rule p t w.rule h (contains_from_in (rules_of p t) w.rule w.listed))
+
 -- the gates of a built rule
 pub record BuiltGates (p : Program) (b : BuiltRule) : Type 0 where
   pub tested : ClosedCanBeTested (demands_of p b.rule).iterators b.demands
   pub impure : (u : SiteTerm) → In (demands_of p b.rule).impure u → GatesDemanded false false b.demands.constraints (demands_of p b.rule).iterators u
   pub result : GatesDemanded false false b.demands.constraints (demands_of p b.rule).iterators (result_of p b.rule)
 
-pub built_gates : (p : Program) (t : ℕ) → ((r : TypedRule) → Contains p.rules r → DemandsGates p r) → (b : BuiltRule) → In (built_rules p t) b → BuiltGates p b
-built_gates p t f b i = subst (BuiltGates p) w.same (of w.rule w.before (f w.rule (contains_from_in p.rules w.rule (in_filter (λ r. r.root_term == t) p.rules w.rule w.listed))) (reachable p w.before w.rule w.built))
+pub built_gates : (p : Program) (t : ℕ) (b : BuiltRule) → IsWellTypedProgram p → In (built_rules p t) b → BuiltGates p b
+built_gates p t b h i =
+    let typed = typed_rule p t w.rule h (contains_from_in (rules_of p t) w.rule w.listed) in
+    subst (BuiltGates p) w.same (of w.rule w.before (formed_rules_demand_gates_lem p w.rule typed.formed typed.pure_iflets) (reachable p w.before w.rule w.built))
   where
     w : WasBuilt p (rules_of p t) b
     w = was_built p [] (rules_of p t) b i
@@ -64,7 +103,8 @@ built_gates p t f b i = subst (BuiltGates p) w.same (of w.rule w.before (f w.rul
     of : (r : TypedRule) (before : List SiteTerm) → DemandsGates p r → (IsUnreachable (demands_of p r) → ⊥) → BuiltGates p (built_rule p before r)
     of r before g n =
         let c = closing_keeps_gates_lem before (demands_of p r) n g.tested in
-        let stays = gates_stay (demands_of p r).constraints (closed before (demands_of p r)).constraints (demands_of p r).iterators (demands_of p r).iterators (λ x k. c.0 x.0 x.1 k) (λ x k. k) false false in
+        let stays = gates_stay (asking_of (demands_of p r)) (record { constraints = (closed before (demands_of p r)).constraints; calls = (demands_of p r).iterators })
+        (record { constraints = λ x k. c.0 x.0 x.1 k; calls = λ x k. k }) false false in
         record {
           tested = c.1;
           impure = λ u k. stays u (g.impure u (contains_from_in (demands_of p r).impure u k));
@@ -102,7 +142,22 @@ site_there [] k l = absurd (omega arith)
 site_there (x ∷ xs) zero l = (x, refl)
 site_there (x ∷ xs) (suc k) l = site_there xs k (omega arith)
 
-module _ (p : Program) (t : ℕ) (set : SiteSet) (h : IsBuilt p t set) (b : BuiltRule) (r : SetRule) (q : IsRuleOf p set.sites b r) (asked pure : Bool) where
+module _ (s : BuiltSet) (x : RuleOfSet s) (asked pure : Bool) where
+  abbrev p : Program
+  p = s.program
+
+  abbrev set : SiteSet
+  set = s.set
+
+  abbrev b : BuiltRule
+  b = x.typed
+
+  abbrev r : SetRule
+  r = x.rule
+
+  abbrev q : IsRuleOf p set.sites b r
+  q = x.is
+
   abbrev Good : SiteTerm → Type 0
   Good u = GatesDemanded asked pure b.demands.constraints (demands_of p b.rule).iterators u
 
@@ -111,16 +166,16 @@ module _ (p : Program) (t : ℕ) (set : SiteSet) (h : IsBuilt p t set) (b : Buil
 
   -- the constraint of a site stands at its number
   constrained : (s : ℕ) (c : Constraint) → s < length set.sites → Contains b.demands.constraints (at s, c) → In r.constraints (s, c)
-  constrained s c l k =
-      let a = q.constraints.all_asked (at s) c k in
+  constrained n c l k =
+      let a = q.constraints.all_asked (at n) c k in
       let m = q.constraints.asked a.0 c a.1 in
-      subst (λ n. In r.constraints (n, c)) (one_number p t set h a.0 s m.0 l a.2) (in_from_contains r.constraints (a.0, c) a.1)
+      subst (λ m. In r.constraints (m, c)) (one_number p s.term set s.built a.0 n m.0 l a.2) (in_from_contains r.constraints (a.0, c) a.1)
 
   gone_over : (s : ℕ) → s < length set.sites → Contains (demands_of p b.rule).iterators (at s) → is_in s r.iterators ≡ true
-  gone_over s l k =
-      let a = q.iterators.all_gone_over (at s) k in
+  gone_over n l k =
+      let a = q.iterators.all_gone_over (at n) k in
       let m = q.iterators.gone_over a.0 a.1 in
-      any_in (λ y. y == s) r.iterators a.0 (in_from_contains r.iterators a.0 a.1) (eq-eqb a.0 s (one_number p t set h a.0 s m.0 l a.2))
+      any_in (λ y. y == n) r.iterators a.0 (in_from_contains r.iterators a.0 a.1) (eq-eqb a.0 n (one_number p s.term set s.built a.0 n m.0 l a.2))
 
   layer_gate : (s : Site) → ((a : ℕ) → In (sources_of s) a → a < length set.sites) → Good (layer at s) → HasGate asked r (Some s)
   layer_gate (bool_site x ty) f g = gate_there asked r (Some (bool_site x ty)) refl
@@ -197,27 +252,27 @@ module _ (p : Program) (t : ℕ) (set : SiteSet) (h : IsBuilt p t set) (b : Buil
   layer_sources (match_tuple_site source field) g a i = only source a g i
 
   -- a site, and all below it
-  pub below_good : (n s : ℕ) → s < length set.sites → Good (at s) → (u : ℕ) → In (below n set.sites s) u → IsGood asked pure set.sites r u
-  below_good zero s l g u i = absurd i
-  below_good (suc n) s l g u i = by (below_good n) i
+  pub below_good : (n a : ℕ) → a < length set.sites → Good (at a) → (u : ℕ) → In (below n set.sites a) u → IsGood asked pure set.sites r u
+  below_good zero a l g u i = absurd i
+  below_good (suc n) a l g u i = by (below_good n) i
     where
-      x : (x : Site) × (slice_get set.sites s ≡ Some x)
-      x = site_there set.sites s l
+      here : (y : Site) × (slice_get set.sites a ≡ Some y)
+      here = site_there set.sites a l
 
-      layered : Good (layer at x.0)
-      layered = subst Good (unfolds set.sites h.sources s ∙ ap (layer_at at) x.1) g
+      layered : Good (layer at here.0)
+      layered = subst Good (unfolds set.sites s.built.sources a ∙ ap (layer_at at) here.1) g
 
-      listed : (a : ℕ) → In (sources_of x.0) a → In (sources_at set.sites s) a
-      listed a j = subst (λ (o : Option Site). In (elim o as (λ _. List ℕ) [ None ↦ [] | Some k ↦ sources_of k ]) a) (sym x.1) j
+      listed : (c : ℕ) → In (sources_of here.0) c → In (sources_at set.sites a) c
+      listed c j = subst (λ (o : Option Site). In (elim o as (λ _. List ℕ) [ None ↦ [] | Some k ↦ sources_of k ]) c) (sym here.1) j
 
-      unlisted : (a : ℕ) → In (sources_at set.sites s) a → In (sources_of x.0) a
-      unlisted a j = subst (λ (o : Option Site). In (elim o as (λ _. List ℕ) [ None ↦ [] | Some k ↦ sources_of k ]) a) x.1 j
+      unlisted : (c : ℕ) → In (sources_at set.sites a) c → In (sources_of here.0) c
+      unlisted c j = subst (λ (o : Option Site). In (elim o as (λ _. List ℕ) [ None ↦ [] | Some k ↦ sources_of k ]) c) here.1 j
 
-      known : (a : ℕ) → In (sources_at set.sites s) a → a < length set.sites
-      known a j = let k : a < s = h.sources s a (contains_from_in (sources_at set.sites s) a j) in omega (arith, k, l)
+      known : (c : ℕ) → In (sources_at set.sites a) c → c < length set.sites
+      known c j = let k : c < a = s.built.sources a c (contains_from_in (sources_at set.sites a) c j) in omega (arith, k, l)
 
-      by : ((a : ℕ) → a < length set.sites → Good (at a) → (w : ℕ) → In (below n set.sites a) w → IsGood asked pure set.sites r w) → In (s ∷ flat_map (below n set.sites) (sources_at set.sites s)) u → IsGood asked pure set.sites r u
-      by deeper (inl e) = subst (IsGood asked pure set.sites r) e (record { site = x.0; there = x.1; gate = layer_gate x.0 (λ a j. known a (listed a j)) layered; pure_site = layer_pure x.0 layered })
+      by : ((c : ℕ) → c < length set.sites → Good (at c) → (w : ℕ) → In (below n set.sites c) w → IsGood asked pure set.sites r w) → In (a ∷ flat_map (below n set.sites) (sources_at set.sites a)) u → IsGood asked pure set.sites r u
+      by deeper (inl e) = subst (IsGood asked pure set.sites r) e (record { site = here.0; there = here.1; gate = layer_gate here.0 (λ c j. known c (listed c j)) layered; pure_site = layer_pure here.0 layered })
       by deeper (inr j) =
-          let m = from_flat_map (below n set.sites) (sources_at set.sites s) u j in
-          deeper m.0 (known m.0 m.1) (layer_sources x.0 layered m.0 (unlisted m.0 m.1)) u m.2
+          let m = from_flat_map (below n set.sites) (sources_at set.sites a) u j in
+          deeper m.0 (known m.0 m.1) (layer_sources here.0 layered m.0 (unlisted m.0 m.1)) u m.2

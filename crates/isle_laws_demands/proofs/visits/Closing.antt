@@ -9,7 +9,7 @@ use Rattle.isle_model.proofs.Elements.{In, in_from_contains, contains_from_in, i
 use Rattle.isle_model.proofs.SitesMade.{has_in}
 use Rattle.isle_laws_demands.proofs.closure.Closing.{closing_keeps, OneEach, constraints_in, in_constraints, constraints_kept, one_each, FollowsSoFar, in_class_joined, constraint_carried, next_asked, taken_follows, before_closing_follows, in_order_follows, from_constraints, keeps_all, one_demanded}
 use Rattle.isle_model.specs.sites.DemandedGates.{GatesDemanded, CanBeTested, ClosedCanBeTested}
-use Rattle.isle_laws_demands.proofs.visits.Gates.{gates_stay}
+use Rattle.isle_laws_demands.proofs.visits.Gates.{asking_of, gates_stay}
 
 -- 1. members of classes
 module _ (P : SiteTerm → Type 0) where
@@ -96,8 +96,8 @@ module _ (d : Demands) (reachable : IsUnreachable d → ⊥) (tested : CanBeTest
 
       stays : (u : SiteTerm) → GatesDemanded true true k.constraints d.iterators u → GatesDemanded true true (with_constraints k.constraints each) d.iterators u
       stays =
-          gates_stay k.constraints (with_constraints k.constraints each) d.iterators d.iterators
-          (λ x j. contains_from_in (with_constraints k.constraints each) x (keeps_all k.constraints each x (in_from_contains k.constraints x j))) (λ x j. j) true true
+          gates_stay (record { constraints = k.constraints; calls = d.iterators }) (record { constraints = with_constraints k.constraints each; calls = d.iterators })
+          (record { constraints = λ x j. contains_from_in (with_constraints k.constraints each) x (keeps_all k.constraints each x (in_from_contains k.constraints x j)); calls = λ x j. j }) true true
 
       in_class : (m : SiteTerm) → In (ascending k.made (class_at k.classes c.0)) m → In (class_at k.classes c.0) m
       in_class m j = has_in (class_at k.classes c.0) m (passed_filter (has_site (class_at k.classes c.0)) k.made m j)
@@ -153,8 +153,8 @@ module _ (d : Demands) (reachable : IsUnreachable d → ⊥) (tested : CanBeTest
 
       stays : (u : SiteTerm) → GatesDemanded true true d.constraints d.iterators u → GatesDemanded true true (with_constraints [] d.constraints) d.iterators u
       stays =
-          gates_stay d.constraints (with_constraints [] d.constraints) d.iterators d.iterators
-          (λ x j. contains_from_in (with_constraints [] d.constraints) x (kept x (in_from_contains d.constraints x j))) (λ x j. j) true true
+          gates_stay (asking_of d) (record { constraints = with_constraints [] d.constraints; calls = d.iterators })
+          (record { constraints = λ x j. contains_from_in (with_constraints [] d.constraints) x (kept x (in_from_contains d.constraints x j)); calls = λ x j. j }) true true
 
   in_order_tested : (k : Closed) → IsTestedSoFar k → IsTestedSoFar (in_order k)
   in_order_tested k f = record {

@@ -13,7 +13,8 @@ use Rattle.isle_model.specs.lists.Setting.{expr_type, has_constructor}
 use Rattle.isle_model.specs.lists.Formed.{var_type, with_new, is_formed_expr, are_formed_args, formed_lets}
 use Rattle.isle_model.proofs.Elements.{some_is}
 use Rattle.isle_model.specs.sites.DemandedGates.{AsksAnswer, IsPureCall, AllGatesDemanded, IsPureExpr, ArePureExprs, ArePureLets}
-use Rattle.isle_laws_demands.proofs.visits.Calls.{NewCalls, no_call, then_calls, one_call, CallsAlone, CallAlone, LetsCallAlone}
+use Rattle.isle_model.specs.rules.CalledTerms.{CallsAlone, CallAlone, LetsCallAlone}
+use Rattle.isle_laws_demands.proofs.visits.Calls.{NewCalls, no_call, then_calls, one_call}
 use Rattle.isle_laws_demands.proofs.visits.Gates.{unasked}
 use Rattle.isle_laws_demands.proofs.visits.Visited.{Good, Later, good_stays, now, then_later, later_making, later_calling, later_binding, later_iterating, at_right, AreGood, Same, bound_good, good_and, good_later, then_same, same_binding}
 use Rattle.isle_laws_demands.proofs.visits.Patterns.{from_then, from_new}

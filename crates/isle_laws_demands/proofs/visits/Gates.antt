@@ -1,7 +1,7 @@
 -- Gates stay demanded where more is demanded, and the calls that a value unwraps make the difference.
 use Rattle.std.proofs.Common.{ℕ, Bool, true, false, List, Contains, refl, subst, inl, inr}
 use Rattle.isle_model.specs.sites.Sites.{Constraint, is_variant, is_struct, is_present, SiteTerm, bool_term, int_term, prim_term, argument, extractor_call, constructor_call, pick_of, variant_made, variant_field, struct_made, struct_field, some_made, some_part, tuple_part, no_site, SiteTerms, no_site_term, site_term_and}
-use Rattle.isle_model.specs.sites.Demands.{unwraps, unwraps_all}
+use Rattle.isle_model.specs.sites.Demands.{Demands, unwraps, unwraps_all}
 use Rattle.isle_model.specs.trees.Collects.{calls_in, calls_in_all}
 use Rattle.isle_model.specs.sites.DemandedGates.{AsksAnswer, IsPureCall, GatesDemanded, AllGatesDemanded}
 use Rattle.isle_model.proofs.Elements.{In, in_left, in_right, in_either}
@@ -10,32 +10,46 @@ use Rattle.isle_model.proofs.Elements.{In, in_left, in_right, in_either}
 abbrev pub AllIn : {X : Type 0} → List X → List X → Type 0
 AllIn xs ys = (x : _) → Contains xs x → Contains ys x
 
-module _ (cs ds : List (SiteTerm × Constraint)) (as' bs : List SiteTerm) (more : AllIn cs ds) (calls : AllIn as' bs) where
-  answer_stays : (asked : Bool) (s : SiteTerm) → AsksAnswer asked cs s → AsksAnswer asked ds s
-  answer_stays true s h = more (s, is_present) h
+-- what is asked: constraints, and calls that are gone over
+pub record Asking : Type 0 where
+  pub constraints : List (SiteTerm × Constraint)
+  pub calls : List SiteTerm
+
+-- by demands
+abbrev pub asking_of : Demands → Asking
+asking_of d = record { constraints = d.constraints; calls = d.iterators }
+
+-- no less is asked
+pub record AsksMore (a b : Asking) : Type 0 where
+  pub constraints : AllIn a.constraints b.constraints
+  pub calls : AllIn a.calls b.calls
+
+module _ (less more : Asking) (grown : AsksMore less more) where
+  answer_stays : (asked : Bool) (s : SiteTerm) → AsksAnswer asked less.constraints s → AsksAnswer asked more.constraints s
+  answer_stays true s h = grown.constraints (s, is_present) h
   answer_stays false s h = tt
 
   mutual
-    pub gates_stay : (asked pure : Bool) (u : SiteTerm) → GatesDemanded asked pure cs as' u → GatesDemanded asked pure ds bs u
+    pub gates_stay : (asked pure : Bool) (u : SiteTerm) → GatesDemanded asked pure less.constraints less.calls u → GatesDemanded asked pure more.constraints more.calls u
     gates_stay a p (bool_term b ty) h = tt
     gates_stay a p (int_term z ty) h = tt
     gates_stay a p (prim_term name) h = tt
     gates_stay a p (argument i) h = tt
     gates_stay a p (extractor_call t u) h = gates_stay a p u h
     gates_stay a p (constructor_call t args i) h = (h.0, all_stay a p args h.1)
-    gates_stay a p (pick_of u) h = (calls u h.0, gates_stay a p u h.1)
+    gates_stay a p (pick_of u) h = (grown.calls u h.0, gates_stay a p u h.1)
     gates_stay a p (variant_made ty variant fields) h = all_stay a p fields h
     gates_stay a p (variant_field u variant f) h =
-        (record { ty = h.0.ty; fields = h.0.fields; asked = more (u, is_variant h.0.ty variant h.0.fields) h.0.asked; many = h.0.many }, gates_stay a p u h.1)
+        (record { ty = h.0.ty; fields = h.0.fields; asked = grown.constraints (u, is_variant h.0.ty variant h.0.fields) h.0.asked; many = h.0.many }, gates_stay a p u h.1)
     gates_stay a p (struct_made ty fields) h = all_stay a p fields h
     gates_stay a p (struct_field u f) h =
-        (record { ty = h.0.ty; fields = h.0.fields; asked = more (u, is_struct h.0.ty h.0.fields) h.0.asked; many = h.0.many }, gates_stay a p u h.1)
+        (record { ty = h.0.ty; fields = h.0.fields; asked = grown.constraints (u, is_struct h.0.ty h.0.fields) h.0.asked; many = h.0.many }, gates_stay a p u h.1)
     gates_stay a p (some_made u) h = gates_stay a p u h
     gates_stay a p (some_part u) h = (answer_stays a u h.0, gates_stay a p u h.1)
     gates_stay a p (tuple_part u f) h = gates_stay a p u h
     gates_stay a p no_site h = tt
 
-    pub all_stay : (asked pure : Bool) (us : SiteTerms) → AllGatesDemanded asked pure cs as' us → AllGatesDemanded asked pure ds bs us
+    pub all_stay : (asked pure : Bool) (us : SiteTerms) → AllGatesDemanded asked pure less.constraints less.calls us → AllGatesDemanded asked pure more.constraints more.calls us
     all_stay a p no_site_term h = tt
     all_stay a p (site_term_and u us) h = (gates_stay a p u h.0, all_stay a p us h.1)
 

@@ -135,6 +135,7 @@ fields_kept p = record {
   answer = λ d t i ss flags b e f c n m. part_given d (constructor_call t ss i) refl (all_unwrapped d ss m);
   pick = λ d t i ss c n m. (no_field_given d.constraints (pick_of (constructor_call t ss i)) refl, all_unwrapped d ss m);
   call = λ d t i ss flags b e f g n m. (no_field_given d.constraints (constructor_call t ss i) refl, all_unwrapped d ss m);
+  counts = λ c v h. record { holds = record { asked = h.asked; equal = h.equal; made = h.made }; stays = λ s m. m };
   makes = making_on;
   calls = λ s v h m. calling_on s v h;
   equates = equating_on;
@@ -146,7 +147,7 @@ fields_kept p = record {
   iterates_extractor = λ t s v flags b e f c n h m.
       let call = extractor_call t s in
       record { onward = iterating_on call v h; site = (no_field_given v.demands.constraints (pick_of call) refl, m.1) };
-  iterates_constructor = λ t i ss v flags b e f h. iterating_on (constructor_call t ss i) v h;
+  iterates_constructor = λ t i ss v flags b e f n m h. iterating_on (constructor_call t ss i) v h;
 }
 
 rule_gives : (p : Program) (r : TypedRule) → GivesFields (demands_of p r)

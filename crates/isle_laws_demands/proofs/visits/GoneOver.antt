@@ -14,7 +14,8 @@ use Rattle.isle_model.proofs.Elements.{In, in_left, in_right, in_either, all_in,
 use Rattle.isle_model.specs.sites.DemandedGates.{GatesDemanded, IsPureExpr, ArePureIfLets}
 use Rattle.isle_model.proofs.SitesMade.{has_in}
 use Rattle.isle_laws_demands.proofs.visits.Afresh.{AreAlike, asked_alike, asked_iterators, pattern_alike, AreValuedAlike, expr_alike}
-use Rattle.isle_laws_demands.proofs.visits.Calls.{CallsAlone}
+use Rattle.isle_model.specs.rules.CalledTerms.{CallsAlone}
+use Rattle.isle_laws_lists.specs.WellTypedPrograms.{IsWellTypedRule}
 use Rattle.isle_laws_demands.proofs.visits.Exprs.{IsTotal, expr_valued_by, expr_valued}
 use Rattle.isle_laws_demands.proofs.visits.Gates.{unpurified, gates_of_taken}
 use Rattle.isle_laws_demands.proofs.visits.PatternCalls.{Adds, still_tested, pattern_adds, args_add}
@@ -34,11 +35,11 @@ iflets_calls p (i ∷ is) v v' vars more f h g alike u k =
     let w = asking_all (unwraps x.site) x.visit in
     let z = visit_pattern p i.lhs x.site w in
     let z' = visit_pattern p i.lhs y.site y.visit in
-    let r = iflet_past p i v vars a.value h.0 g a.mid a.pattern in
+    let r = iflet_past p (record { iflet = i; visit = v; vars = vars; formed = a.value; pure = h.0; good = g }) a.mid a.pattern in
     let same : AreValuedAlike v (afresh v') x y = expr_alike p i.rhs v (afresh v') (record { vars = alike.vars; impure_calls = alike.impure_calls }) in
     let after : AreAlike z z' =
     subst (λ t. AreAlike z (visit_pattern p i.lhs t y.visit)) same.site (pattern_alike p i.lhs x.site w y.visit (asked_alike (unwraps x.site) x.visit y.visit same.same.after)) in
-    in_rest p i is v v' x y same w (iflet_tested p i v vars a.value h.0 g) u
+    in_rest p i is v v' x y same w (iflet_tested p (record { iflet = i; visit = v; vars = vars; formed = a.value; pure = h.0; good = g })) u
     (subst (λ l. In l u) (asked_iterators (unwraps x.site) x.visit))
     (iflets_past p is z a.mid more a.rest h.1 r.good)
     (iflets_calls p is z z' a.mid more a.rest h.1 r.good after u k)
@@ -145,9 +146,9 @@ finished_quiet false a h = h
 pub pure_right_side : (p : Program) (r : TypedRule) → (demands_of p r).impure ≡ [] → IsPureExpr p r.rhs
 pure_right_side p r h = (expr_quiet p r.rhs (before_right p r) (finished_quiet (is_partial p r.root_term) (visit_expr p r.rhs (before_right p r)) h)).0
 
-module _ (pure : Bool) (p : Program) (r : TypedRule) (formed : is_formed_rule p r ≡ true) (iflets : ArePureIfLets p r.iflets) (right : pure ≡ true → IsPureExpr p r.rhs) where
+module _ (pure : Bool) (p : Program) (r : TypedRule) (typed : IsWellTypedRule p r) where
   known : IsBeforeRight p r
-  known = is_before_right p r formed iflets
+  known = is_before_right p r typed.formed typed.pure_iflets
 
   variables : AreGood true pure known.vars (before_right p r)
   variables x k = unpurified (before_right p r).demands.constraints (before_right p r).demands.iterators true pure (var_site (before_right p r) x) (known.good x k)
@@ -155,8 +156,8 @@ module _ (pure : Bool) (p : Program) (r : TypedRule) (formed : is_formed_rule p 
   weaken : (v : Visit) (u : SiteTerm) → MayTest v u → Good true pure v u
   weaken v u g = unpurified v.demands.constraints v.demands.iterators true pure u g
 
-  total_calls : CallsAlone (IsTotal p) r.rhs → AreCalled pure (calls_left_by p r) (visit_expr p r.rhs (before_right p r))
-  total_calls total u i =
+  total_calls : (pure ≡ true → IsPureExpr p r.rhs) → CallsAlone (IsTotal p) r.rhs → AreCalled pure (calls_left_by p r) (visit_expr p r.rhs (before_right p r))
+  total_calls right total u i =
       let v = before_right p r in
       let x = expr_valued_by true pure p r.rhs v known.vars known.formed right (λ q. total) variables in
       elim (x.calls u i) [
@@ -175,14 +176,14 @@ module _ (pure : Bool) (p : Program) (r : TypedRule) (formed : is_formed_rule p 
 
   -- where its right side calls no partial term, or no multi term, the gates of the calls that it goes over are demanded,
   -- but for those that are left
-  pub rule_calls : CallsAlone (IsTotal p) r.rhs ⊎ CallsAlone (IsSingle p) r.rhs → (u : SiteTerm) → In (demands_of p r).iterators u
+  pub rule_calls : (pure ≡ true → IsPureExpr p r.rhs) → CallsAlone (IsTotal p) r.rhs ⊎ CallsAlone (IsSingle p) r.rhs → (u : SiteTerm) → In (demands_of p r).iterators u
       → In (calls_left_by p r) u ⊎ GatesDemanded true pure (demands_of p r).constraints (demands_of p r).iterators u
-  rule_calls h =
+  rule_calls right h =
       finished_called pure (calls_left_by p r) (is_partial p r.root_term) (visit_expr p r.rhs (before_right p r))
-      (elim h [ inl total ↦ total_calls total | inr single ↦ single_calls single ])
+      (elim h [ inl total ↦ total_calls right total | inr single ↦ single_calls single ])
 
   -- where it calls no partial term, so are those of the result
-  pub rule_result : CallsAlone (IsTotal p) r.rhs → GatesDemanded true pure (demands_of p r).constraints (demands_of p r).iterators (result_of p r)
-  rule_result total =
+  pub rule_result : (pure ≡ true → IsPureExpr p r.rhs) → CallsAlone (IsTotal p) r.rhs → GatesDemanded true pure (demands_of p r).constraints (demands_of p r).iterators (result_of p r)
+  rule_result right total =
       let v = before_right p r in
       finished_good pure (is_partial p r.root_term) (visit_expr p r.rhs v) (expr_valued_by true pure p r.rhs v known.vars known.formed right (λ q. total) variables).site

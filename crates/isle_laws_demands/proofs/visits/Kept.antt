@@ -3,13 +3,14 @@ use Rattle.std.proofs.Common.{ℕ, suc, Bool, true, false, List, [], ◌∷◌}
 use Rattle.isle_model.specs.rules.Program.{Program, kind, is_partial}
 use Rattle.isle_model.specs.rules.Typed.{TypedPattern, match_bind, match_var, match_bool, match_int, match_prim, match_term, match_any, match_and, TypedPatterns, no_typed_pattern, typed_pattern_and, TypedExpr, make_term, make_var, make_bool, make_int, make_prim, make_let, TypedExprs, no_typed_expr, typed_expr_and, TypedLets, no_typed_let, typed_let_and, TypedIfLet, TypedRule}
 use Rattle.isle_model.specs.sites.Sites.{Constraint, is_bool, is_int, is_prim, is_present, SiteTerm, bool_term, int_term, prim_term, argument, some_made}
-use Rattle.isle_model.specs.sites.Demands.{Visit, visit_start, making, asking, equating, binding, var_site, open_term, visit_pattern, visit_each, visit_all, Valued, ValuedAll, visit_term, visit_expr, visit_exprs, visit_lets, unwraps, asking_all, visit_args, visit_iflets, finished, visit_rule}
+use Rattle.isle_model.specs.sites.Demands.{Count, argument_taken, Visit, visit_start, making, counting, asking, equating, binding, var_site, open_term, visit_pattern, visit_each, visit_all, Valued, ValuedAll, visit_term, visit_expr, visit_exprs, visit_lets, unwraps, asking_all, visit_args, visit_iflets, finished, visit_rule, taking_argument}
 
 -- the steps of patterns keep a fact of visits
 pub record KeptByTests (p : Program) (P : Visit → Type 0) : Type 0 where
   pub bound : (x : ℕ) (s : SiteTerm) (v : Visit) → P v → P (binding x s v)
   pub equal : (a b : SiteTerm) (v : Visit) → P v → P (equating a b v)
   pub asked : (s : SiteTerm) (c : Constraint) (v : Visit) → P v → P (asking s c v)
+  pub counted : (c : Count) (v : Visit) → P v → P (counting c v)
   pub opened : (t : ℕ) (s : SiteTerm) (args : TypedPatterns) (v : Visit) → P v → P (open_term (kind p t) t s args v).visit
 
 -- the steps of expressions do
@@ -46,8 +47,9 @@ module _ (p : Program) (P : Visit → Type 0) (k : KeptByTests p P) where
   pub args_kept : ((ts : List SiteTerm) (v : Visit) → P v → P (making ts v)) → (i : ℕ) (qs : List TypedPattern) (v : Visit) → P v → P (visit_args p i qs v)
   args_kept made i [] v h = h
   args_kept made i (q ∷ qs) v h =
-      let u = making (argument i ∷ []) v in
-      args_kept made (suc i) qs (visit_pattern p q (argument i) u) (pattern_kept q (argument i) u (made (argument i ∷ []) v h))
+      let u = taking_argument i v in
+      let c = argument_taken i in
+      args_kept made (suc i) qs (visit_pattern p q (argument i) u) (pattern_kept q (argument i) u (made (argument i ∷ []) (counting c v) (k.counted c v h)))
 
 module _ (p : Program) (P : Visit → Type 0) (k : KeptByValues p P) where
   mutual

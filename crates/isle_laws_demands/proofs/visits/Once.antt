@@ -7,7 +7,7 @@ use Rattle.isle_model.specs.rules.Typed.{TypedRule}
 use Rattle.isle_model.specs.sites.Sites.{Constraint, SiteSet, SiteTerm, unfold_site}
 use Rattle.isle_model.specs.sites.Demands.{Demands, demands_of, with_sites}
 use Rattle.isle_model.specs.sites.Closure.{is_unreachable, field_terms, Closed, class_at, ascending, next_constrained, taken, closing, before_closing, most_closing_steps, closed}
-use Rattle.isle_model.specs.sites.Limits.{most_sites, walked_rule, made_walking, sites_wanted, sites_reached, sites_after_rule, sites_after_rules}
+use Rattle.isle_model.specs.sites.Limits.{RuleLimit, most_sites, passed_in_visit, sites_wanted, sites_until, sites_reached, sites_after_rule, sites_after_rules}
 use Rattle.isle_model.specs.sites.RuleSets.{IsBuilt}
 use Rattle.isle_model.proofs.Elements.{none_some}
 use Rattle.isle_model.proofs.SitesMade.{once_with}
@@ -44,9 +44,11 @@ once_wanted p before r h =
     (once_with before (demands_of p r).made h) (once_closed before (demands_of p r) h)
 
 once_reached : (p : Program) (before : List SiteTerm) (r : TypedRule) → IsDistinct before → IsDistinct (sites_reached p before r)
-once_reached p before r h =
-    either_way IsDistinct (walked_rule p r).ended (with_sites before (made_walking p (walked_rule p r))) (sites_wanted p before r)
-    (once_with before (made_walking p (walked_rule p r)) h) (once_wanted p before r h)
+once_reached p before r h = of (passed_in_visit p r)
+  where
+    of : (o : Option (RuleLimit × ℕ)) → IsDistinct (sites_until p before r o)
+    of (Some passed) = once_with before (take passed.1 (demands_of p r).made) h
+    of None = once_wanted p before r h
 
 pub once_after_rule : (p : Program) (before : List SiteTerm) (r : TypedRule) → IsDistinct before → IsDistinct (sites_after_rule p before r)
 once_after_rule p before r h = distinct_taken most_sites (sites_reached p before r) (once_reached p before r h)

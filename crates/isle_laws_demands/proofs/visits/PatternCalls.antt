@@ -4,11 +4,11 @@ use Rattle.std.proofs.lemmas.Bool.{cases_Bool, cond-true, cond-false}
 use Rattle.isle_model.specs.rules.Program.{Program, Kind, a_variant, a_struct, a_call, unknown, kind}
 use Rattle.isle_model.specs.sites.Sites.{Constraint, is_bool, is_int, is_prim, SiteTerm, argument, extractor_call, pick_of}
 use Rattle.isle_model.specs.rules.Typed.{TypedPattern, match_bind, match_var, match_bool, match_int, match_prim, match_term, match_any, match_and, TypedPatterns, no_typed_pattern, typed_pattern_and}
-use Rattle.isle_model.specs.sites.Demands.{Demands, site_term_eq, Visit, making, asking, equating, iterating, binding, var_site, Opened, open_call, open_term, visit_pattern, visit_each, visit_all, visit_args}
+use Rattle.isle_model.specs.sites.Demands.{Demands, site_term_eq, Visit, making, asking, equating, iterating, binding, var_site, Opened, open_call, open_term, visit_pattern, visit_each, visit_all, visit_args, taking_argument}
 use Rattle.isle_model.proofs.Elements.{In}
 use Rattle.isle_model.specs.sites.DemandedGates.{GatesDemanded}
 use Rattle.isle_laws_demands.proofs.visits.Calls.{NewCalls, one_call}
-use Rattle.isle_laws_demands.proofs.visits.Gates.{AllIn, gates_stay}
+use Rattle.isle_laws_demands.proofs.visits.Gates.{asking_of, AllIn, gates_stay}
 use Rattle.isle_laws_demands.proofs.visits.Visited.{MayTest, good_stays, later_iterating, at_left, equated}
 use Rattle.isle_laws_demands.proofs.visits.Patterns.{term_opened}
 
@@ -22,7 +22,7 @@ adds_nothing : (d : Demands) → Adds d d
 adds_nothing d = record { more = λ x c. c; calls = λ x c. c; fresh = λ u i. inl i }
 
 pub still_tested : (d e : Demands) → Adds d e → (u : SiteTerm) → GatesDemanded true true d.constraints d.iterators u → GatesDemanded true true e.constraints e.iterators u
-still_tested d e a = gates_stay d.constraints e.constraints d.iterators e.iterators a.more a.calls true true
+still_tested d e a = gates_stay (asking_of d) (asking_of e) (record { constraints = a.more; calls = a.calls }) true true
 
 pub then_adds : (c d e : Demands) → Adds c d → Adds d e → Adds c e
 then_adds c d e a b = record {
@@ -108,7 +108,7 @@ module _ (p : Program) where
   pub args_add : (i : ℕ) (qs : List TypedPattern) (v : Visit) → Adds v.demands (visit_args p i qs v).demands
   args_add i [] v = adds_nothing v.demands
   args_add i (q ∷ qs) v =
-      let u = making (argument i ∷ []) v in
+      let u = taking_argument i v in
       let w = visit_pattern p q (argument i) u in
       let a = pattern_adds q (argument i) u tt in
       let b : Adds v.demands u.demands = record { more = λ x c. c; calls = λ x c. c; fresh = λ y j. inl j } in

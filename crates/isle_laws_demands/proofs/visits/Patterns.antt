@@ -7,11 +7,11 @@ use Rattle.isle_model.specs.rules.Program.{Program, Kind, a_variant, a_struct, a
 use Rattle.isle_model.specs.sites.Serves.{constant_type}
 use Rattle.isle_model.specs.sites.Sites.{Constraint, is_variant, is_struct, is_bool, is_int, is_prim, is_present, SiteTerm, extractor_call, pick_of, variant_field, struct_field, some_part, tuple_part}
 use Rattle.isle_model.specs.rules.Typed.{TypedPattern, match_bind, match_var, match_bool, match_int, match_prim, match_term, match_any, match_and, TypedPatterns, no_typed_pattern, typed_pattern_and}
-use Rattle.isle_model.specs.sites.Demands.{Visit, making, asking, equating, iterating, binding, var_site, from_to, pattern_count, Opened, opened, output_sites, part_sites, open_call, open_term, visit_pattern, visit_each, visit_all}
+use Rattle.isle_model.specs.sites.Demands.{Visit, making, asking, equating, iterating, binding, var_site, from_to, pattern_count, Opened, opened, output_sites, part_sites, open_call, open_term, visit_pattern, visit_each, visit_all, outputs_opened, fields_matched, outputs_taken, counting}
 use Rattle.isle_model.specs.lists.Setting.{bool_type, has_extractor}
 use Rattle.isle_model.specs.lists.Formed.{pattern_type, var_type, is_type, with_new, formed_pattern, formed_parts, formed_each}
 use Rattle.isle_model.proofs.Elements.{In, some_is, none_some}
-use Rattle.isle_laws_demands.proofs.visits.Visited.{MayTest, Later, good_stays, now, then_later, later_making, later_binding, later_iterating, later_asking, later_equating, equating_binds, at_right, AreGood, Keeps, keeps_vars, then_keeps, keeps_binding, bound_good, good_and}
+use Rattle.isle_laws_demands.proofs.visits.Visited.{MayTest, Later, good_stays, now, then_later, later_making, later_binding, later_iterating, later_asking, later_equating, equating_binds, at_right, AreGood, Keeps, keeps_vars, then_keeps, keeps_binding, bound_good, good_and, later_counting}
 use Rattle.isle_laws_lists.proofs.FormedParts.{from_if, has_type, has_none}
 pub use Rattle.isle_model.proofs.Options.{then_some as from_then}
 
@@ -55,13 +55,17 @@ output_count s no_typed_pattern = tt
 output_count s (typed_pattern_and q no_typed_pattern) = tt
 output_count s (typed_pattern_and q (typed_pattern_and r rs)) = as_many (tuple_part s) 0 (typed_pattern_and q (typed_pattern_and r rs))
 
-with_parts : (v w : Visit) (s : SiteTerm) (args : TypedPatterns) → Later v w → w.vars ≡ v.vars → MayTest w s → IsOpened v (opened (output_sites s args) (making (part_sites s args) w)) args
-with_parts v w s args l e m = record {
-  later = then_later v w (making (part_sites s args) w) l (later_making (part_sites s args) w);
-  binds = e;
-  inputs = λ u i. output_good w s args u m i;
-  count = output_count s args;
-}
+with_parts : (v w : Visit) (s : SiteTerm) (args : TypedPatterns) → Later v w → w.vars ≡ v.vars → MayTest w s → IsOpened v (outputs_opened s args w) args
+with_parts v w s args l e m =
+    let c = outputs_taken (pattern_count args) in
+    let x = counting c w in
+    let z = making (part_sites s args) x in
+    record {
+      later = then_later v w z l (then_later w x z (later_counting c w) (later_making (part_sites s args) x));
+      binds = e;
+      inputs = λ u i. output_good w s args u m i;
+      count = output_count s args;
+    }
 
 call_opened : (pure multi partial rec infallible : Bool) (t : ℕ) (s : SiteTerm) (args : TypedPatterns) (v : Visit) → MayTest v s
     → IsOpened v (open_call (record { pure = pure; multi = multi; partial = partial; rec = rec }) infallible (extractor_call t s) args v) args
@@ -83,18 +87,20 @@ call_opened pure false partial rec false t s args v m =
 -- a site that is asked for fields
 fields_opened : (field : ℕ → SiteTerm) (c : Constraint) (s : SiteTerm) (args : TypedPatterns) (v : Visit) → MayTest v s
     → ((w : Visit) (i : ℕ) → Contains w.demands.constraints (s, c) → i < pattern_count args → MayTest w s → MayTest w (field i))
-    → IsOpened v (opened (from_to field 0 args) (asking s c (making (from_to field 0 args) v))) args
+    → IsOpened v (opened (from_to field 0 args) (asking s c (making (from_to field 0 args) (counting (fields_matched (pattern_count args)) v)))) args
 fields_opened field c s args v m tested =
     let fields = from_to field 0 args in
-    let w = asking s c (making fields v) in
-    let l = later_asking s c (making fields v) m in
+    let n = fields_matched (pattern_count args) in
+    let x = counting n v in
+    let w = asking s c (making fields x) in
+    let l = later_asking s c (making fields x) m in
     record {
-      later = then_later v (making fields v) w (later_making fields v) l;
+      later = then_later v x w (later_counting n v) (then_later x (making fields x) w (later_making fields x) l);
       binds = refl;
       inputs = λ u i.
           let k = in_numbers field 0 args u i in
           subst (MayTest w) k.2
-          (tested w k.0 (at_right v.demands.constraints (s, c)) (let l : k.0 < 0 + pattern_count args = k.1 in omega arith) (good_stays (making fields v) w l true true s m));
+          (tested w k.0 (at_right v.demands.constraints (s, c)) (let l : k.0 < 0 + pattern_count args = k.1 in omega arith) (good_stays (making fields x) w l true true s m));
       count = as_many field 0 args;
     }
 

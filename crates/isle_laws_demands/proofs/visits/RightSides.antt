@@ -7,7 +7,7 @@ use Rattle.isle_model.specs.rules.Typed.{TypedExpr, make_term, make_var, make_bo
 use Rattle.isle_model.specs.sites.Demands.{Visit, making, iterating, binding, ValuedAll, call_sites, where_multi, visit_call, visit_term, visit_expr, visit_exprs, visit_lets}
 use Rattle.isle_model.proofs.Elements.{In}
 use Rattle.isle_model.specs.sites.DemandedGates.{IsPureExpr, ArePureExprs, ArePureLets}
-use Rattle.isle_laws_demands.proofs.visits.Calls.{CallsAlone, CallAlone, LetsCallAlone}
+use Rattle.isle_model.specs.rules.CalledTerms.{CallsAlone, CallAlone, LetsCallAlone}
 use Rattle.isle_model.proofs.FewElements.{not_nothing}
 
 -- 1. calls of multi terms

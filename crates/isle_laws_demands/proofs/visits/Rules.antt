@@ -6,12 +6,13 @@ use Rattle.isle_model.specs.rules.Outcome.{then_option}
 use Rattle.isle_model.specs.rules.Program.{Program, is_partial}
 use Rattle.isle_model.specs.sites.Sites.{SiteTerm, argument, some_made}
 use Rattle.isle_model.specs.rules.Typed.{TypedPattern, TypedIfLet, TypedRule}
-use Rattle.isle_model.specs.sites.Demands.{demands_of, Visit, visit_start, making, or_no_site, var_site, visit_pattern, Valued, visit_expr, unwraps, asking_all, visit_args, visit_iflets, finished, visit_rule}
+use Rattle.isle_model.specs.sites.Demands.{demands_of, Visit, visit_start, or_no_site, var_site, visit_pattern, Valued, visit_expr, unwraps, asking_all, visit_args, visit_iflets, finished, visit_rule, taking_argument, argument_taken, counting}
 use Rattle.isle_model.specs.lists.Formed.{pattern_type, formed_pattern, is_formed_expr, formed_list, formed_iflets, is_formed_rule}
 use Rattle.isle_model.proofs.Elements.{in_from_contains, some_is, none_some}
 use Rattle.isle_model.specs.sites.DemandedGates.{IsPureExpr, ArePureIfLets, DemandsGates}
-use Rattle.isle_laws_demands.proofs.visits.Gates.{gates_stay, weaker, stronger, unwrapped}
-use Rattle.isle_laws_demands.proofs.visits.Visited.{Good, MayTest, IsSound, Later, good_stays, now, then_later, later_making, asked_binds, asked_more, asked_calls, all_asked, later_asked, AreGood}
+use Rattle.isle_laws_demands.specs.VisitLaws.{WellTypedRulesDemandGates}
+use Rattle.isle_laws_demands.proofs.visits.Gates.{asking_of, gates_stay, weaker, stronger, unwrapped}
+use Rattle.isle_laws_demands.proofs.visits.Visited.{Good, MayTest, IsSound, Later, good_stays, now, then_later, later_making, asked_binds, asked_more, asked_calls, all_asked, later_asked, AreGood, later_counting}
 use Rattle.isle_laws_demands.proofs.visits.Patterns.{from_then, pattern_after}
 use Rattle.isle_laws_demands.proofs.visits.Exprs.{IsValued, expr_valued}
 use Rattle.isle_laws_demands.proofs.visits.RuleParts.{iflet_parts, RuleParts, rule_parts}
@@ -35,15 +36,37 @@ args_past p i (q ∷ qs) [] v vars more f g = absurd (none_some more f)
 args_past p i (q ∷ qs) (ty ∷ tys) v vars more f g =
     let a = from_if (pattern_type q == ty) (then_option (formed_pattern p q vars) (λ after. formed_list p qs tys after)) more f in
     let b = from_then (formed_pattern p q vars) (λ after. formed_list p qs tys after) more a.1 in
-    let u = making (argument i ∷ []) v in
+    let x = counting (argument_taken i) v in
+    let u = taking_argument i v in
     let w = visit_pattern p q (argument i) u in
     let r = pattern_after p q (argument i) u vars b.0 b.1 tt g in
-    then_past v w (visit_args p (suc i) qs w) more (then_later v u w (later_making (argument i ∷ []) v) r.later) (args_past p (suc i) qs tys w b.0 more b.2 r.good)
+    then_past v w (visit_args p (suc i) qs w) more (then_later v u w (then_later v x u (later_counting (argument_taken i) v) (later_making (argument i ∷ []) x)) r.later) (args_past p (suc i) qs tys w b.0 more b.2 r.good)
 
 pub less_good : (pure : Bool) (vars : List (ℕ × ℕ)) (v : Visit) → AreGood true true vars v → AreGood false pure vars v
 less_good pure vars v g x h = weaker v.demands.constraints v.demands.iterators pure (var_site v x) (g x h)
 
-module _ (p : Program) (i : TypedIfLet) (v : Visit) (vars : List (ℕ × ℕ)) (f : is_formed_expr p i.rhs vars ≡ true) (h : IsPureExpr p i.rhs) (g : AreGood true true vars v) where
+-- an if-let where a visit meets it, after some variables that may be tested: its value is well formed, and pure
+pub record IfLetMet (p : Program) : Type 0 where
+  pub iflet : TypedIfLet
+  pub visit : Visit
+  pub vars : List (ℕ × ℕ)
+  pub formed : is_formed_expr p iflet.rhs vars ≡ true
+  pub pure : IsPureExpr p iflet.rhs
+  pub good : AreGood true true vars visit
+
+module _ (p : Program) (of : IfLetMet p) where
+  abbrev i : TypedIfLet
+  i = of.iflet
+
+  abbrev v : Visit
+  v = of.visit
+
+  abbrev vars : List (ℕ × ℕ)
+  vars = of.vars
+
+  abbrev g : AreGood true true vars v
+  g = of.good
+
   abbrev s : SiteTerm
   s = (visit_expr p i.rhs v).site
 
@@ -54,13 +77,13 @@ module _ (p : Program) (i : TypedIfLet) (v : Visit) (vars : List (ℕ × ℕ)) (
   w = asking_all (unwraps s) u
 
   valued : IsValued true vars v (visit_expr p i.rhs v)
-  valued = expr_valued true p i.rhs v vars f (λ q. h) (less_good true vars v g)
+  valued = expr_valued true p i.rhs v vars of.formed (λ q. of.pure) (less_good true vars v g)
 
   -- an if-let's value may be tested, once the calls that it unwraps are asked to answer
   pub iflet_tested : MayTest w s
   iflet_tested =
       stronger w.demands.constraints w.demands.iterators s
-      (gates_stay u.demands.constraints w.demands.constraints u.demands.iterators w.demands.iterators (asked_more (unwraps s) u) (asked_calls (unwraps s) u) false true s valued.site)
+      (gates_stay (asking_of u.demands) (asking_of w.demands) (record { constraints = asked_more (unwraps s) u; calls = asked_calls (unwraps s) u }) false true s valued.site)
       (all_asked (unwraps s) u)
 
   asked_later : Later u w
@@ -81,7 +104,7 @@ pub iflets_past : (p : Program) (is : List TypedIfLet) (v : Visit) (vars more : 
 iflets_past p [] v vars more f h g = nothing_past v vars more f g
 iflets_past p (i ∷ is) v vars more f h g =
     let a = iflet_parts p i is vars more f in
-    let r = iflet_past p i v vars a.value h.0 g a.mid a.pattern in
+    let r = iflet_past p (record { iflet = i; visit = v; vars = vars; formed = a.value; pure = h.0; good = g }) a.mid a.pattern in
     let w = visit_pattern p i.lhs (visit_expr p i.rhs v).site (asking_all (unwraps (visit_expr p i.rhs v).site) (visit_expr p i.rhs v).visit) in
     then_past v w (visit_iflets p is w) more r.later (iflets_past p is w a.mid more a.rest h.1 r.good)
 
@@ -128,3 +151,6 @@ formed_rules_demand_gates_lem p r f h =
       impure = λ u i. d.sound.impure u (in_from_contains (demands_of p r).impure u i);
       result = d.site;
     }
+
+pub well_typed_rules_demand_gates_lem : WellTypedRulesDemandGates
+well_typed_rules_demand_gates_lem p h r c = let w = h.rules r c in formed_rules_demand_gates_lem p r w.formed w.pure_iflets

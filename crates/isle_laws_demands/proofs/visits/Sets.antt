@@ -1,9 +1,8 @@
 -- Built sets are well built, and meet what choosing from them asks.
-use Rattle.std.proofs.Common.{◌≡◌, ◌⊎◌, ℕ, suc, ◌==◌, ◌<◌, Bool, true, false, ◌&&◌, ◌||◌, List, [], ◌∷◌, ◌++◌, length, map, get_or, Some, slice_get, IsTrue, All, flat_map, refl, sym, ap, ◌∙◌, subst, inl, inr, arith, eq-eqb, eqb-true}
+use Rattle.std.proofs.Common.{◌≡◌, ◌⊎◌, ℕ, suc, ◌==◌, ◌<◌, true, false, ◌&&◌, ◌||◌, List, [], ◌∷◌, ◌++◌, length, map, get_or, Some, slice_get, IsTrue, All, flat_map, refl, sym, ap, ◌∙◌, subst, inl, inr, arith, eq-eqb, eqb-true}
 use Rattle.std.proofs.lemmas.Bool.{cases_Bool, cond-true, cond-false, and_from}
 use Rattle.std.proofs.lemmas.Option.{slice_get-get_or}
 use Rattle.isle_model.proofs.Members.{constraint_in}
-use Rattle.isle_model.specs.lists.Syntax.{Definition}
 use Rattle.isle_model.specs.lists.Names.{IsDistinct}
 use Rattle.isle_model.specs.rules.Program.{Program}
 use Rattle.isle_model.specs.sites.Sites.{Constraint, SetRule, SiteSet, unfold_site}
@@ -12,20 +11,21 @@ use Rattle.isle_model.specs.trees.Places.{is_in, joins_in, constraint_at, below,
 use Rattle.isle_model.specs.trees.Tests.{match_test, equal_test, loop_test, needs}
 use Rattle.isle_model.specs.sites.Gates.{gate_demanded}
 use Rattle.isle_model.specs.trees.Collects.{IsPureAt}
-use Rattle.isle_model.specs.trees.SetRuns.{tested_sites, IsUnwrap, IsTestedRule, IsTestedSet}
-use Rattle.isle_model.specs.trees.WellBuilt.{tests_site, IsWellBuiltRule, IsWellBuilt}
-use Rattle.isle_model.specs.sites.Overlap.{BuiltRule, built_rules}
-use Rattle.isle_model.specs.lists.Elaborated.{TypedRules}
-use Rattle.isle_model.specs.claims.Environments.{TypesRead, IsElaborated, program_of}
-use Rattle.isle_model.specs.sites.RuleSets.{IsRuleOf, IsBuilt}
-use Rattle.isle_model.specs.claims.SetMeanings.{DemandsItsGates, BuiltSetsAreTested}
+use Rattle.isle_model.specs.trees.SetRuns.{tested_sites, IsUnwrap, IsTestedRule}
+use Rattle.isle_model.specs.trees.WellBuilt.{tests_site, IsWellBuiltRule}
+use Rattle.isle_model.specs.sites.Overlap.{BuiltRule}
+use Rattle.isle_model.specs.sites.RuleSets.{IsRuleOf}
+use Rattle.isle_model.specs.claims.SetMeanings.{DemandsItsGates}
 use Rattle.isle_model.proofs.Elements.{In, in_from_contains, contains_from_in, in_either, in_slice, slice_in, any_in, in_any, in_map, map_in, from_flat_map, or_split}
 use Rattle.isle_model.specs.sites.DemandedGates.{GatesDemanded}
-use Rattle.isle_laws_demands.specs.VisitLaws.{ElaboratedRulesDemandGates, BuiltRulesDemandGates, BuiltSetsAreWellBuilt}
+use Rattle.isle_laws_demands.specs.VisitLaws.{BuiltRulesDemandGates, BuiltSetsAreWellBuilt}
 use Rattle.isle_laws_demands.proofs.visits.Once.{sites_stand_once_lem}
-use Rattle.isle_laws_demands.proofs.visits.Built.{rule_at, BuiltGates, built_gates, IsGood, below_good}
+use Rattle.isle_laws_demands.proofs.visits.Built.{set_rule, BuiltGates, built_gates, IsGood, below_good}
+use Rattle.isle_laws_demands.proofs.visits.BuiltSets.{BuiltSet, RuleOfSet}
 use Rattle.isle_model.proofs.Options.{is_there}
 use Rattle.isle_model.proofs.FewElements.{none_in}
+use Rattle.isle_laws_demands.specs.BuiltLaws.{BuiltSetsAreTested}
+use Rattle.isle_laws_lists.specs.WellTypedPrograms.{IsWellTypedProgram}
 
 -- 1. lists
 pub all_from_in : {X : Type 0} (P : X → Type 0) (xs : List X) → ((x : X) → In xs x → P x) → All P xs
@@ -54,11 +54,26 @@ first_constraint (d ∷ ds) h s c (inr i) =
     ]
 
 -- 2. rules
-module _ (p : Program) (t : ℕ) (set : SiteSet) (h : IsBuilt p t set) (b : BuiltRule) (r : SetRule) (q : IsRuleOf p set.sites b r) (g : BuiltGates p b) where
+module _ (s : BuiltSet) (x : RuleOfSet s) (g : BuiltGates s.program x.typed) where
+  abbrev p : Program
+  p = s.program
+
+  abbrev set : SiteSet
+  set = s.set
+
+  abbrev b : BuiltRule
+  b = x.typed
+
+  abbrev r : SetRule
+  r = x.rule
+
+  abbrev q : IsRuleOf p set.sites b r
+  q = x.is
+
   -- a site that may be tested
-  pub record IsTested (s : ℕ) : Type 0 where
-    pub known : s < length set.sites
-    pub good : GatesDemanded true true b.demands.constraints (demands_of p b.rule).iterators (unfold_site set.sites s)
+  pub record IsTested (n : ℕ) : Type 0 where
+    pub known : n < length set.sites
+    pub good : GatesDemanded true true b.demands.constraints (demands_of p b.rule).iterators (unfold_site set.sites n)
 
   pub constrained_tested : (s : ℕ) (c : Constraint) → In r.constraints (s, c) → IsTested s
   constrained_tested s c i =
@@ -68,8 +83,8 @@ module _ (p : Program) (t : ℕ) (set : SiteSet) (h : IsBuilt p t set) (b : Buil
   joined_tested s j =
       let a = q.classes.joined s s j in record { known = a.0; good = g.tested.equal a.2 (unfold_site set.sites s) a.3 a.4 }
 
-  pub tested_good : (s u : ℕ) → IsTested s → In (below (suc s) set.sites s) u → IsGood true true set.sites r u
-  tested_good s u k i = below_good p t set h b r q true true (suc s) s k.known k.good u i
+  pub tested_good : (a u : ℕ) → IsTested a → In (below (suc a) set.sites a) u → IsGood true true set.sites r u
+  tested_good a u k i = below_good s x true true (suc a) a k.known k.good u i
 
   gate_of : (u : ℕ) → IsGood true true set.sites r u → IsTrue (gate_demanded r (slice_get set.sites u))
   gate_of u k = subst (λ o. IsTrue (gate_demanded r o)) (sym k.there) k.gate
@@ -108,9 +123,9 @@ module _ (p : Program) (t : ℕ) (set : SiteSet) (h : IsBuilt p t set) (b : Buil
       let m = from_flat_map (λ s. below (suc s) set.sites s) (tested_sites r) u i in tested_good m.0 u (each_tested m.0 m.1) m.2
 
   -- what it returns
-  record IsReturned (s : ℕ) : Type 0 where
-    known : s < length set.sites
-    good : GatesDemanded false false b.demands.constraints (demands_of p b.rule).iterators (unfold_site set.sites s)
+  record IsReturned (n : ℕ) : Type 0 where
+    known : n < length set.sites
+    good : GatesDemanded false false b.demands.constraints (demands_of p b.rule).iterators (unfold_site set.sites n)
 
   each_returned : (s : ℕ) → In (return_uses (Some r)) s → IsReturned s
   each_returned s i =
@@ -132,7 +147,7 @@ module _ (p : Program) (t : ℕ) (set : SiteSet) (h : IsBuilt p t set) (b : Buil
   below_returned u i =
       let m = from_flat_map (λ s. below (suc s) set.sites s) (return_uses (Some r)) u i in
       let k = each_returned m.0 m.1 in
-      below_good p t set h b r q false false (suc m.0) m.0 k.known k.good u m.2
+      below_good s x false false (suc m.0) m.0 k.known k.good u m.2
 
   demands_gates : DemandsItsGates set.sites r
   demands_gates = all_from_in (λ s. IsTrue (gate_demanded r (slice_get set.sites s))) (all_below set.sites (tested_sites r)) (λ u i. gate_of u (below_tested u i))
@@ -151,40 +166,33 @@ module _ (p : Program) (t : ℕ) (set : SiteSet) (h : IsBuilt p t set) (b : Buil
   }
 
 -- 3. sets
-module _ (demands : ElaboratedRulesDemandGates) (e : TypesRead) (defs : List Definition) (expand : Bool) (rules : TypedRules) (t : ℕ) (set : SiteSet)
-    (h : IsElaborated e defs expand rules) (b : IsBuilt (program_of e defs rules.rules) t set) (none : All (λ r. r.iterators ≡ []) set.rules) where
-  abbrev p : Program
-  p = program_of e defs rules.rules
+pub each_of_set : (s : BuiltSet) (P : SetRule → Type 0) → ((x : RuleOfSet s) → P x.rule) → All P s.set.rules
+each_of_set s P f = all_from_in P s.set.rules (λ r i. f (set_rule s r i))
 
-  each_rule : (P : SetRule → Type 0) → ((k : BuiltRule) (r : SetRule) → IsRuleOf p set.sites k r → BuiltGates p k → r.iterators ≡ [] → P r) → (r : SetRule) → In set.rules r → P r
-  each_rule P f r i =
-      let a = rule_at p set.sites (built_rules p t) set.rules b.rules r i in
-      f a.0 r a.2 (built_gates p t (demands e defs expand rules h) a.0 a.1) (in_from_all (λ (x : SetRule). x.iterators ≡ []) set.rules none r i)
+pub gates_of : (s : BuiltSet) → IsWellTypedProgram s.program → (x : RuleOfSet s) → BuiltGates s.program x.typed
+gates_of s h x = built_gates s.program s.term x.typed h x.listed
 
-  well_built_set : IsWellBuilt set
-  well_built_set = record {
-    sources = b.sources;
-    sites_once = sites_stand_once_lem p t set b;
-    each = λ i r k. each_rule (IsWellBuiltRule set.sites) (λ m x q g n. well_built p t set b m x q g n) r (in_slice set.rules i r k);
-  }
+goes_over_none : (set : SiteSet) → All (λ r. r.iterators ≡ []) set.rules → (r : SetRule) → In set.rules r → r.iterators ≡ []
+goes_over_none set none r i = in_from_all (λ (x : SetRule). x.iterators ≡ []) set.rules none r i
 
-  tested_set : IsTestedSet set
-  tested_set = record {
-    once = sites_stand_once_lem p t set b;
-    sources = b.sources;
-    rules = all_from_in (IsTestedRule set.sites) set.rules (each_rule (IsTestedRule set.sites) (λ m x q g n. is_tested p t set b m x q g n));
-  }
+pub built_sets_are_well_built_lem : BuiltSetsAreWellBuilt
+built_sets_are_well_built_lem p t set h b none =
+    let s : BuiltSet = record { program = p; term = t; set = set; built = b } in
+    record {
+      sources = b.sources;
+      sites_once = sites_stand_once_lem p t set b;
+      each = λ i r k. (let j = in_slice set.rules i r k in let x = set_rule s r j in well_built s x (gates_of s h x) (goes_over_none set none r j));
+    }
 
-pub built_sets_are_well_built_lem : ElaboratedRulesDemandGates → BuiltSetsAreWellBuilt
-built_sets_are_well_built_lem d e defs expand rules t set h b none = well_built_set d e defs expand rules t set h b none
+pub built_sets_are_tested_lem : BuiltSetsAreTested
+built_sets_are_tested_lem p t set h b single none =
+    let s : BuiltSet = record { program = p; term = t; set = set; built = b } in
+    record {
+      once = sites_stand_once_lem p t set b;
+      sources = b.sources;
+      rules = all_from_in (IsTestedRule set.sites) set.rules (λ r j. let x = set_rule s r j in is_tested s x (gates_of s h x) (goes_over_none set none r j));
+    }
 
-pub built_sets_are_tested_lem : ElaboratedRulesDemandGates → BuiltSetsAreTested
-built_sets_are_tested_lem d e defs expand rules t set h b single none = tested_set d e defs expand rules t set h b none
-
-pub built_rules_demand_gates_lem : ElaboratedRulesDemandGates → BuiltRulesDemandGates
-built_rules_demand_gates_lem d e defs expand rules t set h b =
-    let p = program_of e defs rules.rules in
-    all_from_in (DemandsItsGates set.sites) set.rules
-    (λ r i.
-    let a = rule_at p set.sites (built_rules p t) set.rules b.rules r i in
-    demands_gates p t set b a.0 r a.2 (built_gates p t (d e defs expand rules h) a.0 a.1))
+pub built_rules_demand_gates_lem : BuiltRulesDemandGates
+built_rules_demand_gates_lem p t set h b =
+    let s : BuiltSet = record { program = p; term = t; set = set; built = b } in each_of_set s (DemandsItsGates set.sites) (λ x. demands_gates s x (gates_of s h x))

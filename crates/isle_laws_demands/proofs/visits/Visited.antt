@@ -3,11 +3,11 @@ use Rattle.std.proofs.Common.{◌≡◌, ◌⊎◌, ℕ, ◌==◌, Bool, true, f
 use Rattle.std.proofs.lemmas.Bool.{cases_Bool, cond-true, cond-false, false≢true}
 use Rattle.isle_model.specs.rules.Meaning.{look}
 use Rattle.isle_model.specs.sites.Sites.{Constraint, is_present, SiteTerm}
-use Rattle.isle_model.specs.sites.Demands.{site_term_eq, Visit, making, asking, equating, iterating, calling, binding, or_no_site, var_site, asking_all}
+use Rattle.isle_model.specs.sites.Demands.{Count, counting, site_term_eq, Visit, making, asking, equating, iterating, calling, binding, or_no_site, var_site, asking_all}
 use Rattle.isle_model.specs.lists.Formed.{var_type}
 use Rattle.isle_model.proofs.Elements.{In, in_from_contains, contains_from_in, in_left, in_right, in_either}
 use Rattle.isle_model.specs.sites.DemandedGates.{GatesDemanded}
-use Rattle.isle_laws_demands.proofs.visits.Gates.{AllIn, gates_stay}
+use Rattle.isle_laws_demands.proofs.visits.Gates.{asking_of, AllIn, gates_stay}
 
 -- the gates of a site are demanded by a visit so far
 abbrev pub Good : Bool → Bool → Visit → SiteTerm → Type 0
@@ -30,7 +30,7 @@ pub record Later (v w : Visit) : Type 0 where
   pub calls : AllIn v.demands.iterators w.demands.iterators
 
 pub good_stays : (v w : Visit) → Later v w → (asked pure : Bool) (u : SiteTerm) → Good asked pure v u → Good asked pure w u
-good_stays v w l = gates_stay v.demands.constraints w.demands.constraints v.demands.iterators w.demands.iterators l.more l.calls
+good_stays v w l = gates_stay (asking_of v.demands) (asking_of w.demands) (record { constraints = l.more; calls = l.calls })
 
 pub now : (v : Visit) → Later v v
 now v = record { sound = λ h. h; more = λ x c. c; calls = λ x c. c }
@@ -40,6 +40,9 @@ then_later u v w a b = record { sound = λ h. b.sound (a.sound h); more = λ x c
 
 pub later_making : (ts : List SiteTerm) (v : Visit) → Later v (making ts v)
 later_making ts v = record { sound = λ h. record { asked = h.asked; equal = h.equal; impure = h.impure }; more = λ x c. c; calls = λ x c. c }
+
+pub later_counting : (c : Count) (v : Visit) → Later v (counting c v)
+later_counting c v = record { sound = λ h. record { asked = h.asked; equal = h.equal; impure = h.impure }; more = λ x k. k; calls = λ x k. k }
 
 pub later_calling : (s : SiteTerm) (v : Visit) → Good false false v s → Later v (calling s v)
 later_calling s v g = record {
@@ -73,7 +76,7 @@ later_iterating s v = record {
 }
   where
     keep : (asked pure : Bool) (u : SiteTerm) → Good asked pure v u → Good asked pure (iterating s v) u
-    keep = gates_stay v.demands.constraints v.demands.constraints v.demands.iterators (v.demands.iterators ++ s ∷ []) (λ x c. c) (at_left v.demands.iterators (s ∷ []))
+    keep = gates_stay (asking_of v.demands) (record { constraints = v.demands.constraints; calls = v.demands.iterators ++ s ∷ [] }) (record { constraints = λ x c. c; calls = at_left v.demands.iterators (s ∷ []) })
 
 pub later_asking : (s : SiteTerm) (c : Constraint) (v : Visit) → MayTest v s → Later v (asking s c v)
 later_asking s c v g = record {
@@ -90,11 +93,11 @@ later_asking s c v g = record {
 }
   where
     keep : (asked pure : Bool) (u : SiteTerm) → Good asked pure v u → Good asked pure (asking s c v) u
-    keep = gates_stay v.demands.constraints (v.demands.constraints ++ (s, c) ∷ []) v.demands.iterators v.demands.iterators (at_left v.demands.constraints ((s, c) ∷ [])) (λ x k. k)
+    keep = gates_stay (asking_of v.demands) (record { constraints = v.demands.constraints ++ (s, c) ∷ []; calls = v.demands.iterators }) (record { constraints = at_left v.demands.constraints ((s, c) ∷ []); calls = λ x k. k })
 
 -- with one equality more
 abbrev pub equated : SiteTerm → SiteTerm → Visit → Visit
-equated a b v = record { vars = v.vars; impure_calls = v.impure_calls; demands = record { constraints = v.demands.constraints; equalities = v.demands.equalities ++ (a, b) ∷ []; iterators = v.demands.iterators; impure = v.demands.impure; made = v.demands.made } }
+equated a b v = record { vars = v.vars; impure_calls = v.impure_calls; demands = record { constraints = v.demands.constraints; equalities = v.demands.equalities ++ (a, b) ∷ []; iterators = v.demands.iterators; impure = v.demands.impure; made = v.demands.made; counted = v.demands.counted } }
 
 later_equated : (a b : SiteTerm) (v : Visit) → MayTest v a → MayTest v b → Later v (equated a b v)
 later_equated a b v m n = record {
@@ -177,7 +180,7 @@ later_asked ss v f = record {
 }
   where
     keep : (asked pure : Bool) (u : SiteTerm) → Good asked pure v u → Good asked pure (asking_all ss v) u
-    keep = gates_stay v.demands.constraints (asking_all ss v).demands.constraints v.demands.iterators (asking_all ss v).demands.iterators (asked_more ss v) (asked_calls ss v)
+    keep = gates_stay (asking_of v.demands) (asking_of (asking_all ss v).demands) (record { constraints = asked_more ss v; calls = asked_calls ss v })
 
 -- variables that can be used stand for sites whose gates are demanded
 abbrev pub AreGood : Bool → Bool → List (ℕ × ℕ) → Visit → Type 0

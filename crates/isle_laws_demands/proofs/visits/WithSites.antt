@@ -7,7 +7,7 @@ use Rattle.isle_model.specs.rules.Meaning.{look}
 use Rattle.isle_model.specs.rules.Program.{Program, Kind, a_variant, a_struct, a_call, unknown, kind, is_partial}
 use Rattle.isle_model.specs.rules.Typed.{TypedPattern, match_bind, match_var, match_bool, match_int, match_prim, match_term, match_any, match_and, TypedPatterns, no_typed_pattern, typed_pattern_and, TypedExpr, make_term, make_var, make_bool, make_int, make_prim, make_let, TypedExprs, no_typed_expr, typed_expr_and, TypedLets, no_typed_let, typed_let_and, TypedIfLet, TypedRule}
 use Rattle.isle_model.specs.sites.Sites.{Constraint, is_variant, is_struct, is_bool, is_int, is_prim, is_present, SiteTerm, bool_term, int_term, prim_term, argument, extractor_call, constructor_call, pick_of, variant_made, variant_field, struct_made, struct_field, some_made, some_part, tuple_part, no_site, SiteTerms, no_site_term, site_term_and}
-use Rattle.isle_model.specs.sites.Demands.{Demands, site_term_eq, Visit, visit_start, making, asking, equating, iterating, calling, binding, from_to, pattern_count, opened, output_sites, part_sites, call_result, call_sites, where_multi, unwraps_all, or_no_site, var_site, Opened, open_call, open_term, visit_pattern, visit_each, visit_all, Valued, ValuedAll, valued, visit_call, visit_term, visit_expr, visit_exprs, visit_lets, unwraps, asking_all, visit_args, visit_iflets, finished, visit_rule}
+use Rattle.isle_model.specs.sites.Demands.{Count, fields_matched, outputs_taken, argument_taken, counting, Demands, site_term_eq, Visit, visit_start, making, asking, equating, iterating, calling, binding, from_to, pattern_count, opened, output_sites, part_sites, call_result, call_sites, where_multi, unwraps_all, or_no_site, var_site, Opened, open_call, open_term, visit_pattern, visit_each, visit_all, Valued, ValuedAll, valued, visit_call, visit_term, visit_expr, visit_exprs, visit_lets, unwraps, asking_all, visit_args, visit_iflets, finished, visit_rule, taking_argument, outputs_opened}
 use Rattle.isle_model.specs.sites.Closure.{fields_from, field_terms}
 use Rattle.isle_model.proofs.Elements.{In, in_right, in_either}
 use Rattle.isle_laws_demands.proofs.visits.Patterns.{in_numbers}
@@ -87,6 +87,7 @@ module _ (R : Demands → Type 0) (Q : Demands → SiteTerm → Type 0) where
     pub pick : (d : Demands) (t i : ℕ) (ss : SiteTerms) → In d.made (constructor_call t ss i) → In d.made (pick_of (constructor_call t ss i)) → AtEach d ss → Q d (pick_of (constructor_call t ss i))
     pub call : (d : Demands) (t i : ℕ) (ss : SiteTerms) (flags : Flags) (infallible : Bool) → kind p t ≡ a_call flags infallible → flags.partial ≡ false → flags.multi ≡ false
         → In d.made (constructor_call t ss i) → AtEach d ss → Q d (constructor_call t ss i)
+    pub counts : (c : Count) (v : Visit) → R v.demands → Onward v.demands (counting c v).demands
     pub makes : (ts : List SiteTerm) (v : Visit) → R v.demands → Onward v.demands (making ts v).demands
     pub calls : (s : SiteTerm) (v : Visit) → R v.demands → Q v.demands s → Onward v.demands (calling s v).demands
     pub equates : (a b : SiteTerm) (v : Visit) → R v.demands → Q v.demands a → Q v.demands b → Onward v.demands (equating a b v).demands
@@ -98,7 +99,8 @@ module _ (R : Demands → Type 0) (Q : Demands → SiteTerm → Type 0) where
         → IsValued v.demands (valued (some_part (extractor_call t s)) (asking (extractor_call t s) is_present v))
     pub iterates_extractor : (t : ℕ) (s : SiteTerm) (v : Visit) (flags : Flags) (infallible : Bool) → kind p t ≡ a_call flags infallible → flags.multi ≡ true → In v.demands.made (extractor_call t s) → In v.demands.made (pick_of (extractor_call t s)) → R v.demands → Q v.demands s
         → IsValued v.demands (valued (pick_of (extractor_call t s)) (iterating (extractor_call t s) v))
-    pub iterates_constructor : (t i : ℕ) (ss : SiteTerms) (v : Visit) (flags : Flags) (infallible : Bool) → kind p t ≡ a_call flags infallible → flags.multi ≡ true → R v.demands
+    pub iterates_constructor : (t i : ℕ) (ss : SiteTerms) (v : Visit) (flags : Flags) (infallible : Bool) → kind p t ≡ a_call flags infallible → flags.multi ≡ true
+        → In v.demands.made (constructor_call t ss i) → AtEach v.demands ss → R v.demands
         → Onward v.demands (iterating (constructor_call t ss i) v).demands
 
   pub no_step : (d : Demands) → R d → Onward d d
@@ -187,10 +189,12 @@ module _ (p : Program) (R : Demands → Type 0) (Q : Demands → SiteTerm → Ty
       let n = in_numbers (tuple_part s) 0 args u i in
       subst (Q d) n.2 (k.tuple d s n.0 (in_right w.demands.made (part_sites s args) (tuple_part s n.0) (subst (In (part_sites s args)) (sym n.2) i)) (o.stays s m))
 
-  with_parts : (d : Demands) (w : Visit) (s : SiteTerm) (args : TypedPatterns) → Onward R Q d w.demands → Q w.demands s → IsOpened R Q d (opened (output_sites s args) (making (part_sites s args) w))
+  with_parts : (d : Demands) (w : Visit) (s : SiteTerm) (args : TypedPatterns) → Onward R Q d w.demands → Q w.demands s → IsOpened R Q d (outputs_opened s args w)
   with_parts d w s args a m =
-      let b = k.makes (part_sites s args) w a.holds in
-      record { onward = then_onward R Q d w.demands (making (part_sites s args) w).demands a b; inputs = outputs_at w s args b m }
+      let u = counting (outputs_taken (pattern_count args)) w in
+      let c = k.counts (outputs_taken (pattern_count args)) w a.holds in
+      let b = k.makes (part_sites s args) u c.holds in
+      record { onward = then_onward R Q d w.demands (outputs_opened s args w).visit.demands a (then_onward R Q w.demands u.demands (outputs_opened s args w).visit.demands c b); inputs = outputs_at u s args b (c.stays s m) }
 
   call_opened : (pure multi partial rec infallible : Bool) (t : ℕ) (s : SiteTerm) (args : TypedPatterns) (v : Visit) → kind p t ≡ a_call (record { pure = pure; multi = multi; partial = partial; rec = rec }) infallible → R v.demands → Q v.demands s
       → IsOpened R Q v.demands (open_call (record { pure = pure; multi = multi; partial = partial; rec = rec }) infallible (extractor_call t s) args v)
@@ -227,9 +231,18 @@ module _ (p : Program) (R : Demands → Type 0) (Q : Demands → SiteTerm → Ty
         inputs = λ u i. k.field z.demands c s u (in_right v.demands.made fields u i) (at_right v.demands.constraints (s, c)) (subst (λ l. In l u) same i) (o.stays s m);
       }
 
+  -- and which are counted before
+  counted_opened : (fields : List SiteTerm) (n : ℕ) (s : SiteTerm) (c : Constraint) (v : Visit) → fields ≡ field_terms c s → R v.demands → Q v.demands s
+      → IsOpened R Q v.demands (opened fields (asking s c (making fields (counting (fields_matched n) v))))
+  counted_opened fields n s c v same h m =
+      let u = counting (fields_matched n) v in
+      let a = k.counts (fields_matched n) v h in
+      let o = fields_opened fields s c u same a.holds (a.stays s m) in
+      record { onward = then_onward R Q v.demands u.demands (asking s c (making fields u)).demands a o.onward; inputs = o.inputs }
+
   term_opened : (n : Kind) (t : ℕ) (s : SiteTerm) (args : TypedPatterns) (v : Visit) → kind p t ≡ n → R v.demands → Q v.demands s → IsOpened R Q v.demands (open_term n t s args v)
-  term_opened (a_variant ty variant) t s args v e h m = fields_opened (from_to (variant_field s variant) 0 args) s (is_variant ty variant (pattern_count args)) v (same_fields (variant_field s variant) 0 args) h m
-  term_opened (a_struct ty) t s args v e h m = fields_opened (from_to (struct_field s) 0 args) s (is_struct ty (pattern_count args)) v (same_fields (struct_field s) 0 args) h m
+  term_opened (a_variant ty variant) t s args v e h m = counted_opened (from_to (variant_field s variant) 0 args) (pattern_count args) s (is_variant ty variant (pattern_count args)) v (same_fields (variant_field s variant) 0 args) h m
+  term_opened (a_struct ty) t s args v e h m = counted_opened (from_to (struct_field s) 0 args) (pattern_count args) s (is_struct ty (pattern_count args)) v (same_fields (struct_field s) 0 args) h m
   term_opened (a_call flags infallible) t s args v e h m = call_opened flags.pure flags.multi flags.partial flags.rec infallible t s args v e h m
   term_opened unknown t s args v e h m = record { onward = no_step R Q v.demands h; inputs = λ u i. absurd i }
 
@@ -254,7 +267,7 @@ module _ (p : Program) (R : Demands → Type 0) (Q : Demands → SiteTerm → Ty
       by true true f =
           let w = making part v in
           let a = k.makes part v h in
-          let b = k.iterates_constructor t i ss w (flags true true) infallible f refl a.holds in
+          let b = k.iterates_constructor t i ss w (flags true true) infallible f refl (in_right v.demands.made part c (inl refl)) (each_stays R Q v.demands w.demands a.stays ss m) a.holds in
           record {
             onward = then_onward R Q v.demands w.demands (iterating c w).demands a b;
             site = b.stays (some_part c) (k.answer w.demands t i ss (flags true true) infallible f refl (in_right v.demands.made part c (inl refl)) (in_right v.demands.made part (some_part c) (inr (inl refl))) (each_stays R Q v.demands w.demands a.stays ss m));
@@ -269,7 +282,7 @@ module _ (p : Program) (R : Demands → Type 0) (Q : Demands → SiteTerm → Ty
       by true false f =
           let w = making picks v in
           let a = k.makes picks v h in
-          let b = k.iterates_constructor t i ss w (flags true false) infallible f refl a.holds in
+          let b = k.iterates_constructor t i ss w (flags true false) infallible f refl (in_right v.demands.made picks c (inl refl)) (each_stays R Q v.demands w.demands a.stays ss m) a.holds in
           record {
             onward = then_onward R Q v.demands w.demands (iterating c w).demands a b;
             site = b.stays (pick_of c) (k.pick w.demands t i ss (in_right v.demands.made picks c (inl refl)) (in_right v.demands.made picks (pick_of c) (inr (inl refl))) (each_stays R Q v.demands w.demands a.stays ss m));
@@ -400,11 +413,13 @@ module _ (p : Program) (R : Demands → Type 0) (Q : Demands → SiteTerm → Ty
   pub args_past : (i : ℕ) (qs : List TypedPattern) (v : Visit) → IsAt R Q v → Past R Q v (visit_args p i qs v)
   args_past i [] v h = still_at R Q v h
   args_past i (q ∷ qs) v h =
-      let u = making (argument i ∷ []) v in
+      let u = taking_argument i v in
       let w = visit_pattern p q (argument i) u in
-      let a = leaf_given (argument i) v tt h in
+      let x = counting (argument_taken i) v in
+      let n = step_past R Q v x refl h (k.counts (argument_taken i) v h.holds) in
+      let a = leaf_given (argument i) x tt n.at in
       let b = pattern_past q (argument i) u a.past.at a.site in
-      then_past R Q v u (visit_args p (suc i) qs w) a.past (then_past R Q u w (visit_args p (suc i) qs w) b (args_past (suc i) qs w b.at))
+      then_past R Q v u (visit_args p (suc i) qs w) (then_past R Q v x u n a.past) (then_past R Q u w (visit_args p (suc i) qs w) b (args_past (suc i) qs w b.at))
 
   pub iflets_past : (is : List TypedIfLet) (v : Visit) → IsAt R Q v → Past R Q v (visit_iflets p is v)
   iflets_past [] v h = still_at R Q v h

@@ -16,11 +16,11 @@ use Rattle.isle_model.specs.rules.Program.{Program}
 use Rattle.isle_model.specs.rules.Typed.{TypedRule}
 use Rattle.isle_model.proofs.Bags.{flat_flat, each_moved, exchanged}
 use Rattle.isle_model.proofs.Members.{in_head, in_tail}
-use Rattle.isle_laws_runs.specs.Exact.{GiveSamePlaces}
+use Rattle.isle_laws_runs.specs.PickLaws.{GiveSamePlaces}
 use Rattle.isle_laws_runs.specs.Orders.{Covered, OrderedFrom, IsOfPlaces, CallsCanComeFirst, ResultsAreOfPlaces}
 use Rattle.isle_model.proofs.SameSites.{term_means}
-use Rattle.isle_laws_runs.proofs.picks.SamePlaces.{content_same, matching_same, ends_same}
-use Rattle.isle_laws_runs.proofs.picks.Grown.{keys, keys_push, content_kept}
+use Rattle.isle_laws_runs.proofs.picks.SamePlaces.{content_same, PicksAlike, matching_same, ends_same}
+use Rattle.isle_laws_runs.proofs.picks.LongerPicks.{keys, keys_push, content_kept}
 
 -- 1. places
 else_kept : (b : Bool) (n : ℕ) (o q : Option ℕ) → cond b (Some n) (or_else o q) ≡ or_else (cond b (Some n) o) q
@@ -99,27 +99,26 @@ pub calls_can_come_first_lem : CallsCanComeFirst
 calls_can_come_first_lem m args f k before after call g o v d = first m args f g before after k call o v d
 
 -- 3. results
-module _ (p : Program) (m : Meaning) (args : List Value) (r : TypedRule) (k l : Pick) (g : GiveSamePlaces k l) where
-  with_same : (o : Option SitedVars) → results_with p m k r o ≡ results_with p m l r o
-  with_same None = refl
-  with_same (Some e) = ap (λ o. o.results) (ends_same p m k l g r e)
+with_same : (p : Program) (m : Meaning) (r : TypedRule) (picks : PicksAlike) (o : Option SitedVars) → results_with p m picks.first r o ≡ results_with p m picks.second r o
+with_same p m r picks None = refl
+with_same p m r picks (Some e) = ap (λ o. o.results) (ends_same p m picks r e)
 
-  rule_same : results_under p m args r k ≡ results_under p m args r l
-  rule_same = ap (results_with p m k r) (matching_same p m k l g r args) ∙ with_same (matches_under p m l r args)
+rule_same : (p : Program) (m : Meaning) (args : List Value) (r : TypedRule) (picks : PicksAlike) → results_under p m args r picks.first ≡ results_under p m args r picks.second
+rule_same p m args r picks = ap (results_with p m picks.first r) (matching_same p m picks r args) ∙ with_same p m r picks (matches_under p m picks.second r args)
 
-module _ (w : World) (r : SetRule) (k l : Pick) (g : GiveSamePlaces k l) where
-  at_same : (s : ℕ) → content_at w k s ≡ content_at w l s
-  at_same s = content_same w.meaning k l g w.args (unfold_site w.sites s)
+module _ (w : World) (picks : PicksAlike) where
+  at_same : (s : ℕ) → content_at w picks.first s ≡ content_at w picks.second s
+  at_same s = content_same w.meaning picks.first picks.second picks.same w.args (unfold_site w.sites s)
 
-  class_same : (c : List ℕ) → all_same w k c ≡ all_same w l c
+  class_same : (c : List ℕ) → all_same w picks.first c ≡ all_same w picks.second c
   class_same [] = refl
   class_same (s ∷ rest) = λ j. list_all (λ t. same_value (then_option (at_same s j) as_value) (then_option (at_same t j) as_value)) rest
 
-  demands_same : demands_hold w k r ≡ demands_hold w l r
-  demands_same = λ j. list_all (λ d. meets w.meaning d.1 (at_same d.0 j)) r.constraints && list_all (λ c. class_same c j) r.classes
+  demands_same : (r : SetRule) → demands_hold w picks.first r ≡ demands_hold w picks.second r
+  demands_same r = λ j. list_all (λ d. meets w.meaning d.1 (at_same d.0 j)) r.constraints && list_all (λ c. class_same c j) r.classes
 
-  result_same : result_in w r k ≡ result_in w r l
-  result_same = λ j. cond (demands_same j) (as_list (at_same r.result j)) []
+  result_same : (r : SetRule) → result_in w r picks.first ≡ result_in w r picks.second
+  result_same r = λ j. cond (demands_same r j) (as_list (at_same r.result j)) []
 
 pub results_are_of_places_lem : ResultsAreOfPlaces
-results_are_of_places_lem = (λ p m args r k l g. rule_same p m args r k l g, λ w r k l g. result_same w r k l g)
+results_are_of_places_lem = (λ p m args r k l g. rule_same p m args r (record { first = k; second = l; same = g }), λ w r k l g. result_same w (record { first = k; second = l; same = g }) r)

@@ -1,4 +1,4 @@
-use Rattle.isle_laws_runs.proofs.picks.Enumerated.{picks_are_exact_lem}
+use Rattle.isle_laws_runs.proofs.picks.PickLists.{picks_are_exact_lem}
 use Rattle.isle_laws_runs.proofs.picks_are_exact.Goals as goal
 
 pub returns : goal.returns

@@ -71,11 +71,21 @@ module _ (sites : List Site) (before : SourcesBefore sites) where
             below_source sites n s r.0 t r.1 (below_deeper n r.0 u t (omega (arith, l, m)) r.2 k)
       ]
 
+  -- so it is with what is below these
+  pub all_below_deeper : (ss : List ℕ) (s u : ℕ) → Contains (all_below sites ss) s → Contains (below (suc s) sites s) u → Contains (all_below sites ss) u
+  all_below_deeper ss s u c k =
+      let a = from_flat_map (λ x. below (suc x) sites x) ss s c in
+      in_flat_map (λ x. below (suc x) sites x) ss a.0 u a.1 (below_deeper (suc a.0) a.0 s u (omega arith) a.2 k)
+
+  pub source_below : (s x : ℕ) → Contains (sources_at sites s) x → Contains (below (suc s) sites s) x
+  source_below s x c = below_source sites s s x x c (subst (λ xs. Contains xs x) (sym (below_enough s x (before s x c))) (below_itself sites x))
+
+  pub all_below_source : (ss : List ℕ) (s x : ℕ) → Contains (all_below sites ss) s → Contains (sources_at sites s) x → Contains (all_below sites ss) x
+  all_below_source ss s x c k = all_below_deeper ss s x c (source_below s x k)
+
   -- so all that is below pure sites has only pure ones below it
   pub pure_deeper : (ss : List ℕ) → ((u : ℕ) → Contains (all_below sites ss) u → IsPureAt sites u) → (s : ℕ) → Contains (all_below sites ss) s → IsPureBelow sites s
-  pure_deeper ss pure s c u k =
-      let a = from_flat_map (λ x. below (suc x) sites x) ss s c in
-      pure u (in_flat_map (λ x. below (suc x) sites x) ss a.0 u a.1 (below_deeper (suc a.0) a.0 s u (omega arith) a.2 k))
+  pure_deeper ss pure s c u k = pure u (all_below_deeper ss s u c k)
 
   pub pure_sources : (s x : ℕ) → Contains (sources_at sites s) x → IsPureBelow sites s → IsPureBelow sites x
   pure_sources s x c pure u k =

@@ -2,16 +2,17 @@
 use Rattle.std.proofs.Common.{◌≡◌, ◌⊎◌, ℕ, zero, suc, ◌==◌, true, false, List, [], ◌∷◌, Option, Some, None, is_some, slice_get, Contains, IsTrue, flat_map, refl, sym, ap, ◌∙◌, subst, inl, inr, eqb-true, eq-eqb}
 use Rattle.std.proofs.lemmas.Bool.{cases_Bool, cond-true, cond-false, false≢true}
 use Rattle.std.proofs.lemmas.Option.{none-some, same_Some}
-use Rattle.isle_model.specs.rules.Values.{Value, Values, value_and, of_variant, of_struct}
-use Rattle.isle_model.specs.rules.Meaning.{Content, one, parts, just, extractor_answer}
+use Rattle.isle_model.specs.rules.Values.{Value, Values}
+use Rattle.isle_model.specs.rules.Meaning.{Content, parts}
 use Rattle.isle_model.specs.rules.Outcome.{Call, then_option}
-use Rattle.isle_model.specs.sites.Sites.{Site, bool_site, int_site, prim_site, argument_site, extractor_site, constructor_site, make_variant_site, make_struct_site, make_some_site, match_tuple_site, each_term, unfold_site, sources_at}
+use Rattle.isle_model.specs.sites.Sites.{Site, int_site, prim_site, argument_site, make_variant_site, make_struct_site, match_tuple_site, sources_at}
 use Rattle.isle_model.specs.trees.Places.{waits, is_in_place, below}
-use Rattle.isle_model.specs.trees.Run.{World, Env, bound_to, as_value, from_value, part_at, in_place, or_else, used, used_values, all_bound, now_bound, constructed, bind_site}
-use Rattle.isle_model.specs.rules.Picks.{Pick, site_values, call_answer}
+use Rattle.isle_model.specs.trees.Run.{World, Env, bound_to, from_value, part_at, in_place, or_else, used, all_bound, now_bound, bind_site}
+use Rattle.isle_model.specs.rules.Picks.{Pick}
 use Rattle.isle_model.specs.trees.Collects.{content_at, IsPureSite, IsPureAt}
-use Rattle.isle_model.proofs.Members.{nothing_in, in_head, in_tail, in_cases, from_flat_map}
+use Rattle.isle_model.proofs.Members.{nothing_in, in_head, in_cases, from_flat_map}
 use Rattle.isle_laws_runs.proofs.runs.Contents.{SourcesBefore, sources_in, content_layer}
+use Rattle.isle_laws_runs.proofs.runs.PureBindings.{binds_content}
 
 -- 1. the sites of a kind have contents under a pick, those that are not written in place are bound to them, and nothing else
 -- is bound
@@ -108,43 +109,13 @@ module _ (w : World) (pick : Pick) (before : SourcesBefore w.sites) where
             let h = held.there s k in
             absurd (none-some h.0 (sym x ∙ held.bound s k f ∙ h.1))
 
-    reads_all : (ss : List ℕ) → ((u : ℕ) → Contains ss u → Kept u) → used_values w env ss ≡ site_values w.meaning w.args pick (each_term (unfold_site w.sites) ss)
-    reads_all [] h = refl
-    reads_all (s ∷ ss) h =
-        ap (λ o. then_option (then_option o as_value) (λ v. then_option (used_values w env ss) (λ vs. Some (value_and v vs)))) (reads s (h s (in_head s ss)))
-        ∙ ap (λ o. then_option (then_option (content_at w pick s) as_value) (λ v. then_option o (λ vs. Some (value_and v vs)))) (reads_all ss (λ u c. h u (in_tail s u ss c)))
-
     -- 3. and what is made of it can be bound
-    constructed_now : (calls : List Call) (s term : ℕ) (c : Content) (o : Option Values) → then_option o (call_answer w.meaning term 0) ≡ Some c → constructed w env calls s term 0 o ≡ all_bound ((s, c) ∷ env) calls
-    constructed_now calls s term c None e = absurd (none-some c e)
-    constructed_now calls s term c (Some vs) e = ap (now_bound env calls s) e
-
-    pub binds_now : (calls : List Call) (s : ℕ) (o : Option Site) (c : Content) → slice_get w.sites s ≡ o → waits o ≡ false → IsPureAt w.sites s → is_in_place o ≡ false
+    pub binds_now : (calls : List Call) (s : ℕ) (o : Option Site) (c : Content) → slice_get w.sites s ≡ o → waits o ≡ false → IsPureAt w.sites s
         → ((u : ℕ) → Contains (sources_in o) u → Kept u) → content_at w pick s ≡ Some c → bind_site w env calls s o ≡ all_bound ((s, c) ∷ env) calls
-    binds_now calls s None c at h p n k e = absurd (false≢true (sym h))
-    binds_now calls s (Some (bool_site b ty)) c at h p n k e = ap (now_bound env calls s) (sym (content_layer w pick before s (bool_site b ty) at) ∙ e)
-    binds_now calls s (Some (extractor_site term source)) c at h p n k e =
-        ap (λ o. now_bound env calls s (then_option (then_option o as_value) (extractor_answer w.meaning term))) (reads source (k source (in_head source [])))
-        ∙ ap (now_bound env calls s) (sym (content_layer w pick before s (extractor_site term source) at) ∙ e)
-    binds_now calls s (Some (constructor_site term sources zero)) c at h p n k e =
-        ap (constructed w env calls s term 0) (reads_all sources k)
-        ∙ constructed_now calls s term c (site_values w.meaning w.args pick (each_term (unfold_site w.sites) sources)) (sym (content_layer w pick before s (constructor_site term sources 0) at) ∙ e)
-    binds_now calls s (Some (constructor_site term sources (suc instance))) c at h p n k e =
-        absurd (subst IsPureSite (same_Some p.0 (constructor_site term sources (suc instance)) (sym p.1 ∙ at)) p.2)
-    binds_now calls s (Some (make_variant_site ty variant fields)) c at h p n k e =
-        ap (λ o. now_bound env calls s (then_option o (λ vs. Some (one (of_variant ty variant vs))))) (reads_all fields k)
-        ∙ ap (now_bound env calls s) (sym (content_layer w pick before s (make_variant_site ty variant fields) at) ∙ e)
-    binds_now calls s (Some (make_struct_site ty fields)) c at h p n k e =
-        ap (λ o. now_bound env calls s (then_option o (λ vs. Some (one (of_struct ty vs))))) (reads_all fields k)
-        ∙ ap (now_bound env calls s) (sym (content_layer w pick before s (make_struct_site ty fields) at) ∙ e)
-    binds_now calls s (Some (make_some_site source)) c at h p n k e =
-        ap (λ o. now_bound env calls s (then_option o (λ x. Some (just x)))) (reads source (k source (in_head source [])))
-        ∙ ap (now_bound env calls s) (sym (content_layer w pick before s (make_some_site source) at) ∙ e)
-    binds_now calls s (Some (int_site z ty)) c at h p n k e = absurd (false≢true (sym n))
-    binds_now calls s (Some (prim_site name)) c at h p n k e = absurd (false≢true (sym n))
-    binds_now calls s (Some (argument_site i)) c at h p n k e = absurd (false≢true (sym n))
-    binds_now calls s (Some (match_tuple_site source field)) c at h p n k e = absurd (false≢true (sym n))
-    binds_now calls s (Some _) c at h p n k e = absurd (false≢true (sym h))
+    binds_now calls s None c at h p k e = absurd (false≢true (sym h))
+    binds_now calls s (Some b) c at h p k e =
+        binds_content w pick before env calls s b at h (subst IsPureSite (same_Some p.0 b (sym p.1 ∙ at)) p.2) (λ u i. reads u (k u i))
+        ∙ ap (now_bound env calls s) e
 
     -- one more site is kept
     pub keeps_bound : (s : ℕ) (c : Content) → content_at w pick s ≡ Some c → ((u : ℕ) → Contains (sources_at w.sites s) u → Kept u) → Held w pick ((s, c) ∷ env) (λ t. Kept t ⊎ (s ≡ t))

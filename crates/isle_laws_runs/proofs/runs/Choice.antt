@@ -7,21 +7,22 @@ use Rattle.isle_model.specs.rules.Outcome.{Outcome}
 use Rattle.isle_model.specs.rules.Picks.{Pick}
 use Rattle.isle_model.specs.sites.Sites.{SetRule}
 use Rattle.isle_model.specs.sites.Gates.{gate_demanded}
-use Rattle.isle_model.specs.trees.Trees.{Tree, Marked, marks}
-use Rattle.isle_model.specs.trees.Places.{below, all_below}
-use Rattle.isle_model.specs.trees.Run.{World, Trace, at_start, run}
+use Rattle.isle_model.specs.trees.Trees.{Tree, step, return_at, Marked, marks}
+use Rattle.isle_model.specs.trees.Places.{below, all_below, bind_order, return_uses}
+use Rattle.isle_model.specs.trees.Run.{World, Trace, at_start, run_tree, run}
 use Rattle.isle_model.specs.trees.Sound.{ReturnsEach, IsSound}
 use Rattle.isle_model.specs.trees.Collects.{demands_hold, IsPureAt}
-use Rattle.isle_model.specs.trees.SetRuns.{tested_sites, IsTestedRule, IsTestedSet, ServesTests, IsTaken, ChoosesFrom, SoundTreesChoose}
-use Rattle.isle_model.proofs.Members.{nothing_in, some_member, member_from_get, get_from_member, get_within, member_counted, in_flat_map}
+use Rattle.isle_model.specs.trees.SetRuns.{tested_sites, IsTestedRule, IsTestedSet, ServesTests, IsTaken, IsTakenUnder, ChoosesFrom, SoundTreesChoose}
+use Rattle.isle_model.proofs.Members.{nothing_in, member_from_get, get_from_member, member_counted, in_flat_map}
 use Rattle.isle_laws_runs.proofs.runs.Below.{pure_alone}
 use Rattle.isle_laws_runs.proofs.runs.BindOrders.{Finds}
-use Rattle.isle_laws_runs.proofs.runs.Standing.{IsClear, IsClearSet, ServesUnder, IsGoneOver, At, set_of, holds_here}
+use Rattle.isle_laws_runs.proofs.runs.RunPlaces.{IsClear, ClearWorld, ServesUnder, IsGoneOver, set_of}
+use Rattle.isle_laws_runs.proofs.runs.Standing.{holds_here}
 use Rattle.isle_laws_runs.proofs.runs.Finding.{Found, found_left, found_right, next_found, rule_found}
-use Rattle.isle_laws_runs.proofs.runs.Taken.{taken_ends, taken_here}
+use Rattle.isle_laws_runs.proofs.runs.Returns.{taken_ends, taken_here}
 use Rattle.isle_laws_runs.proofs.runs.Claims.{NeverHold, IsKept, says_of_run}
 
-module _ (w : World) (rules : List SetRule) (built : IsTestedSet (set_of w rules)) (served : ServesTests (set_of w rules) w) (single : w.multi ≡ false) where
+module _ (w : World) (rules : List SetRule) (built : IsTestedSet (set_of w rules)) (served : ServesTests (set_of w rules) w) where
   -- 1. what is asked of the set and the world, under the empty pick
   rule_of : (r : SetRule) → Contains rules r → IsTestedRule w.sites r
   rule_of r c = All-contains (IsTestedRule w.sites) rules r built.rules c
@@ -35,8 +36,8 @@ module _ (w : World) (rules : List SetRule) (built : IsTestedSet (set_of w rules
     gates = λ u k. All-contains (λ x. IsTrue (gate_demanded r (slice_get w.sites x))) (all_below w.sites (tested_sites r)) u (rule_of r known).gates (in_flat_map (λ x. below (suc x) w.sites x) (tested_sites r) s u c k);
   }
 
-  clear : IsClearSet w rules
-  clear = record { once = built.once; sources = built.sources; tested = tested_clear; gone_over = λ r known s k. absurd (no_calls s (r, known, k)) }
+  abbrev clear : ClearWorld
+  clear = record { world = w; rules = rules; once = built.once; sources = built.sources; tested = tested_clear; gone_over = λ r known s k. absurd (no_calls s (r, known, k)) }
 
   finds : Finds w []
   finds s pure n all = served.found s (pure_alone w.sites s pure) n all
@@ -55,24 +56,22 @@ module _ (w : World) (rules : List SetRule) (built : IsTestedSet (set_of w rules
   abbrev Says : List ℕ → Pick → List ℕ → (Trace → Outcome) → Type 0
   Says looped pick ids go = pick ≡ [] → FoundHere ids (go at_start)
 
-  none_holds : (pick : Pick) (ids : List ℕ) → pick ≡ [] → NeverHold w rules pick ids → (j : ℕ) (q : SetRule) → Contains ids j → slice_get rules j ≡ Some q → Holds q → ⊥
-  none_holds pick ids p never = subst (λ k. NeverHold w rules k ids) p never [] serves
+  none_holds : (pick : Pick) (ids : List ℕ) → pick ≡ [] → NeverHold clear pick ids → (j : ℕ) (q : SetRule) → Contains ids j → slice_get rules j ≡ Some q → Holds q → ⊥
+  none_holds pick ids p never = subst (λ k. NeverHold clear k ids) p never [] serves
 
-  found_kept : IsKept w rules Says
-  found_kept = record {
+  found_kept : w.multi ≡ false → IsKept clear Says
+  found_kept single = record {
     alike = λ looped pick ids run go same says p. subst (FoundHere ids) (sym (same [])) (says p);
     nothing = λ looped pick ids never p. inr (none_holds pick ids p never, refl);
     first = λ looped pick here later go never says p. found_left rules Holds (IsTaken w) here later (go at_start) (says p) (none_holds pick later p never);
     second = λ looped pick here later go never says p. found_right rules Holds (IsTaken w) here later (go at_start) (none_holds pick here p never) (says p);
     next = λ looped pick here later go rest higher says then p. next_found rules Holds (IsTaken w) here later (go at_start) rest (λ i r get. taken_ends w single r (go at_start) rest) (says p) higher (then p);
-    goes_over = λ ar pick env at source cs list out ids some known over go says.
-        let m = some_member ids some in
-        let g = get_within rules m.0 (known m.0 m.1) in
-        absurd (no_calls source (g.0, member_from_get rules m.0 g.0 g.1, over m.0 g.0 m.1 g.1));
-    returns = λ ar pick env at i r get all rest later higher go p.
-        let now = subst (λ k. At w rules ar k env) p at in
+    goes_over = λ place call ids known over go says. absurd (no_calls call.source call.gone_over);
+    returns = λ place i r get all rest later higher go p.
         let member = member_from_get rules i r get in
-        rule_found rules Holds (IsTaken w) i r later _ get (holds_here w rules clear ar [] env now r member all) (taken_here w rules clear no_calls ar env now r (rule_of r member) member all single rest) higher;
+        let run = run_tree (step (bind_order w.sites place.around (return_uses (Some r))) (return_at r.at r.result) rest) w place.env at_start in
+        rule_found rules Holds (IsTaken w) i r later run get (subst (λ k. demands_hold w k r ≡ true) p (holds_here clear place r member all))
+        (subst (λ k. IsTakenUnder w k r run) p (taken_here clear no_calls place r (rule_of r member) member all single rest)) higher;
   }
 
   -- 3. each rule of the set returns once
@@ -87,10 +86,10 @@ module _ (w : World) (rules : List SetRule) (built : IsTestedSet (set_of w rules
   choice_of m tree returns (inr (none, e)) =
       inr (λ q c. elim (cases_Bool (demands_hold w [] q)) [ inl t ↦ let g = placed m tree returns q c in absurd (none g.0 q g.1 g.2 t) | inr f ↦ f ], e)
 
-  pub chooses : (tree : Tree) → IsSound (set_of w rules) w.multi tree → ChoosesFrom (set_of w rules) w (run tree w)
-  chooses tree sound =
+  pub chooses : w.multi ≡ false → (tree : Tree) → IsSound (set_of w rules) w.multi tree → ChoosesFrom (set_of w rules) w (run tree w)
+  chooses single tree sound =
       choice_of sound.marked tree sound.returns
-      (says_of_run w rules clear (λ s g. absurd (no_calls s g)) Says found_kept tree sound serves refl)
+      (says_of_run clear (λ s g. absurd (no_calls s g)) Says (found_kept single) tree sound serves refl)
 
 pub sound_trees_choose_lem : SoundTreesChoose
 sound_trees_choose_lem set tree w built served single sound =

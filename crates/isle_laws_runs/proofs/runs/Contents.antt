@@ -1,5 +1,5 @@
 -- The content of a site under a pick, from the contents of its sources.
-use Rattle.std.proofs.Common.{◌≡◌, ℕ, zero, suc, ◌<◌, List, [], ◌∷◌, Option, Some, None, slice_get, Contains, refl, ap, ◌∙◌, subst, inl, inr, arith}
+use Rattle.std.proofs.Common.{◌≡◌, ℕ, zero, suc, ◌<◌, List, [], ◌∷◌, length, Option, Some, None, slice_get, Contains, refl, ap, ◌∙◌, subst, inl, inr, arith}
 use Rattle.std.proofs.lemmas.Bool.{cases_lt}
 use Rattle.isle_model.specs.sites.Sites.{Site, bool_site, int_site, prim_site, argument_site, extractor_site, constructor_site, iterator_site, make_variant_site, match_variant_site, make_struct_site, extract_struct_site, make_some_site, match_some_site, match_tuple_site, SiteTerm, extractor_call, constructor_call, pick_of, variant_made, variant_field, struct_made, struct_field, some_made, some_part, tuple_part, site_term_and, each_term, layer, layer_at, unfolded, unfold_site, sources_of, sources_at}
 use Rattle.isle_model.specs.trees.Run.{World}
@@ -9,6 +9,10 @@ use Rattle.isle_model.proofs.Members.{in_head, in_tail}
 
 abbrev pub SourcesBefore : List Site → Type 0
 SourcesBefore sites = (s a : ℕ) → Contains (sources_at sites s) a → a < s
+
+-- different sites stand for different terms
+abbrev pub StandApart : List Site → Type 0
+StandApart sites = (a b : ℕ) → a < length sites → b < length sites → unfold_site sites a ≡ unfold_site sites b → a ≡ b
 
 abbrev pub sources_in : Option Site → List ℕ
 sources_in o = elim o as (λ _. List ℕ) [ None ↦ [] | Some b ↦ sources_of b ]

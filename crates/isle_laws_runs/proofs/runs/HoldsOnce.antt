@@ -2,7 +2,7 @@
 use Rattle.std.proofs.Common.{[]}
 use Rattle.isle_model.specs.trees.SetRuns.{RulesHoldOnce}
 use Rattle.isle_model.proofs.Members.{member_from_get}
-use Rattle.isle_laws_runs.proofs.runs.Demanded.{demand_met}
+use Rattle.isle_laws_runs.proofs.runs.RuleDemands.{demand_met}
 
 pub rules_hold_once_lem : RulesHoldOnce
 rules_hold_once_lem set w served none i j r q here there same h g =

@@ -14,9 +14,11 @@ use Rattle.isle_model.proofs.ValuesEqual.{eq_means, eq_same}
 use Rattle.isle_model.proofs.Members.{in_head, in_tail, in_cases, in_alone}
 use Rattle.isle_model.proofs.Numbers.{in_first}
 use Rattle.isle_laws_runs.proofs.runs.Below.{all_below_itself}
-use Rattle.isle_laws_runs.proofs.runs.Demanded.{joined_back}
+use Rattle.isle_laws_runs.proofs.runs.RuleDemands.{joined_back}
 use Rattle.isle_laws_runs.proofs.runs.Fields.{FieldsHold, fields_hold, fields_bound, fields_pure}
-use Rattle.isle_laws_runs.proofs.runs.Standing.{IsClearSet, Kept, At, IsReady, wider, set_of, found_at, binds_at, at_arm}
+use Rattle.isle_laws_runs.proofs.runs.RunPlaces.{ClearWorld, Kept, At, Place, IsReady, wider, set_in}
+use Rattle.isle_laws_runs.proofs.runs.AvailableSites.{found_at, binds_at}
+use Rattle.isle_laws_runs.proofs.runs.Standing.{at_arm}
 
 -- where a run stands that made no impure call
 abbrev pub trace : List Content → Trace
@@ -40,41 +42,41 @@ pub fields_cases : (o : Option (List Content)) → ((cs : List Content) × (o �
 fields_cases None = inr refl
 fields_cases (Some cs) = inl (cs, refl)
 
-module _ (w : World) (rules : List SetRule) (clear : IsClearSet w rules) (ar : Around) (pick : Pick) (env : Env) where
-  -- a run with more results before it goes on alike
-  abbrev RunsAs : (Trace → Outcome) → (Trace → Outcome) → Type 0
-  RunsAs run go = (done : List Content) → run (trace done) ≡ go (trace done)
+-- a run with more results before it goes on alike
+abbrev RunsAs : (Trace → Outcome) → (Trace → Outcome) → Type 0
+RunsAs run go = (done : List Content) → run (trace done) ≡ go (trace done)
 
+module _ (clear : ClearWorld) (place : Place clear) where
   -- 1. a match of an available site
-  pub match_step : At w rules ar pick env → (binds : List ℕ) (source : ℕ) (arms : Arms) (rest : Tree) → binds ≡ bind_order w.sites ar (source ∷ []) → IsReady w.sites ar source
-      → (x : Content) × (env' : Env) × (content_at w pick source ≡ Some x) × At w rules (wider w.sites ar (source ∷ [])) pick env'
-      × RunsAs (run_tree (step binds (match_at source arms) rest) w env) (λ t. or_next (run_arms arms w x env' t) (run_tree rest w env'))
-  match_step at binds source arms rest same ready =
-      let x = found_at w rules clear ar pick env at source ready in
-      let b = binds_at w rules clear ar pick env at (source ∷ []) (λ s c. subst (IsReady w.sites ar) (in_alone source s c) ready) in (
+  pub match_step : (binds : List ℕ) (source : ℕ) (arms : Arms) (rest : Tree) → binds ≡ bind_order clear.world.sites place.around (source ∷ []) → IsReady clear.world.sites place.around source
+      → (x : Content) × (env' : Env) × (content_at clear.world place.pick source ≡ Some x) × At clear (wider clear.world.sites place.around (source ∷ [])) place.pick env'
+      × RunsAs (run_tree (step binds (match_at source arms) rest) clear.world place.env) (λ t. or_next (run_arms arms clear.world x env' t) (run_tree rest clear.world env'))
+  match_step binds source arms rest same ready =
+      let x = found_at clear place source ready in
+      let b = binds_at clear place (source ∷ []) (λ s c. subst (IsReady clear.world.sites place.around) (in_alone source s c) ready) in (
         x.0,
         b.0,
         x.1,
         b.2,
         λ done.
-            step_runs w binds (match_at source arms) rest env b.0 done (ap (bind_all w env []) same ∙ b.1)
-            ∙ ap (λ o. or_next (with_content o (trace done) (λ c. run_arms arms w c b.0 (trace done))) (run_tree rest w b.0)) (b.3 source (in_head source []) ∙ x.1),
+            step_runs clear.world binds (match_at source arms) rest place.env b.0 done (ap (bind_all clear.world place.env []) same ∙ b.1)
+            ∙ ap (λ o. or_next (with_content o (trace done) (λ c. run_arms arms clear.world c b.0 (trace done))) (run_tree rest clear.world b.0)) (b.3 source (in_head source []) ∙ x.1),
       )
 
   -- 2. an equality of available sites
-  pub equal_step : At w rules ar pick env → (binds : List ℕ) (a b : ℕ) (body rest : Tree) (r : SetRule) → Contains rules r → IsTrue (joins_in r.classes a b)
-      → binds ≡ bind_order w.sites ar (a ∷ (b ∷ [])) → IsReady w.sites ar a → IsReady w.sites ar b
-      → (u : Value) × (v : Value) × (env' : Env) × (content_at w pick a ≡ Some (one u)) × (content_at w pick b ≡ Some (one v)) × At w rules (wider w.sites ar (a ∷ (b ∷ []))) pick env'
-      × RunsAs (run_tree (step binds (equal_at a b body) rest) w env) (λ t. or_next (on_equal (Some u) (Some v) t (run_tree body w env' t)) (run_tree rest w env'))
-  equal_step at binds a b body rest r known join same ready_a ready_b =
-      let x = found_at w rules clear ar pick env at a ready_a in
-      let y = found_at w rules clear ar pick env at b ready_b in
-      let u = at.picked.served.values r a b x.0 known join x.1 in
-      let v = at.picked.served.values r b a y.0 known (joined_back r.classes a b join) y.1 in
+  pub equal_step : (binds : List ℕ) (a b : ℕ) (body rest : Tree) (r : SetRule) → Contains clear.rules r → IsTrue (joins_in r.classes a b)
+      → binds ≡ bind_order clear.world.sites place.around (a ∷ (b ∷ [])) → IsReady clear.world.sites place.around a → IsReady clear.world.sites place.around b
+      → (u : Value) × (v : Value) × (env' : Env) × (content_at clear.world place.pick a ≡ Some (one u)) × (content_at clear.world place.pick b ≡ Some (one v)) × At clear (wider clear.world.sites place.around (a ∷ (b ∷ []))) place.pick env'
+      × RunsAs (run_tree (step binds (equal_at a b body) rest) clear.world place.env) (λ t. or_next (on_equal (Some u) (Some v) t (run_tree body clear.world env' t)) (run_tree rest clear.world env'))
+  equal_step binds a b body rest r known join same ready_a ready_b =
+      let x = found_at clear place a ready_a in
+      let y = found_at clear place b ready_b in
+      let u = place.at.picked.served.values r a b x.0 known join x.1 in
+      let v = place.at.picked.served.values r b a y.0 known (joined_back r.classes a b join) y.1 in
       let e = x.1 ∙ ap Some u.1 in
       let f = y.1 ∙ ap Some v.1 in
-      let m = binds_at w rules clear ar pick env at (a ∷ (b ∷ []))
-      (λ s c. elim (in_cases a s (b ∷ []) c) [ inl e ↦ subst (IsReady w.sites ar) e ready_a | inr d ↦ subst (IsReady w.sites ar) (in_alone b s d) ready_b ]) in (
+      let m = binds_at clear place (a ∷ (b ∷ []))
+      (λ s c. elim (in_cases a s (b ∷ []) c) [ inl e ↦ subst (IsReady clear.world.sites place.around) e ready_a | inr d ↦ subst (IsReady clear.world.sites place.around) (in_alone b s d) ready_b ]) in (
         u.0,
         v.0,
         m.0,
@@ -82,49 +84,52 @@ module _ (w : World) (rules : List SetRule) (clear : IsClearSet w rules) (ar : A
         f,
         m.2,
         λ done.
-            step_runs w binds (equal_at a b body) rest env m.0 done (ap (bind_all w env []) same ∙ m.1)
-            ∙ ap₂ (λ s t. or_next (on_equal (then_option s as_value) (then_option t as_value) (trace done) (run_tree body w m.0 (trace done))) (run_tree rest w m.0))
+            step_runs clear.world binds (equal_at a b body) rest place.env m.0 done (ap (bind_all clear.world place.env []) same ∙ m.1)
+            ∙ ap₂ (λ s t. or_next (on_equal (then_option s as_value) (then_option t as_value) (trace done) (run_tree body clear.world m.0 (trace done))) (run_tree rest clear.world m.0))
             (m.3 a (in_head a (b ∷ [])) ∙ e) (m.3 b (in_tail a b (b ∷ []) (in_head b [])) ∙ f),
       )
 
   -- 3. a loop over an available call of some rule
-  pub loop_step : At w rules ar pick env → (binds : List ℕ) (result source : ℕ) (body rest : Tree) (r : SetRule) → Contains rules r → Contains r.iterators source → slice_get w.sites result ≡ Some (iterator_site source)
-      → binds ≡ bind_order w.sites ar (source ∷ []) → IsTrue (available w.sites ar source)
-      → (cs : Contents) × (env' : Env) × (content_at w pick source ≡ Some (many cs)) × At w rules (wider w.sites ar (source ∷ [])) pick env'
-      × RunsAs (run_tree (step binds (loop_at result body) rest) w env) (λ t. or_next (for_each (contents cs) (λ c t'. run_tree body w ((result, c) ∷ env') t') t) (run_tree rest w env'))
-  loop_step at binds result source body rest r known over site same avail =
-      let ready : IsReady w.sites ar source = record { available = avail; pure = (clear.gone_over r known source over).pure } in
-      let x = found_at w rules clear ar pick env at source ready in
-      let l = at.picked.served.lists r source x.0 known over x.1 in
+  pub loop_step : (binds : List ℕ) (result source : ℕ) (body rest : Tree) (r : SetRule) → Contains clear.rules r → Contains r.iterators source → slice_get clear.world.sites result ≡ Some (iterator_site source)
+      → binds ≡ bind_order clear.world.sites place.around (source ∷ []) → IsTrue (available clear.world.sites place.around source)
+      → (cs : Contents) × (env' : Env) × (content_at clear.world place.pick source ≡ Some (many cs)) × At clear (wider clear.world.sites place.around (source ∷ [])) place.pick env'
+      × RunsAs (run_tree (step binds (loop_at result body) rest) clear.world place.env) (λ t. or_next (for_each (contents cs) (λ c t'. run_tree body clear.world ((result, c) ∷ env') t') t) (run_tree rest clear.world env'))
+  loop_step binds result source body rest r known over site same avail =
+      let ready : IsReady clear.world.sites place.around source = record { available = avail; pure = (clear.gone_over r known source over).pure } in
+      let x = found_at clear place source ready in
+      let l = place.at.picked.served.lists r source x.0 known over x.1 in
       let e = x.1 ∙ ap Some l.1 in
-      let b = binds_at w rules clear ar pick env at (source ∷ []) (λ s c. subst (IsReady w.sites ar) (in_alone source s c) ready) in (
+      let b = binds_at clear place (source ∷ []) (λ s c. subst (IsReady clear.world.sites place.around) (in_alone source s c) ready) in (
         l.0,
         b.0,
         e,
         b.2,
         λ done.
-            step_runs w binds (loop_at result body) rest env b.0 done (ap (bind_all w env []) same ∙ b.1)
-            ∙ ap (λ o. or_next (on_many (then_option (then_option o iterated) (used w b.0)) (λ c t. run_tree body w ((result, c) ∷ b.0) t) (trace done)) (run_tree rest w b.0)) site
-            ∙ ap (λ o. or_next (on_many o (λ c t. run_tree body w ((result, c) ∷ b.0) t) (trace done)) (run_tree rest w b.0)) (b.3 source (in_head source []) ∙ e),
+            step_runs clear.world binds (loop_at result body) rest place.env b.0 done (ap (bind_all clear.world place.env []) same ∙ b.1)
+            ∙ ap (λ o. or_next (on_many (then_option (then_option o iterated) (used clear.world b.0)) (λ c t. run_tree body clear.world ((result, c) ∷ b.0) t) (trace done)) (run_tree rest clear.world b.0)) site
+            ∙ ap (λ o. or_next (on_many o (λ c t. run_tree body clear.world ((result, c) ∷ b.0) t) (trace done)) (run_tree rest clear.world b.0)) (b.3 source (in_head source []) ∙ e),
       )
 
+module _ (clear : ClearWorld) where
   -- 4. an arm that is met, of a constraint that some rule asks for, and one that isn't
-  pub arm_step : (s : ℕ) (c : Constraint) (fields : List (Option ℕ)) (body : Tree) (rest : Arms) (x : Content) (cs : List Content) (r : SetRule) → At w rules (wider w.sites ar (s ∷ [])) pick env
-      → Contains rules r → Contains r.constraints (s, c) → fields ≡ fields_of w.sites s c → content_at w pick s ≡ Some x → content_fields w.meaning c x ≡ Some cs
-      → (env' : Env) × At w rules (in_arm (set_of w rules) ar s c fields) pick env' × RunsAs (run_arms (arm c fields body rest) w x env) (run_tree body w env')
-  arm_step s c fields body rest x cs r at known asks same e met =
-      let hold = fields_hold w pick clear.sources s c x cs e met (at.picked.served.fields r s c x cs known asks e met) in
-      let kept : Kept (wider w.sites ar (s ∷ [])) at.calls s = inl (in_first s (all_below w.sites (s ∷ [])) ar.emitted (all_below_itself w.sites (s ∷ []) s (in_head s []))) in
-      let b = fields_bound w pick clear.sources s fields cs env (Kept (wider w.sites ar (s ∷ [])) at.calls) at.held kept (subst (λ l. FieldsHold w pick clear.sources s l cs) (sym same) hold) in
-      let fine = subst (λ l. (t : ℕ) → Contains (field_sites l) t → IsPureAt w.sites t) (sym same) (fields_pure w pick clear.sources s (fields_of w.sites s c) cs hold) in
-      let passes : meets w.meaning c (content_at w pick s) ≡ true = ap (meets w.meaning c) e ∙ ap is_some met in (
+  pub arm_step : (ar : Around) (pick : Pick) (env : Env) (s : ℕ) (c : Constraint) (fields : List (Option ℕ)) (body : Tree) (rest : Arms) (x : Content) (cs : List Content) (r : SetRule)
+      → At clear (wider clear.world.sites ar (s ∷ [])) pick env
+      → Contains clear.rules r → Contains r.constraints (s, c) → fields ≡ fields_of clear.world.sites s c → content_at clear.world pick s ≡ Some x → content_fields clear.world.meaning c x ≡ Some cs
+      → (env' : Env) × At clear (in_arm (set_in clear) ar s c fields) pick env' × RunsAs (run_arms (arm c fields body rest) clear.world x env) (run_tree body clear.world env')
+  arm_step ar pick env s c fields body rest x cs r at known asks same e met =
+      let hold = fields_hold clear.world pick clear.sources s c x cs e met (at.picked.served.fields r s c x cs known asks e met) in
+      let kept : Kept (wider clear.world.sites ar (s ∷ [])) at.calls s = inl (in_first s (all_below clear.world.sites (s ∷ [])) ar.emitted (all_below_itself clear.world.sites (s ∷ []) s (in_head s []))) in
+      let b = fields_bound clear.world pick clear.sources s fields cs env (Kept (wider clear.world.sites ar (s ∷ [])) at.calls) at.held kept (subst (λ l. FieldsHold clear.world pick clear.sources s l cs) (sym same) hold) in
+      let fine = subst (λ l. (t : ℕ) → Contains (field_sites l) t → IsPureAt clear.world.sites t) (sym same) (fields_pure clear.world pick clear.sources s (fields_of clear.world.sites s c) cs hold) in
+      let passes : meets clear.world.meaning c (content_at clear.world pick s) ≡ true = ap (meets clear.world.meaning c) e ∙ ap is_some met in (
         b.0,
-        at_arm w rules clear ar s c fields pick env b.0 at same passes fine b.2,
+        at_arm clear ar s c fields pick env b.0 at same passes fine b.2,
         λ done.
-            ap (λ o. on_met o fields env (trace done) (λ e. run_tree body w e (trace done)) (run_arms rest w x env (trace done))) met
-            ∙ ap (λ o. with_env o (trace done) (λ e. run_tree body w e (trace done))) b.1,
+            ap (λ o. on_met o fields env (trace done) (λ e. run_tree body clear.world e (trace done)) (run_arms rest clear.world x env (trace done))) met
+            ∙ ap (λ o. with_env o (trace done) (λ e. run_tree body clear.world e (trace done))) b.1,
       )
 
-  pub arm_unmet : (c : Constraint) (fields : List (Option ℕ)) (body : Tree) (rest : Arms) (x : Content) → content_fields w.meaning c x ≡ None → RunsAs (run_arms (arm c fields body rest) w x env) (run_arms rest w x env)
-  arm_unmet c fields body rest x unmet done =
-      ap (λ o. on_met o fields env (trace done) (λ e. run_tree body w e (trace done)) (run_arms rest w x env (trace done))) unmet
+  pub arm_unmet : (env : Env) (c : Constraint) (fields : List (Option ℕ)) (body : Tree) (rest : Arms) (x : Content) → content_fields clear.world.meaning c x ≡ None
+      → RunsAs (run_arms (arm c fields body rest) clear.world x env) (run_arms rest clear.world x env)
+  arm_unmet env c fields body rest x unmet done =
+      ap (λ o. on_met o fields env (trace done) (λ e. run_tree body clear.world e (trace done)) (run_arms rest clear.world x env (trace done))) unmet

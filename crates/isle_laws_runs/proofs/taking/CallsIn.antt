@@ -5,7 +5,7 @@ use Rattle.isle_model.specs.trees.Places.{below}
 use Rattle.isle_model.proofs.Elements.{In, in_left, in_right}
 use Rattle.isle_model.proofs.Members.{nothing_in, in_cases, in_alone, from_flat_map}
 use Rattle.isle_laws_runs.proofs.runs.Contents.{SourcesBefore, sources_in, unfolded_layer}
-use Rattle.isle_laws_runs.proofs.taking.Followed.{answered_call}
+use Rattle.isle_laws_runs.proofs.taking.FollowedCalls.{answered_call}
 
 -- what is said of impure calls: pure ones have the number 0
 abbrev pub WhereImpure : ℕ → Type 0 → Type 0

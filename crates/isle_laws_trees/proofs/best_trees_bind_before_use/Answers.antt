@@ -1,6 +1,6 @@
 use Rattle.isle_laws_trees.proofs.binding.Trees.{best_tree_binds}
-use Rattle.isle_laws_trees.proofs.binding.InPlace.{places_apart}
+use Rattle.isle_laws_trees.proofs.binding.PlacedSites.{places_apart}
 use Rattle.isle_laws_trees.proofs.best_trees_bind_before_use.Goals as goal
 
 pub returns : goal.returns
-returns c = λ e defs expand rules t set h b multi tree best. best_tree_binds set b.sources (places_apart e defs expand rules t set h b) multi tree best
+returns c = λ p t set h b multi tree best. best_tree_binds (record { set = set; before = b.sources; apart = places_apart (record { program = p; term = t; set = set; built = b }) h }) multi tree best

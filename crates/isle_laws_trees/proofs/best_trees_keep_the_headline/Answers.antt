@@ -1,4 +1,4 @@
-use Rattle.isle_laws_trees.proofs.headline.Kept.{best_trees_keep_the_headline_lem}
+use Rattle.isle_laws_trees.proofs.headline.AcceptedTrees.{best_trees_keep_the_headline_lem}
 use Rattle.isle_laws_trees.proofs.best_trees_keep_the_headline.Goals as goal
 
 pub returns : goal.returns

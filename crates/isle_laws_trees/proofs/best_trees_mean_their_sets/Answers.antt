@@ -1,4 +1,4 @@
-use Rattle.isle_laws_trees.proofs.Meant.{best_trees_mean_their_sets_lem}
+use Rattle.isle_laws_trees.proofs.TreeMeanings.{best_trees_mean_their_sets_lem}
 use Rattle.isle_laws_trees.proofs.best_trees_mean_their_sets.Goals as goal
 
 pub returns : goal.returns

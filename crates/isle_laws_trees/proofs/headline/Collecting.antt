@@ -7,19 +7,16 @@ use Rattle.std.proofs.lemmas.Option.{none-some, same_Some}
 use Rattle.std.proofs.lemmas.List.Elements.{All-contains, Contains-append_left, Contains-append_right}
 use Rattle.std.proofs.lemmas.List.Sorted.{IsPermutation-refl, IsPermutation-trans, IsPermutation-append}
 use Rattle.isle_model.specs.lists.Names.{IsDistinct}
-use Rattle.isle_model.specs.lists.Syntax.{Definition}
-use Rattle.isle_model.specs.lists.Elaborated.{TypedRules}
-use Rattle.isle_model.specs.rules.Values.{Value, args_well_typed}
+use Rattle.isle_model.specs.rules.Values.{Value}
 use Rattle.isle_model.specs.rules.Meaning.{Content, Meaning}
-use Rattle.isle_model.specs.rules.Program.{Program, arg_types, rules_of, is_multi, numbers_from}
+use Rattle.isle_model.specs.rules.Program.{Program, rules_of, is_multi, numbers_from}
 use Rattle.isle_model.specs.rules.Picks.{Pick, SitedVars, multi_calls, picks_over, picks, matches_under, results_with, results_under, bag}
 use Rattle.isle_model.specs.rules.Typed.{TypedRule}
 use Rattle.isle_model.specs.sites.Sites.{Constraint, SetRule, SiteSet, SiteTerm, unfold_site}
 use Rattle.isle_model.specs.sites.Demands.{demands_of}
 use Rattle.isle_model.specs.sites.Gates.{gate_demanded}
 use Rattle.isle_model.specs.sites.Overlap.{BuiltRule, built_rules}
-use Rattle.isle_model.specs.sites.RuleSets.{IsRuleOf, IsBuilt}
-use Rattle.isle_model.specs.sites.Serves.{Serves, TellsConstantsApart}
+use Rattle.isle_model.specs.sites.RuleSets.{IsRuleOf}
 use Rattle.isle_model.specs.trees.Trees.{Tree}
 use Rattle.isle_model.specs.trees.Places.{is_in, below, all_below}
 use Rattle.isle_model.specs.trees.Run.{World, run, world_of}
@@ -28,9 +25,8 @@ use Rattle.isle_model.specs.trees.WellBuilt.{tests_site, IsWellBuiltRule, IsWell
 use Rattle.isle_model.specs.trees.Collects.{calls_in, content_at, demands_hold, as_list, result_in, sites_of_rule, calls_gone_over, set_bag, IsCollectedRule, IsCollectedSet, ServesSet, Collects, HasCollectedResults}
 use Rattle.isle_model.specs.trees.SetRuns.{tested_sites}
 use Rattle.isle_model.specs.trees.Best.{IsBestTree}
-use Rattle.isle_model.specs.claims.Environments.{TypesRead, IsElaborated, program_of}
 use Rattle.isle_model.specs.claims.Layers.{IsCheckable}
-use Rattle.isle_model.specs.claims.SetMeanings.{BuiltSetsAreCollected}
+use Rattle.isle_laws_demands.specs.BuiltLaws.{BuiltSetsAreCollected}
 use Rattle.isle_model.proofs.Elements.{in_from_contains, contains_from_in}
 use Rattle.isle_model.proofs.Bags.{flat_map_same}
 use Rattle.isle_model.proofs.DistinctJoined.{distinct_filter, distinct_map}
@@ -39,13 +35,15 @@ use Rattle.isle_model.proofs.Numbers.{numbers_below, numbers_all, numbers_distin
 use Rattle.isle_model.proofs.Options.{is_there}
 use Rattle.isle_model.proofs.Positions.{distinct_nil}
 use Rattle.isle_model.proofs.SitesMade.{once_with}
+use Rattle.isle_laws_lists.specs.WellTypedPrograms.{IsWellTypedProgram}
+use Rattle.isle_laws_demands.proofs.visits.BuiltSets.{BuiltSet, ServingMeaning}
 use Rattle.isle_laws_runs.specs.Orders.{Within, OrderedFrom}
 use Rattle.isle_laws_runs.proofs.picks.Calls.{unfold_once, calls_below, IsEarlier, numbers_ordered}
 use Rattle.isle_laws_runs.proofs.picks.FirstCall.{results_are_of_places_lem}
-use Rattle.isle_laws_runs.proofs.picks.Ordered.{calls_ordered}
-use Rattle.isle_laws_runs.proofs.picks.Reordered.{reordered}
+use Rattle.isle_laws_runs.proofs.picks.VisitOrder.{calls_ordered}
+use Rattle.isle_laws_runs.proofs.picks.CallOrders.{reordered}
 use Rattle.isle_laws_runs.proofs.runs.Below.{below_within}
-use Rattle.isle_laws_runs.proofs.runs.Collected.{sound_trees_collect_lem}
+use Rattle.isle_laws_runs.proofs.runs.Collection.{sound_trees_collect_lem}
 use Rattle.isle_laws_runs.proofs.runs.Contents.{sources_in}
 use Rattle.isle_laws_demands.specs.MatchLaws.{BuiltSetsMatchByDemands, BuiltSetsHoldResults}
 use Rattle.isle_laws_demands.specs.ServeLaws.{ServedMultiSetsServe}
@@ -59,16 +57,15 @@ use Rattle.isle_laws_trees.proofs.Soundness.{best_trees_are_sound_lem}
 use Rattle.isle_laws_trees.proofs.headline.Places.{Pair, of_set_rule, of_typed_rule, typed_here}
 
 -- 1. lists whose elements, place by place, make one bag each
-module _ {X Y Z : Type 0} (f : X → List Z) (g : Y → List Z) where
-  pub same_bags : (xs : List X) (ys : List Y) → ((i : ℕ) (x : X) → slice_get xs i ≡ Some x → (y : Y) × (slice_get ys i ≡ Some y) × IsPermutation (f x) (g y))
-      → ((i : ℕ) (y : Y) → slice_get ys i ≡ Some y → (x : X) × (slice_get xs i ≡ Some x)) → IsPermutation (flat_map f xs) (flat_map g ys)
-  same_bags [] [] h k = IsPermutation-refl []
-  same_bags [] (y ∷ ys) h k = (let r = k 0 y refl in absurd (none-some r.0 r.1))
-  same_bags (x ∷ xs) [] h k = (let r = h 0 x refl in absurd (none-some r.0 r.1))
-  same_bags (x ∷ xs) (y ∷ ys) h k =
-      let r = h 0 x refl in
-      IsPermutation-append (f x) (g y) (flat_map f xs) (flat_map g ys) (subst (λ z. IsPermutation (f x) (g z)) (sym (same_Some y r.0 r.1)) r.2)
-      (same_bags xs ys (λ i z e. h (suc i) z e) (λ i z e. k (suc i) z e))
+pub same_bags : {X Y Z : Type 0} (f : X → List Z) (g : Y → List Z) (xs : List X) (ys : List Y) → ((i : ℕ) (x : X) → slice_get xs i ≡ Some x → (y : Y) × (slice_get ys i ≡ Some y) × IsPermutation (f x) (g y))
+    → ((i : ℕ) (y : Y) → slice_get ys i ≡ Some y → (x : X) × (slice_get xs i ≡ Some x)) → IsPermutation (flat_map f xs) (flat_map g ys)
+same_bags f g [] [] h k = IsPermutation-refl []
+same_bags f g [] (y ∷ ys) h k = (let r = k 0 y refl in absurd (none-some r.0 r.1))
+same_bags f g (x ∷ xs) [] h k = (let r = h 0 x refl in absurd (none-some r.0 r.1))
+same_bags f g (x ∷ xs) (y ∷ ys) h k =
+    let r = h 0 x refl in
+    IsPermutation-append (f x) (g y) (flat_map f xs) (flat_map g ys) (subst (λ z. IsPermutation (f x) (g z)) (sym (same_Some y r.0 r.1)) r.2)
+    (same_bags f g xs ys (λ i z e. h (suc i) z e) (λ i z e. k (suc i) z e))
 
 -- what collecting rests on: laws of built sets
 pub record CollectingLaws : Type 0 where
@@ -79,12 +76,28 @@ pub record CollectingLaws : Type 0 where
   pub match : BuiltSetsMatchByDemands
   pub results : BuiltSetsHoldResults
 
-module _ (laws : CollectingLaws) (e : TypesRead) (defs : List Definition) (expand : Bool) (rules : TypedRules) (t : ℕ) (set : SiteSet) (h : IsElaborated e defs expand rules) (b : IsBuilt (program_of e defs rules.rules) t set)
-    (check : IsCheckable (program_of e defs rules.rules)) (multi : is_multi (program_of e defs rules.rules) t ≡ true) (results : All (HasCollectedResults (program_of e defs rules.rules)) (rules_of (program_of e defs rules.rules) t))
-    (m : Meaning) (args : List Value) (typed : IsTrue (args_well_typed (program_of e defs rules.rules).types (arg_types (program_of e defs rules.rules) t) args))
-    (served : Serves (program_of e defs rules.rules) m args (rules_of (program_of e defs rules.rules) t)) (apart : TellsConstantsApart (program_of e defs rules.rules) m (rules_of (program_of e defs rules.rules) t)) where
+-- a built set whose rules' results are collected: of a well-typed program whose rules can be told apart, and of a multi term
+pub record IsCollectedFrom (b : BuiltSet) : Type 0 where
+  pub well_typed : IsWellTypedProgram b.program
+  pub checkable : IsCheckable b.program
+  pub several : is_multi b.program b.term ≡ true
+  pub results : All (HasCollectedResults b.program) (rules_of b.program b.term)
+
+module _ (laws : CollectingLaws) (b : BuiltSet) (of : IsCollectedFrom b) (serving : ServingMeaning b.program b.term) where
   abbrev p : Program
-  p = program_of e defs rules.rules
+  p = b.program
+
+  abbrev t : ℕ
+  t = b.term
+
+  abbrev set : SiteSet
+  set = b.set
+
+  abbrev m : Meaning
+  m = serving.meaning
+
+  abbrev args : List Value
+  args = serving.args
 
   abbrev rs : List TypedRule
   rs = rules_of p t
@@ -95,14 +108,14 @@ module _ (laws : CollectingLaws) (e : TypesRead) (defs : List Definition) (expan
   -- 2. the set, its world and its best trees
   collected : IsCollectedSet set
   collected =
-      laws.collected e defs expand rules t set h b multi
-      (all_members (λ (k : BuiltRule). HasCollectedResults p k.rule) (built_rules p t) (λ k c. All-contains (HasCollectedResults p) rs k.rule results (built_listed p t k c)))
+      laws.collected p t set of.well_typed b.built of.several
+      (all_members (λ (k : BuiltRule). HasCollectedResults p k.rule) (built_rules p t) (λ k c. All-contains (HasCollectedResults p) rs k.rule of.results (built_listed p t k c)))
 
   rule_of : (r : SetRule) → Contains set.rules r → IsCollectedRule set.sites r
   rule_of r c = All-contains (IsCollectedRule set.sites) set.rules r collected.rules c
 
   serves : ServesSet set w
-  serves = laws.serve e defs expand rules t set h b (all_members (λ (r : SetRule). r.impure ≡ []) set.rules (λ r c. (rule_of r c).no_calls)) m args typed served apart
+  serves = laws.serve p t set of.well_typed b.built (all_members (λ (r : SetRule). r.impure ≡ []) set.rules (λ r c. (rule_of r c).no_calls)) m args serving.typed serving.serves serving.apart
 
   gate_at : (r : SetRule) → Contains set.rules r → (s u : ℕ) → Contains (sites_of_rule r) s → Contains (below (suc s) set.sites s) u → IsTrue (gate_demanded r (slice_get set.sites u))
   gate_at r c s u i k = All-contains (λ x. IsTrue (gate_demanded r (slice_get set.sites x))) (all_below set.sites (sites_of_rule r)) u (rule_of r c).gates (in_flat_map (λ x. below (suc x) set.sites x) (sites_of_rule r) s u i k)
@@ -132,19 +145,19 @@ module _ (laws : CollectingLaws) (e : TypesRead) (defs : List Definition) (expan
 
   well_built_rule : (r : SetRule) → Contains set.rules r → IsWellBuiltRule set.sites r
   well_built_rule r c =
-      let a = rule_at p set.sites (built_rules p t) set.rules b.rules r (in_from_contains set.rules r c) in
+      let a = rule_at p set.sites (built_rules p t) set.rules b.built.rules r (in_from_contains set.rules r c) in
       record {
         asks_once = λ s d i. first_constraint r.constraints a.2.constraints.once s d (in_from_contains r.constraints (s, d) i);
-        asks_or_goes_over = laws.apart e defs expand rules t set h b r c;
+        asks_or_goes_over = laws.apart p t set of.well_typed b.built r c;
         gates = λ s u k i. gate_at r c s u (tested_site r s k) i;
       }
 
   well_built : IsWellBuilt set
-  well_built = record { sources = b.sources; sites_once = collected.once; each = λ i r at. well_built_rule r (member_from_get set.rules i r at) }
+  well_built = record { sources = b.built.sources; sites_once = collected.once; each = λ i r at. well_built_rule r (member_from_get set.rules i r at) }
 
   collects_set : (tree : Tree) → IsBestTree set tree → Collects (run tree w) (set_bag set w)
   collects_set tree best =
-      sound_trees_collect_lem set tree w collected serves multi (best_trees_are_sound_lem set true tree well_built (λ q. laws.one_priority e defs expand rules t set h b multi) best)
+      sound_trees_collect_lem set tree w collected serves of.several (best_trees_are_sound_lem set true tree well_built (λ q. laws.one_priority p t set of.well_typed b.built of.several) best)
 
   -- 3. the calls that a rule goes over, in the order of the set
   abbrev term_at : ℕ → SiteTerm
@@ -161,16 +174,16 @@ module _ (laws : CollectingLaws) (e : TypesRead) (defs : List Definition) (expan
     member = member_from_get set.rules i r x.there
 
     is_rule : IsRuleOf p set.sites x.typed r
-    is_rule = one_rule p t set x.typed r b x.one
+    is_rule = one_rule p t set x.typed r b.built x.one
 
     ordered : OrderedFrom [] (calls_gone_over set r)
     ordered = numbers_ordered term_at over [] 0 set.sites earlier
       where
         earlier : (s : ℕ) → 0 ≤ s → over s ≡ true → (c : SiteTerm) → Contains (calls_in (term_at s)) c → IsEarlier term_at over [] 0 s c
         earlier s l o c k =
-            let d = calls_below set.sites b.sources s c k in
-            let within = below_within set.sites b.sources (suc s) s d.0 d.2 in
-            let less = b.sources d.0 d.1 (subst (λ q. Contains (sources_in q) d.1) (sym d.3) (in_head d.1 [])) in
+            let d = calls_below set.sites b.built.sources s c k in
+            let within = below_within set.sites b.built.sources (suc s) s d.0 d.2 in
+            let less = b.built.sources d.0 d.1 (subst (λ q. Contains (sources_in q) d.1) (sym d.3) (in_head d.1 [])) in
             let gate : over d.1 ≡ true = sym (ap (gate_demanded r) d.3) ∙ gate_at r member s d.0 (of_calls r s (member_found s r.iterators o)) d.2 in
             inr (d.1, gate, omega arith, omega (arith, within, less), d.4)
 
@@ -180,7 +193,7 @@ module _ (laws : CollectingLaws) (e : TypesRead) (defs : List Definition) (expan
     distinct : IsDistinct (calls_gone_over set r)
     distinct =
         distinct_map term_at (filter over (numbers_from 0 set.sites)) (distinct_filter over (numbers_from 0 set.sites) (numbers_distinct 0 set.sites))
-        (λ a c j k same. unfold_once set.sites b.sources a c collected.once (known a j) (known c k) same)
+        (λ a c j k same. unfold_once set.sites b.built.sources a c collected.once (known a j) (known c k) same)
 
     of_set : Within (calls_gone_over set r) (multi_calls p x.typed.rule)
     of_set c k =
@@ -207,7 +220,7 @@ module _ (laws : CollectingLaws) (e : TypesRead) (defs : List Definition) (expan
     result_same k c = by (matches_under p m k x.typed.rule args) refl
       where
         matched : is_some (matches_under p m k x.typed.rule args) ≡ demands_hold w k r
-        matched = laws.match e defs expand rules t set h b m args typed served apart x.typed r k x.one c
+        matched = laws.match p t set of.well_typed b.built m args serving.typed serving.serves serving.apart x.typed r k x.one c
 
         by : (o : Option SitedVars) → matches_under p m k x.typed.rule args ≡ o → results_under p m args x.typed.rule k ≡ result_in w r k
         by None q =
@@ -215,7 +228,7 @@ module _ (laws : CollectingLaws) (e : TypesRead) (defs : List Definition) (expan
             ∙ sym (cond-false (demands_hold w k r) (as_list (content_at w k r.result)) [] (sym matched ∙ ap is_some q))
         by (Some vars) q =
             ap (results_with p m k x.typed.rule) q
-            ∙ laws.results e defs expand rules t set h b m args typed served apart x.typed r k vars x.one (rule_of r member).no_calls c q
+            ∙ laws.results p t set of.well_typed b.built m args serving.typed serving.serves serving.apart x.typed r k vars x.one (rule_of r member).no_calls c q
             ∙ sym (cond-true (demands_hold w k r) (as_list (content_at w k r.result)) [] (sym matched ∙ ap is_some q))
 
     rule_bag : IsPermutation (flat_map (results_under p m args x.typed.rule) (picks p m args x.typed.rule)) (flat_map (result_in w r) (picks_over m args [] (calls_gone_over set r)))
@@ -227,7 +240,7 @@ module _ (laws : CollectingLaws) (e : TypesRead) (defs : List Definition) (expan
 
   -- 5. those of all rules
   all : map (λ (k : BuiltRule). k.rule) (built_rules p t) ≡ rs
-  all = check.built t
+  all = of.checkable.built t
 
   abbrev typed_results : TypedRule → List Content
   typed_results r = flat_map (results_under p m args r) (picks p m args r)
@@ -239,9 +252,9 @@ module _ (laws : CollectingLaws) (e : TypesRead) (defs : List Definition) (expan
   same_bag =
       same_bags typed_results built_results rs set.rules
       (λ i r at.
-      let x = of_typed_rule p t set b all i r at in
+      let x = of_typed_rule p t set b.built all i r at in
       (x.0.built, x.0.there, subst (λ q. IsPermutation (typed_results q) (built_results x.0.built)) x.1 (rule_bag i x.0)))
-      (λ i r at. let x = of_set_rule p t set b i r at in (x.0.typed.rule, typed_here p t set b all i x.0))
+      (λ i r at. let x = of_set_rule p t set b.built i r at in (x.0.typed.rule, typed_here p t set b.built all i x.0))
 
   pub collects : (tree : Tree) → IsBestTree set tree → Collects (run tree w) (bag p m rs args)
   collects tree best =
@@ -249,5 +262,6 @@ module _ (laws : CollectingLaws) (e : TypesRead) (defs : List Definition) (expan
       record { calls = c.calls; ending = c.ending; same = IsPermutation-trans (bag p m rs args) (set_bag set w) (run tree w).results same_bag c.same }
 
 pub best_trees_collect_the_bag_lem : CollectingLaws → BestTreesCollectTheBag
-best_trees_collect_the_bag_lem laws e defs expand rules t set h b check tree best multi results m args typed served apart =
-    collects laws e defs expand rules t set h b check multi results m args typed served apart tree best
+best_trees_collect_the_bag_lem laws p t set h b check tree best multi results m args typed served apart =
+    collects laws (record { program = p; term = t; set = set; built = b }) (record { well_typed = h; checkable = check; several = multi; results = results })
+    (record { meaning = m; args = args; typed = typed; serves = served; apart = apart }) tree best

@@ -1,7 +1,6 @@
 -- What built sets give to those who use them: the facts that trees rest on, and that a set means what its typed rules do.
-use Rattle.std.specs.Prelude.{◌≡◌, ℕ, ℤ, ◌<◌, Bool, true, false, not, List, [], ◌∷◌, ◌++◌, Some, slice_get, is_some, All, Contains, IsTrue, ◌⊎◌}
+use Rattle.std.specs.Prelude.{◌≡◌, ℕ, ℤ, ◌<◌, true, false, not, List, [], ◌∷◌, ◌++◌, Some, slice_get, is_some, All, Contains, IsTrue, ◌⊎◌}
 use Rattle.std.specs.List.{filter}
-use Rattle.isle_model.specs.lists.Syntax.{Definition}
 use Rattle.isle_model.specs.lists.Names.{IsDistinct}
 use Rattle.isle_model.specs.lists.Ranges.{Range, IsInRange, range_of}
 use Rattle.isle_model.specs.rules.Values.{Value, args_well_typed}
@@ -19,13 +18,10 @@ use Rattle.isle_model.specs.sites.Gates.{gate_demanded}
 use Rattle.isle_model.specs.sites.Serves.{Serves, TellsConstantsApart}
 use Rattle.isle_model.specs.trees.Run.{World, world_of}
 use Rattle.isle_model.specs.rules.Picks.{Pick, picks, SitedVars, matches_under, right_side_under}
-use Rattle.isle_model.specs.trees.Collects.{afresh, calls_in, content_at, demands_hold, as_list, HasCollectedResults, IsCollectedSet}
-use Rattle.isle_model.specs.trees.SetRuns.{tested_sites, IsTestedSet, IsTaken, IsTakenUnder}
+use Rattle.isle_model.specs.trees.Collects.{afresh, calls_in, content_at, demands_hold, as_list}
+use Rattle.isle_model.specs.trees.SetRuns.{tested_sites, IsTaken, IsTakenUnder}
 use Rattle.isle_model.specs.sites.Overlap.{BuiltRule, built_rules, Overlaps, Shadows}
 use Rattle.isle_model.specs.trees.WellBuilt.{HasOnePriority}
-use Rattle.isle_model.specs.lists.Elaborated.{TypedRules}
-use Rattle.isle_model.specs.claims.Environments.{TypesRead, IsElaborated, program_of}
-use Rattle.isle_model.specs.sites.RuleSets.{IsBuilt}
 
 -- the closed demands of each built rule of a term are all that follows from what its visit demands
 abbrev pub DemandsAreWhole : Program → ℕ → Type 0
@@ -70,16 +66,6 @@ pub record CanBeServed (p : Program) (t : ℕ) (set : SiteSet) : Type 0 where
   pub gates_of_calls : (b : BuiltRule) (r : SetRule) → AreOneRule p t set b r → All (DemandsGatesOfCall p set.sites b r) r.iterators
   pub one_priority : is_multi p t ≡ true → HasOnePriority set.rules
 
--- what holds of every set that is built of elaborated rules
-abbrev pub OfBuiltSets : (Program → ℕ → SiteSet → Type 0) → Type 0
-OfBuiltSets P =
-    (e : TypesRead) (defs : List Definition) (expand : Bool) (rules : TypedRules) (t : ℕ) (set : SiteSet)
-    → IsElaborated e defs expand rules → IsBuilt (program_of e defs rules.rules) t set → P (program_of e defs rules.rules) t set
-
--- they are such
-abbrev pub BuiltSetsCanBeServed : Type 0
-BuiltSetsCanBeServed = OfBuiltSets CanBeServed
-
 -- an integer literal of a built-in type lies in the type's range
 abbrev pub LiesInRange : Program → ℕ → ℤ → Type 0
 LiesInRange p ty z = (range : Range) → range_of (slice_get p.types ty) ≡ Some range → IsInRange range z
@@ -88,16 +74,6 @@ LiesInRange p ty z = (range : Range) → range_of (slice_get p.types ty) ≡ Som
 pub record HasNumbersInRange (p : Program) (set : SiteSet) : Type 0 where
   pub sites : (s ty : ℕ) (z : ℤ) → slice_get set.sites s ≡ Some (int_site z ty) → LiesInRange p ty z
   pub constraints : All (λ r. (s ty : ℕ) (z : ℤ) → Contains r.constraints (s, is_int z ty) → LiesInRange p ty z) set.rules
-
-abbrev pub BuiltSetsHaveNumbersInRange : Type 0
-BuiltSetsHaveNumbersInRange = OfBuiltSets (λ p t set. HasNumbersInRange p set)
-
--- and they meet what choosing from them, and collecting of them, asks
-abbrev pub BuiltSetsAreTested : Type 0
-BuiltSetsAreTested = OfBuiltSets (λ p t set. is_multi p t ≡ false → All (λ r. r.iterators ≡ []) set.rules → IsTestedSet set)
-
-abbrev pub BuiltSetsAreCollected : Type 0
-BuiltSetsAreCollected = OfBuiltSets (λ p t set. is_multi p t ≡ true → All (λ b. HasCollectedResults p b.rule) (built_rules p t) → IsCollectedSet set)
 
 -- what holds on all well-typed arguments, under every meaning that serves a term's rules and tells constants apart
 abbrev pub WhereServed : Program → ℕ → (Meaning → List Value → Type 0) → Type 0

@@ -1,5 +1,5 @@
 -- What a typed rule asks of the sites of its term: its demands, in the order of the visit, on trees without numbers.
-use Rattle.std.specs.Prelude.{ℕ, suc, Bool, true, false, ◌&&◌, List, [], ◌∷◌, ◌++◌, Option, Some, None, if◌then◌else◌, ◌||◌, not}
+use Rattle.std.specs.Prelude.{ℕ, suc, Bool, true, false, ◌&&◌, List, [], ◌∷◌, ◌++◌, length, Option, Some, None, if◌then◌else◌, ◌||◌, not}
 use Rattle.std.specs.List.{list_any}
 use Rattle.std.specs.Bool.{◌==◌}
 use Rattle.std.specs.Ordering.{int_eq}
@@ -35,14 +35,22 @@ abbrev mutual
   site_terms_eq (site_term_and a xs) (site_term_and b ys) = site_term_eq a b && site_terms_eq xs ys
   site_terms_eq _ _ = false
 
+-- what is counted of a rule, and may be too many: a variant or a struct matched with n fields, an extractor called with n
+-- outputs, an argument by its number
+pub data Count : Type 0 where
+  fields_matched : (n : ℕ) → Count
+  outputs_taken : (n : ℕ) → Count
+  argument_taken : (i : ℕ) → Count
+
 -- the demands met so far: constraints, equalities, the multi calls that the rule goes over, its impure calls in
--- order (each by the last site made for it), and all sites made
+-- order (each by the last site made for it), all sites made, and what was counted, each with how many sites were made before
 pub record Demands : Type 0 where
   pub constraints : List (SiteTerm × Constraint)
   pub equalities : List (SiteTerm × SiteTerm)
   pub iterators : List SiteTerm
   pub impure : List SiteTerm
   pub made : List SiteTerm
+  pub counted : List (Count × ℕ)
 
 -- where a visit stands: what the variables are, how many impure calls were met, and the demands
 pub record Visit : Type 0 where
@@ -51,32 +59,37 @@ pub record Visit : Type 0 where
   pub demands : Demands
 
 abbrev pub visit_start : Visit
-visit_start = record { vars = []; impure_calls = 0; demands = record { constraints = []; equalities = []; iterators = []; impure = []; made = [] } }
+visit_start = record { vars = []; impure_calls = 0; demands = record { constraints = []; equalities = []; iterators = []; impure = []; made = []; counted = [] } }
 
 abbrev pub with_demands : Visit → Demands → Visit
 with_demands v d = record { vars = v.vars; impure_calls = v.impure_calls; demands = d }
 
 abbrev pub making : List SiteTerm → Visit → Visit
 making ts v = let d = v.demands in
-    with_demands v (record { constraints = d.constraints; equalities = d.equalities; iterators = d.iterators; impure = d.impure; made = d.made ++ ts })
+    with_demands v (record { constraints = d.constraints; equalities = d.equalities; iterators = d.iterators; impure = d.impure; made = d.made ++ ts; counted = d.counted })
+
+-- something is counted, after the sites made so far
+abbrev pub counting : Count → Visit → Visit
+counting c v = let d = v.demands in
+    with_demands v (record { constraints = d.constraints; equalities = d.equalities; iterators = d.iterators; impure = d.impure; made = d.made; counted = d.counted ++ (c, length d.made) ∷ [] })
 
 abbrev pub asking : SiteTerm → Constraint → Visit → Visit
 asking s c v = let d = v.demands in
-    with_demands v (record { constraints = d.constraints ++ (s, c) ∷ []; equalities = d.equalities; iterators = d.iterators; impure = d.impure; made = d.made })
+    with_demands v (record { constraints = d.constraints ++ (s, c) ∷ []; equalities = d.equalities; iterators = d.iterators; impure = d.impure; made = d.made; counted = d.counted })
 
 -- two sites are to be equal, where they are two
 abbrev pub equating : SiteTerm → SiteTerm → Visit → Visit
 equating a b v = let d = v.demands in
     if site_term_eq a b then v
-    else with_demands v (record { constraints = d.constraints; equalities = d.equalities ++ (a, b) ∷ []; iterators = d.iterators; impure = d.impure; made = d.made })
+    else with_demands v (record { constraints = d.constraints; equalities = d.equalities ++ (a, b) ∷ []; iterators = d.iterators; impure = d.impure; made = d.made; counted = d.counted })
 
 abbrev pub iterating : SiteTerm → Visit → Visit
 iterating s v = let d = v.demands in
-    with_demands v (record { constraints = d.constraints; equalities = d.equalities; iterators = d.iterators ++ s ∷ []; impure = d.impure; made = d.made })
+    with_demands v (record { constraints = d.constraints; equalities = d.equalities; iterators = d.iterators ++ s ∷ []; impure = d.impure; made = d.made; counted = d.counted })
 
 abbrev pub calling : SiteTerm → Visit → Visit
 calling s v = let d = v.demands in
-    record { vars = v.vars; impure_calls = suc v.impure_calls; demands = record { constraints = d.constraints; equalities = d.equalities; iterators = d.iterators; impure = d.impure ++ s ∷ []; made = d.made } }
+    record { vars = v.vars; impure_calls = suc v.impure_calls; demands = record { constraints = d.constraints; equalities = d.equalities; iterators = d.iterators; impure = d.impure ++ s ∷ []; made = d.made; counted = d.counted } }
 
 abbrev pub binding : ℕ → SiteTerm → Visit → Visit
 binding x s v = record { vars = (x, s) ∷ v.vars; impure_calls = v.impure_calls; demands = v.demands }
@@ -116,20 +129,24 @@ part_sites s no_typed_pattern = []
 part_sites s (typed_pattern_and q no_typed_pattern) = []
 part_sites s (typed_pattern_and q (typed_pattern_and r rs)) = from_to (tuple_part s) 0 (typed_pattern_and q (typed_pattern_and r rs))
 
+-- outputs of a call are counted before their parts are made
+abbrev pub outputs_opened : SiteTerm → TypedPatterns → Visit → Opened
+outputs_opened s args v = opened (output_sites s args) (making (part_sites s args) (counting (outputs_taken (pattern_count args)) v))
+
 -- a multi call is gone over; a call that may answer nothing is asked to answer
 abbrev pub open_call : Flags → Bool → SiteTerm → TypedPatterns → Visit → Opened
 open_call flags infallible call args v =
     if flags.multi
-    then opened (output_sites (pick_of call) args) (making (part_sites (pick_of call) args) (iterating call (making (call ∷ (pick_of call ∷ [])) v)))
+    then outputs_opened (pick_of call) args (iterating call (making (call ∷ (pick_of call ∷ [])) v))
     else (if infallible
-    then opened (output_sites call args) (making (part_sites call args) (making (call ∷ []) v))
-    else opened (output_sites (some_part call) args) (making (part_sites (some_part call) args) (asking call is_present (making (call ∷ (some_part call ∷ [])) v))))
+    then outputs_opened call args (making (call ∷ []) v)
+    else outputs_opened (some_part call) args (asking call is_present (making (call ∷ (some_part call ∷ [])) v)))
 
 abbrev pub open_term : Kind → ℕ → SiteTerm → TypedPatterns → Visit → Opened
 open_term (a_variant ty variant) t s args v =
-    let fields = from_to (variant_field s variant) 0 args in opened fields (asking s (is_variant ty variant (pattern_count args)) (making fields v))
+    let fields = from_to (variant_field s variant) 0 args in opened fields (asking s (is_variant ty variant (pattern_count args)) (making fields (counting (fields_matched (pattern_count args)) v)))
 open_term (a_struct ty) t s args v =
-    let fields = from_to (struct_field s) 0 args in opened fields (asking s (is_struct ty (pattern_count args)) (making fields v))
+    let fields = from_to (struct_field s) 0 args in opened fields (asking s (is_struct ty (pattern_count args)) (making fields (counting (fields_matched (pattern_count args)) v)))
 open_term (a_call flags infallible) t s args v = open_call flags infallible (extractor_call t s) args v
 open_term unknown t s args v = opened [] v
 
@@ -245,10 +262,14 @@ abbrev pub asking_all : List SiteTerm → Visit → Visit
 asking_all [] v = v
 asking_all (s ∷ ss) v = asking_all ss (asking s is_present v)
 
+-- an argument is counted before it is made
+abbrev pub taking_argument : ℕ → Visit → Visit
+taking_argument i v = making (argument i ∷ []) (counting (argument_taken i) v)
+
 -- the arguments from i on
 abbrev pub visit_args : Program → ℕ → List TypedPattern → Visit → Visit
 visit_args p i [] v = v
-visit_args p i (q ∷ qs) v = visit_args p (suc i) qs (visit_pattern p q (argument i) (making (argument i ∷ []) v))
+visit_args p i (q ∷ qs) v = visit_args p (suc i) qs (visit_pattern p q (argument i) (making (argument i ∷ []) (counting (argument_taken i) v)))
 
 -- an if-let's value is needed by its pattern: each call that it unwraps is asked to answer
 abbrev pub visit_iflets : Program → List TypedIfLet → Visit → Visit

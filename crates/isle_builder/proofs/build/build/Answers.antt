@@ -14,7 +14,7 @@ add_rule-requires c =
       may = (
         program_of q.types q.defs q.rules.rules,
         take i q.rules.rules,
-        may_go_on q.types q.defs q.expand q.rules q.elaborated c.args.termenv.now q.shown c.rules_are_formed.ensures c.lists_agree.ensures i c.rule-item.result c.loop-rule.sets c.loop-rule.errors.items at
+        may_go_on q.types q.defs q.expand q.rules q.elaborated c.args.termenv.now q.shown c.elaborated_programs_are_well_typed.ensures i c.rule-item.result c.loop-rule.sets c.loop-rule.errors.items at
             (c.loop-rule.invariant.stand q.types q.defs q.expand q.rules q.elaborated q.shown),
       );
     }
@@ -27,7 +27,7 @@ loop-rule-preserved c = record {
       let at = subst (λ xs. slice_get (rule_views xs) i ≡ Some (rule_view c.rule-item.result)) same (rule_at c.deref-rule-items.result.now i c.rule-item.result c.loop-rule-test.true c.rule-item.is) in
       one_more_read e defs expand typed h c.args.termenv.now shown i c.rule-item.result c.add_rule.new.sets c.add_rule.new.errors.items at
       (c.in_ok-add_rule.ensures.goes (program_of e defs typed.rules) (take i typed.rules)
-      (may_go_on e defs expand typed h c.args.termenv.now shown c.rules_are_formed.ensures c.lists_agree.ensures i c.rule-item.result c.loop-rule.sets c.loop-rule.errors.items at (c.loop-rule.invariant.stand e defs expand typed h shown)));
+      (may_go_on e defs expand typed h c.args.termenv.now shown c.elaborated_programs_are_well_typed.ensures i c.rule-item.result c.loop-rule.sets c.loop-rule.errors.items at (c.loop-rule.invariant.stand e defs expand typed h shown)));
   single = c.in_ok-add_rule.ensures.single c.loop-rule.invariant.single;
 }
 
@@ -40,7 +40,7 @@ returns c =
     let past : length c.args.termenv.now.rules.items ≤ i = omega (arith, count, test) in
     record {
       built = λ e defs expand typed h shown.
-          all_built e defs expand typed h c.args.termenv.now shown c.built_sets_are_answered.ensures c.loop-rule.sets c.loop-rule.errors.items c.in_ok-listed.listed.items c.in_ok-listed.ensures.ordered c.in_ok-listed.ensures.listed
+          all_built e defs expand typed h c.args.termenv.now shown c.elaborated_programs_are_well_typed.ensures c.built_sets_are_answered.ensures c.loop-rule.sets c.loop-rule.errors.items c.in_ok-listed.listed.items c.in_ok-listed.ensures.ordered c.in_ok-listed.ensures.listed
           (all_read e defs expand typed h c.args.termenv.now shown i c.loop-rule.sets c.loop-rule.errors.items past (c.loop-rule.invariant.stand e defs expand typed h shown));
       single = c.loop-rule.invariant.single;
     }
