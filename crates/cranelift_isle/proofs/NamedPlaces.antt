@@ -11,7 +11,7 @@ use Rattle.isle_model.specs.lists.Elaborates.{ElaboratesRule, a_rule, Elaborates
 use Rattle.isle_model.specs.rules.Typed.{TypedRule}
 use Rattle.isle_model.specs.rules.Program.{Program, rules_of}
 use Rattle.isle_model.specs.sites.Sites.{SiteTerm}
-use Rattle.isle_model.specs.sites.Demands.{demands_of}
+use Rattle.isle_model.specs.visits.Demands.{demands_of}
 use Rattle.isle_model.specs.sites.Closure.{reported}
 use Rattle.isle_model.specs.sites.Limits.{RuleLimit, first_limit, sites_wanted, sites_after_rules}
 use Rattle.isle_model.specs.sites.Overlap.{BuiltRule, built_rules, shadows, wrong_overlaps, position_eq, has_end, other_end, is_reported_before, foremost, OverlapReport, ShadowReport, overlap_report, overlap_reports_in, overlap_reports, shadow_reports, RuleReport, limit_passed, not_reached, rules_overlap, rule_shadows, build_reports_of, build_reports_after, build_reports, overlap_and_shadow_reports, check_reports}

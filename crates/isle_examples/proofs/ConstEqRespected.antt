@@ -3,7 +3,7 @@ use Rattle.std.proofs.Common.{◌≡◌, Some, slice_get, refl, sym, subst, arit
 use Rattle.std.proofs.lemmas.Option.{none-some}
 use Rattle.isle_model.proofs.Members.{in_alone}
 use Rattle.isle_model.specs.sites.Closure.{field_terms}
-use Rattle.isle_model.specs.sites.Demands.{demands_of}
+use Rattle.isle_model.specs.visits.Demands.{demands_of}
 use Rattle.isle_model.specs.sites.Sites.{Constraint, SiteTerm}
 use Rattle.isle_laws_demands.specs.ClosureLaws.{RespectsDemands}
 use Rattle.isle_laws_demands.proofs.closure.Classes.{classes_bound}

@@ -13,7 +13,7 @@ use Rattle.isle_model.specs.rules.Picks.{Pick, call_answer, site_values}
 use Rattle.isle_model.specs.rules.Program.{kind}
 use Rattle.isle_model.specs.rules.Typed.{TypedRule}
 use Rattle.isle_model.specs.rules.Values.{Values, no_value, value_and}
-use Rattle.isle_model.specs.sites.Demands.{demands_of}
+use Rattle.isle_model.specs.visits.Demands.{demands_of}
 use Rattle.isle_model.specs.sites.Serves.{Serves, TellsConstantsApart, fits_constructor}
 use Rattle.isle_model.specs.sites.Sites.{SetRule, SiteTerm, SiteTerms, constructor_call, constructor_site, extractor_call, no_site_term, site_term_and}
 use Rattle.isle_model.specs.trees.Collects.{content_at}

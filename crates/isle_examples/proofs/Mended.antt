@@ -10,7 +10,7 @@ use Rattle.isle_model.specs.trees.Places.{all_below, joins_in, waits}
 use Rattle.isle_model.specs.trees.Run.{content_fields}
 use Rattle.isle_model.specs.trees.SetRuns.{ServesTests, HasNoWrongOverlap, OverlapInSet}
 use Rattle.isle_model.proofs.Members.{nothing_in, in_alone, in_cases, in_head, in_tail}
-use Rattle.isle_model.specs.sites.Demands.{constraint_eq}
+use Rattle.isle_model.specs.visits.Demands.{constraint_eq}
 use Rattle.isle_model.specs.lists.TypeTable.{IsValidTypes}
 use Rattle.isle_model.specs.claims.Environments.{environment_of, types_read}
 use Rattle.isle_model.specs.lists.KnownTypes.{types_of}

@@ -2,7 +2,7 @@
 use Rattle.std.proofs.Common.{◌≡◌, ◌∷◌, [], ◌∙◌, ℕ, pos, Bool, true, false, cond, List, Option, Some, None, refl, sym, arith}
 use Rattle.isle_model.proofs.Members.{in_alone, nothing_in}
 use Rattle.isle_model.proofs.SameSites.{term_means}
-use Rattle.isle_model.specs.sites.Demands.{site_term_eq}
+use Rattle.isle_model.specs.visits.Demands.{site_term_eq}
 use Rattle.isle_model.specs.sites.Sites.{SiteTerm}
 use Rattle.isle_laws_runs.specs.PickLaws.{GiveSamePlaces}
 use Rattle.isle_laws_runs.specs.Orders.{IsOfPlaces}

@@ -13,7 +13,7 @@ use Rattle.isle_model.specs.rules.Picks.{HasContent, Pick, site_content, site_va
 use Rattle.isle_model.specs.rules.Program.{Program, kind}
 use Rattle.isle_model.specs.rules.Typed.{TypedRule}
 use Rattle.isle_model.specs.rules.Values.{Value, Values, atom, truth, value_eq, well_typed}
-use Rattle.isle_model.specs.sites.Demands.{demands_of}
+use Rattle.isle_model.specs.visits.Demands.{demands_of}
 use Rattle.isle_model.specs.sites.Serves.{Serves, TellsConstantsApart, asked, constant_type, fits_constructor, fits_extractor, is_open_constant, is_own_type, tested_constants, typed_as}
 use Rattle.isle_model.specs.sites.Sites.{SiteTerm, SiteTerms, argument, bool_term, constructor_call, extractor_call, int_term, no_site_term, prim_term, site_term_and}
 use Rattle.isle_model.specs.trees.Run.{as_value}

@@ -9,7 +9,7 @@ use Rattle.isle_model.specs.lists.Elaborated.{TypedRules}
 use Rattle.isle_model.specs.lists.Names.{IsDistinct}
 use Rattle.isle_model.specs.lists.Syntax.{Definition, Position}
 use Rattle.isle_model.specs.rules.Program.{Program, is_multi, numbers_from, rules_of}
-use Rattle.isle_model.specs.sites.Demands.{demands_of, result_of}
+use Rattle.isle_model.specs.visits.Demands.{demands_of, result_of}
 use Rattle.isle_model.specs.sites.Gates.{gate_demanded}
 use Rattle.isle_model.specs.sites.Limits.{most_sites, sites_after_rules}
 use Rattle.isle_model.specs.sites.Overlap.{BuiltRule, built_rules}

@@ -14,7 +14,7 @@ use Rattle.isle_laws_demands.proofs.total.SameChoice.{choice_is_of_functions_lem
 use Rattle.isle_laws_demands.specs.TotalLaws.{Restricts}
 use Rattle.isle_model.specs.rules.Choice.{choice}
 use Rattle.isle_model.specs.rules.Typed.{TypedRule}
-use Rattle.isle_model.specs.sites.Demands.{demands_of}
+use Rattle.isle_model.specs.visits.Demands.{demands_of}
 use Rattle.isle_examples.proofs.SampleStages.{extract_stages}
 use Rattle.isle_model.specs.claims.Layers.{own_program}
 use Rattle.isle_laws_lists.proofs.WellTypedRules.{read_programs_are_well_typed}

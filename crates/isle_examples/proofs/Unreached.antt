@@ -7,7 +7,7 @@ use Rattle.isle_model.specs.rules.Meaning.{impure_answer, nothing}
 use Rattle.isle_model.specs.rules.Picks.{HasContent, Pick}
 use Rattle.isle_model.specs.rules.Program.{kind}
 use Rattle.isle_model.specs.rules.Typed.{TypedRule}
-use Rattle.isle_model.specs.sites.Demands.{demands_of}
+use Rattle.isle_model.specs.visits.Demands.{demands_of}
 use Rattle.isle_model.specs.sites.Serves.{fits_constructor}
 use Rattle.isle_model.specs.sites.Sites.{SiteTerm, SiteTerms, constructor_call, extractor_call, some_part}
 use Rattle.isle_examples.proofs.Served.{literals_apart, serves_from}

@@ -6,7 +6,7 @@ use Rattle.isle_model.specs.rules.Matching.{matches}
 use Rattle.isle_model.specs.rules.Meaning.{int_literal, literal_value}
 use Rattle.isle_model.specs.rules.Typed.{TypedRule}
 use Rattle.isle_model.specs.rules.Values.{atom, value_eq, well_typed}
-use Rattle.isle_model.specs.sites.Demands.{demands_of}
+use Rattle.isle_model.specs.visits.Demands.{demands_of}
 use Rattle.isle_model.specs.sites.Serves.{Serves, asked}
 use Rattle.isle_model.specs.sites.Sites.{SiteTerm, bool_term, constructor_call, extractor_call, int_term, prim_term}
 use Rattle.isle_examples.proofs.Served.{literals_apart, some_and, some_and_first, some_and_is, some_and_means}

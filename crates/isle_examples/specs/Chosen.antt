@@ -5,7 +5,7 @@ use Rattle.isle_model.specs.rules.Choice.{MatchesOnce}
 use Rattle.isle_model.specs.rules.Program.{arg_types, is_multi, rules_of}
 use Rattle.isle_model.specs.rules.Typed.{TypedRule}
 use Rattle.isle_model.specs.rules.Values.{args_well_typed}
-use Rattle.isle_model.specs.sites.Demands.{demands_of}
+use Rattle.isle_model.specs.visits.Demands.{demands_of}
 use Rattle.isle_examples.specs.Extract.{extract_meaning, extract_program, extract_set, extract_tree}
 use Rattle.isle_examples.specs.MeaningForms.{given, just_number}
 

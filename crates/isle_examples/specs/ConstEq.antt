@@ -7,7 +7,7 @@ use Rattle.isle_model.specs.lists.Elaborated.{TypedRules}
 use Rattle.isle_model.specs.lists.Syntax.{Definition}
 use Rattle.isle_model.specs.rules.Program.{Program}
 use Rattle.isle_model.specs.rules.Typed.{TypedRule, make_var, match_bind, match_int, match_var}
-use Rattle.isle_model.specs.sites.Demands.{demands_of}
+use Rattle.isle_model.specs.visits.Demands.{demands_of}
 use Rattle.isle_model.specs.sites.Sites.{SiteSet, SiteTerm, argument, argument_site}
 use Rattle.isle_model.specs.sites.Closure.{Joined}
 use Rattle.isle_model.specs.trees.Trees.{Tree, match_at, no_step, step}

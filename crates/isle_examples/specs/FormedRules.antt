@@ -5,7 +5,7 @@ use Rattle.isle_model.specs.lists.Tables.{Flags}
 use Rattle.isle_model.specs.rules.Program.{Program}
 use Rattle.isle_model.specs.rules.Typed.{TypedExpr, TypedPattern, TypedRule, make_int, make_term, make_var, match_any, match_int, match_var}
 use Rattle.isle_model.specs.sites.DemandedGates.{ArePureIfLets}
-use Rattle.isle_model.specs.sites.Demands.{demands_of, result_of}
+use Rattle.isle_model.specs.visits.Demands.{demands_of, result_of}
 use Rattle.isle_model.specs.sites.Limits.{arguments_limit, passed_in_visit}
 use Rattle.isle_model.specs.sites.Sites.{constructor_call, some_made, some_part}
 use Rattle.isle_examples.specs.SetForms.{a0, is_byte, one_source}

@@ -5,7 +5,7 @@ use Rattle.isle_model.specs.rules.Picks.{bag}
 use Rattle.isle_model.specs.rules.Program.{Program}
 use Rattle.isle_model.specs.rules.Typed.{TypedExpr, TypedIfLet, TypedPattern, TypedRule, make_int, make_term, make_var, match_and, match_any, match_term}
 use Rattle.isle_model.specs.rules.Values.{Values, value_and}
-use Rattle.isle_model.specs.sites.Demands.{demands_of, result_of}
+use Rattle.isle_model.specs.visits.Demands.{demands_of, result_of}
 use Rattle.isle_model.specs.sites.Serves.{Serves}
 use Rattle.isle_model.specs.sites.Sites.{SetRule, SiteSet, argument_site, constructor_site, iterator_site, unfold_site}
 use Rattle.isle_model.specs.trees.Collects.{IsCollectedRule, LeavesNoCallUnused, set_bag}

@@ -4,7 +4,7 @@ use Rattle.isle_model.specs.rules.Meaning.{Content, Meaning, content_and, many, 
 use Rattle.isle_model.specs.rules.Picks.{Pick}
 use Rattle.isle_model.specs.rules.Values.{value_and}
 use Rattle.isle_model.specs.sites.Closure.{DemandsHold}
-use Rattle.isle_model.specs.sites.Demands.{Demands}
+use Rattle.isle_model.specs.visits.Demands.{Demands}
 use Rattle.isle_model.specs.sites.Sites.{SiteTerm, extractor_call, pick_of, tuple_part}
 use Rattle.isle_examples.specs.MeaningForms.{alone, given, literal, mute, v}
 use Rattle.isle_examples.specs.SetForms.{a0, asking, is_byte}

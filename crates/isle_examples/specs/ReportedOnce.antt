@@ -1,7 +1,7 @@
 -- Reports of samples: a mask and a wrong overlap are each reported once; multi calls are gone over.
 use Rattle.std.specs.Prelude.{◌∷◌, []}
 use Rattle.isle_model.specs.sites.DemandedGates.{GoesOverMultiCalls, HasNoPartialMulti}
-use Rattle.isle_model.specs.sites.Demands.{demands_of}
+use Rattle.isle_model.specs.visits.Demands.{demands_of}
 use Rattle.isle_model.specs.sites.Overlap.{HasDistinctPositions, OverlapsWrongly, overlap_reports, shadow_reports, wrong_overlaps}
 use Rattle.isle_laws_demands.specs.ReportLaws.{IsListedOnce, IsOnlyOfMask}
 use Rattle.isle_examples.specs.Multi.{each_m, multi_program}

@@ -1,7 +1,7 @@
 -- Short forms of sites, of sets of rules, and of trees.
 use Rattle.std.specs.Prelude.{ℕ, ℤ, pos, List, [], Option, None}
 use Rattle.isle_model.specs.sites.Sites.{Site, int_site, Constraint, is_int, SetRule, SiteTerm, argument, no_site_term, site_term_and, SiteTerms}
-use Rattle.isle_model.specs.sites.Demands.{Demands}
+use Rattle.isle_model.specs.visits.Demands.{Demands}
 use Rattle.isle_model.specs.trees.Trees.{Tree, step, return_at, Arms, no_arm, arm}
 use Rattle.isle_examples.specs.Written.{at}
 

@@ -4,7 +4,7 @@ use Rattle.isle_model.specs.lists.Formed.{is_formed_rule}
 use Rattle.isle_model.specs.rules.Program.{Program, is_multi}
 use Rattle.isle_model.specs.rules.Typed.{TypedRule}
 use Rattle.isle_model.specs.sites.Sites.{Constraint, SiteTerm, SiteSet}
-use Rattle.isle_model.specs.sites.Demands.{demands_of}
+use Rattle.isle_model.specs.visits.Demands.{demands_of}
 use Rattle.isle_model.specs.sites.Closure.{ClosedIsWhole, closed}
 use Rattle.isle_model.specs.sites.Overlap.{is_built, built_rules}
 use Rattle.isle_model.specs.sites.RuleSets.{IsBuilt}

@@ -3,7 +3,7 @@ use Rattle.std.specs.Prelude.{◌≡◌, ℕ, ◌≤◌, Bool, false, ◌&&◌, 
 use Rattle.isle_model.specs.lists.Syntax.{Position}
 use Rattle.isle_model.specs.rules.Typed.{TypedRule}
 use Rattle.isle_model.specs.rules.Program.{Program}
-use Rattle.isle_model.specs.sites.Demands.{demands_of}
+use Rattle.isle_model.specs.visits.Demands.{demands_of}
 use Rattle.isle_model.specs.sites.Closure.{reported}
 use Rattle.isle_model.specs.sites.Limits.{RuleLimit, PassesLimit, sites_wanted}
 use Rattle.isle_model.specs.sites.Overlap.{HasDistinctPositions, BuiltRule, OverlapsWrongly, RuleReport, position_eq}

@@ -7,7 +7,7 @@ use Rattle.isle_model.specs.lists.Names.{IsDistinct}
 use Rattle.isle_model.specs.rules.Typed.{TypedRule, TypedPattern, TypedExpr, TypedIfLet}
 use Rattle.isle_model.specs.rules.Program.{Program, rules_of, terms_with_rules}
 use Rattle.isle_model.specs.sites.Sites.{Constraint, Site, SetRule, SiteSet, SiteTerm, sources_at, unfold_site}
-use Rattle.isle_model.specs.sites.Demands.{Demands, demands_of, has_site, with_sites, Count, Visit, counting, visit_rule, visit_pattern, visit_args, visit_expr, visit_iflets}
+use Rattle.isle_model.specs.visits.Demands.{Demands, demands_of, has_site, with_sites, Count, Visit, counting, visit_rule, visit_pattern, visit_args, visit_expr, visit_iflets}
 use Rattle.isle_model.specs.sites.Closure.{Closed, before_closing, closed, closing, constraint_of, in_order, is_unreachable, most_closing_steps, reported}
 use Rattle.isle_model.specs.sites.Limits.{RuleLimit, sites_limit, first_limit, passed_in_visit, most_sites, sites_after_rule, sites_after_rules, sites_reached, sites_wanted, passed_by, first_passed}
 use Rattle.isle_model.specs.sites.Overlap.{RuleReport, limit_passed, not_reached, built_from, built_rule, build_reports, build_reports_after, build_reports_of}

@@ -4,7 +4,7 @@ use Rattle.isle_model.specs.lists.Names.{IsDistinct}
 use Rattle.isle_model.specs.rules.Program.{Program, is_multi}
 use Rattle.isle_model.specs.rules.Typed.{TypedRule}
 use Rattle.isle_model.specs.sites.Sites.{Constraint, SetRule, SiteTerm, SiteSet}
-use Rattle.isle_model.specs.sites.Demands.{Demands, demands_of}
+use Rattle.isle_model.specs.visits.Demands.{Demands, demands_of}
 use Rattle.isle_model.specs.sites.Closure.{IsUnreachable, closed}
 use Rattle.isle_model.specs.trees.WellBuilt.{IsWellBuilt, HasOnePriority}
 use Rattle.isle_model.specs.lists.Formed.{is_formed_rule}

@@ -9,7 +9,7 @@ use Rattle.isle_model.specs.rules.Meaning.{bool_literal, int_literal, Meaning}
 use Rattle.isle_model.specs.rules.Program.{Program, Kind, a_variant, a_struct, a_call, unknown, kind, rules_of}
 use Rattle.isle_model.specs.rules.Typed.{TypedPattern, match_bind, match_var, match_bool, match_int, match_prim, match_term, match_any, match_and, TypedPatterns, no_typed_pattern, typed_pattern_and, TypedIfLet, TypedRule}
 use Rattle.isle_model.specs.sites.Sites.{Constraint, is_variant, is_struct, is_bool, is_int, is_prim, is_present, SiteTerm, bool_term, int_term, prim_term, argument, extractor_call, pick_of, some_part, variant_field, struct_field}
-use Rattle.isle_model.specs.sites.Demands.{site_term_eq, Visit, visit_start, making, asking, equating, binding, var_site, from_to, pattern_count, Opened, open_call, open_term, visit_pattern, visit_each, visit_all, visit_expr, unwraps, asking_all, visit_args, visit_iflets, demands_of, taking_argument}
+use Rattle.isle_model.specs.visits.Demands.{site_term_eq, Visit, visit_start, making, asking, equating, binding, var_site, from_to, pattern_count, Opened, open_call, open_term, visit_pattern, visit_each, visit_all, visit_expr, unwraps, asking_all, visit_args, visit_iflets, demands_of, taking_argument}
 use Rattle.isle_model.specs.sites.Serves.{constant_site, constant_type, written_type, written_value, tested_constants, is_open_constant, is_type_with_parts, TellsConstantsApart}
 use Rattle.isle_model.specs.claims.Environments.{program_of}
 use Rattle.isle_model.proofs.Either.{either}

@@ -10,7 +10,7 @@ use Rattle.isle_model.specs.rules.Picks.{Pick, site_content, multi_calls, places
 use Rattle.isle_model.specs.trees.Run.{run, world_of}
 use Rattle.isle_model.specs.trees.Collects.{Collects, as_list, HasCollectedResults}
 use Rattle.isle_model.specs.sites.Sites.{SiteTerm}
-use Rattle.isle_model.specs.sites.Demands.{demands_of, result_of}
+use Rattle.isle_model.specs.visits.Demands.{demands_of, result_of}
 use Rattle.isle_model.specs.sites.DemandedGates.{CanBeTested}
 use Rattle.isle_model.specs.sites.Closure.{DemandsHold}
 use Rattle.isle_model.specs.claims.Environments.{program_of}

@@ -8,7 +8,7 @@ use Rattle.isle_model.specs.rules.Program.{Program, is_multi, arg_types, rules_o
 use Rattle.isle_model.specs.rules.Picks.{bag}
 use Rattle.isle_model.specs.rules.Typed.{TypedRule}
 use Rattle.isle_model.specs.sites.Sites.{Site}
-use Rattle.isle_model.specs.sites.Demands.{demands_of}
+use Rattle.isle_model.specs.visits.Demands.{demands_of}
 use Rattle.isle_model.specs.sites.Serves.{Serves}
 use Rattle.isle_model.specs.trees.Collects.{Collects, CollectsTheBag, HasCollectedResults}
 use Rattle.isle_model.specs.trees.Run.{run, world_of}

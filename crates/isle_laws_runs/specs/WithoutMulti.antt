@@ -7,7 +7,7 @@ use Rattle.isle_model.specs.rules.CallsNoMulti.{CallsNoMulti}
 use Rattle.isle_model.specs.rules.Matching.{Vars, matches}
 use Rattle.isle_model.specs.rules.RightSide.{right_side}
 use Rattle.isle_model.specs.rules.Choice.{with_vars}
-use Rattle.isle_model.specs.sites.Demands.{demands_of}
+use Rattle.isle_model.specs.visits.Demands.{demands_of}
 use Rattle.isle_model.specs.rules.Picks.{Pick, picks, SitedVars, values_in, matches_under, right_side_under, bag}
 use Rattle.isle_model.specs.rules.Typed.{TypedRule}
 

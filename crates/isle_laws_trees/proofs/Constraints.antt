@@ -5,7 +5,7 @@ use Rattle.std.proofs.lemmas.Bool.{and_parts, and_from, false≢true}
 use Rattle.std.proofs.lemmas.Option.{none-some, same_Some}
 use Rattle.isle_model.specs.sites.Sites.{Constraint, SetRule}
 use Rattle.isle_model.specs.trees.Places.{constraint_at}
-use Rattle.isle_model.specs.sites.Demands.{constraint_eq}
+use Rattle.isle_model.specs.visits.Demands.{constraint_eq}
 use Rattle.isle_model.specs.trees.Sound.{AllAsk}
 use Rattle.isle_model.specs.trees.Judge.{is_that, asks_for, asks_at, site_eq, sites_eq}
 use Rattle.isle_model.proofs.SameSites.{number_same, constraint_means, same_constraint}

@@ -5,7 +5,7 @@ use Rattle.std.proofs.lemmas.List.{length-map}
 use Rattle.isle_model.specs.rules.Typed.{TypedRule}
 use Rattle.isle_model.specs.rules.Program.{Program, rules_of}
 use Rattle.isle_model.specs.sites.Sites.{SiteTerm}
-use Rattle.isle_model.specs.sites.Demands.{demands_of}
+use Rattle.isle_model.specs.visits.Demands.{demands_of}
 use Rattle.isle_model.specs.sites.Closure.{is_unreachable}
 use Rattle.isle_model.specs.sites.Limits.{first_limit, sites_after_rule, sites_after_rules}
 use Rattle.isle_model.specs.sites.Overlap.{BuiltRule, is_built, built_rule, built_from}

@@ -3,7 +3,7 @@ use Rattle.std.proofs.Common.{◌≡◌, true, List, [], ◌∷◌, ◌++◌, sy
 use Rattle.std.proofs.lemmas.Bool.{cases_Bool, cond-true, cond-false, false≢true}
 use Rattle.isle_model.specs.lists.Names.{IsDistinct}
 use Rattle.isle_model.specs.sites.Sites.{SiteTerm}
-use Rattle.isle_model.specs.sites.Demands.{site_term_eq, has_site, with_sites}
+use Rattle.isle_model.specs.visits.Demands.{site_term_eq, has_site, with_sites}
 use Rattle.isle_model.proofs.Elements.{In, in_slice, or_split, or_left, or_right}
 use Rattle.isle_model.proofs.SameSites.{term_means, same_term}
 use Rattle.isle_model.proofs.Positions.{distinct_push}

@@ -3,3 +3,4 @@ pub mod lists
 pub mod rules
 pub mod sites
 pub mod trees
+pub mod visits

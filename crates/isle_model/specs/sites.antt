@@ -1,7 +1,6 @@
--- What rules ask of the sites of their term: demands, closure, overlap, limits, rule sets.
+-- Sites, and what follows of the demands of rules: closure, overlap, limits, rule sets.
 pub mod Closure
 pub mod DemandedGates
-pub mod Demands
 pub mod Gates
 pub mod Limits
 pub mod Overlap

@@ -8,7 +8,7 @@ use Rattle.std.proofs.Math.Bool.{and-false}
 use Rattle.std.proofs.lemmas.List.{length-append, length-replicate, map-append, take_more}
 use Rattle.std.proofs.lemmas.Option.{same_Some, slice_get_within}
 use Rattle.isle_model.specs.sites.Sites.{Constraint, is_variant, is_struct, is_bool, is_int, is_prim, is_present, SetRule}
-use Rattle.isle_model.specs.sites.Demands.{constraint_eq}
+use Rattle.isle_model.specs.visits.Demands.{constraint_eq}
 use Rattle.isle_model.specs.sites.SetRules.{sites_differ, differs_at, overlap_between, overlap_wrongly, is_mask_of, may_both_match, is_subset, no_overlap, some_overlap, is_subset_of_sites}
 use Rattle.isle_model.specs.trees.Places.{constraint_at}
 use Rattle.isle_model.specs.trees.Best.{total_constraints}

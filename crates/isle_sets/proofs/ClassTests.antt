@@ -2,7 +2,7 @@
 use Rattle.std.proofs.Common.{◌≡◌, ◌⊎◌, Bool, true, false, not, ◌&&◌, ◌||◌, if◌then◌else◌, List, [], ◌∷◌, refl, sym, ap, ◌∙◌, subst, inl, inr}
 use Rattle.std.proofs.lemmas.Bool.{cases_Bool, cond-true, cond-false, and_parts, and_from, false_from_ne_true, not_from_false, both_ways, not-true}
 use Rattle.isle_model.specs.sites.Sites.{SiteTerm}
-use Rattle.isle_model.specs.sites.Demands.{site_term_eq, has_site}
+use Rattle.isle_model.specs.visits.Demands.{site_term_eq, has_site}
 use Rattle.isle_model.specs.sites.Closure.{class_at, without_class_of, merged_classes, merged_all}
 use Rattle.isle_model.proofs.Elements.{In, any_in, in_any, in_either, in_left, in_right, or_split, or_left, or_right}
 use Rattle.isle_model.proofs.SameSites.{term_means, same_term}

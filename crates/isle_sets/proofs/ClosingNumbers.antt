@@ -10,7 +10,7 @@ use Rattle.std.specs.List.Sorted.{IsStrictlySortedBy}
 use Rattle.std.proofs.lemmas.Bool.{cases_Bool, cond-true, cond-false, false≢true, and_parts, and_from}
 use Rattle.std.proofs.lemmas.List.Elements.{All-nil, All-cons}
 use Rattle.isle_model.specs.sites.Sites.{Constraint, SiteTerm}
-use Rattle.isle_model.specs.sites.Demands.{site_term_eq, has_site}
+use Rattle.isle_model.specs.visits.Demands.{site_term_eq, has_site}
 use Rattle.isle_model.specs.sites.Closure.{constraint_of, with_constraint, with_constraints, is_in_class, next_constrained}
 use Rattle.isle_model.proofs.Elements.{In, any_in, in_any, some_is, none_some}
 use Rattle.isle_model.proofs.SameSites.{term_means, same_term}

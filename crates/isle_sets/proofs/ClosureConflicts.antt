@@ -4,7 +4,7 @@ use Rattle.std.proofs.lemmas.Bool.{cases_Bool, cond-true, cond-false, and_parts,
 use Rattle.std.proofs.lemmas.Option.{slice_get_within}
 use Rattle.isle_model.specs.trees.Places.{constraint_at}
 use Rattle.isle_model.specs.sites.Sites.{Site, Constraint, SiteTerm, unfold_site}
-use Rattle.isle_model.specs.sites.Demands.{Demands, has_site, with_sites, constraint_eq}
+use Rattle.isle_model.specs.visits.Demands.{Demands, has_site, with_sites, constraint_eq}
 use Rattle.isle_model.specs.sites.Closure.{Unreachability, conflict, constraint_of, constraint_at_site, in_site_order, with_constrained, same_class, class_names, spoken_of, differs_in_class, first_differing, first_conflict, with_constraints}
 use Rattle.isle_model.proofs.Elements.{In, contains_from_in, in_from_contains, some_is, in_map, map_in}
 use Rattle.isle_model.proofs.SitesMade.{in_has}

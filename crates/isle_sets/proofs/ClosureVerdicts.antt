@@ -2,7 +2,7 @@
 use Rattle.std.proofs.Common.{◌≡◌, ◌↔◌, ℕ, Bool, true, false, if◌then◌else◌, List, [], ◌∷◌, Contains, refl, sym, ap, ◌∙◌, subst, inl, eqb-true}
 use Rattle.isle_model.specs.trees.Places.{constraint_at}
 use Rattle.isle_model.specs.sites.Sites.{Site, Constraint, SiteTerm, unfold_site}
-use Rattle.isle_model.specs.sites.Demands.{Demands, with_sites}
+use Rattle.isle_model.specs.visits.Demands.{Demands, with_sites}
 use Rattle.isle_model.specs.sites.Closure.{Unreachability, cycle, class_name, class_names, first_conflict, first_filled, has_cycle, in_site_order, reported, spoken_of, with_constrained}
 use Rattle.isle_model.proofs.Elements.{contains_from_in}
 use Rattle.isle_laws_demands.proofs.closure.Names.{name_same}

@@ -4,7 +4,7 @@ use Rattle.std.specs.Prelude.{nat_eq}
 use Rattle.std.proofs.lemmas.Bool.{cases_Bool, cond-true, cond-false, and_from, false≢true}
 use Rattle.std.proofs.Math.Bool.{and-false}
 use Rattle.isle_model.specs.sites.Sites.{Constraint}
-use Rattle.isle_model.specs.sites.Demands.{constraint_eq}
+use Rattle.isle_model.specs.visits.Demands.{constraint_eq}
 use Rattle.isle_model.specs.sites.Closure.{Unreachability, conflict, first_filled}
 use Rattle.isle_model.proofs.Elements.{In, none_some, in_right, in_either}
 use Rattle.isle_model.proofs.SameSites.{constraint_means, same_constraint}

@@ -5,7 +5,7 @@ use Rattle.std.proofs.lemmas.Bool.{and_parts, cases_Bool, both_ways, eq-eqb, ne_
 use Rattle.std.proofs.lemmas.Bool.Decides.{Decides-ltb}
 use Rattle.std.proofs.Math.Bool.{and-false}
 use Rattle.isle_model.specs.sites.Sites as Sites
-use Rattle.isle_model.specs.sites.Demands.{constraint_eq}
+use Rattle.isle_model.specs.visits.Demands.{constraint_eq}
 use Rattle.isle_model.specs.sites.SetRules.{differs_at, sites_differ, agrees_at, all_agree}
 use Rattle.isle_model.proofs.SameSites.{constraint_means, same_constraint}
 use Rattle.isle_sets.specs.Listings.{is_below_first, ascends, sites_of}

@@ -4,7 +4,7 @@ use Rattle.std.specs.HashMap.{get}
 use Rattle.isle_model.specs.lists.Names.{IsDistinct}
 use Rattle.isle_model.specs.sites.Sites.{Site, Constraint, sources_of, sources_at, SiteTerm, layer, unfold_site}
 use Rattle.isle_model.specs.sites.Closure.{field_terms}
-use Rattle.isle_model.specs.sites.Demands.{with_sites}
+use Rattle.isle_model.specs.visits.Demands.{with_sites}
 use Rattle.isle_model.specs.sites.RuleSets.{StandFor}
 use Rattle.isle_model.specs.sites.Limits.{most_sites}
 use Rattle.isle_base.specs.declared.syntax.Limit.TheVariants as Limits

@@ -4,7 +4,7 @@ use Rattle.std.specs.Option.{unwrap_or}
 use Rattle.isle_disjointsets.specs.Partition.{set_of}
 use Rattle.isle_laws_demands.specs.FieldLaws.{GivesField, IsGiven}
 use Rattle.isle_model.specs.sites.Sites.{Site, Constraint, SiteTerm, unfold_site}
-use Rattle.isle_model.specs.sites.Demands.{Demands, constraint_eq}
+use Rattle.isle_model.specs.visits.Demands.{Demands, constraint_eq}
 use Rattle.isle_model.specs.sites.Closure.{Unreachability, conflict, cycle, before_closing, class_names, conflicts_met, same_class, spoken_of}
 use Rattle.isle_sets.specs.Closings.{AreDemandsOf}
 use Rattle.isle_sets.specs.SiteViews.{constraint_view}

@@ -1,6 +1,6 @@
 //! Whether two rules of a set may both match.
 ghost use Rattle.std.specs.Prelude.{◌≡◌, ◌==◌, ◌&&◌, ◌+◌, IsTrue, MatchOption, length, sum_by};
-ghost use Rattle.isle_model.specs.sites.Demands.{constraint_eq};
+ghost use Rattle.isle_model.specs.visits.Demands.{constraint_eq};
 ghost use Rattle.isle_model.specs.sites.SetRules.{equates_none, overlap_between, sites_differ};
 ghost use Rattle.isle_sets.specs.Listings.{ascends, sites_of};
 ghost use Rattle.isle_sets.specs.Overlaps.{overlap_view, IsComparedAs};

@@ -3,7 +3,7 @@ ghost use Rattle.std.specs.Prelude.{◌≡◌, ℕ, List, [], ◌∷◌, None, S
 ghost use Rattle.std.specs.BTreeMap.{get};
 ghost use Rattle.std.specs.Ordering.{nat_cmp};
 ghost use Rattle.isle_model.specs.sites.Closure.{cycle, first_filled, reported};
-ghost use Rattle.isle_model.specs.sites.Demands.{Demands, constraint_eq, with_sites};
+ghost use Rattle.isle_model.specs.visits.Demands.{Demands, constraint_eq, with_sites};
 ghost use Rattle.isle_model.specs.sites.Sites.{SiteTerm};
 ghost use Rattle.isle_sets.specs.SiteTables.{IsTable, table_sites};
 ghost use Rattle.isle_sets.specs.SiteViews.{constraint_view, constraint_views};

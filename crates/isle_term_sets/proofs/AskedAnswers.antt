@@ -7,7 +7,7 @@ use Rattle.std.proofs.Math.Seq.{take-suc}
 use Rattle.isle_laws_demands.proofs.closure.Whole.{constraint_there}
 use Rattle.isle_base.specs.Stable.{Members}
 use Rattle.isle_model.specs.sites.Sites.{Constraint, is_present, SiteTerm, unfold_site}
-use Rattle.isle_model.specs.sites.Demands.{site_term_eq, has_site, Visit, asking, asking_all, unwraps}
+use Rattle.isle_model.specs.visits.Demands.{site_term_eq, has_site, Visit, asking, asking_all, unwraps}
 use Rattle.isle_model.specs.sites.Closure.{conflict_with, conflicts_met, constraint_of, with_constraints, before_closing}
 use Rattle.isle_model.proofs.Elements.{In, in_from_contains, contains_from_in, in_either, none_some}
 use Rattle.isle_model.proofs.Members.{from_map, in_map}

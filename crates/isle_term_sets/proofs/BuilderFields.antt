@@ -10,7 +10,7 @@ use Rattle.std.proofs.lemmas.Result.{IfErr-weaker}
 use Rattle.std.proofs.lemmas.List.Elements.{All-nil, All-push, All-weaker}
 use Rattle.isle_model.specs.sites.Sites.{Constraint, is_present, Site, SiteTerm, layer, pick_of, some_part, sources_of, tuple_part, unfold_site}
 use Rattle.isle_model.specs.rules.Typed.{TypedPatterns, no_typed_pattern, typed_pattern_and}
-use Rattle.isle_model.specs.sites.Demands.{Visit, with_sites, asking, iterating, making, pattern_count, Opened, opened, open_call, output_sites, part_sites}
+use Rattle.isle_model.specs.visits.Demands.{Visit, with_sites, asking, iterating, making, pattern_count, Opened, opened, open_call, output_sites, part_sites}
 use Rattle.isle_model.specs.sites.Closure.{fields_from, field_terms}
 use Rattle.isle_model.specs.sites.Limits.{most_outputs}
 use Rattle.isle_model.specs.lists.Tables.{Flags}

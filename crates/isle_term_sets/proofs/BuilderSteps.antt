@@ -8,7 +8,7 @@ use Rattle.std.proofs.lemmas.List.{append_assoc, append-nil, length_push, map-ap
 use Rattle.std.proofs.lemmas.List.Elements.{All-nil, All-push, All-weaker, Contains-append_left, Contains-append_right, Contains-append_cases}
 use Rattle.isle_base.specs.Stable.{Members, contains}
 use Rattle.isle_model.specs.sites.Sites.{Site, Constraint, is_present, SiteTerm, layer, unfold_site}
-use Rattle.isle_model.specs.sites.Demands.{site_term_eq, has_site, Visit, with_sites, asking, calling, equating, iterating, making, visit_start}
+use Rattle.isle_model.specs.visits.Demands.{site_term_eq, has_site, Visit, with_sites, asking, calling, equating, iterating, making, visit_start}
 use Rattle.isle_model.specs.sites.Closure.{Closed, conflict_with, conflicts_met, constraint_of, with_constraint, with_constraints, class_at, merged_classes, before_closing}
 use Rattle.isle_model.specs.sites.RuleSets.{StandFor}
 use Rattle.isle_model.specs.lists.Names.{IsDistinct}

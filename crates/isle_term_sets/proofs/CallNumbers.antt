@@ -4,7 +4,7 @@ use Rattle.std.proofs.lemmas.List.{length-map}
 use Rattle.std.proofs.lemmas.List.Elements.{All-head, All-tail}
 use Rattle.isle_model.specs.lists.Tables.{Flags}
 use Rattle.isle_model.specs.sites.Sites.{SiteTerm, pick_of, some_part, unfold_site}
-use Rattle.isle_model.specs.sites.Demands.{Visit, call_result}
+use Rattle.isle_model.specs.visits.Demands.{Visit, call_result}
 use Rattle.isle_model.specs.sites.Closure.{before_closing}
 use Rattle.isle_model.proofs.DistinctCounts.{no_more_distinct}
 use Rattle.isle_model.proofs.Elements.{In, in_slice, none_some, some_is}

@@ -10,7 +10,7 @@ use Rattle.isle_model.specs.lists.Formed.{is_formed_expr, are_formed_args, forme
 use Rattle.isle_model.specs.rules.Program.{Program, Kind, a_variant, a_struct, a_call, unknown, kind, kind_of}
 use Rattle.isle_model.specs.rules.Typed.{TypedExpr, make_term, make_var, make_bool, make_int, make_prim, make_let, TypedExprs, no_typed_expr, typed_expr_and, TypedLets, no_typed_let, typed_let_and}
 use Rattle.isle_model.specs.sites.Sites.{SiteTerm, struct_made, variant_made, constructor_call}
-use Rattle.isle_model.specs.sites.Demands.{Visit, ValuedAll, binding, making, call_sites, visit_call, visit_term, visit_expr, visit_exprs, visit_lets}
+use Rattle.isle_model.specs.visits.Demands.{Visit, ValuedAll, binding, making, call_sites, visit_call, visit_term, visit_expr, visit_exprs, visit_lets}
 use Rattle.isle_laws_demands.proofs.matching.SameExprs.{expr_keeps, from_let, from_term, from_args, from_body}
 use Rattle.isle_laws_demands.proofs.visits.Kept.{KeptByValues, expr_kept, exprs_kept, lets_kept}
 use Rattle.isle_typed.specs.ExprRuns.{entry_arg_types, MakesKind, Makes, ExprRun, InputsRun, LetsRun}

@@ -13,7 +13,7 @@ use Rattle.isle_model.specs.lists.Tables.{TermKindEntry, variant_term, struct_te
 use Rattle.isle_model.specs.rules.Program.{always_answers, Program, Kind, a_variant, a_struct, a_call, unknown, kind, kind_of}
 use Rattle.isle_model.specs.rules.Typed.{TypedPattern, match_bind, match_var, match_bool, match_int, match_prim, match_term, match_any, match_and, TypedPatterns, no_typed_pattern, typed_pattern_and}
 use Rattle.isle_model.specs.sites.Sites.{is_present, SiteTerm, extractor_call, is_bool, is_int, is_prim, is_variant, is_struct, variant_field, struct_field, pick_of, some_part, unfold_site}
-use Rattle.isle_model.specs.sites.Demands.{Visit, Opened, asking, binding, equating, iterating, making, from_to, part_sites, open_call, open_term, pattern_count, site_term_eq, visit_pattern, visit_each, visit_all, with_sites}
+use Rattle.isle_model.specs.visits.Demands.{Visit, Opened, asking, binding, equating, iterating, making, from_to, part_sites, open_call, open_term, pattern_count, site_term_eq, visit_pattern, visit_each, visit_all, with_sites}
 use Rattle.isle_model.specs.sites.Limits.{RuleLimit, arguments_limit, fields_limit, outputs_limit, sites_limit, Width, fields_matched, outputs_taken, Walked, WalkedAll, limit_of_width, limits_in, most_fields, most_outputs, passes_width, unwalked, walked, walked_all, walked_and, walked_term, width_of, widths, widths_in}
 use Rattle.isle_model.specs.sites.RuleSets.{StandFor}
 use Rattle.isle_laws_demands.proofs.visits.Kept.{KeptByTests, each_kept, all_kept}

@@ -12,7 +12,7 @@ use Rattle.isle_model.specs.rules.Outcome.{then_option}
 use Rattle.isle_model.specs.rules.Program.{Program, is_partial}
 use Rattle.isle_model.specs.rules.Typed.{TypedPattern, TypedExpr, TypedIfLet, TypedRule}
 use Rattle.isle_model.specs.sites.Sites.{SiteTerm, argument, unfold_site}
-use Rattle.isle_model.specs.sites.Demands.{Visit, making, asking_all, unwraps, visit_start, visit_pattern, visit_expr, visit_args, visit_iflets, finished, valued, visit_rule, demands_of, with_sites}
+use Rattle.isle_model.specs.visits.Demands.{Visit, making, asking_all, unwraps, visit_start, visit_pattern, visit_expr, visit_args, visit_iflets, finished, valued, visit_rule, demands_of, with_sites}
 use Rattle.isle_model.specs.sites.Closure.{before_closing, closed, is_unreachable, most_closing_steps}
 use Rattle.isle_model.specs.sites.Limits.{most_arguments, most_sites, RuleLimit, arguments_limit, fields_limit, outputs_limit, sites_limit, limits_in, limits_in_args, limits_of_shape, made_walking, sites_reached, sites_wanted, Walked, walked, WalkedRule, after_arg, after_iflet, ended_at, walked_args, walked_iflets, walked_rule}
 use Rattle.isle_model.specs.sites.RuleSets.{StandFor}

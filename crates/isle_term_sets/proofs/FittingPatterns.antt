@@ -7,7 +7,7 @@ use Rattle.isle_model.specs.lists.Tables.{TermEntry}
 use Rattle.isle_model.specs.rules.Outcome.{then_option}
 use Rattle.isle_model.specs.rules.Program.{Program}
 use Rattle.isle_model.specs.rules.Typed.{TypedPattern, match_bind, match_var, match_bool, match_int, match_prim, match_term, match_any, match_and, TypedPatterns, no_typed_pattern, typed_pattern_and}
-use Rattle.isle_model.specs.sites.Demands.{pattern_count}
+use Rattle.isle_model.specs.visits.Demands.{pattern_count}
 use Rattle.isle_model.proofs.Elements.{none_some}
 use Rattle.isle_laws_lists.proofs.FormedParts.{from_if}
 use Rattle.isle_term_sets.proofs.VisitedPatterns.{Fits, FitAll, FitsTerm}

@@ -6,7 +6,7 @@ use Rattle.std.proofs.lemmas.Option.{same_Some}
 use Rattle.isle_model.specs.rules.Program.{Program}
 use Rattle.isle_model.specs.rules.Typed.{TypedRule}
 use Rattle.isle_model.specs.sites.Sites.{Site, SiteTerm, unfold_site}
-use Rattle.isle_model.specs.sites.Demands.{Demands, demands_of, with_sites}
+use Rattle.isle_model.specs.visits.Demands.{Demands, demands_of, with_sites}
 use Rattle.isle_model.specs.sites.Closure.{ascending, before_closing, class_at, closed, field_terms, is_unreachable, most_closing_steps}
 use Rattle.isle_model.specs.sites.Limits.{made_walking, most_sites, sites_after_rule, sites_reached, sites_wanted, walked_rule}
 use Rattle.isle_model.specs.sites.RuleSets.{StandFor}

@@ -7,7 +7,7 @@ use Rattle.isle_base.specs.Stable.{contains}
 use Rattle.isle_model.specs.rules.Program.{Program}
 use Rattle.isle_model.specs.rules.Typed.{TypedRule}
 use Rattle.isle_model.specs.sites.Sites.{Site, SetRule, SiteSet, SiteTerm, unfold_site}
-use Rattle.isle_model.specs.sites.Demands.{demands_of, visit_rule, with_sites}
+use Rattle.isle_model.specs.visits.Demands.{demands_of, visit_rule, with_sites}
 use Rattle.isle_model.specs.sites.Closure.{Unreachability, before_closing, closed, closing, is_unreachable, most_closing_steps, reported}
 use Rattle.isle_model.specs.sites.Limits.{RuleLimit, first_limit, limits_of_shape, made_walking, most_sites, sites_after_rule, sites_limit, sites_wanted, walked_rule}
 use Rattle.isle_model.specs.sites.Overlap.{RuleReport, built_rule, limit_passed, not_reached}

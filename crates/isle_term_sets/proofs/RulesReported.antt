@@ -12,7 +12,7 @@ use Rattle.isle_model.specs.claims.Refusals.{of_rule, past_limit, unreachable}
 use Rattle.isle_model.specs.rules.Program.{Program}
 use Rattle.isle_model.specs.rules.Typed.{TypedRule}
 use Rattle.isle_model.specs.sites.Sites.{SetRule, SiteTerm, unfold_site}
-use Rattle.isle_model.specs.sites.Demands.{Demands, demands_of, visit_rule, with_sites}
+use Rattle.isle_model.specs.visits.Demands.{Demands, demands_of, visit_rule, with_sites}
 use Rattle.isle_model.specs.sites.Closure.{Unreachability, before_closing, class_names, closing, conflicts_met, cycle, first_conflict, first_filled, has_cycle, in_site_order, is_unreachable, most_closing_steps, reported, with_constrained}
 use Rattle.isle_model.specs.sites.Limits.{RuleLimit, arguments_limit, fields_limit, limits_of_shape, outputs_limit, sites_after_rule, sites_limit}
 use Rattle.isle_model.specs.sites.Overlap.{not_reached, limit_passed}

@@ -10,7 +10,7 @@ use Rattle.std.specs.Prelude.{IsTrue}
 use Rattle.std.proofs.lemmas.Cmp.{ranked}
 use Rattle.std.proofs.lemmas.Map.Lookups.{exact_unsigned}
 use Rattle.isle_model.specs.sites.Sites.{Site, bool_site, int_site, prim_site, argument_site, extractor_site, constructor_site, iterator_site, make_variant_site, match_variant_site, make_struct_site, extract_struct_site, make_some_site, match_some_site, match_tuple_site, sources_of, sources_at, SiteTerm, each_term, layer, layer_at, unfold_site}
-use Rattle.isle_model.specs.sites.Demands.{unwraps, unwraps_all}
+use Rattle.isle_model.specs.visits.Demands.{unwraps, unwraps_all}
 use Rattle.isle_model.proofs.Elements.{In, in_from_contains, contains_from_in, in_either, in_left, in_right}
 use Rattle.isle_model.proofs.Members.{all_members}
 use Rattle.isle_laws_demands.proofs.visits.Unfolding.{SourcesFirst, unfolds}

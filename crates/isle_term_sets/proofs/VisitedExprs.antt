@@ -7,7 +7,7 @@ use Rattle.isle_model.specs.lists.Formed.{var_type, is_formed_expr, are_formed_a
 use Rattle.isle_model.specs.rules.Program.{Program, Kind, unknown, kind_of}
 use Rattle.isle_model.specs.rules.Typed.{TypedExpr, make_term, make_var, make_bool, make_int, make_prim, make_let, TypedExprs, no_typed_expr, typed_expr_and, TypedLets, no_typed_let, typed_let_and}
 use Rattle.isle_model.specs.sites.Sites.{SiteTerm, site_term_and, struct_made, variant_made}
-use Rattle.isle_model.specs.sites.Demands.{Visit, ValuedAll, binding, var_site, visit_call, visit_term, visit_expr, visit_exprs, visit_lets}
+use Rattle.isle_model.specs.visits.Demands.{Visit, ValuedAll, binding, var_site, visit_call, visit_term, visit_expr, visit_exprs, visit_lets}
 use Rattle.isle_model.proofs.Elements.{some_is}
 use Rattle.isle_model.proofs.Members.{all_members, in_cases}
 use Rattle.isle_laws_demands.proofs.visits.Visited.{Same}

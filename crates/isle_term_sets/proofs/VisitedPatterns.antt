@@ -10,7 +10,7 @@ use Rattle.isle_model.specs.rules.Meaning.{look}
 use Rattle.isle_model.specs.rules.Program.{Program, Kind, unknown, kind, kind_of}
 use Rattle.isle_model.specs.rules.Typed.{TypedPattern, match_bind, match_var, match_bool, match_int, match_prim, match_term, match_any, match_and, TypedPatterns, no_typed_pattern, typed_pattern_and}
 use Rattle.isle_model.specs.sites.Sites.{Constraint, SiteTerm, is_bool, is_int, is_prim, is_variant, is_struct, variant_field, struct_field, unfold_site}
-use Rattle.isle_model.specs.sites.Demands.{Visit, asking, binding, equating, making, or_no_site, var_site, pattern_count, open_term, visit_pattern, visit_each, visit_all}
+use Rattle.isle_model.specs.visits.Demands.{Visit, asking, binding, equating, making, or_no_site, var_site, pattern_count, open_term, visit_pattern, visit_each, visit_all}
 use Rattle.isle_model.specs.sites.Limits.{most_fields, most_outputs, Width, width_of, widths, widths_in}
 use Rattle.isle_model.proofs.Elements.{some_is}
 use Rattle.isle_base.specs.declared.visit_fault.VisitFault.{VisitFault}

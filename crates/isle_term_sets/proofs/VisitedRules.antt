@@ -14,7 +14,7 @@ use Rattle.isle_model.specs.rules.Outcome.{then_option}
 use Rattle.isle_model.specs.rules.Program.{Program, is_partial}
 use Rattle.isle_model.specs.rules.Typed.{TypedPattern, match_bind, match_var, match_bool, match_int, match_prim, match_term, match_any, match_and, TypedPatterns, no_typed_pattern, typed_pattern_and, TypedIfLet, TypedRule}
 use Rattle.isle_model.specs.sites.Sites.{SiteTerm, argument, unfold_site}
-use Rattle.isle_model.specs.sites.Demands.{Visit, making, asking_all, unwraps, visit_start, visit_pattern, visit_expr, visit_args, visit_iflets, finished, valued, visit_rule}
+use Rattle.isle_model.specs.visits.Demands.{Visit, making, asking_all, unwraps, visit_start, visit_pattern, visit_expr, visit_args, visit_iflets, finished, valued, visit_rule}
 use Rattle.isle_model.specs.sites.Limits.{most_arguments, RuleLimit, arguments_limit, limits_in, limits_in_args, limits_of_shape}
 use Rattle.isle_model.specs.trees.Places.{is_in}
 use Rattle.isle_model.proofs.Elements.{none_some, some_is, or_split}

@@ -5,7 +5,7 @@ use Rattle.std.proofs.lemmas.Grind.{flat_map-append}
 use Rattle.isle_model.specs.rules.Program.{Program, kind}
 use Rattle.isle_model.specs.rules.Typed.{TypedPattern, match_bind, match_var, match_bool, match_int, match_prim, match_term, match_any, match_and, TypedPatterns, no_typed_pattern, typed_pattern_and}
 use Rattle.isle_model.specs.sites.Sites.{SiteTerm}
-use Rattle.isle_model.specs.sites.Demands.{Visit, pattern_count, visit_each, visit_all}
+use Rattle.isle_model.specs.visits.Demands.{Visit, pattern_count, visit_each, visit_all}
 use Rattle.isle_model.specs.sites.Limits.{most_fields, most_outputs, RuleLimit, fields_limit, outputs_limit, Width, fields_matched, outputs_taken, width_of, widths, widths_in, limit_of_width, Walked, WalkedAll, passes_width, unwalked, walked_term, walked_and, walked, walked_all}
 
 -- 1. terms that pass no limit

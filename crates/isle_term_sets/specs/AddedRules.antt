@@ -7,7 +7,7 @@ use Rattle.isle_model.specs.rules.Typed.{TypedRule}
 use Rattle.isle_model.specs.rules.Program.{Program}
 use Rattle.isle_model.specs.sites.Sites.{SetRule, SiteSet, SiteTerm}
 use Rattle.isle_model.specs.sites.Closure.{Closed}
-use Rattle.isle_model.specs.sites.Demands.{visit_rule}
+use Rattle.isle_model.specs.visits.Demands.{visit_rule}
 use Rattle.isle_model.specs.sites.Limits.{limits_of_shape}
 use Rattle.isle_model.specs.sites.Overlap.{RuleReport}
 use Rattle.isle_model.specs.sites.RuleSets.{StandFor}

@@ -12,7 +12,7 @@ use Rattle.isle_model.specs.rules.Typed.{TypedPatterns, no_typed_pattern, TypedR
 use Rattle.isle_model.specs.lists.Tables.{Flags}
 use Rattle.isle_model.specs.sites.Limits.{RuleLimit, arguments_limit, fields_limit, first_limit, most_arguments, most_fields, most_outputs, outputs_limit, sites_after_rule, sites_limit}
 use Rattle.isle_model.specs.sites.RuleSets.{StandFor}
-use Rattle.isle_model.specs.sites.Demands.{Visit, Valued, valued, visit_call, call_result, Opened, opened, open_call, output_sites, part_sites, pattern_count, with_sites, asking, asking_all, equating, iterating, making, unwraps}
+use Rattle.isle_model.specs.visits.Demands.{Visit, Valued, valued, visit_call, call_result, Opened, opened, open_call, output_sites, part_sites, pattern_count, with_sites, asking, asking_all, equating, iterating, making, unwraps}
 use Rattle.isle_model.specs.sites.Closure.{Unreachability, conflict, conflicts_met, before_closing, field_terms}
 use Rattle.isle_base.specs.declared.syntax.Limit.{Limit}
 use Rattle.isle_base.specs.declared.syntax.Limit.TheVariants as Limits

@@ -4,7 +4,7 @@ ghost use Rattle.isle_base.specs.declared.syntax.Limit.TheVariants as Limits;
 ghost use Rattle.isle_model.specs.lists.Tables.{Flags};
 ghost use Rattle.isle_model.specs.rules.Typed.{TypedPatterns, no_typed_pattern};
 ghost use Rattle.isle_model.specs.sites.Sites.{SiteTerm, extractor_call, is_bool, is_int, is_prim, is_struct, is_variant, unfold_site};
-ghost use Rattle.isle_model.specs.sites.Demands.{Visit, making, open_call, pattern_count};
+ghost use Rattle.isle_model.specs.visits.Demands.{Visit, making, open_call, pattern_count};
 ghost use Rattle.isle_model.specs.sites.Closure.{fields_from};
 ghost use Rattle.isle_model.specs.sites.Limits.{most_fields, most_outputs};
 ghost use Rattle.isle_sets.specs.SiteViews.{site_view};

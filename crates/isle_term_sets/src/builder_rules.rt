@@ -7,7 +7,7 @@ ghost use Rattle.isle_model.specs.sites.Sites.{SiteTerm, argument, sources_at, u
 ghost use Rattle.isle_model.specs.lists.Formed.{is_formed_rule};
 ghost use Rattle.isle_model.specs.lists.Visitable.{is_visitable_rule};
 ghost use Rattle.isle_model.specs.rules.Program.{Program, is_partial};
-ghost use Rattle.isle_model.specs.sites.Demands.{Visit, asking_all, making, unwraps, visit_rule, visit_start};
+ghost use Rattle.isle_model.specs.visits.Demands.{Visit, asking_all, making, unwraps, visit_rule, visit_start};
 ghost use Rattle.isle_model.specs.sites.Limits.{limits_of_shape, most_arguments};
 ghost use Rattle.isle_typed.specs.RuleViews.{rule_view};
 ghost use Rattle.isle_sets.specs.SiteTables.{IsTable};

@@ -3,7 +3,7 @@ ghost use Rattle.std.specs.Prelude.{◌≡◌, ◌<◌, List, [], ◌∷◌, ◌
 ghost use Rattle.isle_model.specs.lists.Names.{IsDistinct};
 ghost use Rattle.isle_model.specs.sites.RuleSets.{StandFor};
 ghost use Rattle.isle_model.specs.sites.Sites.{SiteTerm, layer, unfold_site};
-ghost use Rattle.isle_model.specs.sites.Demands.{Visit, asking, calling, equating, iterating, making, visit_start};
+ghost use Rattle.isle_model.specs.visits.Demands.{Visit, asking, calling, equating, iterating, making, visit_start};
 ghost use Rattle.isle_sets.specs.SiteTables.{ForWantOfRoom, HasSources, IsTable};
 ghost use Rattle.isle_model.specs.sites.Closure.{before_closing, closing, most_closing_steps};
 ghost use Rattle.isle_sets.specs.Closings.{EndsFull, GoOn};

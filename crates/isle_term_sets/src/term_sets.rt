@@ -4,7 +4,7 @@ ghost use Rattle.isle_base.specs.Positions.{HasSingleSpans};
 ghost use Rattle.isle_base.specs.declared.visit_fault.VisitFault.TheVariants as Faults;
 ghost use Rattle.isle_model.specs.rules.Program.{Program};
 ghost use Rattle.isle_model.specs.sites.Closure.{Closed, is_unreachable};
-ghost use Rattle.isle_model.specs.sites.Demands.{Visit, demands_of};
+ghost use Rattle.isle_model.specs.visits.Demands.{Visit, demands_of};
 ghost use Rattle.isle_model.specs.sites.Sites.{SiteTerm};
 ghost use Rattle.isle_laws_demands.specs.RuleByRule.{nothing_built};
 ghost use Rattle.isle_typed.specs.RuleViews.{rule_view};

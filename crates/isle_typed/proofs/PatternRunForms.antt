@@ -8,7 +8,7 @@ use Rattle.isle_types.specs.declared.ids.TermId.{TermId}
 use Rattle.isle_types.specs.declared.ids.VarId.{VarId}
 use Rattle.isle_model.specs.lists.Tables.{TermEntry}
 use Rattle.isle_model.specs.rules.Typed.{match_bind, match_term, match_and}
-use Rattle.isle_model.specs.sites.Demands.{pattern_count}
+use Rattle.isle_model.specs.visits.Demands.{pattern_count}
 use Rattle.isle_typed.specs.declared.patterns.Pattern.{Pattern, BindPattern, Var, Term, And}
 use Rattle.isle_base.specs.declared.visit_fault.VisitFault.{VisitFault}
 use Rattle.isle_typed.specs.declared.visitors.PatternVisitor.{Ghosts as PatternSteps}

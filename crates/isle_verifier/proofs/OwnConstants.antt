@@ -6,7 +6,7 @@ use Rattle.isle_model.specs.rules.Meaning.{Meaning}
 use Rattle.isle_model.specs.rules.Program.{Program, rules_of}
 use Rattle.isle_model.specs.rules.Typed.{TypedRule}
 use Rattle.isle_model.specs.sites.Closure.{itself, HasConstraint}
-use Rattle.isle_model.specs.sites.Demands.{demands_of}
+use Rattle.isle_model.specs.visits.Demands.{demands_of}
 use Rattle.isle_model.specs.sites.Overlap.{BuiltRule, built_rules}
 use Rattle.isle_model.specs.sites.RuleSets.{IsBuilt, IsRuleOf, AreRulesOfSet}
 use Rattle.isle_model.specs.sites.Serves.{TellsConstantsApart, constant_site, tested_constants, is_open_constant, is_own_type}

@@ -3,7 +3,7 @@ use Rattle.std.proofs.Common.{◌≡◌, ◌<◌, ◌≤◌, nat_lt, List, [], �
 use Rattle.std.proofs.lemmas.Bool.{cases_Bool, cond-true, cond-false, le-ltb, lt-ltb}
 use Rattle.std.proofs.lemmas.List.{append-nil, append_assoc}
 use Rattle.isle_model.specs.sites.Sites.{SiteTerm}
-use Rattle.isle_model.specs.sites.Demands.{has_site, with_sites}
+use Rattle.isle_model.specs.visits.Demands.{has_site, with_sites}
 use Rattle.isle_model.specs.sites.Limits.{first_limit, limit_of_passed, most_sites, passed_in_visit, sites_limit, sites_reached, sites_until}
 use Rattle.isle_laws_demands.specs.RuleByRule.{FullSitesStay, LimitsAreMet, first_sites}
 use Rattle.std.proofs.lemmas.List.{length-append, take-append-le}

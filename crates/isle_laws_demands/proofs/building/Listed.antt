@@ -4,7 +4,7 @@ use Rattle.std.proofs.lemmas.Bool.{cases_Bool, cond-true, cond-false, and_from, 
 use Rattle.std.proofs.lemmas.List.Elements.{All-contains}
 use Rattle.std.proofs.lemmas.Option.{same_Some, slice_get_within}
 use Rattle.isle_model.specs.sites.Sites.{Constraint, Site, SiteTerm, unfold_site}
-use Rattle.isle_model.specs.sites.Demands.{has_site, site_term_eq}
+use Rattle.isle_model.specs.visits.Demands.{has_site, site_term_eq}
 use Rattle.isle_model.specs.sites.Closure.{Closed, before_closing, closing, constraint_of, most_closing_steps}
 use Rattle.isle_model.specs.sites.RuleSets.{AsksFor, Equates, StandFor}
 use Rattle.isle_model.proofs.Elements.{In, in_from_contains, contains_from_in, in_any, any_in, slice_in}

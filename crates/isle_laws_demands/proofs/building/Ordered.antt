@@ -1,7 +1,7 @@
 -- Classes that are put in the order of the made sites hold what they held.
 use Rattle.std.proofs.Common.{◌≡◌, true, List, [], ◌∷◌, Contains, map, filter, refl, sym, subst, inl}
 use Rattle.isle_model.specs.sites.Sites.{SiteTerm, unfold_site}
-use Rattle.isle_model.specs.sites.Demands.{has_site}
+use Rattle.isle_model.specs.visits.Demands.{has_site}
 use Rattle.isle_model.specs.sites.Closure.{Closed, ascending, begins_with, in_order}
 use Rattle.isle_model.proofs.Elements.{In, in_from_contains, contains_from_in, in_filter, filter_from, passed_filter, in_map, map_in, in_flat_map, from_flat_map}
 use Rattle.isle_model.proofs.SameSites.{same_term}

@@ -6,7 +6,7 @@ use Rattle.std.proofs.lemmas.List.Elements.{All-head, All-tail}
 use Rattle.isle_model.specs.rules.Typed.{TypedRule}
 use Rattle.isle_model.specs.rules.Program.{Program}
 use Rattle.isle_model.specs.sites.Sites.{Constraint, Site, SetRule, SiteSet, SiteTerm, unfold_site}
-use Rattle.isle_model.specs.sites.Demands.{demands_of, with_sites}
+use Rattle.isle_model.specs.visits.Demands.{demands_of, with_sites}
 use Rattle.isle_model.specs.sites.Closure.{Closed, closed, is_unreachable, reported}
 use Rattle.isle_model.specs.sites.Limits.{RuleLimit, first_limit, most_sites, sites_after_rule, sites_after_rules, sites_reached, sites_wanted}
 use Rattle.isle_model.specs.sites.Overlap.{BuiltRule, RuleReport, limit_passed, not_reached, built_from, built_rule, is_built, build_reports_of}

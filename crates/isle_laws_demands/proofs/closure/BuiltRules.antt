@@ -4,7 +4,7 @@ use Rattle.std.proofs.lemmas.Bool.{false≢true}
 use Rattle.isle_model.specs.rules.Program.{Program}
 use Rattle.isle_model.specs.rules.Typed.{TypedRule}
 use Rattle.isle_model.specs.sites.Sites.{Constraint, SiteTerm}
-use Rattle.isle_model.specs.sites.Demands.{demands_of, has_site}
+use Rattle.isle_model.specs.visits.Demands.{demands_of, has_site}
 use Rattle.isle_model.specs.sites.Closure.{IsUnreachable, Closed, ascending, closing, before_closing, begins_with, in_order, most_closing_steps, closed}
 use Rattle.isle_model.specs.sites.Overlap.{is_built}
 use Rattle.isle_laws_demands.specs.ClosureLaws.{HasEnded, ClosingEnds}

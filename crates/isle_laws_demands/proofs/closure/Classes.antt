@@ -4,7 +4,7 @@ use Rattle.std.proofs.Common.{◌≡◌, ◌⊎◌, ℕ, zero, suc, true, false,
 use Rattle.std.proofs.lemmas.Bool.{cases_Bool, cond-true, cond-false, and_from, false≢true}
 use Rattle.std.specs.List.{list_any, zip}
 use Rattle.isle_model.specs.sites.Sites.{Constraint, is_variant, is_struct, is_bool, is_int, is_prim, is_present, SiteTerm, bool_term, int_term, prim_term, argument, extractor_call, constructor_call, pick_of, variant_made, variant_field, struct_made, struct_field, some_made, some_part, tuple_part, no_site}
-use Rattle.isle_model.specs.sites.Demands.{Demands, site_term_eq, has_site, with_sites, constraint_eq}
+use Rattle.isle_model.specs.visits.Demands.{Demands, site_term_eq, has_site, with_sites, constraint_eq}
 use Rattle.isle_model.specs.sites.Closure.{Joined, given, itself, turned, chained, at_field, fields_from, field_terms, HasConstraint, IsPartOf, IsProperPart, directly, deeper, class_name, same_class, due_with, due, with_owners, spoken_of, class_names, differs_in_class, has_conflict, constrained_in, fields_of_first, parts_of, goes_deeper, has_cycle}
 use Rattle.isle_laws_demands.specs.ClosureLaws.{IsEquivalence, RespectsDemands}
 use Rattle.isle_model.proofs.Elements.{In, in_from_contains, some_is, none_some, in_left, in_right, in_either, in_slice, slice_in, any_in, in_any, map_in, from_flat_map, in_flat_map, zip_in}

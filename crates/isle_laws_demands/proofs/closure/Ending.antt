@@ -4,7 +4,7 @@ use Rattle.std.proofs.Common.{◌≡◌, ◌⊎◌, ◌+◌, ℕ, zero, suc, ◌
 use Rattle.std.proofs.lemmas.Bool.{cases_Bool, cond-true, cond-false, and_parts, and_from, false≢true}
 use Rattle.std.proofs.lemmas.List.Sums.{sum_by-cons}
 use Rattle.isle_model.specs.sites.Sites.{Constraint, SiteTerm, bool_term, int_term, prim_term, argument, extractor_call, constructor_call, pick_of, variant_made, variant_field, struct_made, struct_field, some_made, some_part, tuple_part, no_site}
-use Rattle.isle_model.specs.sites.Demands.{Demands, site_term_eq, has_site}
+use Rattle.isle_model.specs.visits.Demands.{Demands, site_term_eq, has_site}
 use Rattle.isle_model.specs.sites.Closure.{field_terms, with_owners, constraint_of, Closed, class_at, without_class_of, merged_all, ascending, is_in_class, next_constrained, field_equalities, taken, closing, before_closing, most_closing_steps}
 use Rattle.isle_model.specs.sites.Limits.{most_sites}
 use Rattle.isle_laws_demands.specs.ClosureLaws.{HasEnded}

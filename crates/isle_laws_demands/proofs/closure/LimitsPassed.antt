@@ -4,7 +4,7 @@ use Rattle.std.proofs.lemmas.Bool.{cases_Bool, cond-true, cond-false, le-ltb}
 use Rattle.isle_model.specs.rules.Typed.{TypedRule}
 use Rattle.isle_model.specs.rules.Program.{Program}
 use Rattle.isle_model.specs.sites.Sites.{SiteTerm}
-use Rattle.isle_model.specs.sites.Demands.{Count, fields_matched, outputs_taken, argument_taken, demands_of}
+use Rattle.isle_model.specs.visits.Demands.{Count, fields_matched, outputs_taken, argument_taken, demands_of}
 use Rattle.isle_model.specs.sites.Limits.{most_fields, most_outputs, most_arguments, most_sites, RuleLimit, fields_limit, outputs_limit, arguments_limit, sites_limit, counts_of_rule, PassesLimit, passed_by, passed_or_later, first_passed, passed_in_visit, limit_of_passed, sites_reached, first_limit}
 use Rattle.isle_model.proofs.Elements.{In, in_from_contains, contains_from_in, some_is, none_some}
 

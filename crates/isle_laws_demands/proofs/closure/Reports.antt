@@ -4,7 +4,7 @@ use Rattle.std.proofs.lemmas.Bool.{cases_Bool, cond-true, cond-false, and_parts,
 use Rattle.std.specs.List.{list_any}
 use Rattle.std.proofs.lemmas.List.{append_assoc}
 use Rattle.isle_model.specs.sites.Sites.{Constraint, SiteTerm}
-use Rattle.isle_model.specs.sites.Demands.{Demands, site_term_eq, constraint_eq}
+use Rattle.isle_model.specs.visits.Demands.{Demands, site_term_eq, constraint_eq}
 use Rattle.isle_model.specs.sites.Closure.{IsUnreachable, same_class, class_names, differs_in_class, has_conflict, has_cycle, Unreachability, conflict, cycle, constraint_of, conflict_with, conflicts_met, constraint_at_site, in_site_order, first_differing, first_conflict, first_filled, with_constrained, reported}
 use Rattle.isle_model.proofs.Elements.{In, in_from_contains, contains_from_in, some_is, none_some, in_any, or_split, from_flat_map, in_flat_map, map_in}
 use Rattle.isle_model.proofs.SameSites.{same_term, constraint_means, same_constraint}

@@ -3,7 +3,7 @@ use Rattle.std.proofs.Common.{◌≡◌, ◌⊎◌, List, [], ◌∷◌, Contain
 use Rattle.isle_model.specs.rules.Program.{Program}
 use Rattle.isle_model.specs.sites.Sites.{is_present, SiteTerm, no_site}
 use Rattle.isle_model.specs.rules.Typed.{TypedRule}
-use Rattle.isle_model.specs.sites.Demands.{Demands, demands_of, Visit, making, asking, unwraps, asking_all}
+use Rattle.isle_model.specs.visits.Demands.{Demands, demands_of, Visit, making, asking, unwraps, asking_all}
 use Rattle.isle_model.proofs.Elements.{In, in_from_contains, contains_from_in, in_left, in_either}
 use Rattle.isle_laws_demands.proofs.visits.Visited.{equated}
 use Rattle.isle_laws_demands.proofs.visits.WithSites.{by_equating, Onward, KeptWithSites, no_step, rule_given}

@@ -4,7 +4,7 @@ use Rattle.std.proofs.lemmas.Bool.{cases_Bool, cond-true, cond-false, and_parts,
 use Rattle.isle_model.specs.rules.Typed.{TypedRule}
 use Rattle.isle_model.specs.rules.Program.{Program}
 use Rattle.isle_model.specs.sites.Sites.{SiteTerm}
-use Rattle.isle_model.specs.sites.Demands.{demands_of, with_sites}
+use Rattle.isle_model.specs.visits.Demands.{demands_of, with_sites}
 use Rattle.isle_model.specs.sites.Closure.{is_unreachable, closed}
 use Rattle.isle_model.specs.sites.Limits.{most_sites, RuleLimit, sites_limit, passed_in_visit, sites_until, limit_of_passed, sites_wanted, sites_reached, first_limit}
 use Rattle.isle_model.specs.sites.Overlap.{is_built}

@@ -8,7 +8,7 @@ use Rattle.isle_model.specs.rules.Program.{Program, kind}
 use Rattle.isle_model.specs.rules.Typed.{TypedRule}
 use Rattle.isle_model.specs.rules.Picks.{Pick, place_of, picked, site_content, IsPick}
 use Rattle.isle_model.specs.sites.Sites.{SiteTerm, bool_term, int_term, prim_term, extractor_call, constructor_call, pick_of}
-use Rattle.isle_model.specs.sites.Demands.{demands_of, site_term_eq}
+use Rattle.isle_model.specs.visits.Demands.{demands_of, site_term_eq}
 use Rattle.isle_model.specs.sites.Serves.{asked_by, asked, constant_site, constant_type, typed_as, fits_extractor, fits_constructor, Serves}
 use Rattle.isle_model.proofs.Elements.{In, in_from_contains, contains_from_in, in_left, in_flat_map}
 use Rattle.isle_model.proofs.SameSites.{term_means, same_term}

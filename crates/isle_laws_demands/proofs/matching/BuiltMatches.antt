@@ -5,7 +5,7 @@ use Rattle.isle_model.specs.rules.Picks.{matches_under}
 use Rattle.isle_model.specs.trees.Run.{world_of}
 use Rattle.isle_model.specs.trees.Collects.{demands_hold}
 use Rattle.isle_model.specs.sites.Sites.{SetRule, SiteSet}
-use Rattle.isle_model.specs.sites.Demands.{demands_of}
+use Rattle.isle_model.specs.visits.Demands.{demands_of}
 use Rattle.isle_model.specs.sites.Closure.{ClosedIsWhole, DemandsHold, closed, ClosedDemandsHold}
 use Rattle.isle_model.specs.sites.Overlap.{BuiltRule, built_rules}
 use Rattle.isle_model.specs.sites.RuleSets.{IsRuleOf, IsBuilt}

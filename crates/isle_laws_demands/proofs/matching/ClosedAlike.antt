@@ -1,6 +1,6 @@
 -- Of a rule of a well-typed program, the closed demands hold exactly where the demands do, if they are all that follows.
 use Rattle.isle_model.specs.rules.Program.{rules_of}
-use Rattle.isle_model.specs.sites.Demands.{demands_of}
+use Rattle.isle_model.specs.visits.Demands.{demands_of}
 use Rattle.isle_model.specs.sites.Closure.{closed}
 use Rattle.isle_laws_demands.specs.MatchLaws.{ClosedDemandsHoldAlike}
 use Rattle.isle_laws_demands.proofs.closure.Closing.{closed_follows}

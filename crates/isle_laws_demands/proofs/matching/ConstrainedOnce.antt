@@ -2,7 +2,7 @@
 use Rattle.std.proofs.Common.{◌≡◌, ◌≤◌, ℕ, false, List, [], ◌∷◌, ◌++◌, map, length, Option, Some, None, is_some, refl, sym, ap, subst, ◌∙◌, inl, inr, arith}
 use Rattle.std.proofs.lemmas.Bool.{cases_Bool, cond-true, cond-false, false≢true}
 use Rattle.isle_model.specs.sites.Sites.{Constraint, SiteTerm}
-use Rattle.isle_model.specs.sites.Demands.{Demands, site_term_eq}
+use Rattle.isle_model.specs.visits.Demands.{Demands, site_term_eq}
 use Rattle.isle_model.specs.sites.Closure.{constraint_of, Closed, class_at, with_constraint, with_constraints, ascending, closing, before_closing, most_closing_steps, closed}
 use Rattle.isle_model.proofs.DistinctCounts.{dropped}
 use Rattle.isle_model.proofs.Elements.{In, in_either, none_some}

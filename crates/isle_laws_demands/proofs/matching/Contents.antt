@@ -10,7 +10,7 @@ use Rattle.isle_model.specs.rules.Typed.{TypedPatterns, no_typed_pattern, typed_
 use Rattle.isle_model.specs.rules.Picks.{Pick, place_of, picked, site_content, site_values}
 use Rattle.isle_model.specs.trees.Run.{as_value, from_value, part_at}
 use Rattle.isle_model.specs.sites.Sites.{SiteTerm, bool_term, int_term, prim_term, extractor_call, constructor_call, pick_of, tuple_part, SiteTerms}
-use Rattle.isle_model.specs.sites.Demands.{Demands, from_to, output_sites, pattern_count}
+use Rattle.isle_model.specs.visits.Demands.{Demands, from_to, output_sites, pattern_count}
 use Rattle.isle_model.specs.sites.Serves.{constant_type, fits_one, fits_answer, fits_extractor, fits_constructor}
 use Rattle.isle_model.proofs.Elements.{In, in_slice, all_in, some_is, none_some}
 

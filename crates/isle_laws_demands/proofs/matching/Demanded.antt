@@ -7,7 +7,7 @@ use Rattle.isle_model.specs.rules.Outcome.{then_option}
 use Rattle.isle_model.specs.rules.Picks.{Sited, SitedVars, sited_value, where_same}
 use Rattle.isle_model.specs.trees.Run.{content_fields, where_constant}
 use Rattle.isle_model.specs.sites.Sites.{Constraint, is_present, SiteTerm}
-use Rattle.isle_model.specs.sites.Demands.{site_term_eq, Demands, Visit, asking, equating, asking_all}
+use Rattle.isle_model.specs.visits.Demands.{site_term_eq, Demands, Visit, asking, equating, asking_all}
 use Rattle.isle_model.specs.sites.Closure.{IsMet, AreEqual}
 use Rattle.isle_model.specs.lists.Formed.{var_type}
 use Rattle.isle_model.proofs.Elements.{In, in_right, in_either, some_is, none_some}

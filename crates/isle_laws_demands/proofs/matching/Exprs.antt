@@ -11,7 +11,7 @@ use Rattle.isle_model.specs.rules.Typed.{TypedExpr, make_term, make_var, make_bo
 use Rattle.isle_model.specs.rules.Picks.{picked, taken_answer, part_of_some, SitedVars, sited, visit_at, expr_site, expr_sites, term_under, value_under, values_under, lets_under}
 use Rattle.isle_model.specs.trees.Run.{as_value, from_value}
 use Rattle.isle_model.specs.sites.Sites.{SiteTerm, bool_term, int_term, prim_term, constructor_call, pick_of, variant_made, struct_made, some_part, SiteTerms}
-use Rattle.isle_model.specs.sites.Demands.{Visit, binding, ValuedAll, visit_term, visit_expr, visit_exprs, visit_lets, unwraps, unwraps_all}
+use Rattle.isle_model.specs.visits.Demands.{Visit, binding, ValuedAll, visit_term, visit_expr, visit_exprs, visit_lets, unwraps, unwraps_all}
 use Rattle.isle_model.specs.sites.Serves.{constant_type, term_results, fits_answer, fits_constructor}
 use Rattle.isle_model.specs.sites.DemandedGates.{IsPureExpr, ArePureExprs, ArePureLets}
 use Rattle.isle_model.specs.lists.Setting.{expr_type}

@@ -8,7 +8,7 @@ use Rattle.isle_model.specs.rules.Outcome.{then_option}
 use Rattle.isle_model.specs.rules.Program.{Program, Kind, a_variant, a_struct, a_call, unknown, kind, kind_of}
 use Rattle.isle_model.specs.rules.Typed.{TypedPattern, match_bind, match_var, match_bool, match_int, match_prim, match_term, match_any, match_and, TypedPatterns, no_typed_pattern, typed_pattern_and, TypedIfLet, TypedRule}
 use Rattle.isle_model.specs.sites.Sites.{Constraint, is_variant, is_struct, is_bool, is_int, is_prim, is_present, SiteTerm, argument, extractor_call, some_part, variant_field, struct_field}
-use Rattle.isle_model.specs.sites.Demands.{Demands, demands_of, site_term_eq, Visit, visit_start, making, asking, equating, binding, var_site, from_to, pattern_count, open_call, open_term, visit_pattern, visit_each, visit_all, visit_expr, unwraps, asking_all, visit_args, visit_iflets, taking_argument}
+use Rattle.isle_model.specs.visits.Demands.{Demands, demands_of, site_term_eq, Visit, visit_start, making, asking, equating, binding, var_site, from_to, pattern_count, open_call, open_term, visit_pattern, visit_each, visit_all, visit_expr, unwraps, asking_all, visit_args, visit_iflets, taking_argument}
 use Rattle.isle_model.specs.sites.Serves.{constant_type}
 use Rattle.isle_model.specs.lists.Setting.{bool_type, expr_type}
 use Rattle.isle_model.specs.lists.Formed.{pattern_type, is_type, formed_pattern, formed_parts, formed_each, is_formed_expr, formed_list, formed_iflets, is_formed_rule}

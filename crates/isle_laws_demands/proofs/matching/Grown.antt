@@ -4,7 +4,7 @@ use Rattle.isle_model.specs.lists.Tables.{Flags}
 use Rattle.isle_model.specs.rules.Program.{Program, Kind, a_variant, a_struct, a_call, unknown, kind, is_partial}
 use Rattle.isle_model.specs.sites.Sites.{Constraint, is_variant, is_struct, is_present, SiteTerm, extractor_call, constructor_call, pick_of, variant_made, variant_field, struct_made, struct_field, some_made, some_part, SiteTerms}
 use Rattle.isle_model.specs.rules.Typed.{TypedPattern, TypedPatterns, TypedExpr, TypedExprs, TypedLets, TypedIfLet, TypedRule}
-use Rattle.isle_model.specs.sites.Demands.{Count, fields_matched, outputs_taken, Visit, counting, outputs_opened, site_term_eq, making, asking, equating, iterating, calling, binding, from_to, pattern_count, part_sites, open_call, open_term, visit_pattern, visit_each, visit_all, Valued, ValuedAll, call_result, call_sites, where_multi, visit_call, visit_term, visit_expr, visit_exprs, visit_lets, asking_all, visit_args, visit_iflets, finished}
+use Rattle.isle_model.specs.visits.Demands.{Count, fields_matched, outputs_taken, Visit, counting, outputs_opened, site_term_eq, making, asking, equating, iterating, calling, binding, from_to, pattern_count, part_sites, open_call, open_term, visit_pattern, visit_each, visit_all, Valued, ValuedAll, call_result, call_sites, where_multi, visit_call, visit_term, visit_expr, visit_exprs, visit_lets, asking_all, visit_args, visit_iflets, finished}
 use Rattle.isle_model.proofs.Elements.{In, in_left}
 use Rattle.isle_model.proofs.Either.{either}
 use Rattle.isle_laws_demands.proofs.visits.Kept.{KeptByTests, KeptByValues, pattern_kept, each_kept, all_kept, expr_kept, exprs_kept, lets_kept, iflets_kept, args_kept}

@@ -12,7 +12,7 @@ use Rattle.isle_model.specs.rules.Typed.{TypedPattern, match_bind, match_var, ma
 use Rattle.isle_model.specs.rules.Picks.{picked, taken_answer, field_of_variant, field_of_struct, part_of_some, Sited, SitedVars, sited, input_sites, parts_under, holds_under, each_holds_under, all_hold_under}
 use Rattle.isle_model.specs.trees.Run.{from_value, content_fields, all_one}
 use Rattle.isle_model.specs.sites.Sites.{Constraint, is_variant, is_struct, is_bool, is_int, is_prim, is_present, SiteTerm, extractor_call, pick_of, variant_field, struct_field, some_part}
-use Rattle.isle_model.specs.sites.Demands.{Visit, visit_start, making, asking, iterating, binding, from_to, pattern_count, Opened, opened, output_sites, open_call, open_term, visit_pattern, visit_each, visit_all, outputs_opened, fields_matched, counting}
+use Rattle.isle_model.specs.visits.Demands.{Visit, visit_start, making, asking, iterating, binding, from_to, pattern_count, Opened, opened, output_sites, open_call, open_term, visit_pattern, visit_each, visit_all, outputs_opened, fields_matched, counting}
 use Rattle.isle_model.specs.sites.Serves.{constant_type, term_args, fits_one, fits_answer, fits_extractor}
 use Rattle.isle_model.specs.lists.Setting.{bool_type, has_extractor}
 use Rattle.isle_model.specs.lists.Formed.{pattern_type, var_type, is_type, with_new, formed_pattern, formed_parts, formed_each}

@@ -9,7 +9,7 @@ use Rattle.isle_model.specs.rules.Typed.{TypedPattern, TypedIfLet, TypedRule}
 use Rattle.isle_model.specs.rules.Picks.{picked, field_of_variant, field_of_struct, part_of_some, call_answer, SitedVars, expr_site, holds_under, value_under, args_hold_under, iflets_hold_under, matches_under}
 use Rattle.isle_model.specs.trees.Run.{as_value, from_value, part_at}
 use Rattle.isle_model.specs.sites.Sites.{is_present, SiteTerm, bool_term, int_term, prim_term, argument, extractor_call, constructor_call, pick_of, variant_made, variant_field, struct_made, struct_field, some_made, some_part, tuple_part, no_site, SiteTerms, no_site_term, site_term_and}
-use Rattle.isle_model.specs.sites.Demands.{demands_of, Visit, visit_start, visit_pattern, Valued, visit_expr, unwraps, unwraps_all, asking_all, visit_args, visit_iflets, visit_rule, taking_argument}
+use Rattle.isle_model.specs.visits.Demands.{demands_of, Visit, visit_start, visit_pattern, Valued, visit_expr, unwraps, unwraps_all, asking_all, visit_args, visit_iflets, visit_rule, taking_argument}
 use Rattle.isle_model.specs.sites.DemandedGates.{IsPureExpr, ArePureIfLets}
 use Rattle.isle_model.specs.lists.Setting.{expr_type}
 use Rattle.isle_model.specs.lists.Formed.{pattern_type, formed_pattern, is_formed_expr, formed_list, formed_iflets, is_formed_rule}

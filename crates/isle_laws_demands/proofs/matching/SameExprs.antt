@@ -7,7 +7,7 @@ use Rattle.isle_model.specs.lists.Tables.{TermEntry}
 use Rattle.isle_model.specs.rules.Program.{Program, Kind, a_variant, a_struct, a_call, unknown, kind, flags_of}
 use Rattle.isle_model.specs.sites.Sites.{SiteTerm, constructor_call, variant_made, struct_made, no_site, SiteTerms, site_term_and}
 use Rattle.isle_model.specs.rules.Typed.{TypedExpr, make_term, make_var, make_bool, make_int, make_prim, make_let, TypedExprs, no_typed_expr, typed_expr_and, TypedLets, no_typed_let, typed_let_and}
-use Rattle.isle_model.specs.sites.Demands.{Visit, binding, or_no_site, ValuedAll, call_result, visit_call, visit_term, visit_expr, visit_exprs, visit_lets}
+use Rattle.isle_model.specs.visits.Demands.{Visit, binding, or_no_site, ValuedAll, call_result, visit_call, visit_term, visit_expr, visit_exprs, visit_lets}
 use Rattle.isle_model.specs.lists.Setting.{expr_type, has_constructor}
 use Rattle.isle_model.specs.lists.Formed.{var_type, with_new, of_entry, is_formed_expr, are_formed_args, formed_lets}
 use Rattle.isle_model.specs.sites.DemandedGates.{IsPureExpr, ArePureExprs, ArePureLets}

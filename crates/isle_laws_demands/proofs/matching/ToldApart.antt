@@ -7,7 +7,7 @@ use Rattle.isle_model.specs.rules.Matching.{matches}
 use Rattle.isle_model.specs.rules.Program.{Program, rules_of}
 use Rattle.isle_model.specs.rules.Typed.{TypedRule}
 use Rattle.isle_model.specs.rules.Picks.{picks, SitedVars, matches_under}
-use Rattle.isle_model.specs.sites.Demands.{demands_of}
+use Rattle.isle_model.specs.visits.Demands.{demands_of}
 use Rattle.isle_model.specs.sites.Closure.{Closed, ClosedDemandsHold}
 use Rattle.isle_model.specs.sites.Overlap.{BuiltRule, built_rules, AreAmong}
 use Rattle.isle_model.proofs.Elements.{in_from_contains, contains_from_in}

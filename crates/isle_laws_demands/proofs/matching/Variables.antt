@@ -6,7 +6,7 @@ use Rattle.isle_model.specs.rules.Meaning.{Content, just, look}
 use Rattle.isle_model.specs.rules.Outcome.{then_option}
 use Rattle.isle_model.specs.rules.Picks.{Sited, SitedVars, sited, sited_value, sites_in}
 use Rattle.isle_model.specs.sites.Sites.{SiteTerm}
-use Rattle.isle_model.specs.sites.Demands.{or_no_site, unwraps}
+use Rattle.isle_model.specs.visits.Demands.{or_no_site, unwraps}
 use Rattle.isle_model.specs.lists.Formed.{var_type}
 use Rattle.isle_model.proofs.Elements.{In, some_is}
 use Rattle.isle_laws_demands.proofs.matching.Contents.{Given, content_of, value_of, Here, has_value}

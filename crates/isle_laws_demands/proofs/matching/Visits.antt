@@ -5,7 +5,7 @@ use Rattle.isle_model.specs.rules.Meaning.{Meaning, one}
 use Rattle.isle_model.specs.rules.Program.{Program, arg_types, rules_of}
 use Rattle.isle_model.specs.rules.Typed.{TypedRule}
 use Rattle.isle_model.specs.rules.Picks.{Pick, IsPick}
-use Rattle.isle_model.specs.sites.Demands.{Demands, demands_of}
+use Rattle.isle_model.specs.visits.Demands.{Demands, demands_of}
 use Rattle.isle_model.specs.sites.Closure.{DemandsHold}
 use Rattle.isle_model.proofs.Elements.{in_from_contains, contains_from_in}
 use Rattle.isle_laws_lists.specs.WellTypedPrograms.{IsWellTypedRule, IsWellTypedProgram}

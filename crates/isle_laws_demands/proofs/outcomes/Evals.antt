@@ -16,7 +16,7 @@ use Rattle.isle_model.specs.rules.Typed.{TypedExpr, make_term, make_var, make_bo
 use Rattle.isle_model.specs.rules.Picks.{picked, taken_answer, part_of_some, call_answer, Sited, SitedVars, sited, sited_value, sites_in, visit_at, expr_site, expr_sites, impure_under, applied_under, apply_under, SitedLets, gives_sited, ends_sited, then_sited_lets, then_sited_body, eval_under, eval_all_under, eval_lets_under, HasContent}
 use Rattle.isle_model.specs.trees.Run.{as_value, from_value}
 use Rattle.isle_model.specs.sites.Sites.{SiteTerm, constructor_call, pick_of, some_made, some_part, SiteTerms, site_term_and}
-use Rattle.isle_model.specs.sites.Demands.{Visit, binding, or_no_site, Valued, ValuedAll, call_result, visit_call, visit_term, visit_expr, visit_exprs, visit_lets, finished}
+use Rattle.isle_model.specs.visits.Demands.{Visit, binding, or_no_site, Valued, ValuedAll, call_result, visit_call, visit_term, visit_expr, visit_exprs, visit_lets, finished}
 use Rattle.isle_model.specs.sites.DemandedGates.{HasNoPartialMulti}
 use Rattle.isle_model.specs.sites.Serves.{term_results, fits_answer, fits_constructor}
 use Rattle.isle_model.specs.lists.Formed.{var_type, is_formed_expr, are_formed_args, formed_lets}

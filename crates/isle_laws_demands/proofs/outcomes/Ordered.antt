@@ -7,7 +7,7 @@ use Rattle.isle_model.specs.rules.Program.{Program, Kind, a_variant, a_struct, a
 use Rattle.isle_model.specs.rules.CalledTerms.{CallsAlone, CallAlone, LetsCallAlone}
 use Rattle.isle_model.specs.rules.Typed.{TypedExpr, make_term, make_var, make_bool, make_int, make_prim, make_let, TypedExprs, no_typed_expr, typed_expr_and, TypedLets, no_typed_let, typed_let_and}
 use Rattle.isle_model.specs.sites.Sites.{SiteTerm, constructor_call, some_part, SiteTerms}
-use Rattle.isle_model.specs.sites.Demands.{Visit, making, calling, binding, or_no_site, Valued, ValuedAll, valued, visit_call, visit_term, visit_expr, visit_exprs, visit_lets}
+use Rattle.isle_model.specs.visits.Demands.{Visit, making, calling, binding, or_no_site, Valued, ValuedAll, valued, visit_call, visit_term, visit_expr, visit_exprs, visit_lets}
 use Rattle.isle_model.specs.lists.Formed.{var_type, is_formed_expr, are_formed_args, formed_lets}
 use Rattle.isle_model.proofs.Elements.{In, in_right, some_is}
 use Rattle.isle_laws_runs.proofs.taking.FollowedCalls.{answered_call}

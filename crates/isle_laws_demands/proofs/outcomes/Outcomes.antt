@@ -11,7 +11,7 @@ use Rattle.isle_model.specs.rules.CalledTerms.{CallsAlone}
 use Rattle.isle_model.specs.rules.Typed.{TypedRule}
 use Rattle.isle_model.specs.rules.Picks.{Pick, picks, SitedVars, values_in, matches_under, right_side_under, site_content, HasContent}
 use Rattle.isle_model.specs.sites.Sites.{Site, constructor_site, SetRule, SiteSet, constructor_call, some_part, SiteTerm, SiteTerms, each_term, unfold_site}
-use Rattle.isle_model.specs.sites.Demands.{demands_of, visit_expr, visit_rule}
+use Rattle.isle_model.specs.visits.Demands.{demands_of, visit_expr, visit_rule}
 use Rattle.isle_model.specs.sites.Overlap.{BuiltRule, built_rules}
 use Rattle.isle_model.specs.sites.RuleSets.{IsRuleOf}
 use Rattle.isle_model.specs.sites.Serves.{fits_constructor}

@@ -4,7 +4,7 @@ use Rattle.std.proofs.lemmas.Bool.{false≢true}
 use Rattle.isle_model.specs.rules.Program.{Program, Kind, a_variant, a_struct, a_call, unknown, kind, flags_of}
 use Rattle.isle_model.specs.rules.Typed.{TypedPattern, TypedPatterns, TypedExpr, make_term, make_var, make_bool, make_int, make_prim, make_let, TypedExprs, no_typed_expr, typed_expr_and, TypedLets, no_typed_let, typed_let_and, TypedIfLet}
 use Rattle.isle_model.specs.sites.Sites.{SiteTerm, constructor_call, SiteTerms}
-use Rattle.isle_model.specs.sites.Demands.{Visit, site_term_eq, equating, binding, Opened, open_term, visit_pattern, ValuedAll, call_result, visit_call, visit_term, visit_expr, visit_exprs, visit_lets, unwraps, asking_all, visit_args, visit_iflets}
+use Rattle.isle_model.specs.visits.Demands.{Visit, site_term_eq, equating, binding, Opened, open_term, visit_pattern, ValuedAll, call_result, visit_call, visit_term, visit_expr, visit_exprs, visit_lets, unwraps, asking_all, visit_args, visit_iflets}
 use Rattle.isle_model.specs.sites.DemandedGates.{IsPureExpr, ArePureExprs, ArePureLets, ArePureIfLets}
 use Rattle.isle_laws_demands.proofs.visits.Visited.{equated}
 use Rattle.isle_model.proofs.Either.{either}

@@ -8,7 +8,7 @@ use Rattle.isle_model.specs.rules.Typed.{TypedRule}
 use Rattle.isle_model.specs.rules.Picks.{SitedVars, matches_under, eval_under, right_side_under, HasContent}
 use Rattle.isle_model.specs.trees.Run.{from_value}
 use Rattle.isle_model.specs.sites.Sites.{Constraint, SiteTerm, bool_term, int_term, prim_term, argument, extractor_call, constructor_call, pick_of, variant_made, variant_field, struct_made, struct_field, some_made, some_part, tuple_part, no_site, SiteTerms, no_site_term, site_term_and}
-use Rattle.isle_model.specs.sites.Demands.{demands_of, result_of, visit_start, Valued, visit_expr, visit_args, finished, visit_rule}
+use Rattle.isle_model.specs.visits.Demands.{demands_of, result_of, visit_start, Valued, visit_expr, visit_args, finished, visit_rule}
 use Rattle.isle_model.specs.sites.DemandedGates.{IsPureCall, GatesDemanded, AllGatesDemanded, ArePureIfLets}
 use Rattle.isle_model.specs.lists.Formed.{is_formed_rule}
 use Rattle.isle_laws_runs.proofs.taking.CallsIn.{WhereImpure, CallsOnly, CallOnly, Known, InOrder}

@@ -4,7 +4,7 @@ use Rattle.std.proofs.lemmas.Bool.{false≢true}
 use Rattle.isle_model.specs.rules.Program.{Program, Kind, a_variant, a_struct, a_call, unknown, kind}
 use Rattle.isle_model.specs.sites.Sites.{constructor_call, variant_made, struct_made, site_term_and}
 use Rattle.isle_model.specs.rules.Typed.{TypedExpr, make_term, make_var, make_bool, make_int, make_prim, make_let, TypedExprs, no_typed_expr, typed_expr_and, TypedLets, no_typed_let, typed_let_and}
-use Rattle.isle_model.specs.sites.Demands.{Visit, binding, Valued, ValuedAll, call_result, visit_call, visit_term, visit_expr, visit_exprs, visit_lets}
+use Rattle.isle_model.specs.visits.Demands.{Visit, binding, Valued, ValuedAll, call_result, visit_call, visit_term, visit_expr, visit_exprs, visit_lets}
 use Rattle.isle_model.specs.lists.Formed.{var_type, is_formed_expr, are_formed_args, formed_lets}
 use Rattle.isle_model.proofs.Elements.{some_is}
 use Rattle.isle_laws_demands.proofs.visits.Visited.{Same}

@@ -6,7 +6,7 @@ use Rattle.std.proofs.lemmas.List.Elements.{filter-append}
 use Rattle.isle_model.specs.rules.Typed.{TypedRule}
 use Rattle.isle_model.specs.rules.Program.{Program, rules_of}
 use Rattle.isle_model.specs.sites.Sites.{SiteTerm}
-use Rattle.isle_model.specs.sites.Demands.{demands_of}
+use Rattle.isle_model.specs.visits.Demands.{demands_of}
 use Rattle.isle_model.specs.sites.Closure.{is_unreachable, reported}
 use Rattle.isle_model.specs.sites.Limits.{RuleLimit, first_limit, sites_wanted, sites_after_rule, sites_after_rules}
 use Rattle.isle_model.specs.sites.Overlap.{BuiltRule, is_built, built_rule, built_from, built_rules, wrong_overlaps, overlap_reports, shadow_reports, position_lt, RuleReport, limit_passed, not_reached, rules_overlap, rule_shadows, build_reports_of, build_reports_after, build_reports, report_position, with_report, by_position, overlap_and_shadow_reports, check_reports}

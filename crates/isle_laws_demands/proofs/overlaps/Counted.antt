@@ -9,7 +9,7 @@ use Rattle.isle_model.specs.lists.Syntax.{Position}
 use Rattle.isle_model.specs.rules.Typed.{TypedRule}
 use Rattle.isle_model.specs.rules.Program.{Program}
 use Rattle.isle_model.specs.sites.Sites.{SiteTerm}
-use Rattle.isle_model.specs.sites.Demands.{demands_of}
+use Rattle.isle_model.specs.visits.Demands.{demands_of}
 use Rattle.isle_model.specs.sites.Closure.{reported}
 use Rattle.isle_model.specs.sites.Limits.{RuleLimit, PassesLimit, first_limit, sites_wanted, sites_after_rules}
 use Rattle.isle_model.specs.sites.Overlap.{HasDistinctPositions, RuleReport, limit_passed, not_reached, rules_overlap, rule_shadows, report_position, position_eq, build_reports_of, build_reports_after, build_reports}

@@ -7,7 +7,7 @@ use Rattle.std.proofs.lemmas.Option.{none-some, same_Some}
 use Rattle.isle_model.specs.rules.Typed.{TypedRule}
 use Rattle.isle_model.specs.rules.Program.{Program}
 use Rattle.isle_model.specs.sites.Sites.{SiteTerm}
-use Rattle.isle_model.specs.sites.Demands.{demands_of}
+use Rattle.isle_model.specs.visits.Demands.{demands_of}
 use Rattle.isle_model.specs.sites.Closure.{is_unreachable, reported}
 use Rattle.isle_model.specs.sites.Limits.{RuleLimit, first_limit, sites_wanted, sites_after_rules}
 use Rattle.isle_model.specs.sites.Overlap.{is_built, RuleReport, limit_passed, not_reached, report_position, build_reports_of, build_reports_after, build_reports}

@@ -6,7 +6,7 @@ use Rattle.std.specs.Bool.{Decides}
 use Rattle.std.specs.List.{list_any}
 use Rattle.std.specs.Ordering.{int_eq}
 use Rattle.isle_model.specs.sites.Sites.{Constraint, SiteTerm}
-use Rattle.isle_model.specs.sites.Demands.{site_term_eq, constraint_eq, differs_from, differ}
+use Rattle.isle_model.specs.visits.Demands.{site_term_eq, constraint_eq, differs_from, differ}
 use Rattle.isle_model.specs.sites.Closure.{Closed}
 use Rattle.isle_model.specs.sites.Overlap.{Overlaps, overlaps, AreAmong, same_demand, are_among, IsSubsetPair, has_no_class, is_subset_pair, BuiltRule, clash}
 use Rattle.isle_laws_demands.specs.ClosureLaws.{OverlapTestsAreExact}

@@ -4,7 +4,7 @@ use Rattle.std.proofs.lemmas.Bool.{cases_Bool, cond-true, cond-false, and_parts,
 use Rattle.std.specs.List.{list_any}
 use Rattle.isle_model.specs.rules.Program.{Program, rules_of}
 use Rattle.isle_model.specs.sites.Sites.{Constraint, SetRule, SiteSet, SiteTerm, unfold_site}
-use Rattle.isle_model.specs.sites.Demands.{constraint_eq, demands_of}
+use Rattle.isle_model.specs.visits.Demands.{constraint_eq, demands_of}
 use Rattle.isle_model.specs.sites.Closure.{Closed, ascending, begins_with, in_order, closing, before_closing, most_closing_steps}
 use Rattle.isle_model.specs.sites.Overlap.{Overlaps, AreAmong, IsSubsetPair, BuiltRule, built_rules}
 use Rattle.isle_model.specs.sites.RuleSets.{IsRuleOf}

@@ -7,7 +7,7 @@ use Rattle.isle_model.specs.lists.Names.{IsDistinct}
 use Rattle.isle_model.specs.rules.Program.{Program, rules_of}
 use Rattle.isle_model.specs.rules.Typed.{TypedRule}
 use Rattle.isle_model.specs.sites.Sites.{Constraint, SetRule, SiteSet, SiteTerm, unfold_site}
-use Rattle.isle_model.specs.sites.Demands.{Demands, has_site, demands_of}
+use Rattle.isle_model.specs.visits.Demands.{Demands, has_site, demands_of}
 use Rattle.isle_model.specs.sites.Closure.{Closed, class_at, without_class_of, merged_classes, merged_all, ascending, field_equalities, closing, before_closing, most_closing_steps, begins_with, closed}
 use Rattle.isle_model.specs.sites.Limits.{sites_after_rule}
 use Rattle.isle_model.specs.sites.Overlap.{BuiltRule, is_built, built_rule, built_from}

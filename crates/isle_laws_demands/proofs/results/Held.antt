@@ -10,7 +10,7 @@ use Rattle.isle_model.specs.rules.Picks.{SitedVars, matches_under, value_under, 
 use Rattle.isle_model.specs.trees.Run.{as_value, from_value}
 use Rattle.isle_model.specs.trees.Collects.{as_list}
 use Rattle.isle_model.specs.sites.Sites.{SiteTerm, unfold_site}
-use Rattle.isle_model.specs.sites.Demands.{demands_of, Valued, visit_expr, visit_rule, finished, result_of}
+use Rattle.isle_model.specs.visits.Demands.{demands_of, Valued, visit_expr, visit_rule, finished, result_of}
 use Rattle.isle_model.specs.sites.DemandedGates.{ArePureIfLets}
 use Rattle.isle_model.specs.sites.Overlap.{built_rules}
 use Rattle.isle_model.specs.lists.Formed.{is_formed_rule}

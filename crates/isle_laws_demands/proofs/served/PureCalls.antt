@@ -3,7 +3,7 @@ use Rattle.std.proofs.Common.{◌≡◌, ℕ, suc, Bool, true, false, [], ◌∷
 use Rattle.isle_model.specs.rules.Program.{Program, Kind, a_variant, a_struct, a_call, unknown, kind}
 use Rattle.isle_model.specs.rules.Typed.{TypedPatterns, TypedRule}
 use Rattle.isle_model.specs.sites.Sites.{SiteTerm, extractor_call, constructor_call, SiteTerms}
-use Rattle.isle_model.specs.sites.Demands.{demands_of, site_term_eq, Visit, equating, iterating, open_call, open_term, ValuedAll, visit_call, visit_term}
+use Rattle.isle_model.specs.visits.Demands.{demands_of, site_term_eq, Visit, equating, iterating, open_call, open_term, ValuedAll, visit_call, visit_term}
 use Rattle.isle_model.proofs.Elements.{In, in_either}
 use Rattle.isle_laws_demands.proofs.matching.Grown.{equated}
 use Rattle.isle_model.proofs.Either.{either}

@@ -10,7 +10,7 @@ use Rattle.isle_model.specs.rules.Program.{Program, Kind, a_call, kind, flags_of
 use Rattle.isle_model.specs.rules.Picks.{Pick, call_answer, site_content, site_values}
 use Rattle.isle_model.specs.rules.Typed.{TypedRule}
 use Rattle.isle_model.specs.sites.Sites.{SetRule, SiteSet, SiteTerm, extractor_call, constructor_call, unfold_site}
-use Rattle.isle_model.specs.sites.Demands.{demands_of}
+use Rattle.isle_model.specs.visits.Demands.{demands_of}
 use Rattle.isle_model.specs.sites.DemandedGates.{IsMultiCall}
 use Rattle.isle_model.specs.sites.Serves.{asked, fits_answer, fits_extractor, fits_constructor, term_args, term_results, Serves}
 use Rattle.isle_model.specs.trees.Run.{as_value, world_of}

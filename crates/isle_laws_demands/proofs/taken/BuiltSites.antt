@@ -3,7 +3,7 @@ use Rattle.std.proofs.Common.{ℕ, ◌<◌, List, [], length, ap}
 use Rattle.isle_model.specs.rules.Program.{Program, rules_of, arg_types}
 use Rattle.isle_model.specs.rules.Typed.{TypedRule}
 use Rattle.isle_model.specs.sites.Sites.{unfold_site}
-use Rattle.isle_model.specs.sites.Demands.{demands_of}
+use Rattle.isle_model.specs.visits.Demands.{demands_of}
 use Rattle.isle_model.specs.sites.Limits.{sites_after_rules}
 use Rattle.isle_model.proofs.Elements.{In, contains_from_in, in_slice}
 use Rattle.isle_laws_lists.specs.WellTypedPrograms.{IsWellTypedProgram}

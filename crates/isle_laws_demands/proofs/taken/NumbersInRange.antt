@@ -4,7 +4,7 @@ use Rattle.std.proofs.lemmas.Option.{slice_get_within}
 use Rattle.isle_model.specs.lists.Ranges.{is_literal_of}
 use Rattle.isle_model.specs.rules.Program.{Program, arg_types}
 use Rattle.isle_model.specs.sites.Sites.{SiteSet, is_int, SiteTerm, int_site, int_term, unfold_site}
-use Rattle.isle_model.specs.sites.Demands.{demands_of}
+use Rattle.isle_model.specs.visits.Demands.{demands_of}
 use Rattle.isle_model.specs.sites.Overlap.{built_rules}
 use Rattle.isle_model.specs.claims.SetMeanings.{LiesInRange, HasNumbersInRange}
 use Rattle.isle_model.proofs.Elements.{in_from_contains, contains_from_in}

@@ -9,7 +9,7 @@ use Rattle.isle_model.specs.rules.Program.{Program, rules_of, arg_types}
 use Rattle.isle_model.specs.rules.Picks.{Pick}
 use Rattle.isle_model.specs.rules.Typed.{TypedRule}
 use Rattle.isle_model.specs.sites.Sites.{Site, Constraint, is_variant, is_struct, is_bool, is_int, is_prim, is_present, SetRule, SiteSet, SiteTerm, bool_term, int_term, prim_term, sources_at, unfold_site}
-use Rattle.isle_model.specs.sites.Demands.{demands_of}
+use Rattle.isle_model.specs.visits.Demands.{demands_of}
 use Rattle.isle_model.specs.sites.Closure.{HasConstraint, closed}
 use Rattle.isle_model.specs.sites.Overlap.{BuiltRule}
 use Rattle.isle_model.specs.sites.Serves.{asked_by, asked, constant_site, typed_as, written_type, written_value, is_type_with_parts, tested_constants, Serves, TellsConstantsApart}

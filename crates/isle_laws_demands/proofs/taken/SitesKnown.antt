@@ -5,7 +5,7 @@ use Rattle.std.specs.List.{zip}
 use Rattle.isle_model.specs.rules.Program.{Program}
 use Rattle.isle_model.specs.rules.Typed.{TypedRule}
 use Rattle.isle_model.specs.sites.Sites.{Constraint, is_variant, is_struct, is_bool, is_int, is_prim, is_present, SiteTerm, variant_field, struct_field}
-use Rattle.isle_model.specs.sites.Demands.{Demands, demands_of, has_site, with_sites}
+use Rattle.isle_model.specs.visits.Demands.{Demands, demands_of, has_site, with_sites}
 use Rattle.isle_model.specs.sites.Closure.{field_terms, constraint_of, Closed, class_at, is_in_class, next_constrained, ascending, field_equalities, taken, closing, before_closing, begins_with, in_order, most_closing_steps, closed, is_unreachable}
 use Rattle.isle_model.specs.sites.Limits.{RuleLimit, most_sites, passed_in_visit, sites_until, sites_reached, sites_after_rule, sites_after_rules}
 use Rattle.isle_model.specs.sites.Overlap.{BuiltRule, is_built, built_rule, built_from}

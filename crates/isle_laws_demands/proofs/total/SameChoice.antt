@@ -13,7 +13,7 @@ use Rattle.isle_model.specs.rules.Program.{Program, kind, is_multi, arg_types, r
 use Rattle.isle_model.specs.rules.Typed.{TypedRule}
 use Rattle.isle_model.specs.rules.Picks.{matches_under, site_content}
 use Rattle.isle_model.specs.sites.Sites.{constructor_call}
-use Rattle.isle_model.specs.sites.Demands.{demands_of, result_of, visit_rule}
+use Rattle.isle_model.specs.visits.Demands.{demands_of, result_of, visit_rule}
 use Rattle.isle_model.specs.sites.DemandedGates.{CanBeTested}
 use Rattle.isle_model.specs.sites.Closure.{DemandsHold}
 use Rattle.isle_model.specs.sites.Serves.{fits_constructor, Serves}

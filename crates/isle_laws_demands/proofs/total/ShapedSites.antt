@@ -8,7 +8,7 @@ use Rattle.isle_model.specs.rules.Meaning.{look}
 use Rattle.isle_model.specs.rules.Program.{Program, Kind, a_variant, a_struct, a_call, unknown, kind, kind_of, flags_of, always_answers, is_partial, arg_types}
 use Rattle.isle_model.specs.rules.Typed.{TypedPattern, match_bind, match_var, match_bool, match_int, match_prim, match_term, match_any, match_and, TypedPatterns, no_typed_pattern, typed_pattern_and, TypedExpr, make_term, make_var, make_bool, make_int, make_prim, make_let, TypedExprs, no_typed_expr, typed_expr_and, TypedLets, no_typed_let, typed_let_and, TypedIfLet, TypedRule}
 use Rattle.isle_model.specs.sites.Sites.{Constraint, is_variant, is_struct, is_bool, is_int, is_prim, is_present, SiteTerm, bool_term, int_term, prim_term, argument, extractor_call, constructor_call, pick_of, variant_made, variant_field, struct_made, struct_field, some_made, some_part, tuple_part, SiteTerms}
-use Rattle.isle_model.specs.sites.Demands.{site_term_eq, Visit, visit_start, making, asking, equating, iterating, binding, or_no_site, var_site, from_to, pattern_count, Opened, output_sites, part_sites, open_call, open_term, visit_pattern, visit_each, visit_all, Valued, ValuedAll, call_result, call_sites, where_multi, visit_call, visit_term, visit_expr, visit_exprs, visit_lets, unwraps, asking_all, visit_args, visit_iflets, finished, visit_rule, taking_argument}
+use Rattle.isle_model.specs.visits.Demands.{site_term_eq, Visit, visit_start, making, asking, equating, iterating, binding, or_no_site, var_site, from_to, pattern_count, Opened, output_sites, part_sites, open_call, open_term, visit_pattern, visit_each, visit_all, Valued, ValuedAll, call_result, call_sites, where_multi, visit_call, visit_term, visit_expr, visit_exprs, visit_lets, unwraps, asking_all, visit_args, visit_iflets, finished, visit_rule, taking_argument}
 use Rattle.isle_model.specs.sites.Serves.{constant_site, constant_type}
 use Rattle.isle_model.specs.lists.Setting.{bool_type, expr_type, has_constructor, has_extractor}
 use Rattle.isle_model.specs.lists.Formed.{pattern_type, var_type, is_type, formed_pattern, formed_parts, formed_each, is_formed_expr, are_formed_args, formed_lets, formed_list, formed_iflets, is_formed_rule}

@@ -7,7 +7,7 @@ use Rattle.isle_model.specs.rules.Program.{Program, kind, arg_types, rules_of}
 use Rattle.isle_model.specs.rules.Picks.{Pick, site_values}
 use Rattle.isle_model.specs.rules.Typed.{TypedRule}
 use Rattle.isle_model.specs.sites.Sites.{Constraint, SiteTerm, bool_term, int_term, prim_term, extractor_call, constructor_call, variant_made, SiteTerms}
-use Rattle.isle_model.specs.sites.Demands.{demands_of}
+use Rattle.isle_model.specs.visits.Demands.{demands_of}
 use Rattle.isle_model.specs.sites.Serves.{Holds, holds_variant, HoldsAll, asked_by, asked, constant_site, constant_type, typed_as, fits_extractor, fits_constructor, written_value, Serves}
 use Rattle.isle_model.proofs.Elements.{In, in_from_contains, contains_from_in, none_some, in_either, in_left, in_flat_map, from_flat_map}
 use Rattle.isle_laws_lists.specs.WellTypedPrograms.{IsWellTypedProgram}

@@ -7,7 +7,7 @@ use Rattle.isle_model.specs.sites.Sites.{Constraint, is_present, SiteTerm, extra
 use Rattle.isle_model.specs.sites.Overlap.{BuiltRule, built_rule}
 use Rattle.isle_model.specs.sites.RuleSets.{IsRuleOf}
 use Rattle.isle_model.specs.rules.Typed.{TypedRule}
-use Rattle.isle_model.specs.sites.Demands.{Demands, demands_of, Visit, making, asking, equating, iterating, calling, unwraps, unwraps_all, asking_all, counting}
+use Rattle.isle_model.specs.visits.Demands.{Demands, demands_of, Visit, making, asking, equating, iterating, calling, unwraps, unwraps_all, asking_all, counting}
 use Rattle.isle_model.specs.sites.Closure.{field_terms, Joined, given, itself, turned, chained, at_field, closed}
 use Rattle.isle_model.proofs.Elements.{In, in_from_contains, in_either, in_slice}
 use Rattle.isle_laws_demands.specs.VisitLaws.{NoRuleAsksAndGoesOver}

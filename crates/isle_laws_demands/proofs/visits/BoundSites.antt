@@ -12,7 +12,7 @@ use Rattle.isle_model.specs.lists.Setting.{bool_type, expr_type, has_constructor
 use Rattle.isle_model.specs.lists.Formed.{pattern_type, var_type, is_type, with_new, formed_pattern, formed_parts, formed_each, is_formed_expr, are_formed_args, formed_lets, formed_list, formed_iflets, is_formed_rule}
 use Rattle.isle_model.specs.rules.Typed.{TypedPattern, match_bind, match_var, match_bool, match_int, match_prim, match_term, match_any, match_and, TypedPatterns, no_typed_pattern, typed_pattern_and, TypedExpr, make_term, make_var, make_bool, make_int, make_prim, make_let, TypedExprs, no_typed_expr, typed_expr_and, TypedLets, no_typed_let, typed_let_and, TypedIfLet, TypedRule}
 use Rattle.isle_model.specs.sites.Sites.{is_present, SiteTerm, argument, extractor_call, constructor_call, pick_of, variant_field, struct_field, some_part, tuple_part, no_site, SiteTerms}
-use Rattle.isle_model.specs.sites.Demands.{demands_of, site_term_eq, Visit, visit_start, asking, equating, binding, or_no_site, var_site, Opened, output_sites, open_call, open_term, visit_pattern, visit_each, visit_all, Valued, ValuedAll, call_result, visit_call, visit_term, visit_expr, visit_exprs, visit_lets, unwraps, asking_all, visit_args, visit_iflets, finished, visit_rule, taking_argument}
+use Rattle.isle_model.specs.visits.Demands.{demands_of, site_term_eq, Visit, visit_start, asking, equating, binding, or_no_site, var_site, Opened, output_sites, open_call, open_term, visit_pattern, visit_each, visit_all, Valued, ValuedAll, call_result, visit_call, visit_term, visit_expr, visit_exprs, visit_lets, unwraps, asking_all, visit_args, visit_iflets, finished, visit_rule, taking_argument}
 use Rattle.isle_model.proofs.Elements.{In, in_from_contains, some_is, none_some, in_either}
 use Rattle.isle_laws_demands.specs.BuiltLaws.{FormedRulesMakeEqualSites}
 use Rattle.isle_laws_demands.proofs.closure.VisitedRules.{visits_make_lem}

@@ -4,7 +4,7 @@ use Rattle.std.proofs.lemmas.Bool.{and_from}
 use Rattle.isle_model.specs.rules.Typed.{TypedRule}
 use Rattle.isle_model.specs.rules.Program.{Program, rules_of}
 use Rattle.isle_model.specs.sites.Sites.{Site, bool_site, int_site, prim_site, argument_site, extractor_site, constructor_site, iterator_site, make_variant_site, match_variant_site, make_struct_site, extract_struct_site, make_some_site, match_some_site, match_tuple_site, Constraint, is_variant, is_struct, is_present, SetRule, SiteSet, sources_of, sources_at, SiteTerm, each_term, layer, layer_at, unfold_site}
-use Rattle.isle_model.specs.sites.Demands.{demands_of, result_of}
+use Rattle.isle_model.specs.visits.Demands.{demands_of, result_of}
 use Rattle.isle_model.specs.trees.Places.{is_in, below}
 use Rattle.isle_model.specs.sites.Gates.{asks_variant, asks_struct, asks_answer, gate_demanded}
 use Rattle.isle_model.specs.trees.Collects.{IsPureSite}

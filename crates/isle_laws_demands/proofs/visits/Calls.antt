@@ -1,7 +1,7 @@
 -- The calls that a visit goes over after an earlier one.
 use Rattle.std.proofs.Common.{Bool, [], ◌∷◌, ◌⊎◌, subst, inl, inr}
 use Rattle.isle_model.specs.sites.Sites.{SiteTerm}
-use Rattle.isle_model.specs.sites.Demands.{Visit, iterating}
+use Rattle.isle_model.specs.visits.Demands.{Visit, iterating}
 use Rattle.isle_model.proofs.Elements.{In, in_either}
 use Rattle.isle_laws_demands.proofs.visits.Visited.{Good, Later, good_stays}
 

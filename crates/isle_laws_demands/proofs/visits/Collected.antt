@@ -3,7 +3,7 @@ use Rattle.std.proofs.Common.{◌≡◌, ℕ, suc, ◌<◌, true, List, [], ◌�
 use Rattle.isle_model.specs.rules.Program.{Program, is_multi}
 use Rattle.isle_model.specs.rules.Typed.{TypedRule}
 use Rattle.isle_model.specs.sites.Sites.{Constraint, SetRule, SiteSet, unfold_site}
-use Rattle.isle_model.specs.sites.Demands.{demands_of, visit_args, visit_start}
+use Rattle.isle_model.specs.visits.Demands.{demands_of, visit_args, visit_start}
 use Rattle.isle_model.specs.sites.DemandedGates.{GatesDemanded, IsPureExpr}
 use Rattle.isle_model.specs.sites.Gates.{gate_demanded}
 use Rattle.isle_model.specs.sites.Overlap.{BuiltRule, built_rules}

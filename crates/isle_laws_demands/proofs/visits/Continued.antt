@@ -7,7 +7,7 @@ use Rattle.isle_model.specs.lists.Tables.{Flags}
 use Rattle.isle_model.specs.rules.Program.{Program, Kind, a_variant, a_struct, a_call, unknown, kind}
 use Rattle.isle_model.specs.rules.Typed.{TypedPatterns}
 use Rattle.isle_model.specs.sites.Sites.{is_variant, is_struct, is_present, SiteTerm, SiteTerms, extractor_call, constructor_call, pick_of, variant_made, variant_field, struct_made, struct_field, some_part}
-use Rattle.isle_model.specs.sites.Demands.{Count, fields_matched, outputs_taken, Visit, site_term_eq, making, counting, asking, iterating, calling, equating, binding, from_to, pattern_count, part_sites, outputs_opened, open_call, open_term, ValuedAll, call_result, call_sites, where_multi, visit_call, visit_term}
+use Rattle.isle_model.specs.visits.Demands.{Count, fields_matched, outputs_taken, Visit, site_term_eq, making, counting, asking, iterating, calling, equating, binding, from_to, pattern_count, part_sites, outputs_opened, open_call, open_term, ValuedAll, call_result, call_sites, where_multi, visit_call, visit_term}
 use Rattle.isle_model.specs.sites.Limits.{RuleLimit, passed_by, passed_or_later, first_passed}
 use Rattle.isle_model.proofs.Elements.{none_some}
 use Rattle.isle_model.proofs.Either.{either}

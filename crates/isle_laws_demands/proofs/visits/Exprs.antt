@@ -8,7 +8,7 @@ use Rattle.isle_model.specs.lists.Tables.{TermEntry}
 use Rattle.isle_model.specs.rules.Program.{Program, Kind, a_variant, a_struct, a_call, unknown, kind, flags_of, is_partial}
 use Rattle.isle_model.specs.sites.Sites.{SiteTerm, bool_term, int_term, prim_term, constructor_call, pick_of, variant_made, struct_made, some_part, SiteTerms}
 use Rattle.isle_model.specs.rules.Typed.{TypedExpr, make_term, make_var, make_bool, make_int, make_prim, make_let, TypedExprs, no_typed_expr, typed_expr_and, TypedLets, no_typed_let, typed_let_and}
-use Rattle.isle_model.specs.sites.Demands.{Visit, making, iterating, calling, binding, or_no_site, Valued, ValuedAll, valued, call_result, call_sites, where_multi, visit_call, visit_term, visit_expr, visit_exprs, visit_lets}
+use Rattle.isle_model.specs.visits.Demands.{Visit, making, iterating, calling, binding, or_no_site, Valued, ValuedAll, valued, call_result, call_sites, where_multi, visit_call, visit_term, visit_expr, visit_exprs, visit_lets}
 use Rattle.isle_model.specs.lists.Setting.{expr_type, has_constructor}
 use Rattle.isle_model.specs.lists.Formed.{var_type, with_new, is_formed_expr, are_formed_args, formed_lets}
 use Rattle.isle_model.proofs.Elements.{some_is}

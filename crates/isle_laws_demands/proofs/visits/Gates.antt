@@ -1,7 +1,7 @@
 -- Gates stay demanded where more is demanded, and the calls that a value unwraps make the difference.
 use Rattle.std.proofs.Common.{ℕ, Bool, true, false, List, Contains, refl, subst, inl, inr}
 use Rattle.isle_model.specs.sites.Sites.{Constraint, is_variant, is_struct, is_present, SiteTerm, bool_term, int_term, prim_term, argument, extractor_call, constructor_call, pick_of, variant_made, variant_field, struct_made, struct_field, some_made, some_part, tuple_part, no_site, SiteTerms, no_site_term, site_term_and}
-use Rattle.isle_model.specs.sites.Demands.{Demands, unwraps, unwraps_all}
+use Rattle.isle_model.specs.visits.Demands.{Demands, unwraps, unwraps_all}
 use Rattle.isle_model.specs.trees.Collects.{calls_in, calls_in_all}
 use Rattle.isle_model.specs.sites.DemandedGates.{AsksAnswer, IsPureCall, GatesDemanded, AllGatesDemanded}
 use Rattle.isle_model.proofs.Elements.{In, in_left, in_right, in_either}

@@ -6,7 +6,7 @@ use Rattle.std.specs.List.{list_all}
 use Rattle.isle_model.specs.rules.Program.{Program, is_partial}
 use Rattle.isle_model.specs.sites.Sites.{SiteTerm}
 use Rattle.isle_model.specs.rules.Typed.{TypedIfLet, TypedRule}
-use Rattle.isle_model.specs.sites.Demands.{demands_of, result_of, Visit, visit_start, visit_pattern, Valued, visit_expr, unwraps, asking_all, visit_args, visit_iflets, finished, has_site, var_site}
+use Rattle.isle_model.specs.visits.Demands.{demands_of, result_of, Visit, visit_start, visit_pattern, Valued, visit_expr, unwraps, asking_all, visit_args, visit_iflets, finished, has_site, var_site}
 use Rattle.isle_model.specs.trees.Collects.{afresh, calls_in, iflets_need_calls}
 use Rattle.isle_model.specs.claims.SetMeanings.{calls_left, calls_left_by}
 use Rattle.isle_model.specs.lists.Formed.{is_formed_expr, formed_iflets, is_formed_rule}

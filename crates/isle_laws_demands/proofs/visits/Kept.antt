@@ -3,7 +3,7 @@ use Rattle.std.proofs.Common.{ℕ, suc, Bool, true, false, List, [], ◌∷◌}
 use Rattle.isle_model.specs.rules.Program.{Program, kind, is_partial}
 use Rattle.isle_model.specs.rules.Typed.{TypedPattern, match_bind, match_var, match_bool, match_int, match_prim, match_term, match_any, match_and, TypedPatterns, no_typed_pattern, typed_pattern_and, TypedExpr, make_term, make_var, make_bool, make_int, make_prim, make_let, TypedExprs, no_typed_expr, typed_expr_and, TypedLets, no_typed_let, typed_let_and, TypedIfLet, TypedRule}
 use Rattle.isle_model.specs.sites.Sites.{Constraint, is_bool, is_int, is_prim, is_present, SiteTerm, bool_term, int_term, prim_term, argument, some_made}
-use Rattle.isle_model.specs.sites.Demands.{Count, argument_taken, Visit, visit_start, making, counting, asking, equating, binding, var_site, open_term, visit_pattern, visit_each, visit_all, Valued, ValuedAll, visit_term, visit_expr, visit_exprs, visit_lets, unwraps, asking_all, visit_args, visit_iflets, finished, visit_rule, taking_argument}
+use Rattle.isle_model.specs.visits.Demands.{Count, argument_taken, Visit, visit_start, making, counting, asking, equating, binding, var_site, open_term, visit_pattern, visit_each, visit_all, Valued, ValuedAll, visit_term, visit_expr, visit_exprs, visit_lets, unwraps, asking_all, visit_args, visit_iflets, finished, visit_rule, taking_argument}
 
 -- the steps of patterns keep a fact of visits
 pub record KeptByTests (p : Program) (P : Visit → Type 0) : Type 0 where

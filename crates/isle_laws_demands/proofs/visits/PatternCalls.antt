@@ -4,7 +4,7 @@ use Rattle.std.proofs.lemmas.Bool.{cases_Bool, cond-true, cond-false}
 use Rattle.isle_model.specs.rules.Program.{Program, Kind, a_variant, a_struct, a_call, unknown, kind}
 use Rattle.isle_model.specs.sites.Sites.{Constraint, is_bool, is_int, is_prim, SiteTerm, argument, extractor_call, pick_of}
 use Rattle.isle_model.specs.rules.Typed.{TypedPattern, match_bind, match_var, match_bool, match_int, match_prim, match_term, match_any, match_and, TypedPatterns, no_typed_pattern, typed_pattern_and}
-use Rattle.isle_model.specs.sites.Demands.{Demands, site_term_eq, Visit, making, asking, equating, iterating, binding, var_site, Opened, open_call, open_term, visit_pattern, visit_each, visit_all, visit_args, taking_argument}
+use Rattle.isle_model.specs.visits.Demands.{Demands, site_term_eq, Visit, making, asking, equating, iterating, binding, var_site, Opened, open_call, open_term, visit_pattern, visit_each, visit_all, visit_args, taking_argument}
 use Rattle.isle_model.proofs.Elements.{In}
 use Rattle.isle_model.specs.sites.DemandedGates.{GatesDemanded}
 use Rattle.isle_laws_demands.proofs.visits.Calls.{NewCalls, one_call}

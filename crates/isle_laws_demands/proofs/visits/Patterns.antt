@@ -7,7 +7,7 @@ use Rattle.isle_model.specs.rules.Program.{Program, Kind, a_variant, a_struct, a
 use Rattle.isle_model.specs.sites.Serves.{constant_type}
 use Rattle.isle_model.specs.sites.Sites.{Constraint, is_variant, is_struct, is_bool, is_int, is_prim, is_present, SiteTerm, extractor_call, pick_of, variant_field, struct_field, some_part, tuple_part}
 use Rattle.isle_model.specs.rules.Typed.{TypedPattern, match_bind, match_var, match_bool, match_int, match_prim, match_term, match_any, match_and, TypedPatterns, no_typed_pattern, typed_pattern_and}
-use Rattle.isle_model.specs.sites.Demands.{Visit, making, asking, equating, iterating, binding, var_site, from_to, pattern_count, Opened, opened, output_sites, part_sites, open_call, open_term, visit_pattern, visit_each, visit_all, outputs_opened, fields_matched, outputs_taken, counting}
+use Rattle.isle_model.specs.visits.Demands.{Visit, making, asking, equating, iterating, binding, var_site, from_to, pattern_count, Opened, opened, output_sites, part_sites, open_call, open_term, visit_pattern, visit_each, visit_all, outputs_opened, fields_matched, outputs_taken, counting}
 use Rattle.isle_model.specs.lists.Setting.{bool_type, has_extractor}
 use Rattle.isle_model.specs.lists.Formed.{pattern_type, var_type, is_type, with_new, formed_pattern, formed_parts, formed_each}
 use Rattle.isle_model.proofs.Elements.{In, some_is, none_some}

@@ -6,7 +6,7 @@ use Rattle.isle_model.specs.rules.Outcome.{then_option}
 use Rattle.isle_model.specs.rules.Program.{Program, is_partial}
 use Rattle.isle_model.specs.sites.Sites.{SiteTerm, argument, some_made}
 use Rattle.isle_model.specs.rules.Typed.{TypedPattern, TypedIfLet, TypedRule}
-use Rattle.isle_model.specs.sites.Demands.{demands_of, Visit, visit_start, or_no_site, var_site, visit_pattern, Valued, visit_expr, unwraps, asking_all, visit_args, visit_iflets, finished, visit_rule, taking_argument, argument_taken, counting}
+use Rattle.isle_model.specs.visits.Demands.{demands_of, Visit, visit_start, or_no_site, var_site, visit_pattern, Valued, visit_expr, unwraps, asking_all, visit_args, visit_iflets, finished, visit_rule, taking_argument, argument_taken, counting}
 use Rattle.isle_model.specs.lists.Formed.{pattern_type, formed_pattern, is_formed_expr, formed_list, formed_iflets, is_formed_rule}
 use Rattle.isle_model.proofs.Elements.{in_from_contains, some_is, none_some}
 use Rattle.isle_model.specs.sites.DemandedGates.{IsPureExpr, ArePureIfLets, DemandsGates}

@@ -5,7 +5,7 @@ use Rattle.isle_model.specs.claims.SetMeanings.{calls_left_by, DemandsGatesOfCal
 use Rattle.isle_model.specs.rules.Program.{Program, rules_of, is_multi}
 use Rattle.isle_model.specs.rules.Typed.{TypedRule}
 use Rattle.isle_model.specs.sites.Sites.{Site, SetRule, SiteSet, SiteTerm, unfold_site}
-use Rattle.isle_model.specs.sites.Demands.{demands_of, result_of}
+use Rattle.isle_model.specs.visits.Demands.{demands_of, result_of}
 use Rattle.isle_model.specs.sites.DemandedGates.{GatesDemanded, IsPureExpr}
 use Rattle.isle_model.specs.sites.Gates.{gate_demanded}
 use Rattle.isle_model.specs.sites.Overlap.{BuiltRule, built_rules}

@@ -6,7 +6,7 @@ use Rattle.isle_model.proofs.Members.{constraint_in}
 use Rattle.isle_model.specs.lists.Names.{IsDistinct}
 use Rattle.isle_model.specs.rules.Program.{Program}
 use Rattle.isle_model.specs.sites.Sites.{Constraint, SetRule, SiteSet, unfold_site}
-use Rattle.isle_model.specs.sites.Demands.{demands_of}
+use Rattle.isle_model.specs.visits.Demands.{demands_of}
 use Rattle.isle_model.specs.trees.Places.{is_in, joins_in, constraint_at, below, all_below, return_uses}
 use Rattle.isle_model.specs.trees.Tests.{match_test, equal_test, loop_test, needs}
 use Rattle.isle_model.specs.sites.Gates.{gate_demanded}

@@ -3,7 +3,7 @@ use Rattle.std.proofs.Common.{◌≡◌, ◌⊎◌, ℕ, ◌==◌, Bool, true, f
 use Rattle.std.proofs.lemmas.Bool.{cases_Bool, cond-true, cond-false, false≢true}
 use Rattle.isle_model.specs.rules.Meaning.{look}
 use Rattle.isle_model.specs.sites.Sites.{Constraint, is_present, SiteTerm}
-use Rattle.isle_model.specs.sites.Demands.{Count, counting, site_term_eq, Visit, making, asking, equating, iterating, calling, binding, or_no_site, var_site, asking_all}
+use Rattle.isle_model.specs.visits.Demands.{Count, counting, site_term_eq, Visit, making, asking, equating, iterating, calling, binding, or_no_site, var_site, asking_all}
 use Rattle.isle_model.specs.lists.Formed.{var_type}
 use Rattle.isle_model.proofs.Elements.{In, in_from_contains, contains_from_in, in_left, in_right, in_either}
 use Rattle.isle_model.specs.sites.DemandedGates.{GatesDemanded}

@@ -1,7 +1,7 @@
 -- The closed demands of rules that are built of well-typed ones are all that follows.
 use Rattle.std.proofs.Common.{[], subst}
 use Rattle.isle_model.specs.rules.Program.{rules_of}
-use Rattle.isle_model.specs.sites.Demands.{demands_of}
+use Rattle.isle_model.specs.visits.Demands.{demands_of}
 use Rattle.isle_model.specs.sites.Closure.{ClosedIsWhole}
 use Rattle.isle_model.specs.sites.Overlap.{BuiltRule, built_rules}
 use Rattle.isle_laws_demands.specs.BuiltLaws.{BuiltDemandsAreWhole}

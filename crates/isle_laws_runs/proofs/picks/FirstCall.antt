@@ -8,7 +8,7 @@ use Rattle.isle_model.specs.rules.Values.{Value}
 use Rattle.isle_model.specs.rules.Meaning.{Content, Meaning}
 use Rattle.isle_model.specs.trees.Run.{World, as_value, or_else}
 use Rattle.isle_model.specs.sites.Sites.{SiteTerm, SetRule, unfold_site}
-use Rattle.isle_model.specs.sites.Demands.{site_term_eq}
+use Rattle.isle_model.specs.visits.Demands.{site_term_eq}
 use Rattle.isle_model.specs.rules.Picks.{Pick, place_of, site_content, places_in, picks_over, SitedVars, matches_under, results_with, results_under}
 use Rattle.isle_model.specs.trees.Collects.{content_at, meets, same_value, all_same, demands_hold, as_list, result_in}
 use Rattle.isle_model.specs.rules.Outcome.{then_option}

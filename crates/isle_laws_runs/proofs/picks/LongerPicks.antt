@@ -10,7 +10,7 @@ use Rattle.isle_model.specs.rules.Meaning.{Content, one, parts, nothing, just, m
 use Rattle.isle_model.specs.rules.Outcome.{then_option}
 use Rattle.isle_model.specs.trees.Run.{as_value, part_at}
 use Rattle.isle_model.specs.sites.Sites.{SiteTerm, bool_term, int_term, prim_term, argument, extractor_call, constructor_call, pick_of, variant_made, variant_field, struct_made, struct_field, some_made, some_part, tuple_part, no_site, SiteTerms, no_site_term, site_term_and}
-use Rattle.isle_model.specs.sites.Demands.{site_term_eq}
+use Rattle.isle_model.specs.visits.Demands.{site_term_eq}
 use Rattle.isle_model.specs.rules.Picks.{Pick, place_of, picked, field_of_variant, field_of_struct, part_of_some, call_answer, site_content, site_values}
 use Rattle.isle_model.specs.trees.Collects.{calls_in, calls_in_all}
 use Rattle.isle_model.proofs.Members.{nothing_in, in_head, in_tail, in_cases}

@@ -3,7 +3,7 @@ use Rattle.std.proofs.Common.{◌≡◌, ℕ, suc, Bool, true, false, cond, List
 use Rattle.isle_model.specs.lists.Tables.{Flags}
 use Rattle.isle_model.specs.rules.Program.{Program, Kind, a_variant, a_struct, a_call, unknown, flags_of, kind, is_partial}
 use Rattle.isle_model.specs.sites.Sites.{SiteTerm, argument, extractor_call, constructor_call, SiteTerms}
-use Rattle.isle_model.specs.sites.Demands.{site_term_eq, pattern_count, Visit, visit_start, making, iterating, binding, var_site, Opened, open_call, open_term, visit_pattern, visit_each, visit_all, Valued, ValuedAll, call_sites, visit_call, visit_term, visit_expr, visit_exprs, visit_lets, unwraps, asking_all, visit_args, visit_iflets, demands_of, taking_argument}
+use Rattle.isle_model.specs.visits.Demands.{site_term_eq, pattern_count, Visit, visit_start, making, iterating, binding, var_site, Opened, open_call, open_term, visit_pattern, visit_each, visit_all, Valued, ValuedAll, call_sites, visit_call, visit_term, visit_expr, visit_exprs, visit_lets, unwraps, asking_all, visit_args, visit_iflets, demands_of, taking_argument}
 use Rattle.isle_model.specs.rules.Typed.{TypedPattern, match_bind, match_var, match_bool, match_int, match_prim, match_term, match_any, match_and, TypedPatterns, no_typed_pattern, typed_pattern_and, TypedExpr, make_term, make_var, make_bool, make_int, make_prim, make_let, TypedExprs, no_typed_expr, typed_expr_and, TypedLets, no_typed_let, typed_let_and, TypedIfLet, TypedRule}
 use Rattle.isle_model.specs.rules.CallsNoMulti.{WhereKnown, PatternCallsNoMulti, PatternsCallNoMulti, ExprCallsNoMulti, ExprsCallNoMulti, LetsCallNoMulti, ArgsCallNoMulti, IfLetsCallNoMulti, CallsNoMulti}
 use Rattle.isle_laws_runs.proofs.picks.VisitOrder.{met}

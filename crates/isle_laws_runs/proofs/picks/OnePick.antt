@@ -6,7 +6,7 @@ use Rattle.isle_model.specs.rules.Meaning.{Meaning}
 use Rattle.isle_model.specs.rules.Program.{Program, Kind, a_variant, a_struct, a_call, unknown, flags_of, kind, is_partial}
 use Rattle.isle_model.specs.rules.Choice.{with_vars}
 use Rattle.isle_model.specs.sites.Sites.{is_present, SiteTerm, argument, extractor_call, constructor_call, SiteTerms}
-use Rattle.isle_model.specs.sites.Demands.{site_term_eq, Visit, visit_start, making, asking, iterating, binding, var_site, Opened, open_call, open_term, visit_pattern, visit_each, visit_all, Valued, ValuedAll, call_sites, visit_call, visit_term, visit_expr, visit_exprs, visit_lets, unwraps, asking_all, visit_args, visit_iflets, finished, demands_of, with_sites, taking_argument}
+use Rattle.isle_model.specs.visits.Demands.{site_term_eq, Visit, visit_start, making, asking, iterating, binding, var_site, Opened, open_call, open_term, visit_pattern, visit_each, visit_all, Valued, ValuedAll, call_sites, visit_call, visit_term, visit_expr, visit_exprs, visit_lets, unwraps, asking_all, visit_args, visit_iflets, finished, demands_of, with_sites, taking_argument}
 use Rattle.isle_model.specs.rules.Picks.{multi_calls, picks_over, picks, SitedVars, matches_under, results_with, results_under}
 use Rattle.isle_model.specs.rules.Typed.{TypedPattern, match_bind, match_var, match_bool, match_int, match_prim, match_term, match_any, match_and, TypedPatterns, no_typed_pattern, typed_pattern_and, TypedExpr, make_term, make_var, make_bool, make_int, make_prim, make_let, TypedExprs, no_typed_expr, typed_expr_and, TypedLets, no_typed_let, typed_let_and, TypedIfLet, TypedRule}
 use Rattle.isle_model.specs.rules.CallsNoMulti.{WhereKnown, PatternCallsNoMulti, PatternsCallNoMulti, ExprCallsNoMulti, ExprsCallNoMulti, LetsCallNoMulti, ArgsCallNoMulti, IfLetsCallNoMulti, CallsNoMulti}

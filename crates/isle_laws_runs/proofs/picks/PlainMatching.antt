@@ -8,7 +8,7 @@ use Rattle.isle_model.specs.rules.Program.{Program, Kind, a_variant, a_struct, a
 use Rattle.isle_model.specs.rules.Matching.{Vars, var_value, where_equal, parts_seen, holds, each_holds, all_hold, single, pure_term, pure_value, pure_values, pure_lets, args_hold, iflets_hold}
 use Rattle.isle_model.specs.rules.RightSide.{Eval, gives, ends, EvalAll, gives_all, ends_all, EvalLets, gives_vars, ends_lets, or_end, apply, pair_up, then_rest, then_lets, then_body, eval, eval_all, eval_lets, outcome_of}
 use Rattle.isle_model.specs.sites.Sites.{SiteTerm, argument, extractor_call, constructor_call, SiteTerms}
-use Rattle.isle_model.specs.sites.Demands.{from_to, pattern_count, Opened, output_sites}
+use Rattle.isle_model.specs.visits.Demands.{from_to, pattern_count, Opened, output_sites}
 use Rattle.isle_model.specs.rules.Picks.{Pick, taken_answer, Sited, sited, SitedVars, sited_value, values_in, expr_site, expr_sites, input_sites, where_same, parts_under, holds_under, each_holds_under, all_hold_under, term_under, value_under, values_under, lets_under, args_hold_under, iflets_hold_under, apply_under, SitedLets, gives_sited, ends_sited, then_sited_lets, then_sited_body, eval_under, eval_all_under, eval_lets_under}
 use Rattle.isle_model.specs.rules.Typed.{TypedPattern, match_bind, match_var, match_bool, match_int, match_prim, match_term, match_any, match_and, TypedPatterns, no_typed_pattern, typed_pattern_and, TypedExpr, make_term, make_var, make_bool, make_int, make_prim, make_let, TypedExprs, no_typed_expr, typed_expr_and, TypedLets, no_typed_let, typed_let_and, TypedIfLet}
 use Rattle.isle_model.proofs.Options.{then_same}

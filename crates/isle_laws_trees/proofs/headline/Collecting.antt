@@ -13,7 +13,7 @@ use Rattle.isle_model.specs.rules.Program.{Program, rules_of, is_multi, numbers_
 use Rattle.isle_model.specs.rules.Picks.{Pick, SitedVars, multi_calls, picks_over, picks, matches_under, results_with, results_under, bag}
 use Rattle.isle_model.specs.rules.Typed.{TypedRule}
 use Rattle.isle_model.specs.sites.Sites.{Constraint, SetRule, SiteSet, SiteTerm, unfold_site}
-use Rattle.isle_model.specs.sites.Demands.{demands_of}
+use Rattle.isle_model.specs.visits.Demands.{demands_of}
 use Rattle.isle_model.specs.sites.Gates.{gate_demanded}
 use Rattle.isle_model.specs.sites.Overlap.{BuiltRule, built_rules}
 use Rattle.isle_model.specs.sites.RuleSets.{IsRuleOf}

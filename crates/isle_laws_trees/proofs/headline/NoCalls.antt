@@ -2,7 +2,7 @@
 use Rattle.std.proofs.Common.{◌≡◌, ℕ, false, List, [], ◌∷◌, Contains, All, subst, refl}
 use Rattle.isle_model.specs.rules.Program.{Program, is_multi}
 use Rattle.isle_model.specs.sites.Sites.{SetRule, SiteSet, unfold_site}
-use Rattle.isle_model.specs.sites.Demands.{demands_of}
+use Rattle.isle_model.specs.visits.Demands.{demands_of}
 use Rattle.isle_model.specs.sites.Overlap.{BuiltRule, built_rules}
 use Rattle.isle_model.proofs.Members.{nothing_in, all_members, member_from_get, get_from_member}
 use Rattle.isle_laws_lists.specs.WellTypedPrograms.{IsWellTypedProgram}

@@ -11,7 +11,7 @@ use Rattle.isle_model.specs.rules.RightSide.{right_side}
 use Rattle.isle_model.specs.rules.Typed.{TypedIfLet, TypedRule}
 use Rattle.isle_model.specs.rules.Program.{Program, is_multi, arg_types, rules_of}
 use Rattle.isle_model.specs.sites.Sites.{Site, int_site, Constraint, is_int, SetRule, SiteSet, sources_at, SiteTerm, unfold_site}
-use Rattle.isle_model.specs.sites.Demands.{demands_of, Visit, visit_start, visit_args, visit_pattern, visit_expr, has_site}
+use Rattle.isle_model.specs.visits.Demands.{demands_of, Visit, visit_start, visit_args, visit_pattern, visit_expr, has_site}
 use Rattle.isle_model.specs.sites.Closure.{ClosedIsWhole}
 use Rattle.isle_model.specs.trees.Places.{joins_in, all_below}
 use Rattle.isle_model.specs.sites.Gates.{gate_demanded}

@@ -10,7 +10,7 @@ use Rattle.isle_model.specs.rules.Matching.{parts_seen, single, pure_term}
 use Rattle.isle_model.specs.rules.RightSide.{Eval, gives, ends, EvalAll, gives_all, ends_all, or_end, applied, then_rest, outcome_of}
 use Rattle.isle_model.specs.trees.Run.{as_value, from_value, part_at}
 use Rattle.isle_model.specs.sites.Sites.{SiteTerm, bool_term, int_term, prim_term, argument, extractor_call, constructor_call, pick_of, variant_made, variant_field, struct_made, struct_field, some_made, some_part, tuple_part, no_site, SiteTerms, no_site_term, site_term_and}
-use Rattle.isle_model.specs.sites.Demands.{site_term_eq, Visit, visit_start, open_term, visit_expr, visit_exprs, demands_of, with_sites}
+use Rattle.isle_model.specs.visits.Demands.{site_term_eq, Visit, visit_start, open_term, visit_expr, visit_exprs, demands_of, with_sites}
 use Rattle.isle_model.specs.rules.Typed.{TypedPattern, match_bind, match_var, match_bool, match_int, match_prim, match_term, match_any, match_and, TypedPatterns, no_typed_pattern, typed_pattern_and, TypedExpr, make_term, make_var, make_bool, make_int, make_prim, make_let, TypedExprs, no_typed_expr, typed_expr_and, TypedLets, no_typed_let, typed_let_and, TypedIfLet, TypedRule}
 
 -- multi calls, each with a place in the list that it answers. A call is its site: calls of one term on the same sites

@@ -5,7 +5,7 @@ use Rattle.std.specs.List.{filter, flat_map, list_any, zip}
 use Rattle.isle_model.specs.rules.Values.{Value}
 use Rattle.isle_model.specs.rules.Meaning.{Content, one, Meaning, look}
 use Rattle.isle_model.specs.sites.Sites.{Constraint, is_variant, is_struct, SiteTerm, variant_field, struct_field}
-use Rattle.isle_model.specs.sites.Demands.{Demands, site_term_eq, has_site, with_sites, constraint_eq}
+use Rattle.isle_model.specs.visits.Demands.{Demands, site_term_eq, has_site, with_sites, constraint_eq}
 use Rattle.isle_model.specs.trees.Run.{content_fields}
 use Rattle.isle_model.specs.rules.Picks.{Pick, site_content}
 

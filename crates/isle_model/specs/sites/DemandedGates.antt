@@ -4,7 +4,7 @@ use Rattle.isle_model.specs.rules.Program.{Program, is_multi, is_partial, is_pur
 use Rattle.isle_model.specs.rules.CalledTerms.{CallsAlone, CallAlone, LetsCallAlone}
 use Rattle.isle_model.specs.rules.Typed.{TypedExpr, TypedExprs, TypedLets, TypedIfLet, TypedRule}
 use Rattle.isle_model.specs.sites.Sites.{Constraint, is_variant, is_struct, is_present, SiteTerm, bool_term, int_term, prim_term, argument, extractor_call, constructor_call, pick_of, variant_made, variant_field, struct_made, struct_field, some_made, some_part, tuple_part, no_site, SiteTerms, no_site_term, site_term_and}
-use Rattle.isle_model.specs.sites.Demands.{Demands, demands_of, result_of}
+use Rattle.isle_model.specs.visits.Demands.{Demands, demands_of, result_of}
 use Rattle.isle_model.specs.sites.Closure.{Closed}
 
 -- a site is asked to be that variant, with more than i fields

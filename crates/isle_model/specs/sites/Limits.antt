@@ -3,7 +3,7 @@ use Rattle.std.specs.Prelude.{ℕ, ◌<◌, ◌≤◌, List, [], ◌∷◌, leng
 use Rattle.isle_model.specs.rules.Typed.{TypedRule}
 use Rattle.isle_model.specs.rules.Program.{Program}
 use Rattle.isle_model.specs.sites.Sites.{SiteTerm}
-use Rattle.isle_model.specs.sites.Demands.{Count, fields_matched, outputs_taken, argument_taken, demands_of, with_sites}
+use Rattle.isle_model.specs.visits.Demands.{Count, fields_matched, outputs_taken, argument_taken, demands_of, with_sites}
 use Rattle.isle_model.specs.sites.Closure.{is_unreachable, closed}
 
 -- a field's number has 8 bits, and the number of fields is one too

@@ -7,7 +7,7 @@ use Rattle.isle_model.specs.lists.Syntax.{Position}
 use Rattle.isle_model.specs.rules.Typed.{TypedRule}
 use Rattle.isle_model.specs.rules.Program.{Program, is_multi, rules_of, terms_with_rules}
 use Rattle.isle_model.specs.sites.Sites.{Constraint, SiteTerm}
-use Rattle.isle_model.specs.sites.Demands.{site_term_eq, demands_of, constraint_eq, differ}
+use Rattle.isle_model.specs.visits.Demands.{site_term_eq, demands_of, constraint_eq, differ}
 use Rattle.isle_model.specs.lists.Names.{IsDistinct}
 use Rattle.isle_model.specs.sites.Closure.{Unreachability, is_unreachable, reported, Closed, closed}
 use Rattle.isle_model.specs.sites.Limits.{RuleLimit, first_limit, sites_wanted, sites_after_rule, sites_after_rules}

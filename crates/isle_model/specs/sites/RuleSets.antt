@@ -4,7 +4,7 @@ use Rattle.std.specs.List.{flat_map}
 use Rattle.isle_model.specs.lists.Names.{IsDistinct}
 use Rattle.isle_model.specs.rules.Program.{Program, rules_of}
 use Rattle.isle_model.specs.sites.Sites.{Site, Constraint, SetRule, SiteSet, sources_at, SiteTerm, unfold_site}
-use Rattle.isle_model.specs.sites.Demands.{demands_of, result_of}
+use Rattle.isle_model.specs.visits.Demands.{demands_of, result_of}
 use Rattle.isle_model.specs.trees.Places.{joins_in}
 use Rattle.isle_model.specs.sites.Closure.{Closed}
 use Rattle.isle_model.specs.sites.Limits.{most_sites, sites_after_rules}

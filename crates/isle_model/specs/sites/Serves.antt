@@ -9,7 +9,7 @@ use Rattle.isle_model.specs.rules.Matching.{matches}
 use Rattle.isle_model.specs.rules.Picks.{Pick, site_content, site_values, HasContent}
 use Rattle.isle_model.specs.rules.Program.{Program, Kind, a_call, kind}
 use Rattle.isle_model.specs.sites.Sites.{Constraint, is_bool, is_int, is_prim, SiteTerm, bool_term, int_term, prim_term, argument, extractor_call, constructor_call, pick_of, variant_made, variant_field, struct_made, struct_field, some_made, some_part, tuple_part, SiteTerms, no_site_term, site_term_and}
-use Rattle.isle_model.specs.sites.Demands.{Demands, demands_of}
+use Rattle.isle_model.specs.visits.Demands.{Demands, demands_of}
 use Rattle.isle_model.specs.rules.Typed.{TypedRule}
 
 -- what a site can hold on these arguments: one content, but for picks, which hold each answer of their call

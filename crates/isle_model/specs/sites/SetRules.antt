@@ -7,7 +7,7 @@ use Rattle.std.specs.List.{filter, flat_map, list_all, list_any}
 use Rattle.std.specs.Ordering.{int_eq}
 use Rattle.isle_model.specs.lists.Syntax.{Position}
 use Rattle.isle_model.specs.sites.Sites.{Site, int_site, make_variant_site, match_variant_site, extract_struct_site, match_some_site, Constraint, is_variant, is_struct, is_int, is_present, SetRule, SiteSet}
-use Rattle.isle_model.specs.sites.Demands.{constraint_eq}
+use Rattle.isle_model.specs.visits.Demands.{constraint_eq}
 use Rattle.isle_model.specs.sites.Overlap.{each_two, overlap_reports, ShadowReport, RuleReport, rules_overlap, rule_shadows, by_position}
 use Rattle.isle_model.specs.trees.Best.{total_constraints}
 

@@ -7,7 +7,7 @@ use Rattle.isle_model.specs.rules.Outcome.{Outcome, ran_through, then_option}
 use Rattle.isle_model.specs.rules.Program.{Program, is_multi, arg_types, rules_of, numbers_from}
 use Rattle.isle_model.specs.lists.Names.{IsDistinct}
 use Rattle.isle_model.specs.sites.Sites.{Site, constructor_site, Constraint, SetRule, SiteSet, sources_at, SiteTerm, SiteTerms, unfold_site}
-use Rattle.isle_model.specs.sites.Demands.{Visit, visit_start, with_demands, visit_args, visit_pattern, visit_expr, has_site, demands_of, picked_call, taken_by, taken_by_all}
+use Rattle.isle_model.specs.visits.Demands.{Visit, visit_start, with_demands, visit_args, visit_pattern, visit_expr, has_site, demands_of, picked_call, taken_by, taken_by_all}
 use Rattle.isle_model.specs.sites.Serves.{Serves, TellsConstantsApart}
 use Rattle.isle_model.specs.trees.Trees.{Tree}
 use Rattle.isle_model.specs.trees.Run.{World, as_value, content_fields, run, world_of}

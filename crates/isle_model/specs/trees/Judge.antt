@@ -10,7 +10,7 @@ use Rattle.isle_model.specs.trees.Places.{Around, nothing_around, uses, bind_ord
 use Rattle.isle_model.specs.trees.Run.{iterated}
 use Rattle.isle_model.specs.rules.Outcome.{then_option}
 use Rattle.isle_model.specs.trees.Sound.{comes_before, is_return}
-use Rattle.isle_model.specs.sites.Demands.{constraint_eq}
+use Rattle.isle_model.specs.visits.Demands.{constraint_eq}
 use Rattle.isle_model.specs.trees.Tests.{Test, match_test, equal_test, loop_test, cover, is_open, up_to, open_tests, Score, score, is_greater}
 use Rattle.isle_model.specs.trees.Best.{descend, no_site_twice, steps_of, most_steps}
 

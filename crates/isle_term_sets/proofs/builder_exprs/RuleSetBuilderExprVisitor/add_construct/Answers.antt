@@ -2,7 +2,7 @@ use Rattle.std.proofs.Common.{◌≡◌, ◌<◌, length, map, All, sym, ap, ◌
 use Rattle.std.specs.Prelude.{MatchResult}
 use Rattle.std.proofs.lemmas.Result.{MatchResult-from_both}
 use Rattle.isle_model.specs.sites.Sites.{each_term, unfold_site}
-use Rattle.isle_model.specs.sites.Demands.{visit_call}
+use Rattle.isle_model.specs.visits.Demands.{visit_call}
 use Rattle.isle_typed.specs.VisitAnswers.{typed_inputs}
 use Rattle.isle_term_sets.specs.VisitedSites.{EndsBefore, ValuesTo, built_sites, input_ids}
 use Rattle.isle_term_sets.proofs.BuilderCalls.{ids_typed}

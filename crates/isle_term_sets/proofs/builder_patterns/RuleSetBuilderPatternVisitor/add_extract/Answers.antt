@@ -4,7 +4,7 @@ use Rattle.std.proofs.lemmas.List.{length-map}
 use Rattle.isle_base.specs.declared.syntax.Limit.TheVariants as Limits
 use Rattle.isle_model.specs.rules.Typed.{no_typed_pattern}
 use Rattle.isle_model.specs.sites.Sites.{extractor_call, unfold_site}
-use Rattle.isle_model.specs.sites.Demands.{open_call}
+use Rattle.isle_model.specs.visits.Demands.{open_call}
 use Rattle.isle_model.specs.sites.Limits.{most_outputs}
 use Rattle.isle_typed.specs.VisitAnswers.{listed, type_numbers}
 use Rattle.isle_term_sets.specs.VisitedSites.{EndsOpening, OpensTo, built_sites}

@@ -1,6 +1,6 @@
 use Rattle.std.proofs.Common.{◌<◌, List, length, map, take, All}
 use Rattle.isle_model.specs.sites.Sites.{SiteTerm, unfold_site}
-use Rattle.isle_model.specs.sites.Demands.{Visit, asking_all}
+use Rattle.isle_model.specs.visits.Demands.{Visit, asking_all}
 use Rattle.isle_term_sets.specs.VisitedSites.{GoesTo, StandsAt, built_sites}
 use Rattle.isle_term_sets.proofs.ruleset_builder.RuleSetBuilder.ask_answers.Given as goal
 

@@ -1,7 +1,7 @@
 use Rattle.std.proofs.Common.{◌∷◌, []}
 use Rattle.std.proofs.lemmas.Result.{IfErr-weaker}
 use Rattle.isle_model.specs.sites.Sites.{layer, unfold_site}
-use Rattle.isle_model.specs.sites.Demands.{making}
+use Rattle.isle_model.specs.visits.Demands.{making}
 use Rattle.isle_sets.specs.SiteViews.{site_view}
 use Rattle.isle_sets.specs.SiteTables.{table_sites, AddsSite, ForWantOfRoom, HasNoRoom, IsTable}
 use Rattle.isle_term_sets.specs.VisitedSites.{EndsBefore, Makes}

@@ -1,6 +1,6 @@
 use Rattle.std.proofs.Common.{refl, subst}
 use Rattle.isle_model.specs.sites.Closure.{before_closing, closing, most_closing_steps}
-use Rattle.isle_model.specs.sites.Demands.{demands_of, visit_rule, with_sites}
+use Rattle.isle_model.specs.visits.Demands.{demands_of, visit_rule, with_sites}
 use Rattle.isle_typed.specs.RuleViews.{rule_view}
 use Rattle.isle_sets.specs.SiteTables.{ForWantOfRoom, IsTable}
 use Rattle.isle_sets.specs.SiteViews.{set_rule_views}

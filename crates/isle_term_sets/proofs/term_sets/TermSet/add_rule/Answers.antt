@@ -1,7 +1,7 @@
 use Rattle.std.proofs.Common.{◌≡◌, ◌<◌, ◌≤◌, true, ap, length, ◌∙◌, sym, subst, refl, arith}
 use Rattle.isle_laws_lists.proofs.VisitableRules.{formed_rules_can_be_visited}
 use Rattle.isle_model.specs.lists.Visitable.{is_visitable_rule}
-use Rattle.isle_model.specs.sites.Demands.{visit_rule}
+use Rattle.isle_model.specs.visits.Demands.{visit_rule}
 use Rattle.isle_model.specs.sites.Limits.{most_sites}
 use Rattle.isle_model.specs.sites.Sites.{unfold_site}
 use Rattle.isle_typed.specs.RuleViews.{rule_view}

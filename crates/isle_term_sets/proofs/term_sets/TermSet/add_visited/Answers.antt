@@ -1,5 +1,5 @@
 use Rattle.std.proofs.Common.{◌≡◌, ap, ◌∙◌, sym, refl, rules}
-use Rattle.isle_model.specs.sites.Demands.{demands_of}
+use Rattle.isle_model.specs.visits.Demands.{demands_of}
 use Rattle.isle_typed.specs.RuleViews.{rule_view}
 use Rattle.isle_sets.specs.SiteViews.{set_rule_views}
 use Rattle.isle_sets.specs.Verdicts.{report_view, report_views}
