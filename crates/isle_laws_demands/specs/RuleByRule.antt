@@ -112,12 +112,14 @@ BuiltSetsAreAnswered =
     → BuildAnswers p sets (build_reports p)
 
 -- 3. what one rule has to show
--- a later visit: what it has made and counted begins with what was made and counted before
+-- a later visit: what it has made and counted begins with what was made and counted before, and the rest was counted after
+-- what was made before
 pub record Continues (v w : Visit) : Type 0 where
   pub made : List SiteTerm
   pub counted : List (Count × ℕ)
   pub makes : w.demands.made ≡ v.demands.made ++ made
   pub counts : w.demands.counted ≡ v.demands.counted ++ counted
+  pub after : All (λ c. length v.demands.made ≤ c.1) counted
 
 -- so does each visit of a pattern, of an expression, of arguments and of if-lets
 pub record VisitContinues (p : Program) (v : Visit) : Type 0 where

@@ -1,7 +1,8 @@
 -- A visit only adds to what it has made and counted, at the end; so where a count passes a limit, the sites that were made
 -- before are those that the visit had made when it counted.
-use Rattle.std.proofs.Common.{◌≡◌, ℕ, suc, Bool, true, false, List, [], ◌∷◌, ◌++◌, length, take, Option, Some, None, refl, sym, ap, ◌∙◌}
-use Rattle.std.proofs.lemmas.List.{append-nil, append_assoc}
+use Rattle.std.proofs.Common.{◌≡◌, ◌≤◌, ◌+◌, ℕ, suc, All, arith, Bool, true, false, List, [], ◌∷◌, ◌++◌, length, take, Option, Some, None, refl, sym, ap, ◌∙◌}
+use Rattle.std.proofs.lemmas.List.{append-nil, append_assoc, length-append}
+use Rattle.std.proofs.lemmas.List.Elements.{All-nil, All-cons, All-append}
 use Rattle.std.proofs.Math.Seq.{take-append_seam}
 use Rattle.isle_model.specs.lists.Tables.{Flags}
 use Rattle.isle_model.specs.rules.Program.{Program, Kind, a_variant, a_struct, a_call, unknown, kind}
@@ -16,12 +17,16 @@ use Rattle.isle_laws_demands.proofs.visits.Kept.{KeptByTests, KeptByValues, patt
 use Rattle.isle_laws_demands.proofs.visits.Visited.{equated}
 
 -- 1. steps
+-- what is counted after the sites that a visit had made
+abbrev Later : Visit → Count × ℕ → Type 0
+Later v c = length v.demands.made ≤ c.1
+
 pub continues_now : (v : Visit) → Continues v v
-continues_now v = record { made = []; counted = []; makes = sym (append-nil v.demands.made); counts = sym (append-nil v.demands.counted) }
+continues_now v = record { made = []; counted = []; makes = sym (append-nil v.demands.made); counts = sym (append-nil v.demands.counted); after = All-nil (Later v) }
 
 -- a step that makes and counts nothing
 pub continues_alike : (v w x : Visit) → x.demands.made ≡ w.demands.made → x.demands.counted ≡ w.demands.counted → Continues v w → Continues v x
-continues_alike v w x e f k = record { made = k.made; counted = k.counted; makes = e ∙ k.makes; counts = f ∙ k.counts }
+continues_alike v w x e f k = record { made = k.made; counted = k.counted; makes = e ∙ k.makes; counts = f ∙ k.counts; after = k.after }
 
 pub continues_making : (ts : List SiteTerm) (v w : Visit) → Continues v w → Continues v (making ts w)
 continues_making ts v w k = record {
@@ -29,12 +34,20 @@ continues_making ts v w k = record {
   counted = k.counted;
   makes = ap (λ l. l ++ ts) k.makes ∙ append_assoc v.demands.made k.made ts;
   counts = k.counts;
+  after = k.after;
 }
 
 pub continues_counting : (c : Count) (v w : Visit) → Continues v w → Continues v (counting c w)
 continues_counting c v w k =
     let one = (c, length w.demands.made) ∷ [] in
-    record { made = k.made; counted = k.counted ++ one; makes = k.makes; counts = ap (λ l. l ++ one) k.counts ∙ append_assoc v.demands.counted k.counted one }
+    let longer : length w.demands.made ≡ length v.demands.made + length k.made = ap length k.makes ∙ length-append v.demands.made k.made in
+    record {
+      made = k.made;
+      counted = k.counted ++ one;
+      makes = k.makes;
+      counts = ap (λ l. l ++ one) k.counts ∙ append_assoc v.demands.counted k.counted one;
+      after = All-append (Later v) k.counted one k.after (All-cons (Later v) (c, length w.demands.made) [] (omega (arith, longer)) (All-nil (Later v)));
+    }
 
 continues_equating : (a b : SiteTerm) (v w : Visit) → Continues v w → Continues v (equating a b w)
 continues_equating a b v w k = either (Continues v) (site_term_eq a b) w (equated a b w) k (continues_alike v w (equated a b w) refl refl k)

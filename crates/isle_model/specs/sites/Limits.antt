@@ -6,11 +6,11 @@ use Rattle.isle_model.specs.sites.Sites.{SiteTerm}
 use Rattle.isle_model.specs.visits.Demands.{Count, fields_matched, outputs_taken, argument_taken, demands_of, with_sites}
 use Rattle.isle_model.specs.sites.Closure.{is_unreachable, closed}
 
--- a field's number has 8 bits, and the number of fields is one too
+-- a field's number has 8 bits, and so has the number of fields
 abbrev pub most_fields : ℕ
 most_fields = 255
 
--- an output's number has 8 bits, and the number of outputs is one too
+-- an output's number has 8 bits, and so has the number of outputs
 abbrev pub most_outputs : ℕ
 most_outputs = 255
 
@@ -77,7 +77,7 @@ first_passed (c ∷ cs) = passed_or_later (passed_by c.0) c.1 (first_passed cs)
 abbrev pub passed_in_visit : Program → TypedRule → Option (RuleLimit × ℕ)
 passed_in_visit p r = first_passed (demands_of p r).counted
 
--- the term's sites, however many, where the visit ends at such a limit, or else where the closing ends
+-- the term's sites, however many, where the visit ends at such a limit, or else all that are wanted
 abbrev pub sites_until : Program → List SiteTerm → TypedRule → Option (RuleLimit × ℕ) → List SiteTerm
 sites_until p before r (Some passed) = with_sites before (take passed.1 (demands_of p r).made)
 sites_until p before r None = sites_wanted p before r
@@ -102,7 +102,7 @@ abbrev pub limit_of_passed : Option (RuleLimit × ℕ) → Option RuleLimit
 limit_of_passed (Some passed) = Some passed.0
 limit_of_passed None = None
 
--- the limit that is met first: that of the sites, where they pass it before the visit ends
+-- the limit that is met first: that of the sites, where they pass it before the visit or the closing ends
 abbrev pub first_limit : Program → List SiteTerm → TypedRule → Option RuleLimit
 first_limit p before r = if nat_lt most_sites (length (sites_reached p before r)) then Some sites_limit else limit_of_passed (passed_in_visit p r)
 

@@ -269,7 +269,7 @@ taking_argument i v = making (argument i ∷ []) (counting (argument_taken i) v)
 -- the arguments from i on
 abbrev pub visit_args : Program → ℕ → List TypedPattern → Visit → Visit
 visit_args p i [] v = v
-visit_args p i (q ∷ qs) v = visit_args p (suc i) qs (visit_pattern p q (argument i) (making (argument i ∷ []) (counting (argument_taken i) v)))
+visit_args p i (q ∷ qs) v = visit_args p (suc i) qs (visit_pattern p q (argument i) (taking_argument i v))
 
 -- an if-let's value is needed by its pattern: each call that it unwraps is asked to answer
 abbrev pub visit_iflets : Program → List TypedIfLet → Visit → Visit
@@ -282,9 +282,13 @@ abbrev pub finished : Bool → Valued → Valued
 finished false a = a
 finished true a = valued (some_made a.site) (making (some_made a.site ∷ []) a.visit)
 
+-- a rule up to the value of its right side
+abbrev pub value_of_rule : Program → TypedRule → Valued
+value_of_rule p r = visit_expr p r.rhs (visit_iflets p r.iflets (visit_args p 0 r.args visit_start))
+
 -- the whole rule: its result's site, and what was met
 abbrev pub visit_rule : Program → TypedRule → Valued
-visit_rule p r = finished (is_partial p r.root_term) (visit_expr p r.rhs (visit_iflets p r.iflets (visit_args p 0 r.args visit_start)))
+visit_rule p r = finished (is_partial p r.root_term) (value_of_rule p r)
 
 abbrev pub demands_of : Program → TypedRule → Demands
 demands_of p r = (visit_rule p r).visit.demands

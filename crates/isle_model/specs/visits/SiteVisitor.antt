@@ -6,13 +6,9 @@ use Rattle.isle_model.specs.rules.Typed.{TypedPatterns, no_typed_pattern, typed_
 use Rattle.isle_model.specs.sites.Sites.{Constraint, is_variant, is_struct, is_bool, is_int, is_prim, SiteTerm, SiteTerms, no_site_term, site_term_and, argument, bool_term, int_term, prim_term, extractor_call, variant_made, struct_made}
 use Rattle.isle_model.specs.visits.Demands.{fields_matched, Visit, visit_start, making, counting, taking_argument, asking, asking_all, equating, unwraps, Opened, opened, open_call, Valued, valued, visit_call}
 use Rattle.isle_model.specs.sites.Closure.{field_terms}
-use Rattle.isle_model.specs.visits.Runs.{VisitRun}
+use Rattle.isle_model.specs.visits.Runs.{done}
 use Rattle.isle_model.specs.visits.Visitors.{PatternSteps, ExprSteps, RuleSteps}
 use Rattle.isle_model.specs.visits.RuleRuns.{RuleRun}
-
--- the answer a, and then the state t
-abbrev pub answers : {S A : Type 0} → A → S → Result A ⊥ → S → Type 0
-answers a u r t = (r ≡ Ok a) × (t ≡ u)
 
 -- the n fields that a constraint gives a site are counted and made, and the site is asked to meet it
 abbrev pub fields_opened : Constraint → ℕ → SiteTerm → Visit → Opened
@@ -30,13 +26,13 @@ extractor_opened term n infallible multi s v =
 
 abbrev pub site_patterns : PatternSteps ⊥ Visit SiteTerm
 site_patterns = record {
-  match_equal_steps = λ v a b ty r t. answers tt (equating a b v) r t;
-  match_bool_steps = λ v s ty b r t. answers tt (asking s (is_bool b ty) v) r t;
-  match_int_steps = λ v s ty z r t. answers tt (asking s (is_int z ty) v) r t;
-  match_prim_steps = λ v s ty name r t. answers tt (asking s (is_prim name) v) r t;
-  match_variant_steps = λ v s ty tys variant r t. let o = fields_opened (is_variant ty variant (length tys)) (length tys) s v in answers o.inputs o.visit r t;
-  extract_struct_steps = λ v s ty tys r t. let o = fields_opened (is_struct ty (length tys)) (length tys) s v in answers o.inputs o.visit r t;
-  extract_steps = λ v s ty tys term infallible multi r t. let o = extractor_opened term (length tys) infallible multi s v in answers o.inputs o.visit r t;
+  match_equal_steps = λ v a b ty r t. done tt (equating a b v) r t;
+  match_bool_steps = λ v s ty b r t. done tt (asking s (is_bool b ty) v) r t;
+  match_int_steps = λ v s ty z r t. done tt (asking s (is_int z ty) v) r t;
+  match_prim_steps = λ v s ty name r t. done tt (asking s (is_prim name) v) r t;
+  match_variant_steps = λ v s ty tys variant r t. let o = fields_opened (is_variant ty variant (length tys)) (length tys) s v in done o.inputs o.visit r t;
+  extract_struct_steps = λ v s ty tys r t. let o = fields_opened (is_struct ty (length tys)) (length tys) s v in done o.inputs o.visit r t;
+  extract_steps = λ v s ty tys term infallible multi r t. let o = extractor_opened term (length tys) infallible multi s v in done o.inputs o.visit r t;
 }
 
 -- the sites of inputs
@@ -50,26 +46,26 @@ value_made u v = valued u (making (u ∷ []) v)
 
 abbrev pub site_exprs : ExprSteps ⊥ Visit SiteTerm
 site_exprs = record {
-  const_bool_steps = λ v ty b r t. let a = value_made (bool_term b ty) v in answers a.site a.visit r t;
-  const_int_steps = λ v ty z r t. let a = value_made (int_term z ty) v in answers a.site a.visit r t;
-  const_prim_steps = λ v ty name r t. let a = value_made (prim_term name) v in answers a.site a.visit r t;
-  create_variant_steps = λ v inputs ty variant r t. let a = value_made (variant_made ty variant (input_sites inputs)) v in answers a.site a.visit r t;
-  create_struct_steps = λ v inputs ty r t. let a = value_made (struct_made ty (input_sites inputs)) v in answers a.site a.visit r t;
+  const_bool_steps = λ v ty b r t. let a = value_made (bool_term b ty) v in done a.site a.visit r t;
+  const_int_steps = λ v ty z r t. let a = value_made (int_term z ty) v in done a.site a.visit r t;
+  const_prim_steps = λ v ty name r t. let a = value_made (prim_term name) v in done a.site a.visit r t;
+  create_variant_steps = λ v inputs ty variant r t. let a = value_made (variant_made ty variant (input_sites inputs)) v in done a.site a.visit r t;
+  create_struct_steps = λ v inputs ty r t. let a = value_made (struct_made ty (input_sites inputs)) v in done a.site a.visit r t;
   construct_steps = λ v inputs ty term pure infallible multi rec r t.
-      let a = visit_call (record { pure = pure; multi = multi; partial = not infallible; rec = rec }) term (input_sites inputs) v in answers a.site a.visit r t;
+      let a = visit_call (record { pure = pure; multi = multi; partial = not infallible; rec = rec }) term (input_sites inputs) v in done a.site a.visit r t;
 }
 
--- it lends itself; a value that a pattern is for is asked to answer all that it unwraps
+-- it lends itself; where a value is the input of a pattern, each call that it unwraps is asked to answer
 abbrev pub site_rules : RuleSteps ⊥ Visit Visit Visit SiteTerm SiteTerm SiteTerm
 site_rules = record {
-  arg_steps = λ v i ty r t. answers (argument i) (taking_argument i v) r t;
-  expr_as_pattern_steps = λ v s r t. answers s (asking_all (unwraps s) v) r t;
-  pattern_as_expr_steps = λ v s r t. answers s v r t;
-  lend_pattern_steps = λ v r t. answers v v r t;
-  take_pattern_steps = λ v l r t. answers tt l r t;
+  arg_steps = λ v i ty r t. done (argument i) (taking_argument i v) r t;
+  expr_as_pattern_steps = λ v s r t. done s (asking_all (unwraps s) v) r t;
+  pattern_as_expr_steps = λ v s r t. done s v r t;
+  lend_pattern_steps = λ v r t. done v v r t;
+  take_pattern_steps = λ v l r t. done tt l r t;
   leave_pattern_steps = λ l v t. t ≡ l;
-  lend_expr_steps = λ v r t. answers v v r t;
-  take_expr_steps = λ v l ty s r t. answers s l r t;
+  lend_expr_steps = λ v r t. done v v r t;
+  take_expr_steps = λ v l ty s r t. done s l r t;
   leave_expr_steps = λ l v t. t ≡ l;
 }
 
