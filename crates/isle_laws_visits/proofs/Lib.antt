@@ -1,0 +1,10 @@
+pub mod AskedNothingElse
+pub mod FittingPatterns
+pub mod FollowedExprs
+pub mod FollowedPatterns
+pub mod FollowedRules
+pub mod KnownVars
+pub mod LentVisits
+pub mod ScopeOfPatterns
+pub mod SiteRuns
+pub mod SiteRunsMade

@@ -1,6 +1,6 @@
 -- Visitors that follow the visitor of sites: how their states and ids stand to it, what each of their steps has to show, and
 -- that then the visit of a whole rule follows its visit, faults included.
-use Rattle.std.specs.Prelude.{◌≡◌, ℕ, ℤ, Bool, true, not, List, [], ◌∷◌, length, Option, Some, Result, Ok, Err, MatchResult, Contains}
+use Rattle.std.specs.Prelude.{◌≡◌, ℕ, ℤ, Bool, true, not, List, [], ◌∷◌, length, Option, Some, Result, Ok, MatchResult, Contains}
 use Rattle.std.specs.List.{AllZip}
 use Rattle.isle_model.specs.lists.Formed.{is_formed_rule}
 use Rattle.isle_model.specs.rules.Program.{Program}

@@ -13,8 +13,9 @@ use Rattle.isle_model.proofs.Elements.{In, in_from_contains, contains_from_in, i
 use Rattle.isle_model.proofs.Members.{from_map, in_map}
 use Rattle.isle_model.proofs.SitesMade.{in_has, has_in}
 use Rattle.isle_laws_demands.proofs.closure.Closing.{found_constraint}
+use Rattle.isle_laws_visits.specs.Followers.{AsksNothingElse}
 use Rattle.isle_sets.specs.Closings.{AreDemandsOf}
-use Rattle.isle_term_sets.specs.VisitedSites.{AreAnswered, AreUnwrapped, AsksNothingElse, built_sites, GoesTo, StandsAt}
+use Rattle.isle_term_sets.specs.VisitedSites.{AreAnswered, AreUnwrapped, built_sites, GoesTo, StandsAt}
 use Rattle.isle_term_sets.specs.declared.ruleset_builder.RuleSetBuilder.{RuleSetBuilder}
 use Rattle.isle_term_sets.proofs.BuilderFields.{goes_further}
 use Rattle.isle_term_sets.proofs.BuilderSteps.{either_of, of_both, firsts_same, conflicts_push}
@@ -144,6 +145,7 @@ module _ (before : List SiteTerm) (b : RuleSetBuilder) (v : Visit) (us ws : List
     calls = h.calls;
     numbered = h.numbered;
     answered = λ s t. let g = h.answered s t in (g.0, λ u i. asked_too v.demands.constraints us ws o u (g.1 u i));
+    few = h.few;
   }
 
   stands_same : StandsAt before b (asking_all ws v) → StandsAt before b (asking_all us v)
@@ -165,6 +167,7 @@ stands_with before b v walked h a = record {
   calls = h.calls;
   numbered = h.numbered;
   answered = a;
+  few = h.few;
 }
 
 module _ (before : List SiteTerm) (old mid : RuleSetBuilder) (v : Visit) (s : ℕ) (none walked : Members ℕ) (calls : List ℕ) (h : StandsAt before old v) (nothing_else : AsksNothingElse v (unfold_site (built_sites old) s))

@@ -10,12 +10,12 @@ use Rattle.std.proofs.lemmas.List.{append-nil}
 use Rattle.isle_model.specs.lists.Tables.{Flags}
 use Rattle.isle_model.specs.sites.Sites.{SiteTerm, SiteTerms, constructor_call, each_term, pick_of, some_part, unfold_site}
 use Rattle.isle_model.specs.visits.Demands.{Visit, Valued, valued, call_result, call_sites, calling, iterating, making, visit_call, where_multi}
+use Rattle.isle_model.specs.visits.SiteVisitor.{value_made as value_made_of}
 use Rattle.isle_base.specs.declared.visit_fault.VisitFault.{VisitFault}
-use Rattle.isle_term_sets.specs.VisitedSites.{EndsBefore, GoesTo, HaveSites, IsNextCall, IsSiteOf, StandsAt, Makes, MakesValue, ValuesTo, GivesValue, built_sites, call_number, input_ids, input_terms, value_made as value_made_of, value_sites}
+use Rattle.isle_term_sets.specs.VisitedSites.{EndsBefore, GoesTo, HaveSites, IsNextCall, IsSiteOf, StandsAt, Makes, MakesValue, ValuesTo, GivesValue, built_sites, call_number, input_ids, input_terms, value_sites}
 use Rattle.isle_term_sets.specs.declared.ruleset_builder.RuleSetBuilder.{RuleSetBuilder}
 use Rattle.isle_term_sets.proofs.CallNumbers.{result_number}
-use Rattle.isle_term_sets.proofs.BuilderFields.{making_twice, goes_further, ends_later}
-use Rattle.isle_term_sets.proofs.VisitedPatterns.{site_stays}
+use Rattle.isle_term_sets.proofs.BuilderFields.{making_twice, goes_further, site_stays, ends_later}
 
 pub below_all : (n : ℕ) (xs : List ℕ) → All (λ x. x < n) xs → (a : ℕ) → Contains xs a → a < n
 below_all n xs w a c = subst (λ x. x < n) c.2 (w c.0 a c.1)

@@ -10,7 +10,8 @@ use Rattle.std.proofs.lemmas.Result.{IfErr-weaker}
 use Rattle.std.proofs.lemmas.List.Elements.{All-nil, All-push, All-weaker}
 use Rattle.isle_model.specs.sites.Sites.{Constraint, is_present, Site, SiteTerm, layer, pick_of, some_part, sources_of, tuple_part, unfold_site}
 use Rattle.isle_model.specs.rules.Typed.{TypedPatterns, no_typed_pattern, typed_pattern_and}
-use Rattle.isle_model.specs.visits.Demands.{Visit, with_sites, asking, iterating, making, pattern_count, Opened, opened, open_call, output_sites, part_sites}
+use Rattle.isle_model.specs.visits.Demands.{fields_matched, outputs_taken, Visit, with_sites, asking, counting, iterating, making, pattern_count, Opened, open_call, output_sites, outputs_opened, part_sites}
+use Rattle.isle_model.specs.visits.SiteVisitor.{fields_opened}
 use Rattle.isle_model.specs.sites.Closure.{fields_from, field_terms}
 use Rattle.isle_model.specs.sites.Limits.{most_outputs}
 use Rattle.isle_model.specs.lists.Tables.{Flags}
@@ -19,7 +20,7 @@ use Rattle.isle_base.specs.declared.syntax.Limit.TheVariants as Limits
 use Rattle.isle_base.specs.declared.visit_fault.VisitFault.{VisitFault}
 use Rattle.isle_model.proofs.Members.{in_alone}
 use Rattle.isle_sets.specs.SiteTables.{AreFirst, HasSources, IsTable}
-use Rattle.isle_term_sets.specs.VisitedSites.{built_sites, part_of, part_site, IsSiteOf, AreSitesOf, StandsAt, GoesTo, Makes, MakesAll, OpensTo, EndsBefore, EndsBy, EndsOpening, AnswersTo, answer_of, answered, fields_opened, outputs_opened}
+use Rattle.isle_term_sets.specs.VisitedSites.{built_sites, part_of, part_site, IsSiteOf, AreSitesOf, StandsAt, GoesTo, Makes, MakesAll, OpensTo, EndsBefore, EndsOpening, AnswersTo, answer_of, answered}
 use Rattle.isle_term_sets.specs.declared.builder_patterns.Parts.{Parts}
 use Rattle.isle_term_sets.specs.declared.builder_patterns.Parts.TheVariants as AllParts
 use Rattle.isle_term_sets.specs.declared.ruleset_builder.RuleSetBuilder.{RuleSetBuilder}
@@ -51,6 +52,9 @@ sites_stay before old new v us ns g h =
       within = All-weaker (λ n. n < length (built_sites old)) (λ n. n < length (built_sites new)) (λ n m. omega (arith, l, m)) ns h.within;
       numbers = same_all (unfold_site (built_sites new)) (unfold_site (built_sites old)) (length (built_sites old)) ns g.kept h.within ∙ h.numbers;
     }
+
+pub site_stays : (before : List SiteTerm) (old new : RuleSetBuilder) (v : Visit) (u : SiteTerm) (n : ℕ) → GoesTo before old new v → IsSiteOf old u n → IsSiteOf new u n
+site_stays before old new v u n g k = let l = k.within in let m = g.longer in record { within = omega (arith, l, m); number = g.kept n l ∙ k.number }
 
 -- 3. sites made so far
 pub none_made : (before : List SiteTerm) (b : RuleSetBuilder) (v : Visit) → StandsAt before b v → MakesAll before b b v [] []
@@ -149,14 +153,14 @@ module _ (before : List SiteTerm) (old now : RuleSetBuilder) (v : Visit) (parts 
       → EndsBefore before new (making (fields_from Part 0 count) v) e
   part_ends new count e l h = field_ends before new v Part _ i count e l part_is h
 
--- they are made, and then it is asked to have them
-pub fields_open : (before : List SiteTerm) (old mid new : RuleSetBuilder) (v : Visit) (c : Constraint) (s : ℕ) (ids : List ℕ) → s < length (built_sites old)
-    → MakesAll before old mid v (field_terms c (unfold_site (built_sites old) s)) ids
+-- so many are counted and made, and then it is asked to have them
+pub fields_open : (before : List SiteTerm) (old mid new : RuleSetBuilder) (v : Visit) (c : Constraint) (count s : ℕ) (ids : List ℕ) → s < length (built_sites old)
+    → MakesAll before old mid (counting (fields_matched count) v) (field_terms c (unfold_site (built_sites old) s)) ids
     → ((w : Visit) → StandsAt before mid w → s < length (built_sites mid) → GoesTo before mid new (asking (unfold_site (built_sites mid) s) c w))
-    → OpensTo before old new (fields_opened c (unfold_site (built_sites old) s) v) ids
-fields_open before old mid new v c s ids l m ask =
+    → OpensTo before old new (fields_opened c count (unfold_site (built_sites old) s) v) ids
+fields_open before old mid new v c count s ids l m ask =
     let u = unfold_site (built_sites old) s in
-    let made = making (field_terms c u) v in
+    let made = making (field_terms c u) (counting (fields_matched count) v) in
     let longer = m.goes.longer in
     let asked = subst (λ t. GoesTo before mid new (asking t c made)) (m.goes.kept s l) (ask made m.goes.stands (omega (arith, l, longer))) in
     record {
@@ -165,6 +169,26 @@ fields_open before old mid new v c s ids l m ask =
     }
 
 -- 7. outputs of a call
+-- none has no site, and one is the call's
+module _ (before : List SiteTerm) (b : RuleSetBuilder) (v : Visit) (u : SiteTerm) where
+  abbrev Counted : ℕ → Visit
+  Counted n = counting (outputs_taken n) v
+
+  pub no_outputs : (args : TypedPatterns) → pattern_count args ≡ 0 → StandsAt before b (Counted (pattern_count args)) → OpensTo before b b (outputs_opened u args v) []
+  no_outputs no_typed_pattern e h = record {
+    goes = subst (GoesTo before b b) (sym (making_none (Counted 0))) (goes_nowhere before b (Counted 0) h);
+    inputs = record { within = All-nil (λ n. n < length (built_sites b)); numbers = refl };
+  }
+  no_outputs (typed_pattern_and q qs) e h = absurd (omega (arith, e))
+
+  pub one_output : (args : TypedPatterns) (s : ℕ) → pattern_count args ≡ 1 → StandsAt before b (Counted (pattern_count args)) → IsSiteOf b u s → OpensTo before b b (outputs_opened u args v) (s ∷ [])
+  one_output no_typed_pattern s e h site = absurd (omega (arith, e))
+  one_output (typed_pattern_and q no_typed_pattern) s e h site = record {
+    goes = subst (GoesTo before b b) (sym (making_none (Counted 1))) (goes_nowhere before b (Counted 1) h);
+    inputs = record { within = All-push (λ n. n < length (built_sites b)) [] s (All-nil (λ n. n < length (built_sites b))) site.within; numbers = ap (λ k. k ∷ []) site.number };
+  }
+  one_output (typed_pattern_and q (typed_pattern_and r rs)) s e h site = absurd (omega (arith, e))
+
 -- several are parts
 parts_are : (u : SiteTerm) (args : TypedPatterns) (n : ℕ) → pattern_count args ≡ n → 1 < n
     → (part_sites u args ≡ fields_from (tuple_part u) 0 n) × (output_sites u args ≡ fields_from (tuple_part u) 0 n)
@@ -178,10 +202,13 @@ module _ (before : List SiteTerm) (old new : RuleSetBuilder) (v : Visit) (u : Si
   parts : (part_sites u args ≡ fields_from (tuple_part u) 0 n) × (output_sites u args ≡ fields_from (tuple_part u) 0 n)
   parts = parts_are u args n (is ∙ sym same) several
 
-  pub parts_open : IfOk r (λ ids. MakesAll before old new v (fields_from (tuple_part u) 0 n) ids.items) → IfOk r (λ ids. (count ≤ most_outputs) × OpensTo before old new (outputs_opened u args v) ids.items)
+  abbrev pub Several : Visit
+  Several = counting (outputs_taken (pattern_count args)) v
+
+  pub parts_open : IfOk r (λ ids. MakesAll before old new Several (fields_from (tuple_part u) 0 n) ids.items) → IfOk r (λ ids. (count ≤ most_outputs) × OpensTo before old new (outputs_opened u args v) ids.items)
   parts_open =
-      weaker_ok (λ ids. MakesAll before old new v (fields_from (tuple_part u) 0 n) ids.items) (λ ids. (count ≤ most_outputs) × OpensTo before old new (outputs_opened u args v) ids.items) r
-      (λ ids m. (few, record { goes = subst (λ us. GoesTo before old new (making us v)) (sym parts.0) m.goes; inputs = subst (λ us. AreSitesOf new us ids.items) (sym parts.1) m.sites }))
+      weaker_ok (λ ids. MakesAll before old new Several (fields_from (tuple_part u) 0 n) ids.items) (λ ids. (count ≤ most_outputs) × OpensTo before old new (outputs_opened u args v) ids.items) r
+      (λ ids m. (few, record { goes = subst (λ us. GoesTo before old new (making us Several)) (sym parts.0) m.goes; inputs = subst (λ us. AreSitesOf new us ids.items) (sym parts.1) m.sites }))
 
   pub parts_end : IfErr r (EndsBefore before new (making (fields_from (tuple_part u) 0 n) v)) → IfErr r (EndsOpening before new (outputs_opened u args v).visit Limits.Outputs most_outputs count v)
   parts_end =
@@ -226,10 +253,10 @@ opening_ends before b w v l most count e h k = elim (cases_lt most count) [ inl 
 call_opened : (multi infallible : Bool) (call : SiteTerm) (args : TypedPatterns) (v : Visit)
     → outputs_opened (answer_of multi infallible call) args (answered multi infallible call (making (call ∷ []) v))
     ≡ (if multi
-    then opened (output_sites (pick_of call) args) (making (part_sites (pick_of call) args) (iterating call (making (call ∷ (pick_of call ∷ [])) v)))
+    then outputs_opened (pick_of call) args (iterating call (making (call ∷ (pick_of call ∷ [])) v))
     else (if infallible
-    then opened (output_sites call args) (making (part_sites call args) (making (call ∷ []) v))
-    else opened (output_sites (some_part call) args) (making (part_sites (some_part call) args) (asking call is_present (making (call ∷ (some_part call ∷ [])) v)))))
+    then outputs_opened call args (making (call ∷ []) v)
+    else outputs_opened (some_part call) args (asking call is_present (making (call ∷ (some_part call ∷ [])) v))))
 call_opened true i call args v = ap (λ w. outputs_opened (pick_of call) args (iterating call w)) (making_twice (call ∷ []) (pick_of call ∷ []) v)
 call_opened false true call args v = refl
 call_opened false false call args v = ap (λ w. outputs_opened (some_part call) args (asking call is_present w)) (making_twice (call ∷ []) (some_part call ∷ []) v)
@@ -246,9 +273,9 @@ module _ (before : List SiteTerm) (v : Visit) (flags : Flags) (multi infallible 
 
   -- it ended, however many outputs there are
   abbrev EndsCall : RuleSetBuilder → ℕ → TypedPatterns → VisitFault → Type 0
-  EndsCall b count args e = EndsOpening before b (Wanted args).visit Limits.Outputs most_outputs count (Wanted no_typed_pattern).visit e
+  EndsCall b count args e = EndsOpening before b (Wanted args).visit Limits.Outputs most_outputs count Answered e
 
-  call_same : (qs : TypedPatterns) → outputs_opened (answer_of multi infallible call) qs Answered ≡ Wanted qs
+  pub call_same : (qs : TypedPatterns) → outputs_opened (answer_of multi infallible call) qs Answered ≡ Wanted qs
   call_same qs = subst (λ m. outputs_opened (answer_of m infallible call) qs (answered m infallible call Call) ≡ open_call flags infallible call qs v) is (call_opened flags.multi infallible call qs v)
 
   opened_makes : (qs : TypedPatterns) → (more : List SiteTerm) × ((Wanted qs).visit.demands.made ≡ Call.demands.made ++ more)
@@ -259,19 +286,19 @@ module _ (before : List SiteTerm) (v : Visit) (flags : Flags) (multi infallible 
         ap (λ (q : Opened). q.visit.demands.made) (sym (call_same qs)) ∙ ap (λ us. us ++ parts) a.1 ∙ append_assoc Call.demands.made a.0 parts,
       )
 
-  ends_either : (args : TypedPatterns) (count : ℕ) (b : RuleSetBuilder) (e : VisitFault) → ((qs : TypedPatterns) → EndsBefore before b (Wanted qs).visit e) → EndsCall b count args e
-  ends_either args count b e h = opening_ends before b (Wanted args).visit (Wanted no_typed_pattern).visit Limits.Outputs most_outputs count e (h args) (h no_typed_pattern)
-
   pub call_ends : (args : TypedPatterns) (count : ℕ) (b : RuleSetBuilder) (e : VisitFault) → EndsBefore before b Call e → EndsCall b count args e
-  call_ends args count b e h = ends_either args count b e (λ qs. let m = opened_makes qs in ends_later before b Call (Wanted qs).visit m.0 e m.1 h)
+  call_ends args count b e h =
+      let m = opened_makes args in
+      let a = answered_makes multi infallible call Call in
+      opening_ends before b (Wanted args).visit Answered Limits.Outputs most_outputs count e (ends_later before b Call (Wanted args).visit m.0 e m.1 h) (ends_later before b Call Answered a.0 e a.1 h)
 
   module _ (old mid : RuleSetBuilder) (s : ℕ) (m : Makes before old mid v call s) where
     pub answer_ends : (args : TypedPatterns) (count : ℕ) (b : RuleSetBuilder) (e : VisitFault)
         → ((w : Visit) → StandsAt before mid w → s < length (built_sites mid) → EndsBefore before b (answered multi infallible (unfold_site (built_sites mid) s) w) e) → EndsCall b count args e
     answer_ends args count b e full =
         let h = subst (λ u. EndsBefore before b (answered multi infallible u Call) e) m.site.number (full Call m.goes.stands m.site.within) in
-        ends_either args count b e
-        (λ qs. ends_later before b Answered (Wanted qs).visit (part_sites (answer_of multi infallible call) qs) e (ap (λ (q : Opened). q.visit.demands.made) (sym (call_same qs))) h)
+        opening_ends before b (Wanted args).visit Answered Limits.Outputs most_outputs count e
+        (ends_later before b Answered (Wanted args).visit (part_sites (answer_of multi infallible call) args) e (ap (λ (q : Opened). q.visit.demands.made) (sym (call_same args))) h) h
 
     -- the call is made and has answered, and its outputs follow
     module _ (now : RuleSetBuilder) (n : ℕ) (next : (w : Visit) → StandsAt before mid w → s < length (built_sites mid) → AnswersTo before mid now multi infallible (unfold_site (built_sites mid) s) w n)
@@ -304,7 +331,7 @@ module _ (before : List SiteTerm) (v : Visit) (flags : Flags) (multi infallible 
         where
           ends : (e : VisitFault) → EndsOpening before new (outputs_opened (answer_of multi infallible call) args Answered).visit Limits.Outputs most_outputs count Answered e → EndsCall new count args e
           ends e (inl h) = inl (h.0, subst (λ (q : Opened). EndsBefore before new q.visit e) (call_same args) h.1)
-          ends e (inr h) = inr (h.0, subst (λ w. EndsBy before new Limits.Outputs w e) (sym (making_none Answered) ∙ ap (λ (q : Opened). q.visit) (call_same no_typed_pattern)) h.1)
+          ends e (inr h) = inr h
 
 -- 10. an answer by its list
 pub listed_both : (r : Result (Vec ℕ) VisitFault) (P : List ℕ → Type 0) (Q : VisitFault → Type 0) → IfOk r (λ ids. P ids.items) → IfErr r Q → MatchResult (listed r) P Q

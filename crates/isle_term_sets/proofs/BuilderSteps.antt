@@ -1,14 +1,15 @@
 -- A builder goes on, step by step, to where a visit stands.
 use Rattle.std.proofs.Common.{◌≡◌, is_some, ℕ, suc, ◌<◌, ◌≤◌, Bool, true, false, if◌then◌else◌, List, [], ◌∷◌, ◌++◌, length, map, All, Option, Some, None, Contains, refl, sym, ap, ◌∙◌, subst, inl, inr, arith, add-one, eqb-true, eq-eqb}
-use Rattle.std.specs.Prelude.{nat_eq, Result, Ok, Err, OnOk}
+use Rattle.std.specs.Prelude.{nat_eq, nat_lt, Result, Ok, Err, OnOk}
 use Rattle.std.specs.Global.{Vec}
 use Rattle.std.specs.Bool.{◌==◌}
-use Rattle.std.proofs.lemmas.Bool.{cases_Bool, cond-true, cond-false, false≢true}
+use Rattle.std.proofs.lemmas.Bool.{cases_Bool, cond-true, cond-false, false≢true, le-ltb, lt-ltb}
 use Rattle.std.proofs.lemmas.List.{append_assoc, append-nil, length_push, map-append}
 use Rattle.std.proofs.lemmas.List.Elements.{All-nil, All-push, All-weaker, Contains-append_left, Contains-append_right, Contains-append_cases}
 use Rattle.isle_base.specs.Stable.{Members, contains}
 use Rattle.isle_model.specs.sites.Sites.{Site, Constraint, is_present, SiteTerm, layer, unfold_site}
-use Rattle.isle_model.specs.visits.Demands.{site_term_eq, has_site, Visit, with_sites, asking, calling, equating, iterating, making, visit_start}
+use Rattle.isle_model.specs.visits.Demands.{site_term_eq, has_site, Count, fields_matched, outputs_taken, argument_taken, Visit, with_sites, asking, binding, calling, counting, equating, iterating, making, visit_start}
+use Rattle.isle_model.specs.sites.Limits.{arguments_limit, fields_limit, outputs_limit, most_arguments, most_fields, most_outputs, first_passed, passed_by, passed_or_later}
 use Rattle.isle_model.specs.sites.Closure.{Closed, conflict_with, conflicts_met, constraint_of, with_constraint, with_constraints, class_at, merged_classes, before_closing}
 use Rattle.isle_model.specs.sites.RuleSets.{StandFor}
 use Rattle.isle_model.specs.lists.Names.{IsDistinct}
@@ -17,6 +18,7 @@ use Rattle.isle_model.proofs.Members.{in_alone, in_head, nothing_in}
 use Rattle.isle_model.proofs.SameSites.{term_means}
 use Rattle.isle_model.proofs.SitesMade.{in_has}
 use Rattle.isle_laws_demands.proofs.closure.Whole.{own_class}
+use Rattle.isle_laws_demands.proofs.visits.Continued.{passed_after}
 use Rattle.isle_sets.specs.DemandsHeld.{constraint_held, are_equated, first_kept, IsConflict, equated_too}
 use Rattle.isle_sets.specs.SiteTables.{AreFirst, ForWantOfRoom, HasNoRoom, HasSources, IsTable, StandsFor, table_sites}
 use Rattle.isle_sets.specs.SiteViews.{constraint_view}
@@ -150,6 +152,7 @@ module _ (before : List SiteTerm) (b : RuleSetBuilder) (t : SiteTable) (v : Visi
         calls = h.calls;
         numbered = h.numbered;
         answered = λ r c. let g = h.answered r c in let l = g.0 in (omega (arith, l, longer), subst (AsksUnwrapped v) (sym (st.kept r l)) g.1);
+        few = h.few;
       };
       kept = st.kept;
       longer = longer;
@@ -203,6 +206,7 @@ module _ (before : List SiteTerm) (b : RuleSetBuilder) (v : Visit) (h : StandsAt
           calls = h.calls;
           numbered = h.numbered;
           answered = λ r t. let g = h.answered r t in (g.0, λ u i. Contains-append_left v.demands.constraints ((f s, k) ∷ []) (u, is_present) (g.1 u i));
+          few = h.few;
         };
         kept = λ r m. refl;
         longer = omega arith;
@@ -216,13 +220,13 @@ module _ (before : List SiteTerm) (b : RuleSetBuilder) (v : Visit) (h : StandsAt
       (equated_more sites b.demanded (before_closing before v.demands) h.demands e (x ∷ []) (y ∷ [])
       (λ z i. elim i [ inl p ↦ subst (λ q. q < length sites) p l | inr n ↦ absurd n ]) (λ z i. elim i [ inl p ↦ subst (λ q. q < length sites) p m | inr n ↦ absurd n ]) asked equal) in
       elim (cases_Bool (site_term_eq (f x) (f y))) [
-        | inl t ↦ let is = cond-true (site_term_eq (f x) (f y)) v _ t in subst (GoesTo before b (with_demanded b e b.conflicts)) (sym is) (gone_on v (subst (λ w. AreDemandsOf sites e (before_closing before w.demands)) is demands) refl refl refl refl)
-        | inr t ↦ let is = cond-false (site_term_eq (f x) (f y)) v _ t in subst (GoesTo before b (with_demanded b e b.conflicts)) (sym is) (gone_on _ (subst (λ w. AreDemandsOf sites e (before_closing before w.demands)) is demands) refl refl refl refl)
+        | inl t ↦ let is = cond-true (site_term_eq (f x) (f y)) v _ t in subst (GoesTo before b (with_demanded b e b.conflicts)) (sym is) (gone_on v (subst (λ w. AreDemandsOf sites e (before_closing before w.demands)) is demands) refl refl refl refl refl)
+        | inr t ↦ let is = cond-false (site_term_eq (f x) (f y)) v _ t in subst (GoesTo before b (with_demanded b e b.conflicts)) (sym is) (gone_on _ (subst (λ w. AreDemandsOf sites e (before_closing before w.demands)) is demands) refl refl refl refl refl)
       ]
     where
       gone_on : (w : Visit) → AreDemandsOf sites e (before_closing before w.demands) → w.demands.constraints ≡ v.demands.constraints → w.demands.iterators ≡ v.demands.iterators
-          → w.demands.impure ≡ v.demands.impure → w.impure_calls ≡ v.impure_calls → GoesTo before b (with_demanded b e b.conflicts) w
-      gone_on w demands cs its im calls = record {
+          → w.demands.impure ≡ v.demands.impure → w.impure_calls ≡ v.impure_calls → w.demands.counted ≡ v.demands.counted → GoesTo before b (with_demanded b e b.conflicts) w
+      gone_on w demands cs its im calls counted = record {
         stands = record {
           table = h.table;
           due = due;
@@ -234,6 +238,7 @@ module _ (before : List SiteTerm) (b : RuleSetBuilder) (v : Visit) (h : StandsAt
           calls = h.calls ∙ sym calls;
           numbered = subst AreNumbered (sym im) h.numbered;
           answered = λ r c. let g = h.answered r c in (g.0, λ u i. subst (λ l. Contains l (u, is_present)) (sym cs) (g.1 u i));
+          few = ap first_passed counted ∙ h.few;
         };
         kept = λ r m. refl;
         longer = omega arith;
@@ -264,6 +269,7 @@ module _ (before : List SiteTerm) (b : RuleSetBuilder) (v : Visit) (h : StandsAt
       calls = h.calls;
       numbered = h.numbered;
       answered = h.answered;
+      few = h.few;
     };
     kept = λ r m. refl;
     longer = omega arith;
@@ -290,6 +296,7 @@ module _ (before : List SiteTerm) (b : RuleSetBuilder) (v : Visit) (h : StandsAt
       calls = ap length pushed ∙ length_push b.impure.items s ∙ add-one (length b.impure.items) ∙ ap suc h.calls;
       numbered = next_numbered v.demands.impure (f s) h.numbered (next ∙ ap suc (sym (calls_met before b v h)));
       answered = h.answered;
+      few = h.few;
     };
     kept = λ r m. refl;
     longer = omega arith;
@@ -298,6 +305,51 @@ module _ (before : List SiteTerm) (b : RuleSetBuilder) (v : Visit) (h : StandsAt
 pub ok_both : {T E : Type 0} (P Q : Type 0) (r : Result T E) → OnOk r P → OnOk r Q → OnOk r (P × Q)
 ok_both P Q (Ok x) p q = (p, q)
 ok_both P Q (Err e) p q = tt
+
+-- 6. a variable is bound
+pub bound_stands : (before : List SiteTerm) (b : RuleSetBuilder) (v : Visit) (x : ℕ) (u : SiteTerm) → StandsAt before b v → StandsAt before b (binding x u v)
+bound_stands before b v x u h = record {
+  table = h.table;
+  due = h.due;
+  demands = h.demands;
+  conflicts = h.conflicts;
+  gone_over = h.gone_over;
+  all_gone_over = h.all_gone_over;
+  impure = record { within = h.impure.within; numbers = h.impure.numbers };
+  calls = h.calls;
+  numbered = h.numbered;
+  answered = h.answered;
+  few = h.few;
+}
+
+-- 7. something is counted that passes no limit
+pub fields_pass : (n : ℕ) → n ≤ most_fields → passed_by (fields_matched n) ≡ None
+fields_pass n l = cond-false (nat_lt most_fields n) (Some fields_limit) None (le-ltb most_fields n l)
+
+pub outputs_pass : (n : ℕ) → n ≤ most_outputs → passed_by (outputs_taken n) ≡ None
+outputs_pass n l = cond-false (nat_lt most_outputs n) (Some outputs_limit) None (le-ltb most_outputs n l)
+
+pub argument_passes : (i : ℕ) → i < most_arguments → passed_by (argument_taken i) ≡ None
+argument_passes i l = cond-true (nat_lt i most_arguments) None (Some arguments_limit) (lt-ltb i most_arguments l)
+
+-- the first limit that is passed, with one more count
+pub one_more_count : (cs : List (Count × ℕ)) (c : Count) (n : ℕ) → first_passed cs ≡ None → first_passed (cs ++ (c, n) ∷ []) ≡ passed_or_later (passed_by c) n None
+one_more_count cs c n none = passed_after cs ((c, n) ∷ []) none
+
+pub counted_stands : (before : List SiteTerm) (b : RuleSetBuilder) (v : Visit) (c : Count) → StandsAt before b v → passed_by c ≡ None → StandsAt before b (counting c v)
+counted_stands before b v c h none = record {
+  table = h.table;
+  due = h.due;
+  demands = h.demands;
+  conflicts = h.conflicts;
+  gone_over = h.gone_over;
+  all_gone_over = h.all_gone_over;
+  impure = record { within = h.impure.within; numbers = h.impure.numbers };
+  calls = h.calls;
+  numbered = h.numbered;
+  answered = h.answered;
+  few = one_more_count v.demands.counted c (length v.demands.made) h.few ∙ ap (λ o. passed_or_later o (length v.demands.made) None) none;
+}
 
 -- before a visit
 pub nothing_answered : (sites : List Site) (v : Visit) (none : Members ℕ) → ((s : ℕ) → contains ◌==◌ none s ≡ false) → AreAnswered sites v none
@@ -326,6 +378,7 @@ nothing_visited before b table due once stand asked equal no_conflict no_iterato
   calls = ap length no_call;
   numbered = none_numbered;
   answered = nothing_answered (built_sites b) visit_start b.answered no_answer;
+  few = refl;
 }
 
 -- and without any site

@@ -1,5 +1,5 @@
 -- Sites that were there stay first where more are made, so they stand for what they did.
-use Rattle.std.proofs.Common.{◌≡◌, ℕ, zero, suc, ◌<◌, ◌≤◌, List, [], ◌∷◌, ◌++◌, length, take, slice_get, refl, sym, ◌∙◌, subst, inl, inr, arith}
+use Rattle.std.proofs.Common.{◌≡◌, ℕ, zero, suc, ◌<◌, ◌≤◌, List, [], ◌∷◌, ◌++◌, length, take, Option, Some, None, slice_get, refl, sym, ◌∙◌, subst, inl, inr, arith}
 use Rattle.std.proofs.lemmas.Bool.{cases_Bool, cond-true, cond-false}
 use Rattle.std.proofs.lemmas.List.{length-append, length-take}
 use Rattle.std.proofs.lemmas.Option.{same_Some}
@@ -8,7 +8,7 @@ use Rattle.isle_model.specs.rules.Typed.{TypedRule}
 use Rattle.isle_model.specs.sites.Sites.{Site, SiteTerm, unfold_site}
 use Rattle.isle_model.specs.visits.Demands.{Demands, demands_of, with_sites}
 use Rattle.isle_model.specs.sites.Closure.{ascending, before_closing, class_at, closed, field_terms, is_unreachable, most_closing_steps}
-use Rattle.isle_model.specs.sites.Limits.{made_walking, most_sites, sites_after_rule, sites_reached, sites_wanted, walked_rule}
+use Rattle.isle_model.specs.sites.Limits.{RuleLimit, most_sites, passed_in_visit, sites_after_rule, sites_reached, sites_until, sites_wanted}
 use Rattle.isle_model.specs.sites.RuleSets.{StandFor}
 use Rattle.isle_laws_demands.specs.RuleByRule.{HaveGrown}
 use Rattle.isle_laws_demands.proofs.closure.Closing.{closing_keeps}
@@ -53,23 +53,17 @@ stays_closed before d =
     (λ k h c e. stays_then (with_sites before d.made) k.made (with_sites k.made (flat_map (field_terms c.1) (ascending k.made (class_at k.classes c.0)))) h (stays_with k.made (flat_map (field_terms c.1) (ascending k.made (class_at k.classes c.0)))))
     most_closing_steps (before_closing before d) (stays_itself (with_sites before d.made))
 
-stays_reached : (p : Program) (before : List SiteTerm) (r : TypedRule) → StayFirst before (sites_reached p before r)
-stays_reached p before r =
-    elim (cases_Bool (walked_rule p r).ended) [
-      | inl t ↦ subst (StayFirst before) (sym (cond-true (walked_rule p r).ended walked (sites_wanted p before r) t)) (stays_with before (made_walking p (walked_rule p r)))
-      | inr f ↦ subst (StayFirst before) (sym (cond-false (walked_rule p r).ended walked (sites_wanted p before r) f)) wanted
+stays_wanted : (p : Program) (before : List SiteTerm) (r : TypedRule) → StayFirst before (sites_wanted p before r)
+stays_wanted p before r =
+    let d = demands_of p r in
+    elim (cases_Bool (is_unreachable d)) [
+      | inl t ↦ subst (StayFirst before) (sym (cond-true (is_unreachable d) (with_sites before d.made) (closed before d).made t)) (stays_with before d.made)
+      | inr f ↦ subst (StayFirst before) (sym (cond-false (is_unreachable d) (with_sites before d.made) (closed before d).made f)) (stays_then before (with_sites before d.made) (closed before d).made (stays_with before d.made) (stays_closed before d))
     ]
-  where
-    walked : List SiteTerm
-    walked = with_sites before (made_walking p (walked_rule p r))
 
-    wanted : StayFirst before (sites_wanted p before r)
-    wanted =
-        let d = demands_of p r in
-        elim (cases_Bool (is_unreachable d)) [
-          | inl t ↦ subst (StayFirst before) (sym (cond-true (is_unreachable d) (with_sites before d.made) (closed before d).made t)) (stays_with before d.made)
-          | inr f ↦ subst (StayFirst before) (sym (cond-false (is_unreachable d) (with_sites before d.made) (closed before d).made f)) (stays_then before (with_sites before d.made) (closed before d).made (stays_with before d.made) (stays_closed before d))
-        ]
+stays_until : (p : Program) (before : List SiteTerm) (r : TypedRule) (o : Option (RuleLimit × ℕ)) → StayFirst before (sites_until p before r o)
+stays_until p before r (Some passed) = stays_with before (take passed.1 (demands_of p r).made)
+stays_until p before r None = stays_wanted p before r
 
 -- and where no more are kept than there may be
 pub stays_in_front : (before after : List SiteTerm) → length before ≤ most_sites → StayFirst before after → StayFirst before (take most_sites after)
@@ -79,7 +73,7 @@ stays_in_front before after few h = record {
 }
 
 pub stays_after : (p : Program) (before : List SiteTerm) (r : TypedRule) → length before ≤ most_sites → StayFirst before (sites_after_rule p before r)
-stays_after p before r few = stays_in_front before (sites_reached p before r) few (stays_reached p before r)
+stays_after p before r few = stays_in_front before (sites_reached p before r) few (stays_until p before r (passed_in_visit p r))
 
 -- a table whose sites stand for such has grown
 pub table_grown : (old : List Site) (new : SiteTable) (before after : List SiteTerm) → IsTable new → StandFor old before → StandFor (table_sites new) after → StayFirst before after → HaveGrown old (table_sites new)

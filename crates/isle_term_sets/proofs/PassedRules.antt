@@ -9,7 +9,7 @@ use Rattle.isle_model.specs.rules.Typed.{TypedRule}
 use Rattle.isle_model.specs.sites.Sites.{Site, SetRule, SiteSet, SiteTerm, unfold_site}
 use Rattle.isle_model.specs.visits.Demands.{demands_of, visit_rule, with_sites}
 use Rattle.isle_model.specs.sites.Closure.{Unreachability, before_closing, closed, closing, is_unreachable, most_closing_steps, reported}
-use Rattle.isle_model.specs.sites.Limits.{RuleLimit, first_limit, limits_of_shape, made_walking, most_sites, sites_after_rule, sites_limit, sites_wanted, walked_rule}
+use Rattle.isle_model.specs.sites.Limits.{RuleLimit, first_limit, most_sites, sites_after_rule, sites_limit, sites_reached, sites_until, sites_wanted}
 use Rattle.isle_model.specs.sites.Overlap.{RuleReport, built_rule, limit_passed, not_reached}
 use Rattle.isle_model.specs.sites.RuleSets.{GoesOver, IsRuleOf, StandFor}
 use Rattle.isle_model.proofs.Elements.{contains_from_in, in_from_contains}
@@ -27,7 +27,7 @@ use Rattle.isle_sets.specs.SiteViews.{member_sites}
 use Rattle.isle_term_sets.specs.AddedRules.{IsListed}
 use Rattle.isle_term_sets.specs.VisitedSites.{IsSiteOf, MeetsLimit, StandsAt, built_sites}
 use Rattle.isle_term_sets.specs.declared.ruleset_builder.RuleSetBuilder.{RuleSetBuilder}
-use Rattle.isle_term_sets.proofs.EndedRules.{never_ended, too_many}
+use Rattle.isle_term_sets.proofs.EndedRules.{too_many}
 use Rattle.isle_term_sets.proofs.GrownSites.{StayFirst, stays_closed, stays_in_front, table_grown}
 use Rattle.isle_term_sets.proofs.PassingSites.{from_passing, in_passing, passing_once}
 
@@ -55,10 +55,10 @@ module _ (p : Program) (before : List SiteTerm) (r : TypedRule) (rules : List Se
       limit_met limit (table_grown old b.table whole (sites_after_rule p before r) m.sites.table stand m.sites.stand stay) m.first m.sites.stand refl
 
   -- 2. the rule can't be reached
-  module _ (b : RuleSetBuilder) (h : StandsAt before b (visit_rule p r).visit) (none : limits_of_shape p r ≡ []) where
+  module _ (b : RuleSetBuilder) (h : StandsAt before b (visit_rule p r).visit) where
     no_limit : (wanted : List SiteTerm) → sites_wanted p before r ≡ wanted → (sites : List Site) → length sites ≤ most_sites → StandFor sites wanted → first_limit p before r ≡ None
     no_limit wanted e sites few stand =
-        (limits_are_met_lem p before r).none none (subst (λ ts. length ts ≤ most_sites) (sym e) (let n = stand.count in omega (arith, n, few)))
+        (limits_are_met_lem p before r).none h.few (subst (λ ts. length ts ≤ most_sites) (sym e) (let n = stand.count in omega (arith, n, few)))
 
     pub reachable_if : reported (with_sites before (demands_of p r).made) (demands_of p r) ≡ [] → is_unreachable (demands_of p r) ≡ false
     reachable_if e =
@@ -93,17 +93,20 @@ module _ (p : Program) (before : List SiteTerm) (r : TypedRule) (rules : List Se
       closed_wanted : sites_wanted p before r ≡ (closed before (demands_of p r)).made
       closed_wanted = cond-false (is_unreachable (demands_of p r)) (with_sites before (demands_of p r).made) (closed before (demands_of p r)).made reachable
 
+      closed_reached : sites_reached p before r ≡ (closed before (demands_of p r)).made
+      closed_reached = ap (sites_until p before r) h.few ∙ closed_wanted
+
       -- its closing ended for want of room
       pub closing_full_met : (after : RuleSetBuilder) → IsTable after.table → AreFirst (built_sites after) (closing most_closing_steps (before_closing before (demands_of p r))).made → MeetsLimit p before r after sites_limit
       closing_full_met after table first =
           too_many p before r after table
-          (subst (AreFirst (built_sites after)) (sym (cond-false (walked_rule p r).ended (with_sites before (made_walking p (walked_rule p r))) (sites_wanted p before r) (never_ended p before r after none) ∙ closed_wanted)) first)
+          (subst (AreFirst (built_sites after)) (sym closed_reached) first)
 
       -- the sites of the visit stay then
       pub visited_stay : StayFirst (with_sites before (demands_of p r).made) (sites_after_rule p before r)
       visited_stay =
           subst (λ ts. StayFirst (with_sites before (demands_of p r).made) (take most_sites ts))
-          (sym (cond-false (walked_rule p r).ended (with_sites before (made_walking p (walked_rule p r))) (sites_wanted p before r) (never_ended p before r b none) ∙ closed_wanted))
+          (sym closed_reached)
           (stays_in_front (with_sites before (demands_of p r).made) (closed before (demands_of p r)).made (let n = h.demands.stand.count in let few = h.table.few in omega (arith, n, few)) (stays_closed before (demands_of p r)))
 
       module _ (after : RuleSetBuilder) (table : IsTable after.table) (go : GoOn (built_sites b) (built_sites after) after.demanded (closing most_closing_steps (before_closing before (demands_of p r))))

@@ -14,7 +14,7 @@ use Rattle.isle_model.specs.rules.Typed.{TypedRule}
 use Rattle.isle_model.specs.sites.Sites.{SetRule, SiteTerm, unfold_site}
 use Rattle.isle_model.specs.visits.Demands.{Demands, demands_of, visit_rule, with_sites}
 use Rattle.isle_model.specs.sites.Closure.{Unreachability, before_closing, class_names, closing, conflicts_met, cycle, first_conflict, first_filled, has_cycle, in_site_order, is_unreachable, most_closing_steps, reported, with_constrained}
-use Rattle.isle_model.specs.sites.Limits.{RuleLimit, arguments_limit, fields_limit, limits_of_shape, outputs_limit, sites_after_rule, sites_limit}
+use Rattle.isle_model.specs.sites.Limits.{RuleLimit, arguments_limit, fields_limit, outputs_limit, sites_after_rule, sites_limit}
 use Rattle.isle_model.specs.sites.Overlap.{not_reached, limit_passed}
 use Rattle.isle_model.specs.sites.RuleSets.{StandFor}
 use Rattle.isle_laws_demands.specs.RuleByRule.{GoesPast}
@@ -69,16 +69,16 @@ module _ (p : Program) (before : List SiteTerm) (r : TypedRule) (b : RuleSetBuil
       }
 
 -- the closing ends at the limit on sites
-pub closing_ends : (p : Program) (before : List SiteTerm) (r : TypedRule) (rules : List SetRule) (b after : RuleSetBuilder) (h : StandsAt before b (visit_rule p r).visit) (none : limits_of_shape p r ≡ []) (reachable : is_unreachable (demands_of p r) ≡ false)
+pub closing_ends : (p : Program) (before : List SiteTerm) (r : TypedRule) (rules : List SetRule) (b after : RuleSetBuilder) (h : StandsAt before b (visit_rule p r).visit) (reachable : is_unreachable (demands_of p r) ≡ false)
     → (fault : VisitFault) → ForWantOfRoom (IsTable after.table) fault → EndsFull (built_sites after) (closing most_closing_steps (before_closing before (demands_of p r))) fault → EndsAtLimit p before r after fault
-closing_ends p before r rules b after h none reachable (Faults.Memory e) t f = tt
-closing_ends p before r rules b after h none reachable (Faults.Limit Limits.Sites) t f = closing_full_met p before r rules b h none reachable after t f
-closing_ends p before r rules b after h none reachable (Faults.Limit Limits.Fields) t f = absurd f
-closing_ends p before r rules b after h none reachable (Faults.Limit Limits.Outputs) t f = absurd f
-closing_ends p before r rules b after h none reachable (Faults.Limit Limits.Arguments) t f = absurd f
-closing_ends p before r rules b after h none reachable (Faults.Limit Limits.Nesting) t f = absurd f
-closing_ends p before r rules b after h none reachable (Faults.Limit Limits.Expansions) t f = absurd f
-closing_ends p before r rules b after h none reachable Faults.Stopped t f = absurd f
+closing_ends p before r rules b after h reachable (Faults.Memory e) t f = tt
+closing_ends p before r rules b after h reachable (Faults.Limit Limits.Sites) t f = closing_full_met p before r rules b h reachable after t f
+closing_ends p before r rules b after h reachable (Faults.Limit Limits.Fields) t f = absurd f
+closing_ends p before r rules b after h reachable (Faults.Limit Limits.Outputs) t f = absurd f
+closing_ends p before r rules b after h reachable (Faults.Limit Limits.Arguments) t f = absurd f
+closing_ends p before r rules b after h reachable (Faults.Limit Limits.Nesting) t f = absurd f
+closing_ends p before r rules b after h reachable (Faults.Limit Limits.Expansions) t f = absurd f
+closing_ends p before r rules b after h reachable Faults.Stopped t f = absurd f
 
 -- 3. conflicts that the visit met, and what the verdict finds
 abbrev others : List SiteTerm → Demands → List Unreachability
@@ -89,13 +89,13 @@ others order d =
 reported_first : (order : List SiteTerm) (d : Demands) (us : List Unreachability) → conflicts_met [] d.constraints ≡ us → reported order d ≡ first_filled us (others order d)
 reported_first order d us e = ap (λ l. first_filled l (others order d)) e
 
-module _ (p : Program) (before : List SiteTerm) (r : TypedRule) (s : TermSet) (h : StandsAt before s.builder (visit_rule p r).visit) (none : limits_of_shape p r ≡ []) (errors more : List Error) (pos : Pos) (at : position pos ≡ r.at) where
+module _ (p : Program) (before : List SiteTerm) (r : TypedRule) (s : TermSet) (h : StandsAt before s.builder (visit_rule p r).visit) (errors more : List Error) (pos : Pos) (at : position pos ≡ r.at) where
   -- what is reported is one error each
   goes_on_unreachable : {X : Type 0} (f : X → Unreachability) (x : X) (xs : List X) → reported (with_sites before (demands_of p r).made) (demands_of p r) ≡ map f (x ∷ xs)
       → error_views more ≡ error_views errors ++ unreachable_each (x ∷ xs) pos → SetGoesOn p before r s s errors more
   goes_on_unreachable f x xs e rep = record {
     said = map (λ why. not_reached why r.at) (map f (x ∷ xs));
-    goes = passes_unreachable p before r (set_rule_views s.rules.items) s.builder h none (f x) (map f xs) e;
+    goes = passes_unreachable p before r (set_rule_views s.rules.items) s.builder h (f x) (map f xs) e;
     table = h.table;
     reports = rep ∙ ap (λ l. error_views errors ++ l) (each_reported pos f (x ∷ xs)) ∙ ap (λ a. error_views errors ++ report_views (map (λ why. not_reached why a) (map f (x ∷ xs)))) at;
   }
@@ -116,7 +116,7 @@ visited_fields p before r b h e =
     record { held = h.demands; agreed = sym h.conflicts ∙ ap (map conflict_view) e; given = f.given; made = f.made }
 
 -- 4. the rule is added
-module _ (p : Program) (before : List SiteTerm) (r : TypedRule) (old : TermSet) (h : StandsAt before old.builder (visit_rule p r).visit) (none : limits_of_shape p r ≡ []) (reachable : is_unreachable (demands_of p r) ≡ false)
+module _ (p : Program) (before : List SiteTerm) (r : TypedRule) (old : TermSet) (h : StandsAt before old.builder (visit_rule p r).visit) (reachable : is_unreachable (demands_of p r) ≡ false)
     (after : RuleSetBuilder) (table : IsTable after.table) (go : GoOn (built_sites old.builder) (built_sites after) after.demanded (closing most_closing_steps (before_closing before (demands_of p r))))
     (same_iterators : after.iterators ≡ old.builder.iterators) (same_impure : after.impure ≡ old.builder.impure) where
   pub goes_on_added : (from : Rule) (value : ℕ) (mid new : TermSet) (errors : List Error) → rule_view from ≡ r → IsSiteOf old.builder (visit_rule p r).site value → mid.rules ≡ old.rules → new.builder.table ≡ after.table
@@ -124,7 +124,7 @@ module _ (p : Program) (before : List SiteTerm) (r : TypedRule) (old : TermSet) 
   goes_on_added from value mid new errors view site rules tables l = record {
     said = [];
     goes = subst (λ t. GoesPast p before r (set_so_far old) (set_with (set_rule_views new.rules.items) (table_sites t)) []) (sym tables)
-        (passes_added p before r (set_rule_views old.rules.items) old.builder h none reachable after table go same_iterators same_impure from value l.rule (set_rule_views new.rules.items)
+        (passes_added p before r (set_rule_views old.rules.items) old.builder h reachable after table go same_iterators same_impure from value l.rule (set_rule_views new.rules.items)
         (l.last ∙ ap (λ rs. set_rule_views rs.items ++ l.rule ∷ []) rules) view site l.listed);
     table = subst IsTable (sym tables) table;
     reports = sym (append-nil (error_views errors));

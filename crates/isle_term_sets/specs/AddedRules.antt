@@ -8,7 +8,6 @@ use Rattle.isle_model.specs.rules.Program.{Program}
 use Rattle.isle_model.specs.sites.Sites.{SetRule, SiteSet, SiteTerm}
 use Rattle.isle_model.specs.sites.Closure.{Closed}
 use Rattle.isle_model.specs.visits.Demands.{visit_rule}
-use Rattle.isle_model.specs.sites.Limits.{limits_of_shape}
 use Rattle.isle_model.specs.sites.Overlap.{RuleReport}
 use Rattle.isle_model.specs.sites.RuleSets.{StandFor}
 use Rattle.isle_model.specs.claims.Refusals.{Refusal, past_limit, refusal_of, unreachable}
@@ -72,9 +71,8 @@ pub record AddsListed (b : RuleSetBuilder) (k : Closed) (from : Rule) (value : �
   pub listed : IsListed b k from value rule
   pub last : set_rule_views new.rules.items ≡ set_rule_views old.rules.items ++ rule ∷ []
 
--- the visit of a rule is done: it passes no limit that its shape shows, and the site of its result has this number
+-- the visit of a rule is done: nothing that it counted passes a limit, and the site of its result has this number
 pub record WasVisited (p : Program) (before : List SiteTerm) (r : TypedRule) (b : RuleSetBuilder) (value : ℕ) : Type 0 where
-  pub few : limits_of_shape p r ≡ []
   pub stands : StandsAt before b (visit_rule p r).visit
   pub site : IsSiteOf b (visit_rule p r).site value
 

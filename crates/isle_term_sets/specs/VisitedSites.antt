@@ -1,6 +1,6 @@
 -- Where a builder of a rule set stands while a rule is visited: its sites and demands are those that the visit has met, by
 -- their numbers.
-use Rattle.std.specs.Prelude.{◌≡◌, ◌⊎◌, slice_get, ℕ, suc, ◌<◌, ◌≤◌, Bool, not, if◌then◌else◌, List, [], ◌∷◌, length, map, Option, Some, None, Result, MatchResult, All, Contains, IsTrue}
+use Rattle.std.specs.Prelude.{◌≡◌, ◌⊎◌, slice_get, ℕ, suc, ◌<◌, ◌≤◌, Bool, not, if◌then◌else◌, List, [], ◌∷◌, length, map, take, Option, Some, None, Result, MatchResult, All, Contains, IsTrue}
 use Rattle.std.specs.Bool.{◌==◌}
 use Rattle.std.specs.Ordering.{nat_cmp}
 use Rattle.std.specs.BTreeSet.{insert_key}
@@ -8,12 +8,14 @@ use Rattle.isle_base.specs.Stable.{Members, contains}
 use Rattle.isle_model.specs.sites.Sites as Sites
 use Rattle.isle_model.specs.sites.Sites.{Site, SiteTerm, SiteTerms, argument, constructor_call, each_term, extract_struct_site, extractor_call, is_present, match_some_site, match_tuple_site, match_variant_site, pick_of, some_part, struct_field, tuple_part, unfold_site, variant_field}
 use Rattle.isle_model.specs.rules.Program.{Program}
-use Rattle.isle_model.specs.rules.Typed.{TypedPatterns, no_typed_pattern, TypedRule}
+use Rattle.isle_model.specs.rules.Typed.{TypedPatterns, TypedRule}
 use Rattle.isle_model.specs.lists.Tables.{Flags}
-use Rattle.isle_model.specs.sites.Limits.{RuleLimit, arguments_limit, fields_limit, first_limit, most_arguments, most_fields, most_outputs, outputs_limit, sites_after_rule, sites_limit}
+use Rattle.isle_model.specs.sites.Limits.{RuleLimit, arguments_limit, fields_limit, first_limit, first_passed, most_arguments, most_fields, most_outputs, outputs_limit, sites_after_rule, sites_limit}
 use Rattle.isle_model.specs.sites.RuleSets.{StandFor}
-use Rattle.isle_model.specs.visits.Demands.{Visit, Valued, valued, visit_call, call_result, Opened, opened, open_call, output_sites, part_sites, pattern_count, with_sites, asking, asking_all, equating, iterating, making, unwraps}
-use Rattle.isle_model.specs.sites.Closure.{Unreachability, conflict, conflicts_met, before_closing, field_terms}
+use Rattle.isle_model.specs.visits.Demands.{Visit, Valued, valued, visit_call, call_result, Opened, open_call, pattern_count, with_sites, asking, asking_all, equating, iterating, making, taking_argument, unwraps}
+use Rattle.isle_model.specs.visits.SiteVisitor.{fields_opened}
+use Rattle.isle_model.specs.sites.Closure.{Unreachability, conflict, conflicts_met, before_closing}
+use Rattle.isle_laws_visits.specs.Followers.{AsksNothingElse}
 use Rattle.isle_base.specs.declared.syntax.Limit.{Limit}
 use Rattle.isle_base.specs.declared.syntax.Limit.TheVariants as Limits
 use Rattle.isle_base.specs.declared.visit_fault.VisitFault.{VisitFault}
@@ -75,7 +77,7 @@ IsNextCall b v s = call_number (unfold_site (built_sites b) s) ≡ suc v.impure_
 -- a builder stands where a visit does, after these sites of the term's rules before: it has the sites that were made
 -- before or in the visit, the demands that the visit has met, the conflicts among them in their order, the calls that the
 -- rule goes over, its impure calls in order, as many as were met, each with its own number, and sites whose unwrapped
--- calls are asked to answer
+-- calls are asked to answer; and nothing that was counted so far passes a limit
 pub record StandsAt (before : List SiteTerm) (b : RuleSetBuilder) (v : Visit) : Type 0 where
   pub table : IsTable b.table
   pub due : KeepsDue b.demanded
@@ -87,6 +89,7 @@ pub record StandsAt (before : List SiteTerm) (b : RuleSetBuilder) (v : Visit) : 
   pub calls : length b.impure.items ≡ v.impure_calls
   pub numbered : AreNumbered v.demands.impure
   pub answered : AreAnswered (built_sites b) v b.answered
+  pub few : first_passed v.demands.counted ≡ None
 
 -- a builder has gone on to stand where a visit does, and the sites that it had stand for what they did
 pub record GoesTo (before : List SiteTerm) (old new : RuleSetBuilder) (v : Visit) : Type 0 where
@@ -108,6 +111,31 @@ EndsBefore before b v e = ForWantOfRoom (IsTable b.table × AreFirst (built_site
 pub record HasSites (b : RuleSetBuilder) (terms : List SiteTerm) : Type 0 where
   pub table : IsTable b.table
   pub stand : StandFor (built_sites b) terms
+
+-- the sites that a visit made, beside those before: until the first count that passes a limit, if one does
+abbrev pub with_made_until : List SiteTerm → List SiteTerm → Option (RuleLimit × ℕ) → List SiteTerm
+with_made_until before made (Some passed) = with_sites before (take passed.1 made)
+with_made_until before made None = with_sites before made
+
+abbrev pub sites_made : List SiteTerm → Visit → List SiteTerm
+sites_made before v = with_made_until before v.demands.made (first_passed v.demands.counted)
+
+-- the first limit that the counts of a visit pass is this one, and a builder has the sites that were made until then
+pub record MeetsCount (before : List SiteTerm) (b : RuleSetBuilder) (v : Visit) (l : RuleLimit) : Type 0 where
+  pub made : ℕ
+  pub first : first_passed v.demands.counted ≡ Some (l, made)
+  pub until : made ≤ length v.demands.made
+  pub sites : HasSites b (with_sites before (take made v.demands.made))
+
+-- a builder ended on the way of a visit: memory was refused, or a limit was met, and then it has the sites that were made
+-- until then, where there was no room for one the first of them
+abbrev pub EndsVisit : List SiteTerm → RuleSetBuilder → Visit → VisitFault → Type 0
+EndsVisit before b v (Faults.Memory e) = Unit {0}
+EndsVisit before b v (Faults.Limit Limits.Fields) = MeetsCount before b v fields_limit
+EndsVisit before b v (Faults.Limit Limits.Outputs) = MeetsCount before b v outputs_limit
+EndsVisit before b v (Faults.Limit Limits.Arguments) = MeetsCount before b v arguments_limit
+EndsVisit before b v (Faults.Limit Limits.Sites) = IsTable b.table × AreFirst (built_sites b) (sites_made before v)
+EndsVisit before b v _ = ⊥
 
 -- of the limits that a rule passes, after the sites of the rules before, a builder met this one first, and has the sites that
 -- were made until then
@@ -140,10 +168,6 @@ part_of (AllParts.Variant variant) u = variant_field u variant.0
 part_of AllParts.Struct u = struct_field u
 part_of AllParts.Outputs u = tuple_part u
 
--- the fields that a constraint gives a site are open, and the site is asked to meet it
-abbrev pub fields_opened : Sites.Constraint → SiteTerm → Visit → Opened
-fields_opened c s v = opened (field_terms c s) (asking s c (making (field_terms c s) v))
-
 -- a builder has gone on to where the parts of a term's pattern are open: they have these numbers
 pub record OpensTo (before : List SiteTerm) (old new : RuleSetBuilder) (o : Opened) (ns : List ℕ) : Type 0 where
   pub goes : GoesTo before old new o.visit
@@ -157,10 +181,6 @@ EndsBy before b l v e = EndsBefore before b v e ⊎ ((e ≡ Faults.Limit l) × S
 -- may be; and else by the limit on their number, at the latest where the other stands
 abbrev pub EndsOpening : List SiteTerm → RuleSetBuilder → Visit → Limit → ℕ → ℕ → Visit → VisitFault → Type 0
 EndsOpening before b w l most count v e = ((count ≤ most) × EndsBefore before b w e) ⊎ ((most < count) × EndsBy before b l v e)
-
--- the outputs of a call are open, where this is what it answers
-abbrev pub outputs_opened : SiteTerm → TypedPatterns → Visit → Opened
-outputs_opened u args v = opened (output_sites u args) (making (part_sites u args) v)
 
 -- what an extractor's call answers: one of many answers, the call itself, or what is in it
 abbrev pub answer_of : Bool → Bool → SiteTerm → SiteTerm
@@ -197,8 +217,8 @@ AsksEqual old a b r new =
 abbrev pub OpensFields : Sites.Constraint → ℕ → RuleSetBuilder → ℕ → Result (List ℕ) VisitFault → RuleSetBuilder → Type 0
 OpensFields c count old s r new =
     (before : List SiteTerm) (v : Visit) → StandsAt before old v → s < length (built_sites old)
-    → MatchResult r (λ ids. (count ≤ most_fields) × OpensTo before old new (fields_opened c (unfold_site (built_sites old) s) v) ids)
-    (EndsOpening before new (fields_opened c (unfold_site (built_sites old) s) v).visit Limits.Fields most_fields count v)
+    → MatchResult r (λ ids. (count ≤ most_fields) × OpensTo before old new (fields_opened c count (unfold_site (built_sites old) s) v) ids)
+    (EndsOpening before new (fields_opened c count (unfold_site (built_sites old) s) v).visit Limits.Fields most_fields count v)
 
 -- and with a call that opens the outputs of an extractor, so many
 abbrev pub OpensExtractor : ℕ → ℕ → Bool → Bool → RuleSetBuilder → ℕ → Result (List ℕ) VisitFault → RuleSetBuilder → Type 0
@@ -206,7 +226,7 @@ OpensExtractor term count infallible multi old s r new =
     (before : List SiteTerm) (v : Visit) (flags : Flags) (args : TypedPatterns) → StandsAt before old v → s < length (built_sites old) → flags.multi ≡ multi → pattern_count args ≡ count
     → let call = extractor_call term (unfold_site (built_sites old) s) in
     MatchResult r (λ ids. (count ≤ most_outputs) × OpensTo before old new (open_call flags infallible call args v) ids)
-    (EndsOpening before new (open_call flags infallible call args v).visit Limits.Outputs most_outputs count (open_call flags infallible call no_typed_pattern v).visit)
+    (EndsOpening before new (open_call flags infallible call args v).visit Limits.Outputs most_outputs count (answered multi infallible call (making (call ∷ []) v)))
 
 -- the sites that are made for what a constructor's call gives
 abbrev pub value_sites : Flags → SiteTerm → List SiteTerm
@@ -228,10 +248,6 @@ abbrev pub GivesValue : RuleSetBuilder → RuleSetBuilder → Result ℕ VisitFa
 GivesValue old new r next =
     (before : List SiteTerm) (v : Visit) → StandsAt before old v → MatchResult r (ValuesTo before old new (next v)) (EndsBefore before new (next v).visit)
 
--- a value that is made as one site
-abbrev pub value_made : SiteTerm → Visit → Valued
-value_made u v = valued u (making (u ∷ []) v)
-
 -- values that are handed over, each with a type, by their numbers
 abbrev pub input_ids : List (ℕ × ℕ) → List ℕ
 input_ids inputs = map (λ x. x.0) inputs
@@ -248,11 +264,11 @@ abbrev pub Constructs : ℕ → Bool → Bool → Bool → RuleSetBuilder → Li
 Constructs term pure infallible multi old inputs r new =
     (flags : Flags) → flags.pure ≡ pure → flags.partial ≡ not infallible → flags.multi ≡ multi → HaveSites old inputs → GivesValue old new r (visit_call flags term (input_terms old inputs))
 
--- and with an argument, whose number has to fit
+-- and with an argument, which is counted before it is made, since its number has to fit
 abbrev pub MakesArgument : ℕ → RuleSetBuilder → Result ℕ VisitFault → RuleSetBuilder → Type 0
 MakesArgument i old r new =
     (before : List SiteTerm) (v : Visit) → StandsAt before old v
-    → MatchResult r (λ n. (i < most_arguments) × Makes before old new v (argument i) n) (EndsOpening before new (making (argument i ∷ []) v) Limits.Arguments most_arguments (suc i) v)
+    → MatchResult r (λ n. (i < most_arguments) × ValuesTo before old new (valued (argument i) (taking_argument i v)) n) (EndsOpening before new (taking_argument i v) Limits.Arguments most_arguments (suc i) v)
 
 -- keys of a set, and these
 abbrev pub with_keys : List ℕ → List ℕ → List ℕ
@@ -280,10 +296,6 @@ pub record AreUnwrapped (sites : List Site) (s : ℕ) (before after : Members �
   pub unwrapped : (u : SiteTerm) → Contains (map (unfold_site sites) calls) u → Contains (unwraps (unfold_site sites s)) u
   pub all : IsWalked sites before calls s
   pub walked : (t : ℕ) → IsTrue (contains ◌==◌ after t) → IsTrue (contains ◌==◌ before t) ⊎ ((t < length sites) × IsWalked sites before calls t)
-
--- a visit has asked the calls that a value unwraps nothing but to answer
-abbrev pub AsksNothingElse : Visit → SiteTerm → Type 0
-AsksNothingElse v u = (call : SiteTerm) (c : Sites.Constraint) → Contains (unwraps u) call → Contains v.demands.constraints (call, c) → c ≡ is_present
 
 -- and with a value that a pattern is for: each call that it unwraps is asked to answer
 abbrev pub AsksAnswers : RuleSetBuilder → ℕ → Result ℕ VisitFault → RuleSetBuilder → Type 0

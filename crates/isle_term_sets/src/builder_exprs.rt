@@ -3,8 +3,9 @@ ghost use Rattle.std.specs.Prelude.{◌≡◌, ◌<◌, List, false, not, suc, l
 ghost use Rattle.isle_model.specs.lists.Tables.{Flags};
 ghost use Rattle.isle_model.specs.sites.Sites.{SiteTerm, bool_term, each_term, int_term, prim_term, struct_made, unfold_site, variant_made};
 ghost use Rattle.isle_model.specs.visits.Demands.{Visit, calling, finished, making, valued, visit_call, where_multi};
+ghost use Rattle.isle_model.specs.visits.SiteVisitor.{value_made};
 ghost use Rattle.isle_typed.specs.VisitAnswers.{typed_inputs};
-ghost use Rattle.isle_term_sets.specs.VisitedSites.{HaveSites, Constructs, EndsBefore, GivesValue, GoesTo, IsNextCall, MakesValue, StandsAt, ValuesTo, built_sites, input_terms, value_made, value_sites};
+ghost use Rattle.isle_term_sets.specs.VisitedSites.{HaveSites, Constructs, EndsBefore, GivesValue, GoesTo, IsNextCall, MakesValue, StandsAt, ValuesTo, built_sites, input_terms, value_sites};
 
 use crate::ruleset_builder::RuleSetBuilder;
 use isle_base::visit_fault::VisitFault;

@@ -1,14 +1,15 @@
 //! What the calls of a pattern's visit make of sites, and ask of them.
-ghost use Rattle.std.specs.Prelude.{◌≡◌, ◌<◌, ◌≤◌, List, length, vec_len, IfErr, IfOk};
+ghost use Rattle.std.specs.Prelude.{◌≡◌, ◌<◌, ◌≤◌, List, [], ◌∷◌, length, vec_len, IfErr, IfOk};
 ghost use Rattle.isle_base.specs.declared.syntax.Limit.TheVariants as Limits;
 ghost use Rattle.isle_model.specs.lists.Tables.{Flags};
-ghost use Rattle.isle_model.specs.rules.Typed.{TypedPatterns, no_typed_pattern};
+ghost use Rattle.isle_model.specs.rules.Typed.{TypedPatterns};
 ghost use Rattle.isle_model.specs.sites.Sites.{SiteTerm, extractor_call, is_bool, is_int, is_prim, is_struct, is_variant, unfold_site};
-ghost use Rattle.isle_model.specs.visits.Demands.{Visit, making, open_call, pattern_count};
+ghost use Rattle.isle_model.specs.visits.Demands.{Visit, making, open_call, outputs_opened, pattern_count};
+ghost use Rattle.isle_model.specs.visits.SiteVisitor.{fields_opened};
 ghost use Rattle.isle_model.specs.sites.Closure.{fields_from};
 ghost use Rattle.isle_model.specs.sites.Limits.{most_fields, most_outputs};
 ghost use Rattle.isle_sets.specs.SiteViews.{site_view};
-ghost use Rattle.isle_term_sets.specs.VisitedSites.{AnswersTo, Asks, EndsBefore, EndsOpening, AsksEqual, MakesAll, OpensExtractor, OpensFields, OpensTo, StandsAt, answered, built_sites, fields_opened, outputs_opened, part_of, part_site};
+ghost use Rattle.isle_term_sets.specs.VisitedSites.{AnswersTo, Asks, EndsBefore, EndsOpening, AsksEqual, MakesAll, OpensExtractor, OpensFields, OpensTo, StandsAt, answered, built_sites, part_of, part_site};
 
 use crate::ruleset_builder::RuleSetBuilder;
 use isle_base::syntax::Limit;
@@ -78,9 +79,9 @@ impl RuleSetBuilder {
         count: usize,
     ) -> Result<Vec<BindingId>, VisitFault>
         ensures opened { (before : List SiteTerm) (v : Visit) → StandsAt before self.old v → input < length (built_sites self.old)
-            → IfOk result (λ ids. (count ≤ most_fields) × OpensTo before self.old self.new (fields_opened (is_variant ty.0 variant.0 count) (unfold_site (built_sites self.old) input) v) ids.items) }
+            → IfOk result (λ ids. (count ≤ most_fields) × OpensTo before self.old self.new (fields_opened (is_variant ty.0 variant.0 count) count (unfold_site (built_sites self.old) input) v) ids.items) }
         ensures full { (before : List SiteTerm) (v : Visit) → StandsAt before self.old v → input < length (built_sites self.old)
-            → IfErr result (EndsOpening before self.new (fields_opened (is_variant ty.0 variant.0 count) (unfold_site (built_sites self.old) input) v).visit Limits.Fields most_fields count v) }
+            → IfErr result (EndsOpening before self.new (fields_opened (is_variant ty.0 variant.0 count) count (unfold_site (built_sites self.old) input) v).visit Limits.Fields most_fields count v) }
         ensures count { IfOk result (λ ids. vec_len ids ≡ count) }
     {
         let Ok(fields) = TupleIndex::try_from(count) else {
@@ -106,9 +107,9 @@ impl RuleSetBuilder {
         count: usize,
     ) -> Result<Vec<BindingId>, VisitFault>
         ensures opened { (before : List SiteTerm) (v : Visit) → StandsAt before self.old v → input < length (built_sites self.old)
-            → IfOk result (λ ids. (count ≤ most_fields) × OpensTo before self.old self.new (fields_opened (is_struct ty.0 count) (unfold_site (built_sites self.old) input) v) ids.items) }
+            → IfOk result (λ ids. (count ≤ most_fields) × OpensTo before self.old self.new (fields_opened (is_struct ty.0 count) count (unfold_site (built_sites self.old) input) v) ids.items) }
         ensures full { (before : List SiteTerm) (v : Visit) → StandsAt before self.old v → input < length (built_sites self.old)
-            → IfErr result (EndsOpening before self.new (fields_opened (is_struct ty.0 count) (unfold_site (built_sites self.old) input) v).visit Limits.Fields most_fields count v) }
+            → IfErr result (EndsOpening before self.new (fields_opened (is_struct ty.0 count) count (unfold_site (built_sites self.old) input) v).visit Limits.Fields most_fields count v) }
         ensures count { IfOk result (λ ids. vec_len ids ≡ count) }
     {
         let Ok(fields) = TupleIndex::try_from(count) else {
@@ -179,7 +180,7 @@ impl RuleSetBuilder {
         ensures full { (before : List SiteTerm) (v : Visit) (flags : Flags) (args : TypedPatterns) → StandsAt before self.old v → input < length (built_sites self.old)
             → flags.multi ≡ multi → pattern_count args ≡ count
             → IfErr result (EndsOpening before self.new (open_call flags infallible (extractor_call term.0 (unfold_site (built_sites self.old) input)) args v).visit
-            Limits.Outputs most_outputs count (open_call flags infallible (extractor_call term.0 (unfold_site (built_sites self.old) input)) no_typed_pattern v).visit) }
+            Limits.Outputs most_outputs count (let call = extractor_call term.0 (unfold_site (built_sites self.old) input) in answered multi infallible call (making (call ∷ []) v))) }
         ensures count { IfOk result (λ ids. vec_len ids ≡ count) }
     {
         let call = self.make(Binding::Extractor {

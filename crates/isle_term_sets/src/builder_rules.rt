@@ -1,5 +1,5 @@
 //! What the calls of a rule's visit make of sites, and ask of them.
-ghost use Rattle.std.specs.Prelude.{◌≡◌, ◌<◌, ◌++◌, ℕ, suc, true, if◌then◌else◌, List, [], ◌∷◌, Ok, IsTrue, is_some, length, map, slice_get, All, IfErr, IfOk, OnOk};
+ghost use Rattle.std.specs.Prelude.{◌≡◌, ◌<◌, ◌++◌, ℕ, suc, true, if◌then◌else◌, List, [], Ok, IsTrue, is_some, length, map, slice_get, All, IfErr, IfOk, OnOk};
 ghost use Rattle.std.specs.Bool.{◌==◌};
 ghost use Rattle.isle_base.specs.Stable.{contains};
 ghost use Rattle.isle_base.specs.declared.syntax.Limit.TheVariants as Limits;
@@ -7,11 +7,12 @@ ghost use Rattle.isle_model.specs.sites.Sites.{SiteTerm, argument, sources_at, u
 ghost use Rattle.isle_model.specs.lists.Formed.{is_formed_rule};
 ghost use Rattle.isle_model.specs.lists.Visitable.{is_visitable_rule};
 ghost use Rattle.isle_model.specs.rules.Program.{Program, is_partial};
-ghost use Rattle.isle_model.specs.visits.Demands.{Visit, asking_all, making, unwraps, visit_rule, visit_start};
-ghost use Rattle.isle_model.specs.sites.Limits.{limits_of_shape, most_arguments};
+ghost use Rattle.isle_model.specs.visits.Demands.{Visit, asking_all, taking_argument, unwraps, valued, visit_rule, visit_start};
+ghost use Rattle.isle_model.specs.sites.Limits.{most_arguments};
+ghost use Rattle.isle_laws_visits.specs.Followers.{AsksNothingElse};
 ghost use Rattle.isle_typed.specs.RuleViews.{rule_view};
 ghost use Rattle.isle_sets.specs.SiteTables.{IsTable};
-ghost use Rattle.isle_term_sets.specs.VisitedSites.{AsksAnswers, AsksNothingElse, EndsAtLimit, EndsOpening, GoesTo, AreUnwrapped, Makes, MakesArgument, StandsAt, ValuesTo, built_sites, unwrapped_at, with_keys};
+ghost use Rattle.isle_term_sets.specs.VisitedSites.{AsksAnswers, EndsAtLimit, EndsOpening, GoesTo, AreUnwrapped, MakesArgument, StandsAt, ValuesTo, built_sites, unwrapped_at, with_keys};
 
 use crate::ruleset_builder::RuleSetBuilder;
 use isle_base::stablemapset::StableSet;
@@ -39,7 +40,7 @@ impl RuleSetBuilder {
     ) -> Result<BindingId, VisitFault>
         requires visitable { IsTrue (is_visitable_rule (E.term_entries termenv.now) (rule_view rule.now)) }
         ensures visited { (p : Program) (before : List SiteTerm) → p.terms ≡ E.term_entries termenv.now → is_formed_rule p (rule_view rule.now) ≡ true → StandsAt before self.old visit_start
-            → IfOk result (λ n. ValuesTo before self.old self.new (visit_rule p (rule_view rule.now)) n × (limits_of_shape p (rule_view rule.now) ≡ [])) }
+            → IfOk result (ValuesTo before self.old self.new (visit_rule p (rule_view rule.now))) }
         ensures limit { (p : Program) (before : List SiteTerm) → p.terms ≡ E.term_entries termenv.now → is_formed_rule p (rule_view rule.now) ≡ true → StandsAt before self.old visit_start
             → IfErr result (EndsAtLimit p before (rule_view rule.now) self.new) }
     {
@@ -50,8 +51,8 @@ impl RuleSetBuilder {
 
     // The site of an argument.
     fn make_argument(&mut self, index: usize) -> Result<BindingId, VisitFault>
-        ensures made { (before : List SiteTerm) (v : Visit) → StandsAt before self.old v → IfOk result (λ n. (index < most_arguments) × Makes before self.old self.new v (argument index) n) }
-        ensures full { (before : List SiteTerm) (v : Visit) → StandsAt before self.old v → IfErr result (EndsOpening before self.new (making (argument index ∷ []) v) Limits.Arguments most_arguments (suc index) v) }
+        ensures made { (before : List SiteTerm) (v : Visit) → StandsAt before self.old v → IfOk result (λ n. (index < most_arguments) × ValuesTo before self.old self.new (valued (argument index) (taking_argument index v)) n) }
+        ensures full { (before : List SiteTerm) (v : Visit) → StandsAt before self.old v → IfErr result (EndsOpening before self.new (taking_argument index v) Limits.Arguments most_arguments (suc index) v) }
     {
         let Ok(index) = TupleIndex::try_from(index) else {
             return Err(VisitFault::Limit(Limit::Arguments));

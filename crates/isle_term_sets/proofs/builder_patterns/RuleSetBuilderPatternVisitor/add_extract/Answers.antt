@@ -1,13 +1,12 @@
-use Rattle.std.proofs.Common.{◌≡◌, ◌≤◌, length, sym, ◌∙◌, subst, arith}
+use Rattle.std.proofs.Common.{◌≡◌, ◌≤◌, [], ◌∷◌, length, sym, ◌∙◌, subst, arith}
 use Rattle.std.specs.Prelude.{MatchResult}
 use Rattle.std.proofs.lemmas.List.{length-map}
 use Rattle.isle_base.specs.declared.syntax.Limit.TheVariants as Limits
-use Rattle.isle_model.specs.rules.Typed.{no_typed_pattern}
 use Rattle.isle_model.specs.sites.Sites.{extractor_call, unfold_site}
-use Rattle.isle_model.specs.visits.Demands.{open_call}
+use Rattle.isle_model.specs.visits.Demands.{making, open_call}
 use Rattle.isle_model.specs.sites.Limits.{most_outputs}
 use Rattle.isle_typed.specs.VisitAnswers.{listed, type_numbers}
-use Rattle.isle_term_sets.specs.VisitedSites.{EndsOpening, OpensTo, built_sites}
+use Rattle.isle_term_sets.specs.VisitedSites.{EndsOpening, OpensTo, answered, built_sites}
 use Rattle.isle_term_sets.proofs.BuilderFields.{listed_both}
 use Rattle.isle_term_sets.proofs.builder_patterns.RuleSetBuilderPatternVisitor.add_extract.Goals as goal
 
@@ -21,7 +20,7 @@ returns-clause-steps c before v flags args h l is e =
     let new = c.open_extractor.new.self in
     let call = extractor_call c.args.term.0 (unfold_site (built_sites old) c.args.input) in
     let wanted = open_call flags c.args.infallible call args v in
-    let limited = (open_call flags c.args.infallible call no_typed_pattern v).visit in
+    let limited = answered c.args.multi c.args.infallible call (making (call ∷ []) v) in
     subst (λ k. MatchResult (listed c.open_extractor.result) (λ ids. (k ≤ most_outputs) × OpensTo before old new wanted ids) (EndsOpening before new wanted.visit Limits.Outputs most_outputs k limited)) same
     (listed_both c.open_extractor.result (λ ids. (c.len.result ≤ most_outputs) × OpensTo before old new wanted ids) (EndsOpening before new wanted.visit Limits.Outputs most_outputs c.len.result limited)
     (c.open_extractor.ensures.opened before v flags args h l is (e ∙ sym same)) (c.open_extractor.ensures.full before v flags args h l is (e ∙ sym same)))

@@ -19,7 +19,7 @@ returns-in-Ok-clause-goes c p before w reachable =
     let mid : TermSet = record { builder = after; rules = c.args.self.now.rules } in
     let closed = c.in-Ok.ensures.closed before (visit_rule p r).visit w.stands in
     on_ok_then _ _ c.push_rule.result
-    (goes_on_added p before r c.args.self.now w.stands w.few reachable after closed.0 closed.1 c.in-Ok.ensures.calls.0 c.in-Ok.ensures.calls.1 c.args.rule.now c.args.value mid c.push_rule.new.self c.args.errors.now.items refl w.site refl
+    (goes_on_added p before r c.args.self.now w.stands reachable after closed.0 closed.1 c.in-Ok.ensures.calls.0 c.in-Ok.ensures.calls.1 c.args.rule.now c.args.value mid c.push_rule.new.self c.args.errors.now.items refl w.site refl
     c.push_rule.ensures.table)
     (c.push_rule.ensures.added (closing most_closing_steps (before_closing before (demands_of p r))) closed.1.demands)
 
@@ -30,8 +30,8 @@ returns-in-Err-clause-goes c p before w reachable =
     let after = c.close.new.self in
     let mid : TermSet = record { builder = after; rules = c.args.self.now.rules } in
     let rules = set_rule_views c.args.self.now.rules.items in
-    let ends = closing_ends p before r rules b after w.stands w.few reachable c.in-Err.fault c.in-Err.ensures.kept (c.in-Err.ensures.full before (visit_rule p r).visit w.stands) in
+    let ends = closing_ends p before r rules b after w.stands reachable c.in-Err.fault c.in-Err.ensures.kept (c.in-Err.ensures.full before (visit_rule p r).visit w.stands) in
     on_ok_then _ _ c.report_fault.result
     (goes_on_limited p before r after c.args.errors.now.items c.report_fault.new.errors.items c.args.rule.now.pos c.args.self.now mid c.in-Err.fault (with_sites before (demands_of p r).made) refl refl refl w.stands.demands.stand
-    (visited_stay p before r rules b w.stands w.few reachable) ends)
+    (visited_stay p before r rules b w.stands reachable) ends)
     c.report_fault.ensures.says

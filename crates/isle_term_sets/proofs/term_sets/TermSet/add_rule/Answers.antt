@@ -23,7 +23,7 @@ add_visited-requires g c =
     let before = c.requires.may.1 in
     let m = c.requires.may.2 in
     let v = c.in-Ok.ensures.visited p before m.terms m.formed (c.start_rule.ensures.started before m.table m.once m.stand) in
-    record { visited = (before, (visit_rule p (rule_view c.args.rule.now)).visit, v.0.goes.stands) }
+    record { visited = (before, (visit_rule p (rule_view c.args.rule.now)).visit, v.goes.stands) }
 
 pub report_fault-requires : goal.report_fault-requires
 report_fault-requires g c =
@@ -41,9 +41,9 @@ returns-in-Ok-clause-goes g c p before m =
     let same = c.start_rule.ensures.kept in
     on_ok_then _ _ c.add_visited.result
     (goes_on_from p before r c.args.self.now mid c.add_visited.new.self c.args.errors.now.items c.add_visited.new.errors.items refl
-    (λ s l. v.0.goes.kept s (subst (λ ss. s < length ss) (sym same) l) ∙ ap (λ ss. unfold_site ss s) same)
-    (subst (λ ss. length ss ≤ length (built_sites c.visit_rule.new.self)) same v.0.goes.longer))
-    (c.add_visited.ensures.goes p before (record { few = v.1; stands = v.0.goes.stands; site = v.0.site }))
+    (λ s l. v.goes.kept s (subst (λ ss. s < length ss) (sym same) l) ∙ ap (λ ss. unfold_site ss s) same)
+    (subst (λ ss. length ss ≤ length (built_sites c.visit_rule.new.self)) same v.goes.longer))
+    (c.add_visited.ensures.goes p before (record { stands = v.goes.stands; site = v.site }))
 
 pub returns-in-Err-clause-goes : goal.returns-in-Err-clause-goes
 returns-in-Err-clause-goes g c p before m =

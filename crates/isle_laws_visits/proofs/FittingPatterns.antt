@@ -9,16 +9,24 @@ use Rattle.isle_model.specs.rules.Program.{Program}
 use Rattle.isle_model.specs.rules.Typed.{TypedPattern, match_bind, match_var, match_bool, match_int, match_prim, match_term, match_any, match_and, TypedPatterns, no_typed_pattern, typed_pattern_and}
 use Rattle.isle_model.specs.visits.Demands.{pattern_count}
 use Rattle.isle_model.proofs.Elements.{none_some}
+use Rattle.isle_model.proofs.Options.{then_some}
 use Rattle.isle_laws_lists.proofs.FormedParts.{from_if}
-use Rattle.isle_term_sets.proofs.VisitedPatterns.{Fits, FitAll, FitsTerm}
 
-abbrev Bound : Type 0
-Bound = Option (List (ℕ × ℕ))
+-- a term that is there, at a type, with n arguments
+abbrev pub FitsTerm : ℕ → ℕ → Option TermEntry → Type 0
+FitsTerm ty n None = ⊥
+FitsTerm ty n (Some e) = (e.ret_ty ≡ ty) × (length e.arg_tys ≡ n)
 
--- what is there under a test stands where the test passes
-pub first_there : {X Y : Type 0} (o : Option X) (f : X → Option Y) (y : Y) → then_option o f ≡ Some y → (x : X) × (o ≡ Some x) × (f x ≡ Some y)
-first_there None f y e = absurd (none_some y e)
-first_there (Some x) f y e = (x, refl, e)
+abbrev mutual
+  pub Fits : Program → TypedPattern → Type 0
+  Fits p (match_bind ty x of) = Fits p of
+  Fits p (match_term ty term args) = FitsTerm ty (pattern_count args) (slice_get p.terms term) × FitAll p args
+  Fits p (match_and ty parts) = FitAll p parts
+  Fits p _ = Unit {0}
+
+  pub FitAll : Program → TypedPatterns → Type 0
+  FitAll p no_typed_pattern = Unit {0}
+  FitAll p (typed_pattern_and q rest) = Fits p q × FitAll p rest
 
 module _ (p : Program) where
   term_fits : (ty : ℕ) (args : TypedPatterns) (o : Option TermEntry) (vars more : List (ℕ × ℕ))
@@ -34,7 +42,7 @@ module _ (p : Program) where
     pub formed_fits : (q : TypedPattern) (vars more : List (ℕ × ℕ)) → formed_pattern p q vars ≡ Some more → Fits p q
     formed_fits (match_bind ty x of) vars more e =
         let a = from_if (pattern_type of == ty) (then_option (formed_pattern p of vars) (with_new x ty)) more e in
-        let b = first_there (formed_pattern p of vars) (with_new x ty) more a.1 in
+        let b = then_some (formed_pattern p of vars) (with_new x ty) more a.1 in
         formed_fits of vars b.0 b.1
     formed_fits (match_var ty x) vars more e = tt
     formed_fits (match_bool ty b) vars more e = tt
@@ -44,13 +52,13 @@ module _ (p : Program) where
     formed_fits (match_any ty) vars more e = tt
     formed_fits (match_and ty parts) vars more e = each_fits parts ty vars more e
 
-    parts_fit : (qs : TypedPatterns) (tys : List ℕ) (vars more : List (ℕ × ℕ)) → formed_parts p qs tys vars ≡ Some more → (length tys ≡ pattern_count qs) × FitAll p qs
+    pub parts_fit : (qs : TypedPatterns) (tys : List ℕ) (vars more : List (ℕ × ℕ)) → formed_parts p qs tys vars ≡ Some more → (length tys ≡ pattern_count qs) × FitAll p qs
     parts_fit no_typed_pattern [] vars more e = (refl, tt)
     parts_fit no_typed_pattern (ty ∷ tys) vars more e = absurd (none_some more e)
     parts_fit (typed_pattern_and q rest) [] vars more e = absurd (none_some more e)
     parts_fit (typed_pattern_and q rest) (ty ∷ tys) vars more e =
         let a = from_if (pattern_type q == ty) (then_option (formed_pattern p q vars) (λ ws. formed_parts p rest tys ws)) more e in
-        let b = first_there (formed_pattern p q vars) (λ ws. formed_parts p rest tys ws) more a.1 in
+        let b = then_some (formed_pattern p q vars) (λ ws. formed_parts p rest tys ws) more a.1 in
         let c = parts_fit rest tys b.0 more b.2 in
         (ap suc c.0, (formed_fits q vars b.0 b.1, c.1))
 
@@ -58,5 +66,5 @@ module _ (p : Program) where
     each_fits no_typed_pattern ty vars more e = tt
     each_fits (typed_pattern_and q rest) ty vars more e =
         let a = from_if (pattern_type q == ty) (then_option (formed_pattern p q vars) (λ ws. formed_each p rest ty ws)) more e in
-        let b = first_there (formed_pattern p q vars) (λ ws. formed_each p rest ty ws) more a.1 in
+        let b = then_some (formed_pattern p q vars) (λ ws. formed_each p rest ty ws) more a.1 in
         (formed_fits q vars b.0 b.1, each_fits rest ty b.0 more b.2)

@@ -6,10 +6,10 @@ use Rattle.isle_model.specs.lists.Tables.{Flags}
 use Rattle.isle_model.specs.rules.Program.{Program, Kind, a_variant, a_struct, a_call, unknown, kind}
 use Rattle.isle_model.specs.sites.Sites.{Constraint, is_variant, is_struct, is_bool, is_int, is_prim, is_present, SiteTerm, bool_term, int_term, prim_term, argument, extractor_call, constructor_call, pick_of, variant_made, variant_field, struct_made, struct_field, some_part, tuple_part, no_site, SiteTerms}
 use Rattle.isle_model.specs.rules.Typed.{TypedPattern, match_bind, match_var, match_bool, match_int, match_prim, match_term, match_any, match_and, TypedPatterns, no_typed_pattern, typed_pattern_and, TypedExpr, make_term, make_var, make_bool, make_int, make_prim, make_let, TypedExprs, no_typed_expr, typed_expr_and, TypedLets, no_typed_let, typed_let_and}
-use Rattle.isle_model.specs.visits.Demands.{site_term_eq, Visit, visit_start, making, asking, equating, iterating, calling, binding, or_no_site, var_site, from_to, pattern_count, Opened, opened, output_sites, part_sites, open_call, open_term, visit_pattern, visit_each, visit_all, Valued, ValuedAll, valued, call_result, call_sites, where_multi, visit_call, visit_term, visit_expr, visit_exprs, visit_lets, unwraps, unwraps_all, asking_all}
+use Rattle.isle_model.specs.visits.Demands.{Count, fields_matched, outputs_taken, site_term_eq, Visit, visit_start, making, counting, asking, equating, iterating, calling, binding, or_no_site, var_site, from_to, pattern_count, Opened, output_sites, part_sites, outputs_opened, open_call, open_term, visit_pattern, visit_each, visit_all, Valued, ValuedAll, valued, call_result, call_sites, where_multi, visit_call, visit_term, visit_expr, visit_exprs, visit_lets, unwraps, unwraps_all, asking_all}
 use Rattle.isle_model.proofs.Elements.{In, in_from_contains, in_either}
 use Rattle.isle_laws_demands.proofs.visits.Patterns.{in_numbers}
-use Rattle.isle_term_sets.specs.VisitedSites.{AsksNothingElse}
+use Rattle.isle_laws_visits.specs.Followers.{AsksNothingElse}
 
 -- whether a call of a term of this kind may answer nothing, in a pattern and in an expression
 abbrev extractor_lacks : Kind → Bool
@@ -41,6 +41,9 @@ module _ (p : Program) where
 
   pub after_making : (ts : List SiteTerm) (v : Visit) → IsQuiet v → IsQuiet (making ts v)
   after_making ts v h = record { vars = h.vars; asked = h.asked }
+
+  pub after_counting : (c : Count) (v : Visit) → IsQuiet v → IsQuiet (counting c v)
+  after_counting c v h = record { vars = h.vars; asked = h.asked }
 
   after_calling : (s : SiteTerm) (v : Visit) → IsQuiet v → IsQuiet (calling s v)
   after_calling s v h = record { vars = h.vars; asked = h.asked }
@@ -99,8 +102,9 @@ module _ (p : Program) where
   outputs_plain s (typed_pattern_and q (typed_pattern_and r rs)) h u i =
       let k = in_numbers (tuple_part s) 0 (typed_pattern_and q (typed_pattern_and r rs)) u i in subst IsPlain k.2 (refl, h.1)
 
-  with_parts : (s : SiteTerm) (args : TypedPatterns) (w : Visit) → IsQuiet w → IsPlain s → IsOpened (opened (output_sites s args) (making (part_sites s args) w))
-  with_parts s args w h o = record { after = after_making (part_sites s args) w h; inputs = outputs_plain s args o }
+  with_parts : (s : SiteTerm) (args : TypedPatterns) (w : Visit) → IsQuiet w → IsPlain s → IsOpened (outputs_opened s args w)
+  with_parts s args w h o =
+      let c = outputs_taken (pattern_count args) in record { after = after_making (part_sites s args) (counting c w) (after_counting c w h); inputs = outputs_plain s args o }
 
   call_opened : (pure multi partial rec infallible : Bool) (t : ℕ) (s : SiteTerm) (args : TypedPatterns) (v : Visit) → extractor_lacks (kind p t) ≡ (not multi && not infallible) → IsQuiet v → IsPlain s
       → IsOpened (open_call (record { pure = pure; multi = multi; partial = partial; rec = rec }) infallible (extractor_call t s) args v)
@@ -118,17 +122,21 @@ module _ (p : Program) where
 
   term_opened : (k : Kind) (t : ℕ) (s : SiteTerm) (args : TypedPatterns) (v : Visit) → kind p t ≡ k → IsQuiet v → IsPlain s → IsOpened (open_term k t s args v)
   term_opened (a_variant ty variant) t s args v e h o =
+      let n = pattern_count args in
+      let w = counting (fields_matched n) v in
       let fields = from_to (variant_field s variant) 0 args in
-      let c = is_variant ty variant (pattern_count args) in
+      let c = is_variant ty variant n in
       record {
-        after = after_asking s c (making fields v) (after_making fields v h) (not_lacking s c o.0);
+        after = after_asking s c (making fields w) (after_making fields w (after_counting (fields_matched n) v h)) (not_lacking s c o.0);
         inputs = λ u i. let k = in_numbers (variant_field s variant) 0 args u i in subst IsPlain k.2 (refl, o.1);
       }
   term_opened (a_struct ty) t s args v e h o =
+      let n = pattern_count args in
+      let w = counting (fields_matched n) v in
       let fields = from_to (struct_field s) 0 args in
-      let c = is_struct ty (pattern_count args) in
+      let c = is_struct ty n in
       record {
-        after = after_asking s c (making fields v) (after_making fields v h) (not_lacking s c o.0);
+        after = after_asking s c (making fields w) (after_making fields w (after_counting (fields_matched n) v h)) (not_lacking s c o.0);
         inputs = λ u i. let k = in_numbers (struct_field s) 0 args u i in subst IsPlain k.2 (refl, o.1);
       }
   term_opened (a_call flags infallible) t s args v e h o = call_opened flags.pure flags.multi flags.partial flags.rec infallible t s args v (ap extractor_lacks e) h o
