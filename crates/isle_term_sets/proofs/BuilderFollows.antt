@@ -1,14 +1,15 @@
 -- The builder of a rule set follows the visitor of sites: what it has shown of its steps is what the law of visits asks.
 use Rattle.std.proofs.Common.{◌≡◌, ◌<◌, ◌≤◌, ℕ, zero, suc, Bool, true, false, not, List, [], ◌∷◌, length, map, All, Option, Some, None, refl, sym, ap, ap₂, ◌∙◌, subst, arith}
-use Rattle.std.specs.Prelude.{Result, Ok, Err, MatchResult}
+use Rattle.std.specs.Prelude.{Result, Ok, Err, MatchResult, alloc_error}
 use Rattle.std.specs.List.{AllZip}
 use Rattle.std.proofs.lemmas.List.Elements.{All-head, All-tail}
-use Rattle.isle_base.specs.declared.syntax.Limit.{Limit}
+use Rattle.isle_base.specs.declared.syntax.Limit.TheVariants as Limits
 use Rattle.isle_base.specs.declared.visit_fault.VisitFault.{VisitFault}
+use Rattle.isle_base.specs.declared.visit_fault.VisitFault.TheVariants.{Memory}
 use Rattle.isle_model.specs.lists.Tables.{Flags}
-use Rattle.isle_model.specs.sites.Limits.{first_passed}
-use Rattle.isle_model.specs.sites.Sites.{Constraint, is_variant, is_struct, is_bool, is_int, is_prim, is_present, SiteTerm, SiteTerms, no_site_term, site_term_and, argument, bool_term, int_term, prim_term, struct_made, unfold_site, variant_made}
-use Rattle.isle_model.specs.visits.Demands.{Visit, Opened, Valued, asking, asking_all, binding, calling, call_result, call_sites, constructor_call, equating, iterating, making, open_call, pattern_count, site_term_eq, taking_argument, unwraps, valued, visit_call, where_multi}
+use Rattle.isle_model.specs.sites.Limits.{first_passed, most_arguments, most_fields, most_outputs}
+use Rattle.isle_model.specs.sites.Sites.{Constraint, is_variant, is_struct, is_bool, is_int, is_prim, is_present, SiteTerm, SiteTerms, no_site_term, site_term_and, argument, bool_term, constructor_call, extractor_call, int_term, prim_term, struct_made, unfold_site, variant_made}
+use Rattle.isle_model.specs.visits.Demands.{Visit, Opened, Valued, asking, asking_all, binding, call_sites, equating, iterating, making, pattern_count, site_term_eq, taking_argument, unwraps, valued, visit_call, where_multi}
 use Rattle.isle_model.specs.visits.SiteVisitor.{any_parts, extractor_opened, fields_opened, value_made}
 use Rattle.isle_model.proofs.Either.{either}
 use Rattle.isle_model.proofs.Elements.{some_is}
@@ -20,8 +21,10 @@ use Rattle.isle_term_sets.specs.contracts.builder_patterns.RuleSetBuilderPattern
 use Rattle.isle_term_sets.specs.contracts.builder_exprs.RuleSetBuilderExprVisitor.TheImpl as Exprs
 use Rattle.isle_term_sets.specs.contracts.builder_rules.RuleSetBuilderRuleVisitor.TheImpl as Rules
 use Rattle.isle_term_sets.specs.declared.ruleset_builder.RuleSetBuilder.{RuleSetBuilder}
-use Rattle.isle_term_sets.specs.VisitedSites.{AreSitesOf, EndsBefore, EndsOpening, EndsVisit, GoesTo, HaveSites, IsSiteOf, Makes, OpensTo, StandsAt, ValuesTo, built_sites, input_ids, input_terms}
-use Rattle.isle_term_sets.proofs.EndedSteps.{bound_stands, ends_further, ends_visit, opening_ended, site_stays}
+use Rattle.isle_term_sets.specs.VisitedSites.{AreSitesOf, EndsBefore, EndsOpening, EndsVisit, GoesTo, HaveSites, IsSiteOf, OpensTo, StandsAt, ValuesTo, answered, built_sites, input_terms}
+use Rattle.isle_term_sets.proofs.BuilderFields.{site_stays}
+use Rattle.isle_term_sets.proofs.BuilderSteps.{bound_stands}
+use Rattle.isle_term_sets.proofs.EndedSteps.{argument_ends, ends_further, ends_visit, fields_end, outputs_end}
 
 -- 1. how it stands to visits of sites, after these sites of the term's rules before
 abbrev pub follower : List SiteTerm → Follower VisitFault RuleSetBuilder ℕ
@@ -92,6 +95,10 @@ parts_count : (n : ℕ) → pattern_count (any_parts n) ≡ n
 parts_count zero = refl
 parts_count (suc n) = ap suc (parts_count n)
 
+-- where a call has answered, and nothing is counted yet
+abbrev answered_call : Bool → Bool → SiteTerm → Visit → Visit
+answered_call multi infallible call v = answered multi infallible call (making (call ∷ []) v)
+
 -- 3. what counts nothing
 equating_counts : (a b : SiteTerm) (v : Visit) → first_passed v.demands.counted ≡ None → first_passed (equating a b v).demands.counted ≡ None
 equating_counts a b v few = either (λ (w : Visit). first_passed w.demands.counted ≡ None) (site_term_eq a b) v (equated a b v) few few
@@ -143,21 +150,21 @@ module _ (before : List SiteTerm) where
       fields s w u n c count r t h site q =
           opens before s t (count ≤ most_fields) r (fields_opened c count u w)
           (ended_so (λ ids. (count ≤ most_fields) × OpensTo before s t (fields_opened c count u w) ids) (EndsOpening before t (fields_opened c count u w).visit Limits.Fields most_fields count w)
-          (EndsVisit before t (fields_opened c count u w).visit) r (λ e k. fields_ended before t w c count u e h.few k)
+          (EndsVisit before t (fields_opened c count u w).visit) r (λ e k. fields_end before t w c count u e h.few k)
           (subst (λ x. MatchResult r (λ ids. (count ≤ most_fields) × OpensTo before s t (fields_opened c count x w) ids) (EndsOpening before t (fields_opened c count x w).visit Limits.Fields most_fields count w)) site.number q))
 
       outputs : (s : RuleSetBuilder) (w : Visit) (u : SiteTerm) (n term count : ℕ) (infallible multi : Bool) (r : Result (List ℕ) VisitFault) (t : RuleSetBuilder) → StandsAt before s w → IsSiteOf s u n
           → MatchResult r (λ ids. (count ≤ most_outputs) × OpensTo before s t (extractor_opened term count infallible multi (unfold_site (built_sites s) n) w) ids)
-          (EndsOpening before t (extractor_opened term count infallible multi (unfold_site (built_sites s) n) w).visit Limits.Outputs most_outputs count (called multi infallible (extractor_call term (unfold_site (built_sites s) n)) w))
+          (EndsOpening before t (extractor_opened term count infallible multi (unfold_site (built_sites s) n) w).visit Limits.Outputs most_outputs count (answered_call multi infallible (extractor_call term (unfold_site (built_sites s) n)) w))
           → Opens (follower before) s r t (extractor_opened term count infallible multi u w)
       outputs s w u n term count infallible multi r t h site q =
           let o = extractor_opened term count infallible multi u w in
-          let v = called multi infallible (extractor_call term u) w in
+          let v = answered_call multi infallible (extractor_call term u) w in
           opens before s t (count ≤ most_outputs) r o
           (ended_so (λ ids. (count ≤ most_outputs) × OpensTo before s t o ids) (EndsOpening before t o.visit Limits.Outputs most_outputs count v) (EndsVisit before t o.visit) r
-          (λ e k. outputs_ended before t w term count infallible multi u e h.few k)
+          (λ e k. outputs_end before t w (record { pure = true; multi = multi; partial = not infallible; rec = false }) multi infallible (extractor_call term u) (any_parts count) count e refl (parts_count count) h.few k)
           (subst (λ x. MatchResult r (λ ids. (count ≤ most_outputs) × OpensTo before s t (extractor_opened term count infallible multi x w) ids)
-          (EndsOpening before t (extractor_opened term count infallible multi x w).visit Limits.Outputs most_outputs count (called multi infallible (extractor_call term x) w))) site.number q))
+          (EndsOpening before t (extractor_opened term count infallible multi x w).visit Limits.Outputs most_outputs count (answered_call multi infallible (extractor_call term x) w))) site.number q))
 
   in_exprs : FollowsExprs (follower before) (expr_steps Exprs.ghosts)
   in_exprs = record {
@@ -194,7 +201,7 @@ module _ (before : List SiteTerm) where
           → MatchResult r (λ n. (i < most_arguments) × ValuesTo before s t (valued (argument i) (taking_argument i w)) n) (EndsOpening before t (taking_argument i w) Limits.Arguments most_arguments (suc i) w)
           → Gives (follower before) s r t (valued (argument i) (taking_argument i w))
       taken s w i (Ok n) t h q = (goes before s t (taking_argument i w) q.1.goes, q.1.site)
-      taken s w i (Err e) t h q = argument_ended before t w i e h.few q
+      taken s w i (Err e) t h q = argument_ends before t w i e h.few q
 
       matched : (s : RuleSetBuilder) (w : Visit) (u : SiteTerm) (n : ℕ) (r : Result ℕ VisitFault) (t : RuleSetBuilder) → StandsAt before s w → IsSiteOf s u n
           → (let v = asking_all (unwraps (unfold_site (built_sites s) n)) w in MatchResult r (λ m. (m ≡ n) × GoesTo before s t v) (EndsBefore before t v))
@@ -210,7 +217,7 @@ module _ (before : List SiteTerm) where
   ends : EndsOnTheWay (follower before) no_memory
   ends = record {
     bound = λ s w x u h. bound_stands before s w x u h;
-    further = λ t v w e k h. ends_further before t v w e k h;
+    further = λ t v w e k h. ends_further before v w k t e h;
     refused = λ t v e same. subst (EndsVisit before t v) (some_is (Memory alloc_error) e same) tt;
   }
 

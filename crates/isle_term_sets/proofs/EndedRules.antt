@@ -1,5 +1,5 @@
 -- A builder that ended on the way to the end of a rule's visit lacked memory, or met the limit that is met first.
-use Rattle.std.proofs.Common.{◌≡◌, ◌≤◌, ℕ, List, length, take, Option, Some, None, refl, sym, ap, ◌∙◌, subst, inl, inr, arith}
+use Rattle.std.proofs.Common.{◌≡◌, ◌≤◌, ℕ, List, length, Option, Some, None, sym, subst, inl, inr, arith}
 use Rattle.std.proofs.lemmas.Bool.{cases_Bool, cond-true, cond-false}
 use Rattle.std.proofs.lemmas.List.{take_all}
 use Rattle.isle_base.specs.declared.syntax.Limit.TheVariants as Limits
@@ -10,13 +10,12 @@ use Rattle.isle_model.specs.rules.Typed.{TypedRule}
 use Rattle.isle_model.specs.sites.Sites.{SiteTerm}
 use Rattle.isle_model.specs.visits.Demands.{demands_of, visit_rule, with_sites}
 use Rattle.isle_model.specs.sites.Closure.{before_closing, closed, is_unreachable, most_closing_steps}
-use Rattle.isle_model.specs.sites.Limits.{RuleLimit, arguments_limit, fields_limit, limit_of_passed, most_sites, outputs_limit, passed_in_visit, sites_limit, sites_reached, sites_until, sites_wanted}
+use Rattle.isle_model.specs.sites.Limits.{RuleLimit, arguments_limit, fields_limit, most_sites, outputs_limit, passed_in_visit, sites_limit, sites_reached, sites_until, sites_wanted}
 use Rattle.isle_model.specs.sites.RuleSets.{StandFor}
-use Rattle.isle_model.proofs.Elements.{none_some}
 use Rattle.isle_laws_demands.proofs.building.Limits.{limits_are_met_lem}
 use Rattle.isle_sets.proofs.FullTables.{closing_full}
 use Rattle.isle_sets.specs.SiteTables.{AreFirst, IsTable}
-use Rattle.isle_term_sets.specs.VisitedSites.{EndsAtLimit, EndsVisit, HasSites, MeetsLimit, built_sites, sites_made}
+use Rattle.isle_term_sets.specs.VisitedSites.{EndsAtLimit, EndsVisit, MeetsCount, MeetsLimit, built_sites, with_made_until}
 use Rattle.isle_term_sets.specs.declared.ruleset_builder.RuleSetBuilder.{RuleSetBuilder}
 
 module _ (p : Program) (before : List SiteTerm) (r : TypedRule) (b : RuleSetBuilder) where
@@ -36,35 +35,30 @@ module _ (p : Program) (before : List SiteTerm) (r : TypedRule) (b : RuleSetBuil
             (closing_full (built_sites b) most_closing_steps (before_closing before d) (Faults.Limit Limits.Sites) h)
       ]
 
-  made_reached : (o : Option (RuleLimit × ℕ)) → AreFirst (built_sites b) (sites_made before (demands_of p r).made o) → AreFirst (built_sites b) (sites_until p before r o)
+  made_reached : (o : Option (RuleLimit × ℕ)) → AreFirst (built_sites b) (with_made_until before (demands_of p r).made o) → AreFirst (built_sites b) (sites_until p before r o)
   made_reached (Some passed) h = h
   made_reached None h = wanted_after h
 
   -- 2. by what is counted
-  counted_met : (o : Option (RuleLimit × ℕ)) (l : RuleLimit) → passed_in_visit p r ≡ o → limit_of_passed o ≡ Some l → HasSites b (sites_made before (demands_of p r).made o) → MeetsLimit p before r b l
-  counted_met None l e same h = absurd (none_some l same)
-  counted_met (Some passed) l e same h =
-      let reached : sites_reached p before r ≡ with_sites before (take passed.1 (demands_of p r).made) = ap (sites_until p before r) e in
-      let stand : StandFor (built_sites b) (sites_reached p before r) = subst (StandFor (built_sites b)) (sym reached) h.stand in
-      let room = h.table.few in
+  counted_met : (l : RuleLimit) → MeetsCount before b (visit_rule p r).visit l → MeetsLimit p before r b l
+  counted_met l h =
+      let met = limits_are_met_lem p before r in
+      let stand : StandFor (built_sites b) (sites_reached p before r) = subst (StandFor (built_sites b)) (sym (met.reached l h.made h.first)) h.sites.stand in
+      let room = h.sites.table.few in
       let count = stand.count in
       let few : length (sites_reached p before r) ≤ most_sites = omega (arith, room, count) in
       record {
-        first = (limits_are_met_lem p before r).of_visit l passed.1 (e ∙ ap (λ o. some_of o passed.1) same) few;
-        sites = record { table = h.table; stand = subst (StandFor (built_sites b)) (sym (take_all most_sites (sites_reached p before r) few)) stand };
+        first = met.of_visit l h.made h.first few;
+        sites = record { table = h.sites.table; stand = subst (StandFor (built_sites b)) (sym (take_all most_sites (sites_reached p before r) few)) stand };
       }
-    where
-      some_of : Option RuleLimit → ℕ → Option (RuleLimit × ℕ)
-      some_of None n = None
-      some_of (Some m) n = Some (m, n)
 
   -- 3. the visit
   pub visit_ends : (e : VisitFault) → EndsVisit before b (visit_rule p r).visit e → EndsAtLimit p before r b e
   visit_ends (Faults.Memory e) h = tt
   visit_ends (Faults.Limit Limits.Sites) h = too_many h.0 (made_reached (passed_in_visit p r) h.1)
-  visit_ends (Faults.Limit Limits.Fields) h = counted_met (passed_in_visit p r) fields_limit refl h.0 h.1
-  visit_ends (Faults.Limit Limits.Outputs) h = counted_met (passed_in_visit p r) outputs_limit refl h.0 h.1
-  visit_ends (Faults.Limit Limits.Arguments) h = counted_met (passed_in_visit p r) arguments_limit refl h.0 h.1
+  visit_ends (Faults.Limit Limits.Fields) h = counted_met fields_limit h
+  visit_ends (Faults.Limit Limits.Outputs) h = counted_met outputs_limit h
+  visit_ends (Faults.Limit Limits.Arguments) h = counted_met arguments_limit h
   visit_ends (Faults.Limit Limits.Nesting) h = absurd h
   visit_ends (Faults.Limit Limits.Expansions) h = absurd h
   visit_ends Faults.Stopped h = absurd h

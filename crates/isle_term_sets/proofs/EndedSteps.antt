@@ -60,7 +60,7 @@ taken_more n xs ys =
     ]
 
 -- what a visit made until the first count that passes a limit stays at the front of what a later visit made
-module _ (before : List SiteTerm) (v w : Visit) (k : Continues v w) (after : All (λ c. length v.demands.made ≤ c.1) k.counted) where
+module _ (before : List SiteTerm) (v w : Visit) (k : Continues v w) where
   abbrev Later : Type 0
   Later = (more : List SiteTerm) × (sites_made before w ≡ with_sites (sites_made before v) more)
 
@@ -79,7 +79,7 @@ module _ (before : List SiteTerm) (v w : Visit) (k : Continues v w) (after : All
       by : (o : Option (RuleLimit × ℕ)) → first_passed k.counted ≡ o → Later
       by None e = by_then None (first ∙ e) v.demands.made k.made (ap (with_sites before) k.makes) same
       by (Some x) e =
-          let t = taken_past x.1 v.demands.made k.made (first_after k.counted (length v.demands.made) x after e) in
+          let t = taken_past x.1 v.demands.made k.made (first_after k.counted (length v.demands.made) x k.after e) in
           by_then (Some x) (first ∙ e) v.demands.made t.0 (ap (λ us. with_sites before (take x.1 us)) k.makes ∙ ap (with_sites before) t.1) same
 
   after_some : (x : RuleLimit × ℕ) → first_passed v.demands.counted ≡ Some x → Later
@@ -124,9 +124,8 @@ ends_now before b v (Faults.Limit Limits.Nesting) none h = absurd h
 ends_now before b v (Faults.Limit Limits.Expansions) none h = absurd h
 ends_now before b v Faults.Stopped none h = absurd h
 
-pub ends_visit : (before : List SiteTerm) (b : RuleSetBuilder) (u v : Visit) (e : VisitFault) → first_passed u.demands.counted ≡ None → (k : Continues u v) → All (λ c. length u.demands.made ≤ c.1) k.counted
-    → EndsBefore before b u e → EndsVisit before b v e
-ends_visit before b u v e none k after h = ends_further before u v k after b e (ends_now before b u e none h)
+pub ends_visit : (before : List SiteTerm) (b : RuleSetBuilder) (u v : Visit) (e : VisitFault) → first_passed u.demands.counted ≡ None → Continues u v → EndsBefore before b u e → EndsVisit before b v e
+ends_visit before b u v e none k h = ends_further before u v k b e (ends_now before b u e none h)
 
 -- 4. where a step counts something, and makes sites for it
 -- a visit goes on by one count, and by sites
@@ -160,8 +159,8 @@ module _ (before : List SiteTerm) (b : RuleSetBuilder) (u w : Visit) where
       elim h.1 [
         | inl g ↦
             let one : List (Count × ℕ) = (c, length u.demands.made) ∷ [] in
-            ends_visit before b u w e none (record { made = k.made; counted = one; makes = k.makes; counts = k.counts })
-            (All-push (λ d. length u.demands.made ≤ d.1) [] (c, length u.demands.made) (All-nil (λ d. length u.demands.made ≤ d.1)) (omega arith)) g
+            let after = All-push (λ d. length u.demands.made ≤ d.1) [] (c, length u.demands.made) (All-nil (λ d. length u.demands.made ≤ d.1)) (omega arith) in
+            ends_visit before b u w e none (record { made = k.made; counted = one; makes = k.makes; counts = k.counts; after = after }) g
         | inr g ↦ subst (EndsVisit before b w) (sym g.0) (meets (meets_count c l k none (p.many h.0) (record { table = g.1.table; stand = g.1.demands.stand })))
       ]
 

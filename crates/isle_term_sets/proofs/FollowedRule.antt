@@ -1,5 +1,5 @@
 -- The builder's visit of a rule follows the visit of sites, and so does the result that it makes at the end.
-use Rattle.std.proofs.Common.{◌≡◌, ◌<◌, ℕ, Bool, true, List, length, sym, subst}
+use Rattle.std.proofs.Common.{◌≡◌, ◌<◌, ℕ, Bool, true, false, List, [], ◌∷◌, length, None, sym, subst}
 use Rattle.std.specs.Prelude.{Result, Ok, Err, IfErr, IfOk}
 use Rattle.isle_base.specs.declared.visit_fault.VisitFault.{VisitFault}
 use Rattle.isle_model.specs.lists.Formed.{is_formed_rule}
@@ -7,13 +7,13 @@ use Rattle.isle_model.specs.lists.Tables.{TermEntry}
 use Rattle.isle_model.specs.rules.Program.{Program, is_partial}
 use Rattle.isle_model.specs.rules.Typed.{TypedRule}
 use Rattle.isle_model.specs.sites.Limits.{first_passed}
-use Rattle.isle_model.specs.sites.Sites.{SiteTerm, unfold_site}
-use Rattle.isle_model.specs.visits.Demands.{Valued, Visit, finished, valued, visit_rule, visit_start}
+use Rattle.isle_model.specs.sites.Sites.{SiteTerm, some_made, unfold_site}
+use Rattle.isle_model.specs.visits.Demands.{Valued, Visit, finished, valued, value_of_rule, visit_rule, visit_start}
 use Rattle.isle_model.specs.visits.RuleRuns.{RuleRun}
 use Rattle.isle_laws_demands.proofs.visits.Continued.{continues_making, continues_now}
 use Rattle.isle_laws_demands.specs.RuleByRule.{Continues}
 use Rattle.isle_laws_visits.proofs.FollowedRules.{visits_follow_lem}
-use Rattle.isle_laws_visits.specs.Followers.{Gives, value_of_rule}
+use Rattle.isle_laws_visits.specs.Followers.{Gives}
 use Rattle.isle_typed.specs.VisitorSteps.{expr_steps, no_memory, pattern_steps, rule_steps}
 use Rattle.isle_term_sets.specs.contracts.builder_patterns.RuleSetBuilderPatternVisitor.TheImpl as Patterns
 use Rattle.isle_term_sets.specs.contracts.builder_exprs.RuleSetBuilderExprVisitor.TheImpl as Exprs
@@ -40,7 +40,8 @@ module _ (p : Program) (before : List SiteTerm) (r : TypedRule) where
 
   pub rule_ends : (t : RuleSetBuilder) (e : VisitFault) → EndsVisit before t (value_of_rule p r).visit e → EndsAtLimit p before r t e
   rule_ends t e h =
-      visit_ends p before r t e (ends_further before t (value_of_rule p r).visit (visit_rule p r).visit e (finish_continues (is_partial p r.root_term) (value_of_rule p r)) h)
+      let k = finish_continues (is_partial p r.root_term) (value_of_rule p r) in
+      visit_ends p before r t e (ends_further before (value_of_rule p r).visit (visit_rule p r).visit k t e h)
 
   -- its result, in a partial term one that is there
   module _ (old mid new : RuleSetBuilder) (value : ℕ) where

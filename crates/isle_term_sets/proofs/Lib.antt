@@ -3,9 +3,11 @@ pub mod BuilderCalls
 pub mod BuilderFields
 pub mod BuilderSteps
 pub mod EndedSteps
+pub mod BuilderFollows
+pub mod EndedRules
+pub mod FollowedRule
 pub mod AskedAnswers
 pub mod UnwrappedSites
-pub mod AskedNothingElse
 pub mod Lent
 pub mod GrownSites
 pub mod PassingSites

@@ -1,8 +1,4 @@
-use Rattle.std.proofs.Common.{sym, subst}
 use Rattle.std.specs.Prelude.{Ok, Err}
-use Rattle.isle_laws_visits.proofs.FollowedRules.{visits_follow_lem}
-use Rattle.isle_laws_visits.specs.Followers.{value_of_rule}
-use Rattle.isle_model.specs.visits.RuleRuns.{RuleRun}
 use Rattle.isle_sets.proofs.FullTables.{passed_on}
 use Rattle.isle_term_sets.specs.VisitedSites.{EndsAtLimit}
 use Rattle.isle_term_sets.proofs.FollowedRule.{rule_ends, rule_finished, rule_full, rule_seen}
