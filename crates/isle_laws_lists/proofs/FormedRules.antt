@@ -13,7 +13,6 @@ use Rattle.isle_model.specs.lists.Names.{number, with_name}
 use Rattle.isle_model.specs.lists.Elaborated.{typed_list}
 use Rattle.isle_model.specs.lists.Elaborates.{ElaboratesPattern, ElaboratesParts, ElaboratesEach, new_name, bound_name, binding, a_truth, an_integer, a_constant, a_term, a_template, a_conversion, anything, all_of, no_part, part, no_more, one_more, ElaboratesExpr, ElaboratesArgs, ElaboratesLets, a_call, converted_call, a_variable, converted_variable, truth_expr, integer_expr, constant_expr, let_in, no_arg, an_arg, no_def, a_def, ElaboratesIfLets, no_iflet, an_iflet, a_rule}
 use Rattle.isle_model.specs.lists.Formed.{pattern_type, var_type, formed_pattern, formed_parts, formed_each, is_formed_expr, are_formed_args, formed_lets, formed_list, formed_iflets, program_in, RulesAreFormed}
-use Rattle.isle_laws_lists.specs.WellTypedPrograms.{TermsAtIds}
 use Rattle.isle_laws_lists.proofs.Ranges.{reduced_is_literal}
 use Rattle.isle_laws_lists.proofs.Typings.{ne-eqb}
 use Rattle.isle_laws_lists.proofs.TypedResults.{pattern_at_type, expr_at_type}
@@ -83,6 +82,10 @@ kept s t o same le = subst (λ vs. Descends (length t.vars) vs) (sym same) (desc
 
 pushed : (s : Scope) (x : List ℕ) (ty : ℕ) → InOrder s → InOrder (bound s x ty)
 pushed s x ty d = (let m = length_push s.vars (new_var s.vars (number (with_name s.names x) x) ty) in omega (arith, m), d)
+
+-- each term stands at its id
+abbrev pub TermsAtIds : List TermEntry → Type 0
+TermsAtIds terms = (t : ℕ) (e : TermEntry) → slice_get terms t ≡ Some e → e.id ≡ t
 
 module _ (e : Setting) (rules : List TypedRule) (at_ids : TermsAtIds e.terms) where
   abbrev p : Program

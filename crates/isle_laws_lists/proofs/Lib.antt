@@ -29,5 +29,6 @@ pub mod UsesFound
 pub mod VariantTerms
 pub mod VisitableRules
 pub mod WellFormed
+pub mod WellTypedPrograms
 pub mod WellTypedRules
 pub mod WellTypedTerms

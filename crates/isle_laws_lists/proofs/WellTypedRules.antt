@@ -1,6 +1,7 @@
 -- Rules that elaborate are well typed: they hang together, and call what the flags of their terms allow.
 use Rattle.std.proofs.Common.{◌≡◌, ℕ, ℤ, pos, unwrap_or, Bool, true, false, not, ◌&&◌, ◌||◌, List, [], ◌∷◌, take, map, Option, Some, None, option_map, is_some, slice_get, IsTrue, refl, sym, ap, subst, inl, inr, ◌∙◌}
-use Rattle.std.proofs.lemmas.Bool.{cases_Bool, and_parts, false≢true}
+use Rattle.std.proofs.lemmas.Bool.{and_parts, false≢true}
+use Rattle.std.proofs.Math.Bool.{or-true}
 use Rattle.std.proofs.lemmas.Option.{none-some, same_Some}
 use Rattle.isle_model.specs.lists.Syntax.{Definition, PatternTree, PatternTrees, ExprTree, IfLetTree, RuleTree}
 use Rattle.isle_model.specs.lists.Tables.{Flags, TypeEntry, builtin_type, TermEntry, TermKindEntry, variant_term, struct_term, declared_term}
@@ -11,68 +12,37 @@ use Rattle.isle_model.specs.lists.Elaborated.{named_rule, TypedRules, may_have_p
 use Rattle.isle_model.specs.lists.Elaborates.{ElaboratesPattern, ElaboratesParts, ElaboratesEach, new_name, bound_name, binding, a_truth, an_integer, a_constant, a_term, a_template, a_conversion, anything, all_of, no_part, part, no_more, one_more, ElaboratesExpr, ElaboratesIfLets, no_iflet, an_iflet, ElaboratesRule, a_rule, ElaboratesRules, no_rule, one_rule}
 use Rattle.isle_model.specs.lists.Formed.{is_formed_rule, program_in}
 use Rattle.isle_model.specs.rules.CalledTerms.{CallsAlone}
-use Rattle.isle_model.specs.rules.CallsNoMulti.{WhereKnown, PatternCallsNoMulti, PatternsCallNoMulti, ArgsCallNoMulti, IfLetsCallNoMulti}
-use Rattle.isle_model.specs.rules.Program.{Program, Kind, a_variant, a_struct, a_call, unknown, kind_of, kind, always_answers, flags_of, is_multi, is_partial, is_pure}
+use Rattle.isle_model.specs.rules.CallsNoMulti.{WhereKnown, PatternCallsNoMulti, PatternsCallNoMulti, ArgsCallNoMulti}
+use Rattle.isle_model.specs.rules.Program.{Program, Kind, a_variant, a_struct, a_call, unknown, kind_of, kind, flags_of}
 use Rattle.isle_model.specs.rules.Typed.{TypedPattern, TypedPatterns, no_typed_pattern, typed_pattern_and, TypedExpr, TypedIfLet, TypedRule}
 use Rattle.isle_model.specs.claims.Environments.{types_read, setting_of, IsRead}
 use Rattle.isle_model.specs.claims.Layers.{own_program}
-use Rattle.isle_model.specs.sites.DemandedGates.{ArePureIfLets, HasNoPartialMulti}
-use Rattle.isle_model.proofs.CalledTerms.{calls_such}
 use Rattle.isle_model.proofs.Elements.{In, in_from_contains, in_map}
-use Rattle.isle_laws_lists.specs.WellTypedPrograms.{TermsAtIds, IsWellTypedRule, IsWellTypedProgram, ElaboratedProgramsAreWellTyped}
+use Rattle.isle_laws_lists.specs.WellTypedPrograms.{MayCall, IfLetsMayCall, IsWellTypedRule, IsWellTypedProgram, ElaboratedProgramsAreWellTyped}
 use Rattle.isle_laws_lists.proofs.ElaboratedCalls.{expr_calls}
-use Rattle.isle_laws_lists.proofs.FormedRules.{at_id, rules_are_formed}
+use Rattle.isle_laws_lists.proofs.FormedRules.{TermsAtIds, at_id, rules_are_formed}
 use Rattle.isle_laws_lists.proofs.TermLaws.{terms_stand_at_ids_lem}
 use Rattle.isle_laws_lists.proofs.TypedRules.{lists_agree}
+use Rattle.isle_laws_lists.proofs.WellTypedPrograms.{kind_by, none_allowed}
 use Rattle.isle_laws_lists.proofs.WellTypedTerms.{none_is_both, has_typed_parts}
 
 -- 1. flags
--- what some flags allow: what is pure alone where they are pure, nothing multi where they aren't multi, and nothing partial
--- where they aren't partial
-record Allows (flags own : Flags) : Type 0 where
-  pure : flags.pure ≡ true → own.pure ≡ true
-  multi : flags.multi ≡ false → own.multi ≡ false
-  partial : flags.partial ≡ false → own.partial ≡ false
+-- flags allow variants and structs
+made_allowed : (flags : Flags) → allow flags (record { pure = true; multi = false; partial = false; rec = false }) ≡ true
+made_allowed flags = rw (or-true (not flags.pure), or-true flags.multi, or-true flags.partial) refl
 
-none_allowed : (b own : Bool) → (b || not own) ≡ true → b ≡ false → own ≡ false
-none_allowed true own h e = absurd (false≢true (sym e))
-none_allowed false true h e = absurd (false≢true h)
-none_allowed false false h e = refl
-
-allows : (flags own : Flags) → allow flags own ≡ true → Allows flags own
-allows flags own h =
-    let a = and_parts (not flags.pure || own.pure) ((flags.multi || not own.multi) && (flags.partial || not own.partial)) h in
-    let b = and_parts (flags.multi || not own.multi) (flags.partial || not own.partial) a.1 in
-    record {
-      pure = λ q. subst (λ b. (not b || own.pure) ≡ true) q a.0;
-      multi = none_allowed flags.multi own.multi b.0;
-      partial = none_allowed flags.partial own.partial b.1;
-    }
-
--- what variants and structs need
-made_allowed : (flags : Flags) → Allows flags (record { pure = true; multi = false; partial = false; rec = false })
-made_allowed flags = record { pure = λ q. refl; multi = λ q. refl; partial = λ q. refl }
-
-callable_allowed : (flags : Flags) (t : TermEntry) → is_callable flags t.kind ≡ true → Allows flags (flags_of (kind_of t))
+callable_allowed : (flags : Flags) (t : TermEntry) → is_callable flags t.kind ≡ true → allow flags (flags_of (kind_of t)) ≡ true
 callable_allowed flags t c = by t.kind c
   where
-    by : (k : TermKindEntry) → is_callable flags k ≡ true → Allows flags (flags_of (elim k as (λ _. Kind) [
-      | variant_term variant ↦ a_variant t.ret_ty variant
-      | struct_term ↦ a_struct t.ret_ty
-      | declared_term own constructor_kind extractor_kind ↦ a_call own (always_answers own extractor_kind)
-    ]))
+    by : (k : TermKindEntry) → is_callable flags k ≡ true → allow flags (flags_of (kind_by t.ret_ty k)) ≡ true
     by (variant_term i) q = made_allowed flags
     by struct_term q = made_allowed flags
-    by (declared_term own k x) q = allows flags own (and_parts (is_some k) (allow flags own) q).1
+    by (declared_term own k x) q = (and_parts (is_some k) (allow flags own) q).1
 
 matchable_single : (multi : Bool) → multi ≡ false → (t : TermEntry) → is_matchable multi t.kind ≡ true → (flags_of (kind_of t)).multi ≡ false
 matchable_single multi m t c = by t.kind c
   where
-    by : (k : TermKindEntry) → is_matchable multi k ≡ true → (flags_of (elim k as (λ _. Kind) [
-      | variant_term variant ↦ a_variant t.ret_ty variant
-      | struct_term ↦ a_struct t.ret_ty
-      | declared_term own constructor_kind extractor_kind ↦ a_call own (always_answers own extractor_kind)
-    ])).multi ≡ false
+    by : (k : TermKindEntry) → is_matchable multi k ≡ true → (flags_of (kind_by t.ret_ty k)).multi ≡ false
     by (variant_term i) q = refl
     by struct_term q = refl
     by (declared_term own k x) q = none_allowed multi own.multi (and_parts (is_some x) (multi || not own.multi) q).1 m
@@ -81,11 +51,7 @@ matchable_single multi m t c = by t.kind c
 declared_are : (flags : Flags) (t : TermEntry) → declared_flags t.kind ≡ Some flags → flags_of (kind_of t) ≡ flags
 declared_are flags t h = by t.kind h
   where
-    by : (k : TermKindEntry) → declared_flags k ≡ Some flags → flags_of (elim k as (λ _. Kind) [
-      | variant_term variant ↦ a_variant t.ret_ty variant
-      | struct_term ↦ a_struct t.ret_ty
-      | declared_term own constructor_kind extractor_kind ↦ a_call own (always_answers own extractor_kind)
-    ]) ≡ flags
+    by : (k : TermKindEntry) → declared_flags k ≡ Some flags → flags_of (kind_by t.ret_ty k) ≡ flags
     by (variant_term i) q = absurd (none-some flags q)
     by struct_term q = absurd (none-some flags q)
     by (declared_term own k x) q = same_Some own flags q
@@ -116,14 +82,8 @@ module _ (e : Setting) (rules : List TypedRule) (at_ids : TermsAtIds e.terms) wh
   kind_named : (name : ℕ) (t : TermEntry) → entry_named name e.terms ≡ Some t → kind p t.id ≡ kind_of t
   kind_named name t n = ap (λ o. elim o as (λ _. Kind) [ None ↦ unknown | Some x ↦ kind_of x ]) (at_id e rules at_ids name t n)
 
-  abbrev IsAllowed : Flags → ℕ → Type 0
-  IsAllowed flags t = Allows flags (flags_of (kind p t))
-
-  expr_allowed : (flags : Flags) {d n : ℕ} {ty : Option ℕ} {x : ExprTree} {s t : Scope} {q : TypedExpr} → ElaboratesExpr e flags d x ty s q t n → CallsAlone (IsAllowed flags) q
-  expr_allowed flags g = expr_calls e flags (IsAllowed flags) (λ name t n c. subst (λ k. Allows flags (flags_of k)) (sym (kind_named name t n)) (callable_allowed flags t c)) g
-
-  single_expr : (flags : Flags) → flags.multi ≡ false → {d n : ℕ} {ty : Option ℕ} {x : ExprTree} {s t : Scope} {q : TypedExpr} → ElaboratesExpr e flags d x ty s q t n → CallsAlone (λ t. is_multi p t ≡ false) q
-  single_expr flags m {q = q} g = calls_such (IsAllowed flags) (λ t. is_multi p t ≡ false) (λ t a. a.multi m) q (expr_allowed flags g)
+  expr_allowed : (flags : Flags) {d n : ℕ} {ty : Option ℕ} {x : ExprTree} {s t : Scope} {q : TypedExpr} → ElaboratesExpr e flags d x ty s q t n → CallsAlone (MayCall p flags) q
+  expr_allowed flags g = expr_calls e flags (MayCall p flags) (λ name t n c. subst (λ k. IsTrue (allow flags (flags_of k))) (sym (kind_named name t n)) (callable_allowed flags t c)) g
 
   module _ (multi : Bool) (m : multi ≡ false) where
     mutual
@@ -149,55 +109,45 @@ module _ (e : Setting) (rules : List TypedRule) (at_ids : TermsAtIds e.terms) wh
       each_single no_more = tt
       each_single (one_more g i) = (pattern_single g, each_single i)
 
-  iflets_single : (flags : Flags) → flags.multi ≡ false → {d n : ℕ} {is : List IfLetTree} {s t : Scope} {qs : List TypedIfLet} → ElaboratesIfLets e flags d is s qs t n → IfLetsCallNoMulti p qs
-  iflets_single flags m no_iflet = tt
-  iflets_single flags m (an_iflet g i k) = (pattern_single flags.multi m i, single_expr (on_lhs flags) m g, iflets_single flags m k)
+  iflets_allowed : (flags : Flags) {d n : ℕ} {is : List IfLetTree} {s t : Scope} {qs : List TypedIfLet} → ElaboratesIfLets e flags d is s qs t n → IfLetsMayCall p flags qs
+  iflets_allowed flags no_iflet = tt
+  iflets_allowed flags (an_iflet g i k) = (λ m. pattern_single flags.multi m i, expr_allowed (on_lhs flags) g, iflets_allowed flags k)
 
-  iflets_pure : (flags : Flags) {d n : ℕ} {is : List IfLetTree} {s t : Scope} {qs : List TypedIfLet} → ElaboratesIfLets e flags d is s qs t n → ArePureIfLets p qs
-  iflets_pure flags no_iflet = tt
-  iflets_pure flags (an_iflet {x = x} g i k) =
-      (calls_such (IsAllowed (on_lhs flags)) (λ t. IsTrue (is_pure p t)) (λ t a. a.pure refl) x (expr_allowed (on_lhs flags) g), iflets_pure flags k)
-
-  rule_typed : HasNoPartialMulti p → {d id n : ℕ} {r : RuleTree} {names : List (List ℕ)} {q : TypedRule} {t : Scope} → ElaboratesRule e d id r names q t n → is_formed_rule p q ≡ true → IsWellTypedRule p q
-  rule_typed neither {r = r} (a_rule {entry = entry} {flags = flags} {args = args} {rhs = rhs} i j k l f g x) formed = record {
+  rule_typed : {d id n : ℕ} {r : RuleTree} {names : List (List ℕ)} {q : TypedRule} {t : Scope} → ElaboratesRule e d id r names q t n → is_formed_rule p q ≡ true → IsWellTypedRule p q
+  rule_typed {r = r} (a_rule {entry = entry} {flags = flags} {args = args} {iflets = iflets} {rhs = rhs} i j k l f g x) formed = record {
     formed = formed;
-    pure_iflets = iflets_pure flags g;
-    without_multi = λ m.
-        (let single : flags.multi ≡ false = ap (λ (w : Flags). w.multi) same ∙ m in
-        record { patterns = args_from p args (parts_single flags.multi single f); conditions = iflets_single flags single g; right = single_expr flags single x });
-    without_partial = λ m.
-        (let never : is_partial p entry.id ≡ false = elim (cases_Bool (is_partial p entry.id)) [ inl b ↦ absurd (neither entry.id m b) | inr n ↦ n ] in
-        let total : flags.partial ≡ false = ap (λ (w : Flags). w.partial) same ∙ never in
-        calls_such (IsAllowed flags) (λ t. is_partial p t ≡ false) (λ t a. a.partial total) rhs (expr_allowed flags x));
+    patterns = λ m. args_from p args (parts_single flags.multi (ap (λ (w : Flags). w.multi) same ∙ m) f);
+    conditions = subst (λ w. IfLetsMayCall p w iflets) same (iflets_allowed flags g);
+    right = subst (λ w. CallsAlone (MayCall p w) rhs) same (expr_allowed flags x);
     no_priority = λ m. priority_of_multi flags r (ap (λ (w : Flags). w.multi) same ∙ m) l;
   }
     where
       same : flags ≡ flags_of (kind p entry.id)
       same = sym (ap flags_of (kind_named _ entry j) ∙ declared_are flags entry k)
 
-  rules_typed : HasNoPartialMulti p → {id : ℕ} {rs : List RuleTree} {names after : List (List ℕ)} {qs : List TypedRule} → ElaboratesRules e id rs names qs after → (q : TypedRule) → In qs q → IsWellTypedRule p q
-  rules_typed neither no_rule q i = absurd i
-  rules_typed neither (one_rule {q = r} g l rest) q (inl same) = subst (IsWellTypedRule p) same (rule_typed neither g (rules_are_formed e rules at_ids _ _ _ _ r _ _ g))
-  rules_typed neither (one_rule g l rest) q (inr i) = rules_typed neither rest q i
+  rules_typed : {id : ℕ} {rs : List RuleTree} {names after : List (List ℕ)} {qs : List TypedRule} → ElaboratesRules e id rs names qs after → (q : TypedRule) → In qs q → IsWellTypedRule p q
+  rules_typed no_rule q i = absurd i
+  rules_typed (one_rule {q = r} g l rest) q (inl same) = subst (IsWellTypedRule p) same (rule_typed g (rules_are_formed e rules at_ids _ _ _ _ r _ _ g))
+  rules_typed (one_rule g l rest) q (inr i) = rules_typed rest q i
 
   -- a name changes nothing of it
   named_typed : (r : TypedRule) (name : Option ℕ) → IsWellTypedRule p r → IsWellTypedRule p (record r { name = name })
   named_typed r name h = record {
     formed = h.formed;
-    pure_iflets = h.pure_iflets;
-    without_multi = λ m. (let c = h.without_multi m in record { patterns = c.patterns; conditions = c.conditions; right = c.right });
-    without_partial = h.without_partial;
+    patterns = h.patterns;
+    conditions = h.conditions;
+    right = h.right;
     no_priority = h.no_priority;
   }
 
-  all_typed : HasNoPartialMulti p → (trees : List RuleTree) (names : List (List ℕ)) (o : Option TypedRules) (l : TypedRules) → typed_rules e 0 trees names ≡ o → option_map (named e) o ≡ Some l
+  all_typed : (trees : List RuleTree) (names : List (List ℕ)) (o : Option TypedRules) (l : TypedRules) → typed_rules e 0 trees names ≡ o → option_map (named e) o ≡ Some l
       → (q : TypedRule) → In l.rules q → IsWellTypedRule p q
-  all_typed neither trees names None l g h q i = absurd (none-some l h)
-  all_typed neither trees names (Some k) l g h q i =
+  all_typed trees names None l g h q i = absurd (none-some l h)
+  all_typed trees names (Some k) l g h q i =
       let same : named e k ≡ l = same_Some (named e k) l h in
       let j : In (map (named_rule e.terms k.rules) k.rules) q = subst (λ (x : TypedRules). In x.rules q) (sym same) i in
       let m = in_map (named_rule e.terms k.rules) k.rules q j in
-      subst (IsWellTypedRule p) m.2 (named_typed m.0 _ (rules_typed neither ((lists_agree e 0 trees names k.rules k.names).1 g) m.0 m.1))
+      subst (IsWellTypedRule p) m.2 (named_typed m.0 _ (rules_typed ((lists_agree e 0 trees names k.rules k.names).1 g) m.0 m.1))
 
 -- 3. programs
 first_type : (ts : List TypeEntry) → take 13 ts ≡ builtin_from 0 builtin_names → slice_get ts 0 ≡ Some (builtin_type 0)
@@ -207,15 +157,13 @@ first_type (t ∷ ts) e = let same : t ≡ builtin_type 0 = cc in ap Some same
 pub elaborated_programs_are_well_typed_lem : ElaboratedProgramsAreWellTyped
 elaborated_programs_are_well_typed_lem e defs expand rules h =
     let s = setting_of e defs expand in
-    let neither = none_is_both e defs expand rules h in
     let names = term_names_met e.known defs in
     record {
       types = record { ids = h.readable.well_formed.ids; first = first_type e.known.types h.readable.well_formed.builtins };
-      terms = terms_stand_at_ids_lem e.known defs;
       parts = has_typed_parts e defs expand rules h;
-      not_both = neither;
+      not_both = none_is_both e defs expand rules h;
       rules = λ r c.
-          all_typed s rules.rules (terms_stand_at_ids_lem e.known defs) neither (rule_trees defs) names (typed_rules s 0 (rule_trees defs) names) rules refl h.elaborate.typed r
+          all_typed s rules.rules (terms_stand_at_ids_lem e.known defs) (rule_trees defs) names (typed_rules s 0 (rule_trees defs) names) rules refl h.elaborate.typed r
           (in_from_contains rules.rules r c);
     }
 

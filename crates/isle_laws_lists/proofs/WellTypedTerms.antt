@@ -10,7 +10,7 @@ use Rattle.isle_model.specs.lists.TermTable.{decl_trees, term_names_met, IsNotBo
 use Rattle.isle_model.specs.lists.KnownTypes.{KnownTypes, StandAtIds}
 use Rattle.isle_model.specs.lists.Elaborated.{TypedRules}
 use Rattle.isle_model.specs.rules.Values.{field_types, variant_types, struct_types}
-use Rattle.isle_model.specs.rules.Program.{Kind, a_variant, a_struct, a_call, unknown, kind_of, always_answers, flags_of}
+use Rattle.isle_model.specs.rules.Program.{Kind, unknown, kind_of, flags_of}
 use Rattle.isle_model.specs.claims.Environments.{TypesRead, HasVariantsAtIds, IsElaborated, program_of}
 use Rattle.isle_model.specs.sites.DemandedGates.{HasNoPartialMulti}
 use Rattle.isle_model.proofs.Elements.{In, contains_from_in, in_either, in_slice, in_map, from_flat_map, slice_in}
@@ -89,30 +89,10 @@ made_take types ids at (struct_type name id is_extern is_nodebug fields pos) i f
     let here : slice_get types id ≡ Some t = subst (λ n. slice_get types n ≡ Some t) (sym (ids s.0 t s.1)) s.1 in
     elim j [ inl e ↦ subst (Each (TakesFields types)) e (λ n. ap struct_types here) | inr n ↦ absurd n ]
 
-abbrev kind_by : ℕ → TermKindEntry → Kind
-kind_by ret k = elim k as (λ _. Kind) [
-  | variant_term variant ↦ a_variant ret variant
-  | struct_term ↦ a_struct ret
-  | declared_term flags constructor_kind extractor_kind ↦ a_call flags (always_answers flags extractor_kind)
-]
-
-variant_takes : (types : List TypeEntry) (ret : ℕ) (args : List ℕ) (k : TermKindEntry) → Takes types ret args k → (ty i : ℕ) → kind_by ret k ≡ a_variant ty i
-    → (ret ≡ ty) × (variant_types (slice_get types ty) i ≡ Some args)
-variant_takes types ret args (variant_term n) h ty i e =
-    let a : ret ≡ ty = cc in let b : n ≡ i = cc in (a, (λ j. variant_types (slice_get types (sym a j)) (sym b j)) ∙ h)
-variant_takes types ret args struct_term h ty i e = absurd (cc)
-variant_takes types ret args (declared_term flags c x) h ty i e = absurd (cc)
-
-struct_takes : (types : List TypeEntry) (ret : ℕ) (args : List ℕ) (k : TermKindEntry) → Takes types ret args k → (ty : ℕ) → kind_by ret k ≡ a_struct ty
-    → (ret ≡ ty) × (struct_types (slice_get types ty) ≡ Some args)
-struct_takes types ret args (variant_term n) h ty e = absurd (cc)
-struct_takes types ret args struct_term h ty e = let a : ret ≡ ty = cc in (a, ap (λ n. struct_types (slice_get types n)) (sym a) ∙ h)
-struct_takes types ret args (declared_term flags c x) h ty e = absurd (cc)
-
 pub has_typed_parts : (e : TypesRead) (defs : List Definition) (expand : Bool) (rules : TypedRules) → IsElaborated e defs expand rules → HasTypedParts (program_of e defs rules.rules)
 has_typed_parts e defs expand rules h = record {
-  variants = λ t x s ty i q. variant_takes types x.ret_ty x.arg_tys x.kind (takes t x s) ty i q;
-  structs = λ t x s ty q. struct_takes types x.ret_ty x.arg_tys x.kind (takes t x s) ty q;
+  variants = λ t x s i q. subst (Takes types x.ret_ty x.arg_tys) q (takes t x s);
+  structs = λ t x s q. subst (Takes types x.ret_ty x.arg_tys) q (takes t x s);
 }
   where
     types : List TypeEntry

@@ -17,6 +17,7 @@ use Rattle.isle_model.specs.claims.Environments.{program_of}
 use Rattle.isle_model.proofs.Bags.{flat_map_same}
 use Rattle.isle_model.proofs.Elements.{In, contains_from_in}
 use Rattle.isle_laws_lists.specs.WellTypedPrograms.{IsWellTypedProgram}
+use Rattle.isle_laws_lists.proofs.WellTypedPrograms.{pure_iflets}
 use Rattle.isle_laws_lists.proofs.WellTypedRules.{elaborated_programs_are_well_typed_lem}
 use Rattle.isle_laws_demands.specs.MatchLaws.{IsTried}
 use Rattle.isle_laws_demands.specs.TotalLaws.{Restricts}
@@ -78,7 +79,7 @@ module _ (p : Program) (h : IsWellTypedProgram p) (t : ℕ) where
       → matches_under p m k r args ≡ Some vars → results_under p m args r k ≡ as_list (site_content m args k (result_of p r))
   result_there m args r k is_tried quiet vars q =
       let c = tried p t m args r k h is_tried in
-      ap (results_with p m k r) q ∙ result_held (given p m args k) r vars c.rule.formed c.rule.pure_iflets c.typed h c.answered quiet q
+      ap (results_with p m k r) q ∙ result_held (given p m args k) r vars c.rule.formed (pure_iflets c.rule) c.typed h c.answered quiet q
 
   can_be_tested : (r : TypedRule) → Contains (rules_of p t) r → CanBeTested (demands_of p r)
   can_be_tested r i = (well_typed_rules_demand_gates_lem p h r (of_term p t r i).0).tested

@@ -3,7 +3,7 @@ use Rattle.std.proofs.Common.{◌≡◌, refl, Result, Ok, Err}
 use Rattle.std.specs.Prelude.{MatchResult}
 use Rattle.isle_base.specs.declared.visit_fault.VisitFault.{VisitFault}
 use Rattle.isle_typed.specs.declared.visitors.VisitedExpr.{VisitedExpr}
-use Rattle.isle_typed.specs.VisitRuns.{taking}
+use Rattle.isle_model.specs.visits.Runs.{taking}
 
 module _ {S L : Type 0} (back : S → L → S) (s : S) (l : L) where
   pub taken : {T : Type 0} (a : Result T VisitFault) →

@@ -10,7 +10,7 @@ use Rattle.isle_model.specs.rules.Typed.{TypedPattern, match_bind, match_var, ma
 use Rattle.isle_model.specs.visits.Demands.{pattern_count}
 use Rattle.isle_model.specs.trees.Places.{is_in}
 use Rattle.isle_model.specs.lists.Visitable.{bound_after, bound_after_parts, bound_after_lets, is_visitable_pattern, are_visitable_parts, is_visitable_expr, are_visitable_args, are_visitable_lets, opens_into, is_made_of, expr_count}
-use Rattle.isle_typed.specs.VisitRuns.{BoundIds, bound_at, bound_vars, with_bound, variable}
+use Rattle.isle_model.specs.visits.Runs.{BoundIds, bound_at, bound_vars, with_bound}
 
 same_either_way : (x y : ℕ) → (x == y) ≡ (y == x)
 same_either_way x y =
@@ -41,17 +41,17 @@ module _ {P : Type 0} where
   pub found_bound : (vs : BoundIds P) (x : ℕ) → is_some (bound_at vs x) ≡ is_in x (bound_vars vs)
   found_bound [] x = refl
   found_bound (b ∷ vs) x =
-      let e : is_eq (nat_cmp x b.0.0) ≡ (b.0.0 == x) = unsigned_tied x b.0.0 ∙ same_either_way x b.0.0 in
-      ap (λ c. is_some (cond c (Some b.1) (bound_at vs x))) e ∙ some_or (b.0.0 == x) b.1 (bound_at vs x) ∙ ap (λ r. (b.0.0 == x) || r) (found_bound vs x)
+      let e : is_eq (nat_cmp x b.0) ≡ (b.0 == x) = unsigned_tied x b.0 ∙ same_either_way x b.0 in
+      ap (λ c. is_some (cond c (Some b.1) (bound_at vs x))) e ∙ some_or (b.0 == x) b.1 (bound_at vs x) ∙ ap (λ r. (b.0 == x) || r) (found_bound vs x)
 
   -- what is bound after one more
   pub bound_with : (vs : BoundIds P) (x : ℕ) (id : P) (y : ℕ) → is_in y (bound_vars (with_bound vs x id)) ≡ is_in y (x ∷ bound_vars vs)
   bound_with [] x id y = refl
   bound_with (b ∷ vs) x id y =
-      elim (nat_cmp x b.0.0) as (λ o. nat_cmp x b.0.0 ≡ o → is_in y (bound_vars (match_ordering o ((variable x, id) ∷ b ∷ vs) ((b.0, id) ∷ vs) (b ∷ with_bound vs x id))) ≡ is_in y (x ∷ bound_vars (b ∷ vs))) [
+      elim (nat_cmp x b.0) as (λ o. nat_cmp x b.0 ≡ o → is_in y (bound_vars (match_ordering o ((x, id) ∷ b ∷ vs) ((b.0, id) ∷ vs) (b ∷ with_bound vs x id))) ≡ is_in y (x ∷ bound_vars (b ∷ vs))) [
         | Less ↦ λ e. refl
-        | Equal ↦ λ e. twice (b.0.0 == y) (is_in y (bound_vars vs)) ∙ ap (λ k. (k == y) || ((b.0.0 == y) || is_in y (bound_vars vs))) (sym (exact_unsigned x b.0.0 e))
-        | Greater ↦ λ e. ap (λ r. (b.0.0 == y) || r) (bound_with vs x id y) ∙ exchanged (b.0.0 == y) (x == y) (is_in y (bound_vars vs))
+        | Equal ↦ λ e. twice (b.0 == y) (is_in y (bound_vars vs)) ∙ ap (λ k. (k == y) || ((b.0 == y) || is_in y (bound_vars vs))) (sym (exact_unsigned x b.0 e))
+        | Greater ↦ λ e. ap (λ r. (b.0 == y) || r) (bound_with vs x id y) ∙ exchanged (b.0 == y) (x == y) (is_in y (bound_vars vs))
       ] refl
 
 -- the same variables

@@ -17,12 +17,13 @@ use Rattle.isle_model.specs.rules.Typed.{make_term, make_let, TypedLets, no_type
 use Rattle.isle_model.specs.trees.Places.{is_in}
 use Rattle.isle_typed.specs.declared.exprs.Expr.{Expr, Term, Let}
 use Rattle.isle_base.specs.declared.visit_fault.VisitFault.{VisitFault}
-use Rattle.isle_typed.specs.declared.visitors.ExprVisitor.{Ghosts as ExprSteps}
+use Rattle.isle_model.specs.visits.Visitors.{ExprSteps}
 use Rattle.isle_typed.specs.ExprViews.{expr_view, expr_views, expr_parts, let_views, let_parts}
-use Rattle.isle_typed.specs.ExprRuns.{entry_arg_types, Makes, ExprRun, InputsRun, LetsRun}
+use Rattle.isle_model.specs.visits.ExprRuns.{entry_arg_types, Makes, ExprRun, InputsRun, LetsRun}
 use Rattle.isle_model.specs.lists.Visitable.{bound_after_lets, is_visitable_expr, are_visitable_args, are_visitable_lets, is_made_of, expr_count}
 use Rattle.isle_typed.specs.VisitAnswers.{type_numbers}
-use Rattle.isle_typed.specs.VisitRuns.{BoundIds, bound_vars, with_bound}
+use Rattle.isle_model.specs.visits.Runs.{BoundIds, bound_vars, with_bound}
+use Rattle.isle_typed.specs.VisitorSteps.{no_memory}
 use Rattle.isle_typed.proofs.BoundVars.{SameVars, bound_with, expr_same, lets_after_same}
 use Rattle.isle_typed.proofs.ExprBridges.{view-Term, view-Let}
 
@@ -41,7 +42,7 @@ arg_count [] = refl
 arg_count (e ∷ es) = ap suc (arg_count es)
 
 -- the variables that are bound after a let's definitions
-pub lets_bind : {S E : Type 0} (v : ExprSteps S E) (terms : List TermEntry) (ds : TypedLets) (vs : BoundIds E) (s : S) (ws : BoundIds E) (t : S) → LetsRun v terms ds vs s (Ok ws) t →
+pub lets_bind : {S E : Type 0} (v : ExprSteps VisitFault S E) (terms : List TermEntry) (ds : TypedLets) (vs : BoundIds E) (s : S) (ws : BoundIds E) (t : S) → LetsRun no_memory v terms ds vs s (Ok ws) t →
     SameVars (bound_vars ws) (bound_after_lets ds (bound_vars vs))
 lets_bind v terms no_typed_let vs s ws t h = λ y. ap (λ zs. is_in y (bound_vars zs)) (same_ok ws vs h.0)
 lets_bind v terms (typed_let_and x ty value rest) vs s ws t h =
@@ -77,35 +78,35 @@ module _ (terms : List TermEntry) where
       e ≡ Let ty bindings body → ds ≡ bindings.items → IsTrue (is_visitable_expr terms (expr_view e) ks) → IsTrue (are_visitable_lets terms (let_parts (let_views ds)) ks)
   asks_defs e ty bindings body ds ks h f c = (and_parts _ _ (subst (λ z. IsTrue (is_visitable_expr terms z ks)) (seen_let e ty bindings body ds body.value h f refl) c)).0
 
-  pub asks_body : {S E : Type 0} (v : ExprSteps S E) (e : Expr) (ty : TypeId) (bindings : Vec (VarId × TypeId × Box Expr Global) Global) (body : Box Expr Global) (ds : List (VarId × TypeId × Box Expr Global)) (b : Expr) (vs ws : BoundIds E) (s t : S) →
-      e ≡ Let ty bindings body → ds ≡ bindings.items → b ≡ body.value → IsTrue (is_visitable_expr terms (expr_view e) (bound_vars vs)) → LetsRun v terms (let_parts (let_views ds)) vs s (Ok ws) t →
+  pub asks_body : {S E : Type 0} (v : ExprSteps VisitFault S E) (e : Expr) (ty : TypeId) (bindings : Vec (VarId × TypeId × Box Expr Global) Global) (body : Box Expr Global) (ds : List (VarId × TypeId × Box Expr Global)) (b : Expr) (vs ws : BoundIds E) (s t : S) →
+      e ≡ Let ty bindings body → ds ≡ bindings.items → b ≡ body.value → IsTrue (is_visitable_expr terms (expr_view e) (bound_vars vs)) → LetsRun no_memory v terms (let_parts (let_views ds)) vs s (Ok ws) t →
       IsTrue (is_visitable_expr terms (expr_view b) (bound_vars ws))
   asks_body v e ty bindings body ds b vs ws s t h f g c ran =
       let both = and_parts _ _ (subst (λ z. IsTrue (is_visitable_expr terms z (bound_vars vs))) (seen_let e ty bindings body ds b h f g) c) in
       expr_same terms (expr_view b) (bound_vars ws) (bound_after_lets (let_parts (let_views ds)) (bound_vars vs)) (lets_bind v terms (let_parts (let_views ds)) vs s ws t ran) ∙ both.1
 
-module _ {S E : Type 0} (v : ExprSteps S E) (terms : List TermEntry) where
+module _ {S E : Type 0} (v : ExprSteps VisitFault S E) (terms : List TermEntry) where
   types_used : (term : TermId) (used : CodeTerm) (tys : List TypeId) → slice_get terms term.0 ≡ Some (term_view used) → tys ≡ used.arg_tys.items → entry_arg_types (slice_get terms term.0) ≡ type_numbers tys
   types_used term used tys at is = ap entry_arg_types at ∙ ap type_numbers (sym is)
 
   pub runs_call : (e : Expr) (ty : TypeId) (term : TermId) (args : Vec Expr Global) (es : List Expr) (used : CodeTerm) (tys : List TypeId) (inputs : List (E × ℕ)) (vs : BoundIds E) (s u : S) (r : Result E VisitFault) (t : S) →
       e ≡ Term ty term args → es ≡ args.items → slice_get terms term.0 ≡ Some (term_view used) → tys ≡ used.arg_tys.items →
-      InputsRun v terms (expr_parts (expr_views es)) (type_numbers tys) vs s (Ok inputs) u → Makes v ty.0 term.0 inputs (slice_get terms term.0) u r t → ExprRun v terms (expr_view e) vs s r t
+      InputsRun no_memory v terms (expr_parts (expr_views es)) (type_numbers tys) vs s (Ok inputs) u → Makes v ty.0 term.0 inputs (slice_get terms term.0) u r t → ExprRun no_memory v terms (expr_view e) vs s r t
   runs_call e ty term args es used tys inputs vs s u r t h f at is first rest =
       rw (seen_call e ty term args es h f)
-      (inl (inputs, u, subst (λ zs. InputsRun v terms (expr_parts (expr_views es)) zs vs s (Ok inputs) u) (sym (types_used term used tys at is)) first, rest))
+      (inl (inputs, u, subst (λ zs. InputsRun no_memory v terms (expr_parts (expr_views es)) zs vs s (Ok inputs) u) (sym (types_used term used tys at is)) first, rest))
 
   pub stops_call : (e : Expr) (ty : TypeId) (term : TermId) (args : Vec Expr Global) (es : List Expr) (used : CodeTerm) (tys : List TypeId) (vs : BoundIds E) (s : S) (fault : VisitFault) (t : S) →
       e ≡ Term ty term args → es ≡ args.items → slice_get terms term.0 ≡ Some (term_view used) → tys ≡ used.arg_tys.items →
-      InputsRun v terms (expr_parts (expr_views es)) (type_numbers tys) vs s (Err fault) t → ExprRun v terms (expr_view e) vs s (Err fault) t
+      InputsRun no_memory v terms (expr_parts (expr_views es)) (type_numbers tys) vs s (Err fault) t → ExprRun no_memory v terms (expr_view e) vs s (Err fault) t
   stops_call e ty term args es used tys vs s fault t h f at is first =
       rw (seen_call e ty term args es h f)
-      (inr (fault, subst (λ zs. InputsRun v terms (expr_parts (expr_views es)) zs vs s (Err fault) t) (sym (types_used term used tys at is)) first, refl))
+      (inr (fault, subst (λ zs. InputsRun no_memory v terms (expr_parts (expr_views es)) zs vs s (Err fault) t) (sym (types_used term used tys at is)) first, refl))
 
   pub runs_let : (e : Expr) (ty : TypeId) (bindings : Vec (VarId × TypeId × Box Expr Global) Global) (body : Box Expr Global) (ds : List (VarId × TypeId × Box Expr Global)) (b : Expr) (vs ws : BoundIds E) (s u : S) (r : Result E VisitFault) (t : S) →
-      e ≡ Let ty bindings body → ds ≡ bindings.items → b ≡ body.value → LetsRun v terms (let_parts (let_views ds)) vs s (Ok ws) u → ExprRun v terms (expr_view b) ws u r t → ExprRun v terms (expr_view e) vs s r t
+      e ≡ Let ty bindings body → ds ≡ bindings.items → b ≡ body.value → LetsRun no_memory v terms (let_parts (let_views ds)) vs s (Ok ws) u → ExprRun no_memory v terms (expr_view b) ws u r t → ExprRun no_memory v terms (expr_view e) vs s r t
   runs_let e ty bindings body ds b vs ws s u r t h f g first rest = rw (seen_let e ty bindings body ds b h f g) (inr (inl (ws, u, first, rest)))
 
   pub stops_let : (e : Expr) (ty : TypeId) (bindings : Vec (VarId × TypeId × Box Expr Global) Global) (body : Box Expr Global) (ds : List (VarId × TypeId × Box Expr Global)) (vs : BoundIds E) (s : S) (fault : VisitFault) (t : S) →
-      e ≡ Let ty bindings body → ds ≡ bindings.items → LetsRun v terms (let_parts (let_views ds)) vs s (Err fault) t → ExprRun v terms (expr_view e) vs s (Err fault) t
+      e ≡ Let ty bindings body → ds ≡ bindings.items → LetsRun no_memory v terms (let_parts (let_views ds)) vs s (Err fault) t → ExprRun no_memory v terms (expr_view e) vs s (Err fault) t
   stops_let e ty bindings body ds vs s fault t h f first = rw (seen_let e ty bindings body ds body.value h f refl) (inr (inr (fault, first, refl)))

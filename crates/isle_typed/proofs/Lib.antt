@@ -7,5 +7,6 @@ pub mod VisitSizes
 pub mod PatternRunForms
 pub mod ExprRunSteps
 pub mod ExprRunForms
+pub mod NumberedVars
 pub mod OrderedVars
 pub mod RuleRunSteps

@@ -11,11 +11,12 @@ use Rattle.isle_model.specs.rules.Typed.{match_bind, match_term, match_and}
 use Rattle.isle_model.specs.visits.Demands.{pattern_count}
 use Rattle.isle_typed.specs.declared.patterns.Pattern.{Pattern, BindPattern, Var, Term, And}
 use Rattle.isle_base.specs.declared.visit_fault.VisitFault.{VisitFault}
-use Rattle.isle_typed.specs.declared.visitors.PatternVisitor.{Ghosts as PatternSteps}
+use Rattle.isle_model.specs.visits.Visitors.{PatternSteps}
 use Rattle.isle_typed.specs.PatternViews.{pattern_view, pattern_views, pattern_parts}
-use Rattle.isle_typed.specs.PatternRuns.{part_types, Opens, PatternRun, PartsRun, EachRun}
+use Rattle.isle_model.specs.visits.PatternRuns.{part_types, Opens, PatternRun, PartsRun, EachRun}
 use Rattle.isle_model.specs.lists.Visitable.{is_visitable_pattern, are_visitable_parts, opens_into}
-use Rattle.isle_typed.specs.VisitRuns.{BoundIds, binds, bound_at, bound_vars, with_bound}
+use Rattle.isle_model.specs.visits.Runs.{BoundIds, binds, bound_at, bound_vars, with_bound}
+use Rattle.isle_typed.specs.VisitorSteps.{no_memory}
 use Rattle.isle_typed.proofs.BoundVars.{bound_with, pattern_same}
 use Rattle.isle_typed.proofs.PatternBridges.{view-Term, view-And}
 
@@ -51,32 +52,32 @@ module _ (terms : List TermEntry) where
   asks_and q ty parts ps ks e f h = subst (λ z. IsTrue (is_visitable_pattern terms z ks)) (seen_and q ty parts ps e f) h
 
   pub asks_bind : {P : Type 0} (q : Pattern) (ty : TypeId) (x : VarId) (of : Box Pattern Global) (sub : Pattern) (vs ws : BoundIds P) (input : P) (a : Unit {0}) → q ≡ BindPattern ty x of → sub ≡ of.value →
-      binds x.0 input vs (Ok a) ws → IsTrue (is_visitable_pattern terms (pattern_view q) (bound_vars vs)) → IsTrue (is_visitable_pattern terms (pattern_view sub) (bound_vars ws))
+      binds no_memory x.0 input vs (Ok a) ws → IsTrue (is_visitable_pattern terms (pattern_view q) (bound_vars vs)) → IsTrue (is_visitable_pattern terms (pattern_view sub) (bound_vars ws))
   asks_bind q ty x of sub vs ws input a e f b h =
       let both = and_parts _ _ (subst (λ z. IsTrue (is_visitable_pattern terms z (bound_vars vs))) (seen_bind q ty x of sub e f) h) in
       let at : ws ≡ with_bound vs x.0 input = ⊎_elim (λ p. p.1) (λ p. absurd (true≢false (ap is_ok p.0))) b in
       ap (λ zs. is_visitable_pattern terms (pattern_view sub) (bound_vars zs)) at
       ∙ pattern_same terms (pattern_view sub) (bound_vars (with_bound vs x.0 input)) (x.0 ∷ bound_vars vs) (bound_with vs x.0 input) ∙ both.1
 
-module _ {S P : Type 0} (v : PatternSteps S P) (terms : List TermEntry) where
+module _ {S P : Type 0} (v : PatternSteps VisitFault S P) (terms : List TermEntry) where
   pub runs_term : (q : Pattern) (ty : TypeId) (term : TermId) (parts : Vec Pattern Global) (ps : List Pattern) (input : P) (ids : List P) (s u : S) (vs : BoundIds P) (r : Result (Unit {0}) VisitFault) (t : S × BoundIds P) →
-      q ≡ Term ty term parts → ps ≡ parts.items → Opens v ty.0 term.0 (part_types (pattern_parts (pattern_views ps))) input (slice_get terms term.0) s (Ok ids) u →
-      PartsRun v terms (pattern_parts (pattern_views ps)) ids (u, vs) r t → PatternRun v terms (pattern_view q) input (s, vs) r t
+      q ≡ Term ty term parts → ps ≡ parts.items → Opens no_memory v ty.0 term.0 (part_types (pattern_parts (pattern_views ps))) input (slice_get terms term.0) s (Ok ids) u →
+      PartsRun no_memory v terms (pattern_parts (pattern_views ps)) ids (u, vs) r t → PatternRun no_memory v terms (pattern_view q) input (s, vs) r t
   runs_term q ty term parts ps input ids s u vs r t e f first rest = rw (seen_term q ty term parts ps e f) (inl (ids, (u, vs), (first, refl), rest))
 
   pub stops_term : (q : Pattern) (ty : TypeId) (term : TermId) (parts : Vec Pattern Global) (ps : List Pattern) (input : P) (s u : S) (vs : BoundIds P) (fault : VisitFault) →
-      q ≡ Term ty term parts → ps ≡ parts.items → Opens v ty.0 term.0 (part_types (pattern_parts (pattern_views ps))) input (slice_get terms term.0) s (Err fault) u →
-      PatternRun v terms (pattern_view q) input (s, vs) (Err fault) (u, vs)
+      q ≡ Term ty term parts → ps ≡ parts.items → Opens no_memory v ty.0 term.0 (part_types (pattern_parts (pattern_views ps))) input (slice_get terms term.0) s (Err fault) u →
+      PatternRun no_memory v terms (pattern_view q) input (s, vs) (Err fault) (u, vs)
   stops_term q ty term parts ps input s u vs fault e f first = rw (seen_term q ty term parts ps e f) (inr (fault, (first, refl), refl))
 
   pub runs_and : (q : Pattern) (ty : TypeId) (parts : Vec Pattern Global) (ps : List Pattern) (input : P) (s : S × BoundIds P) (r : Result (Unit {0}) VisitFault) (t : S × BoundIds P) →
-      q ≡ And ty parts → ps ≡ parts.items → EachRun v terms (pattern_parts (pattern_views ps)) input s r t → PatternRun v terms (pattern_view q) input s r t
+      q ≡ And ty parts → ps ≡ parts.items → EachRun no_memory v terms (pattern_parts (pattern_views ps)) input s r t → PatternRun no_memory v terms (pattern_view q) input s r t
   runs_and q ty parts ps input s r t e f h = rw (seen_and q ty parts ps e f) h
 
   pub runs_bind : (q : Pattern) (ty : TypeId) (x : VarId) (of : Box Pattern Global) (sub : Pattern) (input : P) (s : S) (vs ws : BoundIds P) (a : Unit {0}) (r : Result (Unit {0}) VisitFault) (t : S × BoundIds P) →
-      q ≡ BindPattern ty x of → sub ≡ of.value → binds x.0 input vs (Ok a) ws → PatternRun v terms (pattern_view sub) input (s, ws) r t → PatternRun v terms (pattern_view q) input (s, vs) r t
+      q ≡ BindPattern ty x of → sub ≡ of.value → binds no_memory x.0 input vs (Ok a) ws → PatternRun no_memory v terms (pattern_view sub) input (s, ws) r t → PatternRun no_memory v terms (pattern_view q) input (s, vs) r t
   runs_bind q ty x of sub input s vs ws a r t e f b h = rw (seen_bind q ty x of sub e f) (inl (a, (s, ws), (b, refl), h))
 
   pub runs_var : (q : Pattern) (ty : TypeId) (x : VarId) (input id : P) (s t : S) (vs : BoundIds P) (r : Result (Unit {0}) VisitFault) →
-      q ≡ Var ty x → bound_at vs x.0 ≡ Some id → v.match_equal_steps s input id ty.0 r t → PatternRun v terms (pattern_view q) input (s, vs) r (t, vs)
+      q ≡ Var ty x → bound_at vs x.0 ≡ Some id → v.match_equal_steps s input id ty.0 r t → PatternRun no_memory v terms (pattern_view q) input (s, vs) r (t, vs)
   runs_var q ty x input id s t vs r e at h = rw e (inl (id, (s, vs), ((id, at, (refl, refl)), refl), (h, refl)))

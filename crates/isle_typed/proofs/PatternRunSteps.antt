@@ -9,12 +9,13 @@ use Rattle.isle_model.specs.rules.Typed.{TypedPattern, match_bind, match_var, ma
 use Rattle.isle_model.specs.trees.Places.{is_in}
 use Rattle.isle_typed.specs.declared.patterns.Pattern.{Pattern}
 use Rattle.isle_base.specs.declared.visit_fault.VisitFault.{VisitFault}
-use Rattle.isle_typed.specs.declared.visitors.PatternVisitor.{Ghosts as PatternSteps}
+use Rattle.isle_model.specs.visits.Visitors.{PatternSteps}
 use Rattle.isle_typed.specs.PatternViews.{pattern_view, pattern_views, pattern_parts}
-use Rattle.isle_typed.specs.PatternRuns.{part_types, PatternRun, PartsRun, EachRun}
+use Rattle.isle_model.specs.visits.PatternRuns.{part_types, PatternRun, PartsRun, EachRun}
 use Rattle.isle_typed.specs.VisitAnswers.{type_numbers}
 use Rattle.isle_model.specs.lists.Visitable.{bound_after, bound_after_parts, is_visitable_pattern, are_visitable_parts}
-use Rattle.isle_typed.specs.VisitRuns.{BoundIds, bound_vars, with_bound}
+use Rattle.isle_model.specs.visits.Runs.{BoundIds, bound_vars, with_bound}
+use Rattle.isle_typed.specs.VisitorSteps.{no_memory}
 use Rattle.isle_typed.proofs.BoundVars.{SameVars, bound_with, after_same, parts_after_same, parts_same}
 
 -- what `?` hands on
@@ -22,13 +23,13 @@ pub err_is : {A : Type 0} (r : Result A VisitFault) (e : VisitFault) → IsErr r
 err_is (Ok a) e h = absurd (true≢false (sym h.0))
 err_is (Err y) e h = ap Err h.1
 
-module _ {S P : Type 0} (v : PatternSteps S P) (terms : List TermEntry) where
+module _ {S P : Type 0} (v : PatternSteps VisitFault S P) (terms : List TermEntry) where
   kept : (t s : S × BoundIds P) → t.1 ≡ s.1 → SameVars (bound_vars t.1) (bound_vars s.1)
   kept t s h = λ y. ap (λ vs. is_in y (bound_vars vs)) h
 
   mutual
     -- the variables that are bound after the visit of a pattern
-    pub run_binds : (q : TypedPattern) (input : P) (s : S × BoundIds P) (a : Unit {0}) (t : S × BoundIds P) → PatternRun v terms q input s (Ok a) t → SameVars (bound_vars t.1) (bound_after q (bound_vars s.1))
+    pub run_binds : (q : TypedPattern) (input : P) (s : S × BoundIds P) (a : Unit {0}) (t : S × BoundIds P) → PatternRun no_memory v terms q input s (Ok a) t → SameVars (bound_vars t.1) (bound_after q (bound_vars s.1))
     run_binds (match_bind ty x of) input s a t h =
         ⊎_elim
         (λ p.
@@ -47,41 +48,41 @@ module _ {S P : Type 0} (v : PatternSteps S P) (terms : List TermEntry) where
     run_binds (match_any ty) input s a t h = kept t s (ap (λ (z : S × BoundIds P). z.1) h.1)
     run_binds (match_and ty parts) input s a t h = each_bind parts input s a t h
 
-    pub parts_bind : (qs : TypedPatterns) (ids : List P) (s : S × BoundIds P) (a : Unit {0}) (t : S × BoundIds P) → PartsRun v terms qs ids s (Ok a) t → SameVars (bound_vars t.1) (bound_after_parts qs (bound_vars s.1))
+    pub parts_bind : (qs : TypedPatterns) (ids : List P) (s : S × BoundIds P) (a : Unit {0}) (t : S × BoundIds P) → PartsRun no_memory v terms qs ids s (Ok a) t → SameVars (bound_vars t.1) (bound_after_parts qs (bound_vars s.1))
     parts_bind no_typed_pattern [] s a t h = kept t s (ap (λ (z : S × BoundIds P). z.1) h.1)
     parts_bind no_typed_pattern (id ∷ ids) s a t h = absurd h
     parts_bind (typed_pattern_and q rest) [] s a t h = absurd h
     parts_bind (typed_pattern_and q rest) (id ∷ ids) s a t h =
         ⊎_elim (λ p. λ y. parts_bind rest ids p.1 a t p.3 y ∙ parts_after_same rest (bound_vars p.1.1) (bound_after q (bound_vars s.1)) (run_binds q id s p.0 p.1 p.2) y) (λ e. absurd (true≢false (ap is_ok e.2))) h
 
-    pub each_bind : (qs : TypedPatterns) (input : P) (s : S × BoundIds P) (a : Unit {0}) (t : S × BoundIds P) → EachRun v terms qs input s (Ok a) t → SameVars (bound_vars t.1) (bound_after_parts qs (bound_vars s.1))
+    pub each_bind : (qs : TypedPatterns) (input : P) (s : S × BoundIds P) (a : Unit {0}) (t : S × BoundIds P) → EachRun no_memory v terms qs input s (Ok a) t → SameVars (bound_vars t.1) (bound_after_parts qs (bound_vars s.1))
     each_bind no_typed_pattern input s a t h = kept t s (ap (λ (z : S × BoundIds P). z.1) h.1)
     each_bind (typed_pattern_and q rest) input s a t h =
         ⊎_elim (λ p. λ y. each_bind rest input p.1 a t p.3 y ∙ parts_after_same rest (bound_vars p.1.1) (bound_after q (bound_vars s.1)) (run_binds q input s p.0 p.1 p.2) y) (λ e. absurd (true≢false (ap is_ok e.2))) h
 
   -- one part of several, and the rest
   pub parts_step : (ps : List Pattern) (ids : List P) (i : ℕ) (d : Pattern) (y : P) (s u : S × BoundIds P) (r : Result (Unit {0}) VisitFault) (t : S × BoundIds P) →
-      i < length ps → i < length ids → PatternRun v terms (pattern_view (get_or ps i d)) (get_or ids i y) s (Ok tt) u →
-      PartsRun v terms (pattern_parts (pattern_views (drop (i + 1) ps))) (drop (i + 1) ids) u r t → PartsRun v terms (pattern_parts (pattern_views (drop i ps))) (drop i ids) s r t
+      i < length ps → i < length ids → PatternRun no_memory v terms (pattern_view (get_or ps i d)) (get_or ids i y) s (Ok tt) u →
+      PartsRun no_memory v terms (pattern_parts (pattern_views (drop (i + 1) ps))) (drop (i + 1) ids) u r t → PartsRun no_memory v terms (pattern_parts (pattern_views (drop i ps))) (drop i ids) s r t
   parts_step ps ids i d y s u r t lt lt' first rest =
       rw (drop_more ps i d lt, drop_more ids i y lt') (inl (tt, u, first, rest))
 
   pub parts_stop : (ps : List Pattern) (ids : List P) (i : ℕ) (d : Pattern) (y : P) (s : S × BoundIds P) (e : VisitFault) (t : S × BoundIds P) →
-      i < length ps → i < length ids → PatternRun v terms (pattern_view (get_or ps i d)) (get_or ids i y) s (Err e) t →
-      PartsRun v terms (pattern_parts (pattern_views (drop i ps))) (drop i ids) s (Err e) t
+      i < length ps → i < length ids → PatternRun no_memory v terms (pattern_view (get_or ps i d)) (get_or ids i y) s (Err e) t →
+      PartsRun no_memory v terms (pattern_parts (pattern_views (drop i ps))) (drop i ids) s (Err e) t
   parts_stop ps ids i d y s e t lt lt' first = rw (drop_more ps i d lt, drop_more ids i y lt') (inr (e, first, refl))
 
-  pub parts_end : (ps : List Pattern) (ids : List P) (i : ℕ) (s : S × BoundIds P) → length ps ≤ i → length ids ≤ i → PartsRun v terms (pattern_parts (pattern_views (drop i ps))) (drop i ids) s (Ok tt) s
+  pub parts_end : (ps : List Pattern) (ids : List P) (i : ℕ) (s : S × BoundIds P) → length ps ≤ i → length ids ≤ i → PartsRun no_memory v terms (pattern_parts (pattern_views (drop i ps))) (drop i ids) s (Ok tt) s
   parts_end ps ids i s h h' = rw (drop_all i ps h, drop_all i ids h') (refl, refl)
 
   pub each_step : (ps : List Pattern) (i : ℕ) (d : Pattern) (x : P) (s u : S × BoundIds P) (r : Result (Unit {0}) VisitFault) (t : S × BoundIds P) →
-      i < length ps → PatternRun v terms (pattern_view (get_or ps i d)) x s (Ok tt) u → EachRun v terms (pattern_parts (pattern_views (drop (i + 1) ps))) x u r t →
-      EachRun v terms (pattern_parts (pattern_views (drop i ps))) x s r t
+      i < length ps → PatternRun no_memory v terms (pattern_view (get_or ps i d)) x s (Ok tt) u → EachRun no_memory v terms (pattern_parts (pattern_views (drop (i + 1) ps))) x u r t →
+      EachRun no_memory v terms (pattern_parts (pattern_views (drop i ps))) x s r t
   each_step ps i d x s u r t lt first rest =
       rw (drop_more ps i d lt) (inl (tt, u, first, rest))
 
   pub each_stop : (ps : List Pattern) (i : ℕ) (d : Pattern) (x : P) (s : S × BoundIds P) (e : VisitFault) (t : S × BoundIds P) →
-      i < length ps → PatternRun v terms (pattern_view (get_or ps i d)) x s (Err e) t → EachRun v terms (pattern_parts (pattern_views (drop i ps))) x s (Err e) t
+      i < length ps → PatternRun no_memory v terms (pattern_view (get_or ps i d)) x s (Err e) t → EachRun no_memory v terms (pattern_parts (pattern_views (drop i ps))) x s (Err e) t
   each_stop ps i d x s e t lt first = rw (drop_more ps i d lt) (inr (e, first, refl))
 
 -- the next of several patterns can be visited

@@ -3,30 +3,31 @@ use Rattle.std.proofs.Common.{◌≡◌, true≢false, ℕ, suc, ◌+◌, ◌<�
 use Rattle.std.proofs.lemmas.Bool.{and_parts}
 use Rattle.std.proofs.lemmas.List.{drop_more, drop_all, map-append}
 use Rattle.std.specs.List.Sorted.{IsStrictlySortedBy}
-use Rattle.std.specs.Map.{keys_of}
-use Rattle.std.specs.BTreeMap.{insert_entry}
+use Rattle.std.specs.BTreeMap.{BTreeMap}
+use Rattle.std.specs.Ordering.{nat_cmp}
 use Rattle.isle_types.specs.declared.ids.TypeId.{TypeId}
 use Rattle.isle_types.specs.declared.ids.VarId.{VarId}
 use Rattle.isle_model.specs.lists.Formed.{of_entry}
+use Rattle.isle_model.specs.lists.Setting.{expr_type}
 use Rattle.isle_model.specs.lists.Tables.{TermEntry}
-use Rattle.isle_model.specs.rules.Typed.{TypedPattern, TypedIfLet, TypedRule}
+use Rattle.isle_model.specs.rules.Typed.{TypedPattern, TypedExpr, TypedIfLet, TypedRule}
 use Rattle.isle_model.specs.trees.Places.{is_in}
 use Rattle.isle_typed.specs.declared.patterns.Pattern.{Pattern}
 use Rattle.isle_typed.specs.declared.rules.IfLet.{IfLet}
+use Rattle.isle_typed.specs.declared.visitors.VisitedExpr.{VisitedExpr}
 use Rattle.isle_base.specs.declared.visit_fault.VisitFault.{VisitFault}
 use Rattle.isle_base.specs.declared.visit_fault.VisitFault.TheVariants.{Memory}
-use Rattle.isle_typed.specs.declared.visitors.PatternVisitor.{Ghosts as PatternSteps}
-use Rattle.isle_typed.specs.declared.visitors.ExprVisitor.{Ghosts as ExprSteps}
-use Rattle.isle_typed.specs.declared.visitors.RuleVisitor.{Ghosts as RuleSteps}
+use Rattle.isle_model.specs.visits.Visitors.{PatternSteps, ExprSteps, RuleSteps}
 use Rattle.isle_typed.specs.PatternViews.{pattern_view, pattern_views}
 use Rattle.isle_typed.specs.ExprViews.{expr_view}
 use Rattle.isle_typed.specs.RuleViews.{iflet_view}
-use Rattle.isle_typed.specs.PatternRuns.{PatternRun}
-use Rattle.isle_typed.specs.RuleRuns.{lent_binding, PatternCall, ExchangeRun, ValueRun, ArgsRun, IfLetsRun, RuleRun}
-use Rattle.isle_typed.specs.ExprRuns.{entry_arg_types}
+use Rattle.isle_model.specs.visits.PatternRuns.{PatternRun}
+use Rattle.isle_model.specs.visits.RuleRuns.{lent_binding, lent_valuing, PatternCall, ExchangeRun, ExprCall, ValueRun, ArgsRun, IfLetsRun, RuleRun}
+use Rattle.isle_model.specs.visits.ExprRuns.{entry_arg_types, ExprRun}
 use Rattle.isle_model.specs.lists.Visitable.{is_visitable_rule, bound_after, bound_after_list, bound_after_iflets, is_visitable_pattern, is_visitable_expr, are_visitable_list, are_visitable_iflets}
 use Rattle.isle_typed.specs.VisitAnswers.{type_numbers}
-use Rattle.isle_typed.specs.VisitRuns.{BoundIds, answering, binds, bound_vars, taking, var_cmp}
+use Rattle.isle_model.specs.visits.Runs.{BoundIds, answering, binds, bound_vars, lent_run, taking, with_bound}
+use Rattle.isle_typed.specs.VisitorSteps.{by_number, entries_of, no_memory, visited_of}
 use Rattle.isle_typed.proofs.BoundVars.{SameVars, after_same, pattern_same, expr_same}
 use Rattle.isle_typed.proofs.ExprRunSteps.{after_these}
 use Rattle.isle_typed.proofs.OrderedVars.{insert_last}
@@ -44,7 +45,7 @@ fault_or e (Ok _) = e
 fault_or e (Err z) = z
 
 -- the fault of a variable that isn't bound
-pub binds_fault : {P : Type 0} (x : ℕ) (id : P) (vs ws : BoundIds P) (f : VisitFault) → binds x id vs (Err f) ws → f ≡ Memory alloc_error
+pub binds_fault : {P : Type 0} (x : ℕ) (id : P) (vs ws : BoundIds P) (f : VisitFault) → binds no_memory x id vs (Err f) ws → f ≡ Memory alloc_error
 binds_fault x id vs ws f b = ⊎_elim (λ p. absurd (true≢false (sym (ap is_ok p.0)))) (λ p. ap (fault_or f) p.0) b
 
 -- what can be visited depends on no more than which variables are bound
@@ -78,108 +79,135 @@ module _ (terms : List TermEntry) where
   next_iflet fs i d ks lt h =
       let first = and_parts _ _ (subst (λ zs. IsTrue (are_visitable_iflets terms (map iflet_view zs) ks)) (drop_more fs i d lt) h) in (first.0, and_parts _ _ first.1)
 
-module _ {S L M X P E : Type 0} (v : RuleSteps S L M X P E) where
-  pub exchange_step : (is rest : BoundIds P) (k : VarId) (id : P) (x : E) (s u : S) (r : Result (BoundIds E) VisitFault) (t : S) →
-      is ≡ (k, id) ∷ rest → v.pattern_as_expr_steps s id (Ok x) u → ExchangeRun v rest u r t → ExchangeRun v is s (after_these ((k, x) ∷ []) r) t
+module _ {S L M X P E : Type 0} (v : RuleSteps VisitFault S L M X P E) where
+  pub exchange_step : (is rest : BoundIds P) (k : ℕ) (id : P) (x : E) (s u : S) (r : Result (BoundIds E) VisitFault) (t : S) →
+      is ≡ (k, id) ∷ rest → v.pattern_as_expr_steps s id (Ok x) u → ExchangeRun no_memory v rest u r t → ExchangeRun no_memory v is s (after_these ((k, x) ∷ []) r) t
   exchange_step is rest k id x s u (Ok ws) t e first h = rw e (inl (x, u, first, inr (inl (ws, t, h, (refl, refl)))))
   exchange_step is rest k id x s u (Err f) t e first h = rw e (inl (x, u, first, inr (inr (f, h, refl))))
 
-  pub exchange_stop : (is rest : BoundIds P) (k : VarId) (id : P) (s : S) (f : VisitFault) (t : S) → is ≡ (k, id) ∷ rest → v.pattern_as_expr_steps s id (Err f) t → ExchangeRun v is s (Err f) t
+  pub exchange_stop : (is rest : BoundIds P) (k : ℕ) (id : P) (s : S) (f : VisitFault) (t : S) → is ≡ (k, id) ∷ rest → v.pattern_as_expr_steps s id (Err f) t → ExchangeRun no_memory v is s (Err f) t
   exchange_stop is rest k id s f t e first = rw e (inr (f, first, refl))
 
-  pub exchange_refused : (is rest : BoundIds P) (k : VarId) (id : P) (x : E) (s u : S) → is ≡ (k, id) ∷ rest → v.pattern_as_expr_steps s id (Ok x) u → ExchangeRun v is s (Err (Memory alloc_error)) u
+  pub exchange_refused : (is rest : BoundIds P) (k : ℕ) (id : P) (x : E) (s u : S) → is ≡ (k, id) ∷ rest → v.pattern_as_expr_steps s id (Ok x) u → ExchangeRun no_memory v is s (Err (Memory alloc_error)) u
   exchange_refused is rest k id x s u e first = rw e (inl (x, u, first, inl (refl, refl)))
 
-  pub exchange_end : (is : BoundIds P) (s : S) → is ≡ [] → ExchangeRun v is s (Ok []) s
+  pub exchange_end : (is : BoundIds P) (s : S) → is ≡ [] → ExchangeRun no_memory v is s (Ok []) s
   exchange_end is s e = rw e (refl, refl)
 
   -- the same variables are exchanged
-  pub exchange_binds : (vs : BoundIds P) (s : S) (ws : BoundIds E) (t : S) → ExchangeRun v vs s (Ok ws) t → bound_vars ws ≡ bound_vars vs
+  pub exchange_binds : (vs : BoundIds P) (s : S) (ws : BoundIds E) (t : S) → ExchangeRun no_memory v vs s (Ok ws) t → bound_vars ws ≡ bound_vars vs
   exchange_binds [] s ws t h = ap bound_vars (same_ok ws [] h.0)
   exchange_binds (b ∷ rest) s ws t h =
       ⊎_elim
       (λ p.
       ⊎_elim
       (λ r. absurd (true≢false (ap is_ok r.0)))
-      (λ n. ⊎_elim (λ q. ap bound_vars (same_ok ws ((b.0, p.0) ∷ q.0) q.3.0) ∙ ap (λ l. b.0.0 ∷ l) (exchange_binds rest p.1 q.0 q.1 q.2)) (λ q. absurd (true≢false (ap is_ok q.2))) n)
+      (λ n. ⊎_elim (λ q. ap bound_vars (same_ok ws ((b.0, p.0) ∷ q.0) q.3.0) ∙ ap (λ l. b.0 ∷ l) (exchange_binds rest p.1 q.0 q.1 q.2)) (λ q. absurd (true≢false (ap is_ok q.2))) n)
       p.3)
       (λ q. absurd (true≢false (ap is_ok q.2)))
       h
 
   -- one more of all variables
-  pub exchanged_more : (values next : BoundIds E) (it rest all : BoundIds P) (k : VarId) (id : P) (x : E) (a : Unit {0}) (r : Result (BoundIds E) VisitFault) →
-      keys_of values ++ keys_of it ≡ keys_of all → it ≡ (k, id) ∷ rest → IsStrictlySortedBy var_cmp (keys_of all) → binds k.0 x values (Ok a) next →
-      (after_these values (after_these ((k, x) ∷ []) r) ≡ after_these next r) × (keys_of next ++ keys_of rest ≡ keys_of all)
+  pub exchanged_more : (values next : BoundIds E) (it rest all : BoundIds P) (k : ℕ) (id : P) (x : E) (a : Unit {0}) (r : Result (BoundIds E) VisitFault) →
+      bound_vars values ++ bound_vars it ≡ bound_vars all → it ≡ (k, id) ∷ rest → IsStrictlySortedBy nat_cmp (bound_vars all) → binds no_memory k x values (Ok a) next →
+      (after_these values (after_these ((k, x) ∷ []) r) ≡ after_these next r) × (bound_vars next ++ bound_vars rest ≡ bound_vars all)
   exchanged_more values next it rest all k id x a r done is sorted bound =
-      let whole : keys_of values ++ k ∷ keys_of rest ≡ keys_of all = ap (λ l. keys_of values ++ keys_of l) (sym is) ∙ done in
-      let at : next ≡ insert_entry var_cmp values k x = ⊎_elim (λ p. p.1) (λ p. absurd (true≢false (ap is_ok p.0))) bound in
-      let last : next ≡ values ++ (k, x) ∷ [] = at ∙ insert_last values k x (keys_of rest) (subst (IsStrictlySortedBy var_cmp) (sym whole) sorted) in (
+      let whole : bound_vars values ++ k ∷ bound_vars rest ≡ bound_vars all = ap (λ l. bound_vars values ++ bound_vars l) (sym is) ∙ done in
+      let at : next ≡ with_bound values k x = ⊎_elim (λ p. p.1) (λ p. absurd (true≢false (ap is_ok p.0))) bound in
+      let last : next ≡ values ++ (k, x) ∷ [] = at ∙ insert_last values k x (bound_vars rest) (subst (IsStrictlySortedBy nat_cmp) (sym whole) sorted) in (
         after_one r ∙ ap (λ l. after_these l r) (sym last),
-        ap (λ l. keys_of l ++ keys_of rest) last ∙ ap (λ l. l ++ keys_of rest) (map-append (λ (e : VarId × E). e.0) values ((k, x) ∷ [])) ∙ append_assoc (keys_of values) (k ∷ []) (keys_of rest) ∙ whole,
+        ap (λ l. bound_vars l ++ bound_vars rest) last ∙ ap (λ l. l ++ bound_vars rest) (map-append (λ (e : ℕ × E). e.0) values ((k, x) ∷ [])) ∙ append_assoc (bound_vars values) (k ∷ []) (bound_vars rest) ∙ whole,
       )
     where
       after_one : (q : Result (BoundIds E) VisitFault) → after_these values (after_these ((k, x) ∷ []) q) ≡ after_these (values ++ (k, x) ∷ []) q
       after_one (Ok ys) = ap Ok (sym (append_assoc values ((k, x) ∷ []) ys))
       after_one (Err e) = refl
 
-module _ {S L M X P E : Type 0} (v : RuleSteps S L M X P E) (p : PatternSteps L P) (q : ExprSteps M E) (terms : List TermEntry) where
+module _ {S L M X P E : Type 0} (v : RuleSteps VisitFault S L M X P E) (p : PatternSteps VisitFault L P) (q : ExprSteps VisitFault M E) (terms : List TermEntry) where
+  -- a visitor that is lent for an expression runs its visit
+  pub lends_value : (expr : TypedExpr) (ws : BoundIds E) (body : M → Result (VisitedExpr E) VisitFault → M → Type 0) (s : S) (r : Result X VisitFault) (t : S) →
+      ((l : M) (a : Result (VisitedExpr E) VisitFault) (k : M) → body l a k → lent_valuing (ExprRun no_memory q terms expr ws) (expr_type expr) l (visited_of a) k) →
+      lent_run (λ s r t. v.lend_expr_steps s r t) (λ l x s r t. v.take_expr_steps s l x.ty.0 x.value r t) (λ l s t. v.leave_expr_steps l s t) body s r t → ExprCall no_memory v p q terms expr ws s r t
+  lends_value expr ws body s r t f h = ⊎_elim (λ e. inl e) (λ c. inr (c.0, c.1, visited_of c.2, c.3, c.4, f c.0 c.2 c.3 c.5, same c.2 c.3 c.1 c.6)) h
+    where
+      same : (a : Result (VisitedExpr E) VisitFault) (k : M) (g : S) → MatchResult a (λ x. v.take_expr_steps g k x.ty.0 x.value r t) (λ e. v.leave_expr_steps k g t × (r ≡ Err e)) →
+          MatchResult (visited_of a) (λ x. v.take_expr_steps g k x.0 x.1 r t) (λ e. v.leave_expr_steps k g t × (r ≡ Err e))
+      same (Ok x) k g m = m
+      same (Err e) k g m = m
+
+  -- and one that is lent for a pattern, where a map answers the variables
+  pub lends_pattern : (pattern : TypedPattern) (input : P) (vs : BoundIds P) (body : L → Result (BTreeMap VarId P) VisitFault → L → Type 0) (s : S) (r : Result (BTreeMap VarId P) VisitFault) (t : S) →
+      ((l : L) (a : Result (BTreeMap VarId P) VisitFault) (k : L) → body l a k → lent_binding (PatternRun no_memory p terms pattern input) vs l (entries_of a) k) →
+      lent_run (λ s r t. v.lend_pattern_steps s r t) (taking (λ s l r t. v.take_pattern_steps s l r t)) (λ l s t. v.leave_pattern_steps l s t) body s r t →
+      PatternCall no_memory v p q terms pattern input vs s (entries_of r) t
+  lends_pattern pattern input vs body s r t f h = ⊎_elim (λ e. inl (e.0, e.1, ap entries_of e.2)) (λ c. inr (c.0, c.1, entries_of c.2, c.3, c.4, f c.0 c.2 c.3 c.5, same c.2 c.3 c.1 c.6)) h
+    where
+      seen : (u : Result (Unit {0}) VisitFault) (x : BTreeMap VarId P) → entries_of (answering x u) ≡ answering (by_number x.entries) u
+      seen (Ok a) x = refl
+      seen (Err e) x = refl
+
+      same : (a : Result (BTreeMap VarId P) VisitFault) (k : L) (g : S) → MatchResult a (λ x. taking (λ s l r t. v.take_pattern_steps s l r t) k x g r t) (λ e. v.leave_pattern_steps k g t × (r ≡ Err e)) →
+          MatchResult (entries_of a) (λ x. taking (λ s l r t. v.take_pattern_steps s l r t) k x g (entries_of r) t) (λ e. v.leave_pattern_steps k g t × (entries_of r ≡ Err e))
+      same (Ok x) k g m = (m.0, m.1, ap entries_of m.2 ∙ seen m.0 x)
+      same (Err e) k g m = (m.0, ap entries_of m.1)
+
   -- what is bound after `add_pattern`
-  pub call_binds : (pattern : TypedPattern) (input : P) (vs : BoundIds P) (s : S) (ws : BoundIds P) (t : S) → PatternCall v p q terms pattern input vs s (Ok ws) t → SameVars (bound_vars ws) (bound_after pattern (bound_vars vs))
+  pub call_binds : (pattern : TypedPattern) (input : P) (vs : BoundIds P) (s : S) (ws : BoundIds P) (t : S) → PatternCall no_memory v p q terms pattern input vs s (Ok ws) t → SameVars (bound_vars ws) (bound_after pattern (bound_vars vs))
   call_binds pattern input vs s ws t h = ⊎_elim (λ e. absurd (true≢false (ap is_ok e.2))) (λ c. of_body c.2 c.0 c.3 c.1 c.5 c.6) h
     where
       of_answer : (u : Result (Unit {0}) VisitFault) (xs : BoundIds P) → ◌≡◌ {A = Result (BoundIds P) VisitFault} (Ok ws) (answering xs u) → ws ≡ xs
       of_answer (Ok a) xs e = same_ok ws xs e
       of_answer (Err f) xs e = absurd (true≢false (ap is_ok e))
 
-      of_body : (a : Result (BoundIds P) VisitFault) (l k : L) (g : S) → lent_binding (PatternRun p terms pattern input) vs l a k →
+      of_body : (a : Result (BoundIds P) VisitFault) (l k : L) (g : S) → lent_binding (PatternRun no_memory p terms pattern input) vs l a k →
           MatchResult a (λ x. taking (λ s l r t. v.take_pattern_steps s l r t) k x g (Ok ws) t) (λ e. v.leave_pattern_steps k g t × (◌≡◌ {A = Result (BoundIds P) VisitFault} (Ok ws) (Err e))) →
           SameVars (bound_vars ws) (bound_after pattern (bound_vars vs))
       of_body (Ok xs) l k g body m = λ y. ap (λ zs. is_in y (bound_vars zs)) (of_answer m.0 xs m.2) ∙ run_binds p terms pattern input (l, vs) tt (k, xs) body y
       of_body (Err e) l k g body m = absurd (true≢false (ap is_ok m.1))
 
   pub args_step : (ps : List Pattern) (tys : List TypeId) (i : ℕ) (d : Pattern) (y : TypeId) (vs ws : BoundIds P) (x : P) (s u w : S) (r : Result (BoundIds P) VisitFault) (t : S) →
-      i < length ps → i < length tys → v.arg_steps s i (get_or tys i y).0 (Ok x) u → PatternCall v p q terms (pattern_view (get_or ps i d)) x vs u (Ok ws) w →
-      ArgsRun v p q terms (pattern_views (drop (i + 1) ps)) (type_numbers (drop (i + 1) tys)) (i + 1) ws w r t → ArgsRun v p q terms (pattern_views (drop i ps)) (type_numbers (drop i tys)) i vs s r t
+      i < length ps → i < length tys → v.arg_steps s i (get_or tys i y).0 (Ok x) u → PatternCall no_memory v p q terms (pattern_view (get_or ps i d)) x vs u (Ok ws) w →
+      ArgsRun no_memory v p q terms (pattern_views (drop (i + 1) ps)) (type_numbers (drop (i + 1) tys)) (i + 1) ws w r t → ArgsRun no_memory v p q terms (pattern_views (drop i ps)) (type_numbers (drop i tys)) i vs s r t
   args_step ps tys i d y vs ws x s u w r t lt lt' first second rest =
       rw (drop_more ps i d lt, drop_more tys i y lt')
-      (inl (x, u, first, inl (ws, w, second, subst (λ k. ArgsRun v p q terms (pattern_views (drop (i + 1) ps)) (type_numbers (drop (i + 1) tys)) k ws w r t) (add-one i) rest)))
+      (inl (x, u, first, inl (ws, w, second, subst (λ k. ArgsRun no_memory v p q terms (pattern_views (drop (i + 1) ps)) (type_numbers (drop (i + 1) tys)) k ws w r t) (add-one i) rest)))
 
   pub args_stop_arg : (ps : List Pattern) (tys : List TypeId) (i : ℕ) (d : Pattern) (y : TypeId) (vs : BoundIds P) (s : S) (f : VisitFault) (t : S) →
-      i < length ps → i < length tys → v.arg_steps s i (get_or tys i y).0 (Err f) t → ArgsRun v p q terms (pattern_views (drop i ps)) (type_numbers (drop i tys)) i vs s (Err f) t
+      i < length ps → i < length tys → v.arg_steps s i (get_or tys i y).0 (Err f) t → ArgsRun no_memory v p q terms (pattern_views (drop i ps)) (type_numbers (drop i tys)) i vs s (Err f) t
   args_stop_arg ps tys i d y vs s f t lt lt' first = rw (drop_more ps i d lt, drop_more tys i y lt') (inr (f, first, refl))
 
   pub args_stop : (ps : List Pattern) (tys : List TypeId) (i : ℕ) (d : Pattern) (y : TypeId) (vs : BoundIds P) (x : P) (s u : S) (f : VisitFault) (t : S) →
-      i < length ps → i < length tys → v.arg_steps s i (get_or tys i y).0 (Ok x) u → PatternCall v p q terms (pattern_view (get_or ps i d)) x vs u (Err f) t →
-      ArgsRun v p q terms (pattern_views (drop i ps)) (type_numbers (drop i tys)) i vs s (Err f) t
+      i < length ps → i < length tys → v.arg_steps s i (get_or tys i y).0 (Ok x) u → PatternCall no_memory v p q terms (pattern_view (get_or ps i d)) x vs u (Err f) t →
+      ArgsRun no_memory v p q terms (pattern_views (drop i ps)) (type_numbers (drop i tys)) i vs s (Err f) t
   args_stop ps tys i d y vs x s u f t lt lt' first second = rw (drop_more ps i d lt, drop_more tys i y lt') (inl (x, u, first, inr (f, second, refl)))
 
   pub args_end : (ps : List Pattern) (tys : List TypeId) (i : ℕ) (vs : BoundIds P) (s : S) → length ps ≤ i → length tys ≤ i →
-      ArgsRun v p q terms (pattern_views (drop i ps)) (type_numbers (drop i tys)) i vs s (Ok vs) s
+      ArgsRun no_memory v p q terms (pattern_views (drop i ps)) (type_numbers (drop i tys)) i vs s (Ok vs) s
   args_end ps tys i vs s h h' = rw (drop_all i ps h, drop_all i tys h') (refl, refl)
 
   pub iflets_step : (fs : List IfLet) (i : ℕ) (d : IfLet) (vs ws : BoundIds P) (e : X) (x : P) (s u w z : S) (r : Result (BoundIds P) VisitFault) (t : S) →
-      i < length fs → ValueRun v p q terms (expr_view (get_or fs i d).rhs) vs s (Ok e) u → v.expr_as_pattern_steps u e (Ok x) w → PatternCall v p q terms (pattern_view (get_or fs i d).lhs) x vs w (Ok ws) z →
-      IfLetsRun v p q terms (map iflet_view (drop (i + 1) fs)) ws z r t → IfLetsRun v p q terms (map iflet_view (drop i fs)) vs s r t
+      i < length fs → ValueRun no_memory v p q terms (expr_view (get_or fs i d).rhs) vs s (Ok e) u → v.expr_as_pattern_steps u e (Ok x) w → PatternCall no_memory v p q terms (pattern_view (get_or fs i d).lhs) x vs w (Ok ws) z →
+      IfLetsRun no_memory v p q terms (map iflet_view (drop (i + 1) fs)) ws z r t → IfLetsRun no_memory v p q terms (map iflet_view (drop i fs)) vs s r t
   iflets_step fs i d vs ws e x s u w z r t lt first second third rest = rw (drop_more fs i d lt) (inl (e, u, first, inl (x, w, second, inl (ws, z, third, rest))))
 
   pub iflets_stop_value : (fs : List IfLet) (i : ℕ) (d : IfLet) (vs : BoundIds P) (s : S) (f : VisitFault) (t : S) →
-      i < length fs → ValueRun v p q terms (expr_view (get_or fs i d).rhs) vs s (Err f) t → IfLetsRun v p q terms (map iflet_view (drop i fs)) vs s (Err f) t
+      i < length fs → ValueRun no_memory v p q terms (expr_view (get_or fs i d).rhs) vs s (Err f) t → IfLetsRun no_memory v p q terms (map iflet_view (drop i fs)) vs s (Err f) t
   iflets_stop_value fs i d vs s f t lt first = rw (drop_more fs i d lt) (inr (f, first, refl))
 
   pub iflets_stop_input : (fs : List IfLet) (i : ℕ) (d : IfLet) (vs : BoundIds P) (e : X) (s u : S) (f : VisitFault) (t : S) →
-      i < length fs → ValueRun v p q terms (expr_view (get_or fs i d).rhs) vs s (Ok e) u → v.expr_as_pattern_steps u e (Err f) t → IfLetsRun v p q terms (map iflet_view (drop i fs)) vs s (Err f) t
+      i < length fs → ValueRun no_memory v p q terms (expr_view (get_or fs i d).rhs) vs s (Ok e) u → v.expr_as_pattern_steps u e (Err f) t → IfLetsRun no_memory v p q terms (map iflet_view (drop i fs)) vs s (Err f) t
   iflets_stop_input fs i d vs e s u f t lt first second = rw (drop_more fs i d lt) (inl (e, u, first, inr (f, second, refl)))
 
   pub iflets_stop_pattern : (fs : List IfLet) (i : ℕ) (d : IfLet) (vs : BoundIds P) (e : X) (x : P) (s u w : S) (f : VisitFault) (t : S) →
-      i < length fs → ValueRun v p q terms (expr_view (get_or fs i d).rhs) vs s (Ok e) u → v.expr_as_pattern_steps u e (Ok x) w → PatternCall v p q terms (pattern_view (get_or fs i d).lhs) x vs w (Err f) t →
-      IfLetsRun v p q terms (map iflet_view (drop i fs)) vs s (Err f) t
+      i < length fs → ValueRun no_memory v p q terms (expr_view (get_or fs i d).rhs) vs s (Ok e) u → v.expr_as_pattern_steps u e (Ok x) w → PatternCall no_memory v p q terms (pattern_view (get_or fs i d).lhs) x vs w (Err f) t →
+      IfLetsRun no_memory v p q terms (map iflet_view (drop i fs)) vs s (Err f) t
   iflets_stop_pattern fs i d vs e x s u w f t lt first second third = rw (drop_more fs i d lt) (inl (e, u, first, inl (x, w, second, inr (f, third, refl))))
 
-  pub iflets_end : (fs : List IfLet) (i : ℕ) (vs : BoundIds P) (s : S) → length fs ≤ i → IfLetsRun v p q terms (map iflet_view (drop i fs)) vs s (Ok vs) s
+  pub iflets_end : (fs : List IfLet) (i : ℕ) (vs : BoundIds P) (s : S) → length fs ≤ i → IfLetsRun no_memory v p q terms (map iflet_view (drop i fs)) vs s (Ok vs) s
   iflets_end fs i vs s h = rw (drop_all i fs h) (refl, refl)
 
   -- what is bound after all arguments, and after all if-lets
-  pub args_bind : (ps : List TypedPattern) (tys : List ℕ) (i : ℕ) (vs : BoundIds P) (s : S) (ws : BoundIds P) (t : S) → ArgsRun v p q terms ps tys i vs s (Ok ws) t → SameVars (bound_vars ws) (bound_after_list ps (bound_vars vs))
+  pub args_bind : (ps : List TypedPattern) (tys : List ℕ) (i : ℕ) (vs : BoundIds P) (s : S) (ws : BoundIds P) (t : S) → ArgsRun no_memory v p q terms ps tys i vs s (Ok ws) t → SameVars (bound_vars ws) (bound_after_list ps (bound_vars vs))
   args_bind [] [] i vs s ws t h = λ y. ap (λ zs. is_in y (bound_vars zs)) (same_ok ws vs h.0)
   args_bind [] (ty ∷ tys) i vs s ws t h = absurd h
   args_bind (a ∷ rest) [] i vs s ws t h = absurd h
@@ -189,7 +217,7 @@ module _ {S L M X P E : Type 0} (v : RuleSteps S L M X P E) (p : PatternSteps L 
       (λ e. absurd (true≢false (ap is_ok e.2)))
       h
 
-  pub iflets_bind : (fs : List TypedIfLet) (vs : BoundIds P) (s : S) (ws : BoundIds P) (t : S) → IfLetsRun v p q terms fs vs s (Ok ws) t → SameVars (bound_vars ws) (bound_after_iflets fs (bound_vars vs))
+  pub iflets_bind : (fs : List TypedIfLet) (vs : BoundIds P) (s : S) (ws : BoundIds P) (t : S) → IfLetsRun no_memory v p q terms fs vs s (Ok ws) t → SameVars (bound_vars ws) (bound_after_iflets fs (bound_vars vs))
   iflets_bind [] vs s ws t h = λ y. ap (λ zs. is_in y (bound_vars zs)) (same_ok ws vs h.0)
   iflets_bind (f ∷ rest) vs s ws t h =
       ⊎_elim
@@ -206,14 +234,14 @@ module _ {S L M X P E : Type 0} (v : RuleSteps S L M X P E) (p : PatternSteps L 
   types_of_root rule e tys at is = ap entry_arg_types at ∙ is
 
   pub runs_rule : (rule : TypedRule) (e : TermEntry) (tys : List TypeId) (vs ws : BoundIds P) (s u w : S) (r : Result X VisitFault) (t : S) → slice_get terms rule.root_term ≡ Some e → e.arg_tys ≡ type_numbers tys →
-      ArgsRun v p q terms rule.args (type_numbers tys) 0 [] s (Ok vs) u → IfLetsRun v p q terms rule.iflets vs u (Ok ws) w → ValueRun v p q terms rule.rhs ws w r t → RuleRun v p q terms rule s r t
+      ArgsRun no_memory v p q terms rule.args (type_numbers tys) 0 [] s (Ok vs) u → IfLetsRun no_memory v p q terms rule.iflets vs u (Ok ws) w → ValueRun no_memory v p q terms rule.rhs ws w r t → RuleRun no_memory v p q terms rule s r t
   runs_rule rule e tys vs ws s u w r t at is first second third =
-      inl (vs, u, subst (λ zs. ArgsRun v p q terms rule.args zs 0 [] s (Ok vs) u) (sym (types_of_root rule e tys at is)) first, inl (ws, w, second, third))
+      inl (vs, u, subst (λ zs. ArgsRun no_memory v p q terms rule.args zs 0 [] s (Ok vs) u) (sym (types_of_root rule e tys at is)) first, inl (ws, w, second, third))
 
   pub stops_iflets : (rule : TypedRule) (e : TermEntry) (tys : List TypeId) (vs : BoundIds P) (s u : S) (f : VisitFault) (t : S) → slice_get terms rule.root_term ≡ Some e → e.arg_tys ≡ type_numbers tys →
-      ArgsRun v p q terms rule.args (type_numbers tys) 0 [] s (Ok vs) u → IfLetsRun v p q terms rule.iflets vs u (Err f) t → RuleRun v p q terms rule s (Err f) t
+      ArgsRun no_memory v p q terms rule.args (type_numbers tys) 0 [] s (Ok vs) u → IfLetsRun no_memory v p q terms rule.iflets vs u (Err f) t → RuleRun no_memory v p q terms rule s (Err f) t
   stops_iflets rule e tys vs s u f t at is first second =
-      inl (vs, u, subst (λ zs. ArgsRun v p q terms rule.args zs 0 [] s (Ok vs) u) (sym (types_of_root rule e tys at is)) first, inr (f, second, refl))
+      inl (vs, u, subst (λ zs. ArgsRun no_memory v p q terms rule.args zs 0 [] s (Ok vs) u) (sym (types_of_root rule e tys at is)) first, inr (f, second, refl))
 
 -- what is asked of a rule's parts
 pub record RuleParts (terms : List TermEntry) (r : TypedRule) : Type 0 where

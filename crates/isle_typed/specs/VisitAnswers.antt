@@ -1,17 +1,11 @@
 -- Answers of a visit's calls, without where their parts lie in memory.
 use Rattle.std.specs.Prelude.{ℕ, List, map, Result, Ok, Err, Vec}
-use Rattle.std.specs.BTreeMap.{BTreeMap}
 use Rattle.isle_types.specs.declared.ids.TypeId.{TypeId}
 
 -- the answer, with the list of a vector in its place
 abbrev pub listed : {A E Z : Type 0} → Result (Vec A Z) E → Result (List A) E
 listed (Ok v) = Ok v.items
 listed (Err e) = Err e
-
--- the answer, with the entries of a map in its place
-abbrev pub entries_of : {K A E : Type 0} → Result (BTreeMap K A) E → Result (List (K × A)) E
-entries_of (Ok m) = Ok m.entries
-entries_of (Err e) = Err e
 
 -- types by their numbers
 abbrev pub type_numbers : List TypeId → List ℕ

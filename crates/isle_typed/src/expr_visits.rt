@@ -1,11 +1,12 @@
 //! The visit of an expression by any visitor.
 
 ghost use Rattle.std.specs.Prelude.{◌≡◌, IfOk, IsTrue, IfErr, alloc_error, length, slice_get, vec_len};
-ghost use Rattle.isle_typed.specs.ExprRuns.{ExprRun, InputsRun, LetsRun, Makes};
+ghost use Rattle.isle_model.specs.visits.ExprRuns.{ExprRun, InputsRun, LetsRun, Makes};
 ghost use Rattle.isle_typed.specs.ExprViews.{expr_view, expr_views, expr_parts, let_views, let_parts};
 ghost use Rattle.isle_model.specs.lists.Visitable.{is_visitable_expr, are_visitable_args, are_visitable_lets, is_made_of};
 ghost use Rattle.isle_typed.specs.VisitAnswers.{inputs_of, type_numbers, typed_inputs};
-ghost use Rattle.isle_typed.specs.VisitRuns.{answering, bound_vars};
+ghost use Rattle.isle_model.specs.visits.Runs.{answering, bound_vars};
+ghost use Rattle.isle_typed.specs.VisitorSteps.{by_number, expr_steps, no_memory};
 ghost use Rattle.isle_base.specs.declared.visit_fault.VisitFault.TheVariants.{Memory};
 
 use crate::exprs::Expr;
@@ -27,7 +28,7 @@ fn make<V: ExprVisitor, E: UsedTerms>(
     inputs: Vec<(V::ExprId, TypeId)>,
 ) -> Result<V::ExprId, VisitFault>
     requires { IsTrue (is_made_of (E.term_entries termenv.now) term.0 (length inputs.items)) }
-    ensures { Makes V.ExprVisitor ty.0 term.0 (typed_inputs inputs.items) (slice_get (E.term_entries termenv.now) term.0) visitor.old result visitor.new }
+    ensures { Makes (expr_steps V.ExprVisitor) ty.0 term.0 (typed_inputs inputs.items) (slice_get (E.term_entries termenv.now) term.0) visitor.old result visitor.new }
 {
     match &termenv.used_term(term).kind {
         TermKind::EnumVariant { variant } => visitor.add_create_variant(inputs, ty, *variant),
@@ -60,7 +61,7 @@ fn copy_vars<P: Copy>(
     alloc: Global,
     vars: &BTreeMap<VarId, P>,
 ) -> Result<BTreeMap<VarId, P>, VisitFault>
-    ensures ok { IfOk result (λ copy. copy.entries ≡ vars.now.entries) }
+    ensures ok { IfOk result (λ copy. by_number copy.entries ≡ by_number vars.now.entries) }
     ensures err { IfErr result (λ fault. fault ≡ Memory alloc_error) }
 {
     let mut copy = BTreeMap::new(alloc);
@@ -88,8 +89,8 @@ impl Expr {
         termenv: &E,
         vars: &BTreeMap<VarId, V::ExprId>,
     ) -> Result<V::ExprId, VisitFault>
-        requires visitable { IsTrue (is_visitable_expr (E.term_entries termenv.now) (expr_view self.now) (bound_vars vars.now.entries)) }
-        ensures run { ExprRun V.ExprVisitor (E.term_entries termenv.now) (expr_view self.now) vars.now.entries visitor.old result visitor.new }
+        requires visitable { IsTrue (is_visitable_expr (E.term_entries termenv.now) (expr_view self.now) (bound_vars (by_number vars.now.entries))) }
+        ensures run { ExprRun no_memory (expr_steps V.ExprVisitor) (E.term_entries termenv.now) (expr_view self.now) (by_number vars.now.entries) visitor.old result visitor.new }
     {
         match self {
             Expr::Term(ty, term, args) => {
@@ -120,9 +121,9 @@ fn visit_inputs<V: ExprVisitor, E: UsedTerms>(
     termenv: &E,
     vars: &BTreeMap<VarId, V::ExprId>,
 ) -> Result<Vec<(V::ExprId, TypeId)>, VisitFault>
-    requires visitable { IsTrue (are_visitable_args (E.term_entries termenv.now) (expr_parts (expr_views args.now)) (bound_vars vars.now.entries)) }
+    requires visitable { IsTrue (are_visitable_args (E.term_entries termenv.now) (expr_parts (expr_views args.now)) (bound_vars (by_number vars.now.entries))) }
     requires count { length tys.now ≡ length args.now }
-    ensures run { InputsRun V.ExprVisitor (E.term_entries termenv.now) (expr_parts (expr_views args.now)) (type_numbers tys.now) vars.now.entries visitor.old (inputs_of result) visitor.new }
+    ensures run { InputsRun no_memory (expr_steps V.ExprVisitor) (E.term_entries termenv.now) (expr_parts (expr_views args.now)) (type_numbers tys.now) (by_number vars.now.entries) visitor.old (inputs_of result) visitor.new }
     ensures count { IfOk result (λ inputs. vec_len inputs ≡ length args.now) }
 {
     let mut inputs = Vec::new(alloc);
@@ -142,8 +143,8 @@ fn visit_lets<V: ExprVisitor, E: UsedTerms>(
     termenv: &E,
     vars: &mut BTreeMap<VarId, V::ExprId>,
 ) -> Result<(), VisitFault>
-    requires { IsTrue (are_visitable_lets (E.term_entries termenv.now) (let_parts (let_views bindings.now)) (bound_vars vars.old.entries)) }
-    ensures { LetsRun V.ExprVisitor (E.term_entries termenv.now) (let_parts (let_views bindings.now)) vars.old.entries visitor.old (answering vars.new.entries result) visitor.new }
+    requires { IsTrue (are_visitable_lets (E.term_entries termenv.now) (let_parts (let_views bindings.now)) (bound_vars (by_number vars.old.entries))) }
+    ensures { LetsRun no_memory (expr_steps V.ExprVisitor) (E.term_entries termenv.now) (let_parts (let_views bindings.now)) (by_number vars.old.entries) visitor.old (answering (by_number vars.new.entries) result) visitor.new }
 {
     for binding in bindings {
         let value = binding.2.visit(alloc, visitor, termenv, vars)?;

@@ -3,11 +3,12 @@
 ghost use Rattle.std.specs.Prelude.{◌≡◌, IfOk, IsTrue, Some, length, slice_get, vec_len};
 ghost use Rattle.isle_model.specs.rules.Program.{always_answers};
 ghost use Rattle.isle_model.specs.trees.Places.{is_in};
-ghost use Rattle.isle_typed.specs.PatternRuns.{part_types, PatternRun, PartsRun, EachRun, Opens};
+ghost use Rattle.isle_model.specs.visits.PatternRuns.{part_types, PatternRun, PartsRun, EachRun, Opens};
 ghost use Rattle.isle_typed.specs.PatternViews.{pattern_view, pattern_views, pattern_parts};
 ghost use Rattle.isle_model.specs.lists.Visitable.{is_visitable_pattern, are_visitable_parts, opens_into};
 ghost use Rattle.isle_typed.specs.VisitAnswers.{listed, type_numbers};
-ghost use Rattle.isle_typed.specs.VisitRuns.{binds, bound_at, bound_vars};
+ghost use Rattle.isle_model.specs.visits.Runs.{binds, bound_at, bound_vars};
+ghost use Rattle.isle_typed.specs.VisitorSteps.{by_number, no_memory, pattern_steps};
 ghost use Rattle.isle_terms.specs.TermViews.{flags_view, extractor_view};
 
 use crate::patterns::Pattern;
@@ -33,7 +34,7 @@ fn types_of(alloc: Global, patterns: &[Pattern]) -> Result<Vec<TypeId>, AllocErr
 /// Binds a variable to an id, over what it was bound to. `Memory` where memory is refused: then nothing
 /// changes.
 pub fn bind_var<P: Copy>(vars: &mut BTreeMap<VarId, P>, var: VarId, id: P) -> Result<(), VisitFault>
-    ensures { binds var.0 id vars.old.entries result vars.new.entries }
+    ensures { binds no_memory var.0 id (by_number vars.old.entries) result (by_number vars.new.entries) }
 {
     vars.insert(var, id)?;
     Ok(())
@@ -41,8 +42,8 @@ pub fn bind_var<P: Copy>(vars: &mut BTreeMap<VarId, P>, var: VarId, id: P) -> Re
 
 /// The id that a variable is bound to. It has to be bound.
 pub fn bound_id<P: Copy>(vars: &BTreeMap<VarId, P>, var: VarId) -> P
-    requires { IsTrue (is_in var.0 (bound_vars vars.now.entries)) }
-    ensures { bound_at vars.now.entries var.0 ≡ Some result }
+    requires { IsTrue (is_in var.0 (bound_vars (by_number vars.now.entries))) }
+    ensures { bound_at (by_number vars.now.entries) var.0 ≡ Some result }
 {
     match vars.get(&var) {
         Some(id) => *id,
@@ -72,7 +73,7 @@ fn part_ids<V: PatternVisitor, E: UsedTerms>(
     parts: &[Pattern],
 ) -> Result<Vec<V::PatternId>, VisitFault>
     requires { IsTrue (opens_into (E.term_entries termenv.now) term.0 (length parts.now)) }
-    ensures steps { Opens V.PatternVisitor ty.0 term.0 (part_types (pattern_parts (pattern_views parts.now))) input (slice_get (E.term_entries termenv.now) term.0) visitor.old (listed result) visitor.new }
+    ensures steps { Opens no_memory (pattern_steps V.PatternVisitor) ty.0 term.0 (part_types (pattern_parts (pattern_views parts.now))) input (slice_get (E.term_entries termenv.now) term.0) visitor.old (listed result) visitor.new }
     ensures count { IfOk result (λ ids. vec_len ids ≡ length parts.now) }
 {
     let used = termenv.used_term(term);
@@ -127,8 +128,8 @@ impl Pattern {
         termenv: &E,
         vars: &mut BTreeMap<VarId, V::PatternId>,
     ) -> Result<(), VisitFault>
-        requires visitable { IsTrue (is_visitable_pattern (E.term_entries termenv.now) (pattern_view self.now) (bound_vars vars.old.entries)) }
-        ensures run { PatternRun V.PatternVisitor (E.term_entries termenv.now) (pattern_view self.now) input (visitor.old, vars.old.entries) result (visitor.new, vars.new.entries) }
+        requires visitable { IsTrue (is_visitable_pattern (E.term_entries termenv.now) (pattern_view self.now) (bound_vars (by_number vars.old.entries))) }
+        ensures run { PatternRun no_memory (pattern_steps V.PatternVisitor) (E.term_entries termenv.now) (pattern_view self.now) input (visitor.old, by_number vars.old.entries) result (visitor.new, by_number vars.new.entries) }
     {
         match self {
             Pattern::BindPattern(_, var, of) => {
@@ -159,9 +160,9 @@ fn visit_parts<V: PatternVisitor, E: UsedTerms>(
     termenv: &E,
     vars: &mut BTreeMap<VarId, V::PatternId>,
 ) -> Result<(), VisitFault>
-    requires visitable { IsTrue (are_visitable_parts (E.term_entries termenv.now) (pattern_parts (pattern_views parts.now)) (bound_vars vars.old.entries)) }
+    requires visitable { IsTrue (are_visitable_parts (E.term_entries termenv.now) (pattern_parts (pattern_views parts.now)) (bound_vars (by_number vars.old.entries))) }
     requires count { length ids.now ≡ length parts.now }
-    ensures { PartsRun V.PatternVisitor (E.term_entries termenv.now) (pattern_parts (pattern_views parts.now)) ids.now (visitor.old, vars.old.entries) result (visitor.new, vars.new.entries) }
+    ensures { PartsRun no_memory (pattern_steps V.PatternVisitor) (E.term_entries termenv.now) (pattern_parts (pattern_views parts.now)) ids.now (visitor.old, by_number vars.old.entries) result (visitor.new, by_number vars.new.entries) }
 {
     for (i, part) in parts.iter().enumerate() {
         part.visit(alloc, visitor, ids[i], termenv, vars)?;
@@ -179,8 +180,8 @@ fn visit_each<V: PatternVisitor, E: UsedTerms>(
     termenv: &E,
     vars: &mut BTreeMap<VarId, V::PatternId>,
 ) -> Result<(), VisitFault>
-    requires { IsTrue (are_visitable_parts (E.term_entries termenv.now) (pattern_parts (pattern_views parts.now)) (bound_vars vars.old.entries)) }
-    ensures { EachRun V.PatternVisitor (E.term_entries termenv.now) (pattern_parts (pattern_views parts.now)) input (visitor.old, vars.old.entries) result (visitor.new, vars.new.entries) }
+    requires { IsTrue (are_visitable_parts (E.term_entries termenv.now) (pattern_parts (pattern_views parts.now)) (bound_vars (by_number vars.old.entries))) }
+    ensures { EachRun no_memory (pattern_steps V.PatternVisitor) (E.term_entries termenv.now) (pattern_parts (pattern_views parts.now)) input (visitor.old, by_number vars.old.entries) result (visitor.new, by_number vars.new.entries) }
 {
     for part in parts {
         part.visit(alloc, visitor, input, termenv, vars)?;

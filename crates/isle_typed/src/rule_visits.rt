@@ -2,15 +2,16 @@
 
 ghost use Rattle.std.specs.Prelude.{◌≡◌, [], IsTrue, MatchResult, length, map};
 ghost use Rattle.isle_model.specs.lists.Setting.{expr_type};
-ghost use Rattle.isle_typed.specs.ExprRuns.{ExprRun};
+ghost use Rattle.isle_model.specs.visits.ExprRuns.{ExprRun};
 ghost use Rattle.isle_typed.specs.ExprViews.{expr_view};
-ghost use Rattle.isle_typed.specs.PatternRuns.{PatternRun};
+ghost use Rattle.isle_model.specs.visits.PatternRuns.{PatternRun};
 ghost use Rattle.isle_typed.specs.PatternViews.{pattern_view, pattern_views};
-ghost use Rattle.isle_typed.specs.RuleRuns.{lent_binding, lent_valuing, visited_of, PatternCall, ExchangeRun, ExprCall, ValueRun, ArgsRun, IfLetsRun, RuleRun};
+ghost use Rattle.isle_model.specs.visits.RuleRuns.{lent_binding, lent_valuing, PatternCall, ExchangeRun, ExprCall, ValueRun, ArgsRun, IfLetsRun, RuleRun};
 ghost use Rattle.isle_typed.specs.RuleViews.{iflet_view, rule_view};
 ghost use Rattle.isle_model.specs.lists.Visitable.{is_visitable_pattern, is_visitable_expr, are_visitable_list, are_visitable_iflets, is_visitable_rule};
-ghost use Rattle.isle_typed.specs.VisitAnswers.{entries_of, type_numbers};
-ghost use Rattle.isle_typed.specs.VisitRuns.{bound_vars};
+ghost use Rattle.isle_typed.specs.VisitAnswers.{type_numbers};
+ghost use Rattle.isle_model.specs.visits.Runs.{bound_vars};
+ghost use Rattle.isle_typed.specs.VisitorSteps.{by_number, entries_of, expr_steps, no_memory, pattern_steps, rule_steps, visited_of};
 
 use crate::exprs::Expr;
 use crate::pattern_visits::bind_var;
@@ -37,13 +38,13 @@ fn show_pattern<V: RuleVisitor, E: UsedTerms>(
     termenv: &E,
     vars: Inputs<V>,
 ) -> Result<Inputs<V>, VisitFault>
-    requires { IsTrue (is_visitable_pattern (E.term_entries termenv.now) (pattern_view pattern.now) (bound_vars vars.entries)) }
-    ensures { PatternCall V.RuleVisitor V.PatternVisitor.PatternVisitor V.ExprVisitor.ExprVisitor (E.term_entries termenv.now) (pattern_view pattern.now) input vars.entries visitor.old (entries_of result) visitor.new }
+    requires { IsTrue (is_visitable_pattern (E.term_entries termenv.now) (pattern_view pattern.now) (bound_vars (by_number vars.entries))) }
+    ensures { PatternCall no_memory (rule_steps V.RuleVisitor) (pattern_steps V.PatternVisitor.PatternVisitor) (expr_steps V.ExprVisitor.ExprVisitor) (E.term_entries termenv.now) (pattern_view pattern.now) input (by_number vars.entries) visitor.old (entries_of result) visitor.new }
 {
     visitor.add_pattern(
         move |inner: &mut V::PatternVisitor| -> Result<Inputs<V>, VisitFault>
-            requires { IsTrue (is_visitable_pattern (E.term_entries termenv.now) (pattern_view pattern.now) (bound_vars vars.entries)) }
-            ensures { lent_binding (PatternRun V.PatternVisitor.PatternVisitor (E.term_entries termenv.entry.now) (pattern_view pattern.entry.now) input) vars.entries inner.old (entries_of result) inner.new }
+            requires { IsTrue (is_visitable_pattern (E.term_entries termenv.now) (pattern_view pattern.now) (bound_vars (by_number vars.entries))) }
+            ensures { lent_binding (PatternRun no_memory (pattern_steps V.PatternVisitor.PatternVisitor) (E.term_entries termenv.entry.now) (pattern_view pattern.entry.now) input) (by_number vars.entries) inner.old (entries_of result) inner.new }
         {
             let mut vars = vars;
             pattern.visit(alloc, inner, input, termenv, &mut vars)?;
@@ -58,7 +59,7 @@ fn exchange<V: RuleVisitor>(
     visitor: &mut V,
     vars: &Inputs<V>,
 ) -> Result<Values<V>, VisitFault>
-    ensures { ExchangeRun V.RuleVisitor vars.now.entries visitor.old (entries_of result) visitor.new }
+    ensures { ExchangeRun no_memory (rule_steps V.RuleVisitor) (by_number vars.now.entries) visitor.old (entries_of result) visitor.new }
 {
     let mut values = BTreeMap::new(alloc);
     for (var, input) in vars {
@@ -76,16 +77,16 @@ fn show_expr<V: RuleVisitor, E: UsedTerms>(
     termenv: &E,
     values: &Values<V>,
 ) -> Result<V::Expr, VisitFault>
-    requires { IsTrue (is_visitable_expr (E.term_entries termenv.now) (expr_view expr.now) (bound_vars values.now.entries)) }
-    ensures { ExprCall V.RuleVisitor V.PatternVisitor.PatternVisitor V.ExprVisitor.ExprVisitor (E.term_entries termenv.now) (expr_view expr.now) values.now.entries visitor.old result visitor.new }
+    requires { IsTrue (is_visitable_expr (E.term_entries termenv.now) (expr_view expr.now) (bound_vars (by_number values.now.entries))) }
+    ensures { ExprCall no_memory (rule_steps V.RuleVisitor) (pattern_steps V.PatternVisitor.PatternVisitor) (expr_steps V.ExprVisitor.ExprVisitor) (E.term_entries termenv.now) (expr_view expr.now) (by_number values.now.entries) visitor.old result visitor.new }
 {
     visitor.add_expr(
         |inner: &mut V::ExprVisitor| -> Result<
             VisitedExpr<<V::ExprVisitor as ExprVisitor>::ExprId>,
             VisitFault,
         >
-            requires { IsTrue (is_visitable_expr (E.term_entries termenv.now) (expr_view expr.now) (bound_vars values.now.entries)) }
-            ensures { lent_valuing (ExprRun V.ExprVisitor.ExprVisitor (E.term_entries termenv.entry.now) (expr_view expr.entry.now) values.entry.now.entries) (expr_type (expr_view expr.entry.now)) inner.old (visited_of result) inner.new }
+            requires { IsTrue (is_visitable_expr (E.term_entries termenv.now) (expr_view expr.now) (bound_vars (by_number values.now.entries))) }
+            ensures { lent_valuing (ExprRun no_memory (expr_steps V.ExprVisitor.ExprVisitor) (E.term_entries termenv.entry.now) (expr_view expr.entry.now) (by_number values.entry.now.entries)) (expr_type (expr_view expr.entry.now)) inner.old (visited_of result) inner.new }
         {
             let value = expr.visit(alloc, inner, termenv, values)?;
             Ok(VisitedExpr {
@@ -104,8 +105,8 @@ fn visit_value<V: RuleVisitor, E: UsedTerms>(
     termenv: &E,
     vars: &Inputs<V>,
 ) -> Result<V::Expr, VisitFault>
-    requires { IsTrue (is_visitable_expr (E.term_entries termenv.now) (expr_view expr.now) (bound_vars vars.now.entries)) }
-    ensures { ValueRun V.RuleVisitor V.PatternVisitor.PatternVisitor V.ExprVisitor.ExprVisitor (E.term_entries termenv.now) (expr_view expr.now) vars.now.entries visitor.old result visitor.new }
+    requires { IsTrue (is_visitable_expr (E.term_entries termenv.now) (expr_view expr.now) (bound_vars (by_number vars.now.entries))) }
+    ensures { ValueRun no_memory (rule_steps V.RuleVisitor) (pattern_steps V.PatternVisitor.PatternVisitor) (expr_steps V.ExprVisitor.ExprVisitor) (E.term_entries termenv.now) (expr_view expr.now) (by_number vars.now.entries) visitor.old result visitor.new }
 {
     let values = exchange(alloc, visitor, vars)?;
     show_expr(alloc, visitor, expr, termenv, &values)
@@ -121,7 +122,7 @@ fn visit_args<V: RuleVisitor, E: UsedTerms>(
 ) -> Result<Inputs<V>, VisitFault>
     requires visitable { IsTrue (are_visitable_list (E.term_entries termenv.now) (pattern_views args.now) []) }
     requires count { length tys.now ≡ length args.now }
-    ensures { ArgsRun V.RuleVisitor V.PatternVisitor.PatternVisitor V.ExprVisitor.ExprVisitor (E.term_entries termenv.now) (pattern_views args.now) (type_numbers tys.now) 0 [] visitor.old (entries_of result) visitor.new }
+    ensures { ArgsRun no_memory (rule_steps V.RuleVisitor) (pattern_steps V.PatternVisitor.PatternVisitor) (expr_steps V.ExprVisitor.ExprVisitor) (E.term_entries termenv.now) (pattern_views args.now) (type_numbers tys.now) 0 [] visitor.old (entries_of result) visitor.new }
 {
     let mut vars = BTreeMap::new(alloc);
     for (i, arg) in args.iter().enumerate() {
@@ -139,8 +140,8 @@ fn visit_iflets<V: RuleVisitor, E: UsedTerms>(
     termenv: &E,
     vars: Inputs<V>,
 ) -> Result<Inputs<V>, VisitFault>
-    requires { IsTrue (are_visitable_iflets (E.term_entries termenv.now) (map iflet_view iflets.now) (bound_vars vars.entries)) }
-    ensures { IfLetsRun V.RuleVisitor V.PatternVisitor.PatternVisitor V.ExprVisitor.ExprVisitor (E.term_entries termenv.now) (map iflet_view iflets.now) vars.entries visitor.old (entries_of result) visitor.new }
+    requires { IsTrue (are_visitable_iflets (E.term_entries termenv.now) (map iflet_view iflets.now) (bound_vars (by_number vars.entries))) }
+    ensures { IfLetsRun no_memory (rule_steps V.RuleVisitor) (pattern_steps V.PatternVisitor.PatternVisitor) (expr_steps V.ExprVisitor.ExprVisitor) (E.term_entries termenv.now) (map iflet_view iflets.now) (by_number vars.entries) visitor.old (entries_of result) visitor.new }
 {
     let mut bound = vars;
     for iflet in iflets {
@@ -170,7 +171,7 @@ impl Rule {
         termenv: &E,
     ) -> Result<V::Expr, VisitFault>
         requires visitable { IsTrue (is_visitable_rule (E.term_entries termenv.now) (rule_view self.now)) }
-        ensures run { RuleRun V.RuleVisitor V.PatternVisitor.PatternVisitor V.ExprVisitor.ExprVisitor (E.term_entries termenv.now) (rule_view self.now) visitor.old result visitor.new }
+        ensures run { RuleRun no_memory (rule_steps V.RuleVisitor) (pattern_steps V.PatternVisitor.PatternVisitor) (expr_steps V.ExprVisitor.ExprVisitor) (E.term_entries termenv.now) (rule_view self.now) visitor.old result visitor.new }
     {
         let tys = termenv.used_term(self.root_term).arg_tys.as_slice();
         let vars = visit_args(alloc, visitor, &self.args, tys, termenv)?;

@@ -24,6 +24,7 @@ use Rattle.isle_laws_demands.proofs.matching.Contents.{Given, content_of, value_
 use Rattle.isle_laws_demands.proofs.matching.Grown.{Grown, then_grown, grown_binding, expr_adds, exprs_add, lets_add, term_adds}
 use Rattle.isle_laws_demands.proofs.matching.SameExprs.{from_let, from_term, from_args, from_body, expr_keeps, term_site, pure_site, expr_alike, exprs_alike}
 use Rattle.isle_laws_lists.specs.WellTypedPrograms.{IsWellTypedProgram}
+use Rattle.isle_laws_lists.proofs.WellTypedPrograms.{variant_takes, struct_takes}
 use Rattle.isle_laws_demands.proofs.matching.Variables.{AllPresent, IsValued, AreVars, var_moved, vars_and}
 use Rattle.isle_laws_lists.proofs.FormedParts.{type_is}
 
@@ -186,13 +187,13 @@ module _ (g : Given) (z : Visit) (h : IsAnswered g z.demands) (well : IsWellType
     same_valued : (k : Kind) → kind p t ≡ k → kind_of x ≡ k → (flags_of k).pure ≡ true → (a : ValuedAll) (o : Option Values) → Grown (visit_term k t a).visit z → AreValued g a.sites o x.arg_tys a.sites
         → IsValued g (term_site k t a.sites) (then_option o (λ vs. term_under k g.meaning g.pick t a.sites vs)) x.ret_ty (term_site k t a.sites)
     same_valued (a_variant ty i) q e y a o l v =
-        let s = well.parts.variants t x there ty i e in
+        let s = variant_takes p well.parts t x there ty i e in
         made_valued (variant_made ty i a.sites) a.sites o x.arg_tys x.ret_ty (of_variant ty i) refl refl
         (λ vs w.
         and_from (ty == x.ret_ty) (all_well_typed p.types (variant_types (slice_get p.types x.ret_ty) i) vs) (eq-eqb ty x.ret_ty (sym s.0))
         (subst (λ o. all_well_typed p.types o vs ≡ true) (sym s.1 ∙ ap (λ n. variant_types (slice_get p.types n) i) (sym s.0)) w)) v
     same_valued (a_struct ty) q e y a o l v =
-        let s = well.parts.structs t x there ty e in
+        let s = struct_takes p well.parts t x there ty e in
         made_valued (struct_made ty a.sites) a.sites o x.arg_tys x.ret_ty (of_struct ty) refl refl
         (λ vs w.
         and_from (ty == x.ret_ty) (all_well_typed p.types (struct_types (slice_get p.types x.ret_ty)) vs) (eq-eqb ty x.ret_ty (sym s.0))

@@ -19,6 +19,7 @@ use Rattle.isle_laws_demands.proofs.matching.Grown.{equated, expr_adds, rule_add
 use Rattle.isle_laws_demands.proofs.matching.Patterns.{from_term, from_part, from_bind, as_many}
 use Rattle.isle_laws_demands.proofs.matching.Rules.{rule_parts}
 use Rattle.isle_laws_lists.specs.WellTypedPrograms.{HasTypedParts}
+use Rattle.isle_laws_lists.proofs.WellTypedPrograms.{variant_takes, struct_takes}
 use Rattle.isle_model.proofs.Either.{either}
 use Rattle.isle_laws_lists.proofs.FormedParts.{from_if, type_is}
 
@@ -59,9 +60,9 @@ module _ (p : Program) (fields : HasTypedParts p) where
   term_formed : (t : ℕ) (e : TermEntry) → slice_get p.terms t ≡ Some e → (k : Kind) → kind_of e ≡ k → (s : SiteTerm) (args : TypedPatterns) → AsMany args e.arg_tys → (v : Visit) → AreFormed p v.demands
       → AreFormed p (open_term k t s args v).visit.demands
   term_formed t e there (a_variant ty i) q s args n v h =
-      asked_formed p s (is_variant ty i (pattern_count args)) (making (from_to (variant_field s i) 0 args) v) (e.arg_tys, (fields.variants t e there ty i q).1, as_many_types args e.arg_tys n) h
+      asked_formed p s (is_variant ty i (pattern_count args)) (making (from_to (variant_field s i) 0 args) v) (e.arg_tys, (variant_takes p fields t e there ty i q).1, as_many_types args e.arg_tys n) h
   term_formed t e there (a_struct ty) q s args n v h =
-      asked_formed p s (is_struct ty (pattern_count args)) (making (from_to (struct_field s) 0 args) v) (e.arg_tys, (fields.structs t e there ty q).1, as_many_types args e.arg_tys n) h
+      asked_formed p s (is_struct ty (pattern_count args)) (making (from_to (struct_field s) 0 args) v) (e.arg_tys, (struct_takes p fields t e there ty q).1, as_many_types args e.arg_tys n) h
   term_formed t e there (a_call flags infallible) q s args n v h = call_formed p flags.pure flags.multi flags.partial flags.rec infallible (extractor_call t s) args v h
   term_formed t e there unknown q s args n v h = h
 

@@ -24,6 +24,7 @@ use Rattle.isle_laws_demands.proofs.matching.Demanded.{one_not_just, AreMet, Ask
 use Rattle.isle_laws_demands.proofs.matching.Grown.{Grown, then_grown, grown_asking, grown_iterating, each_grown, all_grown, outputs_grown, now}
 use Rattle.isle_laws_demands.proofs.matching.SameExprs.{AreWithin, within_new}
 use Rattle.isle_laws_lists.specs.WellTypedPrograms.{HasTypedParts}
+use Rattle.isle_laws_lists.proofs.WellTypedPrograms.{variant_takes, struct_takes}
 use Rattle.isle_laws_demands.proofs.matching.Variables.{here_valued, var_bound, not_among}
 use Rattle.isle_laws_lists.proofs.FormedParts.{from_if, type_is}
 
@@ -315,10 +316,10 @@ module _ (g : Given) (z : Visit) (h : IsAnswered g z.demands) (parts : HasTypedP
 
     term_opens : (k : Kind) → kind p t ≡ k → kind_of e ≡ k → e.ret_ty ≡ ty → Grown (open_term k t s args v).visit z → Opens g v (open_term k t s args v) e.arg_tys (parts_under k g.meaning g.pick t s x)
     term_opens (a_variant u i) q w r l =
-        let a = parts.variants t e there u i w in
+        let a = variant_takes p parts t e there u i w in
         variant_opens g v s u i t args e.arg_tys x n a.1 (subst (λ y. Here g s y x) (sym r ∙ a.0) here)
     term_opens (a_struct u) q w r l =
-        let a = parts.structs t e there u w in
+        let a = struct_takes p parts t e there u w in
         struct_opens g v s u t args e.arg_tys x n a.1 (subst (λ y. Here g s y x) (sym r ∙ a.0) here)
     term_opens (a_call flags infallible) q w r l = call_opens flags.pure flags.multi flags.partial flags.rec infallible q l
     term_opens unknown q w r l = absurd (term_known p t e there q)

@@ -9,6 +9,7 @@ use Rattle.isle_model.specs.visits.Demands.{Demands, demands_of}
 use Rattle.isle_model.specs.sites.Closure.{DemandsHold}
 use Rattle.isle_model.proofs.Elements.{in_from_contains, contains_from_in}
 use Rattle.isle_laws_lists.specs.WellTypedPrograms.{IsWellTypedRule, IsWellTypedProgram}
+use Rattle.isle_laws_lists.proofs.WellTypedPrograms.{pure_iflets}
 use Rattle.isle_laws_demands.proofs.visits.BuiltSets.{of_term}
 use Rattle.isle_laws_runs.proofs.picks.PickLists.{picks_are_exact_lem}
 use Rattle.isle_laws_demands.specs.MatchLaws.{IsTried, VisitsMatch}
@@ -56,7 +57,7 @@ tried p t m args r k h a =
       typed = typed;
       pick = pick;
       answered = answered;
-      matches = rule_matches (given p m args k) r c.formed c.pure_iflets typed h answered;
+      matches = rule_matches (given p m args k) r c.formed (pure_iflets c) typed h answered;
     }
 
 pub visits_match_lem : VisitsMatch

@@ -36,6 +36,7 @@ use Rattle.isle_laws_demands.specs.MatchLaws.{IsTried}
 use Rattle.isle_model.proofs.CalledTerms.{calls_such}
 use Rattle.isle_laws_demands.specs.BuiltSets.{OfBuiltSets}
 use Rattle.isle_laws_lists.specs.WellTypedPrograms.{IsWellTypedProgram}
+use Rattle.isle_laws_lists.proofs.WellTypedPrograms.{pure_iflets}
 use Rattle.isle_laws_demands.proofs.visits.Built.{stands_for}
 use Rattle.isle_laws_demands.proofs.visits.BuiltSets.{BuiltSet, RuleOfSet, ServingMeaning}
 use Rattle.isle_laws_demands.proofs.visits.Once.{one_number}
@@ -171,7 +172,7 @@ module _ (b : BuiltSet) (h : IsWellTypedProgram b.program) (serving : ServingMea
       let listed = built_listed p b.term x.typed (contains_from_in (built_rules p b.term) x.typed x.listed) in
       let a : IsTried p b.term m args r k = record { typed = serving.typed; served = serving.serves; rule = listed; pick = pick } in
       let tr = tried p b.term m args r k h a in
-      taken_outcome x ev (right_follows g r tr.rule.formed tr.rule.pure_iflets tr.typed h tr.answered may ev matched) answers o taken
+      taken_outcome x ev (right_follows g r tr.rule.formed (pure_iflets tr.rule) tr.typed h tr.answered may ev matched) answers o taken
 
 -- 3. a rule that makes no impure call, under a pick
 no_known : (calls : List SiteTerm) (c : SiteTerm) → calls ≡ [] → Known calls c → ⊥

@@ -25,6 +25,7 @@ use Rattle.isle_laws_demands.proofs.matching.Exprs.{expr_valued}
 use Rattle.isle_laws_demands.proofs.matching.Grown.{finished_adds}
 use Rattle.isle_laws_demands.proofs.matching.Rules.{rule_parts, before_result, rule_past, unwrapped_present}
 use Rattle.isle_laws_lists.specs.WellTypedPrograms.{IsWellTypedProgram}
+use Rattle.isle_laws_lists.proofs.WellTypedPrograms.{pure_iflets}
 use Rattle.isle_laws_demands.proofs.matching.Variables.{IsValued}
 use Rattle.isle_laws_demands.proofs.matching.Visits.{given, tried}
 use Rattle.isle_laws_demands.proofs.results.PureRuns.{pure_runs}
@@ -69,4 +70,4 @@ results_are_held_lem p t set h built m args typed served apart b r k vars one qu
     let a : IsTried p t m args b.rule k = record { typed = typed; served = served; rule = listed; pick = pick } in
     let c = tried p t m args b.rule k h a in
     let none : (demands_of p b.rule).impure ≡ [] = sym q.impure.1 ∙ ap (λ l. map (unfold_site set.sites) l) quiet in
-    result_held (given p m args k) b.rule vars c.rule.formed c.rule.pure_iflets c.typed h c.answered none matched ∙ ap (λ s. as_list (content_of (given p m args k) s)) (sym q.result.1)
+    result_held (given p m args k) b.rule vars c.rule.formed (pure_iflets c.rule) c.typed h c.answered none matched ∙ ap (λ s. as_list (content_of (given p m args k) s)) (sym q.result.1)

@@ -23,6 +23,7 @@ use Rattle.isle_laws_demands.proofs.matching.Patterns.{from_term as pattern_part
 use Rattle.isle_laws_demands.proofs.matching.Rules.{rule_parts}
 use Rattle.isle_laws_demands.proofs.matching.SameExprs.{from_let, from_term, from_args, from_body}
 use Rattle.isle_laws_lists.specs.WellTypedPrograms.{IsWellTypedProgram}
+use Rattle.isle_laws_lists.proofs.WellTypedPrograms.{variant_takes, struct_takes}
 use Rattle.isle_model.proofs.Either.{either}
 use Rattle.isle_laws_lists.proofs.FormedParts.{from_if, has_type}
 
@@ -368,11 +369,11 @@ module _ (p : Program) (n : ℕ) where
     term_gives : (t : ℕ) (e : TermEntry) → slice_get p.terms t ≡ Some e → (k : Kind) → kind p t ≡ k → kind_of e ≡ k → (v : Visit) (a : ValuedAll) → GivesAll v a e.arg_tys → Gives v (visit_term k t a)
     term_gives t e there (a_variant ty i) q r v a g =
         let s = variant_made ty i a.sites in
-        let f : IsValue p n s = (e.arg_tys, (well.parts.variants t e there ty i r).1, g.count, g.sites, refl) in
+        let f : IsValue p n s = (e.arg_tys, (variant_takes p well.parts t e there ty i r).1, g.count, g.sites, refl) in
         record { onto = then_onto v a.visit (making (s ∷ []) a.visit) g.onto (made_one s a.visit f); site = f }
     term_gives t e there (a_struct ty) q r v a g =
         let s = struct_made ty a.sites in
-        let f : IsValue p n s = (e.arg_tys, (well.parts.structs t e there ty r).1, g.count, g.sites, refl) in
+        let f : IsValue p n s = (e.arg_tys, (struct_takes p well.parts t e there ty r).1, g.count, g.sites, refl) in
         record { onto = then_onto v a.visit (making (s ∷ []) a.visit) g.onto (made_one s a.visit f); site = f }
     term_gives t e there (a_call flags infallible) q r v a g =
         let c = call_gives flags.pure flags.multi flags.partial flags.rec t a.sites a.visit (λ m o. well.not_both t (ap (λ k. (flags_of k).multi) q ∙ m) (ap (λ k. (flags_of k).partial) q ∙ o))

@@ -31,6 +31,7 @@ use Rattle.isle_laws_runs.proofs.taking.FollowedCalls.{follow, result_after}
 use Rattle.isle_laws_demands.specs.MatchLaws.{IsTried}
 use Rattle.isle_model.proofs.CalledTerms.{calls_such}
 use Rattle.isle_laws_lists.specs.WellTypedPrograms.{IsWellTypedProgram}
+use Rattle.isle_laws_lists.proofs.WellTypedPrograms.{pure_iflets}
 use Rattle.isle_laws_demands.proofs.visits.BuiltSets.{of_term}
 use Rattle.isle_laws_demands.proofs.visits.Rules.{well_typed_rules_demand_gates_lem}
 use Rattle.isle_laws_demands.proofs.matching.Answered.{fits_there}
@@ -87,7 +88,7 @@ module _ (p : Program) (t : ℕ) (x : TriedRule p t) where
       let answers : (t' : ℕ) → IsServedCall g (visit_rule p x.rule).visit t' = λ t' ss n vs made gave held.
       fits_there (impure_answer x.meaning t' n) (fits_constructor p t' (kind p t'))
       (x.served.impures [] x.rule t' n ss vs x.listed (ap is_some matched) (contains_from_in (demands_of p x.rule).made (constructor_call t' ss (suc n)) made) gave held) in
-      let f = right_follows g x.rule tr.rule.formed tr.rule.pure_iflets tr.typed x.well_typed tr.answered
+      let f = right_follows g x.rule tr.rule.formed (pure_iflets tr.rule) tr.typed x.well_typed tr.answered
       (calls_such (λ n. is_multi p n ≡ false) (MayBeCalled g (visit_rule p x.rule).visit) (λ t' k. inr (k, answers t')) x.rule.rhs c.right) ev.0 ev.1 in
       record { right = ap (right_side p x.meaning x.rule) (sym ev.2) ∙ sym (ends_as_plain_lem p x.meaning [] x.rule ev.0 c) ∙ f.right; order = f.order; only = f.only }
 

@@ -24,6 +24,7 @@ use Rattle.isle_laws_demands.proofs.matching.Grown.{equated}
 use Rattle.isle_laws_demands.proofs.matching.Patterns.{from_part, from_bind, pattern_within, parts_within, each_within, as_many}
 use Rattle.isle_laws_demands.proofs.matching.SameExprs.{AreWithin, from_let, from_args, from_body, expr_keeps}
 use Rattle.isle_laws_lists.specs.WellTypedPrograms.{IsWellTypedProgram}
+use Rattle.isle_laws_lists.proofs.WellTypedPrograms.{variant_takes, struct_takes}
 use Rattle.isle_laws_demands.proofs.matching.Variables.{named, not_among}
 use Rattle.isle_laws_demands.specs.TotalLaws.{can_be_matched, can_be_called, pattern_terms, patterns_terms, expr_terms, exprs_terms, lets_terms, matched_in, called_in}
 use Rattle.isle_laws_demands.proofs.total.Shaped.{Uses, Shaped, shaped_bool, shaped_int, shaped_prim, shaped_argument, shaped_extractor, shaped_pure, shaped_impure, shaped_pick, shaped_variant, shaped_variant_field, shaped_struct, shaped_struct_field, shaped_some, shaped_part, shaped_tuple, ShapedAll, shaped_none, shaped_and, HasShape}
@@ -188,7 +189,7 @@ module _ (p : Program) (uses : Uses) where
     term_opens : (t : ℕ) (e : TermEntry) → Contains uses.matched t → slice_get p.terms t ≡ Some e → has_extractor e.kind ≡ true → (k : Kind) → kind p t ≡ k → kind_of e ≡ k → (s : SiteTerm) → IsOf s e.ret_ty → (args : TypedPatterns) → AsMany args e.arg_tys
         → (v : Visit) → IsShaped v → Opens v (open_term k t s args v) e.arg_tys
     term_opens t e used there x (a_variant ty i) q w s h args n v g =
-        let a = well.parts.variants t e there ty i w in
+        let a = variant_takes p well.parts t e there ty i w in
         let fields = from_to (variant_field s i) 0 args in
         let each = fields_each (variant_field s i) 0 args e.arg_tys n
         (λ j u r. let same : 0 + j ≡ j = omega arith in subst (λ l. IsOf (variant_field s i l) u) (sym same) (shaped_variant_field (subst (IsOf s) a.0 h) a.1 r)) in
@@ -198,7 +199,7 @@ module _ (p : Program) (uses : Uses) where
           inputs = each;
         }
     term_opens t e used there x (a_struct ty) q w s h args n v g =
-        let a = well.parts.structs t e there ty w in
+        let a = struct_takes p well.parts t e there ty w in
         let fields = from_to (struct_field s) 0 args in
         let each = fields_each (struct_field s) 0 args e.arg_tys n
         (λ j u r. let same : 0 + j ≡ j = omega arith in subst (λ l. IsOf (struct_field s l) u) (sym same) (shaped_struct_field (subst (IsOf s) a.0 h) a.1 r)) in
@@ -352,12 +353,12 @@ module _ (p : Program) (uses : Uses) where
     term_valued : (t : ℕ) (e : TermEntry) → Contains uses.called t → slice_get p.terms t ≡ Some e → has_constructor e.kind ≡ true → (k : Kind) → kind p t ≡ k → kind_of e ≡ k → (a : ValuedAll) → ShapedAll p uses a.sites e.arg_tys → IsShaped a.visit
         → IsValue (visit_term k t a) e.ret_ty
     term_valued t e used there c (a_variant ty i) q w a h g =
-        let x = well.parts.variants t e there ty i w in
+        let x = variant_takes p well.parts t e there ty i w in
         let s = variant_made ty i a.sites in
         let one : IsOf s e.ret_ty = subst (IsOf s) (sym x.0) (shaped_variant x.1 h) in
         (one, made_shaped (s ∷ []) a.visit (and_shaped s [] (one_has s e.ret_ty one) none_shaped) g)
     term_valued t e used there c (a_struct ty) q w a h g =
-        let x = well.parts.structs t e there ty w in
+        let x = struct_takes p well.parts t e there ty w in
         let s = struct_made ty a.sites in
         let one : IsOf s e.ret_ty = subst (IsOf s) (sym x.0) (shaped_struct x.1 h) in
         (one, made_shaped (s ∷ []) a.visit (and_shaped s [] (one_has s e.ret_ty one) none_shaped) g)

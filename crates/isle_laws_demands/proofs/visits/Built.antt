@@ -19,6 +19,7 @@ use Rattle.isle_laws_demands.proofs.closure.BuiltRules.{reachable}
 use Rattle.isle_model.specs.sites.DemandedGates.{AsksAnswer, IsPureCall, GatesDemanded, AllGatesDemanded, ClosedCanBeTested, DemandsGates}
 use Rattle.isle_laws_demands.proofs.visits.Unfolding.{unfolds}
 use Rattle.isle_laws_lists.specs.WellTypedPrograms.{IsWellTypedRule, IsWellTypedProgram}
+use Rattle.isle_laws_lists.proofs.WellTypedPrograms.{pure_iflets}
 use Rattle.isle_laws_demands.proofs.visits.BuiltSets.{BuiltSet, RuleOfSet, of_term, typed_rule}
 use Rattle.isle_laws_demands.proofs.visits.Once.{one_number}
 use Rattle.isle_laws_demands.proofs.visits.Gates.{asking_of, gates_stay}
@@ -95,7 +96,7 @@ pub record BuiltGates (p : Program) (b : BuiltRule) : Type 0 where
 pub built_gates : (p : Program) (t : ℕ) (b : BuiltRule) → IsWellTypedProgram p → In (built_rules p t) b → BuiltGates p b
 built_gates p t b h i =
     let typed = typed_rule p t w.rule h (contains_from_in (rules_of p t) w.rule w.listed) in
-    subst (BuiltGates p) w.same (of w.rule w.before (formed_rules_demand_gates_lem p w.rule typed.formed typed.pure_iflets) (reachable p w.before w.rule w.built))
+    subst (BuiltGates p) w.same (of w.rule w.before (formed_rules_demand_gates_lem p w.rule typed.formed (pure_iflets typed)) (reachable p w.before w.rule w.built))
   where
     w : WasBuilt p (rules_of p t) b
     w = was_built p [] (rules_of p t) b i

@@ -16,6 +16,7 @@ use Rattle.isle_model.proofs.SitesMade.{has_in}
 use Rattle.isle_laws_demands.proofs.visits.Afresh.{AreAlike, asked_alike, asked_iterators, pattern_alike, AreValuedAlike, expr_alike}
 use Rattle.isle_model.specs.rules.CalledTerms.{CallsAlone}
 use Rattle.isle_laws_lists.specs.WellTypedPrograms.{IsWellTypedRule}
+use Rattle.isle_laws_lists.proofs.WellTypedPrograms.{pure_iflets}
 use Rattle.isle_laws_demands.proofs.visits.Exprs.{IsTotal, expr_valued_by, expr_valued}
 use Rattle.isle_laws_demands.proofs.visits.Gates.{unpurified, gates_of_taken}
 use Rattle.isle_laws_demands.proofs.visits.PatternCalls.{Adds, still_tested, pattern_adds, args_add}
@@ -148,7 +149,7 @@ pure_right_side p r h = (expr_quiet p r.rhs (before_right p r) (finished_quiet (
 
 module _ (pure : Bool) (p : Program) (r : TypedRule) (typed : IsWellTypedRule p r) where
   known : IsBeforeRight p r
-  known = is_before_right p r typed.formed typed.pure_iflets
+  known = is_before_right p r typed.formed (pure_iflets typed)
 
   variables : AreGood true pure known.vars (before_right p r)
   variables x k = unpurified (before_right p r).demands.constraints (before_right p r).demands.iterators true pure (var_site (before_right p r) x) (known.good x k)

@@ -17,6 +17,7 @@ use Rattle.isle_laws_demands.proofs.visits.Patterns.{from_then, pattern_after}
 use Rattle.isle_laws_demands.proofs.visits.Exprs.{IsValued, expr_valued}
 use Rattle.isle_laws_demands.proofs.visits.RuleParts.{iflet_parts, RuleParts, rule_parts}
 use Rattle.isle_laws_lists.proofs.FormedParts.{from_if}
+use Rattle.isle_laws_lists.proofs.WellTypedPrograms.{pure_iflets}
 
 -- after some patterns and if-lets: nothing less is asked, and variables that can be used may be tested
 pub record IsPast (v w : Visit) (more : List (ℕ × ℕ)) : Type 0 where
@@ -153,4 +154,4 @@ formed_rules_demand_gates_lem p r f h =
     }
 
 pub well_typed_rules_demand_gates_lem : WellTypedRulesDemandGates
-well_typed_rules_demand_gates_lem p h r c = let w = h.rules r c in formed_rules_demand_gates_lem p r w.formed w.pure_iflets
+well_typed_rules_demand_gates_lem p h r c = let w = h.rules r c in formed_rules_demand_gates_lem p r w.formed (pure_iflets w)

@@ -6,7 +6,7 @@ use Rattle.isle_model.specs.rules.Program.{Program, rules_of, is_multi}
 use Rattle.isle_model.specs.rules.Typed.{TypedRule}
 use Rattle.isle_model.specs.sites.Sites.{Site, SetRule, SiteSet, SiteTerm, unfold_site}
 use Rattle.isle_model.specs.visits.Demands.{demands_of, result_of}
-use Rattle.isle_model.specs.sites.DemandedGates.{GatesDemanded, IsPureExpr}
+use Rattle.isle_model.specs.sites.DemandedGates.{GatesDemanded, IsPureExpr, HasNoPartialMulti}
 use Rattle.isle_model.specs.sites.Gates.{gate_demanded}
 use Rattle.isle_model.specs.sites.Overlap.{BuiltRule, built_rules}
 use Rattle.isle_model.specs.trees.Places.{below, all_below}
@@ -17,6 +17,7 @@ use Rattle.isle_laws_demands.proofs.visits.BuiltSets.{BuiltSet, RuleOfSet, typed
 use Rattle.isle_model.specs.rules.CalledTerms.{CallsAlone}
 use Rattle.isle_laws_demands.specs.BuiltLaws.{BuiltSetsCanBeServed}
 use Rattle.isle_laws_lists.specs.WellTypedPrograms.{IsWellTypedRule, IsWellTypedProgram}
+use Rattle.isle_laws_lists.proofs.WellTypedPrograms.{pure_iflets, without_multi, without_partial}
 use Rattle.isle_laws_demands.proofs.visits.Closing.{closing_keeps_gates_lem}
 use Rattle.isle_laws_demands.proofs.visits.Constrained.{built_rules_constrain_or_equate_lem}
 use Rattle.isle_laws_demands.proofs.visits.Exprs.{IsTotal}
@@ -33,7 +34,7 @@ use Rattle.isle_laws_demands.proofs.visits.Sets.{all_from_in, built_rules_demand
 pub constraints_kept_built : (p : Program) (t : ℕ) (b : BuiltRule) → IsWellTypedProgram p → In (built_rules p t) b → AllIn (demands_of p b.rule).constraints b.demands.constraints
 constraints_kept_built p t b h i =
     subst (λ (k : BuiltRule). AllIn (demands_of p k.rule).constraints k.demands.constraints) w.same
-    (λ x c. (closing_keeps_gates_lem w.before (demands_of p w.rule) (reachable p w.before w.rule w.built) (formed_rules_demand_gates_lem p w.rule typed.formed typed.pure_iflets).tested).0 x.0 x.1 c)
+    (λ x c. (closing_keeps_gates_lem w.before (demands_of p w.rule) (reachable p w.before w.rule w.built) (formed_rules_demand_gates_lem p w.rule typed.formed (pure_iflets typed)).tested).0 x.0 x.1 c)
   where
     w : WasBuilt p (rules_of p t) b
     w = was_built p [] (rules_of p t) b i
@@ -41,8 +42,8 @@ constraints_kept_built p t b h i =
     typed : IsWellTypedRule p w.rule
     typed = typed_rule p t w.rule h (contains_from_in (rules_of p t) w.rule w.listed)
 
-right_calls : (p : Program) (r : TypedRule) → IsWellTypedRule p r → CallsAlone (IsTotal p) r.rhs ⊎ CallsAlone (IsSingle p) r.rhs
-right_calls p r h = elim (cases_Bool (is_multi p r.root_term)) [ inl t ↦ inl (h.without_partial t) | inr f ↦ inr (h.without_multi f).right ]
+right_calls : (p : Program) (r : TypedRule) → HasNoPartialMulti p → IsWellTypedRule p r → CallsAlone (IsTotal p) r.rhs ⊎ CallsAlone (IsSingle p) r.rhs
+right_calls p r neither h = elim (cases_Bool (is_multi p r.root_term)) [ inl t ↦ inl (without_partial neither h t) | inr f ↦ inr (without_multi h f).right ]
 
 -- 2. rules of sets
 pub gate_at : (asked : Bool) (sites : List Site) (r : SetRule) (u : ℕ) → IsGood true asked sites r u → IsTrue (gate_demanded r (slice_get sites u))
@@ -72,11 +73,11 @@ module _ (s : BuiltSet) (h : IsWellTypedProgram s.program) (x : RuleOfSet s) whe
 
   -- a call that a built rule goes over is left, or its gates are demanded
   pub built_calls : (pure : Bool) → (pure ≡ true → IsPureExpr p b.rule.rhs) → (u : SiteTerm) → In (demands_of p b.rule).iterators u → In (calls_left_by p b.rule) u ⊎ Demanded pure u
-  built_calls pure right u j = elim (rule_calls pure p b.rule typed right (right_calls p b.rule typed) u j) [ inl l ↦ inl l | inr g ↦ inr (stays pure u g) ]
+  built_calls pure right u j = elim (rule_calls pure p b.rule typed right (right_calls p b.rule h.not_both typed) u j) [ inl l ↦ inl l | inr g ↦ inr (stays pure u g) ]
 
   -- so are those of its result, in a multi term
   pub built_result : (pure : Bool) → (pure ≡ true → IsPureExpr p b.rule.rhs) → is_multi p b.rule.root_term ≡ true → Demanded pure (result_of p b.rule)
-  built_result pure right m = stays pure (result_of p b.rule) (rule_result pure p b.rule typed right (typed.without_partial m))
+  built_result pure right m = stays pure (result_of p b.rule) (rule_result pure p b.rule typed right (without_partial h.not_both typed m))
 
   gates_of_call : (n : ℕ) → In x.rule.iterators n → DemandsGatesOfCall p set.sites b x.rule n
   gates_of_call n i =

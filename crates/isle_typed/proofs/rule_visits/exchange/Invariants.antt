@@ -1,11 +1,12 @@
 use Rattle.std.proofs.Common.{◌≡◌, ◌++◌}
-use Rattle.std.specs.Map.{keys_of}
-use Rattle.isle_typed.specs.RuleRuns.{ExchangeRun}
+use Rattle.isle_model.specs.visits.RuleRuns.{ExchangeRun}
+use Rattle.isle_model.specs.visits.Runs.{bound_vars}
+use Rattle.isle_typed.specs.VisitorSteps.{by_number, no_memory, rule_steps}
 use Rattle.isle_typed.proofs.ExprRunSteps.{after_these}
 use Rattle.isle_typed.proofs.rule_visits.exchange.Given as goal
 
 -- what the rest may lead to, the whole may, with what was answered so far before it
 abbrev pub invariant-loop-var : goal.invariant-loop-var
 invariant-loop-var g l =
-    ((r : _) (t : _) → ExchangeRun g.V.RuleVisitor l.var-iterator l.visitor r t → ExchangeRun g.V.RuleVisitor l.vars.entries l.fn.visitor (after_these l.values.entries r) t)
-    × (keys_of l.values.entries ++ keys_of l.var-iterator ≡ keys_of l.vars.entries)
+    ((r : _) (t : _) → ExchangeRun no_memory (rule_steps g.V.RuleVisitor) (by_number l.var-iterator) l.visitor r t → ExchangeRun no_memory (rule_steps g.V.RuleVisitor) (by_number l.vars.entries) l.fn.visitor (after_these (by_number l.values.entries) r) t)
+    × (bound_vars (by_number l.values.entries) ++ bound_vars (by_number l.var-iterator) ≡ bound_vars (by_number l.vars.entries))
