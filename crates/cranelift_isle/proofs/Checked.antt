@@ -7,10 +7,10 @@ use Rattle.isle_model.specs.sites.Overlap.{RuleReport, check_reports}
 use Rattle.isle_model.specs.sites.SetRules.{reports_of_sets}
 use Rattle.isle_model.specs.claims.Layers.{CheckAnswers}
 use Rattle.isle_model.specs.claims.Refusals.{refusal_of}
-use Rattle.isle_laws_demands.specs.SetReportLaws.{all_reports}
+use Rattle.isle_laws_closure.specs.SetReportLaws.{all_reports}
 use Rattle.isle_model.proofs.Mapped.{nothing_mapped}
-use Rattle.isle_laws_demands.proofs.overlaps.SetChecks.{built_sets_are_checked_lem}
-use Rattle.isle_laws_demands.proofs.overlaps.SetReports.{built_sets_are_reported_lem}
+use Rattle.isle_laws_closure.proofs.overlaps.SetChecks.{built_sets_are_checked_lem}
+use Rattle.isle_laws_closure.proofs.overlaps.SetReports.{built_sets_are_reported_lem}
 use Rattle.isle_base.specs.declared.syntax.Error.{Error}
 use Rattle.isle_types.specs.declared.ids.TermId.{TermId}
 use Rattle.isle_rules.specs.declared.term_env.TermEnv.{TermEnv}

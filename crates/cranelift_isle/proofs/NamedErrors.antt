@@ -12,7 +12,7 @@ use Rattle.isle_model.specs.claims.Refusals.{Refusal, refusal_of}
 use Rattle.isle_types.specs.declared.ids.TermId.{TermId}
 use Rattle.isle_base.specs.ErrorViews.{error_views}
 use Rattle.isle_sets.specs.declared.trie_again.RuleSet.{RuleSet}
-use Rattle.isle_laws_demands.specs.ShadowLaws.{check_errors}
+use Rattle.isle_laws_closure.specs.ShadowLaws.{check_errors}
 use Rattle.cranelift_isle.specs.Checks.{IsChecked}
 
 pub named : (P : Program → List Refusal → Type 0) (p : Program) (result : Result (Vec (TermId × RuleSet)) Fault)

@@ -3,7 +3,7 @@ use Rattle.isle_model.specs.sites.Sites.{SiteSet}
 use Rattle.isle_model.specs.trees.Trees.{Tree}
 use Rattle.isle_model.specs.claims.Environments.{program_of}
 use Rattle.isle_model.specs.claims.Layers.{IsBuiltForSome, IsSerialized}
-use Rattle.isle_laws_lists.proofs.WellTypedRules.{elaborated_programs_are_well_typed_lem}
+use Rattle.isle_laws_typing.proofs.WellTypedRules.{elaborated_programs_are_well_typed_lem}
 use Rattle.isle_laws_trees.specs.BestLaws.{BestTreesShareMost}
 use Rattle.isle_laws_trees.specs.BuiltLaws.{BestTreesBindBeforeUse}
 use Rattle.cranelift_isle.specs.Lowerings.{SharesTests, BindsBeforeAnyUse}

@@ -6,7 +6,7 @@ use Rattle.isle_model.specs.lists.Syntax.{Definition, Position}
 use Rattle.isle_model.specs.lists.Elaborated.{TypedRules}
 use Rattle.isle_model.specs.claims.Environments.{TypesRead, IsElaborated, program_of}
 use Rattle.isle_model.specs.claims.Refusals.{Refusal}
-use Rattle.isle_laws_demands.specs.ShadowLaws.{check_errors}
+use Rattle.isle_laws_closure.specs.ShadowLaws.{check_errors}
 use Rattle.isle_base.specs.Answers.{OnErrors}
 use Rattle.isle_model.specs.sites.Overlap.{RuleReport}
 use Rattle.isle_model.specs.claims.Layers.{CheckAnswers, CheckReports}

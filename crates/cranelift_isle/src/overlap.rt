@@ -7,7 +7,7 @@ ghost use Rattle.isle_model.specs.rules.Program.{Program, is_multi};
 ghost use Rattle.isle_model.specs.claims.Environments.{IsElaborated, TypesRead, program_of};
 ghost use Rattle.isle_model.specs.sites.Overlap.{RuleReport};
 ghost use Rattle.isle_model.specs.sites.SetRules.{reports_of_sets};
-ghost use Rattle.isle_laws_demands.specs.ErrorLaws.{NamesLeftOut, NamesPairs, NamesMasks};
+ghost use Rattle.isle_laws_closure.specs.ErrorLaws.{NamesLeftOut, NamesPairs, NamesMasks};
 ghost use Rattle.isle_base.specs.Answers.{OnErrors};
 ghost use Rattle.isle_base.specs.ErrorViews.{error_views};
 ghost use Rattle.isle_base.specs.Positions.{HasSingleSpans};
@@ -17,7 +17,7 @@ ghost use Rattle.cranelift_isle.specs.Checks.{IsChecked, NamesRules, OfErrors, e
 
 use isle_base::syntax::{Error, Fault};
 use isle_builder::build::build;
-use isle_laws_demands::{
+use isle_laws_closure::{
     check_errors_name_left_out, check_errors_name_masks, check_errors_name_pairs,
 };
 use isle_overlap::overlap::Errors;

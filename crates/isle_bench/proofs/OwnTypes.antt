@@ -1,6 +1,6 @@
 -- The types of a list that is kept beside its table, as its terms and rules are read with them.
 use Rattle.std.proofs.Common.{◌≡◌, List}
-use Rattle.isle_laws_lists.proofs.OwnTypes.{own_types_read}
+use Rattle.isle_laws_typing.proofs.OwnTypes.{own_types_read}
 use Rattle.isle_model.specs.claims.Environments.{AreReadable, AreTypesOf, IsReadAs, types_read}
 use Rattle.isle_base.specs.declared.syntax.Def.{Def}
 use Rattle.isle_base.specs.SyntaxViews.{definition_views}

@@ -13,8 +13,8 @@ use Rattle.isle_model.specs.rules.Program.{Program, numbers_from, terms_with_rul
 use Rattle.isle_model.specs.sites.Sites.{SiteSet}
 use Rattle.isle_model.proofs.Elements.{In, contains_from_in, in_any, in_map, in_slice, map_in, slice_in}
 use Rattle.isle_model.proofs.Members.{all_members, get_from_member}
-use Rattle.isle_laws_demands.specs.RuleByRule.{AreLookedUp}
-use Rattle.isle_laws_demands.specs.ReportLaws.{RulesHaveTerms}
+use Rattle.isle_laws_closure.specs.RuleByRule.{AreLookedUp}
+use Rattle.isle_laws_closure.specs.ReportLaws.{RulesHaveTerms}
 use Rattle.isle_term_sets.specs.AddedRules.{set_so_far}
 use Rattle.isle_builder.specs.SetsSoFar.{set_at}
 use Rattle.isle_term_sets.specs.declared.term_sets.TermSet.{TermSet}

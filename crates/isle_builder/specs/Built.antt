@@ -8,7 +8,7 @@ use Rattle.isle_model.specs.sites.Overlap.{RuleReport}
 use Rattle.isle_model.specs.sites.Sites.{SiteSet}
 use Rattle.isle_model.specs.claims.Environments.{TypesRead, IsElaborated}
 use Rattle.isle_model.specs.claims.Layers.{BuildAnswers}
-use Rattle.isle_laws_demands.specs.ReportLaws.{RulesHaveTerms}
+use Rattle.isle_laws_closure.specs.ReportLaws.{RulesHaveTerms}
 use Rattle.isle_base.specs.declared.syntax.Error.{Error}
 use Rattle.isle_types.specs.declared.ids.TermId.{TermId}
 use Rattle.isle_terms.specs.TermViews.{term_views}

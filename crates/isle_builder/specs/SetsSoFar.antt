@@ -8,7 +8,7 @@ use Rattle.isle_model.specs.rules.Typed.{TypedRule}
 use Rattle.isle_model.specs.rules.Program.{Program}
 use Rattle.isle_model.specs.sites.Sites.{SiteSet}
 use Rattle.isle_model.specs.sites.Overlap.{RuleReport}
-use Rattle.isle_laws_demands.specs.RuleByRule.{AreBuiltSoFar}
+use Rattle.isle_laws_closure.specs.RuleByRule.{AreBuiltSoFar}
 use Rattle.isle_base.specs.ErrorViews.{error_views}
 use Rattle.isle_base.specs.declared.syntax.Error.{Error}
 use Rattle.isle_term_sets.specs.AddedRules.{HasTable, report_views, set_so_far}

@@ -9,15 +9,15 @@ ghost use Rattle.isle_model.specs.rules.Program.{Program};
 ghost use Rattle.isle_model.specs.rules.Typed.{TypedRule};
 ghost use Rattle.isle_model.specs.sites.Overlap.{build_reports};
 ghost use Rattle.isle_base.specs.Positions.{HasSingleSpans};
-ghost use Rattle.isle_laws_demands.specs.RuleByRule.{or_nothing_built};
+ghost use Rattle.isle_laws_closure.specs.RuleByRule.{or_nothing_built};
 ghost use Rattle.isle_typed.specs.RuleViews.{rule_view};
 ghost use Rattle.isle_term_sets.specs.AddedRules.{HasTable, set_so_far};
 ghost use Rattle.isle_builder.specs.SetsSoFar.{AreTables, MayGoOn, StandAfter, set_at, sets_so_far};
 ghost use Rattle.isle_builder.specs.Built.{IsOfElaborated, ShowsElaborated, WereBuilt, term_set_views};
 
 use isle_base::syntax::Error;
-use isle_laws_demands::built_sets_are_answered;
-use isle_laws_lists::elaborated_programs_are_well_typed;
+use isle_laws_matching::built_sets_are_answered;
+use isle_laws_typing::elaborated_programs_are_well_typed;
 use isle_rules::TermEnv;
 use isle_sets::trie_again::RuleSet;
 use isle_term_sets::TermSet;

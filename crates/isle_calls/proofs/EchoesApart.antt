@@ -10,7 +10,7 @@ use Rattle.isle_model.specs.sites.Sites.{SiteTerm, bool_term, int_term, prim_ter
 use Rattle.isle_model.specs.sites.Serves.{constant_type, is_type_with_parts, tested_constants, written_type}
 use Rattle.isle_model.specs.claims.Environments.{program_of}
 use Rattle.isle_model.proofs.Elements.{some_is, none_some}
-use Rattle.isle_laws_demands.specs.TotalLaws.{matched_terms, called_terms, total_value}
+use Rattle.isle_laws_matching.specs.TotalLaws.{matched_terms, called_terms, total_value}
 use Rattle.isle_laws_functions.proofs.Choosing.{runs_by_functions_as_chosen_lem}
 use Rattle.isle_calls.specs.Echoes.{constant_number, named_value, echoes}
 use Rattle.isle_calls.specs.EchoLaws.{AreConstantTypesOf, WritesNoConstant, EchoesKeepConstantsApart, EchoesChooseAsSource}

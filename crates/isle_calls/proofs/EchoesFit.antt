@@ -7,7 +7,7 @@ use Rattle.isle_model.specs.rules.Values.{Value, atom, Values, no_value, value_a
 use Rattle.isle_model.specs.rules.Meaning.{Content, one}
 use Rattle.isle_model.specs.rules.Program.{Program, Kind, a_variant, a_struct, a_call, unknown, kind, kind_of, always_answers}
 use Rattle.isle_model.specs.sites.Serves.{fits_one, fits_answer, fits_extractor, fits_constructor, term_args, term_results}
-use Rattle.isle_laws_demands.specs.TotalLaws.{can_be_matched, can_be_called}
+use Rattle.isle_laws_matching.specs.TotalLaws.{can_be_matched, can_be_called}
 use Rattle.isle_calls.specs.Echoes.{constant_number, named_value, in_form, for_each_type, outputs_of, extracted_by, extracted, given_by, first_or_zero, made, counted}
 use Rattle.isle_calls.specs.EchoLaws.{CanGiveFirst, EchoesAreWellTyped}
 

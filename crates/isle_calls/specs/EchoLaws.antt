@@ -13,7 +13,7 @@ use Rattle.isle_model.specs.sites.Serves.{constant_type, tested_constants}
 use Rattle.isle_model.specs.trees.Trees.{Tree}
 use Rattle.isle_model.specs.claims.Environments.{TypesRead, IsElaborated, program_of}
 use Rattle.isle_model.specs.claims.Headline.{RunsAsChosen}
-use Rattle.isle_laws_demands.specs.TotalLaws.{IsWellTyped, KeepsConstantsApart, can_be_matched, can_be_called, matched_terms, called_terms}
+use Rattle.isle_laws_matching.specs.TotalLaws.{IsWellTyped, KeepsConstantsApart, can_be_matched, can_be_called, matched_terms, called_terms}
 use Rattle.isle_laws_functions.specs.FunctionLaws.{ChoosesBy}
 use Rattle.isle_calls.specs.Echoes.{constant_number, echoes}
 

@@ -5,7 +5,7 @@ use Rattle.isle_model.specs.rules.Values as Values
 use Rattle.isle_model.specs.rules.Outcome.{then_option}
 use Rattle.isle_model.specs.rules.Typed.{TypedRule}
 use Rattle.isle_model.specs.rules.Matching.{Vars}
-use Rattle.isle_laws_demands.specs.TotalLaws.{TotalMeaning}
+use Rattle.isle_laws_matching.specs.TotalLaws.{TotalMeaning}
 use Rattle.isle_laws_functions.specs.ChoiceBy.{each_holds_by, iflets_hold_by, matches_by, chosen_by}
 use Rattle.isle_typed.specs.declared.rules.IfLet.{IfLet}
 use Rattle.isle_typed.specs.declared.rules.Rule.{Rule}

@@ -13,7 +13,7 @@ use Rattle.isle_model.specs.rules.Outcome.{then_option}
 use Rattle.isle_model.specs.rules.Typed.{TypedExprs, typed_expr_and, TypedLets, typed_let_and}
 use Rattle.isle_model.specs.rules.Matching.{Vars}
 use Rattle.isle_model.specs.rules.RightSide.{Eval, gives, ends, EvalAll, gives_all, ends_all, EvalLets, gives_vars, ends_lets, pair_up, then_rest, then_lets}
-use Rattle.isle_laws_demands.specs.TotalLaws.{TotalMeaning}
+use Rattle.isle_laws_matching.specs.TotalLaws.{TotalMeaning}
 use Rattle.isle_laws_functions.specs.ChoiceBy.{pure_value_by, pure_values_by, pure_lets_by, eval_by, eval_all_by, eval_lets_by}
 use Rattle.isle_typed.specs.declared.exprs.Expr.{Expr}
 use Rattle.isle_typed.specs.ExprViews.{expr_view, expr_views, expr_parts, let_views, let_parts}

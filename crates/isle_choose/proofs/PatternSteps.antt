@@ -11,7 +11,7 @@ use Rattle.isle_model.specs.rules.Outcome.{then_option}
 use Rattle.isle_model.specs.rules.Program.{a_variant, a_struct}
 use Rattle.isle_model.specs.rules.Typed.{TypedPatterns}
 use Rattle.isle_model.specs.rules.Matching.{Vars}
-use Rattle.isle_laws_demands.specs.TotalLaws.{TotalMeaning}
+use Rattle.isle_laws_matching.specs.TotalLaws.{TotalMeaning}
 use Rattle.isle_laws_functions.specs.ChoiceBy.{parts_seen_by, holds_by, each_holds_by, args_hold_by}
 use Rattle.isle_typed.specs.declared.patterns.Pattern.{Pattern}
 use Rattle.isle_typed.specs.PatternViews.{pattern_view, pattern_views, pattern_parts}

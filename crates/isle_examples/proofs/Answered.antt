@@ -9,15 +9,15 @@ use Rattle.isle_model.specs.rules.Program.{terms_with_rules}
 use Rattle.isle_model.specs.sites.Overlap.{build_reports}
 use Rattle.isle_model.specs.sites.RuleSets.{IsBuilt}
 use Rattle.isle_model.specs.sites.Sites.{SiteSet}
-use Rattle.isle_laws_demands.proofs.building.Answered.{built_sets_are_answered_lem}
-use Rattle.isle_laws_demands.proofs.matching.BuiltMatches.{built_sets_match_by_demands_lem}
-use Rattle.isle_laws_demands.proofs.matching.ToldApart.{built_rules_are_told_apart_lem}
-use Rattle.isle_laws_demands.proofs.outcomes.Outcomes.{taken_lem, taken_under_picks_lem}
-use Rattle.isle_laws_demands.proofs.results.Held.{results_are_held_lem}
-use Rattle.isle_laws_demands.proofs.taken.NumbersInRange.{built_sets_have_numbers_in_range_lem}
-use Rattle.isle_laws_lists.proofs.WellTypedRules.{elaborated_programs_are_well_typed_lem}
-use Rattle.isle_laws_demands.proofs.visits.Served.{can_be_served_lem}
-use Rattle.isle_laws_demands.proofs.visits.WholeDemands.{built_demands_are_whole_lem}
+use Rattle.isle_laws_matching.proofs.SetsAnswered.{built_sets_are_answered_lem}
+use Rattle.isle_laws_matching.proofs.BuiltMatches.{built_sets_match_by_demands_lem}
+use Rattle.isle_laws_matching.proofs.ToldApart.{built_rules_are_told_apart_lem}
+use Rattle.isle_laws_matching.proofs.outcomes.Outcomes.{taken_lem, taken_under_picks_lem}
+use Rattle.isle_laws_matching.proofs.results.Held.{results_are_held_lem}
+use Rattle.isle_laws_matching.proofs.taken.NumbersInRange.{built_sets_have_numbers_in_range_lem}
+use Rattle.isle_laws_typing.proofs.WellTypedRules.{elaborated_programs_are_well_typed_lem}
+use Rattle.isle_laws_closure.proofs.built.Served.{can_be_served_lem}
+use Rattle.isle_laws_closure.proofs.built.WholeDemands.{built_demands_are_whole_lem}
 use Rattle.isle_examples.proofs.ReadLists.{left_over_read}
 use Rattle.isle_examples.proofs.LeftOver.{left_over_built}
 use Rattle.isle_examples.proofs.SampleStages.{extract_stages}

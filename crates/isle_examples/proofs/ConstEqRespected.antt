@@ -5,8 +5,8 @@ use Rattle.isle_model.proofs.Members.{in_alone}
 use Rattle.isle_model.specs.sites.Closure.{field_terms}
 use Rattle.isle_model.specs.visits.Demands.{demands_of}
 use Rattle.isle_model.specs.sites.Sites.{Constraint, SiteTerm}
-use Rattle.isle_laws_demands.specs.ClosureLaws.{RespectsDemands}
-use Rattle.isle_laws_demands.proofs.closure.Classes.{classes_bound}
+use Rattle.isle_laws_closure.specs.ClosureLaws.{RespectsDemands}
+use Rattle.isle_laws_closure.proofs.Classes.{classes_bound}
 use Rattle.isle_examples.specs.ConstEq.{ConstEqIsRespected, const_eq_program, const_eq_rule, of_both}
 use Rattle.isle_examples.specs.SetForms.{a0, a1, a2, is_byte}
 

@@ -1,14 +1,14 @@
 -- How many expansions nested uses of a template take that uses its argument twice.
 use Rattle.std.proofs.Common.{◌≡◌, ◌∷◌, [], ◌+◌, ◌<◌, ◌≤◌, ◌-◌, ◌∙◌, ℕ, pos, zero, suc, false, Some, None, codes, refl, ap, subst, arith}
 use Rattle.isle_model.specs.lists.Elaborates.{ElaboratesPattern, new_name, bound_name, a_template, anything, all_of, no_part, part, no_more, one_more, a_rule, integer_expr, no_iflet}
-use Rattle.isle_laws_lists.proofs.TypedPatterns.{raised}
+use Rattle.isle_laws_typing.proofs.TypedPatterns.{raised}
 use Rattle.std.proofs.lemmas.Bool.{le-leb, lt-leb}
 use Rattle.isle_model.specs.lists.Elaborated.{elaborated_rule}
 use Rattle.isle_model.specs.lists.Setting.{Scope, bound, new_scope}
 use Rattle.isle_model.specs.lists.Syntax.{PatternTree}
 use Rattle.isle_model.specs.rules.Typed.{TypedPattern, TypedRule}
-use Rattle.isle_laws_lists.proofs.TypedRules.{rules_agree}
-use Rattle.isle_laws_lists.specs.TypingLaws.{typing}
+use Rattle.isle_laws_typing.proofs.TypedRules.{rules_agree}
+use Rattle.isle_laws_typing.specs.TypingLaws.{typing}
 use Rattle.isle_examples.specs.Expansions.{NestedUsesDouble, doubled, expansions_of, nested_uses, template_setting, twice}
 use Rattle.isle_examples.specs.TypedForms.{names_with, typed_var, u8}
 use Rattle.isle_examples.specs.Written.{any, number, of_f, rule_tree}

@@ -1,8 +1,8 @@
 -- The worked lists that are read with other types, and types that are not well formed, as the judges say.
 use Rattle.std.proofs.Common.{[], ◌++◌, refl}
 use Rattle.isle_model.specs.lists.KnownTypes.{types_of}
-use Rattle.isle_laws_lists.proofs.JudgedKnown.{known_types_are_judged_lem, not_well_formed}
-use Rattle.isle_laws_lists.proofs.JudgedTerms.{defined_are_judged_lem, no_terms, terms_are_judged_lem}
+use Rattle.isle_laws_typing.proofs.JudgedKnown.{known_types_are_judged_lem, not_well_formed}
+use Rattle.isle_laws_typing.proofs.JudgedTerms.{defined_are_judged_lem, no_terms, terms_are_judged_lem}
 use Rattle.isle_examples.specs.HandedIn.{IllFormed, NamesGoOn, OwnTypesDoNotCount, TypesHandedIn, of_that_type, one_type, plain, with_g}
 
 pub types_handed_in_lem : TypesHandedIn

@@ -7,9 +7,9 @@ use Rattle.isle_model.specs.sites.Overlap.{built_rule}
 use Rattle.isle_model.specs.sites.Serves.{Serves, TellsConstantsApart, fits_constructor}
 use Rattle.isle_model.specs.sites.Sites.{SiteTerms, constructor_call}
 use Rattle.isle_model.specs.claims.Layers.{own_program}
-use Rattle.isle_laws_lists.proofs.WellTypedRules.{read_programs_are_well_typed}
-use Rattle.isle_laws_demands.proofs.outcomes.Outcomes.{taken_lem}
-use Rattle.isle_laws_demands.proofs.taken.ServesRuns.{served_sets_serve_tests_lem}
+use Rattle.isle_laws_typing.proofs.WellTypedRules.{read_programs_are_well_typed}
+use Rattle.isle_laws_matching.proofs.outcomes.Outcomes.{taken_lem}
+use Rattle.isle_laws_matching.proofs.taken.ServesRuns.{served_sets_serve_tests_lem}
 use Rattle.isle_examples.proofs.Impure.{impure_is_called}
 use Rattle.isle_examples.proofs.SampleStages.{impure_stages}
 use Rattle.isle_examples.proofs.Served.{call_of_g, literals_apart, pure_none, serves_from}

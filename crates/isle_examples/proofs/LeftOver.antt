@@ -19,8 +19,8 @@ use Rattle.isle_model.specs.sites.Sites.{SetRule, SiteTerm, SiteTerms, construct
 use Rattle.isle_model.specs.trees.Collects.{content_at}
 use Rattle.isle_model.specs.trees.Run.{as_value}
 use Rattle.isle_model.specs.claims.Layers.{own_program}
-use Rattle.isle_laws_lists.proofs.WellTypedRules.{read_programs_are_well_typed}
-use Rattle.isle_laws_demands.proofs.served.ServesSets.{served_multi_sets_serve_lem}
+use Rattle.isle_laws_typing.proofs.WellTypedRules.{read_programs_are_well_typed}
+use Rattle.isle_laws_matching.proofs.taken.ServesSets.{served_multi_sets_serve_lem}
 use Rattle.isle_examples.proofs.ReadLists.{left_over_read}
 use Rattle.isle_examples.proofs.Served.{literals_apart, serves_from}
 use Rattle.isle_examples.proofs.SetStages.{built_multi, collected}

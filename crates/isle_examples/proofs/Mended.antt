@@ -15,15 +15,15 @@ use Rattle.isle_model.specs.lists.TypeTable.{IsValidTypes}
 use Rattle.isle_model.specs.claims.Environments.{environment_of, types_read}
 use Rattle.isle_model.specs.lists.KnownTypes.{types_of}
 use Rattle.isle_model.proofs.NumbersOf.{environments_are_read}
-use Rattle.isle_laws_lists.specs.QuestionLaws.{IsVariantsTerm}
-use Rattle.isle_laws_lists.proofs.EnvironmentsShown.{well_formed_environments_are_read_lem}
-use Rattle.isle_laws_lists.proofs.VariantTerms.{variants_have_terms_lem}
+use Rattle.isle_laws_typing.specs.QuestionLaws.{IsVariantsTerm}
+use Rattle.isle_laws_typing.proofs.EnvironmentsShown.{well_formed_environments_are_read_lem}
+use Rattle.isle_laws_typing.proofs.VariantTerms.{variants_have_terms_lem}
 use Rattle.isle_examples.proofs.SampleStages.{effects_stages}
 use Rattle.isle_examples.specs.Effects.{effects_defs}
 use Rattle.isle_model.specs.claims.Refusals.{Refusal, past_limit, of_nesting, IsIllTyped}
 use Rattle.isle_model.specs.claims.Layers.{RefusedBy, by_types, by_rules, by_check, IsAccepted}
-use Rattle.isle_laws_demands.proofs.overlaps.Judged.{lists_are_accepted_lem}
-use Rattle.isle_laws_lists.proofs.JudgedTerms.{terms_are_judged_lem}
+use Rattle.isle_laws_closure.proofs.overlaps.Judged.{lists_are_accepted_lem}
+use Rattle.isle_laws_typing.proofs.JudgedTerms.{terms_are_judged_lem}
 use Rattle.isle_examples.specs.MeaningForms.{v}
 use Rattle.isle_examples.specs.SetForms.{is_byte}
 use Rattle.isle_examples.specs.TypedForms.{own}

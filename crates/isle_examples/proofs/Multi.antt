@@ -17,15 +17,15 @@ use Rattle.isle_model.specs.trees.Run.{World, content_fields}
 use Rattle.isle_model.specs.trees.SetRuns.{IsReachedUnder, IsUnwrap}
 use Rattle.isle_model.specs.sites.Overlap.{built_rule}
 use Rattle.isle_model.specs.claims.Layers.{own_program}
-use Rattle.isle_laws_lists.proofs.WellTypedRules.{read_programs_are_well_typed}
-use Rattle.isle_laws_demands.proofs.matching.BuiltMatches.{built_sets_match_by_demands_lem}
-use Rattle.isle_laws_demands.proofs.outcomes.Outcomes.{taken_under_picks_lem}
-use Rattle.isle_laws_demands.proofs.results.Held.{results_are_held_lem}
-use Rattle.isle_laws_demands.proofs.served.ServesSets.{served_multi_sets_serve_lem}
-use Rattle.isle_laws_demands.proofs.visits.Collected.{are_collected_lem}
-use Rattle.isle_laws_demands.proofs.visits.Apart.{no_rule_asks_and_goes_over_lem}
-use Rattle.isle_laws_demands.proofs.visits.Priorities.{one_priority_lem}
-use Rattle.isle_laws_demands.proofs.visits.WholeDemands.{built_demands_are_whole_lem}
+use Rattle.isle_laws_typing.proofs.WellTypedRules.{read_programs_are_well_typed}
+use Rattle.isle_laws_matching.proofs.BuiltMatches.{built_sets_match_by_demands_lem}
+use Rattle.isle_laws_matching.proofs.outcomes.Outcomes.{taken_under_picks_lem}
+use Rattle.isle_laws_matching.proofs.results.Held.{results_are_held_lem}
+use Rattle.isle_laws_matching.proofs.taken.ServesSets.{served_multi_sets_serve_lem}
+use Rattle.isle_laws_closure.proofs.built.Collected.{are_collected_lem}
+use Rattle.isle_laws_closure.proofs.built.Apart.{no_rule_asks_and_goes_over_lem}
+use Rattle.isle_laws_closure.proofs.built.Priorities.{one_priority_lem}
+use Rattle.isle_laws_closure.proofs.built.WholeDemands.{built_demands_are_whole_lem}
 use Rattle.isle_laws_runs.proofs.runs.Collection.{sound_trees_collect_lem}
 use Rattle.isle_laws_trees.proofs.headline.Collecting.{CollectingLaws, best_trees_collect_the_bag_lem}
 use Rattle.isle_examples.proofs.LoopPlaces.{emitted_there, in_loop, loop_env, reached_in_loop}

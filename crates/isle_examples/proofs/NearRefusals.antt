@@ -11,8 +11,8 @@ use Rattle.isle_model.specs.lists.Elaborated.{elaborated_rule, most_nested}
 use Rattle.isle_model.specs.lists.KnownTypes.{types_of}
 use Rattle.isle_model.specs.lists.Syntax.{Definition, Position, RuleTree}
 use Rattle.isle_model.specs.lists.TermTable.{term_names_met}
-use Rattle.isle_laws_lists.proofs.JudgedTerms.{no_terms, terms_are_judged_lem}
-use Rattle.isle_laws_lists.proofs.JudgedTypes.{types_are_judged_lem}
+use Rattle.isle_laws_typing.proofs.JudgedTerms.{no_terms, terms_are_judged_lem}
+use Rattle.isle_laws_typing.proofs.JudgedTypes.{types_are_judged_lem}
 use Rattle.isle_examples.proofs.ListStages.{accepted_both, not_read}
 use Rattle.isle_examples.proofs.Refused.{by_one_rule, some_error}
 use Rattle.isle_examples.specs.Fall.{fall_defs}

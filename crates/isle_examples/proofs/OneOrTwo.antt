@@ -3,8 +3,8 @@ use Rattle.std.proofs.Common.{pos, refl}
 use Rattle.isle_model.specs.rules.Program.{rules_of}
 use Rattle.isle_model.specs.trees.SetRuns.{ServesTests}
 use Rattle.isle_model.specs.claims.Layers.{own_program}
-use Rattle.isle_laws_lists.proofs.WellTypedRules.{read_programs_are_well_typed}
-use Rattle.isle_laws_demands.proofs.taken.ServesRuns.{served_sets_serve_tests_lem}
+use Rattle.isle_laws_typing.proofs.WellTypedRules.{read_programs_are_well_typed}
+use Rattle.isle_laws_matching.proofs.taken.ServesRuns.{served_sets_serve_tests_lem}
 use Rattle.isle_laws_runs.proofs.runs.HoldsOnce.{rules_hold_once_lem}
 use Rattle.isle_examples.proofs.Mended.{overlaps_may_hold_twice_lem}
 use Rattle.isle_examples.proofs.SampleStages.{stages}

@@ -9,9 +9,9 @@ use Rattle.isle_model.specs.sites.Overlap.{built_rule}
 use Rattle.isle_model.specs.sites.Serves.{fits_extractor}
 use Rattle.isle_model.specs.sites.Sites.{SiteTerm, argument, constructor_call, extractor_call}
 use Rattle.isle_model.specs.claims.Layers.{own_program}
-use Rattle.isle_laws_lists.proofs.WellTypedRules.{read_programs_are_well_typed}
-use Rattle.isle_laws_demands.proofs.matching.BuiltMatches.{built_sets_match_by_demands_lem}
-use Rattle.isle_laws_demands.proofs.visits.WholeDemands.{built_demands_are_whole_lem}
+use Rattle.isle_laws_typing.proofs.WellTypedRules.{read_programs_are_well_typed}
+use Rattle.isle_laws_matching.proofs.BuiltMatches.{built_sets_match_by_demands_lem}
+use Rattle.isle_laws_closure.proofs.built.WholeDemands.{built_demands_are_whole_lem}
 use Rattle.isle_laws_trees.proofs.headline.Collecting.{best_trees_collect_the_bag_lem}
 use Rattle.isle_examples.proofs.Multi.{laws}
 use Rattle.isle_examples.proofs.SampleStages.{stages}

@@ -6,9 +6,9 @@ use Rattle.isle_model.specs.sites.Limits.{most_sites, arguments_limit, sites_aft
 use Rattle.isle_model.specs.sites.Overlap.{build_reports_of, built_rule}
 use Rattle.isle_model.specs.sites.Sites.{SiteSet, argument_site, sources_at}
 use Rattle.isle_model.specs.trees.Tests.{up_to}
-use Rattle.isle_laws_demands.proofs.building.RulesPassed.{sets_go_past_rules_lem, sets_start_empty_lem}
-use Rattle.isle_laws_demands.proofs.building.SetsSoFar.{building_goes_on_lem, building_starts_lem}
-use Rattle.isle_laws_demands.specs.RuleByRule.{BuildsRule, limit_met, nothing_built, rule_added, rule_unreachable}
+use Rattle.isle_laws_closure.proofs.building.RulesPassed.{sets_go_past_rules_lem, sets_start_empty_lem}
+use Rattle.isle_laws_closure.proofs.building.SetsSoFar.{building_goes_on_lem, building_starts_lem}
+use Rattle.isle_laws_closure.specs.RuleByRule.{BuildsRule, limit_met, nothing_built, rule_added, rule_unreachable}
 use Rattle.isle_laws_trees.proofs.JudgedSets.{only_sites, stand}
 use Rattle.isle_laws_trees.proofs.WellBuilt.{passes_well_built}
 use Rattle.isle_examples.proofs.SetStages.{rule_stands}

@@ -3,10 +3,10 @@ use Rattle.std.proofs.Common.{pos, refl, arith}
 use Rattle.isle_model.specs.claims.SetMeanings.{TellsRulesApart}
 use Rattle.isle_model.specs.rules.Program.{rules_of}
 use Rattle.isle_model.specs.claims.Layers.{own_program}
-use Rattle.isle_laws_lists.proofs.WellTypedRules.{read_programs_are_well_typed}
-use Rattle.isle_laws_demands.proofs.matching.ToldApart.{built_rules_are_told_apart_lem}
-use Rattle.isle_laws_demands.proofs.overlaps.Agreements.{shadows_decides}
-use Rattle.isle_laws_demands.proofs.visits.WholeDemands.{built_demands_are_whole_lem}
+use Rattle.isle_laws_typing.proofs.WellTypedRules.{read_programs_are_well_typed}
+use Rattle.isle_laws_matching.proofs.ToldApart.{built_rules_are_told_apart_lem}
+use Rattle.isle_laws_closure.proofs.overlaps.Agreements.{shadows_decides}
+use Rattle.isle_laws_closure.proofs.built.WholeDemands.{built_demands_are_whole_lem}
 use Rattle.isle_examples.proofs.ReadLists.{shadow_read}
 use Rattle.isle_examples.proofs.Served.{literals_apart, serves_without_calls}
 use Rattle.isle_examples.specs.MeaningForms.{given}

@@ -9,15 +9,15 @@ use Rattle.isle_model.specs.rules.Meaning.{one, just}
 use Rattle.isle_model.specs.rules.Program.{kind, rules_of}
 use Rattle.isle_model.specs.sites.Sites.{SiteTerm, int_term}
 use Rattle.isle_model.specs.sites.Serves.{fits_extractor}
-use Rattle.isle_laws_demands.proofs.total.Total.{answers_restrict, total_meanings_serve_lem}
-use Rattle.isle_laws_demands.proofs.total.SameChoice.{choice_is_of_functions_lem}
-use Rattle.isle_laws_demands.specs.TotalLaws.{Restricts}
+use Rattle.isle_laws_matching.proofs.total.Total.{answers_restrict, total_meanings_serve_lem}
+use Rattle.isle_laws_matching.proofs.total.SameChoice.{choice_is_of_functions_lem}
+use Rattle.isle_laws_matching.specs.TotalLaws.{Restricts}
 use Rattle.isle_model.specs.rules.Choice.{choice}
 use Rattle.isle_model.specs.rules.Typed.{TypedRule}
 use Rattle.isle_model.specs.visits.Demands.{demands_of}
 use Rattle.isle_examples.proofs.SampleStages.{extract_stages}
 use Rattle.isle_model.specs.claims.Layers.{own_program}
-use Rattle.isle_laws_lists.proofs.WellTypedRules.{read_programs_are_well_typed}
+use Rattle.isle_laws_typing.proofs.WellTypedRules.{read_programs_are_well_typed}
 use Rattle.isle_examples.specs.Extract.{extract_defs, extract_rules, extract_program, extract_one, extract_any}
 use Rattle.isle_examples.specs.MeaningForms.{given, v}
 use Rattle.isle_examples.specs.TotalMeanings.{echo, EchoIsTotal, MisfitIsNotTotal, EchoRestricts, EchoGives}

@@ -3,15 +3,15 @@ use Rattle.std.proofs.Common.{[], ℤ, pos, true, refl, arith}
 use Rattle.std.proofs.lemmas.Bool.{false≢true}
 use Rattle.isle_model.specs.rules.Program.{rules_of}
 use Rattle.isle_model.specs.sites.Overlap.{built_rule}
-use Rattle.isle_laws_lists.proofs.WellTypedRules.{read_programs_are_well_typed}
+use Rattle.isle_laws_typing.proofs.WellTypedRules.{read_programs_are_well_typed}
 use Rattle.isle_model.specs.visits.Demands.{demands_of}
 use Rattle.isle_model.specs.claims.Layers.{own_program}
-use Rattle.isle_laws_demands.proofs.closure.Settled.{verdict_is_exact_lem}
-use Rattle.isle_laws_demands.proofs.matching.BuiltMatches.{built_demands_hold_alike_lem}
-use Rattle.isle_laws_demands.proofs.matching.NeverMatches.{unreachable_rules_never_match_lem}
-use Rattle.isle_laws_demands.proofs.matching.Visits.{visits_match_lem}
-use Rattle.isle_laws_demands.proofs.visits.WholeDemands.{built_demands_are_whole_lem}
-use Rattle.isle_laws_demands.specs.BuiltLaws.{BuiltDemandsAreWhole}
+use Rattle.isle_laws_closure.proofs.Settled.{verdict_is_exact_lem}
+use Rattle.isle_laws_matching.proofs.BuiltMatches.{built_demands_hold_alike_lem}
+use Rattle.isle_laws_matching.proofs.NeverMatches.{unreachable_rules_never_match_lem}
+use Rattle.isle_laws_matching.proofs.Visits.{visits_match_lem}
+use Rattle.isle_laws_closure.proofs.built.WholeDemands.{built_demands_are_whole_lem}
+use Rattle.isle_laws_closure.specs.BuiltLaws.{BuiltDemandsAreWhole}
 use Rattle.isle_examples.proofs.ReadLists.{const_eq_read, one_step_read}
 use Rattle.isle_examples.proofs.SampleStages.{variant_eq_stages}
 use Rattle.isle_examples.proofs.Served.{literals_apart, serves_without_calls}

@@ -2,7 +2,7 @@
 use Rattle.std.proofs.Common.{refl}
 use Rattle.std.proofs.lemmas.Bool.Decides.{not_from_Decides}
 use Rattle.isle_model.specs.claims.ReadJudge.{are_readable}
-use Rattle.isle_laws_lists.proofs.JudgedKnown.{known_types_are_judged_lem, read_types_are_judged_lem}
+use Rattle.isle_laws_typing.proofs.JudgedKnown.{known_types_are_judged_lem, read_types_are_judged_lem}
 use Rattle.isle_examples.specs.VariantIds.{VariantsStandAtTheirIds, one_variant}
 
 pub variants_stand_at_their_ids : VariantsStandAtTheirIds

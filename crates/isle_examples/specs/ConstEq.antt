@@ -11,7 +11,7 @@ use Rattle.isle_model.specs.visits.Demands.{demands_of}
 use Rattle.isle_model.specs.sites.Sites.{SiteSet, SiteTerm, argument, argument_site}
 use Rattle.isle_model.specs.sites.Closure.{Joined}
 use Rattle.isle_model.specs.trees.Trees.{Tree, match_at, no_step, step}
-use Rattle.isle_laws_demands.specs.ClosureLaws.{RespectsDemands}
+use Rattle.isle_laws_closure.specs.ClosureLaws.{RespectsDemands}
 use Rattle.isle_examples.specs.SetForms.{a0, a2, a_rule, is_byte, one_arm, returning}
 use Rattle.isle_examples.specs.Stages.{Sample}
 use Rattle.isle_examples.specs.TypedForms.{rules_and_names, typed, typed_var, u8}

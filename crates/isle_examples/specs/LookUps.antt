@@ -7,7 +7,7 @@ use Rattle.isle_model.specs.lists.Syntax.{Definition, type_definition}
 use Rattle.isle_model.specs.lists.Tables.{primitive_type}
 use Rattle.isle_model.specs.lists.TermTable.{converters}
 use Rattle.isle_model.specs.lists.TypeTable.{builtin_from, builtin_names}
-use Rattle.isle_laws_lists.specs.FurtherNames.{SpeaksOfNames}
+use Rattle.isle_laws_typing.specs.FurtherNames.{SpeaksOfNames}
 use Rattle.isle_examples.specs.Fall.{fall_defs, fall_rules}
 use Rattle.isle_examples.specs.HandedIn.{one_type}
 use Rattle.isle_examples.specs.Stages.{own_setting}

@@ -23,7 +23,7 @@ use Rattle.isle_model.specs.sites.SetRules.{may_fit, sites_brought, no_overlap, 
 use Rattle.isle_model.specs.claims.Questions.{IsWellFormedEnvironment, identifier, term_of_site}
 use Rattle.isle_model.specs.lists.KnownTypes.{types_of}
 use Rattle.isle_model.specs.lists.TypeTable.{type_table}
-use Rattle.isle_laws_lists.specs.QuestionLaws.{IsVariantsTerm}
+use Rattle.isle_laws_typing.specs.QuestionLaws.{IsVariantsTerm}
 use Rattle.isle_model.specs.trees.Best.{total_constraints}
 use Rattle.isle_examples.specs.Effects.{effects_defs, effects_rule, effects_rules, effects_set}
 use Rattle.isle_examples.specs.MeaningForms.{given, literal, mute, answers}

@@ -3,7 +3,7 @@ use Rattle.std.specs.Prelude.{◌∷◌, []}
 use Rattle.isle_model.specs.sites.DemandedGates.{GoesOverMultiCalls, HasNoPartialMulti}
 use Rattle.isle_model.specs.visits.Demands.{demands_of}
 use Rattle.isle_model.specs.sites.Overlap.{HasDistinctPositions, OverlapsWrongly, overlap_reports, shadow_reports, wrong_overlaps}
-use Rattle.isle_laws_demands.specs.ReportLaws.{IsListedOnce, IsOnlyOfMask}
+use Rattle.isle_laws_closure.specs.ReportLaws.{IsListedOnce, IsOnlyOfMask}
 use Rattle.isle_examples.specs.Multi.{each_m, multi_program}
 use Rattle.isle_examples.specs.Overlap.{overlap_program}
 use Rattle.isle_examples.specs.Shadow.{shadow_program}

@@ -7,7 +7,7 @@ use Rattle.isle_model.specs.sites.Limits.{arguments_limit}
 use Rattle.isle_model.specs.sites.Overlap.{limit_passed}
 use Rattle.isle_model.specs.sites.Sites.{SiteSet, argument_site}
 use Rattle.isle_model.specs.trees.Tests.{up_to}
-use Rattle.isle_laws_demands.specs.RuleByRule.{AreBuiltSoFar, BuildsRule, GoesPast, nothing_built}
+use Rattle.isle_laws_closure.specs.RuleByRule.{AreBuiltSoFar, BuildsRule, GoesPast, nothing_built}
 use Rattle.isle_examples.specs.Answered.{one_or_two_asked}
 use Rattle.isle_examples.specs.FormedRules.{f_alone, wide_rule}
 use Rattle.isle_examples.specs.LeftOver.{any_rule, left_over_program, left_over_rules, left_over_set, never_rule}

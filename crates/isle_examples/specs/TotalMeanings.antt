@@ -5,7 +5,7 @@ use Rattle.isle_model.specs.rules.Values.{Value, truth, atom}
 use Rattle.isle_model.specs.rules.Meaning.{Content, one, just, Literal, bool_literal, int_literal}
 use Rattle.isle_model.specs.rules.Choice.{choice}
 use Rattle.isle_model.specs.rules.Program.{rules_of}
-use Rattle.isle_laws_demands.specs.TotalLaws.{TotalMeaning, IsTotalFor, KeepsConstantsApart, Restricts}
+use Rattle.isle_laws_matching.specs.TotalLaws.{TotalMeaning, IsTotalFor, KeepsConstantsApart, Restricts}
 use Rattle.isle_examples.specs.Extract.{extract_program}
 use Rattle.isle_examples.specs.MeaningForms.{answers, given, v}
 

@@ -8,7 +8,7 @@ use Rattle.isle_model.specs.rules.Values.{Value, no_value, of_variant}
 use Rattle.isle_model.specs.sites.Closure.{ClosedDemandsHold, ClosedIsWhole, DemandsHold}
 use Rattle.isle_model.specs.visits.Demands.{demands_of}
 use Rattle.isle_model.specs.sites.Serves.{TellsConstantsApart}
-use Rattle.isle_laws_demands.specs.MatchLaws.{IsTried}
+use Rattle.isle_laws_matching.specs.MatchLaws.{IsTried}
 use Rattle.isle_examples.specs.ConstEq.{const_eq_program, const_eq_rule}
 use Rattle.isle_examples.specs.Cycle.{one_step_program, one_step_rule}
 use Rattle.isle_examples.specs.MeaningForms.{alone, blank, literal, mute, v}

@@ -11,12 +11,12 @@ use Rattle.isle_model.specs.rules.Choice.{higher, chosen, with_vars, outcome_of_
 use Rattle.isle_model.specs.sites.Serves.{asked}
 use Rattle.isle_model.specs.claims.Environments.{program_of}
 use Rattle.isle_model.proofs.Elements.{In, in_left, in_right}
-use Rattle.isle_laws_demands.specs.TotalLaws.{TotalMeaning, Restricts}
-use Rattle.isle_laws_lists.proofs.WellTypedRules.{elaborated_programs_are_well_typed_lem}
-use Rattle.isle_laws_demands.proofs.matching.NoMulti.{rules_without_multi_go_over_no_calls_lem}
-use Rattle.isle_laws_demands.proofs.total.Listed.{Question, of_literal, of_constant, of_extractor, of_pure, of_impure, questions_of, answers_to, literal_there, constant_there, extractor_there, pure_there, impure_there}
-use Rattle.isle_laws_demands.proofs.total.SameChoice.{choice_is_of_functions_lem}
-use Rattle.isle_laws_demands.proofs.total.Total.{answers_restrict}
+use Rattle.isle_laws_matching.specs.TotalLaws.{TotalMeaning, Restricts}
+use Rattle.isle_laws_typing.proofs.WellTypedRules.{elaborated_programs_are_well_typed_lem}
+use Rattle.isle_laws_matching.proofs.NoMulti.{rules_without_multi_go_over_no_calls_lem}
+use Rattle.isle_laws_matching.proofs.total.Listed.{Question, of_literal, of_constant, of_extractor, of_pure, of_impure, questions_of, answers_to, literal_there, constant_there, extractor_there, pure_there, impure_there}
+use Rattle.isle_laws_matching.proofs.total.SameChoice.{choice_is_of_functions_lem}
+use Rattle.isle_laws_matching.proofs.total.Total.{answers_restrict}
 use Rattle.isle_laws_functions.specs.ChoiceBy.{entry_kind, parts_seen_by, holds_by, each_holds_by, all_hold_by, pure_term_by, pure_value_by, pure_values_by, pure_lets_by, args_hold_by, iflets_hold_by, matches_by, impure_call_by, applied_by, apply_by, eval_by, eval_all_by, eval_lets_by, chosen_by, with_vars_by, outcome_of_rule_by, choice_by}
 use Rattle.isle_laws_functions.specs.FunctionLaws.{ChoosesAsUnderMeanings}
 

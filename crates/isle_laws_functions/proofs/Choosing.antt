@@ -14,12 +14,12 @@ use Rattle.isle_model.specs.trees.Trees.{Tree, no_step, step, Check, match_at, e
 use Rattle.isle_model.specs.trees.Run.{run, world_of}
 use Rattle.isle_model.specs.claims.Environments.{program_of}
 use Rattle.isle_model.proofs.Elements.{In, in_right, in_either, in_from_contains}
-use Rattle.isle_laws_demands.specs.TotalLaws.{TotalMeaning, Restricts}
-use Rattle.isle_laws_lists.proofs.WellTypedRules.{elaborated_programs_are_well_typed_lem}
-use Rattle.isle_laws_demands.proofs.matching.NoMulti.{rules_without_multi_go_over_no_calls_lem}
-use Rattle.isle_laws_demands.proofs.total.Listed.{questions_of, answers_to, QuestionsOf, asks_of_all, bool_answered, int_answered, constant_answered}
-use Rattle.isle_laws_demands.proofs.total.Total.{answers_restrict}
-use Rattle.isle_laws_demands.proofs.total.SameChoice.{total_meanings_have_one_outcome_lem}
+use Rattle.isle_laws_matching.specs.TotalLaws.{TotalMeaning, Restricts}
+use Rattle.isle_laws_typing.proofs.WellTypedRules.{elaborated_programs_are_well_typed_lem}
+use Rattle.isle_laws_matching.proofs.NoMulti.{rules_without_multi_go_over_no_calls_lem}
+use Rattle.isle_laws_matching.proofs.total.Listed.{questions_of, answers_to, QuestionsOf, asks_of_all, bool_answered, int_answered, constant_answered}
+use Rattle.isle_laws_matching.proofs.total.Total.{answers_restrict}
+use Rattle.isle_laws_matching.proofs.total.SameChoice.{total_meanings_have_one_outcome_lem}
 use Rattle.isle_laws_functions.specs.RunBy.{run_by, stage_by}
 use Rattle.isle_laws_functions.specs.FunctionLaws.{constants_in, constants_in_check, constants_in_arms, HasConstants, RunsByFunctionsAsChosen}
 use Rattle.isle_laws_functions.proofs.Asking.{chooses_as_under_meanings_lem}

@@ -10,7 +10,7 @@ use Rattle.isle_model.specs.trees.Trees.{Tree, no_step, step, Check, match_at, e
 use Rattle.isle_model.specs.trees.Run.{World, Env, bound_to, as_value, from_value, part_at, in_place, or_else, used, used_value, used_values, Bound, all_bound, unwrap_failed, no_content_there, now_bound, unwrapped, constructed, bind_site, then_bind, bind_all, Trace, ending_at, with_calls, on_bound, on_ending, or_next, where_constant, value_fields, content_fields, bind_fields, with_env, with_content, on_met, on_equal, for_each, on_many, iterated, returned, run_tree, run_check, run_arms, at_start}
 use Rattle.isle_model.proofs.Elements.{none_some, in_left, in_right, in_from_contains, contains_from_in}
 use Rattle.isle_model.proofs.Members.{in_head}
-use Rattle.isle_laws_demands.specs.TotalLaws.{TotalMeaning, Agrees}
+use Rattle.isle_laws_matching.specs.TotalLaws.{TotalMeaning, Agrees}
 use Rattle.isle_laws_functions.specs.RunBy.{Stage, in_place_by, used_by, used_value_by, used_values_by, constructed_by, bind_site_by, bind_all_by, value_fields_by, content_fields_by, run_tree_by, run_check_by, run_arms_by, stage_by}
 use Rattle.isle_laws_functions.specs.FunctionLaws.{constants_in, constants_in_check, constants_in_arms, RunsAsUnderMeanings}
 use Rattle.isle_laws_functions.proofs.Equations.{no_step_by, step_by, match_by, equal_by, loop_by, return_by, no_arm_by, arm_by}

@@ -10,7 +10,7 @@ use Rattle.isle_model.specs.rules.Typed.{TypedPattern, match_bind, match_var, ma
 use Rattle.isle_model.specs.rules.Matching.{Vars, var_value, where_equal, single}
 use Rattle.isle_model.specs.rules.RightSide.{Eval, gives, ends, EvalAll, gives_all, ends_all, EvalLets, gives_vars, or_end, then_rest, then_lets, then_body, outcome_of}
 use Rattle.isle_model.specs.rules.Choice.{higher}
-use Rattle.isle_laws_demands.specs.TotalLaws.{TotalMeaning}
+use Rattle.isle_laws_matching.specs.TotalLaws.{TotalMeaning}
 
 -- what a term is, by the terms in the order of their ids
 abbrev pub entry_kind : List TermEntry → ℕ → Kind

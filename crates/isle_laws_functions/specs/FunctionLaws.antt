@@ -13,7 +13,7 @@ use Rattle.isle_model.specs.trees.Trees.{Tree, no_step, step, Check, match_at, e
 use Rattle.isle_model.specs.trees.Run.{World, run}
 use Rattle.isle_model.specs.claims.Environments.{TypesRead, IsElaborated, program_of}
 use Rattle.isle_model.specs.claims.Headline.{RunsAsChosen}
-use Rattle.isle_laws_demands.specs.TotalLaws.{TotalMeaning, Agrees, Restricts, IsTotalFor, KeepsConstantsApart}
+use Rattle.isle_laws_matching.specs.TotalLaws.{TotalMeaning, Agrees, Restricts, IsTotalFor, KeepsConstantsApart}
 use Rattle.isle_laws_functions.specs.RunBy.{run_by, stage_by}
 use Rattle.isle_laws_functions.specs.ChoiceBy.{choice_by}
 

@@ -7,7 +7,7 @@ use Rattle.isle_model.specs.rules.Outcome.{Call, Outcome, then_option, ran_throu
 use Rattle.isle_model.specs.sites.Sites.{Site, bool_site, int_site, prim_site, argument_site, extractor_site, constructor_site, iterator_site, make_variant_site, match_variant_site, make_struct_site, extract_struct_site, make_some_site, match_some_site, match_tuple_site, Constraint, is_variant, is_struct, is_bool, is_int, is_prim, is_present}
 use Rattle.isle_model.specs.trees.Trees.{Tree, no_step, step, Check, match_at, equal_at, loop_at, return_at, Arms, no_arm, arm}
 use Rattle.isle_model.specs.trees.Run.{Env, bound_to, as_value, from_value, part_at, or_else, Bound, all_bound, no_content_there, now_bound, unwrapped, then_bind, Trace, ending_at, on_bound, or_next, all_one, where_constant, with_content, on_met, on_equal, on_many, iterated, returned, at_start}
-use Rattle.isle_laws_demands.specs.TotalLaws.{TotalMeaning}
+use Rattle.isle_laws_matching.specs.TotalLaws.{TotalMeaning}
 
 -- what a run works with: the sites, the arguments, what is called, and whether the term is multi
 pub record Stage : Type 0 where

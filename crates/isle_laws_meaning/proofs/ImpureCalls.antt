@@ -9,10 +9,10 @@ use Rattle.isle_model.proofs.Either.{either}
 use Rattle.isle_model.proofs.Elements.{In, in_either}
 use Rattle.isle_model.proofs.FewElements.{not_nothing}
 use Rattle.isle_laws_runs.proofs.taking.CallsIn.{CallsOnly, CallOnly}
-use Rattle.isle_laws_demands.proofs.matching.Grown.{equated}
-use Rattle.isle_laws_demands.proofs.served.PureCalls.{IsNoImpureCall}
-use Rattle.isle_laws_demands.proofs.total.CallsMade.{AllMade, EachMade}
-use Rattle.isle_laws_demands.proofs.visits.Patterns.{in_numbers}
+use Rattle.isle_laws_visits.proofs.Grown.{equated}
+use Rattle.isle_laws_visits.proofs.PureCalls.{IsNoImpureCall}
+use Rattle.isle_laws_matching.proofs.total.CallsMade.{AllMade, EachMade}
+use Rattle.isle_laws_visits.proofs.Patterns.{in_numbers}
 
 -- 1. where no impure call was met, no site is one
 abbrev AreNoImpureCalls : List SiteTerm → Type 0

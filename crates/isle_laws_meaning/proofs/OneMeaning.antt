@@ -1,9 +1,9 @@
 -- The terms of accepted definitions have one meaning by total functions.
 use Rattle.isle_model.specs.claims.Environments.{types_read}
 use Rattle.isle_model.specs.claims.Layers.{own_program}
-use Rattle.isle_laws_lists.proofs.WellTypedRules.{elaborated_programs_are_well_typed_lem}
-use Rattle.isle_laws_demands.specs.MatchLaws.{RulesWithoutMultiGoOverNoCalls}
-use Rattle.isle_laws_demands.proofs.total.SameChoice.{total_meanings_have_one_outcome_lem}
+use Rattle.isle_laws_typing.proofs.WellTypedRules.{elaborated_programs_are_well_typed_lem}
+use Rattle.isle_laws_matching.specs.MatchLaws.{RulesWithoutMultiGoOverNoCalls}
+use Rattle.isle_laws_matching.proofs.total.SameChoice.{total_meanings_have_one_outcome_lem}
 use Rattle.isle_laws_meaning.specs.OneMeaning.{LoweredTermsHaveOneMeaning}
 use Rattle.isle_laws_meaning.proofs.PatternConstants.{functions_constants_are_of_patterns_lem}
 use Rattle.isle_laws_meaning.proofs.TotalBags.{total_meanings_have_one_bag_lem}

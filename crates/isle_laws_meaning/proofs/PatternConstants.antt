@@ -14,15 +14,15 @@ use Rattle.isle_model.specs.sites.Serves.{constant_site, constant_type, written_
 use Rattle.isle_model.specs.claims.Environments.{program_of}
 use Rattle.isle_model.proofs.Either.{either}
 use Rattle.isle_model.proofs.Elements.{In, in_from_contains, contains_from_in, in_left, in_right, in_either, some_is, none_some, in_flat_map, from_flat_map}
-use Rattle.isle_laws_lists.proofs.FormedParts.{from_if, type_is}
-use Rattle.isle_laws_demands.specs.TotalLaws.{TotalMeaning, total_value, KeepsConstantsApart}
-use Rattle.isle_laws_lists.proofs.WellTypedRules.{elaborated_programs_are_well_typed_lem}
-use Rattle.isle_laws_demands.proofs.visits.Patterns.{AsMany, term_known, as_many, output_count}
-use Rattle.isle_laws_demands.proofs.visits.RuleParts.{iflet_parts, rule_parts}
-use Rattle.isle_laws_demands.proofs.matching.Grown.{equated, Grown, each_grown, all_grown, args_grown, iflets_grown, expr_adds, rule_adds}
-use Rattle.isle_laws_demands.proofs.matching.Patterns.{from_term, from_part, from_bind}
-use Rattle.isle_laws_demands.proofs.visits.BuiltSets.{typed_rule}
-use Rattle.isle_laws_lists.specs.WellTypedPrograms.{IsWellTypedProgram}
+use Rattle.isle_laws_typing.proofs.FormedParts.{from_if, type_is}
+use Rattle.isle_laws_matching.specs.TotalLaws.{TotalMeaning, total_value, KeepsConstantsApart}
+use Rattle.isle_laws_typing.proofs.WellTypedRules.{elaborated_programs_are_well_typed_lem}
+use Rattle.isle_laws_visits.proofs.Patterns.{AsMany, term_known, as_many, output_count}
+use Rattle.isle_laws_visits.proofs.RuleParts.{iflet_parts, rule_parts}
+use Rattle.isle_laws_visits.proofs.Grown.{equated, Grown, each_grown, all_grown, args_grown, iflets_grown, expr_adds, rule_adds}
+use Rattle.isle_laws_matching.proofs.Patterns.{from_term, from_part, from_bind}
+use Rattle.isle_laws_closure.proofs.built.BuiltSets.{typed_rule}
+use Rattle.isle_laws_typing.specs.WellTypedPrograms.{IsWellTypedProgram}
 use Rattle.isle_laws_meaning.specs.PatternConstants.{PatternConstant, a_literal, a_name, pattern_constants, patterns_constants, rule_constants, rules_constants, type_of_constant, means_itself, AreToldApart, value_in, value_by, TellsPatternsApart, KeepsPatternsApart, LiteralsAreToldApart, ConstantsAreOfPatterns, FunctionsConstantsAreOfPatterns, HeadlineIsOfPatterns}
 
 -- 1. each constant that demands ask for is named by a pattern

@@ -8,8 +8,8 @@ use Rattle.isle_model.specs.lists.Elaborated.{elaborated_rule, few_enough, most_
 use Rattle.isle_model.specs.rules.Typed.{TypedRule}
 use Rattle.isle_model.specs.claims.Environments.{setting_of}
 use Rattle.isle_model.specs.claims.Refusals.{NamedLimit, Refusal, PassedInReading, nesting_passes, expansions_pass, RefusesRules}
-use Rattle.isle_laws_lists.specs.FurtherNames.{AreThereAlike}
-use Rattle.isle_laws_lists.proofs.TwoTables.{few_alike}
+use Rattle.isle_laws_typing.specs.FurtherNames.{AreThereAlike}
+use Rattle.isle_laws_typing.proofs.TwoTables.{few_alike}
 use Rattle.isle_laws_meaning.specs.ReadAgain.{RulesAreRefusedAgain}
 use Rattle.isle_laws_meaning.proofs.ReadAgain.{TypesReadAgain, later, valid_alike, left_again}
 use Rattle.isle_laws_meaning.proofs.RulesAgain.{rules_there, rules_again, rules_before}

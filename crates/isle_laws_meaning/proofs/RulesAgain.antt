@@ -20,12 +20,12 @@ use Rattle.isle_model.proofs.Mapped.{mapped_some, get_mapped}
 use Rattle.isle_model.proofs.Members.{get_within, member_from_get}
 use Rattle.isle_model.proofs.Names.{found, has_met, has_left, get_kept, distinct_names, number_below}
 use Rattle.isle_model.proofs.Positions.{get_front}
-use Rattle.isle_laws_lists.specs.FurtherNames.{AreThereAlike}
-use Rattle.isle_laws_lists.proofs.TypesStay.{number_front}
-use Rattle.isle_laws_lists.proofs.TypedRules.{lists_agree}
+use Rattle.isle_laws_typing.specs.FurtherNames.{AreThereAlike}
+use Rattle.isle_laws_typing.proofs.TypesStay.{number_front}
+use Rattle.isle_laws_typing.proofs.TypedRules.{lists_agree}
 use Rattle.isle_laws_meaning.specs.ReadAgain.{RulesAreTypedAgain}
-use Rattle.isle_laws_lists.proofs.Twice.{has_name_decides}
-use Rattle.isle_laws_lists.proofs.TwoTables.{OfOneText, same_kind, declared_alike, EntryAlike, EntriesAlike, NumbersAlike, RuleAlike, RulesAlike, numbers_kept, TwoTables, other_setting, turned, Alike, names_alike, rules_found, typings_alike}
+use Rattle.isle_laws_typing.proofs.Twice.{has_name_decides}
+use Rattle.isle_laws_typing.proofs.TwoTables.{OfOneText, same_kind, declared_alike, EntryAlike, EntriesAlike, NumbersAlike, RuleAlike, RulesAlike, numbers_kept, TwoTables, other_setting, turned, Alike, names_alike, rules_found, typings_alike}
 use Rattle.isle_laws_meaning.proofs.ReadAgain.{TypesReadAgain, later, still_readable, made_below, names_stay, valid_alike, left_again}
 
 -- 1. two choices, by one test

@@ -14,15 +14,16 @@ use Rattle.isle_model.specs.claims.Environments.{types_read}
 use Rattle.isle_model.specs.claims.Layers.{own_program, IsAccepted, LoweredTerm, IsLoweredTerm, MeansItsSet, IsCheckable}
 use Rattle.isle_model.proofs.Members.{all_members}
 use Rattle.isle_laws_runs.proofs.picks.Calls.{unfold_once}
-use Rattle.isle_laws_lists.specs.WellTypedPrograms.{IsWellTypedProgram}
-use Rattle.isle_laws_lists.proofs.WellTypedRules.{read_programs_are_well_typed}
-use Rattle.isle_laws_demands.specs.BuiltLaws.{BuiltSetsAreTested, BuiltSetsAreCollected}
-use Rattle.isle_laws_demands.specs.MatchLaws.{RulesWithoutMultiGoOverNoCalls}
-use Rattle.isle_laws_demands.specs.OutcomeLaws.{BuiltSetsMeanTheirRules}
-use Rattle.isle_laws_demands.specs.ServeLaws.{ServedSetsServeTests, ServedMultiSetsServe}
-use Rattle.isle_laws_demands.specs.VisitLaws.{MultiTermsHaveOnePriority}
-use Rattle.isle_laws_demands.proofs.matching.BuiltMatches.{one_rule, built_listed}
-use Rattle.isle_laws_demands.proofs.visits.Once.{sites_stand_once_lem}
+use Rattle.isle_laws_typing.specs.WellTypedPrograms.{IsWellTypedProgram}
+use Rattle.isle_laws_typing.proofs.WellTypedRules.{read_programs_are_well_typed}
+use Rattle.isle_laws_closure.specs.BuiltLaws.{BuiltSetsAreTested, BuiltSetsAreCollected}
+use Rattle.isle_laws_matching.specs.MatchLaws.{RulesWithoutMultiGoOverNoCalls}
+use Rattle.isle_laws_matching.specs.OutcomeLaws.{BuiltSetsMeanTheirRules}
+use Rattle.isle_laws_matching.specs.ServeLaws.{ServedSetsServeTests, ServedMultiSetsServe}
+use Rattle.isle_laws_closure.specs.GateLaws.{MultiTermsHaveOnePriority}
+use Rattle.isle_laws_closure.proofs.built.Built.{one_rule}
+use Rattle.isle_laws_matching.proofs.BuiltMatches.{built_listed}
+use Rattle.isle_laws_closure.proofs.built.Once.{sites_stand_once_lem}
 use Rattle.isle_laws_trees.specs.TreeMeanings.{BestTreesMeanTheirSets}
 use Rattle.isle_laws_trees.proofs.headline.NoCalls.{set_goes_over_none}
 use Rattle.isle_laws_trees.proofs.headline.Places.{Pair, of_set_rule}

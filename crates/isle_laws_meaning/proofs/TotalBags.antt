@@ -16,20 +16,20 @@ use Rattle.isle_model.specs.sites.Closure.{DemandsHold}
 use Rattle.isle_model.specs.claims.Environments.{program_of}
 use Rattle.isle_model.proofs.Bags.{flat_map_same}
 use Rattle.isle_model.proofs.Elements.{In, contains_from_in}
-use Rattle.isle_laws_lists.specs.WellTypedPrograms.{IsWellTypedProgram}
-use Rattle.isle_laws_lists.proofs.WellTypedPrograms.{pure_iflets}
-use Rattle.isle_laws_lists.proofs.WellTypedRules.{elaborated_programs_are_well_typed_lem}
-use Rattle.isle_laws_demands.specs.MatchLaws.{IsTried}
-use Rattle.isle_laws_demands.specs.TotalLaws.{Restricts}
-use Rattle.isle_laws_demands.proofs.closure.Classes.{with_sites_in}
-use Rattle.isle_laws_demands.proofs.matching.Visits.{given, tried, visits_match_lem}
-use Rattle.isle_laws_demands.proofs.overlaps.Overlaps.{bool_same}
-use Rattle.isle_laws_demands.proofs.results.Held.{result_held}
-use Rattle.isle_laws_demands.proofs.total.CallsMade.{AllMade, rule_makes}
-use Rattle.isle_laws_demands.proofs.total.SameContents.{TwoMaps, turned, same_content, demands_hold}
-use Rattle.isle_laws_demands.proofs.total.Total.{total_meanings_serve_lem, agreeing_maps_tell_apart_lem}
-use Rattle.isle_laws_demands.proofs.visits.BuiltSets.{of_term}
-use Rattle.isle_laws_demands.proofs.visits.Rules.{well_typed_rules_demand_gates_lem}
+use Rattle.isle_laws_typing.specs.WellTypedPrograms.{IsWellTypedProgram}
+use Rattle.isle_laws_typing.proofs.WellTypedPrograms.{pure_iflets}
+use Rattle.isle_laws_typing.proofs.WellTypedRules.{elaborated_programs_are_well_typed_lem}
+use Rattle.isle_laws_matching.specs.MatchLaws.{IsTried}
+use Rattle.isle_laws_matching.specs.TotalLaws.{Restricts}
+use Rattle.isle_laws_closure.proofs.Classes.{with_sites_in}
+use Rattle.isle_laws_matching.proofs.Visits.{given, tried, visits_match_lem}
+use Rattle.isle_laws_closure.proofs.overlaps.Overlaps.{bool_same}
+use Rattle.isle_laws_matching.proofs.results.Held.{result_held}
+use Rattle.isle_laws_matching.proofs.total.CallsMade.{AllMade, rule_makes}
+use Rattle.isle_laws_matching.proofs.total.SameContents.{TwoMaps, turned, same_content, demands_hold}
+use Rattle.isle_laws_matching.proofs.total.Total.{total_meanings_serve_lem, agreeing_maps_tell_apart_lem}
+use Rattle.isle_laws_closure.proofs.built.BuiltSets.{of_term}
+use Rattle.isle_laws_visits.proofs.Rules.{well_typed_rules_demand_gates_lem}
 use Rattle.isle_laws_meaning.specs.TotalBags.{BagIsOfFunctions, TotalMeaningsHaveOneBag}
 use Rattle.isle_laws_meaning.proofs.ImpureCalls.{none_is_impure, no_calls_at}
 use Rattle.isle_laws_meaning.proofs.PatternConstants.{functions_constants_are_of_patterns_lem}

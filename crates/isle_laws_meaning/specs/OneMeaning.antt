@@ -6,7 +6,7 @@ use Rattle.isle_model.specs.rules.Values.{Value, args_well_typed}
 use Rattle.isle_model.specs.rules.Program.{Program, is_multi, arg_types, rules_of}
 use Rattle.isle_model.specs.trees.Collects.{HasCollectedResults}
 use Rattle.isle_model.specs.claims.Layers.{own_program, IsAccepted, LoweredTerm, IsLoweredTerm}
-use Rattle.isle_laws_demands.specs.TotalLaws.{TotalMeaning, IsTotalFor, HasOneOutcome}
+use Rattle.isle_laws_matching.specs.TotalLaws.{TotalMeaning, IsTotalFor, HasOneOutcome}
 use Rattle.isle_laws_meaning.specs.PatternConstants.{KeepsPatternsApart}
 use Rattle.isle_laws_meaning.specs.TotalBags.{HasOneBag}
 

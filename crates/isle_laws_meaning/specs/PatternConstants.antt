@@ -16,7 +16,7 @@ use Rattle.isle_model.specs.trees.Run.{run, world_of}
 use Rattle.isle_model.specs.trees.Trees.{Tree}
 use Rattle.isle_model.specs.claims.Environments.{TypesRead, IsElaborated, program_of}
 use Rattle.isle_model.specs.claims.Headline.{RunsAsChosen}
-use Rattle.isle_laws_demands.specs.TotalLaws.{TotalMeaning, KeepsConstantsApart}
+use Rattle.isle_laws_matching.specs.TotalLaws.{TotalMeaning, KeepsConstantsApart}
 
 -- a constant that a pattern names: a literal, with its type, or a named constant, with its type
 pub data PatternConstant : Type 0 where

@@ -14,7 +14,7 @@ use Rattle.isle_model.specs.trees.Collects.{Collects, CollectsTheBag, HasCollect
 use Rattle.isle_model.specs.trees.Run.{run, world_of}
 use Rattle.isle_model.specs.trees.Trees.{Tree}
 use Rattle.isle_model.specs.claims.Environments.{TypesRead, IsElaborated, program_of}
-use Rattle.isle_laws_demands.specs.TotalLaws.{TotalMeaning, Agrees, Restricts, IsTotalFor}
+use Rattle.isle_laws_matching.specs.TotalLaws.{TotalMeaning, Agrees, Restricts, IsTotalFor}
 use Rattle.isle_laws_meaning.specs.PatternConstants.{KeepsPatternsApart}
 
 -- any two maps that agree with the functions, and serve the rules of a term that make no impure call, give one bag: one

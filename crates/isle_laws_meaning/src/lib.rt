@@ -11,9 +11,11 @@ ghost use Rattle.isle_laws_meaning.specs.SetsServed.{LoweredSetsMeanTheirRules};
 ghost use Rattle.isle_laws_meaning.specs.TotalBags.{BagIsOfFunctions, TotalMeaningsHaveOneBag};
 ghost use Rattle.isle_laws_meaning.specs.Uses.{BytesAreToldApart};
 
-use isle_laws_demands::{
-    built_sets_are_collected, built_sets_are_tested, built_sets_mean_their_rules,
-    multi_terms_have_one_priority, rules_without_multi_go_over_no_calls, served_multi_sets_serve,
+use isle_laws_closure::{
+    built_sets_are_collected, built_sets_are_tested, multi_terms_have_one_priority,
+};
+use isle_laws_matching::{
+    built_sets_mean_their_rules, rules_without_multi_go_over_no_calls, served_multi_sets_serve,
     served_sets_serve_tests,
 };
 use isle_laws_trees::best_trees_mean_their_sets;

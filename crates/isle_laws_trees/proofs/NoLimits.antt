@@ -11,7 +11,7 @@ use Rattle.isle_model.specs.sites.Limits.{first_limit, sites_after_rule, sites_a
 use Rattle.isle_model.specs.sites.Overlap.{BuiltRule, is_built, built_rule, built_from}
 use Rattle.isle_model.specs.claims.Refusals.{rule_passes}
 use Rattle.isle_model.proofs.Elements.{some_is, none_some}
-use Rattle.isle_laws_demands.proofs.closure.LimitsPassed.{passed_limit_is_met_lem}
+use Rattle.isle_laws_visits.proofs.LimitsPassed.{passed_limit_is_met_lem}
 use Rattle.isle_laws_trees.specs.NoLimits.{CheckableProgramsPassNoLimit}
 
 abbrev typed_of : BuiltRule → TypedRule

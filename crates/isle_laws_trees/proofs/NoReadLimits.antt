@@ -12,10 +12,10 @@ use Rattle.isle_model.specs.claims.Environments.{TypesRead, AreReadable, setting
 use Rattle.isle_model.specs.claims.Refusals.{nesting_passes, expansions_pass}
 use Rattle.isle_model.proofs.Elements.{some_is, none_some}
 use Rattle.isle_model.proofs.Names.{distinct_names}
-use Rattle.isle_laws_lists.specs.FurtherNames.{AreThereAlike}
-use Rattle.isle_laws_lists.proofs.NamesOfTables.{names_of_rules_dont_matter_lem}
-use Rattle.isle_laws_lists.proofs.TypedResults as results
-use Rattle.isle_laws_lists.proofs.TypedRules as typed
+use Rattle.isle_laws_typing.specs.FurtherNames.{AreThereAlike}
+use Rattle.isle_laws_typing.proofs.NamesOfTables.{names_of_rules_dont_matter_lem}
+use Rattle.isle_laws_typing.proofs.TypedResults as results
+use Rattle.isle_laws_typing.proofs.TypedRules as typed
 use Rattle.isle_laws_trees.specs.NoLimits.{ElaboratedRulesAreWithinLimits, ElaboratedListsPassNoLimit}
 
 -- a rule has a derivation within the limits, from these names and more

@@ -16,14 +16,14 @@ use Rattle.isle_model.specs.claims.Environments.{program_of}
 use Rattle.isle_model.specs.claims.Layers.{IsBuiltForSome}
 use Rattle.isle_model.proofs.Elements.{In, in_from_contains, in_left, in_right, in_either, slice_in}
 use Rattle.isle_model.proofs.Positions.{get_front}
-use Rattle.isle_laws_demands.proofs.closure.Classes.{in_with_sites}
-use Rattle.isle_laws_demands.proofs.closure.Closing.{closing_keeps}
-use Rattle.isle_laws_demands.proofs.closure.WholeVisits.{reached_closed, few_made}
-use Rattle.isle_laws_demands.proofs.visits.Built.{rule_at}
-use Rattle.isle_laws_lists.proofs.WellTypedRules.{elaborated_programs_are_well_typed_lem}
-use Rattle.isle_laws_demands.proofs.visits.Once.{one_number}
-use Rattle.isle_laws_demands.proofs.visits.Unfolding.{unfolds}
-use Rattle.isle_laws_demands.proofs.visits.Kept.{rule_kept}
+use Rattle.isle_laws_closure.proofs.Classes.{in_with_sites}
+use Rattle.isle_laws_closure.proofs.Closing.{closing_keeps}
+use Rattle.isle_laws_closure.proofs.WholeVisits.{reached_closed, few_made}
+use Rattle.isle_laws_closure.proofs.built.Built.{rule_at}
+use Rattle.isle_laws_typing.proofs.WellTypedRules.{elaborated_programs_are_well_typed_lem}
+use Rattle.isle_laws_closure.proofs.built.Once.{one_number}
+use Rattle.isle_laws_closure.proofs.built.Unfolding.{unfolds}
+use Rattle.isle_laws_visits.proofs.Kept.{rule_kept}
 
 -- 1. the visit of a rule makes a pick of each call that it goes over
 abbrev AllPicked : Visit → Type 0

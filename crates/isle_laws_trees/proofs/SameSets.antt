@@ -3,7 +3,7 @@ use Rattle.std.proofs.Common.{◌≡◌, ℕ, zero, suc, ◌<◌, true, if◌the
 use Rattle.std.proofs.lemmas.Bool.{cases_Bool, cond-true, cond-false}
 use Rattle.std.proofs.lemmas.Option.{none-some, same_Some}
 use Rattle.std.proofs.lemmas.List.Elements.{All-contains}
-use Rattle.isle_laws_demands.proofs.overlaps.Overlaps.{bool_same}
+use Rattle.isle_laws_closure.proofs.overlaps.Overlaps.{bool_same}
 use Rattle.isle_model.specs.rules.Program.{Program, rules_of}
 use Rattle.isle_model.specs.sites.Sites.{Site, bool_site, int_site, prim_site, argument_site, extractor_site, constructor_site, iterator_site, make_variant_site, match_variant_site, make_struct_site, extract_struct_site, make_some_site, match_some_site, match_tuple_site, Constraint, SetRule, SiteSet, sources_of, sources_at, SiteTerm, bool_term, int_term, prim_term, argument, extractor_call, constructor_call, pick_of, variant_made, variant_field, struct_made, struct_field, some_made, some_part, tuple_part, no_site, SiteTerms, no_site_term, site_term_and, each_term, layer, layer_at, unfold_site}
 use Rattle.isle_model.specs.visits.Demands.{site_term_eq}
@@ -14,8 +14,8 @@ use Rattle.isle_model.specs.trees.Places.{is_in, joins_in, constraint_at}
 use Rattle.isle_model.proofs.Elements.{In, contains_from_in}
 use Rattle.isle_model.proofs.Members.{get_within, in_head, in_tail, member_found, member_is_in, constraint_in}
 use Rattle.isle_model.proofs.SameSites.{term_means, same_term}
-use Rattle.isle_laws_demands.proofs.visits.Once.{once_of_term, one_number}
-use Rattle.isle_laws_demands.proofs.visits.Unfolding.{unfolds}
+use Rattle.isle_laws_closure.proofs.built.Once.{once_of_term, one_number}
+use Rattle.isle_laws_closure.proofs.built.Unfolding.{unfolds}
 use Rattle.isle_laws_trees.specs.OneAnswer.{EachTwo, ShowSame, BuiltSetsShowSame}
 use Rattle.isle_laws_runs.proofs.runs.Contents.{StandApart}
 use Rattle.isle_laws_trees.proofs.TreeMeanings.{asked_once}

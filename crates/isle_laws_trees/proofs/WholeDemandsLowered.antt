@@ -1,7 +1,7 @@
 -- The demands of accepted definitions are whole.
-use Rattle.isle_laws_lists.proofs.WellTypedRules.{read_programs_are_well_typed}
+use Rattle.isle_laws_typing.proofs.WellTypedRules.{read_programs_are_well_typed}
 use Rattle.isle_model.specs.claims.Layers.{own_program}
-use Rattle.isle_laws_demands.specs.BuiltLaws.{BuiltDemandsAreWhole}
+use Rattle.isle_laws_closure.specs.BuiltLaws.{BuiltDemandsAreWhole}
 use Rattle.isle_laws_trees.specs.WholeDemands.{AcceptedDemandsAreWhole}
 
 pub accepted_demands_are_whole_lem : BuiltDemandsAreWhole → AcceptedDemandsAreWhole

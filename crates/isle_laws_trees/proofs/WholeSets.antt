@@ -10,11 +10,11 @@ use Rattle.isle_model.specs.sites.Overlap.{built_rules}
 use Rattle.isle_model.specs.trees.Places.{joins_in}
 use Rattle.isle_model.specs.claims.Layers.{own_program}
 use Rattle.isle_model.proofs.Elements.{contains_from_in, in_slice}
-use Rattle.isle_laws_lists.proofs.WellTypedRules.{read_programs_are_well_typed}
-use Rattle.isle_laws_demands.specs.BuiltLaws.{BuiltDemandsAreWhole}
-use Rattle.isle_laws_demands.proofs.visits.Built.{stands_for}
-use Rattle.isle_laws_demands.proofs.visits.BuiltSets.{BuiltSet, RuleOfSet}
-use Rattle.isle_laws_demands.proofs.visits.Once.{one_number}
+use Rattle.isle_laws_typing.proofs.WellTypedRules.{read_programs_are_well_typed}
+use Rattle.isle_laws_closure.specs.BuiltLaws.{BuiltDemandsAreWhole}
+use Rattle.isle_laws_closure.proofs.built.Built.{stands_for}
+use Rattle.isle_laws_closure.proofs.built.BuiltSets.{BuiltSet, RuleOfSet}
+use Rattle.isle_laws_closure.proofs.built.Once.{one_number}
 use Rattle.isle_laws_trees.proofs.headline.Places.{Pair, of_set_rule, of_typed_rule, typed_here}
 use Rattle.isle_laws_trees.specs.WholeDemands.{AsksAt, JoinsAt, AsksWhatFollows, AcceptedSetsAreWhole}
 

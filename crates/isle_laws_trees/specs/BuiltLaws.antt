@@ -6,7 +6,7 @@ use Rattle.isle_model.specs.trees.Best.{IsBestTree}
 use Rattle.isle_model.specs.trees.Collects.{CollectsTheBag}
 use Rattle.isle_model.specs.trees.WellBuilt.{HasOnePriority}
 use Rattle.isle_model.specs.claims.Layers.{BindsBeforeUse, IsCheckable}
-use Rattle.isle_laws_demands.specs.BuiltSets.{OfBuiltSets}
+use Rattle.isle_laws_closure.specs.BuiltSets.{OfBuiltSets}
 
 -- so its best trees are sound
 abbrev pub BestTreesOfBuiltSetsAreSound : Type 0

@@ -11,7 +11,7 @@ use Rattle.isle_model.specs.trees.Best.{IsBestTree}
 use Rattle.isle_model.specs.sites.Overlap.{HasDistinctPositions}
 use Rattle.isle_model.specs.claims.Environments.{TypesRead, TypeEnvironment, TermsShown, TermEnvironment, IsRead, AreTypesOf, AreTermsOf, AreRulesOf}
 use Rattle.isle_model.specs.claims.Refusals.{Refusal}
-use Rattle.isle_laws_demands.specs.ShadowLaws.{check_errors}
+use Rattle.isle_laws_closure.specs.ShadowLaws.{check_errors}
 use Rattle.isle_model.specs.claims.Layers.{own_program, IsAccepted, AreBuiltSets, LoweredTerm, LoweringAnswers, RefusedBy, IsBuiltForSome, IsSerialized}
 
 -- two lists have as many elements, and those at one place are related

@@ -16,10 +16,12 @@ ghost use Rattle.isle_laws_trees.specs.NoLimits.{CheckableProgramsPassNoLimit, E
 ghost use Rattle.isle_laws_trees.specs.WholeDemands.{AcceptedDemandsAreWhole, AcceptedSetsAreWhole};
 ghost use Rattle.isle_laws_trees.specs.NoLoops.{TreesWithoutCallsHaveNoLoop};
 
-use isle_laws_demands::{
-    built_demands_are_whole, built_rules_are_told_apart, built_sets_are_collected,
-    built_sets_are_tested, built_sets_are_well_built, built_sets_match_by_demands,
-    multi_terms_have_one_priority, no_rule_asks_and_goes_over, results_are_held,
+use isle_laws_closure::{
+    built_demands_are_whole, built_sets_are_collected, built_sets_are_tested,
+    built_sets_are_well_built, multi_terms_have_one_priority, no_rule_asks_and_goes_over,
+};
+use isle_laws_matching::{
+    built_rules_are_told_apart, built_sets_match_by_demands, results_are_held,
     rules_without_multi_go_over_no_calls, served_multi_sets_serve, served_sets_serve_tests,
     taken_rules_give_their_outcome,
 };

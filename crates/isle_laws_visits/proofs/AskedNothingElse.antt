@@ -8,7 +8,7 @@ use Rattle.isle_model.specs.sites.Sites.{Constraint, is_variant, is_struct, is_b
 use Rattle.isle_model.specs.rules.Typed.{TypedPattern, match_bind, match_var, match_bool, match_int, match_prim, match_term, match_any, match_and, TypedPatterns, no_typed_pattern, typed_pattern_and, TypedExpr, make_term, make_var, make_bool, make_int, make_prim, make_let, TypedExprs, no_typed_expr, typed_expr_and, TypedLets, no_typed_let, typed_let_and}
 use Rattle.isle_model.specs.visits.Demands.{Count, fields_matched, outputs_taken, site_term_eq, Visit, visit_start, making, counting, asking, equating, iterating, calling, binding, or_no_site, var_site, from_to, pattern_count, Opened, output_sites, part_sites, outputs_opened, open_call, open_term, visit_pattern, visit_each, visit_all, Valued, ValuedAll, valued, call_result, call_sites, where_multi, visit_call, visit_term, visit_expr, visit_exprs, visit_lets, unwraps, unwraps_all, asking_all}
 use Rattle.isle_model.proofs.Elements.{In, in_from_contains, in_either}
-use Rattle.isle_laws_demands.proofs.visits.Patterns.{in_numbers}
+use Rattle.isle_laws_visits.proofs.Patterns.{in_numbers}
 use Rattle.isle_laws_visits.specs.Followers.{AsksNothingElse}
 
 -- whether a call of a term of this kind may answer nothing, in a pattern and in an expression

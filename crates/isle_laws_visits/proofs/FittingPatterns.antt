@@ -10,7 +10,7 @@ use Rattle.isle_model.specs.rules.Typed.{TypedPattern, match_bind, match_var, ma
 use Rattle.isle_model.specs.visits.Demands.{pattern_count}
 use Rattle.isle_model.proofs.Elements.{none_some}
 use Rattle.isle_model.proofs.Options.{then_some}
-use Rattle.isle_laws_lists.proofs.FormedParts.{from_if}
+use Rattle.isle_laws_typing.proofs.FormedParts.{from_if}
 
 -- a term that is there, at a type, with n arguments
 abbrev pub FitsTerm : ℕ → ℕ → Option TermEntry → Type 0

@@ -12,11 +12,11 @@ use Rattle.isle_model.specs.visits.Runs.{BoundIds, done, with_bound, binds, find
 use Rattle.isle_model.specs.visits.Visitors.{PatternSteps}
 use Rattle.isle_model.specs.visits.SiteVisitor.{any_parts, fields_opened}
 use Rattle.isle_model.specs.visits.PatternRuns.{part_types, OpensKind, Opens as OpensTerm, PatternRun, PartsRun, EachRun}
-use Rattle.isle_laws_demands.specs.RuleByRule.{Continues}
-use Rattle.isle_laws_demands.proofs.visits.Continued.{continues_now, tests_continue}
-use Rattle.isle_laws_demands.proofs.visits.Kept.{each_kept, all_kept}
-use Rattle.isle_laws_demands.proofs.visits.Visited.{equating_binds}
-use Rattle.isle_laws_demands.proofs.visits.WithSites.{open_binds, same_fields}
+use Rattle.isle_laws_visits.specs.VisitLaws.{Continues}
+use Rattle.isle_laws_visits.proofs.Continued.{continues_now, tests_continue}
+use Rattle.isle_laws_visits.proofs.Kept.{each_kept, all_kept}
+use Rattle.isle_laws_visits.proofs.Visited.{equating_binds}
+use Rattle.isle_laws_visits.proofs.WithSites.{open_binds, same_fields}
 use Rattle.isle_laws_visits.specs.Followers.{Follower, Goes, GoesOn, Opens, FollowsPatterns, EndsOnTheWay}
 use Rattle.isle_laws_visits.proofs.FittingPatterns.{FitsTerm, Fits, FitAll}
 use Rattle.isle_laws_visits.proofs.KnownVars.{KnowsVars, by_and_then, goes_further, goes_nowhere, knows_more, knows_stay, no_fault, one_answer, refusal, refused_ends}

@@ -14,13 +14,13 @@ use Rattle.isle_model.specs.visits.ExprRuns.{entry_arg_types}
 use Rattle.isle_model.specs.visits.RuleRuns.{lent_binding, PatternCall, ValueRun, ArgsRun, IfLetsRun}
 use Rattle.isle_model.proofs.Elements.{none_some, some_is}
 use Rattle.isle_model.proofs.Options.{then_some}
-use Rattle.isle_laws_demands.specs.RuleByRule.{Continues}
-use Rattle.isle_laws_demands.proofs.matching.SameExprs.{expr_keeps}
-use Rattle.isle_laws_demands.proofs.visits.Continued.{continues_now, tests_continue, values_continue}
-use Rattle.isle_laws_demands.proofs.visits.Kept.{args_kept, asking_kept, expr_kept, iflets_kept, pattern_kept}
-use Rattle.isle_laws_demands.proofs.visits.RuleParts.{rule_parts, iflet_parts}
-use Rattle.isle_laws_demands.proofs.visits.Visited.{asked_binds}
-use Rattle.isle_laws_lists.proofs.FormedParts.{from_if}
+use Rattle.isle_laws_visits.specs.VisitLaws.{Continues}
+use Rattle.isle_laws_visits.proofs.SameExprs.{expr_keeps}
+use Rattle.isle_laws_visits.proofs.Continued.{continues_now, tests_continue, values_continue}
+use Rattle.isle_laws_visits.proofs.Kept.{args_kept, asking_kept, expr_kept, iflets_kept, pattern_kept}
+use Rattle.isle_laws_visits.proofs.RuleParts.{rule_parts, iflet_parts}
+use Rattle.isle_laws_visits.proofs.Visited.{asked_binds}
+use Rattle.isle_laws_typing.proofs.FormedParts.{from_if}
 use Rattle.isle_laws_visits.specs.Followers.{Follower, Goes, Gives, FollowsSites, VisitsFollow}
 use Rattle.isle_laws_visits.proofs.AskedNothingElse.{IsQuiet, IsPlain, start_quiet, after_counting, after_making, after_asking_all, pattern_quiet, expr_quiet, argument_plain, asks_nothing_else}
 use Rattle.isle_laws_visits.proofs.FittingPatterns.{formed_fits}

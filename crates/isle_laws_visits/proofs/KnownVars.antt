@@ -12,7 +12,7 @@ use Rattle.isle_model.specs.sites.Sites.{SiteTerm}
 use Rattle.isle_model.specs.visits.Demands.{Visit, binding, or_no_site, var_site}
 use Rattle.isle_model.specs.visits.Runs.{VisitRun, BoundIds, bound_at, with_bound, and_then, refused}
 use Rattle.isle_model.proofs.Elements.{some_is}
-use Rattle.isle_laws_demands.proofs.visits.Visited.{Same}
+use Rattle.isle_laws_visits.proofs.Visited.{Same}
 use Rattle.isle_laws_visits.specs.Followers.{Follower, Goes, EndsOnTheWay}
 
 -- 1. runs

@@ -12,8 +12,8 @@ use Rattle.isle_model.specs.visits.Visitors.{PatternSteps}
 use Rattle.isle_model.specs.visits.PatternRuns.{PatternRun, PartsRun, EachRun}
 use Rattle.isle_model.proofs.Elements.{none_some, some_is}
 use Rattle.isle_model.proofs.Options.{then_some}
-use Rattle.isle_laws_demands.proofs.visits.Patterns.{from_new}
-use Rattle.isle_laws_lists.proofs.FormedParts.{from_if}
+use Rattle.isle_laws_visits.proofs.Patterns.{from_new}
+use Rattle.isle_laws_typing.proofs.FormedParts.{from_if}
 use Rattle.isle_laws_visits.proofs.KnownVars.{InScope, bound_once, no_fault, refusal}
 
 -- what is bound can be used, but for some variables

@@ -7,7 +7,7 @@ use Rattle.isle_model.specs.visits.Demands.{Visit, visit_start, site_term_eq, as
 use Rattle.isle_model.specs.visits.Runs.{done}
 use Rattle.isle_model.specs.visits.SiteVisitor.{fields_opened, extractor_opened, input_sites, value_made, site_patterns, site_exprs, site_rules}
 use Rattle.isle_model.proofs.Elements.{none_some}
-use Rattle.isle_laws_demands.proofs.visits.Visited.{equated}
+use Rattle.isle_laws_visits.proofs.Visited.{equated}
 use Rattle.isle_laws_visits.specs.Followers.{Follower, GoesOn, Opens, Gives, NameInputs, FollowsSites, FollowsPatterns, FollowsExprs, FollowsRules, SiteRunsVisit}
 use Rattle.isle_laws_visits.proofs.FollowedRules.{visits_follow_lem}
 

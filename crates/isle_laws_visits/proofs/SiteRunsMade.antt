@@ -17,11 +17,11 @@ use Rattle.isle_model.specs.visits.ExprRuns.{entry_arg_types, MakesKind, Makes, 
 use Rattle.isle_model.specs.visits.RuleRuns.{ExchangeRun, PatternCall, ValueRun, ArgsRun, IfLetsRun}
 use Rattle.isle_model.proofs.Elements.{none_some, some_is}
 use Rattle.isle_model.proofs.Options.{then_some}
-use Rattle.isle_laws_demands.proofs.matching.SameExprs.{from_let, from_args, from_body}
-use Rattle.isle_laws_demands.proofs.visits.Patterns.{AsMany, as_many, from_new, output_count}
-use Rattle.isle_laws_demands.proofs.visits.RuleParts.{rule_parts, iflet_parts}
-use Rattle.isle_laws_demands.proofs.visits.WithSites.{same_fields}
-use Rattle.isle_laws_lists.proofs.FormedParts.{from_entry, from_if, has_type}
+use Rattle.isle_laws_visits.proofs.SameExprs.{from_let, from_args, from_body}
+use Rattle.isle_laws_visits.proofs.Patterns.{AsMany, as_many, from_new, output_count}
+use Rattle.isle_laws_visits.proofs.RuleParts.{rule_parts, iflet_parts}
+use Rattle.isle_laws_visits.proofs.WithSites.{same_fields}
+use Rattle.isle_laws_typing.proofs.FormedParts.{from_entry, from_if, has_type}
 use Rattle.isle_laws_visits.specs.Followers.{SiteRunsExist}
 use Rattle.isle_laws_visits.proofs.FittingPatterns.{parts_fit}
 use Rattle.isle_laws_visits.proofs.FollowedPatterns.{any_count, call_alike, types_count}

@@ -11,7 +11,7 @@ use Rattle.isle_model.specs.visits.Demands.{Visit, visit_start, asking, asking_a
 use Rattle.isle_model.specs.visits.RuleRuns.{RuleRun}
 use Rattle.isle_model.specs.visits.SiteVisitor.{fields_opened, extractor_opened, value_made, SiteRun}
 use Rattle.isle_model.specs.visits.Visitors.{PatternSteps, ExprSteps, RuleSteps}
-use Rattle.isle_laws_demands.specs.RuleByRule.{Continues}
+use Rattle.isle_laws_visits.specs.VisitLaws.{Continues}
 
 -- 1. what relates a visitor to visits of sites: F are its faults, S its states, N its ids
 pub record Follower (F S N : Type 0) : Type 1 where

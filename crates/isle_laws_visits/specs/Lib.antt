@@ -1,1 +1,3 @@
 pub mod Followers
+pub mod LimitLaws
+pub mod VisitLaws

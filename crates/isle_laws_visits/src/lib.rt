@@ -1,10 +1,69 @@
-//! Laws of the visit of a typed rule: a visitor that follows the visitor of sites step by step follows it through whole
-//! rules, faults included; so the run of the visitor of sites gives what the functions of the visit compute.
+//! Laws of the visit of a typed rule: what it demands and makes, and which limit it meets first; and that a visitor
+//! which follows the visitor of sites step by step follows it through whole rules, faults included.
 //!
-//! A function here has no code: its clause is a law, and its proof stands in `proofs/`.
+//! A function here has no code, or calls the laws that its proof rests on: its clause is a law, and its proof stands in
+//! `proofs/`.
 #![tactic(auto)]
 
 ghost use Rattle.isle_laws_visits.specs.Followers.{SiteRunsExist, SiteRunsVisit};
+ghost use Rattle.isle_laws_visits.specs.LimitLaws.{FirstLimitIsPassed, PassedLimitIsMet, LimitsAreMet, FullSitesStay, VisitsEndAtCounts};
+ghost use Rattle.isle_laws_visits.specs.VisitLaws.{VisitsMakeEqualSites, FormedRulesDemandGates, WellTypedRulesDemandGates, FormedRulesMakeEqualSites, VisitsContinue};
+
+/// A limit that is reported is passed.
+#[tactic(auto, using(crate::proofs::LimitsPassed::first_limit_is_passed_lem))]
+pub fn first_limit_is_passed()
+    ensures { FirstLimitIsPassed }
+{}
+
+/// Where a limit is passed, one is reported.
+#[tactic(auto, using(crate::proofs::LimitsPassed::passed_limit_is_met_lem))]
+pub fn passed_limit_is_met()
+    ensures { PassedLimitIsMet }
+{}
+
+/// The sites that a visit equates are made by it, but for variables that nothing binds.
+pub fn visits_make_equal_sites()
+    ensures { VisitsMakeEqualSites }
+{}
+
+/// A rule that hangs together, and whose if-lets make no impure call, demands the gates of all that it tests and returns.
+#[tactic(auto, using(crate::proofs::Rules::formed_rules_demand_gates_lem))]
+pub fn formed_rules_demand_gates()
+    ensures { FormedRulesDemandGates }
+{}
+
+/// So do the rules of a well-typed program.
+pub fn well_typed_rules_demand_gates()
+    ensures { WellTypedRulesDemandGates }
+{}
+
+/// The visit of a rule that hangs together makes the sites that it equates.
+pub fn formed_rules_make_equal_sites()
+    ensures { FormedRulesMakeEqualSites }
+{}
+
+/// Which limit is met first, by what the rule's visit counts and by the number of sites.
+#[tactic(auto, using(crate::proofs::Limits::limits_are_met_lem))]
+pub fn limits_are_met()
+    ensures { LimitsAreMet }
+{}
+
+/// Sites that are too many stay the first of themselves and more.
+#[tactic(auto, using(crate::proofs::Limits::full_sites_stay_lem))]
+pub fn full_sites_stay()
+    ensures { FullSitesStay }
+{}
+
+/// Visits only add to what is made and counted, at the end.
+#[tactic(auto, using(crate::proofs::Continued::visits_continue_lem))]
+pub fn visits_continue()
+    ensures { VisitsContinue }
+{}
+
+/// The visit of a rule ends at the first count that passes a limit, with the sites that it has made.
+pub fn visits_end_at_counts()
+    ensures { VisitsEndAtCounts }
+{}
 
 /// The run of the visitor of sites over a rule that hangs together gives the site of the rule's value, what the rule
 /// demands up to there, and how many impure calls were met.

@@ -20,11 +20,11 @@ use Rattle.isle_model.specs.lists.Elaborated.{elaborated_pattern, elaborated_par
 use Rattle.isle_model.specs.lists.Elaborates.{ElaboratesExpr, ElaboratesArgs, ElaboratesLets, a_call, converted_call, a_variable, converted_variable, truth_expr, integer_expr, constant_expr, let_in, no_arg, an_arg, no_def, a_def, ElaboratesIfLets, no_iflet, an_iflet, ElaboratesRule, a_rule}
 use Rattle.isle_model.proofs.Members.{get_within}
 use Rattle.isle_model.proofs.Names.{found, absent, last, has_at, at_number}
-use Rattle.isle_laws_lists.proofs.FormedRules.{named_at}
-use Rattle.isle_laws_lists.proofs.Typings.{then_gives, followed_gives, if_gives}
-use Rattle.isle_laws_lists.proofs.TypedRules.{rules_agree, typed_within_limits}
-use Rattle.isle_laws_lists.proofs.TypedPatterns as patterns
-use Rattle.isle_laws_lists.proofs.TypedExprs as exprs
+use Rattle.isle_laws_typing.proofs.FormedRules.{named_at}
+use Rattle.isle_laws_typing.proofs.Typings.{then_gives, followed_gives, if_gives}
+use Rattle.isle_laws_typing.proofs.TypedRules.{rules_agree, typed_within_limits}
+use Rattle.isle_laws_typing.proofs.TypedPatterns as patterns
+use Rattle.isle_laws_typing.proofs.TypedExprs as exprs
 use Rattle.isle_types.proofs.RightTypes.{all_left, all_right}
 use Rattle.isle_rules.specs.Constructors.{is_made, AreMadeUses, uses_of_rule, AreTermsNamed}
 use Rattle.isle_rules.specs.ExprReadings.{made_kind, made_entry, all_made}

@@ -14,7 +14,7 @@ use Rattle.isle_model.specs.rules.Meaning.{look}
 use Rattle.isle_model.specs.rules.Typed.{TypedRule}
 use Rattle.isle_model.specs.claims.Environments.{TypesRead, AreReadable, setting_of, IsElaborated, IsReadAs, environment_of, with_read_names, rules_by_name, ShowsTerms, AreTermsOf, AreRulesOf, IsLeftByRefusal}
 use Rattle.isle_model.proofs.NumbersOf.{environments_are_read}
-use Rattle.isle_laws_lists.proofs.TypesStay.{types_are_shown_lem, types_stay_lem}
+use Rattle.isle_laws_typing.proofs.TypesStay.{types_are_shown_lem, types_stay_lem}
 use Rattle.isle_types.specs.declared.type_env.TypeEnv.{TypeEnv}
 use Rattle.isle_types.specs.Envs.{names_of, same_symbol, symbol, IsInterned}
 use Rattle.isle_types.specs.EnvViews.{environment_view}

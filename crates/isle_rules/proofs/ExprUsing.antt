@@ -15,7 +15,7 @@ use Rattle.isle_model.specs.rules.Outcome.{then_option}
 use Rattle.isle_model.specs.rules.Typed.{TypedExpr, make_term, make_var, typed_expr_and, TypedVar}
 use Rattle.isle_model.proofs.ByNumber.{looked_up}
 use Rattle.isle_model.proofs.Names.{last}
-use Rattle.isle_laws_lists.proofs.Typings.{expected_itself}
+use Rattle.isle_laws_typing.proofs.Typings.{expected_itself}
 use Rattle.isle_types.specs.Envs.{names_of, symbol_of, IsInterned}
 use Rattle.isle_base.specs.Noting.{NotesMore}
 use Rattle.isle_terms.specs.Terms.{has_constructor_kind}

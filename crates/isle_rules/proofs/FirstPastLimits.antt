@@ -14,11 +14,11 @@ use Rattle.isle_model.specs.rules.Typed.{TypedRule}
 use Rattle.isle_model.specs.claims.Environments.{TypesRead, AreReadable, setting_of}
 use Rattle.isle_model.specs.claims.Refusals.{Refusal}
 use Rattle.isle_model.proofs.Names.{distinct_names}
-use Rattle.isle_laws_lists.specs.FurtherNames.{AreThereAlike}
-use Rattle.isle_laws_lists.proofs.NamesOfTables.{names_of_rules_dont_matter_lem}
-use Rattle.isle_laws_lists.proofs.TypedResults.{names_stay}
-use Rattle.isle_laws_lists.proofs.TypedRules.{rules_agree, rules_one_way, typed_within_limits}
-use Rattle.isle_laws_lists.proofs.Typings.{then_gives}
+use Rattle.isle_laws_typing.specs.FurtherNames.{AreThereAlike}
+use Rattle.isle_laws_typing.proofs.NamesOfTables.{names_of_rules_dont_matter_lem}
+use Rattle.isle_laws_typing.proofs.TypedResults.{names_stay}
+use Rattle.isle_laws_typing.proofs.TypedRules.{rules_agree, rules_one_way, typed_within_limits}
+use Rattle.isle_laws_typing.proofs.Typings.{then_gives}
 use Rattle.isle_rules.specs.LimitsNamed.{IsTypedPastLimits, NamesTypedPastLimits, rules_reached, NamesFirstPastLimits}
 
 -- 1. what is so from further names is so from the first ones

@@ -18,7 +18,7 @@ use Rattle.isle_model.specs.lists.Typings.{Typing, plain, scoped, joined_typing,
 use Rattle.isle_model.specs.lists.Elaborated.{before_rest, bound_let, typed_let, elaborated_expr, lets_with, deeper_expr, most_expansions}
 use Rattle.isle_model.proofs.ByNumber.{looked_up}
 use Rattle.isle_model.proofs.Names.{last, known_name, number_new, has_new, has_left}
-use Rattle.isle_laws_lists.proofs.Typings.{scoped_gives}
+use Rattle.isle_laws_typing.proofs.Typings.{scoped_gives}
 use Rattle.isle_types.specs.declared.ids.Sym.{Sym}
 use Rattle.isle_types.specs.declared.ids.TypeId.{TypeId}
 use Rattle.isle_types.specs.declared.ids.VarId.{VarId}

@@ -24,7 +24,7 @@ use Rattle.isle_model.specs.rules.Typed.{TypedRule}
 use Rattle.isle_model.specs.claims.Environments.{TypesRead, AreReadable, setting_of}
 use Rattle.isle_model.specs.claims.Refusals.{of_nesting, of_expansions, Refusal, past_limit}
 use Rattle.isle_model.proofs.Members.{in_head, in_map, member_from_get}
-use Rattle.isle_laws_lists.proofs.NamesOfTables.{names_of_rules_dont_matter_lem}
+use Rattle.isle_laws_typing.proofs.NamesOfTables.{names_of_rules_dont_matter_lem}
 use Rattle.isle_types.specs.declared.type_env.TypeEnv.{TypeEnv}
 use Rattle.isle_types.specs.Envs.{names_of, IsInterned}
 use Rattle.isle_rules.specs.Constructors.{AreTermsNamed}

@@ -7,8 +7,8 @@ use Rattle.isle_model.specs.lists.Tables.{TermEntry}
 use Rattle.isle_model.specs.lists.Setting.{Setting, entry_named}
 use Rattle.isle_types.specs.declared.type_env.TypeEnv.{TypeEnv}
 use Rattle.isle_types.specs.Envs.{names_of, IsInterned}
-use Rattle.isle_laws_lists.proofs.FormedRules.{named_at}
-use Rattle.isle_laws_lists.proofs.Typings.{then_gives}
+use Rattle.isle_laws_typing.proofs.FormedRules.{named_at}
+use Rattle.isle_laws_typing.proofs.Typings.{then_gives}
 use Rattle.isle_rules.specs.declared.term_env.TermEnv.{TermEnv}
 use Rattle.isle_rules.specs.TermEnvs.{term_in_env}
 use Rattle.isle_rules.specs.Constructors.{AreTermsNamed}

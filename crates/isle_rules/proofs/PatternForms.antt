@@ -13,9 +13,9 @@ use Rattle.isle_model.specs.rules.Typed.{TypedPattern, match_bind, match_term, m
 use Rattle.isle_model.specs.lists.Setting.{Setting, Scope, bound, var_of}
 use Rattle.isle_model.specs.lists.Typings.{Typing, plain, made_into, joined_typing, followed}
 use Rattle.isle_model.specs.lists.Elaborated.{elaborated_pattern, bound_after}
-use Rattle.isle_laws_lists.proofs.TypedPatterns as patterns
-use Rattle.isle_laws_lists.proofs.TypedResults.{types_are_expected}
-use Rattle.isle_laws_lists.proofs.Typings.{made_gives}
+use Rattle.isle_laws_typing.proofs.TypedPatterns as patterns
+use Rattle.isle_laws_typing.proofs.TypedResults.{types_are_expected}
+use Rattle.isle_laws_typing.proofs.Typings.{made_gives}
 use Rattle.isle_base.specs.Noting.{NotesMore, MayNoteMore}
 use Rattle.isle_typed.specs.declared.patterns.Pattern.{Pattern}
 use Rattle.isle_rules.specs.declared.term_env.TermEnv.{TermEnv}

@@ -10,7 +10,7 @@ use Rattle.isle_model.specs.rules.Typed.{match_bind, match_var, match_any, match
 use Rattle.isle_model.specs.lists.Setting.{Setting, Scope, bound, type_of_constant}
 use Rattle.isle_model.specs.lists.Typings.{plain}
 use Rattle.isle_model.specs.lists.Elaborated.{var_pattern_at}
-use Rattle.isle_laws_lists.proofs.Typings.{ne-eqb}
+use Rattle.isle_laws_typing.proofs.Typings.{ne-eqb}
 use Rattle.isle_types.specs.Envs.{names_of, constant_at}
 use Rattle.isle_types.specs.TypeViews.{type_views}
 use Rattle.isle_base.specs.Noting.{NotesMore}

@@ -15,7 +15,7 @@ use Rattle.isle_model.specs.lists.Elaborated.{deeper_pattern, elaborated_pattern
 use Rattle.isle_model.specs.rules.Outcome.{then_option}
 use Rattle.isle_model.specs.rules.Typed.{match_term, typed_pattern_and}
 use Rattle.isle_model.proofs.Options.{then_some}
-use Rattle.isle_laws_lists.proofs.Typings.{ne-eqb, counted_gives}
+use Rattle.isle_laws_typing.proofs.Typings.{ne-eqb, counted_gives}
 use Rattle.isle_types.specs.Envs.{names_of, symbol_of, IsInterned}
 use Rattle.isle_base.specs.Noting.{NotesMore, MayNoteMore}
 use Rattle.isle_terms.specs.Terms.{has_extractor_kind}

@@ -17,7 +17,7 @@ use Rattle.isle_model.specs.lists.Typings.{Typing}
 use Rattle.isle_model.specs.lists.Elaborated.{TypedRules, with_typed}
 use Rattle.isle_model.specs.rules.Outcome.{then_option}
 use Rattle.isle_model.specs.rules.Typed.{TypedRule}
-use Rattle.isle_laws_lists.proofs.Typings.{then_gives}
+use Rattle.isle_laws_typing.proofs.Typings.{then_gives}
 use Rattle.isle_types.specs.declared.type_env.TypeEnv.{TypeEnv}
 use Rattle.isle_types.specs.Envs.{names_of}
 use Rattle.isle_typed.specs.declared.rules.Rule.{Rule}

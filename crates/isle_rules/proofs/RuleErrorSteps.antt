@@ -24,8 +24,8 @@ use Rattle.isle_model.specs.claims.Environments.{TypesRead, AreReadable, HasType
 use Rattle.isle_model.specs.claims.Refusals.{NamedLimit, of_rule, of_nesting, of_expansions, Refusal, ill_typed, unreachable, overlapping, shadowing, past_limit, NamesOnlyPassed, PassedInReading, nesting_passes, expansions_pass, IsIllTyped, IsOfReading, RefusesRules}
 use Rattle.isle_model.proofs.Members.{in_head, in_alone, get_from_member, all_members, from_map, in_map, in_flat_map}
 use Rattle.isle_model.proofs.Positions.{get_front}
-use Rattle.isle_laws_lists.specs.FurtherNames.{AreThereAlike}
-use Rattle.isle_laws_lists.proofs.NamesOfTables.{names_of_rules_dont_matter_lem}
+use Rattle.isle_laws_typing.specs.FurtherNames.{AreThereAlike}
+use Rattle.isle_laws_typing.proofs.NamesOfTables.{names_of_rules_dont_matter_lem}
 use Rattle.isle_types.specs.declared.type_env.TypeEnv.{TypeEnv}
 use Rattle.isle_types.specs.Envs.{names_of, IsInterned}
 use Rattle.isle_rules.specs.Constructors.{AreTermsNamed}

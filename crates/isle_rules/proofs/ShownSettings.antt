@@ -16,8 +16,8 @@ use Rattle.isle_model.specs.claims.Environments.{TypesRead, IsReadAs, AreReadabl
 use Rattle.isle_model.proofs.Mapped.{get_mapped}
 use Rattle.isle_model.proofs.Members.{get_within, in_head, in_tail, in_map, get_from_member, member_from_get, all_members}
 use Rattle.isle_model.proofs.Names.{distinct_names, found, has_at, at_number, has_left, has_kept, has_met, get_kept, number_below}
-use Rattle.isle_laws_lists.proofs.TermLaws.{terms_have_names_lem, terms_stand_at_ids_lem}
-use Rattle.isle_laws_lists.proofs.TypesStay.{types_are_shown_lem, types_stay_lem}
+use Rattle.isle_laws_typing.proofs.TermLaws.{terms_have_names_lem, terms_stand_at_ids_lem}
+use Rattle.isle_laws_typing.proofs.TypesStay.{types_are_shown_lem, types_stay_lem}
 use Rattle.isle_types.specs.declared.type_env.TypeEnv.{TypeEnv}
 use Rattle.isle_types.specs.Envs.{names_of, type_at}
 use Rattle.isle_types.specs.EnvViews.{environment_view}

@@ -6,7 +6,7 @@ use Rattle.isle_model.specs.rules.Values.{listed}
 use Rattle.isle_model.specs.rules.Meaning as M
 use Rattle.isle_model.specs.trees.Run.{Env, all_one, bind_fields}
 use Rattle.isle_model.specs.sites.Sites.{Constraint, is_variant, is_struct, is_bool, is_int, is_prim, is_present}
-use Rattle.isle_laws_demands.specs.TotalLaws.{TotalMeaning}
+use Rattle.isle_laws_matching.specs.TotalLaws.{TotalMeaning}
 use Rattle.isle_laws_functions.specs.RunBy.{value_fields_by, content_fields_by}
 use Rattle.isle_run.specs.declared.values.Content as C
 use Rattle.isle_run.specs.declared.values.Content.{Content}

@@ -8,7 +8,7 @@ use Rattle.isle_model.specs.trees.Run.{Env, all_bound, unwrap_failed, no_content
 use Rattle.isle_model.specs.rules.Meaning as M
 use Rattle.isle_sets.specs.SiteViews.{site_views}
 use Rattle.isle_sets.specs.declared.trie_again.Binding.{Binding}
-use Rattle.isle_laws_demands.specs.TotalLaws.{TotalMeaning}
+use Rattle.isle_laws_matching.specs.TotalLaws.{TotalMeaning}
 use Rattle.isle_laws_functions.specs.RunBy.{Stage, stage_by}
 use Rattle.isle_run.specs.declared.values.Value.{Value}
 use Rattle.isle_run.specs.declared.values.Content.{Content}

@@ -2,7 +2,7 @@
 
 ghost use Rattle.std.specs.Prelude.{◌≡◌, IfOk, length};
 ghost use Rattle.isle_model.specs.rules.Meaning.{bool_literal, int_literal};
-ghost use Rattle.isle_laws_demands.specs.TotalLaws.{TotalMeaning};
+ghost use Rattle.isle_laws_matching.specs.TotalLaws.{TotalMeaning};
 ghost use Rattle.isle_run.specs.ValueViews.{value_view, value_views, content_view};
 
 use crate::values::{Content, Value};

@@ -14,7 +14,7 @@ use Rattle.isle_model.specs.sites.Sites.{Constraint, SetRule}
 use Rattle.isle_model.specs.trees.Judge.{is_that}
 use Rattle.isle_model.specs.trees.Sound.{comes_before}
 use Rattle.isle_model.proofs.Members.{in_head, in_tail, in_cases, from_map, in_alone, in_map}
-use Rattle.isle_laws_demands.proofs.overlaps.Overlaps.{bool_same}
+use Rattle.isle_laws_closure.proofs.overlaps.Overlaps.{bool_same}
 use Rattle.isle_laws_runs.proofs.runs.Order.{before_chain, before_itself}
 use Rattle.isle_laws_trees.proofs.Constraints.{that_exact}
 use Rattle.isle_laws_trees.proofs.ConstraintsTotal.{before_total}

@@ -10,7 +10,7 @@ use Rattle.isle_model.proofs.Members.{in_head, in_tail, in_filter, each_passes, 
 use Rattle.isle_laws_trees.proofs.Covers.{prio_at, not_lower_at_least, at_least_not_lower, first_is_top, descend_rest}
 use Rattle.isle_laws_trees.proofs.JudgeExactness.{not_exact}
 use Rattle.isle_laws_runs.proofs.runs.ChosenRules.{through}
-use Rattle.isle_laws_demands.proofs.overlaps.Overlaps.{bool_same}
+use Rattle.isle_laws_closure.proofs.overlaps.Overlaps.{bool_same}
 use Rattle.isle_serialize.specs.Bars.{reaches, is_at_bar, IsBar}
 use Rattle.isle_serialize.proofs.Descents.{none_kept, itself, reaching_first}
 use Rattle.isle_serialize.proofs.TestSteps.{kept_alike}

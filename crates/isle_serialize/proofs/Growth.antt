@@ -14,7 +14,7 @@ use Rattle.isle_model.specs.trees.Sound.{IsAfter}
 use Rattle.isle_model.specs.trees.Tests.{Test, match_test, equal_test, loop_test, needs_at, is_lower, is_covered, cover, IsOpen, score, is_greater}
 use Rattle.isle_model.specs.trees.Best.{IsGreatest, IsMade, comes_first, descend, BestSteps}
 use Rattle.isle_model.proofs.Members.{in_head, in_tail, each_passes, all_pass, from_filter}
-use Rattle.isle_laws_demands.proofs.overlaps.Overlaps.{bool_same}
+use Rattle.isle_laws_closure.proofs.overlaps.Overlaps.{bool_same}
 use Rattle.isle_serialize.specs.Growing.{IsBestFrom, AreEnds, AreBestArms}
 use Rattle.isle_serialize.proofs.Alike.{Alike, steps_alike}
 

@@ -7,7 +7,7 @@ use Rattle.isle_model.specs.trees.Trees.{m_loop, m_no_step}
 use Rattle.isle_model.specs.trees.Places as Places
 use Rattle.isle_model.specs.trees.Places.{is_in, all_below, field_sites, in_arm, in_equal, in_loop, after_step}
 use Rattle.isle_laws_trees.proofs.Passing.{sources_there}
-use Rattle.isle_laws_demands.proofs.overlaps.Overlaps.{bool_same}
+use Rattle.isle_laws_closure.proofs.overlaps.Overlaps.{bool_same}
 use Rattle.isle_serialize.specs.declared.around.Around.{Around}
 use Rattle.isle_serialize.specs.AroundViews.{around_view, IsInside, after_uses, AreEmitted, where_emitted, where_joined, brings, arm_around, loop_around}
 use Rattle.isle_serialize.proofs.Alike.{Alike}

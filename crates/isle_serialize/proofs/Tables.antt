@@ -8,7 +8,7 @@ use Rattle.isle_model.specs.trees.Tests.{up_to}
 use Rattle.std.specs.Set.{is_member}
 use Rattle.std.proofs.lemmas.Option.{slice_get-map}
 use Rattle.isle_model.specs.trees.Tests.{Test, is_needed, needs_at}
-use Rattle.isle_laws_demands.proofs.overlaps.Overlaps.{bool_same}
+use Rattle.isle_laws_closure.proofs.overlaps.Overlaps.{bool_same}
 use Rattle.isle_sets.proofs.SitesIn.{none_passing}
 use Rattle.isle_sets.specs.SiteViews.{passing_below, member_sites, set_rule_view, set_rule_views}
 use Rattle.isle_sets.specs.declared.trie_again.Rule.{Rule}

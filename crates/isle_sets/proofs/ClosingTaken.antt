@@ -13,7 +13,7 @@ use Rattle.isle_model.specs.visits.Demands.{has_site, with_sites}
 use Rattle.isle_model.specs.sites.Closure.{Closed, constraint_of, field_terms, class_at, merged_classes, merged_all, ascending, is_in_class, next_constrained, taken, closing}
 use Rattle.isle_model.proofs.Elements.{In, any_in, in_any}
 use Rattle.isle_model.proofs.SitesMade.{in_has, has_in}
-use Rattle.isle_laws_demands.proofs.closure.Closing.{closing_ends}
+use Rattle.isle_laws_closure.proofs.Closing.{closing_ends}
 use Rattle.isle_sets.specs.DemandsHeld.{constraint_held, are_equated}
 use Rattle.isle_sets.specs.SiteTables.{AddsFields}
 use Rattle.isle_sets.specs.SiteViews.{constraint_view}

@@ -8,10 +8,10 @@ use Rattle.isle_model.specs.visits.Demands.{Demands, has_site, with_sites, const
 use Rattle.isle_model.specs.sites.Closure.{Unreachability, conflict, constraint_of, constraint_at_site, in_site_order, with_constrained, same_class, class_names, spoken_of, differs_in_class, first_differing, first_conflict, with_constraints}
 use Rattle.isle_model.proofs.Elements.{In, contains_from_in, in_from_contains, some_is, in_map, map_in}
 use Rattle.isle_model.proofs.SitesMade.{in_has}
-use Rattle.isle_laws_demands.proofs.closure.Names.{same_name, name_same}
-use Rattle.isle_laws_demands.proofs.closure.Classes.{asked_spoken}
-use Rattle.isle_laws_demands.proofs.closure.Closing.{found_constraint, constraints_kept, from_constraints}
-use Rattle.isle_laws_demands.proofs.overlaps.Overlaps.{bool_same}
+use Rattle.isle_laws_closure.proofs.Names.{same_name, name_same}
+use Rattle.isle_laws_closure.proofs.Classes.{asked_spoken}
+use Rattle.isle_laws_closure.proofs.Closing.{found_constraint, constraints_kept, from_constraints}
+use Rattle.isle_laws_closure.proofs.overlaps.Overlaps.{bool_same}
 use Rattle.isle_sets.specs.DemandsHeld.{constraint_held}
 use Rattle.isle_sets.specs.Listings.{ascends, is_below_first, sites_of}
 use Rattle.isle_sets.specs.Verdicts.{AreClassesOf, AreVisited, class_head, conflict_in, differ_in, first_other}

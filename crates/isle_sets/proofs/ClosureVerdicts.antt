@@ -5,8 +5,8 @@ use Rattle.isle_model.specs.sites.Sites.{Site, Constraint, SiteTerm, unfold_site
 use Rattle.isle_model.specs.visits.Demands.{Demands, with_sites}
 use Rattle.isle_model.specs.sites.Closure.{Unreachability, cycle, class_name, class_names, first_conflict, first_filled, has_cycle, in_site_order, reported, spoken_of, with_constrained}
 use Rattle.isle_model.proofs.Elements.{contains_from_in}
-use Rattle.isle_laws_demands.proofs.closure.Names.{name_same}
-use Rattle.isle_laws_demands.proofs.closure.Classes.{HasNoConflict, asked_spoken}
+use Rattle.isle_laws_closure.proofs.Names.{name_same}
+use Rattle.isle_laws_closure.proofs.Classes.{HasNoConflict, asked_spoken}
 use Rattle.isle_sets.specs.DemandsHeld.{constraint_held}
 use Rattle.isle_sets.specs.Endings.{ClassEnds, GoOnForEver}
 use Rattle.isle_sets.specs.FieldParts.{AreClosed, ArePartsOf, IsPartOfAny}
@@ -19,7 +19,7 @@ use Rattle.isle_sets.proofs.ClosureCycles.{cycle_found, no_cycle_found}
 use Rattle.isle_sets.proofs.EqualFields.{are_classes}
 use Rattle.isle_sets.proofs.FirstConflicts.{agree_where, none_differs}
 use Rattle.isle_sets.proofs.ListedParts.{are_parts, listed_number}
-use Rattle.isle_laws_demands.proofs.visits.Unfolding.{SourcesFirst}
+use Rattle.isle_laws_closure.proofs.built.Unfolding.{SourcesFirst}
 
 abbrev where_cyclic : Bool → List Unreachability
 where_cyclic cyclic = if cyclic then cycle ∷ [] else []

@@ -7,7 +7,7 @@ use Rattle.std.proofs.lemmas.Bool.{cases_Bool, cond-true, cond-false, and_parts,
 use Rattle.std.proofs.lemmas.List.Elements.{All-cons, All-tail}
 use Rattle.std.proofs.lemmas.Option.{get_or_from_slice_get}
 use Rattle.isle_disjointsets.specs.Partition.{in_set, IsPartition}
-use Rattle.isle_laws_demands.specs.RuleByRule.{AreListedAs}
+use Rattle.isle_laws_closure.specs.RuleByRule.{AreListedAs}
 use Rattle.isle_model.specs.lists.Names.{IsDistinct}
 use Rattle.isle_model.specs.sites.Sites as Sites
 use Rattle.isle_model.specs.sites.Sites.{Site}

@@ -5,17 +5,17 @@ use Rattle.std.specs.Prelude.{nat_eq}
 use Rattle.std.proofs.lemmas.Bool.{cases_Bool, cond-true, cond-false, and_parts, and_from, false≢true, both_ways}
 use Rattle.std.proofs.lemmas.Option.{slice_get_within}
 use Rattle.isle_disjointsets.specs.Partition.{IsPartition}
-use Rattle.isle_laws_demands.specs.FieldLaws.{GivesField}
+use Rattle.isle_laws_closure.specs.FieldLaws.{GivesField}
 use Rattle.isle_model.specs.sites.Sites.{Site, Constraint, is_variant, is_struct, is_bool, is_int, is_prim, is_present, SiteTerm, bool_term, int_term, prim_term, argument, extractor_call, constructor_call, pick_of, variant_made, variant_field, struct_made, struct_field, some_made, some_part, tuple_part, no_site, unfold_site}
 use Rattle.isle_model.specs.visits.Demands.{Demands, site_term_eq}
 use Rattle.isle_model.specs.sites.Closure.{fields_from, field_terms, class_name, same_class, class_names, spoken_of, before_closing, merged_all}
 use Rattle.isle_model.proofs.Elements.{In, contains_from_in, in_from_contains, slice_in, some_is, none_some, or_split, or_left, or_right}
 use Rattle.isle_model.proofs.SameSites.{term_means, same_term}
-use Rattle.isle_laws_demands.specs.ClosureLaws.{RespectsDemands}
-use Rattle.isle_laws_demands.proofs.closure.Names.{same_name, name_same, given_joined, named_alike}
-use Rattle.isle_laws_demands.proofs.closure.Classes.{classes_bound, asked_spoken, equal_spoken}
-use Rattle.isle_laws_demands.proofs.closure.Settled.{names_settled}
-use Rattle.isle_laws_demands.proofs.overlaps.Overlaps.{bool_same}
+use Rattle.isle_laws_closure.specs.ClosureLaws.{RespectsDemands}
+use Rattle.isle_laws_closure.proofs.Names.{same_name, name_same, given_joined, named_alike}
+use Rattle.isle_laws_closure.proofs.Classes.{classes_bound, asked_spoken, equal_spoken}
+use Rattle.isle_laws_closure.proofs.Settled.{names_settled}
+use Rattle.isle_laws_closure.proofs.overlaps.Overlaps.{bool_same}
 use Rattle.isle_types.specs.declared.ids.VariantId.{VariantId}
 use Rattle.isle_sets.specs.Closings.{are_in_one_class}
 use Rattle.isle_sets.specs.Verdicts.{AreClassesOf, AreVisited, IsMentioned, class_head}

@@ -18,8 +18,8 @@ use Rattle.isle_model.specs.sites.RuleSets.{StandFor}
 use Rattle.isle_model.specs.sites.SetRules.{each_place}
 use Rattle.isle_model.proofs.Elements.{contains_from_in}
 use Rattle.isle_model.proofs.SitesMade.{once_with}
-use Rattle.isle_laws_demands.proofs.closure.Closing.{closing_keeps}
-use Rattle.isle_laws_demands.proofs.visits.Unfolding.{SourcesFirst, layer_same}
+use Rattle.isle_laws_closure.proofs.Closing.{closing_keeps}
+use Rattle.isle_laws_closure.proofs.built.Unfolding.{SourcesFirst, layer_same}
 use Rattle.isle_sets.specs.SiteTables.{IsAbsent, AddsSites, HasSources, HasNoRoom, AreFirst, ForWantOfRoom, LacksRoom}
 use Rattle.isle_sets.specs.Closings.{AreDemandsOf, EndsFull, IsNextDue, is_due, with_member, with_fields}
 use Rattle.isle_sets.specs.DemandsHeld.{are_equated}

@@ -2,7 +2,7 @@
 use Rattle.std.proofs.Common.{◌≡◌, ℕ, zero, suc, ◌==◌, true, ◌&&◌, ◌||◌, List, [], ◌∷◌, slice_index_or, refl, sym, ap, ◌∙◌, subst, inl, inr, eqb-true, eq-eqb}
 use Rattle.std.specs.Prelude.{nat_eq}
 use Rattle.std.proofs.lemmas.Bool.{cases_Bool, cond-true, cond-false, and_parts, and_from, or_cases, or_left, or_right, false_from_ne_true, false≢true}
-use Rattle.isle_laws_demands.proofs.overlaps.Overlaps.{bool_same}
+use Rattle.isle_laws_closure.proofs.overlaps.Overlaps.{bool_same}
 use Rattle.isle_disjointsets.specs.Partition.{in_set, set_of, together, IsPartition}
 use Rattle.isle_model.specs.trees.Places.{is_in, joins_in}
 

@@ -3,8 +3,8 @@ use Rattle.std.proofs.Common.{◌≡◌, ◌↔◌, ◌==◌, ℕ, zero, suc, �
 use Rattle.std.proofs.lemmas.Bool.{cases_Bool, cond-true, cond-false, and_parts, both_ways, false_from_ne_true}
 use Rattle.std.proofs.lemmas.List.{append-nil, append_assoc}
 use Rattle.std.proofs.lemmas.Option.{slice_get_within}
-use Rattle.isle_laws_demands.proofs.closure.Reports.{joined_empty}
-use Rattle.isle_laws_demands.specs.FieldLaws.{GivesField}
+use Rattle.isle_laws_closure.proofs.Reports.{joined_empty}
+use Rattle.isle_laws_closure.specs.FieldLaws.{GivesField}
 use Rattle.isle_model.specs.trees.Places.{constraint_at}
 use Rattle.isle_model.specs.sites.Sites.{Site, bool_site, int_site, prim_site, argument_site, extractor_site, constructor_site, iterator_site, make_variant_site, match_variant_site, make_struct_site, extract_struct_site, make_some_site, match_some_site, match_tuple_site, Constraint, is_variant, is_struct, is_bool, is_int, is_prim, is_present, sources_of, sources_at, SiteTerm, variant_field, struct_field, no_site, layer, layer_at, unfold_site}
 use Rattle.isle_model.specs.visits.Demands.{Demands, site_term_eq, constraint_eq}
@@ -12,9 +12,9 @@ use Rattle.isle_model.specs.sites.Closure.{constraint_of, conflict, conflict_wit
 use Rattle.isle_model.proofs.Elements.{In, contains_from_in, in_from_contains, slice_in, some_is, none_some, in_either, map_in}
 use Rattle.isle_model.proofs.FewElements.{not_empty, in_one}
 use Rattle.isle_model.proofs.SameSites.{same_term, constraint_means}
-use Rattle.isle_laws_demands.proofs.closure.Classes.{in_with_sites}
-use Rattle.isle_laws_demands.proofs.closure.Closing.{OneEach, found_constraint, constraints_kept, from_constraints}
-use Rattle.isle_laws_demands.proofs.visits.Unfolding.{SourcesFirst, unfolds}
+use Rattle.isle_laws_closure.proofs.Classes.{in_with_sites}
+use Rattle.isle_laws_closure.proofs.Closing.{OneEach, found_constraint, constraints_kept, from_constraints}
+use Rattle.isle_laws_closure.proofs.built.Unfolding.{SourcesFirst, unfolds}
 use Rattle.isle_types.specs.declared.ids.VariantId.{VariantId}
 use Rattle.isle_sets.specs.DemandsHeld.{constraint_held}
 use Rattle.isle_sets.specs.Listings.{ascends, is_below_first, sites_of}

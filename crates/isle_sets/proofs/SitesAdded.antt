@@ -11,7 +11,7 @@ use Rattle.isle_model.specs.sites.RuleSets.{StandFor}
 use Rattle.isle_model.specs.sites.SetRules.{each_place}
 use Rattle.isle_model.proofs.Elements.{contains_from_in}
 use Rattle.isle_model.proofs.SitesMade.{once_with}
-use Rattle.isle_laws_demands.proofs.visits.Unfolding.{SourcesFirst, layer_same}
+use Rattle.isle_laws_closure.proofs.built.Unfolding.{SourcesFirst, layer_same}
 use Rattle.isle_sets.specs.SiteTables.{AddsSite, AddsSites, AddsFields, HasSources, StandsFor}
 use Rattle.isle_sets.proofs.FieldSites.{place_more}
 use Rattle.isle_sets.proofs.SitesGrown.{added_stands}

@@ -11,7 +11,7 @@ use Rattle.isle_model.proofs.Elements.{In, contains_from_in}
 use Rattle.isle_model.proofs.Members.{get_within}
 use Rattle.isle_model.proofs.Positions.{get_front, get_middle}
 use Rattle.isle_model.proofs.SitesMade.{in_has, has_in}
-use Rattle.isle_laws_demands.proofs.visits.Unfolding.{SourcesFirst, layer_same, layer_at_same, unfolds}
+use Rattle.isle_laws_closure.proofs.built.Unfolding.{SourcesFirst, layer_same, layer_at_same, unfolds}
 use Rattle.isle_sets.specs.SiteTables.{AddsSite, StandsFor}
 
 -- 1. one more site

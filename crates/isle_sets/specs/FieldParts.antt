@@ -2,7 +2,7 @@
 use Rattle.std.specs.Prelude.{◌≡◌, ◌≢◌, ℕ, ◌<◌, List, Option, Some, None, Contains, length, nat_eq, slice_get}
 use Rattle.std.specs.HashMap.{HashMap, get}
 use Rattle.isle_disjointsets.specs.Partition.{IsPartition}
-use Rattle.isle_laws_demands.specs.FieldLaws.{GivesField}
+use Rattle.isle_laws_closure.specs.FieldLaws.{GivesField}
 use Rattle.isle_model.specs.sites.Sites.{Site, Constraint, is_variant, is_struct, SiteTerm, variant_field, struct_field, unfold_site}
 use Rattle.isle_model.specs.visits.Demands.{Demands}
 use Rattle.isle_types.specs.declared.ids.VariantId.{VariantId}

@@ -2,7 +2,7 @@
 use Rattle.std.specs.Prelude.{◌≡◌, ◌<◌, ℕ, Bool, ◌&&◌, not, List, [], ◌∷◌, Option, Some, None, nat_eq, if◌then◌else◌, slice_get, Contains, ◌⊎◌, length, option_map}
 use Rattle.std.specs.Option.{unwrap_or}
 use Rattle.isle_disjointsets.specs.Partition.{set_of}
-use Rattle.isle_laws_demands.specs.FieldLaws.{GivesField, IsGiven}
+use Rattle.isle_laws_closure.specs.FieldLaws.{GivesField, IsGiven}
 use Rattle.isle_model.specs.sites.Sites.{Site, Constraint, SiteTerm, unfold_site}
 use Rattle.isle_model.specs.visits.Demands.{Demands, constraint_eq}
 use Rattle.isle_model.specs.sites.Closure.{Unreachability, conflict, cycle, before_closing, class_names, conflicts_met, same_class, spoken_of}

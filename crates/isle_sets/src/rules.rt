@@ -1,6 +1,6 @@
 //! What is asked of one rule of a set.
 ghost use Rattle.std.specs.Prelude.{◌≡◌, ℕ, List, IfOk, IsTrue, option_map};
-ghost use Rattle.isle_laws_demands.specs.RuleByRule.{AreListedAs};
+ghost use Rattle.isle_laws_closure.specs.RuleByRule.{AreListedAs};
 ghost use Rattle.isle_model.specs.sites.Closure.{Closed};
 ghost use Rattle.isle_model.specs.sites.Sites.{Site};
 ghost use Rattle.isle_model.specs.trees.Places.{constraint_at, joins_in};

@@ -4,7 +4,7 @@ use Rattle.std.proofs.lemmas.Bool.{cases_Bool, cond-true, cond-false}
 use Rattle.std.proofs.lemmas.List.{append_assoc, append-nil, map-append, take_all}
 use Rattle.std.proofs.lemmas.List.Elements.{Contains-append_left, Contains-append_right, Contains-append_cases}
 use Rattle.std.proofs.Math.Seq.{take-suc}
-use Rattle.isle_laws_demands.proofs.closure.Whole.{constraint_there}
+use Rattle.isle_laws_closure.proofs.Whole.{constraint_there}
 use Rattle.isle_base.specs.Stable.{Members}
 use Rattle.isle_model.specs.sites.Sites.{Constraint, is_present, SiteTerm, unfold_site}
 use Rattle.isle_model.specs.visits.Demands.{site_term_eq, has_site, Visit, asking, asking_all, unwraps}
@@ -12,7 +12,7 @@ use Rattle.isle_model.specs.sites.Closure.{conflict_with, conflicts_met, constra
 use Rattle.isle_model.proofs.Elements.{In, in_from_contains, contains_from_in, in_either, none_some}
 use Rattle.isle_model.proofs.Members.{from_map, in_map}
 use Rattle.isle_model.proofs.SitesMade.{in_has, has_in}
-use Rattle.isle_laws_demands.proofs.closure.Closing.{found_constraint}
+use Rattle.isle_laws_closure.proofs.Closing.{found_constraint}
 use Rattle.isle_laws_visits.specs.Followers.{AsksNothingElse}
 use Rattle.isle_sets.specs.Closings.{AreDemandsOf}
 use Rattle.isle_term_sets.specs.VisitedSites.{AreAnswered, AreUnwrapped, built_sites, GoesTo, StandsAt}

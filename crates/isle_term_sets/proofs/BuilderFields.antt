@@ -2,7 +2,7 @@
 use Rattle.std.proofs.Common.{◌≡◌, Bool, Contains, true, false, if◌then◌else◌, inl, inr, ℕ, zero, suc, ◌+◌, ◌<◌, ◌≤◌, List, [], ◌∷◌, ◌++◌, length, refl, sym, ap, ap₂, ◌∙◌, subst, arith, add-one}
 use Rattle.std.specs.Prelude.{Result, Ok, Err, IfOk, IfErr, MatchResult}
 use Rattle.std.specs.Global.{Vec}
-use Rattle.isle_laws_demands.proofs.visits.WithSites.{same_fields}
+use Rattle.isle_laws_visits.proofs.WithSites.{same_fields}
 use Rattle.isle_typed.specs.VisitAnswers.{listed}
 use Rattle.std.proofs.lemmas.List.{append_assoc, append-nil, map-append}
 use Rattle.std.proofs.lemmas.Bool.{cases_lt}

@@ -13,8 +13,8 @@ use Rattle.isle_model.specs.visits.Demands.{Visit, Opened, Valued, asking, askin
 use Rattle.isle_model.specs.visits.SiteVisitor.{any_parts, extractor_opened, fields_opened, value_made}
 use Rattle.isle_model.proofs.Either.{either}
 use Rattle.isle_model.proofs.Elements.{some_is}
-use Rattle.isle_laws_demands.proofs.visits.Continued.{continues_now}
-use Rattle.isle_laws_demands.proofs.visits.Visited.{equated}
+use Rattle.isle_laws_visits.proofs.Continued.{continues_now}
+use Rattle.isle_laws_visits.proofs.Visited.{equated}
 use Rattle.isle_laws_visits.specs.Followers.{AsksNothingElse, EndsOnTheWay, FollowsExprs, FollowsPatterns, FollowsRules, FollowsSites, Follower, Gives, Goes, GoesOn, NameInputs, Opens}
 use Rattle.isle_typed.specs.VisitorSteps.{expr_steps, no_memory, pattern_steps, rule_steps}
 use Rattle.isle_term_sets.specs.contracts.builder_patterns.RuleSetBuilderPatternVisitor.TheImpl as Patterns

@@ -12,7 +12,7 @@ use Rattle.isle_model.specs.visits.Demands.{demands_of, visit_rule, with_sites}
 use Rattle.isle_model.specs.sites.Closure.{before_closing, closed, is_unreachable, most_closing_steps}
 use Rattle.isle_model.specs.sites.Limits.{RuleLimit, arguments_limit, fields_limit, most_sites, outputs_limit, passed_in_visit, sites_limit, sites_reached, sites_until, sites_wanted}
 use Rattle.isle_model.specs.sites.RuleSets.{StandFor}
-use Rattle.isle_laws_demands.proofs.building.Limits.{limits_are_met_lem}
+use Rattle.isle_laws_visits.proofs.Limits.{limits_are_met_lem}
 use Rattle.isle_sets.proofs.FullTables.{closing_full}
 use Rattle.isle_sets.specs.SiteTables.{AreFirst, IsTable}
 use Rattle.isle_term_sets.specs.VisitedSites.{EndsAtLimit, EndsVisit, MeetsCount, MeetsLimit, built_sites, with_made_until}

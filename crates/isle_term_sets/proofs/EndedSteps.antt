@@ -20,8 +20,8 @@ use Rattle.isle_model.specs.sites.Closure.{field_terms}
 use Rattle.isle_model.specs.visits.Demands.{Count, fields_matched, outputs_taken, argument_taken, Visit, Opened, making, open_call, part_sites, pattern_count, taking_argument, with_sites}
 use Rattle.isle_model.specs.visits.SiteVisitor.{fields_opened}
 use Rattle.isle_model.proofs.Elements.{none_some, some_is}
-use Rattle.isle_laws_demands.specs.RuleByRule.{Continues}
-use Rattle.isle_laws_demands.proofs.visits.Continued.{passed_after}
+use Rattle.isle_laws_visits.specs.VisitLaws.{Continues}
+use Rattle.isle_laws_visits.proofs.Continued.{passed_after}
 use Rattle.isle_sets.specs.SiteTables.{AreFirst, IsTable}
 use Rattle.isle_sets.proofs.ClosingTaken.{sites_append}
 use Rattle.isle_sets.proofs.FullTables.{first_with}

@@ -10,8 +10,8 @@ use Rattle.isle_model.specs.sites.Limits.{first_passed}
 use Rattle.isle_model.specs.sites.Sites.{SiteTerm, some_made, unfold_site}
 use Rattle.isle_model.specs.visits.Demands.{Valued, Visit, finished, valued, value_of_rule, visit_rule, visit_start}
 use Rattle.isle_model.specs.visits.RuleRuns.{RuleRun}
-use Rattle.isle_laws_demands.proofs.visits.Continued.{continues_making, continues_now}
-use Rattle.isle_laws_demands.specs.RuleByRule.{Continues}
+use Rattle.isle_laws_visits.proofs.Continued.{continues_making, continues_now}
+use Rattle.isle_laws_visits.specs.VisitLaws.{Continues}
 use Rattle.isle_laws_visits.proofs.FollowedRules.{visits_follow_lem}
 use Rattle.isle_laws_visits.specs.Followers.{Gives}
 use Rattle.isle_typed.specs.VisitorSteps.{expr_steps, no_memory, pattern_steps, rule_steps}

@@ -10,8 +10,8 @@ use Rattle.isle_model.specs.visits.Demands.{Demands, demands_of, with_sites}
 use Rattle.isle_model.specs.sites.Closure.{ascending, before_closing, class_at, closed, field_terms, is_unreachable, most_closing_steps}
 use Rattle.isle_model.specs.sites.Limits.{RuleLimit, most_sites, passed_in_visit, sites_after_rule, sites_reached, sites_until, sites_wanted}
 use Rattle.isle_model.specs.sites.RuleSets.{StandFor}
-use Rattle.isle_laws_demands.specs.RuleByRule.{HaveGrown}
-use Rattle.isle_laws_demands.proofs.closure.Closing.{closing_keeps}
+use Rattle.isle_laws_closure.specs.RuleByRule.{HaveGrown}
+use Rattle.isle_laws_closure.proofs.Closing.{closing_keeps}
 use Rattle.isle_sets.proofs.FullTables.{grows}
 use Rattle.isle_sets.specs.SiteTables.{IsTable, table_sites}
 use Rattle.isle_sets.specs.declared.site_table.SiteTable.{SiteTable}

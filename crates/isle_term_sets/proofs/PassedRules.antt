@@ -14,11 +14,11 @@ use Rattle.isle_model.specs.sites.Overlap.{RuleReport, built_rule, limit_passed,
 use Rattle.isle_model.specs.sites.RuleSets.{GoesOver, IsRuleOf, StandFor}
 use Rattle.isle_model.proofs.Elements.{contains_from_in, in_from_contains}
 use Rattle.isle_model.proofs.Members.{all_members}
-use Rattle.isle_laws_demands.specs.RuleByRule.{GoesPast, HaveGrown, limit_met, rule_added, rule_unreachable}
-use Rattle.isle_laws_demands.proofs.building.Limits.{limits_are_met_lem}
-use Rattle.isle_laws_demands.proofs.building.Listed.{listed_demands_stand_lem}
-use Rattle.isle_laws_demands.proofs.closure.Reports.{reports_are_exact_lem}
-use Rattle.isle_laws_demands.proofs.closure.Settled.{verdict_is_exact_lem}
+use Rattle.isle_laws_closure.specs.RuleByRule.{GoesPast, HaveGrown, limit_met, rule_added, rule_unreachable}
+use Rattle.isle_laws_visits.proofs.Limits.{limits_are_met_lem}
+use Rattle.isle_laws_closure.proofs.building.Listed.{listed_demands_stand_lem}
+use Rattle.isle_laws_closure.proofs.Reports.{reports_are_exact_lem}
+use Rattle.isle_laws_closure.proofs.Settled.{verdict_is_exact_lem}
 use Rattle.isle_typed.specs.RuleViews.{rule_view}
 use Rattle.isle_typed.specs.declared.rules.Rule.{Rule}
 use Rattle.isle_sets.specs.Closings.{GoOn}

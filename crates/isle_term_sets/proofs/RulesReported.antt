@@ -17,8 +17,8 @@ use Rattle.isle_model.specs.sites.Closure.{Unreachability, before_closing, class
 use Rattle.isle_model.specs.sites.Limits.{RuleLimit, arguments_limit, fields_limit, outputs_limit, sites_after_rule, sites_limit}
 use Rattle.isle_model.specs.sites.Overlap.{not_reached, limit_passed}
 use Rattle.isle_model.specs.sites.RuleSets.{StandFor}
-use Rattle.isle_laws_demands.specs.RuleByRule.{GoesPast}
-use Rattle.isle_laws_demands.proofs.visits.GivenFields.{fields_are_given_lem}
+use Rattle.isle_laws_closure.specs.RuleByRule.{GoesPast}
+use Rattle.isle_laws_closure.proofs.GivenFields.{fields_are_given_lem}
 use Rattle.isle_base.specs.ErrorViews.{error_views, limit_view}
 use Rattle.isle_typed.specs.RuleViews.{rule_view}
 use Rattle.isle_typed.specs.declared.rules.Rule.{Rule}

@@ -13,7 +13,7 @@ use Rattle.isle_model.specs.sites.Sites.{Site, bool_site, int_site, prim_site, a
 use Rattle.isle_model.specs.visits.Demands.{unwraps, unwraps_all}
 use Rattle.isle_model.proofs.Elements.{In, in_from_contains, contains_from_in, in_either, in_left, in_right}
 use Rattle.isle_model.proofs.Members.{all_members}
-use Rattle.isle_laws_demands.proofs.visits.Unfolding.{SourcesFirst, unfolds}
+use Rattle.isle_laws_closure.proofs.built.Unfolding.{SourcesFirst, unfolds}
 use Rattle.isle_base.specs.Stable.{Members, contains}
 use Rattle.isle_sets.proofs.Rests.{rest_is}
 use Rattle.isle_term_sets.specs.VisitedSites.{AreUnwrapped, IsWalked, unwrapped_at, unwrapped_source, with_keys}

@@ -11,7 +11,7 @@ use Rattle.isle_model.specs.visits.Demands.{visit_rule}
 use Rattle.isle_model.specs.sites.Overlap.{RuleReport}
 use Rattle.isle_model.specs.sites.RuleSets.{StandFor}
 use Rattle.isle_model.specs.claims.Refusals.{Refusal, past_limit, refusal_of, unreachable}
-use Rattle.isle_laws_demands.specs.RuleByRule.{AreListedAs, GoesPast}
+use Rattle.isle_laws_closure.specs.RuleByRule.{AreListedAs, GoesPast}
 use Rattle.isle_base.specs.SyntaxViews.{position}
 use Rattle.isle_base.specs.declared.syntax.Error.{Error}
 use Rattle.isle_base.specs.declared.syntax.Limit.{Limit}

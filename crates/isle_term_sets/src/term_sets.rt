@@ -6,7 +6,7 @@ ghost use Rattle.isle_model.specs.rules.Program.{Program};
 ghost use Rattle.isle_model.specs.sites.Closure.{Closed, is_unreachable};
 ghost use Rattle.isle_model.specs.visits.Demands.{Visit, demands_of};
 ghost use Rattle.isle_model.specs.sites.Sites.{SiteTerm};
-ghost use Rattle.isle_laws_demands.specs.RuleByRule.{nothing_built};
+ghost use Rattle.isle_laws_closure.specs.RuleByRule.{nothing_built};
 ghost use Rattle.isle_typed.specs.RuleViews.{rule_view};
 ghost use Rattle.isle_sets.specs.Closings.{AreDemandsOf};
 ghost use Rattle.isle_sets.specs.SiteViews.{set_rule_view, set_view};

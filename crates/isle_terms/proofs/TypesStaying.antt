@@ -14,14 +14,14 @@ use Rattle.isle_model.proofs.FirstPlaces.{place_absent}
 use Rattle.isle_model.proofs.Members.{member_from_get}
 use Rattle.isle_model.proofs.Names.{found, has_left}
 use Rattle.isle_model.proofs.NumbersOf.{environments_are_read}
-use Rattle.isle_laws_lists.proofs.TypesStay.{types_are_shown_lem, types_stay_lem}
+use Rattle.isle_laws_typing.proofs.TypesStay.{types_are_shown_lem, types_stay_lem}
 use Rattle.isle_types.specs.declared.type_env.TypeEnv.{TypeEnv}
 use Rattle.isle_types.specs.Envs.{names_of, symbol_of, type_at, same_symbol, symbol, type_of_name, IsInterned}
 use Rattle.isle_types.specs.EnvViews.{environment_view}
 use Rattle.isle_types.specs.TypeViews.{type_views}
 use Rattle.isle_types.proofs.Inverse.{inverse_distinct}
 use Rattle.isle_base.specs.Stable.{look_up}
-use Rattle.isle_laws_lists.proofs.LooksByNumber.{numbered_from}
+use Rattle.isle_laws_typing.proofs.LooksByNumber.{numbered_from}
 use Rattle.isle_terms.specs.Reading.{Interns, MayIntern}
 
 with_name_more : (ns : List (List ℕ)) (x : List ℕ) → (more : List (List ℕ)) × (with_name ns x ≡ ns ++ more)

@@ -6,7 +6,7 @@ use Rattle.std.proofs.lemmas.Bool.{false≢true}
 use Rattle.std.proofs.lemmas.List.{append-nil}
 use Rattle.std.proofs.lemmas.List.Concat.{flat_map-append}
 use Rattle.std.proofs.lemmas.List.Elements.{All-nil, Contains-append_cases, recursion_from_All}
-use Rattle.isle_laws_lists.proofs.LooksByNumber.{nothing_then, numbered_from}
+use Rattle.isle_laws_typing.proofs.LooksByNumber.{nothing_then, numbered_from}
 use Rattle.isle_model.specs.lists.Syntax.{DeclTree, ExtractorTree, Definition}
 use Rattle.isle_model.specs.lists.Names.{number, has_name, with_names, IsDistinct}
 use Rattle.isle_model.specs.rules.Meaning.{look}
@@ -18,7 +18,7 @@ use Rattle.isle_model.specs.claims.Environments.{TypesRead, AreReadable, AreTerm
 use Rattle.isle_model.specs.claims.Refusals.{RefusesTerms}
 use Rattle.isle_model.proofs.Members.{in_cases, nothing_in, get_from_member}
 use Rattle.isle_model.proofs.Names.{has_at, has_met, has_left, has_kept}
-use Rattle.isle_laws_lists.proofs.TermLaws.{all_made_only, terms_have_names_lem, terms_stand_at_ids_lem}
+use Rattle.isle_laws_typing.proofs.TermLaws.{all_made_only, terms_have_names_lem, terms_stand_at_ids_lem}
 use Rattle.isle_base.specs.ErrorViews.{error_views}
 use Rattle.isle_base.specs.Noting.{AreIllTyped}
 use Rattle.isle_base.proofs.Noted.{forms_of, some_views}

@@ -10,7 +10,7 @@ use Rattle.isle_model.specs.lists.TypeTable.{ConstantTree, type_id, type_or_firs
 use Rattle.isle_model.proofs.Bytes.{same_self}
 use Rattle.isle_model.proofs.Names.{has_met}
 use Rattle.isle_types.specs.Stages.{last_type}
-use Rattle.isle_laws_lists.proofs.LooksByNumber.{number_looked_up}
+use Rattle.isle_laws_typing.proofs.LooksByNumber.{number_looked_up}
 
 -- the type of a constant of one more definition
 last_more : (defs : List Definition) (read : List ConstantTree) (c : ConstantTree) (x : List ℕ) → last_type defs (read ++ c ∷ []) x ≡ cond (bytes_eq c.name.text x) (Some (type_or_first defs c.ty)) (last_type defs read x)

@@ -12,7 +12,7 @@ use Rattle.isle_base.specs.declared.syntax.Error.{Error}
 use Rattle.isle_base.specs.Positions.{NotesAt, definition_positions}
 use Rattle.isle_base.specs.Stable.{look_up}
 use Rattle.isle_base.specs.SyntaxViews.{definition_view, definition_views}
-use Rattle.isle_laws_lists.proofs.TypeLaws.{type_names_distinct}
+use Rattle.isle_laws_typing.proofs.TypeLaws.{type_names_distinct}
 use Rattle.isle_types.specs.declared.type_env.TypeEnv.{TypeEnv}
 use Rattle.isle_types.specs.ConstantReading.{TypesConstant, ReadsDefinition}
 use Rattle.isle_types.specs.Envs.{names_of, symbol_of, type_at, same_symbol, symbol, type_of_name, IsInterned}

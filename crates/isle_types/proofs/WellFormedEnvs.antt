@@ -11,9 +11,9 @@ use Rattle.isle_model.specs.lists.TypeTable.{builtin_names, builtin_from, all_ty
 use Rattle.isle_model.specs.lists.KnownTypes.{types_inside, entry_numbers, StandAtIds}
 use Rattle.isle_model.specs.claims.Environments.{types_read, AreReadable, HasVariantsAtIds, TypeEnvironment, AreTypesOf}
 use Rattle.isle_model.specs.claims.Questions.{HasOneNumber, AnswersTypes, IsWellFormedEnvironment}
-use Rattle.isle_laws_lists.proofs.EnvironmentsShown.{well_formed_environments_are_read_lem}
-use Rattle.isle_laws_lists.proofs.LooksByNumber.{numbered_look}
-use Rattle.isle_laws_lists.proofs.OwnTypes.{own_types_are_readable_lem}
+use Rattle.isle_laws_typing.proofs.EnvironmentsShown.{well_formed_environments_are_read_lem}
+use Rattle.isle_laws_typing.proofs.LooksByNumber.{numbered_look}
+use Rattle.isle_laws_typing.proofs.OwnTypes.{own_types_are_readable_lem}
 use Rattle.isle_base.specs.Stable.{look_up}
 use Rattle.isle_types.specs.declared.type_env.TypeEnv.{TypeEnv}
 use Rattle.isle_types.specs.Envs.{names_of, symbol_of, same_symbol, symbol, IsInterned}
@@ -22,7 +22,7 @@ use Rattle.isle_types.specs.Stages.{Booting}
 use Rattle.isle_types.specs.TypeTables.{SeesTypes}
 use Rattle.isle_types.specs.TypeViews.{type_views}
 use Rattle.isle_types.proofs.Booting.{booted}
-use Rattle.isle_laws_lists.proofs.JudgedTypes.{types_are_judged_lem}
+use Rattle.isle_laws_typing.proofs.JudgedTypes.{types_are_judged_lem}
 
 module _ (defs : List Definition) (env : TypeEnv) (v : IsValidTypes defs) (s : SeesTypes env defs (type_names_met defs)) where
   own : AreReadable (types_read defs)

@@ -6,11 +6,11 @@ use Rattle.isle_model.specs.rules.Program.{Program, arg_types}
 use Rattle.isle_model.specs.sites.Sites.{Site, int_site, prim_site, argument_site, make_variant_site, make_struct_site, match_tuple_site, SiteSet, SiteTerm, layer, unfold_site}
 use Rattle.isle_model.specs.trees.Places.{is_in_place}
 use Rattle.isle_model.proofs.Members.{nothing_in, in_alone}
-use Rattle.isle_laws_lists.specs.WellTypedPrograms.{IsWellTypedProgram}
-use Rattle.isle_laws_demands.proofs.visits.BuiltSets.{BuiltSet}
+use Rattle.isle_laws_typing.specs.WellTypedPrograms.{IsWellTypedProgram}
+use Rattle.isle_laws_closure.proofs.built.BuiltSets.{BuiltSet}
 use Rattle.isle_laws_runs.proofs.runs.Contents.{sources_in, unfolded_layer}
-use Rattle.isle_laws_demands.proofs.taken.BuiltSites.{sites_stand}
-use Rattle.isle_laws_demands.proofs.taken.Forms.{Form, form, a_value, IsOfForm}
+use Rattle.isle_laws_matching.proofs.taken.BuiltSites.{sites_stand}
+use Rattle.isle_laws_matching.proofs.taken.Forms.{Form, form, a_value, IsOfForm}
 use Rattle.isle_laws_trees.proofs.binding.Scope.{PlacesApart}
 
 -- what is written in place is one value

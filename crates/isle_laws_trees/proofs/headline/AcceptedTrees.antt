@@ -1,7 +1,7 @@
 -- For each accepted list, the best trees of its terms' built sets keep the headline.
 use Rattle.isle_model.specs.rules.Program.{is_multi}
 use Rattle.isle_model.specs.claims.Layers.{own_program, BestTreesKeepTheHeadline}
-use Rattle.isle_laws_lists.proofs.WellTypedRules.{read_programs_are_well_typed}
+use Rattle.isle_laws_typing.proofs.WellTypedRules.{read_programs_are_well_typed}
 use Rattle.isle_laws_trees.specs.BuiltLaws.{BestTreesBindBeforeUse, BestTreesCollectTheBag}
 use Rattle.isle_laws_trees.proofs.Shares.{best_trees_share_most_lem}
 use Rattle.isle_laws_trees.proofs.NoLoops.{trees_without_calls_have_no_loop_lem}

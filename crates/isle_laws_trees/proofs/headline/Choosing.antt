@@ -18,19 +18,19 @@ use Rattle.isle_model.specs.trees.Best.{IsBestTree}
 use Rattle.isle_model.specs.claims.Headline.{RunsAsChosen}
 use Rattle.isle_model.specs.claims.Layers.{IsCheckable}
 use Rattle.isle_model.specs.claims.SetMeanings.{TakenGivesOutcome, returning_once}
-use Rattle.isle_laws_demands.specs.BuiltLaws.{BuiltSetsAreTested}
-use Rattle.isle_laws_demands.specs.BuiltSets.{OfBuiltSets}
+use Rattle.isle_laws_closure.specs.BuiltLaws.{BuiltSetsAreTested}
+use Rattle.isle_laws_closure.specs.BuiltSets.{OfBuiltSets}
 use Rattle.isle_model.proofs.Elements.{In, contains_from_in, in_slice, some_is}
 use Rattle.isle_model.proofs.Members.{member_from_get, get_from_member}
 use Rattle.isle_model.proofs.Options.{is_there}
-use Rattle.isle_laws_lists.specs.WellTypedPrograms.{IsWellTypedProgram}
-use Rattle.isle_laws_demands.proofs.visits.BuiltSets.{BuiltSet, ServingMeaning}
+use Rattle.isle_laws_typing.specs.WellTypedPrograms.{IsWellTypedProgram}
+use Rattle.isle_laws_closure.proofs.built.BuiltSets.{BuiltSet, ServingMeaning}
 use Rattle.isle_laws_runs.proofs.runs.Choice.{sound_trees_choose_lem}
 use Rattle.isle_laws_runs.proofs.runs.ChosenRules.{Chosen, no_match, matching, chosen_is, one_number}
-use Rattle.isle_laws_demands.specs.MatchLaws.{BuiltSetsMatchByDemands, BuiltRulesAreToldApart, RulesWithoutMultiGoOverNoCalls}
-use Rattle.isle_laws_demands.specs.ServeLaws.{ServedSetsServeTests}
-use Rattle.isle_laws_demands.proofs.matching.BuiltMatches.{one_rule}
-use Rattle.isle_laws_demands.proofs.matching.ToldApart.{empty_pick, same_match}
+use Rattle.isle_laws_matching.specs.MatchLaws.{BuiltSetsMatchByDemands, BuiltRulesAreToldApart, RulesWithoutMultiGoOverNoCalls}
+use Rattle.isle_laws_matching.specs.ServeLaws.{ServedSetsServeTests}
+use Rattle.isle_laws_closure.proofs.built.Built.{one_rule}
+use Rattle.isle_laws_matching.proofs.ToldApart.{empty_pick, same_match}
 use Rattle.isle_laws_trees.specs.BuiltLaws.{BestTreesOfBuiltSetsAreSound}
 use Rattle.isle_laws_trees.proofs.headline.NoCalls.{rule_goes_over_none, pair_goes_over_none, set_goes_over_none}
 use Rattle.isle_laws_trees.proofs.headline.Places.{Pair, of_set_rule, of_typed_rule, typed_here}

@@ -26,7 +26,7 @@ use Rattle.isle_model.specs.trees.Collects.{calls_in, content_at, demands_hold, 
 use Rattle.isle_model.specs.trees.SetRuns.{tested_sites}
 use Rattle.isle_model.specs.trees.Best.{IsBestTree}
 use Rattle.isle_model.specs.claims.Layers.{IsCheckable}
-use Rattle.isle_laws_demands.specs.BuiltLaws.{BuiltSetsAreCollected}
+use Rattle.isle_laws_closure.specs.BuiltLaws.{BuiltSetsAreCollected}
 use Rattle.isle_model.proofs.Elements.{in_from_contains, contains_from_in}
 use Rattle.isle_model.proofs.Bags.{flat_map_same}
 use Rattle.isle_model.proofs.DistinctJoined.{distinct_filter, distinct_map}
@@ -35,8 +35,8 @@ use Rattle.isle_model.proofs.Numbers.{numbers_below, numbers_all, numbers_distin
 use Rattle.isle_model.proofs.Options.{is_there}
 use Rattle.isle_model.proofs.Positions.{distinct_nil}
 use Rattle.isle_model.proofs.SitesMade.{once_with}
-use Rattle.isle_laws_lists.specs.WellTypedPrograms.{IsWellTypedProgram}
-use Rattle.isle_laws_demands.proofs.visits.BuiltSets.{BuiltSet, ServingMeaning}
+use Rattle.isle_laws_typing.specs.WellTypedPrograms.{IsWellTypedProgram}
+use Rattle.isle_laws_closure.proofs.built.BuiltSets.{BuiltSet, ServingMeaning}
 use Rattle.isle_laws_runs.specs.Orders.{Within, OrderedFrom}
 use Rattle.isle_laws_runs.proofs.picks.Calls.{unfold_once, calls_below, IsEarlier, numbers_ordered}
 use Rattle.isle_laws_runs.proofs.picks.FirstCall.{results_are_of_places_lem}
@@ -45,13 +45,13 @@ use Rattle.isle_laws_runs.proofs.picks.CallOrders.{reordered}
 use Rattle.isle_laws_runs.proofs.runs.Below.{below_within}
 use Rattle.isle_laws_runs.proofs.runs.Collection.{sound_trees_collect_lem}
 use Rattle.isle_laws_runs.proofs.runs.Contents.{sources_in}
-use Rattle.isle_laws_demands.specs.MatchLaws.{BuiltSetsMatchByDemands, BuiltSetsHoldResults}
-use Rattle.isle_laws_demands.specs.ServeLaws.{ServedMultiSetsServe}
-use Rattle.isle_laws_demands.specs.VisitLaws.{NoRuleAsksAndGoesOver, MultiTermsHaveOnePriority}
-use Rattle.isle_laws_demands.proofs.closure.Classes.{with_sites_in, in_with_sites}
-use Rattle.isle_laws_demands.proofs.matching.BuiltMatches.{one_rule, built_listed}
-use Rattle.isle_laws_demands.proofs.visits.Built.{rule_at}
-use Rattle.isle_laws_demands.proofs.visits.Sets.{first_constraint}
+use Rattle.isle_laws_matching.specs.MatchLaws.{BuiltSetsMatchByDemands, BuiltSetsHoldResults}
+use Rattle.isle_laws_matching.specs.ServeLaws.{ServedMultiSetsServe}
+use Rattle.isle_laws_closure.specs.GateLaws.{NoRuleAsksAndGoesOver, MultiTermsHaveOnePriority}
+use Rattle.isle_laws_closure.proofs.Classes.{with_sites_in, in_with_sites}
+use Rattle.isle_laws_closure.proofs.built.Built.{one_rule, rule_at}
+use Rattle.isle_laws_matching.proofs.BuiltMatches.{built_listed}
+use Rattle.isle_laws_closure.proofs.built.Sets.{first_constraint}
 use Rattle.isle_laws_trees.specs.BuiltLaws.{BestTreesCollectTheBag}
 use Rattle.isle_laws_trees.proofs.Soundness.{best_trees_are_sound_lem}
 use Rattle.isle_laws_trees.proofs.headline.Places.{Pair, of_set_rule, of_typed_rule, typed_here}

@@ -5,10 +5,11 @@ use Rattle.isle_model.specs.sites.Sites.{SetRule, SiteSet, unfold_site}
 use Rattle.isle_model.specs.visits.Demands.{demands_of}
 use Rattle.isle_model.specs.sites.Overlap.{BuiltRule, built_rules}
 use Rattle.isle_model.proofs.Members.{nothing_in, all_members, member_from_get, get_from_member}
-use Rattle.isle_laws_lists.specs.WellTypedPrograms.{IsWellTypedProgram}
-use Rattle.isle_laws_demands.proofs.visits.BuiltSets.{BuiltSet}
-use Rattle.isle_laws_demands.specs.MatchLaws.{RulesWithoutMultiGoOverNoCalls}
-use Rattle.isle_laws_demands.proofs.matching.BuiltMatches.{one_rule, built_listed}
+use Rattle.isle_laws_typing.specs.WellTypedPrograms.{IsWellTypedProgram}
+use Rattle.isle_laws_closure.proofs.built.BuiltSets.{BuiltSet}
+use Rattle.isle_laws_matching.specs.MatchLaws.{RulesWithoutMultiGoOverNoCalls}
+use Rattle.isle_laws_closure.proofs.built.Built.{one_rule}
+use Rattle.isle_laws_matching.proofs.BuiltMatches.{built_listed}
 use Rattle.isle_laws_trees.proofs.headline.Places.{Pair, of_set_rule}
 
 none_listed : (xs : List ℕ) → ((s : ℕ) → Contains xs s → ⊥) → xs ≡ []

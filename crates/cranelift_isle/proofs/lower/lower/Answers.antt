@@ -2,7 +2,7 @@ use Rattle.std.proofs.Common.{◌≡◌, ◌++◌, Err, None, All, sym, subst, r
 use Rattle.isle_base.specs.Answers.{OnErrors, limit_of}
 use Rattle.isle_base.specs.Positions.{ErrorStandsAt, positions_of}
 use Rattle.isle_base.specs.SyntaxViews.{definition_views}
-use Rattle.isle_laws_lists.proofs.OwnTypes.{own_types_read}
+use Rattle.isle_laws_typing.proofs.OwnTypes.{own_types_read}
 use Rattle.isle_model.specs.claims.Environments.{types_read}
 use Rattle.isle_model.specs.lists.TypeTable.{type_table}
 use Rattle.isle_model.specs.claims.Layers.{RefusedBy, by_types, by_rules}

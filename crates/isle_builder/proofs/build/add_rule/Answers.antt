@@ -1,7 +1,7 @@
 use Rattle.std.proofs.Common.{◌≡◌, [], ap, ◌∙◌, rules, subst, Some}
 use Rattle.std.specs.BTreeMap.{get}
 use Rattle.std.specs.Ordering.{nat_cmp}
-use Rattle.isle_laws_demands.specs.RuleByRule.{of_one_term, or_nothing_built}
+use Rattle.isle_laws_closure.specs.RuleByRule.{of_one_term, or_nothing_built}
 use Rattle.isle_model.specs.sites.Limits.{sites_after_rules}
 use Rattle.isle_typed.specs.RuleViews.{rule_view}
 use Rattle.isle_builder.specs.SetsSoFar.{set_at}

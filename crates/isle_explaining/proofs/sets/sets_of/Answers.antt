@@ -1,5 +1,5 @@
 use Rattle.isle_base.specs.SyntaxViews.{definition_views}
-use Rattle.isle_laws_lists.proofs.OwnTypes.{own_types_read}
+use Rattle.isle_laws_typing.proofs.OwnTypes.{own_types_read}
 use Rattle.cranelift_isle.proofs.Lowered.{were_read, of_elaborated}
 use Rattle.isle_explaining.proofs.sets.sets_of.Goals as goal
 

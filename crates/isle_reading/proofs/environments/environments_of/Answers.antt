@@ -1,4 +1,4 @@
-use Rattle.isle_laws_lists.proofs.OwnTypes.{own_types_read}
+use Rattle.isle_laws_typing.proofs.OwnTypes.{own_types_read}
 use Rattle.isle_reading.proofs.environments.environments_of.Goals as goal
 
 -- valid types can be read, and the type table is read as them

@@ -1,4 +1,4 @@
-use Rattle.isle_laws_lists.proofs.OwnTypes.{own_types_read}
+use Rattle.isle_laws_typing.proofs.OwnTypes.{own_types_read}
 use Rattle.isle_refusals.proofs.Left.{beside}
 use Rattle.isle_refusals.proofs.environments.read_rules.Goals as goal
 

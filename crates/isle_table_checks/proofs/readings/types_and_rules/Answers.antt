@@ -1,6 +1,6 @@
 use Rattle.std.proofs.Common.{true}
 use Rattle.isle_base.specs.SyntaxViews.{definition_views}
-use Rattle.isle_laws_lists.proofs.OwnTypes.{own_types_read}
+use Rattle.isle_laws_typing.proofs.OwnTypes.{own_types_read}
 use Rattle.isle_model.specs.claims.Environments.{types_read}
 use Rattle.isle_table_checks.proofs.readings.types_and_rules.Goals as goal
 

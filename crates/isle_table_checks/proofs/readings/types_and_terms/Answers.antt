@@ -1,4 +1,4 @@
-use Rattle.isle_laws_lists.proofs.OwnTypes.{own_types_read}
+use Rattle.isle_laws_typing.proofs.OwnTypes.{own_types_read}
 use Rattle.isle_table_checks.proofs.readings.types_and_terms.Goals as goal
 
 -- valid types can be read, and the type table is read as them

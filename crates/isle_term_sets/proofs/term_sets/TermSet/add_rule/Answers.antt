@@ -1,5 +1,5 @@
 use Rattle.std.proofs.Common.{◌≡◌, ◌<◌, ◌≤◌, true, ap, length, ◌∙◌, sym, subst, refl, arith}
-use Rattle.isle_laws_lists.proofs.VisitableRules.{formed_rules_can_be_visited}
+use Rattle.isle_laws_typing.proofs.VisitableRules.{formed_rules_can_be_visited}
 use Rattle.isle_model.specs.lists.Visitable.{is_visitable_rule}
 use Rattle.isle_model.specs.visits.Demands.{visit_rule}
 use Rattle.isle_model.specs.sites.Limits.{most_sites}

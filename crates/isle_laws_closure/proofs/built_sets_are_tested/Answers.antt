@@ -1,0 +1,5 @@
+use Rattle.isle_laws_closure.proofs.built.Sets.{built_sets_are_tested_lem}
+use Rattle.isle_laws_closure.proofs.built_sets_are_tested.Goals as goal
+
+pub returns : goal.returns
+returns c = built_sets_are_tested_lem

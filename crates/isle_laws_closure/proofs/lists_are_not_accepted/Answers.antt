@@ -1,0 +1,5 @@
+use Rattle.isle_laws_closure.proofs.overlaps.Judged.{lists_are_not_accepted_lem}
+use Rattle.isle_laws_closure.proofs.lists_are_not_accepted.Goals as goal
+
+pub returns : goal.returns
+returns c = lists_are_not_accepted_lem

@@ -1,0 +1,5 @@
+use Rattle.isle_laws_closure.proofs.overlaps.Listed.{overlaps_are_listed_once_lem}
+use Rattle.isle_laws_closure.proofs.overlaps_are_listed_once.Goals as goal
+
+pub returns : goal.returns
+returns c = overlaps_are_listed_once_lem

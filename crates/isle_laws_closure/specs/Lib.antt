@@ -1,0 +1,15 @@
+pub mod AcceptLaws
+pub mod BuiltLaws
+pub mod BuiltSets
+pub mod ClosureLaws
+pub mod ErrorLaws
+pub mod FieldLaws
+pub mod GateLaws
+pub mod LeftOutLaws
+pub mod PairLaws
+pub mod RefusalLaws
+pub mod ReportLaws
+pub mod RuleByRule
+pub mod SetOverlapLaws
+pub mod SetReportLaws
+pub mod ShadowLaws

@@ -1,5 +1,0 @@
-use Rattle.isle_laws_demands.proofs.visits.Sets.{built_sets_are_well_built_lem}
-use Rattle.isle_laws_demands.proofs.built_sets_are_well_built.Goals as goal
-
-pub returns : goal.returns
-returns c = built_sets_are_well_built_lem

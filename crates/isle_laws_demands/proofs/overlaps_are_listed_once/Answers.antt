@@ -1,5 +1,0 @@
-use Rattle.isle_laws_demands.proofs.overlaps.Listed.{overlaps_are_listed_once_lem}
-use Rattle.isle_laws_demands.proofs.overlaps_are_listed_once.Goals as goal
-
-pub returns : goal.returns
-returns c = overlaps_are_listed_once_lem

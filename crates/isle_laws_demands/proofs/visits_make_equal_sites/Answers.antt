@@ -1,5 +1,0 @@
-use Rattle.isle_laws_demands.proofs.closure.VisitedRules.{visits_make_lem}
-use Rattle.isle_laws_demands.proofs.visits_make_equal_sites.Goals as goal
-
-pub returns : goal.returns
-returns c = visits_make_lem

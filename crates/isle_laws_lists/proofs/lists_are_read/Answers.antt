@@ -1,5 +1,0 @@
-use Rattle.isle_laws_lists.proofs.JudgedReading.{lists_are_read_lem}
-use Rattle.isle_laws_lists.proofs.lists_are_read.Goals as goal
-
-pub returns : goal.returns
-returns c = lists_are_read_lem
