@@ -40,9 +40,9 @@ pub record IsWellTypedRule (p : Program) (r : TypedRule) : Type 0 where
   pub formed : is_formed_rule p r ≡ true
   -- the patterns of its arguments match multi terms only where its term is multi
   pub patterns : is_multi p r.root_term ≡ false → ArgsCallNoMulti p r.args
-  -- so do those of its if-lets, whose expressions call what these flags allow on left sides
+  -- so do those of its if-lets, whose expressions call what the flags of its term allow on left sides
   pub conditions : IfLetsMayCall p (flags_of (kind p r.root_term)) r.iflets
-  -- its right side calls what they allow
+  -- its right side calls what these flags allow
   pub right : CallsAlone (MayCall p (flags_of (kind p r.root_term))) r.rhs
   -- where its term is multi, it has no priority of its own
   pub no_priority : is_multi p r.root_term ≡ true → r.prio ≡ pos 0

@@ -1,5 +1,5 @@
 -- The builder of a rule set follows the visitor of sites: what it has shown of its steps is what the law of visits asks.
-use Rattle.std.proofs.Common.{◌≡◌, ◌<◌, ◌≤◌, ℕ, zero, suc, Bool, true, false, not, List, [], ◌∷◌, length, map, All, Option, Some, None, refl, sym, ap, ap₂, ◌∙◌, subst, arith}
+use Rattle.std.proofs.Common.{◌≡◌, ◌<◌, ◌≤◌, ℕ, zero, suc, Bool, true, false, not, List, [], ◌∷◌, length, map, None, refl, sym, ap, ap₂, subst, arith}
 use Rattle.std.specs.Prelude.{Result, Ok, Err, MatchResult, alloc_error}
 use Rattle.std.specs.List.{AllZip}
 use Rattle.std.proofs.lemmas.List.Elements.{All-head, All-tail}
@@ -9,7 +9,7 @@ use Rattle.isle_base.specs.declared.visit_fault.VisitFault.TheVariants.{Memory}
 use Rattle.isle_model.specs.lists.Tables.{Flags}
 use Rattle.isle_model.specs.sites.Limits.{first_passed, most_arguments, most_fields, most_outputs}
 use Rattle.isle_model.specs.sites.Sites.{Constraint, is_variant, is_struct, is_bool, is_int, is_prim, is_present, SiteTerm, SiteTerms, no_site_term, site_term_and, argument, bool_term, constructor_call, extractor_call, int_term, prim_term, struct_made, unfold_site, variant_made}
-use Rattle.isle_model.specs.visits.Demands.{Visit, Opened, Valued, asking, asking_all, binding, call_sites, equating, iterating, making, pattern_count, site_term_eq, taking_argument, unwraps, valued, visit_call, where_multi}
+use Rattle.isle_model.specs.visits.Demands.{Visit, Opened, Valued, asking, asking_all, call_sites, equating, iterating, making, pattern_count, site_term_eq, taking_argument, unwraps, valued, visit_call, where_multi}
 use Rattle.isle_model.specs.visits.SiteVisitor.{any_parts, extractor_opened, fields_opened, value_made}
 use Rattle.isle_model.proofs.Either.{either}
 use Rattle.isle_model.proofs.Elements.{some_is}

@@ -1,5 +1,5 @@
 -- A builder that ended on the way to the end of a rule's visit lacked memory, or met the limit that is met first.
-use Rattle.std.proofs.Common.{◌≡◌, ◌≤◌, ℕ, List, length, Option, Some, None, sym, subst, inl, inr, arith}
+use Rattle.std.proofs.Common.{◌≤◌, ℕ, List, length, Option, Some, None, sym, subst, inl, inr, arith}
 use Rattle.std.proofs.lemmas.Bool.{cases_Bool, cond-true, cond-false}
 use Rattle.std.proofs.lemmas.List.{take_all}
 use Rattle.isle_base.specs.declared.syntax.Limit.TheVariants as Limits

@@ -19,7 +19,7 @@ use Rattle.isle_term_sets.specs.contracts.builder_patterns.RuleSetBuilderPattern
 use Rattle.isle_term_sets.specs.contracts.builder_exprs.RuleSetBuilderExprVisitor.TheImpl as Exprs
 use Rattle.isle_term_sets.specs.contracts.builder_rules.RuleSetBuilderRuleVisitor.TheImpl as Rules
 use Rattle.isle_term_sets.specs.declared.ruleset_builder.RuleSetBuilder.{RuleSetBuilder}
-use Rattle.isle_term_sets.specs.VisitedSites.{EndsAtLimit, EndsBefore, EndsVisit, GoesTo, StandsAt, ValuesTo, built_sites}
+use Rattle.isle_term_sets.specs.VisitedSites.{EndsAtLimit, EndsBefore, EndsVisit, StandsAt, ValuesTo, built_sites}
 use Rattle.isle_term_sets.proofs.BuilderFields.{goes_further}
 use Rattle.isle_term_sets.proofs.BuilderFollows.{builder_follows, follower, went}
 use Rattle.isle_term_sets.proofs.EndedRules.{visit_ends}

@@ -11,7 +11,8 @@ pub returns-in_err-value : goal.returns-in_err-value
 returns-in_err-value g c =
     rw (err_is c.from_residual.result c.in_err-value.field-0.0 c.from_residual.ensures)
     (c.loop-var.invariant.0 (Err c.in_err-value.field-0.0) c.pattern_as_expr.new.self
-    (exchange_stop (rule_steps g.V.RuleVisitor) (by_number c.loop-var.var-iterator) (by_number c.next.new.self) c.in-Some.var.now.0 c.in-Some.input.now c.loop-var.visitor c.in_err-value.field-0.0 c.pattern_as_expr.new.self (ap by_number c.in-Some.ensures.steps) c.in_err-value.ensures))
+    (exchange_stop (rule_steps g.V.RuleVisitor) (by_number c.loop-var.var-iterator) (by_number c.next.new.self) c.in-Some.var.now.0 c.in-Some.input.now
+    c.loop-var.visitor c.in_err-value.field-0.0 c.pattern_as_expr.new.self (ap by_number c.in-Some.ensures.steps) c.in_err-value.ensures))
 
 pub returns-in_err-bind_var : goal.returns-in_err-bind_var
 returns-in_err-bind_var g c =
@@ -20,16 +21,20 @@ returns-in_err-bind_var g c =
       binds_fault c.in-Some.var.now.0 c.in_ok-value.value (by_number c.loop-var.values.entries) (by_number c.bind_var.new.vars.entries) c.in_err-bind_var.field-0.0 c.in_err-bind_var.ensures,
     )
     (c.loop-var.invariant.0 (Err (Memory alloc_error)) c.pattern_as_expr.new.self
-    (exchange_refused (rule_steps g.V.RuleVisitor) (by_number c.loop-var.var-iterator) (by_number c.next.new.self) c.in-Some.var.now.0 c.in-Some.input.now c.in_ok-value.value c.loop-var.visitor c.pattern_as_expr.new.self (ap by_number c.in-Some.ensures.steps) c.in_ok-value.ensures))
+    (exchange_refused (rule_steps g.V.RuleVisitor) (by_number c.loop-var.var-iterator) (by_number c.next.new.self) c.in-Some.var.now.0 c.in-Some.input.now c.in_ok-value.value
+    c.loop-var.visitor c.pattern_as_expr.new.self (ap by_number c.in-Some.ensures.steps) c.in_ok-value.ensures))
 
 pub loop-var-preserved : goal.loop-var-preserved
 loop-var-preserved g c = (
   λ r u h.
-      rw (sym (exchanged_more (rule_steps g.V.RuleVisitor) (by_number c.loop-var.values.entries) (by_number c.bind_var.new.vars.entries) (by_number c.loop-var.var-iterator) (by_number c.next.new.self) (by_number c.args.vars.now.entries) c.in-Some.var.now.0 c.in-Some.input.now c.in_ok-value.value tt r
+      rw (sym (exchanged_more (rule_steps g.V.RuleVisitor) (by_number c.loop-var.values.entries) (by_number c.bind_var.new.vars.entries) (by_number c.loop-var.var-iterator) (by_number c.next.new.self) (by_number c.args.vars.now.entries)
+      c.in-Some.var.now.0 c.in-Some.input.now c.in_ok-value.value tt r
       c.loop-var.invariant.1 (ap by_number c.in-Some.ensures.steps) (ordered_by_number c.args.vars.now.entries c.into_iter-var-iterator.ensures.into_iter_gives.5) c.in_ok-bind_var.ensures).0)
       (c.loop-var.invariant.0 (after_these ((c.in-Some.var.now.0, c.in_ok-value.value) ∷ []) r) u
-      (exchange_step (rule_steps g.V.RuleVisitor) (by_number c.loop-var.var-iterator) (by_number c.next.new.self) c.in-Some.var.now.0 c.in-Some.input.now c.in_ok-value.value c.loop-var.visitor c.pattern_as_expr.new.self r u (ap by_number c.in-Some.ensures.steps) c.in_ok-value.ensures h)),
-  (exchanged_more (rule_steps g.V.RuleVisitor) (by_number c.loop-var.values.entries) (by_number c.bind_var.new.vars.entries) (by_number c.loop-var.var-iterator) (by_number c.next.new.self) (by_number c.args.vars.now.entries) c.in-Some.var.now.0 c.in-Some.input.now c.in_ok-value.value tt (Ok [])
+      (exchange_step (rule_steps g.V.RuleVisitor) (by_number c.loop-var.var-iterator) (by_number c.next.new.self) c.in-Some.var.now.0 c.in-Some.input.now c.in_ok-value.value
+      c.loop-var.visitor c.pattern_as_expr.new.self r u (ap by_number c.in-Some.ensures.steps) c.in_ok-value.ensures h)),
+  (exchanged_more (rule_steps g.V.RuleVisitor) (by_number c.loop-var.values.entries) (by_number c.bind_var.new.vars.entries) (by_number c.loop-var.var-iterator) (by_number c.next.new.self) (by_number c.args.vars.now.entries)
+      c.in-Some.var.now.0 c.in-Some.input.now c.in_ok-value.value tt (Ok [])
       c.loop-var.invariant.1 (ap by_number c.in-Some.ensures.steps) (ordered_by_number c.args.vars.now.entries c.into_iter-var-iterator.ensures.into_iter_gives.5) c.in_ok-bind_var.ensures).1,
 )
 

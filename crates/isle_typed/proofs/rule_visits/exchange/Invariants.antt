@@ -8,5 +8,6 @@ use Rattle.isle_typed.proofs.rule_visits.exchange.Given as goal
 -- what the rest may lead to, the whole may, with what was answered so far before it
 abbrev pub invariant-loop-var : goal.invariant-loop-var
 invariant-loop-var g l =
-    ((r : _) (t : _) → ExchangeRun no_memory (rule_steps g.V.RuleVisitor) (by_number l.var-iterator) l.visitor r t → ExchangeRun no_memory (rule_steps g.V.RuleVisitor) (by_number l.vars.entries) l.fn.visitor (after_these (by_number l.values.entries) r) t)
+    ((r : _) (t : _) → ExchangeRun no_memory (rule_steps g.V.RuleVisitor) (by_number l.var-iterator) l.visitor r t →
+    ExchangeRun no_memory (rule_steps g.V.RuleVisitor) (by_number l.vars.entries) l.fn.visitor (after_these (by_number l.values.entries) r) t)
     × (bound_vars (by_number l.values.entries) ++ bound_vars (by_number l.var-iterator) ≡ bound_vars (by_number l.vars.entries))

@@ -13,27 +13,40 @@ show_pattern-requires g c =
 
 pub returns-in_err-vars : goal.returns-in_err-vars
 returns-in_err-vars g c =
+    let v = rule_steps g.V.RuleVisitor in
+    let p = pattern_steps g.V.PatternVisitor.PatternVisitor in
+    let q = expr_steps g.V.ExprVisitor.ExprVisitor in
+    let terms = g.E.UsedTerms.term_entries c.args.termenv.now in
     rw (err_is c.from_residual-in_err-vars.result c.in_err-vars.field-0.0 c.from_residual-in_err-vars.ensures)
     (c.loop-i.invariant.0 _ _
-    (args_stop (rule_steps g.V.RuleVisitor) (pattern_steps g.V.PatternVisitor.PatternVisitor) (expr_steps g.V.ExprVisitor.ExprVisitor) (g.E.UsedTerms.term_entries c.args.termenv.now) c.args.args.now c.args.tys.now c.loop-i.i c.index-args-i.result (record { 0 = 0 }) (by_number c.loop-i.vars.entries) c.in_ok-input.input c.loop-i.visitor c.add_arg.new.self c.in_err-vars.field-0.0 c.show_pattern.new.visitor
+    (args_stop v p q terms c.args.args.now c.args.tys.now c.loop-i.i c.index-args-i.result (record { 0 = 0 }) (by_number c.loop-i.vars.entries) c.in_ok-input.input c.loop-i.visitor c.add_arg.new.self c.in_err-vars.field-0.0 c.show_pattern.new.visitor
     c.loop-i-test.true (omega (arith, c.loop-i-test.true, c.requires.count)) c.in_ok-input.ensures (rw (sym c.index-args-i.is) c.in_err-vars.ensures)))
 
 pub returns-in_err-input : goal.returns-in_err-input
 returns-in_err-input g c =
+    let v = rule_steps g.V.RuleVisitor in
+    let p = pattern_steps g.V.PatternVisitor.PatternVisitor in
+    let q = expr_steps g.V.ExprVisitor.ExprVisitor in
+    let terms = g.E.UsedTerms.term_entries c.args.termenv.now in
     rw (err_is c.from_residual.result c.in_err-input.field-0.0 c.from_residual.ensures)
     (c.loop-i.invariant.0 _ _
-    (args_stop_arg (rule_steps g.V.RuleVisitor) (pattern_steps g.V.PatternVisitor.PatternVisitor) (expr_steps g.V.ExprVisitor.ExprVisitor) (g.E.UsedTerms.term_entries c.args.termenv.now) c.args.args.now c.args.tys.now c.loop-i.i c.index-args-i.result (record { 0 = 0 }) (by_number c.loop-i.vars.entries) c.loop-i.visitor c.in_err-input.field-0.0 c.add_arg.new.self
+    (args_stop_arg v p q terms c.args.args.now c.args.tys.now c.loop-i.i c.index-args-i.result (record { 0 = 0 }) (by_number c.loop-i.vars.entries) c.loop-i.visitor c.in_err-input.field-0.0 c.add_arg.new.self
     c.loop-i-test.true (omega (arith, c.loop-i-test.true, c.requires.count)) c.in_err-input.ensures))
 
 pub loop-i-preserved : goal.loop-i-preserved
 loop-i-preserved g c =
+    let v = rule_steps g.V.RuleVisitor in
+    let p = pattern_steps g.V.PatternVisitor.PatternVisitor in
+    let q = expr_steps g.V.ExprVisitor.ExprVisitor in
     let terms = g.E.UsedTerms.term_entries c.args.termenv.now in
     let d = c.index-args-i.result in (
       λ r u h.
           c.loop-i.invariant.0 r u
-          (args_step (rule_steps g.V.RuleVisitor) (pattern_steps g.V.PatternVisitor.PatternVisitor) (expr_steps g.V.ExprVisitor.ExprVisitor) terms c.args.args.now c.args.tys.now c.loop-i.i d (record { 0 = 0 }) (by_number c.loop-i.vars.entries) (by_number c.in_ok-vars.vars.entries) c.in_ok-input.input c.loop-i.visitor c.add_arg.new.self c.show_pattern.new.visitor r u
+          (args_step v p q terms c.args.args.now c.args.tys.now c.loop-i.i d (record { 0 = 0 }) (by_number c.loop-i.vars.entries) (by_number c.in_ok-vars.vars.entries) c.in_ok-input.input c.loop-i.visitor
+          c.add_arg.new.self c.show_pattern.new.visitor r u
           c.loop-i-test.true (omega (arith, c.loop-i-test.true, c.requires.count)) c.in_ok-input.ensures (rw (sym c.index-args-i.is) c.in_ok-vars.ensures) h),
       list_same terms (pattern_views (drop (c.loop-i.i + 1) c.args.args.now)) (bound_vars (by_number c.in_ok-vars.vars.entries)) (bound_after (pattern_view (get_or c.args.args.now c.loop-i.i d)) (bound_vars (by_number c.loop-i.vars.entries)))
-          (call_binds (rule_steps g.V.RuleVisitor) (pattern_steps g.V.PatternVisitor.PatternVisitor) (expr_steps g.V.ExprVisitor.ExprVisitor) terms (pattern_view (get_or c.args.args.now c.loop-i.i d)) c.in_ok-input.input (by_number c.loop-i.vars.entries) c.add_arg.new.self (by_number c.in_ok-vars.vars.entries) c.show_pattern.new.visitor (rw (sym c.index-args-i.is) c.in_ok-vars.ensures))
+          (call_binds v p q terms (pattern_view (get_or c.args.args.now c.loop-i.i d)) c.in_ok-input.input (by_number c.loop-i.vars.entries)
+          c.add_arg.new.self (by_number c.in_ok-vars.vars.entries) c.show_pattern.new.visitor (rw (sym c.index-args-i.is) c.in_ok-vars.ensures))
           ∙ (next_arg terms c.args.args.now c.loop-i.i d (bound_vars (by_number c.loop-i.vars.entries)) c.loop-i-test.true c.loop-i.invariant.1).1,
     )

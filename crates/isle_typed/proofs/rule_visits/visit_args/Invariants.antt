@@ -11,6 +11,7 @@ use Rattle.isle_typed.proofs.rule_visits.visit_args.Given as goal
 abbrev pub invariant-loop-i : goal.invariant-loop-i
 invariant-loop-i g l =
     ((r : _) (t : _) →
-    ArgsRun no_memory (rule_steps g.V.RuleVisitor) (pattern_steps g.V.PatternVisitor.PatternVisitor) (expr_steps g.V.ExprVisitor.ExprVisitor) (g.E.UsedTerms.term_entries l.termenv) (pattern_views (drop l.i l.args)) (type_numbers (drop l.i l.tys)) l.i (by_number l.vars.entries) l.visitor r t →
+    ArgsRun no_memory (rule_steps g.V.RuleVisitor) (pattern_steps g.V.PatternVisitor.PatternVisitor) (expr_steps g.V.ExprVisitor.ExprVisitor) (g.E.UsedTerms.term_entries l.termenv)
+    (pattern_views (drop l.i l.args)) (type_numbers (drop l.i l.tys)) l.i (by_number l.vars.entries) l.visitor r t →
     ArgsRun no_memory (rule_steps g.V.RuleVisitor) (pattern_steps g.V.PatternVisitor.PatternVisitor) (expr_steps g.V.ExprVisitor.ExprVisitor) (g.E.UsedTerms.term_entries l.termenv) (pattern_views l.args) (type_numbers l.tys) 0 [] l.fn.visitor r t)
     × IsTrue (are_visitable_list (g.E.UsedTerms.term_entries l.termenv) (pattern_views (drop l.i l.args)) (bound_vars (by_number l.vars.entries)))

@@ -10,6 +10,8 @@ use Rattle.isle_typed.proofs.rule_visits.visit_iflets.Given as goal
 abbrev pub invariant-loop-iflet : goal.invariant-loop-iflet
 invariant-loop-iflet g l =
     ((r : _) (t : _) →
-    IfLetsRun no_memory (rule_steps g.V.RuleVisitor) (pattern_steps g.V.PatternVisitor.PatternVisitor) (expr_steps g.V.ExprVisitor.ExprVisitor) (g.E.UsedTerms.term_entries l.termenv) (map iflet_view (drop l.iflet-index l.iflets)) (by_number l.bound.entries) l.visitor r t →
-    IfLetsRun no_memory (rule_steps g.V.RuleVisitor) (pattern_steps g.V.PatternVisitor.PatternVisitor) (expr_steps g.V.ExprVisitor.ExprVisitor) (g.E.UsedTerms.term_entries l.termenv) (map iflet_view l.iflets) (by_number l.fn.vars.entries) l.fn.visitor r t)
+    IfLetsRun no_memory (rule_steps g.V.RuleVisitor) (pattern_steps g.V.PatternVisitor.PatternVisitor) (expr_steps g.V.ExprVisitor.ExprVisitor) (g.E.UsedTerms.term_entries l.termenv)
+    (map iflet_view (drop l.iflet-index l.iflets)) (by_number l.bound.entries) l.visitor r t →
+    IfLetsRun no_memory (rule_steps g.V.RuleVisitor) (pattern_steps g.V.PatternVisitor.PatternVisitor) (expr_steps g.V.ExprVisitor.ExprVisitor) (g.E.UsedTerms.term_entries l.termenv)
+    (map iflet_view l.iflets) (by_number l.fn.vars.entries) l.fn.visitor r t)
     × IsTrue (are_visitable_iflets (g.E.UsedTerms.term_entries l.termenv) (map iflet_view (drop l.iflet-index l.iflets)) (bound_vars (by_number l.bound.entries)))
