@@ -1,12 +1,13 @@
 -- What closing asks may be tested.
-use Rattle.std.proofs.Common.{◌≡◌, ℕ, zero, suc, ◌+◌, ◌<◌, true, not, List, [], ◌∷◌, ◌++◌, map, Contains, filter, refl, sym, subst, inl, inr, arith}
+use Rattle.std.proofs.Common.{ℕ, ◌+◌, ◌<◌, true, not, List, [], ◌∷◌, ◌++◌, map, Contains, filter, refl, sym, subst, inl, inr, arith}
 use Rattle.std.proofs.lemmas.Bool.{cases_Bool, cond-true, cond-false}
 use Rattle.std.specs.List.{zip}
 use Rattle.isle_model.specs.sites.Sites.{Constraint, is_variant, is_struct, is_bool, is_int, is_prim, is_present, SiteTerm, variant_field, struct_field}
 use Rattle.isle_model.specs.visits.Demands.{Demands, has_site}
-use Rattle.isle_model.specs.sites.Closure.{fields_from, field_terms, HasConstraint, IsUnreachable, Closed, class_at, without_class_of, merged_classes, merged_all, with_constraints, ascending, field_equalities, taken, closing, before_closing, begins_with, in_order, most_closing_steps, closed}
+use Rattle.isle_model.specs.sites.Closure.{field_terms, HasConstraint, IsUnreachable, Closed, class_at, without_class_of, merged_classes, merged_all, with_constraints, ascending, field_equalities, taken, closing, before_closing, begins_with, in_order, most_closing_steps, closed}
 use Rattle.isle_model.proofs.Elements.{In, in_from_contains, contains_from_in, in_left, in_right, in_either, in_slice, in_map, map_in, from_flat_map, in_zip, in_filter, passed_filter}
 use Rattle.isle_model.proofs.SitesMade.{has_in}
+use Rattle.isle_laws_visits.proofs.WithSites.{in_fields}
 use Rattle.isle_laws_closure.proofs.Closing.{closing_keeps, OneEach, constraints_in, in_constraints, constraints_kept, one_each, FollowsSoFar, in_class_joined, constraint_carried, next_asked, taken_follows, before_closing_follows, in_order_follows, from_constraints, keeps_all, one_demanded}
 use Rattle.isle_model.specs.sites.DemandedGates.{GatesDemanded, CanBeTested, ClosedCanBeTested}
 use Rattle.isle_laws_visits.proofs.Gates.{asking_of, gates_stay}
@@ -48,11 +49,6 @@ module _ (P : SiteTerm → Type 0) where
   all_merged_members (e ∷ es) ks h f = all_merged_members es (merged_classes ks e) (merged_members ks h e (f e (inl refl))) (λ x i. f x (inr i))
 
 -- 2. fields
-pub in_fields : (f : ℕ → SiteTerm) (i n : ℕ) (u : SiteTerm) → In (fields_from f i n) u → (j : ℕ) × (j < i + n) × (f j ≡ u)
-in_fields f i zero u k = absurd k
-in_fields f i (suc n) u (inl e) = (i, omega arith, e)
-in_fields f i (suc n) u (inr k) = let r = in_fields f (suc i) n u k in (r.0, let l : r.0 < suc i + n = r.1 in omega arith, r.2)
-
 -- the fields of a constrained site that may be tested may be tested
 field_tested : (cs : List (SiteTerm × Constraint)) (calls : List SiteTerm) (c : Constraint) (s u : SiteTerm) → GatesDemanded true true cs calls s → Contains cs (s, c) → In (field_terms c s) u → GatesDemanded true true cs calls u
 field_tested cs calls (is_variant ty variant fields) s u g a i =

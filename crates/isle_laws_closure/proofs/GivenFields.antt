@@ -8,9 +8,9 @@ use Rattle.isle_model.specs.sites.Closure.{field_terms, with_owners, spoken_of}
 use Rattle.isle_model.proofs.Elements.{In, in_from_contains, contains_from_in, some_is, none_some, in_left, in_either, from_flat_map}
 use Rattle.isle_laws_closure.specs.FieldLaws.{IsGiven, FieldsAreGiven}
 use Rattle.isle_laws_closure.proofs.Classes.{with_sites_in}
-use Rattle.isle_laws_closure.proofs.Owners.{owner_of, by_field, owner_of_field, owners_of_field, no_other_owner}
+use Rattle.isle_laws_closure.proofs.Owners.{owner_of, owner_of_field, owners_of_field, no_other_owner}
 use Rattle.isle_laws_visits.proofs.Visited.{equated, at_left}
-use Rattle.isle_laws_visits.proofs.WithSites.{IsLeaf, by_leaf, by_equating, Onward, AtEach, KeptWithSites, unwrapped_at_each, no_step, then_onward, rule_given}
+use Rattle.isle_laws_visits.proofs.WithSites.{IsLeaf, by_leaf, by_field, by_equating, Onward, AtEach, KeptWithSites, unwrapped_at_each, no_step, then_onward, rule_given}
 
 -- 1. what is kept
 -- where a site is a field, a constraint of its owner gives it

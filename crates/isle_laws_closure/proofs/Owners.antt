@@ -1,9 +1,9 @@
 -- The site whose field a site is.
-use Rattle.std.proofs.Common.{◌≡◌, ℕ, [], ◌∷◌, Option, Some, None, refl, sym, subst, ◌∙◌}
-use Rattle.isle_model.specs.sites.Sites.{Constraint, is_variant, is_struct, is_bool, is_int, is_prim, is_present, SiteTerm, bool_term, int_term, prim_term, argument, extractor_call, constructor_call, pick_of, variant_made, variant_field, struct_made, struct_field, some_made, some_part, tuple_part, no_site}
+use Rattle.std.proofs.Common.{◌≡◌, [], ◌∷◌, Option, Some, None, refl, sym, ◌∙◌}
+use Rattle.isle_model.specs.sites.Sites.{Constraint, SiteTerm, bool_term, int_term, prim_term, argument, extractor_call, constructor_call, pick_of, variant_made, variant_field, struct_made, struct_field, some_made, some_part, tuple_part, no_site}
 use Rattle.isle_model.specs.sites.Closure.{field_terms, with_owners}
 use Rattle.isle_model.proofs.Elements.{In, none_some}
-use Rattle.isle_laws_closure.proofs.ClosingGates.{in_fields}
+use Rattle.isle_laws_visits.proofs.WithSites.{by_field}
 
 -- the site whose field a site is
 abbrev pub owner_of : SiteTerm → Option SiteTerm
@@ -29,15 +29,6 @@ by_owners P alone field (some_made a) = alone (some_made a) refl refl
 by_owners P alone field (some_part a) = alone (some_part a) refl refl
 by_owners P alone field (tuple_part a f) = alone (tuple_part a f) refl refl
 by_owners P alone field no_site = alone no_site refl refl
-
--- what holds of all fields of a site holds of those that a constraint gives it
-pub by_field : (P : SiteTerm → Type 0) (a : SiteTerm) → ((variant i : ℕ) → P (variant_field a variant i)) → ((i : ℕ) → P (struct_field a i)) → (c : Constraint) (x : SiteTerm) → In (field_terms c a) x → P x
-by_field P a f g (is_variant ty variant n) x i = let k = in_fields (variant_field a variant) 0 n x i in subst P k.2 (f variant k.0)
-by_field P a f g (is_struct ty n) x i = let k = in_fields (struct_field a) 0 n x i in subst P k.2 (g k.0)
-by_field P a f g (is_bool v ty) x i = absurd i
-by_field P a f g (is_int z ty) x i = absurd i
-by_field P a f g (is_prim name) x i = absurd i
-by_field P a f g is_present x i = absurd i
 
 pub owner_of_field : (c : Constraint) (a x : SiteTerm) → In (field_terms c a) x → owner_of x ≡ Some a
 owner_of_field c a = by_field (λ x. owner_of x ≡ Some a) a (λ variant i. refl) (λ i. refl) c

@@ -1,5 +1,5 @@
 -- The contents of sites under a pick, by the answers that a meaning gives: values of types, and the outputs of calls.
-use Rattle.std.proofs.Common.{◌≡◌, ◌⊎◌, ℕ, ℤ, suc, ◌+◌, Bool, true, false, List, [], ◌∷◌, Option, Some, None, slice_get, refl, sym, ap, subst, inl, inr, ◌∙◌, arith, length}
+use Rattle.std.proofs.Common.{◌≡◌, ◌⊎◌, ℕ, ℤ, suc, ◌+◌, Bool, true, false, List, [], ◌∷◌, Option, Some, None, slice_get, refl, sym, ap, subst, inl, inr, ◌∙◌, arith}
 use Rattle.std.proofs.lemmas.Bool.{and_parts, false≢true}
 use Rattle.std.specs.List.{list_all}
 use Rattle.isle_model.specs.rules.Values.{Value, Values, no_value, value_and, listed, well_typed, all_well_typed}
@@ -10,8 +10,9 @@ use Rattle.isle_model.specs.rules.Typed.{TypedPatterns, no_typed_pattern, typed_
 use Rattle.isle_model.specs.rules.Picks.{Pick, place_of, picked, site_content, site_values}
 use Rattle.isle_model.specs.trees.Run.{as_value, from_value, part_at}
 use Rattle.isle_model.specs.sites.Sites.{SiteTerm, bool_term, int_term, prim_term, extractor_call, constructor_call, pick_of, tuple_part, SiteTerms}
-use Rattle.isle_model.specs.visits.Demands.{Demands, from_to, output_sites, pattern_count}
+use Rattle.isle_model.specs.visits.Demands.{Demands, from_to, output_sites}
 use Rattle.isle_model.specs.sites.Serves.{constant_type, fits_one, fits_answer, fits_extractor, fits_constructor}
+use Rattle.isle_laws_visits.proofs.PatternParts.{AsMany}
 use Rattle.isle_model.proofs.Elements.{In, in_slice, all_in, some_is, none_some}
 
 -- a program, a meaning, arguments and a pick
@@ -40,18 +41,6 @@ abbrev pub AreHere : Given → List SiteTerm → List ℕ → Values → Type 0
 AreHere g [] [] no_value = Unit {0}
 AreHere g (s ∷ ss) (ty ∷ tys) (value_and v vs) = Here g s ty v × AreHere g ss tys vs
 AreHere g _ _ _ = ⊥
-
--- as many patterns as types
-abbrev pub AsMany : TypedPatterns → List ℕ → Type 0
-AsMany no_typed_pattern [] = Unit {0}
-AsMany (typed_pattern_and q qs) (ty ∷ tys) = AsMany qs tys
-AsMany _ _ = ⊥
-
-pub as_many_types : (qs : TypedPatterns) (tys : List ℕ) → AsMany qs tys → length tys ≡ pattern_count qs
-as_many_types no_typed_pattern [] h = refl
-as_many_types no_typed_pattern (ty ∷ tys) h = absurd h
-as_many_types (typed_pattern_and q qs) [] h = absurd h
-as_many_types (typed_pattern_and q qs) (ty ∷ tys) h = ap suc (as_many_types qs tys h)
 
 -- there is a value, of this type
 pub record IsValueOf (g : Given) (ty : ℕ) (o : Option Value) : Type 0 where

@@ -13,8 +13,8 @@ use Rattle.isle_model.specs.lists.Formed.{var_type}
 use Rattle.isle_model.proofs.Elements.{In, in_right, in_either, some_is, none_some}
 use Rattle.isle_model.proofs.SameSites.{term_means}
 use Rattle.isle_model.proofs.ValuesEqual.{eq_means, eq_same}
-use Rattle.isle_model.proofs.Options.{is_there}
 use Rattle.isle_laws_visits.proofs.Visited.{equating_binds}
+use Rattle.isle_laws_visits.proofs.PatternParts.{outside}
 use Rattle.isle_laws_visits.proofs.Patterns.{from_then}
 use Rattle.isle_laws_matching.proofs.Contents.{Given, content_of, Here, is_value}
 use Rattle.isle_laws_visits.proofs.Grown.{Grown, equated}
@@ -164,14 +164,6 @@ pub record After (g : Given) (more : List (ℕ × ℕ)) (e : SitedVars) (v w : V
 
 past_of : (g : Given) (more : List (ℕ × ℕ)) (e : SitedVars) (v w : Visit) (o : Option SitedVars) → After g more e v w o → Past g more e v w o
 past_of g more e v w o a = record { met = a.met; found = a.found; agree = a.agree }
-
--- what isn't among more isn't among less
-pub outside : (vars more : List (ℕ × ℕ)) → AreWithin vars more → (y : ℕ) → is_some (var_type more y) ≡ false → is_some (var_type vars y) ≡ false
-outside vars more f y n =
-    elim (cases_Bool (is_some (var_type vars y))) [
-      | inl t ↦ let a = is_there (var_type vars y) t in absurd (false≢true (sym n ∙ ap is_some (f y a.0 a.1)))
-      | inr k ↦ k
-    ]
 
 pub then_after : (g : Given) (mid more : List (ℕ × ℕ)) (e : SitedVars) (u v w : Visit) (o : Option SitedVars) (f : SitedVars → Option SitedVars)
     → After g mid e u v o → Grown v w → AreWithin mid more → ((e' : SitedVars) → o ≡ Some e' → After g more e' v w (f e')) → After g more e u w (then_option o f)

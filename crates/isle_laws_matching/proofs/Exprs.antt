@@ -19,7 +19,7 @@ use Rattle.isle_model.specs.lists.Formed.{var_type, is_formed_expr, are_formed_a
 use Rattle.isle_model.proofs.Elements.{In, in_left, in_right, some_is, none_some}
 use Rattle.isle_model.proofs.Options.{is_there}
 use Rattle.isle_laws_visits.proofs.Visited.{Same}
-use Rattle.isle_laws_visits.proofs.Patterns.{from_then, term_known}
+use Rattle.isle_laws_visits.proofs.Patterns.{its_kind, from_then, term_known}
 use Rattle.isle_laws_matching.proofs.Contents.{Given, content_of, value_of, values_of, IsValueOf, Fits, IsAnswered, one_fits, maybe_fits, picked_fits}
 use Rattle.isle_laws_visits.proofs.Grown.{Grown, then_grown, grown_binding, expr_adds, exprs_add, lets_add, term_adds}
 use Rattle.isle_laws_visits.proofs.SameExprs.{from_let, from_term, from_args, from_body, expr_keeps, term_site, pure_site, expr_alike, exprs_alike}
@@ -206,10 +206,7 @@ module _ (g : Given) (z : Visit) (h : IsAnswered g z.demands) (well : IsWellType
     term_valued y a own o l v =
         subst (λ w. IsValued g (term_site (kind p t) t w) (then_option o (λ vs. term_under (kind p t) g.meaning g.pick t w vs)) x.ret_ty (visit_term (kind p t) t a).site) (sym v.sites)
         (subst (IsValued g (term_site (kind p t) t a.sites) (then_option o (λ vs. term_under (kind p t) g.meaning g.pick t a.sites vs)) x.ret_ty) (sym (pure_site (kind p t) t a y))
-        (same_valued (kind p t) refl kind_same y a o l (record { sites = refl; values = v.values; typed = v.typed; reached = v.reached })))
-      where
-        kind_same : kind_of x ≡ kind p t
-        kind_same = sym (ap (λ o. elim o as (λ _. Kind) [ None ↦ unknown | Some e ↦ kind_of e ]) there)
+        (same_valued (kind p t) refl (its_kind p t x there) y a o l (record { sites = refl; values = v.values; typed = v.typed; reached = v.reached })))
 
   abbrev own_expr : TypedExpr → SitedVars → SiteTerm
   own_expr x e = expr_site p x e 0

@@ -1,5 +1,5 @@
 -- A pattern holds of a site's value exactly where what its visit asks is met.
-use Rattle.std.proofs.Common.{if◌then◌else◌, ◌≡◌, ℕ, ◌+◌, ◌==◌, Bool, true, false, ◌&&◌, cond, List, [], ◌∷◌, Option, Some, None, is_some, slice_get, refl, sym, ap, subst, ◌∙◌, inl, inr, eq-eqb, eqb-true, arith}
+use Rattle.std.proofs.Common.{◌≡◌, ℕ, ◌+◌, ◌==◌, Bool, true, false, ◌&&◌, cond, List, [], ◌∷◌, Option, Some, None, is_some, slice_get, refl, sym, ap, subst, ◌∙◌, inl, inr, eq-eqb, eqb-true, arith}
 use Rattle.std.proofs.lemmas.Bool.{and_parts, cases_Bool, cond-true, cond-false, false≢true}
 use Rattle.isle_model.specs.lists.Tables.{Flags, TermEntry}
 use Rattle.isle_model.specs.lists.Ranges.{is_literal_of}
@@ -14,87 +14,21 @@ use Rattle.isle_model.specs.trees.Run.{from_value, content_fields, all_one}
 use Rattle.isle_model.specs.sites.Sites.{Constraint, is_variant, is_struct, is_bool, is_int, is_prim, is_present, SiteTerm, extractor_call, pick_of, variant_field, struct_field, some_part}
 use Rattle.isle_model.specs.visits.Demands.{Visit, visit_start, making, asking, iterating, binding, from_to, pattern_count, Opened, opened, output_sites, open_call, open_term, visit_pattern, visit_each, visit_all, outputs_opened, fields_matched, counting}
 use Rattle.isle_model.specs.sites.Serves.{constant_type, term_args, fits_one, fits_answer, fits_extractor}
-use Rattle.isle_model.specs.lists.Setting.{bool_type, has_extractor}
-use Rattle.isle_model.specs.lists.Formed.{pattern_type, var_type, is_type, with_new, formed_pattern, formed_parts, formed_each}
+use Rattle.isle_model.specs.lists.Setting.{bool_type}
+use Rattle.isle_model.specs.lists.Formed.{pattern_type, var_type, is_type, formed_pattern, formed_parts, formed_each}
 use Rattle.isle_model.proofs.Elements.{In, in_right, some_is, none_some}
 use Rattle.isle_model.proofs.Options.{is_there, some_then}
-use Rattle.isle_laws_visits.proofs.Patterns.{from_then, from_new, term_known}
-use Rattle.isle_laws_matching.proofs.Contents.{Given, content_of, Here, AreHere, AsMany, IsAnswered, has_value, maybe_fits, picked_fits, fits_answered, fields_here, PutOut, put_out}
-use Rattle.isle_laws_matching.proofs.Demanded.{one_not_just, AreMet, AskEnough, same_content, here_typed, met_asking, asked_now, IsBound, AreBound, bound_kept, After, outside, then_after, unbound, constant_after, var_after}
+use Rattle.isle_laws_visits.proofs.PatternParts.{AsMany, from_term, from_part, from_bind, pattern_within, parts_within, each_within, as_many, outside}
+use Rattle.isle_laws_visits.proofs.Patterns.{its_kind, from_then, term_known}
+use Rattle.isle_laws_matching.proofs.Contents.{Given, content_of, Here, AreHere, IsAnswered, has_value, maybe_fits, picked_fits, fits_answered, fields_here, PutOut, put_out}
+use Rattle.isle_laws_matching.proofs.Demanded.{one_not_just, AreMet, AskEnough, same_content, here_typed, met_asking, asked_now, IsBound, AreBound, bound_kept, After, then_after, unbound, constant_after, var_after}
 use Rattle.isle_laws_visits.proofs.Grown.{Grown, then_grown, grown_asking, grown_iterating, each_grown, all_grown, outputs_grown, now}
-use Rattle.isle_laws_visits.proofs.SameExprs.{AreWithin, within_new}
 use Rattle.isle_laws_typing.specs.WellTypedPrograms.{HasTypedParts}
 use Rattle.isle_laws_typing.proofs.WellTypedPrograms.{variant_takes, struct_takes}
 use Rattle.isle_laws_matching.proofs.Variables.{here_valued, var_bound, not_among}
 use Rattle.isle_laws_typing.proofs.FormedParts.{from_if, type_is}
 
--- 1. what patterns are that hang together
--- a term's pattern
-pub record PatternParts (p : Program) (ty t : ℕ) (args : TypedPatterns) (vars more : List (ℕ × ℕ)) : Type 0 where
-  pub entry : TermEntry
-  pub there : slice_get p.terms t ≡ Some entry
-  pub ret : entry.ret_ty ≡ ty
-  pub formed : formed_parts p args entry.arg_tys vars ≡ Some more
-
-pub from_term : (p : Program) (ty t : ℕ) (args : TypedPatterns) (vars more : List (ℕ × ℕ)) → formed_pattern p (match_term ty t args) vars ≡ Some more → PatternParts p ty t args vars more
-from_term p ty t args vars more f =
-    let a = from_then (slice_get p.terms t) (λ (e : TermEntry). if (e.ret_ty == ty) && has_extractor e.kind then formed_parts p args e.arg_tys vars else None) more f in
-    let b = from_if ((a.0.ret_ty == ty) && has_extractor a.0.kind) (formed_parts p args a.0.arg_tys vars) more a.2 in
-    record { entry = a.0; there = a.1; ret = eqb-true a.0.ret_ty ty (and_parts (a.0.ret_ty == ty) (has_extractor a.0.kind) b.0).0; formed = b.1 }
-
--- a pattern with more after it
-pub from_part : (p : Program) (q : TypedPattern) (ty : ℕ) (vars more : List (ℕ × ℕ)) (rest : List (ℕ × ℕ) → Option (List (ℕ × ℕ)))
-    → (if pattern_type q == ty then then_option (formed_pattern p q vars) rest else None) ≡ Some more
-    → (mid : List (ℕ × ℕ)) × (pattern_type q ≡ ty) × (formed_pattern p q vars ≡ Some mid) × (rest mid ≡ Some more)
-from_part p q ty vars more rest f =
-    let a = from_if (pattern_type q == ty) (then_option (formed_pattern p q vars) rest) more f in
-    let b = from_then (formed_pattern p q vars) rest more a.1 in
-    (b.0, eqb-true (pattern_type q) ty a.0, b.1, b.2)
-
--- a binding
-pub from_bind : (p : Program) (ty x : ℕ) (sub : TypedPattern) (vars more : List (ℕ × ℕ)) → formed_pattern p (match_bind ty x sub) vars ≡ Some more
-    → (mid : List (ℕ × ℕ)) × (pattern_type sub ≡ ty) × (formed_pattern p sub vars ≡ Some mid) × (is_some (var_type mid x) ≡ false) × ((x, ty) ∷ mid ≡ more)
-from_bind p ty x sub vars more f =
-    let a = from_if (pattern_type sub == ty) (then_option (formed_pattern p sub vars) (with_new x ty)) more f in
-    let b = from_then (formed_pattern p sub vars) (with_new x ty) more a.1 in
-    let n = from_new x ty b.0 more b.2 in
-    (b.0, eqb-true (pattern_type sub) ty a.0, b.1, n.0, n.1)
-
-within_same : (vars more : List (ℕ × ℕ)) → vars ≡ more → AreWithin vars more
-within_same vars more e y t h = subst (λ vs. var_type vs y ≡ Some t) e h
-
-mutual
-  pub pattern_within : (p : Program) (q : TypedPattern) (vars more : List (ℕ × ℕ)) → formed_pattern p q vars ≡ Some more → AreWithin vars more
-  pattern_within p (match_bind ty x sub) vars more f y t h =
-      let a = from_bind p ty x sub vars more f in
-      subst (λ vs. var_type vs y ≡ Some t) a.4 (within_new x ty a.0 a.3 y t (pattern_within p sub vars a.0 a.2 y t h))
-  pattern_within p (match_var ty x) vars more f y t h = within_same vars more (some_is vars more (from_if (is_type (var_type vars x) ty) (Some vars) more f).1) y t h
-  pattern_within p (match_bool ty b) vars more f y t h = within_same vars more (some_is vars more (from_if (ty == bool_type) (Some vars) more f).1) y t h
-  pattern_within p (match_int ty z) vars more f y t h = within_same vars more (some_is vars more (from_if (is_literal_of (slice_get p.types ty) z) (Some vars) more f).1) y t h
-  pattern_within p (match_prim ty name) vars more f y t h = within_same vars more (some_is vars more (from_if (is_type (constant_type p name) ty) (Some vars) more f).1) y t h
-  pattern_within p (match_term ty n args) vars more f y t h = let a = from_term p ty n args vars more f in parts_within p args a.entry.arg_tys vars more a.formed y t h
-  pattern_within p (match_any ty) vars more f y t h = within_same vars more (some_is vars more f) y t h
-  pattern_within p (match_and ty subs) vars more f y t h = each_within p subs ty vars more f y t h
-
-  pub parts_within : (p : Program) (qs : TypedPatterns) (tys : List ℕ) (vars more : List (ℕ × ℕ)) → formed_parts p qs tys vars ≡ Some more → AreWithin vars more
-  parts_within p no_typed_pattern [] vars more f y t h = within_same vars more (some_is vars more f) y t h
-  parts_within p no_typed_pattern (ty ∷ tys) vars more f y t h = absurd (none_some more f)
-  parts_within p (typed_pattern_and q qs) [] vars more f y t h = absurd (none_some more f)
-  parts_within p (typed_pattern_and q qs) (ty ∷ tys) vars more f y t h =
-      let a = from_part p q ty vars more (λ mid. formed_parts p qs tys mid) f in parts_within p qs tys a.0 more a.3 y t (pattern_within p q vars a.0 a.2 y t h)
-
-  pub each_within : (p : Program) (qs : TypedPatterns) (ty : ℕ) (vars more : List (ℕ × ℕ)) → formed_each p qs ty vars ≡ Some more → AreWithin vars more
-  each_within p no_typed_pattern ty vars more f y t h = within_same vars more (some_is vars more f) y t h
-  each_within p (typed_pattern_and q qs) ty vars more f y t h =
-      let a = from_part p q ty vars more (λ mid. formed_each p qs ty mid) f in each_within p qs ty a.0 more a.3 y t (pattern_within p q vars a.0 a.2 y t h)
-
-pub as_many : (p : Program) (qs : TypedPatterns) (tys : List ℕ) (vars more : List (ℕ × ℕ)) → formed_parts p qs tys vars ≡ Some more → AsMany qs tys
-as_many p no_typed_pattern [] vars more f = tt
-as_many p no_typed_pattern (ty ∷ tys) vars more f = absurd (none_some more f)
-as_many p (typed_pattern_and q qs) [] vars more f = absurd (none_some more f)
-as_many p (typed_pattern_and q qs) (ty ∷ tys) vars more f = let a = from_part p q ty vars more (λ mid. formed_parts p qs tys mid) f in as_many p qs tys a.0 more a.3
-
--- 2. a term's pattern, opened
+-- a term's pattern, opened
 -- the parts are seen exactly where what opening asks is met, each at its site
 record Opens (g : Given) (v : Visit) (o : Opened) (tys : List ℕ) (seen : Option Values) : Type 0 where
   binds : o.visit.vars ≡ v.vars
@@ -417,7 +351,7 @@ module _ (g : Given) (z : Visit) (h : IsAnswered g z.demands) (parts : HasTypedP
         let w = visit_each p args o.inputs o.visit in
         let k = each_grown p args o.inputs o.visit in
         let u = term_opens (record { term = t; entry = a.entry; there = a.there; site = s; value = x; ty = ty; here = here; args = args; many = as_many p args a.entry.arg_tys vars more a.formed }) v (kind p t) refl
-        (sym (ap (λ o. elim o as (λ _. Kind) [ None ↦ unknown | Some i ↦ kind_of i ]) a.there)) a.ret (then_grown o.visit w z k l) in
+        (its_kind p t a.entry a.there) a.ret (then_grown o.visit w z k l) in
         subst (λ ins. After g more e v w (then_option (parts_under (kind p t) g.meaning g.pick t s x) (λ vs. each_holds_under p g.meaning g.pick args ins vs e))) (same_inputs (kind p t) t s args v)
         (opened_after more e v w o a.entry.arg_tys (parts_under (kind p t) g.meaning g.pick t s x) (λ vs. each_holds_under p g.meaning g.pick args o.inputs vs e) u k
         (λ ws i. each_after args o.inputs a.entry.arg_tys o.visit vars more e ws a.formed (u.inputs ws i) (subst (AreBound g vars e) (sym u.binds) b) l))

@@ -21,7 +21,8 @@ use Rattle.isle_laws_matching.proofs.Contents.{Given, content_of, value_of, valu
 use Rattle.isle_laws_matching.proofs.Demanded.{AreMet, AskEnough, enough_before, met_all, meets_present, AreBound, bound_vars, Past, then_past, After}
 use Rattle.isle_laws_matching.proofs.Exprs.{expr_valued}
 use Rattle.isle_laws_visits.proofs.Grown.{Grown, then_grown, grown_all, expr_adds, pattern_grown, iflets_grown, args_grown, rule_adds}
-use Rattle.isle_laws_matching.proofs.Patterns.{from_part, pattern_after}
+use Rattle.isle_laws_visits.proofs.PatternParts.{from_part}
+use Rattle.isle_laws_matching.proofs.Patterns.{pattern_after}
 use Rattle.isle_laws_visits.proofs.SameExprs.{expr_keeps}
 use Rattle.isle_laws_typing.specs.WellTypedPrograms.{IsWellTypedProgram}
 use Rattle.isle_laws_matching.proofs.Variables.{named, IsPresent, AllPresent, var_moved}

@@ -1,5 +1,5 @@
 -- Total meanings: what the called terms mean as functions, and that each that is well typed restricts to finite maps that serve.
-use Rattle.std.specs.Prelude.{◌≡◌, ◌||◌, [], ◌∷◌, ◌++◌, ℕ, ℤ, Bool, true, false, List, Option, Some, None, is_some, slice_get, Contains, IsTrue}
+use Rattle.std.specs.Prelude.{◌≡◌, ◌||◌, [], ℕ, ℤ, Bool, true, false, List, Option, Some, None, is_some, slice_get, Contains, IsTrue}
 use Rattle.std.specs.List.{flat_map}
 use Rattle.isle_model.specs.lists.Tables.{TermEntry, TermKindEntry, declared_term}
 use Rattle.isle_model.specs.rules.Values.{Value, truth, atom, Values, is_truth_type, is_atom_type, well_typed, all_well_typed, args_well_typed}
@@ -7,7 +7,7 @@ use Rattle.isle_model.specs.rules.Meaning.{Content, Literal, bool_literal, int_l
 use Rattle.isle_model.specs.rules.Program.{Program, kind, is_pure, arg_types, rules_of}
 use Rattle.isle_model.specs.rules.Choice.{choice, MatchesOnce}
 use Rattle.isle_model.specs.rules.Outcome.{Outcome}
-use Rattle.isle_model.specs.rules.Typed.{TypedPattern, match_bind, match_term, match_and, TypedPatterns, no_typed_pattern, typed_pattern_and, TypedExpr, make_term, make_let, TypedExprs, no_typed_expr, typed_expr_and, TypedLets, no_typed_let, typed_let_and, TypedRule}
+use Rattle.isle_model.specs.rules.Typed.{TypedRule}
 use Rattle.isle_model.specs.sites.Sites.{Site, SiteTerm, bool_term, int_term, prim_term, is_prim}
 use Rattle.isle_model.specs.visits.Demands.{demands_of}
 use Rattle.isle_model.specs.sites.Serves.{fits_extractor, fits_constructor, constant_type, written_type, is_type_with_parts, tested_constants, is_own_type, is_open_constant, Serves, TellsConstantsApart}
@@ -15,6 +15,7 @@ use Rattle.isle_model.specs.trees.Run.{run, world_of}
 use Rattle.isle_model.specs.trees.Trees.{Tree}
 use Rattle.isle_model.specs.claims.SetMeanings.{WhereServed}
 use Rattle.isle_laws_typing.specs.WellTypedPrograms.{IsWellTypedProgram}
+use Rattle.isle_laws_visits.specs.RuleTerms.{matched_in, called_in}
 
 -- what is called means, as total functions: the value of each literal and of each named constant, and what is answered to
 -- each call of an extractor, by its argument, of a pure constructor, by its arguments, and of an impure one, by the number
@@ -26,40 +27,7 @@ pub record TotalMeaning : Type 0 where
   pub pures : ℕ → Values → Content
   pub impures : ℕ → ℕ → Content
 
--- the terms of patterns
-abbrev mutual
-  pub pattern_terms : TypedPattern → List ℕ
-  pattern_terms (match_bind ty x sub) = pattern_terms sub
-  pattern_terms (match_term ty t args) = t ∷ patterns_terms args
-  pattern_terms (match_and ty subs) = patterns_terms subs
-  pattern_terms _ = []
-
-  pub patterns_terms : TypedPatterns → List ℕ
-  patterns_terms no_typed_pattern = []
-  patterns_terms (typed_pattern_and q qs) = pattern_terms q ++ patterns_terms qs
-
--- the terms of expressions
-abbrev mutual
-  pub expr_terms : TypedExpr → List ℕ
-  expr_terms (make_term ty t args) = t ∷ exprs_terms args
-  expr_terms (make_let ty defs body) = lets_terms defs ++ expr_terms body
-  expr_terms _ = []
-
-  pub exprs_terms : TypedExprs → List ℕ
-  exprs_terms no_typed_expr = []
-  exprs_terms (typed_expr_and x xs) = expr_terms x ++ exprs_terms xs
-
-  pub lets_terms : TypedLets → List ℕ
-  lets_terms no_typed_let = []
-  lets_terms (typed_let_and x ty value rest) = expr_terms value ++ lets_terms rest
-
--- those of the patterns of rules, whose extractors they call, and those of their expressions, whose constructors they call
-abbrev pub matched_in : TypedRule → List ℕ
-matched_in r = flat_map pattern_terms r.args ++ flat_map (λ i. pattern_terms i.lhs) r.iflets
-
-abbrev pub called_in : TypedRule → List ℕ
-called_in r = flat_map (λ i. expr_terms i.rhs) r.iflets ++ expr_terms r.rhs
-
+-- the terms that rules match, and those that they call
 abbrev pub matched_terms : List TypedRule → List ℕ
 matched_terms rs = flat_map matched_in rs
 

@@ -20,7 +20,7 @@ use Rattle.isle_laws_typing.proofs.WellTypedRules.{elaborated_programs_are_well_
 use Rattle.isle_laws_visits.proofs.Patterns.{AsMany, term_known, as_many, output_count}
 use Rattle.isle_laws_visits.proofs.RuleParts.{iflet_parts, rule_parts}
 use Rattle.isle_laws_visits.proofs.Grown.{equated, Grown, each_grown, all_grown, args_grown, iflets_grown, expr_adds, rule_adds}
-use Rattle.isle_laws_matching.proofs.Patterns.{from_term, from_part, from_bind}
+use Rattle.isle_laws_visits.proofs.PatternParts.{from_term, from_part, from_bind}
 use Rattle.isle_laws_closure.proofs.built.BuiltSets.{typed_rule}
 use Rattle.isle_laws_typing.specs.WellTypedPrograms.{IsWellTypedProgram}
 use Rattle.isle_laws_meaning.specs.PatternConstants.{PatternConstant, a_literal, a_name, pattern_constants, patterns_constants, rule_constants, rules_constants, type_of_constant, means_itself, AreToldApart, value_in, value_by, TellsPatternsApart, KeepsPatternsApart, LiteralsAreToldApart, ConstantsAreOfPatterns, FunctionsConstantsAreOfPatterns, HeadlineIsOfPatterns}

@@ -6,7 +6,7 @@ use Rattle.isle_model.specs.lists.Tables.{Flags}
 use Rattle.isle_model.specs.rules.Program.{Program, Kind, a_variant, a_struct, a_call, unknown, kind, flags_of, rules_of}
 use Rattle.isle_model.specs.rules.Typed.{TypedPatterns, TypedRule}
 use Rattle.isle_model.specs.sites.Sites.{Site, bool_site, int_site, prim_site, argument_site, extractor_site, constructor_site, iterator_site, make_variant_site, match_variant_site, make_struct_site, extract_struct_site, make_some_site, match_some_site, match_tuple_site, is_present, SetRule, SiteSet, sources_of, SiteTerm, extractor_call, constructor_call, pick_of, variant_made, struct_made, some_part, SiteTerms, layer_at, unfold_site}
-use Rattle.isle_model.specs.visits.Demands.{pattern_count, outputs_taken, counting, demands_of, Visit, making, asking, iterating, calling, equating, site_term_eq, has_site, with_sites, opened, part_sites, open_call, open_term, ValuedAll, valued, call_sites, call_result, where_multi, visit_call, visit_term, visit_rule, outputs_opened}
+use Rattle.isle_model.specs.visits.Demands.{pattern_count, outputs_taken, counting, demands_of, Visit, making, asking, iterating, calling, equating, site_term_eq, has_site, with_sites, part_sites, open_call, open_term, ValuedAll, valued, call_sites, call_result, where_multi, visit_call, visit_term, visit_rule, outputs_opened}
 use Rattle.isle_model.specs.sites.DemandedGates.{HasNoPartialMulti}
 use Rattle.isle_model.specs.sites.Closure.{Closed, closed, before_closing, most_closing_steps, ascending, class_at, field_terms}
 use Rattle.isle_model.specs.sites.Limits.{RuleLimit, most_sites, passed_in_visit, sites_after_rule, sites_after_rules, sites_reached, sites_until}

@@ -1,9 +1,10 @@
 -- The calls that a visit goes over after an earlier one.
-use Rattle.std.proofs.Common.{Bool, [], ◌∷◌, ◌⊎◌, subst, inl, inr}
+use Rattle.std.proofs.Common.{Bool, [], ◌∷◌, ◌⊎◌, sym, subst, inl, inr}
+use Rattle.std.proofs.lemmas.Bool.{cases_Bool, cond-true, cond-false}
 use Rattle.isle_model.specs.sites.Sites.{SiteTerm}
-use Rattle.isle_model.specs.visits.Demands.{Visit, iterating}
+use Rattle.isle_model.specs.visits.Demands.{site_term_eq, Visit, equating, iterating}
 use Rattle.isle_model.proofs.Elements.{In, in_either}
-use Rattle.isle_laws_visits.proofs.Visited.{Good, Later, good_stays}
+use Rattle.isle_laws_visits.proofs.Visited.{Good, Later, good_stays, equated}
 
 -- the gates of the calls that a later visit goes over are demanded by it, but for those of the earlier one
 abbrev pub NewCalls : Bool → Bool → Visit → Visit → Type 0
@@ -24,4 +25,11 @@ one_call asked pure s v h u i =
     elim (in_either v.demands.iterators (s ∷ []) u i) [
       | inl j ↦ inl j
       | inr j ↦ elim j [ inl e ↦ inr (subst (Good asked pure (iterating s v)) e h) | inr n ↦ absurd n ]
+    ]
+
+pub equating_calls : (asked pure : Bool) (a b : SiteTerm) (v : Visit) → NewCalls asked pure v (equating a b v)
+equating_calls asked pure a b v =
+    elim (cases_Bool (site_term_eq a b)) [
+      | inl t ↦ subst (NewCalls asked pure v) (sym (cond-true (site_term_eq a b) v (equated a b v) t)) (no_call asked pure v)
+      | inr f ↦ subst (NewCalls asked pure v) (sym (cond-false (site_term_eq a b) v (equated a b v) f)) (λ u i. inl i)
     ]

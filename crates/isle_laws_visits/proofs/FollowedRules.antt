@@ -6,7 +6,7 @@ use Rattle.isle_model.specs.rules.Outcome.{then_option}
 use Rattle.isle_model.specs.rules.Program.{Program}
 use Rattle.isle_model.specs.rules.Typed.{TypedPattern, TypedExpr, TypedIfLet}
 use Rattle.isle_model.specs.sites.Sites.{SiteTerm, argument}
-use Rattle.isle_model.specs.visits.Demands.{argument_taken, Visit, visit_start, counting, taking_argument, asking_all, unwraps, visit_pattern, visit_expr, visit_args, visit_iflets, value_of_rule}
+use Rattle.isle_model.specs.visits.Demands.{Visit, visit_start, taking_argument, asking_all, unwraps, visit_pattern, visit_expr, visit_args, visit_iflets, value_of_rule}
 use Rattle.isle_model.specs.visits.Runs.{BoundIds, and_then}
 use Rattle.isle_model.specs.visits.Visitors.{PatternSteps, ExprSteps, RuleSteps}
 use Rattle.isle_model.specs.visits.PatternRuns.{PatternRun}
@@ -22,7 +22,8 @@ use Rattle.isle_laws_visits.proofs.RuleParts.{rule_parts, iflet_parts}
 use Rattle.isle_laws_visits.proofs.Visited.{asked_binds}
 use Rattle.isle_laws_typing.proofs.FormedParts.{from_if}
 use Rattle.isle_laws_visits.specs.Followers.{Follower, Goes, Gives, FollowsSites, VisitsFollow}
-use Rattle.isle_laws_visits.proofs.AskedNothingElse.{IsQuiet, IsPlain, start_quiet, after_counting, after_making, after_asking_all, pattern_quiet, expr_quiet, argument_plain, asks_nothing_else}
+use Rattle.isle_laws_visits.proofs.AskedNothingElse.{IsQuiet, IsPlain, quiet_kept, asks_nothing_else}
+use Rattle.isle_laws_visits.proofs.WithSites.{IsAt, answers_past, argument_given, expr_given, pattern_past}
 use Rattle.isle_laws_visits.proofs.FittingPatterns.{formed_fits}
 use Rattle.isle_laws_visits.proofs.FollowedExprs.{expr_follows, gives_further}
 use Rattle.isle_laws_visits.proofs.FollowedPatterns.{pattern_follows}
@@ -36,7 +37,7 @@ module _ {F S N : Type 0} (o : Follower F S N) (want : Option F) (p : Program) w
     goes : Goes o s t w
     knows : KnowsVars o t vs w
     scope : InScope vs more
-    quiet : IsQuiet p w
+    quiet : IsAt (IsQuiet p) (IsPlain p) w
 
   -- or it ends on the way
   abbrev ArrivesOr : S → Result (BoundIds N) F → S → Visit → List (ℕ × ℕ) → Type 0
@@ -49,15 +50,15 @@ module _ {F S N : Type 0} (o : Follower F S N) (want : Option F) (p : Program) w
   module _ (rules : RuleSteps F S S S N N N) (patterns : PatternSteps F S N) (exprs : ExprSteps F S N) (f : FollowsSites o want rules patterns exprs) where
     -- 2. a pattern, and an expression
     pattern_lent : (q : TypedPattern) (u : SiteTerm) (n : N) (vs : BoundIds N) (vars more : List (ℕ × ℕ)) (s : S) (r : Result (BoundIds N) F) (t : S) (w : Visit) → formed_pattern p q vars ≡ Some more
-        → lent_binding (PatternRun want patterns p.terms q n) vs s r t → Arrives s s w vars vs → o.Names s u n → IsPlain p u → ArrivesOr s r t (visit_pattern p q u w) more
+        → lent_binding (PatternRun want patterns p.terms q n) vs s r t → Arrives s s w vars vs → o.Names s u n → IsPlain p w.demands u → ArrivesOr s r t (visit_pattern p q u w) more
     pattern_lent q u n vs vars more s (Ok ws) t w formed run h named plain =
         let a = pattern_follows o want f.ends patterns f.in_patterns p q n (s, vs) (Ok tt) (t, ws) w u (formed_fits p q vars more formed) run h.goes.stands h.knows named in
-        record { goes = a.goes; knows = a.knows; scope = scope_after want patterns p q n (s, vs) (t, ws) vars more formed run h.scope; quiet = pattern_quiet p q u w h.quiet plain }
+        record { goes = a.goes; knows = a.knows; scope = scope_after want patterns p q n (s, vs) (t, ws) vars more formed run h.scope; quiet = (pattern_past p (IsQuiet p) (IsPlain p) (quiet_kept p) q u w h.quiet plain).at }
     pattern_lent q u n vs vars more s (Err e) t w formed run h named plain =
         pattern_follows o want f.ends patterns f.in_patterns p q n (s, vs) (Err e) (t, run.0) w u (formed_fits p q vars more formed) run.1 h.goes.stands h.knows named
 
     pattern_arrives : (q : TypedPattern) (u : SiteTerm) (n : N) (vs : BoundIds N) (vars more : List (ℕ × ℕ)) (s : S) (r : Result (BoundIds N) F) (t : S) (w : Visit) → formed_pattern p q vars ≡ Some more
-        → PatternCall want rules patterns exprs p.terms q n vs s r t → Arrives s s w vars vs → o.Names s u n → IsPlain p u → ArrivesOr s r t (visit_pattern p q u w) more
+        → PatternCall want rules patterns exprs p.terms q n vs s r t → Arrives s s w vars vs → o.Names s u n → IsPlain p w.demands u → ArrivesOr s r t (visit_pattern p q u w) more
     pattern_arrives q u n vs vars more s r t w formed run h named plain =
         pattern_lent q u n vs vars more s r t w formed (pattern_called o want rules f.in_rules patterns exprs p.terms vs s t r q n run) h named plain
 
@@ -77,8 +78,8 @@ module _ {F S N : Type 0} (o : Follower F S N) (want : Option F) (p : Program) w
     args_arrive (q ∷ qs) (ty ∷ tys) i vs vars more s r t w formed run h =
         let a = from_if (pattern_type q == ty) (then_option (formed_pattern p q vars) (λ mid. formed_list p qs tys mid)) more formed in
         let b = then_some (formed_pattern p q vars) (λ mid. formed_list p qs tys mid) more a.1 in
-        let c = argument_taken i in
         let u = taking_argument i w in
+        let still = argument_given p (IsQuiet p) (IsPlain p) (quiet_kept p) i w h.quiet in
         let mid = visit_pattern p q (argument i) u in
         let last = visit_args p (suc i) qs mid in
         by_and_then (λ x y z. rules.arg_steps x i ty y z) (λ input. and_then (PatternCall want rules patterns exprs p.terms q input vs) (λ ws. ArgsRun want rules patterns exprs p.terms qs tys (suc i) ws)) s r t (λ z. ArrivesOr s z t last more)
@@ -88,16 +89,16 @@ module _ {F S N : Type 0} (o : Follower F S N) (want : Option F) (p : Program) w
           goes = goes_nowhere o m u taken.0.stands;
           knows = knows_stay o s m vs w u (λ i. w.vars) taken.0 h.knows;
           scope = h.scope;
-          quiet = after_making p (argument i ∷ []) (counting c w) (after_counting p c w h.quiet);
+          quiet = still.past.at;
         } in
         by_and_then (PatternCall want rules patterns exprs p.terms q input vs) (λ ws. ArgsRun want rules patterns exprs p.terms qs tys (suc i) ws) m r t (λ z. ArrivesOr s z t last more)
         (λ ws k call others.
-        let first = pattern_arrives q (argument i) input vs vars b.0 m (Ok ws) k u b.1 call here taken.1 (argument_plain p i) in
+        let first = pattern_arrives q (argument i) input vs vars b.0 m (Ok ws) k u b.1 call here taken.1 still.site in
         arrives_further s k r t mid last more (goes_further o s m k u mid taken.0 first.goes)
         (args_arrive qs tys (suc i) ws b.0 more k r t mid b.2 others (record { goes = goes_nowhere o k mid first.goes.stands; knows = first.knows; scope = first.scope; quiet = first.quiet })))
         (λ e call.
         f.ends.further t mid last e (args_kept p (Continues mid) (tests_continue p mid) (values_continue p mid).made (suc i) qs mid (continues_now mid))
-        (pattern_arrives q (argument i) input vs vars b.0 m (Err e) t u b.1 call here taken.1 (argument_plain p i))) later)
+        (pattern_arrives q (argument i) input vs vars b.0 m (Err e) t u b.1 call here taken.1 still.site)) later)
         (λ e step.
         f.ends.further t u last e (args_kept p (Continues u) (tests_continue p u) (values_continue p u).made (suc i) qs mid (pattern_kept p (Continues u) (tests_continue p u) q (argument i) u (continues_now u)))
         (f.in_rules.argument_taken s w i ty (Err e) t h.goes.stands step)) run
@@ -110,7 +111,7 @@ module _ {F S N : Type 0} (o : Follower F S N) (want : Option F) (p : Program) w
     iflets_arrive (i ∷ is) vs vars more s r t w formed run h =
         let g = iflet_parts p i is vars more formed in
         let a = visit_expr p i.rhs w in
-        let still = expr_quiet p i.rhs w h.quiet in
+        let still = expr_given p (IsQuiet p) (IsPlain p) (quiet_kept p) i.rhs w h.quiet in
         let u = asking_all (unwraps a.site) a.visit in
         let mid = visit_pattern p i.lhs a.site u in
         let last = visit_iflets p is mid in
@@ -119,14 +120,14 @@ module _ {F S N : Type 0} (o : Follower F S N) (want : Option F) (p : Program) w
         (λ z. ArrivesOr s z t last more)
         (λ value m step later.
         let first = value_follows i.rhs vs vars s (Ok value) m w g.value step h in
-        let nothing = asks_nothing_else p a.visit a.site still.after still.site in
+        let nothing = asks_nothing_else p a.visit a.site still.past.at.holds still.site in
         by_and_then (λ x y z. rules.expr_as_pattern_steps x value y z) (λ input. and_then (PatternCall want rules patterns exprs p.terms i.lhs input vs) (λ ws. IfLetsRun want rules patterns exprs p.terms is ws)) m r t
         (λ z. ArrivesOr s z t last more)
         (λ input k asked others.
         let second = f.in_rules.value_matched m a.visit a.site value (Ok input) k first.0.stands first.1 nothing asked in
         let there = goes_further o s m k a.visit u first.0 second.0 in
         let known = knows_stay o m k vs a.visit u (asked_binds (unwraps a.site) a.visit) second.0 (knows_on o s m vs vars w a.visit h.scope (expr_keeps p i.rhs w vars g.value) first.0 h.knows) in
-        let here : Arrives k k u vars vs = record { goes = goes_nowhere o k u second.0.stands; knows = known; scope = h.scope; quiet = after_asking_all p (unwraps a.site) a.visit still.after } in
+        let here : Arrives k k u vars vs = record { goes = goes_nowhere o k u second.0.stands; knows = known; scope = h.scope; quiet = (answers_past p (IsQuiet p) (IsPlain p) (quiet_kept p) a.site a.visit still.past.at still.site).at } in
         by_and_then (PatternCall want rules patterns exprs p.terms i.lhs input vs) (λ ws. IfLetsRun want rules patterns exprs p.terms is ws) k r t (λ z. ArrivesOr s z t last more)
         (λ ws l call rest.
         let third = pattern_arrives i.lhs a.site input vs vars g.mid k (Ok ws) l u g.pattern call here second.1 still.site in
@@ -152,7 +153,7 @@ visits_follow_lem F S N o want rules patterns exprs f p r s a t formed h run =
     let u = visit_args p 0 r.args visit_start in
     let w = visit_iflets p r.iflets u in
     let last = value_of_rule p r in
-    let start : Arrives o want p s s visit_start [] [] = record { goes = goes_nowhere o s visit_start h; knows = λ x n e. absurd (none_some n e); scope = λ x n e. absurd (none_some n e); quiet = start_quiet p } in
+    let start : Arrives o want p s s visit_start [] [] = record { goes = goes_nowhere o s visit_start h; knows = λ x n e. absurd (none_some n e); scope = λ x n e. absurd (none_some n e); quiet = record { holds = λ e i. absurd i; vars = λ e i. absurd i } } in
     by_and_then (ArgsRun want rules patterns exprs p.terms r.args (entry_arg_types (slice_get p.terms r.root_term)) 0 [])
     (λ vs. and_then (IfLetsRun want rules patterns exprs p.terms r.iflets vs) (λ ws. ValueRun want rules patterns exprs p.terms r.rhs ws)) s a t (λ z. Gives o s z t last)
     (λ vs m step later.

@@ -19,9 +19,9 @@ use Rattle.isle_laws_typing.specs.WellTypedPrograms.{IsWellTypedRule}
 use Rattle.isle_laws_typing.proofs.WellTypedPrograms.{pure_iflets}
 use Rattle.isle_laws_visits.proofs.Exprs.{IsTotal, expr_valued_by, expr_valued}
 use Rattle.isle_laws_visits.proofs.Gates.{unpurified, gates_of_taken}
-use Rattle.isle_laws_visits.proofs.PatternCalls.{Adds, still_tested, pattern_adds, args_add}
+use Rattle.isle_laws_visits.proofs.Patterns.{IsAfter}
 use Rattle.isle_laws_visits.proofs.RightSides.{IsSingle, expr_single, expr_quiet}
-use Rattle.isle_laws_visits.proofs.Rules.{IsPast, sides_past, less_good, iflet_tested, iflet_past, iflets_past}
+use Rattle.isle_laws_visits.proofs.Rules.{IsPast, IfLetMet, sides_past, less_good, iflet_tested, iflet_after, iflet_past, iflets_past}
 use Rattle.isle_laws_visits.proofs.Visited.{Good, MayTest, good_stays, AreGood}
 use Rattle.isle_laws_visits.proofs.RuleParts.{iflet_parts, rule_parts}
 
@@ -36,26 +36,27 @@ iflets_calls p (i ∷ is) v v' vars more f h g alike u k =
     let w = asking_all (unwraps x.site) x.visit in
     let z = visit_pattern p i.lhs x.site w in
     let z' = visit_pattern p i.lhs y.site y.visit in
-    let r = iflet_past p (record { iflet = i; visit = v; vars = vars; formed = a.value; pure = h.0; good = g }) a.mid a.pattern in
+    let met : IfLetMet p = record { iflet = i; visit = v; vars = vars; formed = a.value; pure = h.0; good = g } in
+    let r = iflet_past p met a.mid a.pattern in
     let same : AreValuedAlike v (afresh v') x y = expr_alike p i.rhs v (afresh v') (record { vars = alike.vars; impure_calls = alike.impure_calls }) in
     let after : AreAlike z z' =
     subst (λ t. AreAlike z (visit_pattern p i.lhs t y.visit)) same.site (pattern_alike p i.lhs x.site w y.visit (asked_alike (unwraps x.site) x.visit y.visit same.same.after)) in
-    in_rest p i is v v' x y same w (iflet_tested p (record { iflet = i; visit = v; vars = vars; formed = a.value; pure = h.0; good = g })) u
+    in_rest p i is v v' x y same w (iflet_tested p met) a.mid (iflet_after p met a.mid a.pattern) u
     (subst (λ l. In l u) (asked_iterators (unwraps x.site) x.visit))
     (iflets_past p is z a.mid more a.rest h.1 r.good)
     (iflets_calls p is z z' a.mid more a.rest h.1 r.good after u k)
   where
     in_rest : (p : Program) (i : TypedIfLet) (is : List TypedIfLet) (v v' : Visit) (x y : Valued) → AreValuedAlike v (afresh v') x y
-        → (w : Visit) → MayTest w x.site → (u : SiteTerm) → (In w.demands.iterators u → In x.visit.demands.iterators u)
+        → (w : Visit) → MayTest w x.site → (mid : List (ℕ × ℕ)) → IsAfter w (visit_pattern p i.lhs x.site w) mid → (u : SiteTerm) → (In w.demands.iterators u → In x.visit.demands.iterators u)
         → IsPast (visit_pattern p i.lhs x.site w) (visit_iflets p is (visit_pattern p i.lhs x.site w)) more
         → In (visit_pattern p i.lhs x.site w).demands.iterators u ⊎ (In (calls_left p is (visit_pattern p i.lhs y.site y.visit)) u ⊎ MayTest (visit_iflets p is (visit_pattern p i.lhs x.site w)) u)
         → In v.demands.iterators u
         ⊎ (In (filter (λ c. not (has_site (calls_in y.site) c)) y.visit.demands.iterators ++ calls_left p is (visit_pattern p i.lhs y.site y.visit)) u ⊎ MayTest (visit_iflets p is (visit_pattern p i.lhs x.site w)) u)
-    in_rest p i is v v' x y same w tested u before past found =
+    in_rest p i is v v' x y same w tested mid after u before past found =
         elim found [
           | inr j ↦ elim j [ inl l ↦ inr (inl (in_right left (calls_left p is (visit_pattern p i.lhs y.site y.visit)) u l)) | inr m ↦ inr (inr m) ]
           | inl j ↦
-              elim (adds.fresh u j) [
+              elim (after.calls u j) [
                 | inr m ↦ inr (inr (at_end m))
                 | inl l ↦
                     elim (same.same.calls u (before l)) [
@@ -64,7 +65,7 @@ iflets_calls p (i ∷ is) v v' vars more f h g alike u k =
                           elim (cases_Bool (has_site (calls_in y.site) u)) [
                             | inl t ↦
                                 let here = subst (λ s. In (calls_in s) u) (sym same.site) (has_in (calls_in y.site) u t) in
-                                inr (inr (at_end (still_tested w.demands z.demands adds u (gates_of_taken w.demands.constraints w.demands.iterators true true x.site u tested here))))
+                                inr (inr (at_end (good_stays w z after.later true true u (gates_of_taken w.demands.constraints w.demands.iterators true true x.site u tested here))))
                             | inr o ↦
                                 inr (inl (in_left left (calls_left p is (visit_pattern p i.lhs y.site y.visit)) u
                                 (filter_from (λ c. not (has_site (calls_in y.site) c)) y.visit.demands.iterators u n (ap not o))))
@@ -78,9 +79,6 @@ iflets_calls p (i ∷ is) v v' vars more f h g alike u k =
 
         left : List SiteTerm
         left = filter (λ c. not (has_site (calls_in y.site) c)) y.visit.demands.iterators
-
-        adds : Adds w.demands (visit_pattern p i.lhs x.site w).demands
-        adds = pattern_adds p i.lhs x.site w tested
 
         at_end : MayTest (visit_pattern p i.lhs x.site w) u → MayTest (visit_iflets p is (visit_pattern p i.lhs x.site w)) u
         at_end m = good_stays (visit_pattern p i.lhs x.site w) (visit_iflets p is (visit_pattern p i.lhs x.site w)) past.later true true u m
@@ -122,7 +120,7 @@ is_before_right p r f h =
       formed = a.right;
       good = sides.iflets.good;
       calls = λ s i. elim (iflets_calls p r.iflets u u a.mid a.vars a.iflets h sides.args.good (record { vars = refl; impure_calls = refl }) s i) [
-        | inl j ↦ elim ((args_add p 0 r.args visit_start).fresh s j) [ inl n ↦ absurd n | inr m ↦ inr (good_stays u w sides.iflets.later true true s m) ]
+        | inl j ↦ elim (sides.args.calls s j) [ inl n ↦ absurd n | inr m ↦ inr (good_stays u w sides.iflets.later true true s m) ]
         | inr j ↦ j
       ];
     }

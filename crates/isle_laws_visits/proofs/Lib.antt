@@ -16,7 +16,7 @@ pub mod KnownVars
 pub mod LentVisits
 pub mod Limits
 pub mod LimitsPassed
-pub mod PatternCalls
+pub mod PatternParts
 pub mod Patterns
 pub mod PureCalls
 pub mod Quiet
@@ -31,3 +31,4 @@ pub mod Sited
 pub mod Visited
 pub mod VisitedRules
 pub mod WithSites
+pub mod WithTypes

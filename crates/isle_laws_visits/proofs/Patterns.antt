@@ -1,4 +1,5 @@
--- What patterns constrain and equate may be tested, and so may what their variables stand for.
+-- What patterns constrain and equate may be tested, and so may what their variables stand for, and the calls that they go
+-- over.
 use Rattle.std.proofs.Common.{◌≡◌, ℕ, suc, ◌+◌, ◌==◌, ◌<◌, Bool, true, false, ◌&&◌, if◌then◌else◌, List, [], ◌∷◌, Some, None, is_some, is_none, slice_get, Contains, refl, sym, ap, subst, inl, inr, ◌∙◌, arith}
 use Rattle.isle_model.specs.rules.Outcome.{then_option}
 use Rattle.isle_model.specs.lists.Ranges.{is_literal_of}
@@ -11,6 +12,7 @@ use Rattle.isle_model.specs.visits.Demands.{Visit, making, asking, equating, ite
 use Rattle.isle_model.specs.lists.Setting.{bool_type, has_extractor}
 use Rattle.isle_model.specs.lists.Formed.{pattern_type, var_type, is_type, with_new, formed_pattern, formed_parts, formed_each}
 use Rattle.isle_model.proofs.Elements.{In, some_is, none_some}
+use Rattle.isle_laws_visits.proofs.Calls.{NewCalls, no_call, then_calls, one_call, equating_calls}
 use Rattle.isle_laws_visits.proofs.Visited.{MayTest, Later, good_stays, now, then_later, later_making, later_binding, later_iterating, later_asking, later_equating, equating_binds, at_right, AreGood, Keeps, keeps_vars, then_keeps, keeps_binding, bound_good, good_and, later_counting}
 use Rattle.isle_laws_typing.proofs.FormedParts.{from_if, has_type, has_none}
 pub use Rattle.isle_model.proofs.Options.{then_some as from_then}
@@ -31,12 +33,13 @@ pub as_many : (f : ℕ → SiteTerm) (i : ℕ) (args : TypedPatterns) → AsMany
 as_many f i no_typed_pattern = tt
 as_many f i (typed_pattern_and q qs) = as_many f (suc i) qs
 
--- a term's pattern, opened: the inputs of its parts may be tested
+-- a term's pattern, opened: the inputs of its parts may be tested, and a call that is gone over
 pub record IsOpened (v : Visit) (o : Opened) (args : TypedPatterns) : Type 0 where
   pub later : Later v o.visit
   pub binds : o.visit.vars ≡ v.vars
   pub inputs : (u : SiteTerm) → In o.inputs u → MayTest o.visit u
   pub count : AsMany o.inputs args
+  pub calls : NewCalls true true v o.visit
 
 -- one of n numbers from i
 pub in_numbers : (f : ℕ → SiteTerm) (i : ℕ) (args : TypedPatterns) (u : SiteTerm) → In (from_to f i args) u → (j : ℕ) × (j < i + pattern_count args) × (f j ≡ u)
@@ -55,8 +58,8 @@ output_count s no_typed_pattern = tt
 output_count s (typed_pattern_and q no_typed_pattern) = tt
 output_count s (typed_pattern_and q (typed_pattern_and r rs)) = as_many (tuple_part s) 0 (typed_pattern_and q (typed_pattern_and r rs))
 
-with_parts : (v w : Visit) (s : SiteTerm) (args : TypedPatterns) → Later v w → w.vars ≡ v.vars → MayTest w s → IsOpened v (outputs_opened s args w) args
-with_parts v w s args l e m =
+with_parts : (v w : Visit) (s : SiteTerm) (args : TypedPatterns) → Later v w → w.vars ≡ v.vars → MayTest w s → NewCalls true true v w → IsOpened v (outputs_opened s args w) args
+with_parts v w s args l e m n =
     let c = outputs_taken (pattern_count args) in
     let x = counting c w in
     let z = making (part_sites s args) x in
@@ -65,6 +68,7 @@ with_parts v w s args l e m =
       binds = e;
       inputs = λ u i. output_good w s args u m i;
       count = output_count s args;
+      calls = n;
     }
 
 call_opened : (pure multi partial rec infallible : Bool) (t : ℕ) (s : SiteTerm) (args : TypedPatterns) (v : Visit) → MayTest v s
@@ -72,17 +76,18 @@ call_opened : (pure multi partial rec infallible : Bool) (t : ℕ) (s : SiteTerm
 call_opened pure true partial rec infallible t s args v m =
     let call = extractor_call t s in
     let made = making (call ∷ (pick_of call ∷ [])) v in
+    let good = good_stays made (iterating call made) (later_iterating call made) true true call m in
     with_parts v (iterating call made) (pick_of call) args
     (then_later v made (iterating call made) (later_making (call ∷ (pick_of call ∷ [])) v) (later_iterating call made)) refl
-    (at_right v.demands.iterators call, good_stays made (iterating call made) (later_iterating call made) true true call m)
+    (at_right v.demands.iterators call, good) (one_call true true call made good)
 call_opened pure false partial rec true t s args v m =
-    with_parts v (making (extractor_call t s ∷ []) v) (extractor_call t s) args (later_making (extractor_call t s ∷ []) v) refl m
+    with_parts v (making (extractor_call t s ∷ []) v) (extractor_call t s) args (later_making (extractor_call t s ∷ []) v) refl m (λ u i. inl i)
 call_opened pure false partial rec false t s args v m =
     let call = extractor_call t s in
     let made = making (call ∷ (some_part call ∷ [])) v in
     with_parts v (asking call is_present made) (some_part call) args
     (then_later v made (asking call is_present made) (later_making (call ∷ (some_part call ∷ [])) v) (later_asking call is_present made m)) refl
-    (at_right v.demands.constraints (call, is_present), good_stays made (asking call is_present made) (later_asking call is_present made m) true true call m)
+    (at_right v.demands.constraints (call, is_present), good_stays made (asking call is_present made) (later_asking call is_present made m) true true call m) (λ u i. inl i)
 
 -- a site that is asked for fields
 fields_opened : (field : ℕ → SiteTerm) (c : Constraint) (s : SiteTerm) (args : TypedPatterns) (v : Visit) → MayTest v s
@@ -102,6 +107,7 @@ fields_opened field c s args v m tested =
           subst (MayTest w) k.2
           (tested w k.0 (at_right v.demands.constraints (s, c)) (let l : k.0 < 0 + pattern_count args = k.1 in omega arith) (good_stays (making fields x) w l true true s m));
       count = as_many field 0 args;
+      calls = λ u i. inl i;
     }
 
 pub term_opened : (k : Kind) (t : ℕ) (s : SiteTerm) (args : TypedPatterns) (v : Visit) → (k ≡ unknown → ⊥) → MayTest v s → IsOpened v (open_term k t s args v) args
@@ -126,22 +132,27 @@ kind_known t e = by t.kind e
     by struct_term q = cc
     by (declared_term flags c x) q = cc
 
+pub its_kind : (p : Program) (t : ℕ) (entry : TermEntry) → slice_get p.terms t ≡ Some entry → kind_of entry ≡ kind p t
+its_kind p t entry e = sym (ap (λ o. elim o as (λ _. Kind) [ None ↦ unknown | Some x ↦ kind_of x ]) e)
+
 pub term_known : (p : Program) (t : ℕ) (entry : TermEntry) → slice_get p.terms t ≡ Some entry → kind p t ≡ unknown → ⊥
-term_known p t entry e h = kind_known entry (sym (ap (λ o. elim o as (λ _. Kind) [ None ↦ unknown | Some x ↦ kind_of x ]) e) ∙ h)
+term_known p t entry e h = kind_known entry (its_kind p t entry e ∙ h)
 
 -- 3. patterns
--- after a pattern: nothing less is asked, variables that could be used may be tested, and so may those that it bound
+-- after a pattern: nothing less is asked, variables that could be used may be tested, and so may those that it bound and
+-- the calls that it goes over
 pub record IsAfter (v w : Visit) (more : List (ℕ × ℕ)) : Type 0 where
   pub later : Later v w
   pub keeps : Keeps v w
   pub good : AreGood true true more w
+  pub calls : NewCalls true true v w
 
-unbound : (v w : Visit) (vars more : List (ℕ × ℕ)) → Later v w → w.vars ≡ v.vars → AreGood true true vars v → vars ≡ more → IsAfter v w more
-unbound v w vars more l e g same =
-    let k = keeps_vars v w l e in record { later = l; keeps = k; good = subst (λ vs. AreGood true true vs w) same (λ x h. k x (g x h)) }
+pub unbound : (v w : Visit) (vars more : List (ℕ × ℕ)) → Later v w → w.vars ≡ v.vars → AreGood true true vars v → vars ≡ more → NewCalls true true v w → IsAfter v w more
+unbound v w vars more l e g same n =
+    let k = keeps_vars v w l e in record { later = l; keeps = k; good = subst (λ vs. AreGood true true vs w) same (λ x h. k x (g x h)); calls = n }
 
-then_after : (u v w : Visit) (more rest : List (ℕ × ℕ)) → IsAfter u v more → IsAfter v w rest → IsAfter u w rest
-then_after u v w more rest a b = record { later = then_later u v w a.later b.later; keeps = then_keeps u v w a.keeps b.keeps; good = b.good }
+pub then_after : (u v w : Visit) (more rest : List (ℕ × ℕ)) → IsAfter u v more → IsAfter v w rest → IsAfter u w rest
+then_after u v w more rest a b = record { later = then_later u v w a.later b.later; keeps = then_keeps u v w a.keeps b.keeps; good = b.good; calls = then_calls true true u v w b.later a.calls b.calls }
 
 mutual
   pub pattern_after : (p : Program) (q : TypedPattern) (s : SiteTerm) (v : Visit) (vars more : List (ℕ × ℕ)) → formed_pattern p q vars ≡ Some more → MayTest v s → AreGood true true vars v
@@ -157,30 +168,31 @@ mutual
         later = then_later v (binding x s v) w (later_binding x s v) r.later;
         keeps = then_keeps v (binding x s v) w k r.keeps;
         good = subst (λ vs. AreGood true true vs w) n.1 (good_and true true x ty b.0 w r.good (r.keeps x (bound_good true true x s v m)));
+        calls = r.calls;
       }
   pattern_after p (match_var ty x) s v vars more f m g =
       let a = from_if (is_type (var_type vars x) ty) (Some vars) more f in
-      unbound v (equating s (var_site v x) v) vars more (later_equating s (var_site v x) v m (g x (has_type (var_type vars x) ty a.0))) (equating_binds s (var_site v x) v) g (some_is vars more a.1)
+      unbound v (equating s (var_site v x) v) vars more (later_equating s (var_site v x) v m (g x (has_type (var_type vars x) ty a.0))) (equating_binds s (var_site v x) v) g (some_is vars more a.1) (equating_calls true true s (var_site v x) v)
   pattern_after p (match_bool ty b) s v vars more f m g =
-      unbound v (asking s (is_bool b ty) v) vars more (later_asking s (is_bool b ty) v m) refl g (some_is vars more (from_if (ty == bool_type) (Some vars) more f).1)
+      unbound v (asking s (is_bool b ty) v) vars more (later_asking s (is_bool b ty) v m) refl g (some_is vars more (from_if (ty == bool_type) (Some vars) more f).1) (λ u i. inl i)
   pattern_after p (match_int ty z) s v vars more f m g =
-      unbound v (asking s (is_int z ty) v) vars more (later_asking s (is_int z ty) v m) refl g (some_is vars more (from_if (is_literal_of (slice_get p.types ty) z) (Some vars) more f).1)
+      unbound v (asking s (is_int z ty) v) vars more (later_asking s (is_int z ty) v m) refl g (some_is vars more (from_if (is_literal_of (slice_get p.types ty) z) (Some vars) more f).1) (λ u i. inl i)
   pattern_after p (match_prim ty name) s v vars more f m g =
-      unbound v (asking s (is_prim name) v) vars more (later_asking s (is_prim name) v m) refl g (some_is vars more (from_if (is_type (constant_type p name) ty) (Some vars) more f).1)
+      unbound v (asking s (is_prim name) v) vars more (later_asking s (is_prim name) v m) refl g (some_is vars more (from_if (is_type (constant_type p name) ty) (Some vars) more f).1) (λ u i. inl i)
   pattern_after p (match_term ty t args) s v vars more f m g =
       let a = from_then (slice_get p.terms t) (λ (e : TermEntry). if (e.ret_ty == ty) && has_extractor e.kind then formed_parts p args e.arg_tys vars else None) more f in
       let b = from_if ((a.0.ret_ty == ty) && has_extractor a.0.kind) (formed_parts p args a.0.arg_tys vars) more a.2 in
       let o = term_opened (kind p t) t s args v (term_known p t a.0 a.1) m in
       let w = (open_term (kind p t) t s args v).visit in
-      let u = unbound v w vars vars o.later o.binds g refl in
+      let u = unbound v w vars vars o.later o.binds g refl o.calls in
       then_after v w (visit_each p args (open_term (kind p t) t s args v).inputs w) vars more u
       (each_after p args (open_term (kind p t) t s args v).inputs w a.0.arg_tys vars more b.1 o.count o.inputs u.good)
-  pattern_after p (match_any ty) s v vars more f m g = unbound v v vars more (now v) refl g (some_is vars more f)
+  pattern_after p (match_any ty) s v vars more f m g = unbound v v vars more (now v) refl g (some_is vars more f) (no_call true true v)
   pattern_after p (match_and ty subs) s v vars more f m g = all_after p subs s v ty vars more f m g
 
   each_after : (p : Program) (qs : TypedPatterns) (ss : List SiteTerm) (v : Visit) (tys : List ℕ) (vars more : List (ℕ × ℕ)) → formed_parts p qs tys vars ≡ Some more → AsMany ss qs
       → ((u : SiteTerm) → In ss u → MayTest v u) → AreGood true true vars v → IsAfter v (visit_each p qs ss v) more
-  each_after p no_typed_pattern ss v [] vars more f n h g = unbound v v vars more (now v) refl g (some_is vars more f)
+  each_after p no_typed_pattern ss v [] vars more f n h g = unbound v v vars more (now v) refl g (some_is vars more f) (no_call true true v)
   each_after p no_typed_pattern ss v (ty ∷ tys) vars more f n h g = absurd (none_some more f)
   each_after p (typed_pattern_and q qs) ss v [] vars more f n h g = absurd (none_some more f)
   each_after p (typed_pattern_and q qs) [] v (ty ∷ tys) vars more f n h g = absurd n
@@ -194,7 +206,7 @@ mutual
 
   all_after : (p : Program) (qs : TypedPatterns) (s : SiteTerm) (v : Visit) (ty : ℕ) (vars more : List (ℕ × ℕ)) → formed_each p qs ty vars ≡ Some more
       → MayTest v s → AreGood true true vars v → IsAfter v (visit_all p qs s v) more
-  all_after p no_typed_pattern s v ty vars more f m g = unbound v v vars more (now v) refl g (some_is vars more f)
+  all_after p no_typed_pattern s v ty vars more f m g = unbound v v vars more (now v) refl g (some_is vars more f) (no_call true true v)
   all_after p (typed_pattern_and q qs) s v ty vars more f m g =
       let a = from_if (pattern_type q == ty) (then_option (formed_pattern p q vars) (λ after. formed_each p qs ty after)) more f in
       let b = from_then (formed_pattern p q vars) (λ after. formed_each p qs ty after) more a.1 in

@@ -1,5 +1,5 @@
 -- A rule that hangs together demands its gates.
-use Rattle.std.proofs.Common.{◌≡◌, ℕ, suc, ◌==◌, Bool, true, false, List, [], ◌∷◌, Some, sym, ap, subst, ◌∙◌}
+use Rattle.std.proofs.Common.{◌≡◌, ℕ, suc, ◌==◌, Bool, true, false, List, [], ◌∷◌, Some, sym, ap, subst, ◌∙◌, inl, refl}
 use Rattle.std.proofs.lemmas.Bool.{false≢true}
 use Rattle.isle_model.specs.rules.Meaning.{look}
 use Rattle.isle_model.specs.rules.Outcome.{then_option}
@@ -13,7 +13,8 @@ use Rattle.isle_model.specs.sites.DemandedGates.{IsPureExpr, ArePureIfLets, Dema
 use Rattle.isle_laws_visits.specs.VisitLaws.{WellTypedRulesDemandGates}
 use Rattle.isle_laws_visits.proofs.Gates.{asking_of, gates_stay, weaker, stronger, unwrapped}
 use Rattle.isle_laws_visits.proofs.Visited.{Good, MayTest, IsSound, Later, good_stays, now, then_later, later_making, asked_binds, asked_more, asked_calls, all_asked, later_asked, AreGood, later_counting}
-use Rattle.isle_laws_visits.proofs.Patterns.{from_then, pattern_after}
+use Rattle.isle_laws_visits.proofs.Calls.{no_call}
+use Rattle.isle_laws_visits.proofs.Patterns.{from_then, IsAfter, unbound, then_after, pattern_after}
 use Rattle.isle_laws_visits.proofs.Exprs.{IsValued, expr_valued}
 use Rattle.isle_laws_visits.proofs.RuleParts.{iflet_parts, RuleParts, rule_parts}
 use Rattle.isle_laws_typing.proofs.FormedParts.{from_if}
@@ -30,18 +31,19 @@ then_past u v w more l r = record { later = then_later u v w l r.later; good = r
 nothing_past : (v : Visit) (vars more : List (ℕ × ℕ)) → Some vars ≡ Some more → AreGood true true vars v → IsPast v v more
 nothing_past v vars more e g = record { later = now v; good = subst (λ vs. AreGood true true vs v) (some_is vars more e) g }
 
-pub args_past : (p : Program) (i : ℕ) (qs : List TypedPattern) (tys : List ℕ) (v : Visit) (vars more : List (ℕ × ℕ)) → formed_list p qs tys vars ≡ Some more → AreGood true true vars v → IsPast v (visit_args p i qs v) more
-args_past p i [] [] v vars more f g = nothing_past v vars more f g
-args_past p i [] (ty ∷ tys) v vars more f g = absurd (none_some more f)
-args_past p i (q ∷ qs) [] v vars more f g = absurd (none_some more f)
-args_past p i (q ∷ qs) (ty ∷ tys) v vars more f g =
+pub args_after : (p : Program) (i : ℕ) (qs : List TypedPattern) (tys : List ℕ) (v : Visit) (vars more : List (ℕ × ℕ)) → formed_list p qs tys vars ≡ Some more → AreGood true true vars v → IsAfter v (visit_args p i qs v) more
+args_after p i [] [] v vars more f g = unbound v v vars more (now v) refl g (some_is vars more f) (no_call true true v)
+args_after p i [] (ty ∷ tys) v vars more f g = absurd (none_some more f)
+args_after p i (q ∷ qs) [] v vars more f g = absurd (none_some more f)
+args_after p i (q ∷ qs) (ty ∷ tys) v vars more f g =
     let a = from_if (pattern_type q == ty) (then_option (formed_pattern p q vars) (λ after. formed_list p qs tys after)) more f in
     let b = from_then (formed_pattern p q vars) (λ after. formed_list p qs tys after) more a.1 in
     let x = counting (argument_taken i) v in
     let u = taking_argument i v in
     let w = visit_pattern p q (argument i) u in
-    let r = pattern_after p q (argument i) u vars b.0 b.1 tt g in
-    then_past v w (visit_args p (suc i) qs w) more (then_later v u w (then_later v x u (later_counting (argument_taken i) v) (later_making (argument i ∷ []) x)) r.later) (args_past p (suc i) qs tys w b.0 more b.2 r.good)
+    let o = unbound v u vars vars (then_later v x u (later_counting (argument_taken i) v) (later_making (argument i ∷ []) x)) refl g refl (λ c j. inl j) in
+    let r = pattern_after p q (argument i) u vars b.0 b.1 tt o.good in
+    then_after v w (visit_args p (suc i) qs w) b.0 more (then_after v u w vars b.0 o r) (args_after p (suc i) qs tys w b.0 more b.2 r.good)
 
 pub less_good : (pure : Bool) (vars : List (ℕ × ℕ)) (v : Visit) → AreGood true true vars v → AreGood false pure vars v
 less_good pure vars v g x h = weaker v.demands.constraints v.demands.iterators pure (var_site v x) (g x h)
@@ -95,9 +97,12 @@ module _ (p : Program) (of : IfLetMet p) where
       subst (MayTest w) (sym (ap (λ vs. or_no_site (look (λ y. y == x) vs)) (asked_binds (unwraps s) u) ∙ valued.same x k))
       (good_stays v w (then_later v u w valued.later asked_later) true true (var_site v x) (g x k))
 
+  pub iflet_after : (more : List (ℕ × ℕ)) → formed_pattern p i.lhs vars ≡ Some more → IsAfter w (visit_pattern p i.lhs s w) more
+  iflet_after more e = pattern_after p i.lhs s w vars more e iflet_tested asked_good
+
   pub iflet_past : (more : List (ℕ × ℕ)) → formed_pattern p i.lhs vars ≡ Some more → IsPast v (visit_pattern p i.lhs s w) more
   iflet_past more e =
-      let b = pattern_after p i.lhs s w vars more e iflet_tested asked_good in
+      let b = iflet_after more e in
       then_past v u (visit_pattern p i.lhs s w) more valued.later
       (then_past u w (visit_pattern p i.lhs s w) more asked_later (record { later = b.later; good = b.good }))
 
@@ -111,12 +116,12 @@ iflets_past p (i ∷ is) v vars more f h g =
 
 -- the visit of a rule before its right side: its arguments, then its if-lets
 pub record IsPastSides (p : Program) (r : TypedRule) (a : RuleParts p r) : Type 0 where
-  pub args : IsPast visit_start (visit_args p 0 r.args visit_start) a.mid
+  pub args : IsAfter visit_start (visit_args p 0 r.args visit_start) a.mid
   pub iflets : IsPast (visit_args p 0 r.args visit_start) (visit_iflets p r.iflets (visit_args p 0 r.args visit_start)) a.vars
 
 pub sides_past : (p : Program) (r : TypedRule) (a : RuleParts p r) → ArePureIfLets p r.iflets → IsPastSides p r a
 sides_past p r a h =
-    let args = args_past p 0 r.args a.entry.arg_tys visit_start [] a.mid a.args (λ x k. absurd (false≢true k)) in
+    let args = args_after p 0 r.args a.entry.arg_tys visit_start [] a.mid a.args (λ x k. absurd (false≢true k)) in
     record { args = args; iflets = iflets_past p r.iflets (visit_args p 0 r.args visit_start) a.mid a.vars a.iflets h args.good }
 
 -- the whole visit

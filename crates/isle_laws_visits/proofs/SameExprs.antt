@@ -55,6 +55,7 @@ pub record TermParts (p : Program) (ty t : ℕ) (args : TypedExprs) (vars : List
   pub entry : TermEntry
   pub there : slice_get p.terms t ≡ Some entry
   pub ret : entry.ret_ty ≡ ty
+  pub called : has_constructor entry.kind ≡ true
   pub formed : are_formed_args p args entry.arg_tys vars ≡ true
 
 pub from_term : (p : Program) (ty t : ℕ) (args : TypedExprs) (vars : List (ℕ × ℕ)) → is_formed_expr p (make_term ty t args) vars ≡ true → TermParts p ty t args vars
@@ -66,7 +67,7 @@ from_term p ty t args vars f = by (slice_get p.terms t) refl f
     by (Some e) q h =
         let a = and_parts (e.ret_ty == ty) (has_constructor e.kind && are_formed_args p args e.arg_tys vars) h in
         let b = and_parts (has_constructor e.kind) (are_formed_args p args e.arg_tys vars) a.1 in
-        record { entry = e; there = q; ret = eqb-true e.ret_ty ty a.0; formed = b.1 }
+        record { entry = e; there = q; ret = eqb-true e.ret_ty ty a.0; called = b.0; formed = b.1 }
 
 -- what arguments are
 pub from_args : (p : Program) (x : TypedExpr) (xs : TypedExprs) (ty : ℕ) (tys : List ℕ) (vars : List (ℕ × ℕ)) → are_formed_args p (typed_expr_and x xs) (ty ∷ tys) vars ≡ true

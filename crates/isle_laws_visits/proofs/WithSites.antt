@@ -1,6 +1,6 @@
 -- What each step of a visit keeps of its demands, and of the sites that it stands at, binds and values, the visits of
 -- patterns, expressions and rules keep.
-use Rattle.std.proofs.Common.{◌≡◌, ℕ, ℤ, suc, Contains, ap, ◌==◌, Bool, true, false, List, [], ◌∷◌, Some, refl, sym, subst, inl, inr}
+use Rattle.std.proofs.Common.{◌≡◌, ℕ, ℤ, zero, suc, ◌+◌, ◌<◌, Contains, ap, ◌==◌, Bool, true, false, List, [], ◌∷◌, Some, refl, sym, subst, inl, inr, arith}
 use Rattle.std.proofs.lemmas.Bool.{cases_Bool, cond-true, cond-false}
 use Rattle.isle_model.specs.lists.Tables.{Flags}
 use Rattle.isle_model.specs.rules.Meaning.{look}
@@ -39,6 +39,21 @@ by_leaf P a b c d (some_made s) l = absurd l
 by_leaf P a b c d (some_part s) l = absurd l
 by_leaf P a b c d (tuple_part s i) l = absurd l
 by_leaf P a b c d no_site l = absurd l
+
+-- one of n fields from i on
+pub in_fields : (f : ℕ → SiteTerm) (i n : ℕ) (u : SiteTerm) → In (fields_from f i n) u → (j : ℕ) × (j < i + n) × (f j ≡ u)
+in_fields f i zero u k = absurd k
+in_fields f i (suc n) u (inl e) = (i, omega arith, e)
+in_fields f i (suc n) u (inr k) = let r = in_fields f (suc i) n u k in (r.0, let l : r.0 < suc i + n = r.1 in omega arith, r.2)
+
+-- what holds of all fields of a site holds of those that a constraint gives it
+pub by_field : (P : SiteTerm → Type 0) (a : SiteTerm) → ((variant i : ℕ) → P (variant_field a variant i)) → ((i : ℕ) → P (struct_field a i)) → (c : Constraint) (x : SiteTerm) → In (field_terms c a) x → P x
+by_field P a f g (is_variant ty variant n) x i = let k = in_fields (variant_field a variant) 0 n x i in subst P k.2 (f variant k.0)
+by_field P a f g (is_struct ty n) x i = let k = in_fields (struct_field a) 0 n x i in subst P k.2 (g k.0)
+by_field P a f g (is_bool v ty) x i = absurd i
+by_field P a f g (is_int z ty) x i = absurd i
+by_field P a f g (is_prim name) x i = absurd i
+by_field P a f g is_present x i = absurd i
 
 -- what holds with an equality more, or as it was
 pub by_equating : (P : Visit → Type 0) (a b : SiteTerm) (v : Visit) → P v → P (equated a b v) → P (equating a b v)
@@ -410,16 +425,22 @@ module _ (p : Program) (R : Demands → Type 0) (Q : Demands → SiteTerm → Ty
   pub answers_past : (s : SiteTerm) (v : Visit) → IsAt R Q v → Q v.demands s → Past R Q v (asking_all (unwraps s) v)
   answers_past s v h m = step_past R Q v (asking_all (unwraps s) v) (asked_binds (unwraps s) v) h (k.asks_all s v h.holds m)
 
+  -- an argument is counted, and made
+  pub argument_given : (i : ℕ) (v : Visit) → IsAt R Q v → Given R Q v (valued (argument i) (taking_argument i v))
+  argument_given i v h =
+      let x = counting (argument_taken i) v in
+      let n = step_past R Q v x refl h (k.counts (argument_taken i) v h.holds) in
+      let a = leaf_given (argument i) x tt n.at in
+      record { past = then_past R Q v x (taking_argument i v) n a.past; site = a.site }
+
   pub args_past : (i : ℕ) (qs : List TypedPattern) (v : Visit) → IsAt R Q v → Past R Q v (visit_args p i qs v)
   args_past i [] v h = still_at R Q v h
   args_past i (q ∷ qs) v h =
       let u = taking_argument i v in
       let w = visit_pattern p q (argument i) u in
-      let x = counting (argument_taken i) v in
-      let n = step_past R Q v x refl h (k.counts (argument_taken i) v h.holds) in
-      let a = leaf_given (argument i) x tt n.at in
+      let a = argument_given i v h in
       let b = pattern_past q (argument i) u a.past.at a.site in
-      then_past R Q v u (visit_args p (suc i) qs w) (then_past R Q v x u n a.past) (then_past R Q u w (visit_args p (suc i) qs w) b (args_past (suc i) qs w b.at))
+      then_past R Q v u (visit_args p (suc i) qs w) a.past (then_past R Q u w (visit_args p (suc i) qs w) b (args_past (suc i) qs w b.at))
 
   pub iflets_past : (is : List TypedIfLet) (v : Visit) → IsAt R Q v → Past R Q v (visit_iflets p is v)
   iflets_past [] v h = still_at R Q v h

@@ -1,3 +1,4 @@
 pub mod Followers
 pub mod LimitLaws
+pub mod RuleTerms
 pub mod VisitLaws

@@ -14,9 +14,8 @@ use Rattle.isle_laws_closure.specs.GateLaws.{NoRuleAsksAndGoesOver}
 use Rattle.isle_laws_closure.proofs.built.Built.{set_rule, was_built}
 use Rattle.isle_laws_closure.proofs.Closing.{closing_is_sound_lem}
 use Rattle.isle_model.specs.sites.DemandedGates.{IsMultiCall, HasNoPartialMulti, GoesOverMultiCalls}
-use Rattle.isle_laws_closure.proofs.Owners.{by_field}
 use Rattle.isle_laws_visits.proofs.Visited.{equated}
-use Rattle.isle_laws_visits.proofs.WithSites.{IsLeaf, by_leaf, by_equating, Onward, AtEach, KeptWithSites, unwrapped_at_each, rule_given}
+use Rattle.isle_laws_visits.proofs.WithSites.{IsLeaf, by_leaf, by_field, by_equating, Onward, AtEach, KeptWithSites, unwrapped_at_each, rule_given}
 
 module _ (p : Program) (neither : HasNoPartialMulti p) where
   -- no multi call

@@ -14,7 +14,8 @@ use Rattle.isle_model.proofs.Elements.{In, contains_from_in, in_left, in_either,
 use Rattle.isle_model.proofs.SitesMade.{has_in}
 use Rattle.isle_laws_closure.proofs.Classes.{with_sites_in}
 use Rattle.isle_laws_closure.proofs.Closing.{closing_keeps}
-use Rattle.isle_laws_closure.proofs.ClosingGates.{Members, in_class_at, without_members, all_merged_members, in_fields}
+use Rattle.isle_laws_closure.proofs.ClosingGates.{Members, in_class_at, without_members, all_merged_members}
+use Rattle.isle_laws_visits.proofs.WithSites.{in_fields}
 use Rattle.isle_laws_matching.proofs.taken.Fits.{IsField}
 use Rattle.isle_laws_matching.proofs.taken.Forms.{a_value, IsValue, HasForm, AreKnown}
 

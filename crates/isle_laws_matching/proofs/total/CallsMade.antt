@@ -7,8 +7,7 @@ use Rattle.isle_model.specs.sites.Sites.{Constraint, is_present, SiteTerm, bool_
 use Rattle.isle_model.specs.visits.Demands.{Demands, Visit, making, asking, iterating, calling, equating, unwraps, unwraps_all, asking_all, demands_of, result_of}
 use Rattle.isle_model.specs.sites.Closure.{field_terms}
 use Rattle.isle_model.proofs.Elements.{In, in_left, in_either}
-use Rattle.isle_laws_closure.proofs.Owners.{by_field}
-use Rattle.isle_laws_visits.proofs.WithSites.{IsLeaf, by_leaf, by_equating, Onward, KeptWithSites, AtEach, no_step, then_onward, rule_given}
+use Rattle.isle_laws_visits.proofs.WithSites.{IsLeaf, by_leaf, by_field, by_equating, Onward, KeptWithSites, AtEach, no_step, then_onward, rule_given}
 use Rattle.isle_laws_visits.proofs.Visited.{equated}
 
 abbrev mutual

@@ -1,8 +1,9 @@
 -- The shapes of sites: how many values of which types a site holds, whatever the meaning is. What a site of a shape holds
 -- fits it, where the meaning agrees with well-typed functions.
-use Rattle.std.proofs.Common.{◌≡◌, ◌==◌, ℕ, ℤ, zero, suc, Bool, true, false, not, List, [], ◌∷◌, Some, slice_get, Contains, refl, sym, ap, ◌∙◌, subst, eq-eqb}
+use Rattle.std.proofs.Common.{int_eq, length, ◌≡◌, ◌==◌, ℕ, ℤ, zero, suc, Bool, true, false, not, List, [], ◌∷◌, Some, slice_get, Contains, refl, sym, ap, ◌∙◌, subst, eq-eqb}
 use Rattle.std.proofs.lemmas.Bool.{and_parts, and_from, false≢true}
 use Rattle.isle_model.specs.lists.Tables.{Flags, TermEntry}
+use Rattle.isle_model.specs.lists.Ranges.{is_literal_of, reduced}
 use Rattle.isle_model.specs.rules.Values.{Value, of_variant, of_struct, Values, no_value, value_and, listed, of_list, is_truth_type, is_atom_type, variant_types, struct_types, well_typed, all_well_typed}
 use Rattle.isle_model.specs.rules.Meaning.{Content, one, parts, just, many, contents, Meaning, bool_literal, int_literal}
 use Rattle.isle_model.specs.rules.Program.{Program, a_call, kind, flags_of}
@@ -10,6 +11,10 @@ use Rattle.isle_model.specs.sites.Sites.{SiteTerm, bool_term, int_term, prim_ter
 use Rattle.isle_model.specs.sites.Serves.{Holds, holds_bool, holds_int, holds_prim, holds_argument, holds_extractor, holds_pure, holds_impure, holds_pick, holds_variant, holds_variant_field, holds_struct, holds_struct_field, holds_some, holds_part, holds_tuple_part, HoldsAll, holds_none, holds_and, fits_one, fits_answer, term_args, term_results, fits_extractor, fits_constructor, constant_type}
 use Rattle.isle_model.proofs.Elements.{in_from_contains, all_in, some_is, none_some}
 use Rattle.isle_laws_matching.specs.TotalLaws.{TotalMeaning, Agrees, IsWellTyped, can_be_matched, can_be_called}
+
+-- a literal of a type of numbers is an atom
+atom_literal : (p : Program) (ty : ℕ) (z : ℤ) → is_literal_of (slice_get p.types ty) z ≡ true → is_atom_type (slice_get p.types ty) ≡ true
+atom_literal p ty z h = (and_parts (is_atom_type (slice_get p.types ty)) (int_eq (reduced (slice_get p.types ty) z) z) h).0
 
 -- what a rule may use: arguments of these types, and calls of these terms in patterns and in expressions
 pub record Uses : Type 0 where
@@ -22,7 +27,7 @@ pub record Uses : Type 0 where
 mutual
   pub data Shaped (p : Program) (uses : Uses) : SiteTerm → Bool → Bool → List ℕ → Type 0 where
     shaped_bool : {b : Bool} {ty : ℕ} → is_truth_type (slice_get p.types ty) ≡ true → Shaped p uses (bool_term b ty) false false (ty ∷ [])
-    shaped_int : {z : ℤ} {ty : ℕ} → is_atom_type (slice_get p.types ty) ≡ true → Shaped p uses (int_term z ty) false false (ty ∷ [])
+    shaped_int : {z : ℤ} {ty : ℕ} → is_literal_of (slice_get p.types ty) z ≡ true → Shaped p uses (int_term z ty) false false (ty ∷ [])
     shaped_prim : {name ty : ℕ} → constant_type p name ≡ Some ty → Shaped p uses (prim_term name) false false (ty ∷ [])
     shaped_argument : {i ty : ℕ} → slice_get uses.args i ≡ Some ty → Shaped p uses (argument i) false false (ty ∷ [])
     shaped_extractor : {t : ℕ} {s : SiteTerm} (e : TermEntry) (flags : Flags) (infallible : Bool) → Contains uses.matched t → slice_get p.terms t ≡ Some e → can_be_matched e.kind ≡ true → kind p t ≡ a_call flags infallible
@@ -40,7 +45,8 @@ mutual
         → Shaped p uses (struct_field s i) false false (u ∷ [])
     shaped_some : {s : SiteTerm} {tys : List ℕ} → Shaped p uses s false false tys → Shaped p uses (some_made s) false true tys
     shaped_part : {s : SiteTerm} {tys : List ℕ} → Shaped p uses s false true tys → Shaped p uses (some_part s) false false tys
-    shaped_tuple : {s : SiteTerm} {i u : ℕ} {tys : List ℕ} → Shaped p uses s false false tys → slice_get tys i ≡ Some u → Shaped p uses (tuple_part s i) false false (u ∷ [])
+    -- a part of two or more
+    shaped_tuple : {s : SiteTerm} {i u : ℕ} {tys : List ℕ} (k : ℕ) → length tys ≡ suc (suc k) → Shaped p uses s false false tys → slice_get tys i ≡ Some u → Shaped p uses (tuple_part s i) false false (u ∷ [])
 
   pub data ShapedAll (p : Program) (uses : Uses) : SiteTerms → List ℕ → Type 0 where
     shaped_none : ShapedAll p uses no_site_term []
@@ -118,7 +124,7 @@ module _ (p : Program) (uses : Uses) (of : TypedMap p uses) where
   mutual
     pub held_fits : {multi optional : Bool} {tys : List ℕ} (s : SiteTerm) → Shaped p uses s multi optional tys → (c : Content) → Holds m args s c → fits_answer p multi optional tys c ≡ true
     held_fits (bool_term b ty) (shaped_bool t) _ (holds_bool {v = v} e) = subst (λ w. well_typed p.types ty w ≡ true) (sym (agrees.literals (bool_literal b ty) v e)) (typed.bools b ty t)
-    held_fits (int_term z ty) (shaped_int t) _ (holds_int {v = v} e) = subst (λ w. well_typed p.types ty w ≡ true) (sym (agrees.literals (int_literal z ty) v e)) (typed.ints z ty t)
+    held_fits (int_term z ty) (shaped_int t) _ (holds_int {v = v} e) = subst (λ w. well_typed p.types ty w ≡ true) (sym (agrees.literals (int_literal z ty) v e)) (typed.ints z ty (atom_literal p ty z t))
     held_fits (prim_term name) (shaped_prim {ty = ty} t) _ (holds_prim {v = v} e) = subst (λ w. well_typed p.types ty w ≡ true) (sym (agrees.constants name v e)) (typed.constants name ty t)
     held_fits (argument i) (shaped_argument {ty = ty} t) _ (holds_argument {v = v} e) = arg_typed p uses.args args i ty v given t e
     held_fits (extractor_call t s) (shaped_extractor e flags infallible used there can k h) c (holds_extractor {v = v} g q) =
@@ -148,7 +154,7 @@ module _ (p : Program) (uses : Uses) (of : TypedMap p uses) where
         (and_parts (w == ty) (all_well_typed p.types (struct_types (slice_get p.types ty)) vs) (held_fits s h (one (of_struct w vs)) g)).1) a e
     held_fits (some_made s) (shaped_some h) _ (holds_some {c = d} g) = held_fits s h d g
     held_fits (some_part s) (shaped_part h) c (holds_part g) = held_fits s h (just c) g
-    held_fits (tuple_part s i) (shaped_tuple {u = u} {tys = tys} h a) _ (holds_tuple_part {vs = vs} {v = v} g e) =
+    held_fits (tuple_part s i) (shaped_tuple {u = u} {tys = tys} k l h a) _ (holds_tuple_part {vs = vs} {v = v} g e) =
         part_typed p tys vs i u v (parts_typed p tys vs (held_fits s h (parts vs) g)) a e
     held_fits no_site h c g = elim g [ ]
 
@@ -162,7 +168,7 @@ pub bool_shape : {p : Program} {uses : Uses} {multi optional : Bool} {tys : List
 bool_shape (shaped_bool t) = t
 
 pub int_shape : {p : Program} {uses : Uses} {multi optional : Bool} {tys : List ℕ} {z : ℤ} {ty : ℕ} → Shaped p uses (int_term z ty) multi optional tys → is_atom_type (slice_get p.types ty) ≡ true
-int_shape (shaped_int t) = t
+int_shape {p = p} {z = z} {ty = ty} (shaped_int t) = atom_literal p ty z t
 
 pub prim_shape : {p : Program} {uses : Uses} {multi optional : Bool} {tys : List ℕ} {name : ℕ} → Shaped p uses (prim_term name) multi optional tys → (ty : ℕ) × (constant_type p name ≡ Some ty)
 prim_shape (shaped_prim {ty = ty} t) = (ty, t)

@@ -13,7 +13,8 @@ use Rattle.isle_model.proofs.Elements.{In, in_from_contains, contains_from_in, n
 use Rattle.isle_laws_typing.specs.WellTypedPrograms.{IsWellTypedProgram}
 use Rattle.isle_laws_runs.proofs.picks.HeldContents.{contents_are_held_lem}
 use Rattle.isle_laws_closure.proofs.built.BuiltSets.{of_term}
-use Rattle.isle_laws_matching.specs.TotalLaws.{TotalMeaning, matched_in, called_in, matched_terms, called_terms, IsTotalFor, Agrees, Restricts, TotalMeaningsServe, total_value, AgreeingMapsTellApart}
+use Rattle.isle_laws_visits.specs.RuleTerms.{matched_in, called_in}
+use Rattle.isle_laws_matching.specs.TotalLaws.{TotalMeaning, matched_terms, called_terms, IsTotalFor, Agrees, Restricts, TotalMeaningsServe, total_value, AgreeingMapsTellApart}
 use Rattle.isle_laws_matching.proofs.total.Listed.{Question, questions_of, answers_to, answers_agree, QuestionsOf, asks_of_all, bool_answered, int_answered, constant_answered, extractor_answered, pure_answered, impure_answered}
 use Rattle.isle_laws_matching.proofs.total.Shaped.{Uses, TypedMap, HasShape, held_fits, all_held_fit, bool_shape, int_shape, prim_shape, ExtractorShape, extractor_shape, ConstructorShape, pure_shape, impure_shape}
 use Rattle.isle_laws_matching.proofs.total.ShapedSites.{rule_shaped}
