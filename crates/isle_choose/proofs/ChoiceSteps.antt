@@ -1,4 +1,4 @@
--- If-lets that hold one after another, and the rules of a term, looked at from the last one on.
+-- A rule holds where its arguments do and then its if-lets; the rules of a term, from one on.
 use Rattle.std.proofs.Common.{◌≡◌, ◌==◌, ℕ, Bool, true, false, List, [], map, Option, None, filter, sym, ap, ◌∙◌}
 use Rattle.isle_model.specs.lists.Tables.{TermEntry}
 use Rattle.isle_model.specs.rules.Values as Values

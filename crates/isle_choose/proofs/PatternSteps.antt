@@ -1,4 +1,4 @@
--- Patterns that hold, one after another.
+-- Fields that are seen of a value, what was asked holds or doesn't, and a rule's arguments as parts.
 use Rattle.std.proofs.Common.{◌≡◌, ◌==◌, ◌&&◌, ℕ, Bool, true, false, if◌then◌else◌, List, [], ◌∷◌, Option, Some, None, Vec, refl, sym, ap, ◌∙◌}
 use Rattle.std.proofs.lemmas.Bool.{false≢true}
 use Rattle.std.specs.declared.alloc.Global.{Global}

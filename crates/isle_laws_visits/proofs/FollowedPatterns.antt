@@ -11,13 +11,13 @@ use Rattle.isle_model.specs.visits.Demands.{fields_matched, outputs_taken, Visit
 use Rattle.isle_model.specs.visits.Runs.{BoundIds, done, with_bound, binds, finds, calls_visitor, on_variables}
 use Rattle.isle_model.specs.visits.Visitors.{PatternSteps}
 use Rattle.isle_model.specs.visits.SiteVisitor.{any_parts, fields_opened}
-use Rattle.isle_model.specs.visits.PatternRuns.{part_types, OpensKind, Opens as OpensTerm, PatternRun, PartsRun, EachRun}
+use Rattle.isle_model.specs.visits.PatternRuns.{part_types, OpensKind, Opens, PatternRun, PartsRun, EachRun}
 use Rattle.isle_laws_visits.specs.VisitLaws.{Continues}
 use Rattle.isle_laws_visits.proofs.Continued.{continues_now, tests_continue}
 use Rattle.isle_laws_visits.proofs.Kept.{each_kept, all_kept}
 use Rattle.isle_laws_visits.proofs.Visited.{equating_binds}
 use Rattle.isle_laws_visits.proofs.WithSites.{open_binds, same_fields}
-use Rattle.isle_laws_visits.specs.Followers.{Follower, Goes, GoesOn, Opens, FollowsPatterns, EndsOnTheWay}
+use Rattle.isle_laws_visits.specs.Followers.{Follower, Goes, GoesOn, GivesParts, FollowsPatterns, EndsOnTheWay}
 use Rattle.isle_laws_visits.proofs.FittingPatterns.{FitsTerm, Fits, FitAll}
 use Rattle.isle_laws_visits.proofs.KnownVars.{KnowsVars, by_and_then, goes_further, goes_nowhere, knows_more, knows_stay, no_fault, one_answer, refusal, refused_ends}
 
@@ -116,13 +116,13 @@ module _ {F S N : Type 0} (o : Follower F S N) (want : Option F) (ends : EndsOnT
     -- 3. a term's pattern
     module _ (s t : S) (r : Result (List N) F) (w : Visit) where
       kind_opened : (u : SiteTerm) (n : N) (term : ℕ) (args : TypedPatterns) (e : TermEntry) (ty : ℕ) (k : TermKindEntry) → o.Stands s w → o.Names s u n → e.ret_ty ≡ ty → length e.arg_tys ≡ pattern_count args
-          → OpensKind want v e ty term (part_types args) n k s r t → Opens o s r t (open_term (kind_of (record e { kind = k })) term u args w)
+          → OpensKind want v e ty term (part_types args) n k s r t → GivesParts o s r t (open_term (kind_of (record e { kind = k })) term u args w)
       kind_opened u n term args e ty (variant_term variant) h named ret count run =
-          subst (Opens o s r t)
+          subst (GivesParts o s r t)
           (ap (λ m. fields_opened (is_variant ty variant m) m u w) count ∙ variant_alike term args u w ty variant ∙ ap (λ y. open_term (a_variant y variant) term u args w) (sym ret))
           (f.variant s w u n ty e.arg_tys variant r t h named run)
       kind_opened u n term args e ty struct_term h named ret count run =
-          subst (Opens o s r t) (ap (λ m. fields_opened (is_struct ty m) m u w) count ∙ struct_alike term args u w ty ∙ ap (λ y. open_term (a_struct y) term u args w) (sym ret))
+          subst (GivesParts o s r t) (ap (λ m. fields_opened (is_struct ty m) m u w) count ∙ struct_alike term args u w ty ∙ ap (λ y. open_term (a_struct y) term u args w) (sym ret))
           (f.struct s w u n ty e.arg_tys r t h named run)
       kind_opened u n term args e ty (declared_term flags c None) h named ret count run = absurd run
       kind_opened u n term args e ty (declared_term flags c (Some x)) h named ret count run =
@@ -131,11 +131,11 @@ module _ {F S N : Type 0} (o : Follower F S N) (want : Option F) (ends : EndsOnT
           let same = any_count (length tys) ∙ types_count args in
           ⊎_elim (λ a. refused_ends o want ends _ s r t t _ a)
           (λ a.
-          subst (Opens o s r t) (call_alike (any_parts (length tys)) args same flags.multi flags.partial flags.rec flags.pure always (extractor_call term u) w)
+          subst (GivesParts o s r t) (call_alike (any_parts (length tys)) args same flags.multi flags.partial flags.rec flags.pure always (extractor_call term u) w)
           (f.extractor s w u n e.ret_ty tys term always flags.multi r t h named a)) run
 
       term_opened : (u : SiteTerm) (n : N) (term : ℕ) (args : TypedPatterns) (ty : ℕ) (e : Option TermEntry) → o.Stands s w → o.Names s u n → FitsTerm ty (pattern_count args) e
-          → OpensTerm want v ty term (part_types args) n e s r t → Opens o s r t (open_term (elim e as (λ _. Kind) [ None ↦ unknown | Some x ↦ kind_of x ]) term u args w)
+          → Opens want v ty term (part_types args) n e s r t → GivesParts o s r t (open_term (elim e as (λ _. Kind) [ None ↦ unknown | Some x ↦ kind_of x ]) term u args w)
       term_opened u n term args ty None h named fits run = absurd fits
       term_opened u n term args ty (Some e) h named fits run = kind_opened u n term args e ty e.kind h named fits.0 fits.1 run
 
@@ -166,7 +166,7 @@ module _ {F S N : Type 0} (o : Follower F S N) (want : Option F) (ends : EndsOnT
       pattern_follows (match_term ty term args) n s r t w u fits run h knows named =
           let a = open_term (kind p term) term u args w in
           let last = visit_each p args a.inputs a.visit in
-          by_and_then (calls_visitor (OpensTerm want v ty term (part_types args) n (slice_get p.terms term))) (λ ids. PartsRun want v p.terms args ids) s r t (λ z. ReachesOr s.0 z t last)
+          by_and_then (calls_visitor (Opens want v ty term (part_types args) n (slice_get p.terms term))) (λ ids. PartsRun want v p.terms args ids) s r t (λ z. ReachesOr s.0 z t last)
           (λ ids m step rest.
           let opens = term_opened s.0 m.0 (Ok ids) w u n term args ty (slice_get p.terms term) h named fits.0 step.0 in
           further s.0 m.0 r t a.visit last opens.0

@@ -84,7 +84,7 @@ module _ {F S N : Type 0} (o : Follower F S N) (want : Option F) (p : Program) w
         let last = visit_args p (suc i) qs mid in
         by_and_then (λ x y z. rules.arg_steps x i ty y z) (λ input. and_then (PatternCall want rules patterns exprs p.terms q input vs) (λ ws. ArgsRun want rules patterns exprs p.terms qs tys (suc i) ws)) s r t (λ z. ArrivesOr s z t last more)
         (λ input m step later.
-        let taken = f.in_rules.argument_taken s w i ty (Ok input) m h.goes.stands step in
+        let taken = f.in_rules.arg s w i ty (Ok input) m h.goes.stands step in
         let here : Arrives m m u vars vs = record {
           goes = goes_nowhere o m u taken.0.stands;
           knows = knows_stay o s m vs w u (λ i. w.vars) taken.0 h.knows;
@@ -101,7 +101,7 @@ module _ {F S N : Type 0} (o : Follower F S N) (want : Option F) (p : Program) w
         (pattern_arrives q (argument i) input vs vars b.0 m (Err e) t u b.1 call here taken.1 still.site)) later)
         (λ e step.
         f.ends.further t u last e (args_kept p (Continues u) (tests_continue p u) (values_continue p u).made (suc i) qs mid (pattern_kept p (Continues u) (tests_continue p u) q (argument i) u (continues_now u)))
-        (f.in_rules.argument_taken s w i ty (Err e) t h.goes.stands step)) run
+        (f.in_rules.arg s w i ty (Err e) t h.goes.stands step)) run
 
     -- 4. the if-lets
     iflets_arrive : (is : List TypedIfLet) (vs : BoundIds N) (vars more : List (ℕ × ℕ)) (s : S) (r : Result (BoundIds N) F) (t : S) (w : Visit) → formed_iflets p is vars ≡ Some more
@@ -124,7 +124,7 @@ module _ {F S N : Type 0} (o : Follower F S N) (want : Option F) (p : Program) w
         by_and_then (λ x y z. rules.expr_as_pattern_steps x value y z) (λ input. and_then (PatternCall want rules patterns exprs p.terms i.lhs input vs) (λ ws. IfLetsRun want rules patterns exprs p.terms is ws)) m r t
         (λ z. ArrivesOr s z t last more)
         (λ input k asked others.
-        let second = f.in_rules.value_matched m a.visit a.site value (Ok input) k first.0.stands first.1 nothing asked in
+        let second = f.in_rules.expr_as_pattern m a.visit a.site value (Ok input) k first.0.stands first.1 nothing asked in
         let there = goes_further o s m k a.visit u first.0 second.0 in
         let known = knows_stay o m k vs a.visit u (asked_binds (unwraps a.site) a.visit) second.0 (knows_on o s m vs vars w a.visit h.scope (expr_keeps p i.rhs w vars g.value) first.0 h.knows) in
         let here : Arrives k k u vars vs = record { goes = goes_nowhere o k u second.0.stands; knows = known; scope = h.scope; quiet = (answers_past p (IsQuiet p) (IsPlain p) (quiet_kept p) a.site a.visit still.past.at still.site).at } in
@@ -138,7 +138,7 @@ module _ {F S N : Type 0} (o : Follower F S N) (want : Option F) (p : Program) w
         (pattern_arrives i.lhs a.site input vs vars g.mid k (Err e) t u g.pattern call here second.1 still.site)) others)
         (λ e asked.
         f.ends.further t u last e (iflets_kept p (Continues u) (tests_continue p u) (values_continue p u) is mid (pattern_kept p (Continues u) (tests_continue p u) i.lhs a.site u (continues_now u)))
-        (f.in_rules.value_matched m a.visit a.site value (Err e) t first.0.stands first.1 nothing asked)) later)
+        (f.in_rules.expr_as_pattern m a.visit a.site value (Err e) t first.0.stands first.1 nothing asked)) later)
         (λ e step.
         let c = tests_continue p a.visit in
         f.ends.further t a.visit last e

@@ -16,12 +16,9 @@ use Rattle.isle_laws_visits.proofs.Visited.{Same}
 use Rattle.isle_laws_visits.specs.Followers.{Follower, Goes, EndsOnTheWay}
 
 -- 1. runs
--- two answers that are one, two faults that are one, and an answer that is no fault
+-- two answers that are one, and an answer that is no fault
 pub one_answer : {A F : Type 0} (a b : A) → ◌≡◌ {A = Result A F} (Ok a) (Ok b) → a ≡ b
 one_answer a b e = cc
-
-pub one_fault : {A F : Type 0} (e f : F) → ◌≡◌ {A = Result A F} (Err e) (Err f) → e ≡ f
-one_fault e f h = cc
 
 pub no_fault : {A F : Type 0} (a : A) (e : F) → ◌≡◌ {A = Result A F} (Ok a) (Err e) → ⊥
 no_fault a e h = cc

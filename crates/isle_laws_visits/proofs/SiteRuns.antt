@@ -8,7 +8,7 @@ use Rattle.isle_model.specs.visits.Runs.{done}
 use Rattle.isle_model.specs.visits.SiteVisitor.{fields_opened, extractor_opened, input_sites, value_made, site_patterns, site_exprs, site_rules}
 use Rattle.isle_model.proofs.Elements.{none_some}
 use Rattle.isle_laws_visits.proofs.Visited.{equated}
-use Rattle.isle_laws_visits.specs.Followers.{Follower, GoesOn, Opens, Gives, NameInputs, FollowsSites, FollowsPatterns, FollowsExprs, FollowsRules, SiteRunsVisit}
+use Rattle.isle_laws_visits.specs.Followers.{Follower, GoesOn, GivesParts, Gives, NameInputs, FollowsSites, FollowsPatterns, FollowsExprs, FollowsRules, SiteRunsVisit}
 use Rattle.isle_laws_visits.proofs.FollowedRules.{visits_follow_lem}
 
 -- 1. visits that are alike but for their variables
@@ -81,9 +81,9 @@ module _ (s t : Visit) where
   went a w r h step =
       subst (λ z. GoesOn site_follower s z t w) (sym step.0) (record { stands = subst (λ z. Alike z w) (sym step.1) h; kept = λ u n k. k })
 
-  opens : (a b : Opened) (r : Result (List SiteTerm) ⊥) → AlikeOpened a b → done a.inputs a.visit r t → Opens site_follower s r t b
+  opens : (a b : Opened) (r : Result (List SiteTerm) ⊥) → AlikeOpened a b → done a.inputs a.visit r t → GivesParts site_follower s r t b
   opens a b r h step =
-      subst (λ z. Opens site_follower s z t b) (sym step.0)
+      subst (λ z. GivesParts site_follower s z t b) (sym step.0)
       (record { stands = subst (λ z. Alike z b.visit) (sym step.1) h.1; kept = λ u n k. k }, subst (λ us. AllZip (λ u n. n ≡ u) us a.inputs) h.0 (zip_same a.inputs))
 
   gives : (a b : Valued) (r : Result SiteTerm ⊥) → AlikeValued a b → done a.site a.visit r t → Gives site_follower s r t b
@@ -115,7 +115,7 @@ site_patterns_follow = record {
         went s t (asking n c s) (asking u c w) r (subst (λ z. Alike (asking z c s) (asking u c w)) (sym e) (by_vars (λ z. Alike (asking u c z) (asking u c w)) s w h (refl, refl))) step
 
     fields : (s w : Visit) (u n : SiteTerm) (c : Constraint) (m : ℕ) (r : Result (List SiteTerm) ⊥) (t : Visit) → Alike s w → n ≡ u
-        → done (fields_opened c m n s).inputs (fields_opened c m n s).visit r t → Opens site_follower s r t (fields_opened c m u w)
+        → done (fields_opened c m n s).inputs (fields_opened c m n s).visit r t → GivesParts site_follower s r t (fields_opened c m u w)
     fields s w u n c m r t h e step =
         opens s t (fields_opened c m n s) (fields_opened c m u w) r
         (subst (λ z. AlikeOpened (fields_opened c m z s) (fields_opened c m u w)) (sym e) (refl, by_vars (λ z. Alike (fields_opened c m u z).visit (fields_opened c m u w).visit) s w h (refl, refl))) step
@@ -145,19 +145,19 @@ site_exprs_follow = record {
 
 site_rules_follow : FollowsRules site_follower site_rules
 site_rules_follow = record {
-  argument_taken = λ s w i ty r t h step.
+  arg = λ s w i ty r t h step.
       gives s t (valued (argument i) (taking_argument i s)) (valued (argument i) (taking_argument i w)) r
       (refl, by_vars (λ z. Alike (taking_argument i z) (taking_argument i w)) s w h (refl, refl)) step;
-  value_matched = λ s w u n r t h e nothing step.
+  expr_as_pattern = λ s w u n r t h e nothing step.
       let asks = λ (z : SiteTerm) (x : Visit). valued z (asking_all (unwraps z) x) in
       gives s t (asks n s) (asks u w) r (subst (λ z. AlikeValued (asks z s) (asks u w)) (sym e) (refl, asked_alike (unwraps u) s w h)) step;
-  value_used = λ s n r t step. step;
-  pattern_lent = λ s r t step. step;
-  pattern_taken = λ s l r t step. step;
-  pattern_left = λ l s t step. step;
-  expr_lent = λ s r t step. step;
-  expr_taken = λ s l ty n r t step. step;
-  expr_left = λ l s t step. step;
+  pattern_as_expr = λ s n r t step. step;
+  lend_pattern = λ s r t step. step;
+  take_pattern = λ s l r t step. step;
+  leave_pattern = λ l s t step. step;
+  lend_expr = λ s r t step. step;
+  take_expr = λ s l ty n r t step. step;
+  leave_expr = λ l s t step. step;
 }
 
 site_follows : FollowsSites site_follower None site_rules site_patterns site_exprs

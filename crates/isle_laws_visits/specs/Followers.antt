@@ -44,8 +44,8 @@ module _ {F S N : Type 0} (o : Follower F S N) where
   GoesOn s r t v = MatchResult r (λ x. Goes s t v) (λ e. o.Ends t v e)
 
   -- likewise one that answers the ids of parts
-  abbrev pub Opens : S → Result (List N) F → S → Opened → Type 0
-  Opens s r t a = MatchResult r (λ ids. Goes s t a.visit × AllZip (o.Names t) a.inputs ids) (λ e. o.Ends t a.visit e)
+  abbrev pub GivesParts : S → Result (List N) F → S → Opened → Type 0
+  GivesParts s r t a = MatchResult r (λ ids. Goes s t a.visit × AllZip (o.Names t) a.inputs ids) (λ e. o.Ends t a.visit e)
 
   -- and one that answers the id of a value
   abbrev pub Gives : S → Result N F → S → Valued → Type 0
@@ -62,11 +62,11 @@ module _ {F S N : Type 0} (o : Follower F S N) where
     pub prim : (s : S) (w : Visit) (u : SiteTerm) (n : N) (ty name : ℕ) (r : Result (Unit {0}) F) (t : S)
         → o.Stands s w → o.Names s u n → v.match_prim_steps s n ty name r t → GoesOn s r t (asking u (is_prim name) w)
     pub variant : (s : S) (w : Visit) (u : SiteTerm) (n : N) (ty : ℕ) (tys : List ℕ) (variant : ℕ) (r : Result (List N) F) (t : S)
-        → o.Stands s w → o.Names s u n → v.match_variant_steps s n ty tys variant r t → Opens s r t (fields_opened (is_variant ty variant (length tys)) (length tys) u w)
+        → o.Stands s w → o.Names s u n → v.match_variant_steps s n ty tys variant r t → GivesParts s r t (fields_opened (is_variant ty variant (length tys)) (length tys) u w)
     pub struct : (s : S) (w : Visit) (u : SiteTerm) (n : N) (ty : ℕ) (tys : List ℕ) (r : Result (List N) F) (t : S)
-        → o.Stands s w → o.Names s u n → v.extract_struct_steps s n ty tys r t → Opens s r t (fields_opened (is_struct ty (length tys)) (length tys) u w)
+        → o.Stands s w → o.Names s u n → v.extract_struct_steps s n ty tys r t → GivesParts s r t (fields_opened (is_struct ty (length tys)) (length tys) u w)
     pub extractor : (s : S) (w : Visit) (u : SiteTerm) (n : N) (ty : ℕ) (tys : List ℕ) (term : ℕ) (infallible multi : Bool) (r : Result (List N) F) (t : S)
-        → o.Stands s w → o.Names s u n → v.extract_steps s n ty tys term infallible multi r t → Opens s r t (extractor_opened term (length tys) infallible multi u w)
+        → o.Stands s w → o.Names s u n → v.extract_steps s n ty tys term infallible multi r t → GivesParts s r t (extractor_opened term (length tys) infallible multi u w)
 
   pub record FollowsExprs (v : ExprSteps F S N) : Type 0 where
     pub bool : (s : S) (w : Visit) (ty : ℕ) (b : Bool) (r : Result N F) (t : S) → o.Stands s w → v.const_bool_steps s ty b r t → Gives s r t (value_made (bool_term b ty) w)
@@ -82,16 +82,16 @@ module _ {F S N : Type 0} (o : Follower F S N) where
 
   -- a visitor of rules that lends itself, and whose ids are the same for patterns and expressions
   pub record FollowsRules (v : RuleSteps F S S S N N N) : Type 0 where
-    pub argument_taken : (s : S) (w : Visit) (i ty : ℕ) (r : Result N F) (t : S) → o.Stands s w → v.arg_steps s i ty r t → Gives s r t (valued (argument i) (taking_argument i w))
-    pub value_matched : (s : S) (w : Visit) (u : SiteTerm) (n : N) (r : Result N F) (t : S)
+    pub arg : (s : S) (w : Visit) (i ty : ℕ) (r : Result N F) (t : S) → o.Stands s w → v.arg_steps s i ty r t → Gives s r t (valued (argument i) (taking_argument i w))
+    pub expr_as_pattern : (s : S) (w : Visit) (u : SiteTerm) (n : N) (r : Result N F) (t : S)
         → o.Stands s w → o.Names s u n → AsksNothingElse w u → v.expr_as_pattern_steps s n r t → Gives s r t (valued u (asking_all (unwraps u) w))
-    pub value_used : (s : S) (n : N) (r : Result N F) (t : S) → v.pattern_as_expr_steps s n r t → (r ≡ Ok n) × (t ≡ s)
-    pub pattern_lent : (s : S) (r : Result S F) (t : S) → v.lend_pattern_steps s r t → (r ≡ Ok s) × (t ≡ s)
-    pub pattern_taken : (s l : S) (r : Result (Unit {0}) F) (t : S) → v.take_pattern_steps s l r t → (r ≡ Ok tt) × (t ≡ l)
-    pub pattern_left : (l s t : S) → v.leave_pattern_steps l s t → t ≡ l
-    pub expr_lent : (s : S) (r : Result S F) (t : S) → v.lend_expr_steps s r t → (r ≡ Ok s) × (t ≡ s)
-    pub expr_taken : (s l : S) (ty : ℕ) (n : N) (r : Result N F) (t : S) → v.take_expr_steps s l ty n r t → (r ≡ Ok n) × (t ≡ l)
-    pub expr_left : (l s t : S) → v.leave_expr_steps l s t → t ≡ l
+    pub pattern_as_expr : (s : S) (n : N) (r : Result N F) (t : S) → v.pattern_as_expr_steps s n r t → (r ≡ Ok n) × (t ≡ s)
+    pub lend_pattern : (s : S) (r : Result S F) (t : S) → v.lend_pattern_steps s r t → (r ≡ Ok s) × (t ≡ s)
+    pub take_pattern : (s l : S) (r : Result (Unit {0}) F) (t : S) → v.take_pattern_steps s l r t → (r ≡ Ok tt) × (t ≡ l)
+    pub leave_pattern : (l s t : S) → v.leave_pattern_steps l s t → t ≡ l
+    pub lend_expr : (s : S) (r : Result S F) (t : S) → v.lend_expr_steps s r t → (r ≡ Ok s) × (t ≡ s)
+    pub take_expr : (s l : S) (ty : ℕ) (n : N) (r : Result N F) (t : S) → v.take_expr_steps s l ty n r t → (r ≡ Ok n) × (t ≡ l)
+    pub leave_expr : (l s t : S) → v.leave_expr_steps l s t → t ≡ l
 
   -- what binds a variable changes nothing else; who ended on the way to where a visit stands ended on the way further on; and
   -- want of memory ends anywhere

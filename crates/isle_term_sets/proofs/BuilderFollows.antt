@@ -15,7 +15,8 @@ use Rattle.isle_model.proofs.Either.{either}
 use Rattle.isle_model.proofs.Elements.{some_is}
 use Rattle.isle_laws_visits.proofs.Continued.{continues_now}
 use Rattle.isle_laws_visits.proofs.Visited.{equated}
-use Rattle.isle_laws_visits.specs.Followers.{AsksNothingElse, EndsOnTheWay, FollowsExprs, FollowsPatterns, FollowsRules, FollowsSites, Follower, Gives, Goes, GoesOn, NameInputs, Opens}
+use Rattle.isle_laws_visits.proofs.FollowedPatterns.{any_count}
+use Rattle.isle_laws_visits.specs.Followers.{AsksNothingElse, EndsOnTheWay, FollowsExprs, FollowsPatterns, FollowsRules, FollowsSites, Follower, Gives, Goes, GoesOn, NameInputs, GivesParts}
 use Rattle.isle_typed.specs.VisitorSteps.{expr_steps, no_memory, pattern_steps, rule_steps}
 use Rattle.isle_term_sets.specs.contracts.builder_patterns.RuleSetBuilderPatternVisitor.TheImpl as Patterns
 use Rattle.isle_term_sets.specs.contracts.builder_exprs.RuleSetBuilderExprVisitor.TheImpl as Exprs
@@ -70,7 +71,7 @@ sites_zip b (u ∷ us) (n ∷ ns) h =
 
 -- one that opens parts, no more than there may be
 opens : (before : List SiteTerm) (s t : RuleSetBuilder) (few : Type 0) (r : Result (List ℕ) VisitFault) (o : Opened)
-    → MatchResult r (λ ids. few × OpensTo before s t o ids) (EndsVisit before t o.visit) → Opens (follower before) s r t o
+    → MatchResult r (λ ids. few × OpensTo before s t o ids) (EndsVisit before t o.visit) → GivesParts (follower before) s r t o
 opens before s t few (Ok ids) o h = (goes before s t o.visit h.1.goes, sites_zip t o.inputs ids h.1.inputs)
 opens before s t few (Err e) o h = h
 
@@ -90,10 +91,6 @@ inputs_there s before (site_term_and u us) (x ∷ xs) h =
     within : HaveSites s xs → HaveSites s (x ∷ xs)
     within more zero d l = h.0.within
     within more (suc k) d l = more k d (omega (arith, l))
-
-parts_count : (n : ℕ) → pattern_count (any_parts n) ≡ n
-parts_count zero = refl
-parts_count (suc n) = ap suc (parts_count n)
 
 -- where a call has answered, and nothing is counted yet
 abbrev answered_call : Bool → Bool → SiteTerm → Visit → Visit
@@ -136,7 +133,7 @@ module _ (before : List SiteTerm) where
     struct = λ s w u n ty tys r t h site step. fields s w u n (is_struct ty (length tys)) (length tys) r t h site (step before w h site.within);
     extractor = λ s w u n ty tys term infallible multi r t h site step.
         let flags : Flags = record { pure = true; multi = multi; partial = not infallible; rec = false } in
-        outputs s w u n term (length tys) infallible multi r t h site (step before w flags (any_parts (length tys)) h site.within refl (parts_count (length tys)));
+        outputs s w u n term (length tys) infallible multi r t h site (step before w flags (any_parts (length tys)) h site.within refl (any_count (length tys)));
   }
     where
       asked : (s : RuleSetBuilder) (w : Visit) (u : SiteTerm) (n : ℕ) (c : Constraint) (r : Result (Unit {0}) VisitFault) (t : RuleSetBuilder) → StandsAt before s w → IsSiteOf s u n
@@ -146,7 +143,7 @@ module _ (before : List SiteTerm) where
 
       fields : (s : RuleSetBuilder) (w : Visit) (u : SiteTerm) (n : ℕ) (c : Constraint) (count : ℕ) (r : Result (List ℕ) VisitFault) (t : RuleSetBuilder) → StandsAt before s w → IsSiteOf s u n
           → MatchResult r (λ ids. (count ≤ most_fields) × OpensTo before s t (fields_opened c count (unfold_site (built_sites s) n) w) ids)
-          (EndsOpening before t (fields_opened c count (unfold_site (built_sites s) n) w).visit Limits.Fields most_fields count w) → Opens (follower before) s r t (fields_opened c count u w)
+          (EndsOpening before t (fields_opened c count (unfold_site (built_sites s) n) w).visit Limits.Fields most_fields count w) → GivesParts (follower before) s r t (fields_opened c count u w)
       fields s w u n c count r t h site q =
           opens before s t (count ≤ most_fields) r (fields_opened c count u w)
           (ended_so (λ ids. (count ≤ most_fields) × OpensTo before s t (fields_opened c count u w) ids) (EndsOpening before t (fields_opened c count u w).visit Limits.Fields most_fields count w)
@@ -156,13 +153,13 @@ module _ (before : List SiteTerm) where
       outputs : (s : RuleSetBuilder) (w : Visit) (u : SiteTerm) (n term count : ℕ) (infallible multi : Bool) (r : Result (List ℕ) VisitFault) (t : RuleSetBuilder) → StandsAt before s w → IsSiteOf s u n
           → MatchResult r (λ ids. (count ≤ most_outputs) × OpensTo before s t (extractor_opened term count infallible multi (unfold_site (built_sites s) n) w) ids)
           (EndsOpening before t (extractor_opened term count infallible multi (unfold_site (built_sites s) n) w).visit Limits.Outputs most_outputs count (answered_call multi infallible (extractor_call term (unfold_site (built_sites s) n)) w))
-          → Opens (follower before) s r t (extractor_opened term count infallible multi u w)
+          → GivesParts (follower before) s r t (extractor_opened term count infallible multi u w)
       outputs s w u n term count infallible multi r t h site q =
           let o = extractor_opened term count infallible multi u w in
           let v = answered_call multi infallible (extractor_call term u) w in
           opens before s t (count ≤ most_outputs) r o
           (ended_so (λ ids. (count ≤ most_outputs) × OpensTo before s t o ids) (EndsOpening before t o.visit Limits.Outputs most_outputs count v) (EndsVisit before t o.visit) r
-          (λ e k. outputs_end before t w (record { pure = true; multi = multi; partial = not infallible; rec = false }) multi infallible (extractor_call term u) (any_parts count) count e refl (parts_count count) h.few k)
+          (λ e k. outputs_end before t w (record { pure = true; multi = multi; partial = not infallible; rec = false }) multi infallible (extractor_call term u) (any_parts count) count e refl (any_count count) h.few k)
           (subst (λ x. MatchResult r (λ ids. (count ≤ most_outputs) × OpensTo before s t (extractor_opened term count infallible multi x w) ids)
           (EndsOpening before t (extractor_opened term count infallible multi x w).visit Limits.Outputs most_outputs count (answered_call multi infallible (extractor_call term x) w))) site.number q))
 
@@ -186,15 +183,15 @@ module _ (before : List SiteTerm) where
 
   in_rules : FollowsRules (follower before) (rule_steps Rules.ghosts)
   in_rules = record {
-    argument_taken = λ s w i ty r t h step. taken s w i r t h (step before w h);
-    value_matched = λ s w u n r t h site nothing step. matched s w u n r t h site (step before w h site.within (subst (AsksNothingElse w) (sym site.number) nothing));
-    value_used = λ s n r t step. step;
-    pattern_lent = λ s r t step. step;
-    pattern_taken = λ s l r t step. step;
-    pattern_left = λ l s t step. step;
-    expr_lent = λ s r t step. step;
-    expr_taken = λ s l ty n r t step. step;
-    expr_left = λ l s t step. step;
+    arg = λ s w i ty r t h step. taken s w i r t h (step before w h);
+    expr_as_pattern = λ s w u n r t h site nothing step. matched s w u n r t h site (step before w h site.within (subst (AsksNothingElse w) (sym site.number) nothing));
+    pattern_as_expr = λ s n r t step. step;
+    lend_pattern = λ s r t step. step;
+    take_pattern = λ s l r t step. step;
+    leave_pattern = λ l s t step. step;
+    lend_expr = λ s r t step. step;
+    take_expr = λ s l ty n r t step. step;
+    leave_expr = λ l s t step. step;
   }
     where
       taken : (s : RuleSetBuilder) (w : Visit) (i : ℕ) (r : Result ℕ VisitFault) (t : RuleSetBuilder) → StandsAt before s w

@@ -23,7 +23,7 @@ use Rattle.isle_sets.specs.DemandsHeld.{constraint_held, are_equated, first_kept
 use Rattle.isle_sets.specs.SiteTables.{AreFirst, ForWantOfRoom, HasNoRoom, HasSources, IsTable, StandsFor, table_sites}
 use Rattle.isle_sets.specs.SiteViews.{constraint_view}
 use Rattle.isle_sets.specs.Closings.{AreDemandsOf, KeepsDue}
-use Rattle.isle_term_sets.specs.VisitedSites.{AreAnswered, AreNumbered, AsksUnwrapped, IsNextCall, built_sites, conflict_beside, conflict_view, StandsAt, GoesTo, Makes, EndsBefore}
+use Rattle.isle_term_sets.specs.VisitedSites.{AreAnswered, AreCallsNumbered, AsksUnwrapped, IsNextCall, built_sites, conflict_beside, conflict_view, StandsAt, GoesTo, Makes, EndsBefore}
 use Rattle.isle_base.specs.declared.visit_fault.VisitFault.{VisitFault}
 use Rattle.isle_sets.specs.declared.trie_again.Constraint as C
 use Rattle.isle_sets.specs.declared.demanded.Demanded.{Demanded}
@@ -236,7 +236,7 @@ module _ (before : List SiteTerm) (b : RuleSetBuilder) (v : Visit) (h : StandsAt
           all_gone_over = λ u c. h.all_gone_over u (subst (λ l. Contains l u) its c);
           impure = record { within = h.impure.within; numbers = h.impure.numbers ∙ sym im };
           calls = h.calls ∙ sym calls;
-          numbered = subst AreNumbered (sym im) h.numbered;
+          numbered = subst AreCallsNumbered (sym im) h.numbered;
           answered = λ r c. let g = h.answered r c in (g.0, λ u i. subst (λ l. Contains l (u, is_present)) (sym cs) (g.1 u i));
           few = ap first_passed counted ∙ h.few;
         };

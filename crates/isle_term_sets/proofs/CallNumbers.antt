@@ -8,11 +8,11 @@ use Rattle.isle_model.specs.visits.Demands.{Visit, call_result}
 use Rattle.isle_model.specs.sites.Closure.{before_closing}
 use Rattle.isle_model.proofs.DistinctCounts.{no_more_distinct}
 use Rattle.isle_model.proofs.Elements.{In, in_slice, none_some, some_is}
-use Rattle.isle_term_sets.specs.VisitedSites.{AreNumbered, StandsAt, built_sites, call_number}
+use Rattle.isle_term_sets.specs.VisitedSites.{AreCallsNumbered, StandsAt, built_sites, call_number}
 use Rattle.isle_term_sets.specs.declared.ruleset_builder.RuleSetBuilder.{RuleSetBuilder}
 
 -- before any call
-pub none_numbered : AreNumbered []
+pub none_numbered : AreCallsNumbered []
 none_numbered i u e = absurd (none_some u e)
 
 -- one more
@@ -22,7 +22,7 @@ last_or_before [] w (suc i) u e = absurd (none_some u e)
 last_or_before (x ∷ us) w zero u e = inl e
 last_or_before (x ∷ us) w (suc i) u e = elim (last_or_before us w i u e) [ inl f ↦ inl f | inr f ↦ inr (ap suc f.0, f.1) ]
 
-pub next_numbered : (us : List SiteTerm) (w : SiteTerm) → AreNumbered us → call_number w ≡ suc (length us) → AreNumbered (us ++ w ∷ [])
+pub next_numbered : (us : List SiteTerm) (w : SiteTerm) → AreCallsNumbered us → call_number w ≡ suc (length us) → AreCallsNumbered (us ++ w ∷ [])
 next_numbered us w h next i u e = elim (last_or_before us w i u e) [ inl f ↦ h i u f | inr f ↦ ap call_number (sym f.1) ∙ next ∙ ap suc (sym f.0) ]
 
 -- what a call gives has its number

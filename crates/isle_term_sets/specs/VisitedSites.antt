@@ -67,8 +67,8 @@ call_number (pick_of call) = call_number call
 call_number _ = 0
 
 -- the impure calls that a visit has met have the numbers from 1 on, in order
-abbrev pub AreNumbered : List SiteTerm → Type 0
-AreNumbered calls = (i : ℕ) (u : SiteTerm) → slice_get calls i ≡ Some u → call_number u ≡ suc i
+abbrev pub AreCallsNumbered : List SiteTerm → Type 0
+AreCallsNumbered calls = (i : ℕ) (u : SiteTerm) → slice_get calls i ≡ Some u → call_number u ≡ suc i
 
 -- a site of a builder is the next impure call of a visit, or what that gives
 abbrev pub IsNextCall : RuleSetBuilder → Visit → ℕ → Type 0
@@ -87,7 +87,7 @@ pub record StandsAt (before : List SiteTerm) (b : RuleSetBuilder) (v : Visit) : 
   pub all_gone_over : (u : SiteTerm) → Contains v.demands.iterators u → (s : ℕ) × IsTrue (contains ◌==◌ b.iterators s) × (unfold_site (built_sites b) s ≡ u)
   pub impure : AreSitesOf b v.demands.impure b.impure.items
   pub calls : length b.impure.items ≡ v.impure_calls
-  pub numbered : AreNumbered v.demands.impure
+  pub numbered : AreCallsNumbered v.demands.impure
   pub answered : AreAnswered (built_sites b) v b.answered
   pub few : first_passed v.demands.counted ≡ None
 
