@@ -39,3 +39,4 @@ pub mod LoopPlaces
 pub mod TotalMeanings
 pub mod NearTrees
 pub mod ReadLists
+pub mod VisitedRules

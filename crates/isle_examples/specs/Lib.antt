@@ -54,3 +54,4 @@ pub mod VariantIds
 pub mod VisitableRules
 pub mod Wrapped
 pub mod Written
+pub mod VisitedRules

@@ -20,6 +20,7 @@ ghost use Rattle.isle_examples.specs.Expansions.{NestedUsesDouble};
 ghost use Rattle.isle_examples.specs.Extract.{ExtractEnds, ExtractIsServed, ExtractMeaningServes, NearSetsAreNotBuilt, extract_mute, extract_program, extract_sample};
 ghost use Rattle.isle_examples.specs.Fall.{FallIsSubsetPair, FallRuns, fall_sample};
 ghost use Rattle.isle_examples.specs.FormedRules.{ArgumentsAreLimited, FormedRulesMayTestImpureCalls, OthersAreNotFormed, ResultsMayUnwrap};
+ghost use Rattle.isle_examples.specs.VisitedRules.{LimitsAreMetInOrder, RunsAnswerOneSite, VisitsCount};
 ghost use Rattle.isle_examples.specs.FoundSites.{SitesAreFound};
 ghost use Rattle.isle_examples.specs.HandedIn.{IllFormed, NamesGoOn, OwnTypesDoNotCount, TypesHandedIn};
 ghost use Rattle.isle_examples.specs.Hiding.{BetterTestsAreNotHidden, hidden_sample};
@@ -360,6 +361,15 @@ pub fn formed_rules()
     ensures impure { FormedRulesMayTestImpureCalls }
     ensures unwrap { ResultsMayUnwrap }
     ensures arguments { ArgumentsAreLimited }
+{}
+
+/// A visit counts fields and arguments before it makes their sites; of two limits that a rule passes the one that the visit
+/// comes to is first; and the run of the visitor of sites answers the site of the rule's value, and no other.
+#[tactic(auto, using(crate::proofs::VisitedRules::runs_answer_one_site_lem))]
+pub fn visited_rules()
+    ensures counts { VisitsCount }
+    ensures limits { LimitsAreMetInOrder }
+    ensures run { RunsAnswerOneSite }
 {}
 
 ghost use Rattle.isle_examples.specs.Mended.{wrapped_set, AboveCallsNothingIsAsked, ReturnsOfMultiTermsGoOn, OverlapsMayHoldTwice, NamelessIsNotAnswered, LookUpsHaveNoList, LimitsAreNamedWherePassed, SecondIsReadAlone, EmptySetsAreBuilt, SignaturesOfW, SitesAreBrought, OverlapsAreTold, TermsOfSites, IdentifiersOfRules, EnvironmentsOfLists, VariantHasItsTerm};
