@@ -1,5 +1,5 @@
 -- A mask and a wrong overlap are each reported once, and multi calls are gone over.
-use Rattle.std.proofs.Common.{◌≡◌, ◌∷◌, [], ◌∙◌, zero, suc, true, Some, refl, sym, ap, arith}
+use Rattle.std.proofs.Common.{◌≡◌, ◌∷◌, [], ◌∙◌, zero, suc, Some, refl, sym, ap, arith}
 use Rattle.std.proofs.lemmas.Bool.{false≢true}
 use Rattle.std.proofs.lemmas.Option.{none-some, same_Some}
 use Rattle.isle_model.specs.lists.Syntax.{Position}

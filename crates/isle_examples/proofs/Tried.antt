@@ -1,5 +1,5 @@
 -- The laws on demands that hold alike, and on rules that never match, on samples.
-use Rattle.std.proofs.Common.{[], ℤ, pos, true, refl, arith}
+use Rattle.std.proofs.Common.{[], ℤ, pos, refl, arith}
 use Rattle.std.proofs.lemmas.Bool.{false≢true}
 use Rattle.isle_model.specs.rules.Program.{rules_of}
 use Rattle.isle_model.specs.sites.Overlap.{built_rule}

@@ -1,6 +1,5 @@
 -- The sample whose rule leaves a call unused is lowered: its tree is the best one.
 use Rattle.std.proofs.Common.{refl}
-use Rattle.std.proofs.lemmas.Bool.{false≢true}
 use Rattle.isle_examples.proofs.SetStages.{built_multi}
 use Rattle.isle_examples.specs.Stages.{IsBuiltOf}
 use Rattle.isle_examples.specs.Unasked.{unasked_defs, unasked_rules, unasked_set}

@@ -3,7 +3,7 @@
 --   (rule (f _ _ x x _) 1)
 --   (rule (f _ _ x _ x) 2)
 --   (rule (f x x _ _ _) 3)
-use Rattle.std.specs.Prelude.{◌∷◌, [], ℕ, pos, true, List}
+use Rattle.std.specs.Prelude.{◌∷◌, [], pos, true, List}
 use Rattle.isle_model.specs.sites.Sites.{SiteSet, argument_site}
 use Rattle.isle_model.specs.trees.Trees.{Tree, equal_at, no_step, step}
 use Rattle.isle_examples.specs.SetForms.{a_rule, byte, returning}
