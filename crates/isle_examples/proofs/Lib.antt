@@ -40,3 +40,4 @@ pub mod TotalMeanings
 pub mod NearTrees
 pub mod ReadLists
 pub mod VisitedRules
+pub mod ShownCounts

@@ -55,3 +55,4 @@ pub mod VisitableRules
 pub mod Wrapped
 pub mod Written
 pub mod VisitedRules
+pub mod ShownCounts

@@ -20,6 +20,7 @@ ghost use Rattle.isle_examples.specs.Expansions.{NestedUsesDouble};
 ghost use Rattle.isle_examples.specs.Extract.{ExtractEnds, ExtractIsServed, ExtractMeaningServes, NearSetsAreNotBuilt, extract_mute, extract_program, extract_sample};
 ghost use Rattle.isle_examples.specs.Fall.{FallIsSubsetPair, FallRuns, fall_sample};
 ghost use Rattle.isle_examples.specs.FormedRules.{ArgumentsAreLimited, FormedRulesMayTestImpureCalls, OthersAreNotFormed, ResultsMayUnwrap};
+ghost use Rattle.isle_examples.specs.ShownCounts.{VisitsCountWhatIsShown};
 ghost use Rattle.isle_examples.specs.VisitedRules.{LimitsAreMetInOrder, RunsAnswerOneSite, VisitsCount};
 ghost use Rattle.isle_examples.specs.FoundSites.{SitesAreFound};
 ghost use Rattle.isle_examples.specs.HandedIn.{IllFormed, NamesGoOn, OwnTypesDoNotCount, TypesHandedIn};
@@ -370,6 +371,13 @@ pub fn visited_rules()
     ensures counts { VisitsCount }
     ensures limits { LimitsAreMetInOrder }
     ensures run { RunsAnswerOneSite }
+{}
+
+/// What a rule's visit counts, from which its limits are read, can be seen of its patterns alone: each argument, and each
+/// term of the patterns with how many parts it has.
+#[tactic(auto, using(crate::proofs::ShownCounts::visits_count_what_is_shown_lem))]
+pub fn visits_count_what_is_shown()
+    ensures { VisitsCountWhatIsShown }
 {}
 
 ghost use Rattle.isle_examples.specs.Mended.{wrapped_set, AboveCallsNothingIsAsked, ReturnsOfMultiTermsGoOn, OverlapsMayHoldTwice, NamelessIsNotAnswered, LookUpsHaveNoList, LimitsAreNamedWherePassed, SecondIsReadAlone, EmptySetsAreBuilt, SignaturesOfW, SitesAreBrought, OverlapsAreTold, TermsOfSites, IdentifiersOfRules, EnvironmentsOfLists, VariantHasItsTerm};
