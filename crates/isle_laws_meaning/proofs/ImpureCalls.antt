@@ -3,16 +3,16 @@ use Rattle.std.proofs.Common.{◌≡◌, ℕ, zero, suc, Bool, true, false, List
 use Rattle.isle_model.specs.lists.Tables.{Flags}
 use Rattle.isle_model.specs.rules.Program.{Program, Kind, a_variant, a_struct, a_call, unknown, kind, is_partial}
 use Rattle.isle_model.specs.rules.Typed.{TypedPattern, match_bind, match_var, match_bool, match_int, match_prim, match_term, match_any, match_and, TypedPatterns, no_typed_pattern, typed_pattern_and, TypedExpr, make_term, make_var, make_bool, make_int, make_prim, make_let, TypedExprs, no_typed_expr, typed_expr_and, TypedLets, no_typed_let, typed_let_and, TypedIfLet, TypedRule}
-use Rattle.isle_model.specs.sites.Sites.{is_present, SiteTerm, bool_term, int_term, prim_term, argument, extractor_call, constructor_call, pick_of, variant_made, variant_field, struct_made, struct_field, some_made, some_part, tuple_part, no_site, SiteTerms, no_site_term, site_term_and}
-use Rattle.isle_model.specs.visits.Demands.{site_term_eq, Visit, visit_start, making, asking, equating, iterating, binding, var_site, from_to, Opened, part_sites, open_call, open_term, visit_pattern, visit_each, visit_all, Valued, ValuedAll, call_sites, visit_call, visit_term, visit_expr, visit_exprs, visit_lets, unwraps, asking_all, visit_args, visit_iflets, finished, demands_of, taking_argument, outputs_taken, counting, pattern_count, outputs_opened}
+use Rattle.isle_model.specs.sites.Sites.{Constraint, is_variant, is_struct, is_present, SiteTerm, bool_term, int_term, prim_term, argument, extractor_call, constructor_call, pick_of, variant_made, variant_field, struct_made, struct_field, some_made, some_part, tuple_part, no_site, SiteTerms, no_site_term, site_term_and, field_terms}
+use Rattle.isle_model.specs.visits.Demands.{site_term_eq, Visit, visit_start, making, asking, equating, iterating, binding, var_site, Opened, part_sites, open_call, open_term, visit_pattern, visit_each, visit_all, Valued, ValuedAll, call_sites, visit_call, visit_term, visit_expr, visit_exprs, visit_lets, unwraps, asking_all, visit_args, visit_iflets, finished, demands_of, taking_argument, outputs_taken, counting, pattern_count, outputs_opened}
 use Rattle.isle_model.proofs.Either.{either}
 use Rattle.isle_model.proofs.Elements.{In, in_either}
 use Rattle.isle_model.proofs.FewElements.{not_nothing}
 use Rattle.isle_laws_runs.proofs.taking.CallsIn.{CallsOnly, CallOnly}
-use Rattle.isle_laws_visits.proofs.Grown.{equated}
+use Rattle.isle_laws_visits.proofs.GrowingVisits.{equated}
 use Rattle.isle_laws_visits.proofs.PureCalls.{IsNoImpureCall}
 use Rattle.isle_laws_matching.proofs.total.CallsMade.{AllMade, EachMade}
-use Rattle.isle_laws_visits.proofs.Patterns.{in_numbers}
+use Rattle.isle_laws_visits.proofs.Patterns.{in_fields, by_field}
 
 -- 1. where no impure call was met, no site is one
 abbrev AreNoImpureCalls : List SiteTerm → Type 0
@@ -43,13 +43,13 @@ unfolding equated
 quiet_equating a b v h = either MakesNoImpureCall (site_term_eq a b) v (equated a b v) h h
 
 -- 2. terms
-numbers_quiet : (f : ℕ → SiteTerm) (i : ℕ) (args : TypedPatterns) → ((j : ℕ) → IsNoImpureCall (f j)) → AreNoImpureCalls (from_to f i args)
-numbers_quiet f i args h u k = let n = in_numbers f i args u k in subst IsNoImpureCall n.2 (h n.0)
-
 parts_quiet : (s : SiteTerm) (args : TypedPatterns) → AreNoImpureCalls (part_sites s args)
 parts_quiet s no_typed_pattern = none_quiet
 parts_quiet s (typed_pattern_and q no_typed_pattern) = none_quiet
-parts_quiet s (typed_pattern_and q (typed_pattern_and r rs)) = numbers_quiet (tuple_part s) 0 (typed_pattern_and q (typed_pattern_and r rs)) (λ j. tt)
+parts_quiet s (typed_pattern_and q (typed_pattern_and r rs)) = λ u i. let k = in_fields (tuple_part s) 0 (pattern_count (typed_pattern_and q (typed_pattern_and r rs))) u i in subst IsNoImpureCall k.2 tt
+
+fields_quiet : (c : Constraint) (s : SiteTerm) (v : Visit) → MakesNoImpureCall v → MakesNoImpureCall (making (field_terms c s) v)
+fields_quiet c s v = quiet_making (field_terms c s) v (by_field IsNoImpureCall s (λ k i. tt) (λ i. tt) c)
 
 call_opened : (flags : Flags) (infallible : Bool) (call : SiteTerm) (args : TypedPatterns) (v : Visit) → IsNoImpureCall call → MakesNoImpureCall v → MakesNoImpureCall (open_call flags infallible call args v).visit
 call_opened flags infallible call args v q h =
@@ -69,8 +69,8 @@ call_opened flags infallible call args v q h =
         quiet_making (part_sites (some_part call) args) w (parts_quiet (some_part call) args) (quiet_making (call ∷ (some_part call ∷ [])) v (and_quiet call (some_part call ∷ []) q (and_quiet (some_part call) [] tt none_quiet)) h)
 
 term_opened : (k : Kind) (t : ℕ) (s : SiteTerm) (args : TypedPatterns) (v : Visit) → MakesNoImpureCall v → MakesNoImpureCall (open_term k t s args v).visit
-term_opened (a_variant ty i) t s args v h = quiet_making (from_to (variant_field s i) 0 args) v (numbers_quiet (variant_field s i) 0 args (λ j. tt)) h
-term_opened (a_struct ty) t s args v h = quiet_making (from_to (struct_field s) 0 args) v (numbers_quiet (struct_field s) 0 args (λ j. tt)) h
+term_opened (a_variant ty i) t s args v h = fields_quiet (is_variant ty i (pattern_count args)) s v h
+term_opened (a_struct ty) t s args v h = fields_quiet (is_struct ty (pattern_count args)) s v h
 term_opened (a_call flags infallible) t s args v h = call_opened flags infallible (extractor_call t s) args v tt h
 term_opened unknown t s args v h = h
 

@@ -9,7 +9,7 @@ use Rattle.isle_model.specs.rules.Meaning.{bool_literal, int_literal, Meaning}
 use Rattle.isle_model.specs.rules.Program.{Program, Kind, a_variant, a_struct, a_call, unknown, kind, rules_of}
 use Rattle.isle_model.specs.rules.Typed.{TypedPattern, match_bind, match_var, match_bool, match_int, match_prim, match_term, match_any, match_and, TypedPatterns, no_typed_pattern, typed_pattern_and, TypedIfLet, TypedRule}
 use Rattle.isle_model.specs.sites.Sites.{Constraint, is_variant, is_struct, is_bool, is_int, is_prim, is_present, SiteTerm, bool_term, int_term, prim_term, argument, extractor_call, pick_of, some_part, variant_field, struct_field}
-use Rattle.isle_model.specs.visits.Demands.{site_term_eq, Visit, visit_start, making, asking, equating, binding, var_site, from_to, pattern_count, Opened, open_call, open_term, visit_pattern, visit_each, visit_all, visit_expr, unwraps, asking_all, visit_args, visit_iflets, demands_of, taking_argument}
+use Rattle.isle_model.specs.visits.Demands.{site_term_eq, Visit, visit_start, making, asking, equating, binding, var_site, pattern_count, Opened, open_call, open_term, visit_pattern, visit_each, visit_all, visit_expr, unwraps, asking_all, visit_args, visit_iflets, demands_of, taking_argument}
 use Rattle.isle_model.specs.sites.Serves.{constant_site, constant_type, written_type, written_value, tested_constants, is_open_constant, is_type_with_parts, TellsConstantsApart}
 use Rattle.isle_model.specs.claims.Environments.{program_of}
 use Rattle.isle_model.proofs.Either.{either}
@@ -17,10 +17,10 @@ use Rattle.isle_model.proofs.Elements.{In, in_from_contains, contains_from_in, i
 use Rattle.isle_laws_typing.proofs.FormedParts.{from_if, type_is}
 use Rattle.isle_laws_matching.specs.TotalLaws.{TotalMeaning, total_value, KeepsConstantsApart}
 use Rattle.isle_laws_typing.proofs.WellTypedRules.{elaborated_programs_are_well_typed_lem}
-use Rattle.isle_laws_visits.proofs.Patterns.{AsMany, term_known, as_many, output_count}
+use Rattle.isle_laws_visits.proofs.Patterns.{AsManySites, term_known, as_many_sites, output_count}
 use Rattle.isle_laws_visits.proofs.RuleParts.{iflet_parts, rule_parts}
-use Rattle.isle_laws_visits.proofs.Grown.{equated, Grown, each_grown, all_grown, args_grown, iflets_grown, expr_adds, rule_adds}
-use Rattle.isle_laws_visits.proofs.PatternParts.{from_term, from_part, from_bind}
+use Rattle.isle_laws_visits.proofs.GrowingVisits.{equated, Grown, each_grown, all_grown, args_grown, iflets_grown, expr_adds, rule_adds}
+use Rattle.isle_laws_visits.proofs.PatternParts.{pattern_parts, from_part, from_bind}
 use Rattle.isle_laws_closure.proofs.built.BuiltSets.{typed_rule}
 use Rattle.isle_laws_typing.specs.WellTypedPrograms.{IsWellTypedProgram}
 use Rattle.isle_laws_meaning.specs.PatternConstants.{PatternConstant, a_literal, a_name, pattern_constants, patterns_constants, rule_constants, rules_constants, type_of_constant, means_itself, AreToldApart, value_in, value_by, TellsPatternsApart, KeepsPatternsApart, LiteralsAreToldApart, ConstantsAreOfPatterns, FunctionsConstantsAreOfPatterns, HeadlineIsOfPatterns}
@@ -70,8 +70,8 @@ module _ (p : Program) (P : SiteTerm → Type 0) where
       (either (λ (o : Opened). AsksSuch o.visit) infallible _ _ h (asked_such c is_present (making (c ∷ (some_part c ∷ [])) v) none_such h))
 
   term_such : (k : Kind) (t : ℕ) (s : SiteTerm) (args : TypedPatterns) (v : Visit) → AsksSuch v → AsksSuch (open_term k t s args v).visit
-  term_such (a_variant ty i) t s args v h = asked_such s (is_variant ty i (pattern_count args)) (making (from_to (variant_field s i) 0 args) v) none_such h
-  term_such (a_struct ty) t s args v h = asked_such s (is_struct ty (pattern_count args)) (making (from_to (struct_field s) 0 args) v) none_such h
+  term_such (a_variant ty i) t s args v h = asked_such s (is_variant ty i (pattern_count args)) v none_such h
+  term_such (a_struct ty) t s args v h = asked_such s (is_struct ty (pattern_count args)) v none_such h
   term_such (a_call flags infallible) t s args v h = call_such flags infallible (extractor_call t s) args v h
   term_such unknown t s args v h = h
 
@@ -145,14 +145,14 @@ asked_later v w k g a = record { asked = a.asked; listed = g.asked a.asked a.lis
 asked_now : (s : SiteTerm) (c : Constraint) (v : Visit) (k : PatternConstant) → In (constant_site c) (site_of k) → IsAsked (asking s c v) k
 asked_now s c v k i = record { asked = (s, c); listed = in_right v.demands.constraints ((s, c) ∷ []) (s, c) (inl refl); constant = i }
 
-call_inputs : (flags : Flags) (infallible : Bool) (c : SiteTerm) (args : TypedPatterns) (v : Visit) → AsMany (open_call flags infallible c args v).inputs args
+call_inputs : (flags : Flags) (infallible : Bool) (c : SiteTerm) (args : TypedPatterns) (v : Visit) → AsManySites (open_call flags infallible c args v).inputs args
 call_inputs flags infallible c args v =
-    either (λ (o : Opened). AsMany o.inputs args) flags.multi _ _ (output_count (pick_of c) args)
-    (either (λ (o : Opened). AsMany o.inputs args) infallible _ _ (output_count c args) (output_count (some_part c) args))
+    either (λ (o : Opened). AsManySites o.inputs args) flags.multi _ _ (output_count (pick_of c) args)
+    (either (λ (o : Opened). AsManySites o.inputs args) infallible _ _ (output_count c args) (output_count (some_part c) args))
 
-term_inputs : (k : Kind) (t : ℕ) (s : SiteTerm) (args : TypedPatterns) (v : Visit) → (k ≡ unknown → ⊥) → AsMany (open_term k t s args v).inputs args
-term_inputs (a_variant ty i) t s args v known = as_many (variant_field s i) 0 args
-term_inputs (a_struct ty) t s args v known = as_many (struct_field s) 0 args
+term_inputs : (k : Kind) (t : ℕ) (s : SiteTerm) (args : TypedPatterns) (v : Visit) → (k ≡ unknown → ⊥) → AsManySites (open_term k t s args v).inputs args
+term_inputs (a_variant ty i) t s args v known = as_many_sites (variant_field s i) 0 args
+term_inputs (a_struct ty) t s args v known = as_many_sites (struct_field s) 0 args
 term_inputs (a_call flags infallible) t s args v known = call_inputs flags infallible (extractor_call t s) args v
 term_inputs unknown t s args v known = absurd (known refl)
 
@@ -189,13 +189,13 @@ module _ (p : Program) where
         one_met (asking s (is_prim name) v) (a_name name ty)
         (asked_now s (is_prim name) v (a_name name ty) (inl refl), type_is (constant_type p name) ty (from_if (is_type (constant_type p name) ty) (Some vars) more f).0)
     pattern_met (match_term ty t args) s v vars more f =
-        let a = from_term p ty t args vars more f in
+        let a = pattern_parts p ty t args vars more f in
         let o = open_term (kind p t) t s args v in
         each_met args o.inputs a.entry.arg_tys o.visit vars more a.formed (term_inputs (kind p t) t s args v (term_known p t a.entry a.there))
     pattern_met (match_any ty) s v vars more f = none_met v
     pattern_met (match_and ty subs) s v vars more f = all_met subs s ty v vars more f
 
-    each_met : (qs : TypedPatterns) (ss : List SiteTerm) (tys : List ℕ) (v : Visit) (vars more : List (ℕ × ℕ)) → formed_parts p qs tys vars ≡ Some more → AsMany ss qs → AreMet p (visit_each p qs ss v) (patterns_constants qs)
+    each_met : (qs : TypedPatterns) (ss : List SiteTerm) (tys : List ℕ) (v : Visit) (vars more : List (ℕ × ℕ)) → formed_parts p qs tys vars ≡ Some more → AsManySites ss qs → AreMet p (visit_each p qs ss v) (patterns_constants qs)
     each_met no_typed_pattern ss tys v vars more f n = none_met v
     each_met (typed_pattern_and q qs) [] tys v vars more f n = absurd n
     each_met (typed_pattern_and q qs) (s ∷ ss) [] v vars more f n = absurd (none_some more f)

@@ -7,18 +7,18 @@ use Rattle.isle_model.specs.lists.Ranges.{is_literal_of}
 use Rattle.isle_model.specs.rules.Meaning.{look}
 use Rattle.isle_model.specs.rules.Program.{Program, kind, is_partial}
 use Rattle.isle_model.specs.rules.Typed.{TypedPattern, match_bind, match_var, match_bool, match_int, match_prim, match_term, match_any, match_and, TypedPatterns, no_typed_pattern, typed_pattern_and, TypedExpr, make_term, make_var, make_bool, make_int, make_prim, make_let, TypedExprs, no_typed_expr, typed_expr_and, TypedLets, no_typed_let, typed_let_and, TypedIfLet, TypedRule}
-use Rattle.isle_model.specs.sites.Sites.{is_bool, is_int, is_prim, SiteTerm, bool_term, int_term, prim_term, argument, some_made, tuple_part, SiteTerms, no_site_term, site_term_and}
-use Rattle.isle_model.specs.visits.Demands.{Demands, Visit, visit_start, making, asking, equating, binding, or_no_site, var_site, from_to, output_sites, open_term, visit_pattern, visit_each, visit_all, Valued, ValuedAll, visit_term, visit_expr, visit_exprs, visit_lets, unwraps, asking_all, visit_args, visit_iflets, finished, visit_rule, taking_argument}
+use Rattle.isle_model.specs.sites.Sites.{is_bool, is_int, is_prim, SiteTerm, bool_term, int_term, prim_term, argument, some_made, tuple_part, SiteTerms, no_site_term, site_term_and, fields_from}
+use Rattle.isle_model.specs.visits.Demands.{Demands, Visit, visit_start, making, asking, equating, binding, or_no_site, var_site, pattern_count, output_sites, open_term, visit_pattern, visit_each, visit_all, Valued, ValuedAll, visit_term, visit_expr, visit_exprs, visit_lets, unwraps, asking_all, visit_args, visit_iflets, finished, visit_rule, taking_argument}
 use Rattle.isle_model.specs.sites.Serves.{constant_type}
 use Rattle.isle_model.specs.lists.Setting.{bool_type, expr_type, has_constructor, has_extractor}
 use Rattle.isle_model.specs.lists.Formed.{pattern_type, var_type, is_type, formed_pattern, formed_parts, formed_each, is_formed_expr, are_formed_args, formed_lets, formed_list, formed_iflets}
 use Rattle.isle_model.proofs.Elements.{In, in_left, in_right, some_is, none_some}
 use Rattle.isle_laws_typing.proofs.FormedParts.{from_if, type_is}
 use Rattle.isle_laws_visits.specs.RuleTerms.{pattern_terms, patterns_terms, expr_terms, exprs_terms, lets_terms, matched_in, called_in}
-use Rattle.isle_laws_visits.proofs.PatternParts.{AsMany, from_term as pattern_parts, from_part, from_bind, pattern_within, parts_within, each_within, as_many, outside}
+use Rattle.isle_laws_visits.proofs.PatternParts.{AsMany, pattern_parts, from_part, from_bind, pattern_within, parts_within, each_within, as_many, outside}
 use Rattle.isle_laws_visits.proofs.RuleParts.{iflet_parts, RuleParts}
 use Rattle.isle_laws_visits.proofs.SameExprs.{AreWithin, from_let, from_term, from_args, from_body, expr_keeps}
-use Rattle.isle_laws_visits.proofs.Visited.{Same, same_binding, equating_binds, asked_binds}
+use Rattle.isle_laws_visits.proofs.AskedSites.{Same, same_binding, equating_binds, asked_binds}
 use Rattle.isle_laws_visits.proofs.WithSites.{open_binds}
 
 -- a fact of demands, one of a site of a type, and which terms may be matched and called
@@ -30,10 +30,10 @@ pub record Facts : Type 1 where
 
 module _ (f : Facts) where
   -- sites, each of its type
-  abbrev pub AtEach : List SiteTerm → List ℕ → Type 0
-  AtEach [] [] = Unit {0}
-  AtEach (s ∷ ss) (ty ∷ tys) = f.site s ty × AtEach ss tys
-  AtEach _ _ = ⊥
+  abbrev pub AtEachTyped : List SiteTerm → List ℕ → Type 0
+  AtEachTyped [] [] = Unit {0}
+  AtEachTyped (s ∷ ss) (ty ∷ tys) = f.site s ty × AtEachTyped ss tys
+  AtEachTyped _ _ = ⊥
 
   abbrev pub ValuesAtEach : SiteTerms → List ℕ → Type 0
   ValuesAtEach no_site_term [] = Unit {0}
@@ -51,7 +51,7 @@ module _ (f : Facts) where
     pub asks_int : (s : SiteTerm) (z : ℤ) (ty : ℕ) (v : Visit) → is_literal_of (slice_get p.types ty) z ≡ true → f.demands v.demands → f.demands (asking s (is_int z ty) v).demands
     pub asks_prim : (s : SiteTerm) (name ty : ℕ) (v : Visit) → constant_type p name ≡ Some ty → f.demands v.demands → f.demands (asking s (is_prim name) v).demands
     pub opens : (t : ℕ) (e : TermEntry) → slice_get p.terms t ≡ Some e → has_extractor e.kind ≡ true → f.matched t → (s : SiteTerm) → f.site s e.ret_ty → (args : TypedPatterns) → AsMany args e.arg_tys → (v : Visit) → f.demands v.demands
-        → f.demands (open_term (kind p t) t s args v).visit.demands × AtEach (open_term (kind p t) t s args v).inputs e.arg_tys
+        → f.demands (open_term (kind p t) t s args v).visit.demands × AtEachTyped (open_term (kind p t) t s args v).inputs e.arg_tys
     pub makes_bool : (b : Bool) (ty : ℕ) (v : Visit) → (ty == bool_type) ≡ true → f.demands v.demands → f.site (bool_term b ty) ty × f.demands (making (bool_term b ty ∷ []) v).demands
     pub makes_int : (z : ℤ) (ty : ℕ) (v : Visit) → is_literal_of (slice_get p.types ty) z ≡ true → f.demands v.demands → f.site (int_term z ty) ty × f.demands (making (int_term z ty ∷ []) v).demands
     pub makes_prim : (name ty : ℕ) (v : Visit) → constant_type p name ≡ Some ty → f.demands v.demands → f.site (prim_term name) ty × f.demands (making (prim_term name ∷ []) v).demands
@@ -62,7 +62,7 @@ module _ (f : Facts) where
 -- 1. parts of terms, and variables
 module _ (f : Facts) where
   -- fields from i on
-  pub fields_each : (g : ℕ → SiteTerm) (i : ℕ) (qs : TypedPatterns) (tys : List ℕ) → AsMany qs tys → ((j ty : ℕ) → slice_get tys j ≡ Some ty → f.site (g (i + j)) ty) → AtEach f (from_to g i qs) tys
+  pub fields_each : (g : ℕ → SiteTerm) (i : ℕ) (qs : TypedPatterns) (tys : List ℕ) → AsMany qs tys → ((j ty : ℕ) → slice_get tys j ≡ Some ty → f.site (g (i + j)) ty) → AtEachTyped f (fields_from g i (pattern_count qs)) tys
   fields_each g i no_typed_pattern [] n h = tt
   fields_each g i no_typed_pattern (ty ∷ tys) n h = absurd n
   fields_each g i (typed_pattern_and q qs) [] n h = absurd n
@@ -72,12 +72,12 @@ module _ (f : Facts) where
         fields_each g (suc i) qs tys n (λ j u e. let next : i + suc j ≡ suc i + j = omega arith in subst (λ l. f.site (g l) u) next (h (suc j) u e)),
       )
 
-  pub all_fields_each : (g : ℕ → SiteTerm) (qs : TypedPatterns) (tys : List ℕ) → AsMany qs tys → ((j ty : ℕ) → slice_get tys j ≡ Some ty → f.site (g j) ty) → AtEach f (from_to g 0 qs) tys
+  pub all_fields_each : (g : ℕ → SiteTerm) (qs : TypedPatterns) (tys : List ℕ) → AsMany qs tys → ((j ty : ℕ) → slice_get tys j ≡ Some ty → f.site (g j) ty) → AtEachTyped f (fields_from g 0 (pattern_count qs)) tys
   all_fields_each g qs tys n h = fields_each g 0 qs tys n (λ j ty e. let same : 0 + j ≡ j = omega arith in subst (λ l. f.site (g l) ty) (sym same) (h j ty e))
 
   -- the outputs of a call: one, or the parts of several
   pub outputs_each : (s : SiteTerm) (qs : TypedPatterns) (tys : List ℕ) → AsMany qs tys → ((ty : ℕ) → tys ≡ ty ∷ [] → f.site s ty)
-      → ((a b : ℕ) (rest : List ℕ) → tys ≡ a ∷ (b ∷ rest) → (j ty : ℕ) → slice_get tys j ≡ Some ty → f.site (tuple_part s j) ty) → AtEach f (output_sites s qs) tys
+      → ((a b : ℕ) (rest : List ℕ) → tys ≡ a ∷ (b ∷ rest) → (j ty : ℕ) → slice_get tys j ≡ Some ty → f.site (tuple_part s j) ty) → AtEachTyped f (output_sites s qs) tys
   outputs_each s no_typed_pattern [] n one several = tt
   outputs_each s no_typed_pattern (ty ∷ tys) n one several = absurd n
   outputs_each s (typed_pattern_and q qs) [] n one several = absurd n
@@ -109,21 +109,21 @@ module _ (f : Facts) where
   just_bound x s v = ap or_no_site (cond-true (x == x) (Some s) (look (λ z. z == x) v.vars) (eq-eqb x x refl))
 
   -- after a visit; a variable that can't be used yet stands for what it stood for
-  record Past (more : List (ℕ × ℕ)) (v w : Visit) : Type 0 where
+  record PastTyped (more : List (ℕ × ℕ)) (v w : Visit) : Type 0 where
     demands : f.demands w.demands
     vars : AreOf more w
     kept : (x : ℕ) → is_some (var_type more x) ≡ false → var_site w x ≡ var_site v x
 
-  then_past : (mid more : List (ℕ × ℕ)) (u v w : Visit) → AreWithin mid more → Past mid u v → Past more v w → Past more u w
-  then_past mid more u v w within a b = record { demands = b.demands; vars = b.vars; kept = λ x n. b.kept x n ∙ a.kept x (outside mid more within x n) }
+  then_past_typed : (mid more : List (ℕ × ℕ)) (u v w : Visit) → AreWithin mid more → PastTyped mid u v → PastTyped more v w → PastTyped more u w
+  then_past_typed mid more u v w within a b = record { demands = b.demands; vars = b.vars; kept = λ x n. b.kept x n ∙ a.kept x (outside mid more within x n) }
 
-  same_past : (v w : Visit) (vars more : List (ℕ × ℕ)) → Some vars ≡ Some more → w.vars ≡ v.vars → f.demands w.demands → AreOf vars v → Past more v w
+  same_past : (v w : Visit) (vars more : List (ℕ × ℕ)) → Some vars ≡ Some more → w.vars ≡ v.vars → f.demands w.demands → AreOf vars v → PastTyped more v w
   same_past v w vars more e same h d =
-      subst (λ vs. Past vs v w) (some_is vars more e)
+      subst (λ vs. PastTyped vs v w) (some_is vars more e)
       (record { demands = h; vars = unmoved vars v w same d; kept = λ x n. ap (λ vs. or_no_site (look (λ y. y == x) vs)) same })
 
   -- a binding, before what is bound in its pattern
-  bind_past : (x ty : ℕ) (s : SiteTerm) (mid : List (ℕ × ℕ)) (v w : Visit) → is_some (var_type mid x) ≡ false → f.site s ty → Past mid (binding x s v) w → Past ((x, ty) ∷ mid) v w
+  bind_past : (x ty : ℕ) (s : SiteTerm) (mid : List (ℕ × ℕ)) (v w : Visit) → is_some (var_type mid x) ≡ false → f.site s ty → PastTyped mid (binding x s v) w → PastTyped ((x, ty) ∷ mid) v w
   bind_past x ty s mid v w new h b = record {
     demands = b.demands;
     vars = with_var x ty mid w (subst (λ u. f.site u ty) (sym (b.kept x new ∙ just_bound x s v)) h) b.vars;
@@ -147,13 +147,13 @@ module _ (p : Program) (f : Facts) (k : KeptWithTypes f p) where
   -- 2. patterns
   mutual
     pattern_past : (q : TypedPattern) (s : SiteTerm) (v : Visit) (vars more : List (ℕ × ℕ)) → formed_pattern p q vars ≡ Some more → AllMatched (pattern_terms q) → f.site s (pattern_type q) → f.demands v.demands → AreOf f vars v
-        → Past f more v (visit_pattern p q s v)
+        → PastTyped f more v (visit_pattern p q s v)
     pattern_past (match_bind ty x sub) s v vars more e m h g d =
         let a = from_bind p ty x sub vars more e in
         let u = binding x s v in
         let w = visit_pattern p sub s u in
         let new : is_some (var_type vars x) ≡ false = outside vars a.0 (pattern_within p sub vars a.0 a.2) x a.3 in
-        subst (λ vs. Past f vs v w) a.4
+        subst (λ vs. PastTyped f vs v w) a.4
         (bind_past f x ty s a.0 v w a.3 h (pattern_past sub s u vars a.0 a.2 m (subst (f.site s) (sym a.1) h) g (moved f vars v u (same_binding vars x s v new) d)))
     pattern_past (match_var ty x) s v vars more e m h g d =
         let a = from_if (is_type (var_type vars x) ty) (Some vars) more e in
@@ -175,8 +175,8 @@ module _ (p : Program) (f : Facts) (k : KeptWithTypes f p) where
     pattern_past (match_any ty) s v vars more e m h g d = same_past f v v vars more e refl g d
     pattern_past (match_and ty subs) s v vars more e m h g d = all_past subs s ty v vars more e m h g d
 
-    each_past : (qs : TypedPatterns) (ss : List SiteTerm) (tys : List ℕ) (v : Visit) (vars more : List (ℕ × ℕ)) → formed_parts p qs tys vars ≡ Some more → AllMatched (patterns_terms qs) → AtEach f ss tys → f.demands v.demands → AreOf f vars v
-        → Past f more v (visit_each p qs ss v)
+    each_past : (qs : TypedPatterns) (ss : List SiteTerm) (tys : List ℕ) (v : Visit) (vars more : List (ℕ × ℕ)) → formed_parts p qs tys vars ≡ Some more → AllMatched (patterns_terms qs) → AtEachTyped f ss tys → f.demands v.demands → AreOf f vars v
+        → PastTyped f more v (visit_each p qs ss v)
     each_past no_typed_pattern ss [] v vars more e m h g d = same_past f v v vars more e refl g d
     each_past no_typed_pattern ss (ty ∷ tys) v vars more e m h g d = absurd (none_some more e)
     each_past (typed_pattern_and q qs) ss [] v vars more e m h g d = absurd (none_some more e)
@@ -185,17 +185,17 @@ module _ (p : Program) (f : Facts) (k : KeptWithTypes f p) where
         let a = from_part p q ty vars more (λ mid. formed_parts p qs tys mid) e in
         let u = visit_pattern p q s v in
         let r = pattern_past q s v vars a.0 a.2 (λ x i. m x (in_left (pattern_terms q) (patterns_terms qs) x i)) (subst (f.site s) (sym a.1) h.0) g d in
-        then_past f a.0 more v u (visit_each p qs ss u) (parts_within p qs tys a.0 more a.3) r
+        then_past_typed f a.0 more v u (visit_each p qs ss u) (parts_within p qs tys a.0 more a.3) r
         (each_past qs ss tys u a.0 more a.3 (λ x i. m x (in_right (pattern_terms q) (patterns_terms qs) x i)) h.1 r.demands r.vars)
 
     all_past : (qs : TypedPatterns) (s : SiteTerm) (ty : ℕ) (v : Visit) (vars more : List (ℕ × ℕ)) → formed_each p qs ty vars ≡ Some more → AllMatched (patterns_terms qs) → f.site s ty → f.demands v.demands → AreOf f vars v
-        → Past f more v (visit_all p qs s v)
+        → PastTyped f more v (visit_all p qs s v)
     all_past no_typed_pattern s ty v vars more e m h g d = same_past f v v vars more e refl g d
     all_past (typed_pattern_and q qs) s ty v vars more e m h g d =
         let a = from_part p q ty vars more (λ mid. formed_each p qs ty mid) e in
         let u = visit_pattern p q s v in
         let r = pattern_past q s v vars a.0 a.2 (λ x i. m x (in_left (pattern_terms q) (patterns_terms qs) x i)) (subst (f.site s) (sym a.1) h) g d in
-        then_past f a.0 more v u (visit_all p qs s u) (each_within p qs ty a.0 more a.3) r
+        then_past_typed f a.0 more v u (visit_all p qs s u) (each_within p qs ty a.0 more a.3) r
         (all_past qs s ty u a.0 more a.3 (λ x i. m x (in_right (pattern_terms q) (patterns_terms qs) x i)) h r.demands r.vars)
 
   -- 3. expressions
@@ -256,10 +256,10 @@ module _ (p : Program) (f : Facts) (k : KeptWithTypes f p) where
       args_past (suc i) qs tys (visit_pattern p q (argument i) u) a.0 more a.3 (λ x j. m x (in_right (pattern_terms q) (flat_map pattern_terms qs) x j))
       (λ j w z l h. let next : i + suc j ≡ suc i + j = omega arith in subst (λ n. f.site (argument n) w × f.demands (taking_argument n z).demands) next (c (suc j) w z l h)) r.demands r.vars
 
-  iflets_past : (is : List TypedIfLet) (v : Visit) (vars more : List (ℕ × ℕ)) → formed_iflets p is vars ≡ Some more → AllMatched (flat_map (λ (i : TypedIfLet). pattern_terms i.lhs) is) → AllCalled (flat_map (λ (i : TypedIfLet). expr_terms i.rhs) is)
-      → f.demands v.demands → AreOf f vars v → f.demands (visit_iflets p is v).demands × AreOf f more (visit_iflets p is v)
-  iflets_past [] v vars more e m c g d = (g, subst (λ vs. AreOf f vs v) (some_is vars more e) d)
-  iflets_past (i ∷ is) v vars more e m c g d =
+  iflets_past_typed : (is : List TypedIfLet) (v : Visit) (vars more : List (ℕ × ℕ)) → formed_iflets p is vars ≡ Some more → AllMatched (flat_map (λ (i : TypedIfLet). pattern_terms i.lhs) is)
+      → AllCalled (flat_map (λ (i : TypedIfLet). expr_terms i.rhs) is) → f.demands v.demands → AreOf f vars v → f.demands (visit_iflets p is v).demands × AreOf f more (visit_iflets p is v)
+  iflets_past_typed [] v vars more e m c g d = (g, subst (λ vs. AreOf f vs v) (some_is vars more e) d)
+  iflets_past_typed (i ∷ is) v vars more e m c g d =
       let a = iflet_parts p i is vars more e in
       let b = visit_expr p i.rhs v in
       let u = asking_all (unwraps b.site) b.visit in
@@ -269,19 +269,19 @@ module _ (p : Program) (f : Facts) (k : KeptWithTypes f p) where
       let s = pattern_past i.lhs b.site u vars a.mid a.pattern (λ x j. m x (in_left (pattern_terms i.lhs) matched x j))
       (subst (f.site b.site) (sym (eqb-true (pattern_type i.lhs) (expr_type i.rhs) a.typed)) r.0) (k.asks_all (unwraps b.site) b.visit r.1)
       (unmoved f vars b.visit u (asked_binds (unwraps b.site) b.visit) (moved f vars v b.visit (expr_keeps p i.rhs v vars a.value) d)) in
-      iflets_past is (visit_pattern p i.lhs b.site u) a.mid more a.rest (λ x j. m x (in_right (pattern_terms i.lhs) matched x j)) (λ x j. c x (in_right (expr_terms i.rhs) called x j)) s.demands s.vars
+      iflets_past_typed is (visit_pattern p i.lhs b.site u) a.mid more a.rest (λ x j. m x (in_right (pattern_terms i.lhs) matched x j)) (λ x j. c x (in_right (expr_terms i.rhs) called x j)) s.demands s.vars
 
   finished_keeps : (b : Bool) (a : Valued) (ty : ℕ) → IsGiven f a ty → f.demands (finished b a).visit.demands
   finished_keeps false a ty h = h.1
   finished_keeps true a ty h = k.result a.site ty a.visit h.0 h.1
 
   -- so the whole visit keeps them, where arguments are of their types
-  pub rule_kept : (r : TypedRule) (a : RuleParts p r) → AllMatched (matched_in r) → AllCalled (called_in r) → ArgsMade 0 a.entry.arg_tys → f.demands visit_start.demands → f.demands (visit_rule p r).visit.demands
-  rule_kept r a m c args start =
+  pub rule_kept_typed : (r : TypedRule) (a : RuleParts p r) → AllMatched (matched_in r) → AllCalled (called_in r) → ArgsMade 0 a.entry.arg_tys → f.demands visit_start.demands → f.demands (visit_rule p r).visit.demands
+  rule_kept_typed r a m c args start =
       let u = visit_args p 0 r.args visit_start in
       let w = visit_iflets p r.iflets u in
       let matched = flat_map (λ (y : TypedIfLet). pattern_terms y.lhs) r.iflets in
       let called = flat_map (λ (y : TypedIfLet). expr_terms y.rhs) r.iflets in
       let b = args_past 0 r.args a.entry.arg_tys visit_start [] a.mid a.args (λ x i. m x (in_left (flat_map pattern_terms r.args) matched x i)) args start (λ x ty i. absurd (none_some ty i)) in
-      let d = iflets_past r.iflets u a.mid a.vars a.iflets (λ x i. m x (in_right (flat_map pattern_terms r.args) matched x i)) (λ x i. c x (in_left called (expr_terms r.rhs) x i)) b.0 b.1 in
+      let d = iflets_past_typed r.iflets u a.mid a.vars a.iflets (λ x i. m x (in_right (flat_map pattern_terms r.args) matched x i)) (λ x i. c x (in_left called (expr_terms r.rhs) x i)) b.0 b.1 in
       finished_keeps (is_partial p r.root_term) (visit_expr p r.rhs w) (expr_type r.rhs) (expr_given r.rhs w a.vars a.right (λ x i. c x (in_right called (expr_terms r.rhs) x i)) d.0 d.1)

@@ -67,12 +67,12 @@ abbrev mutual
 abbrev pub IsValue : Program → ℕ → SiteTerm → Type 0
 IsValue p n s = IsOfForm p n s a_value
 
-abbrev pub HasForm : Program → ℕ → SiteTerm → Type 0
-HasForm p n s = (q : Form) × IsOfForm p n s q
+abbrev pub HasSomeForm : Program → ℕ → SiteTerm → Type 0
+HasSomeForm p n s = (q : Form) × IsOfForm p n s q
 
 -- the sites that demands make have forms, and those that they equate are values
 pub record AreKnown (p : Program) (n : ℕ) (d : Demands) : Type 0 where
-  pub made : (u : SiteTerm) → In d.made u → HasForm p n u
+  pub made : (u : SiteTerm) → In d.made u → HasSomeForm p n u
   pub equal : (e : SiteTerm × SiteTerm) → In d.equalities e → IsValue p n e.0 × IsValue p n e.1
 
 -- 2. a shape gives a form

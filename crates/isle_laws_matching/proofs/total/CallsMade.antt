@@ -3,12 +3,12 @@
 use Rattle.std.proofs.Common.{List, [], ◌∷◌, ◌++◌, refl, subst, inl, inr}
 use Rattle.isle_model.specs.rules.Program.{Program}
 use Rattle.isle_model.specs.rules.Typed.{TypedRule}
-use Rattle.isle_model.specs.sites.Sites.{Constraint, is_present, SiteTerm, bool_term, int_term, prim_term, argument, extractor_call, constructor_call, pick_of, variant_made, variant_field, struct_made, struct_field, some_made, some_part, tuple_part, no_site, SiteTerms, no_site_term, site_term_and}
+use Rattle.isle_model.specs.sites.Sites.{Constraint, is_present, SiteTerm, bool_term, int_term, prim_term, argument, extractor_call, constructor_call, pick_of, variant_made, variant_field, struct_made, struct_field, some_made, some_part, tuple_part, no_site, SiteTerms, no_site_term, site_term_and, field_terms}
 use Rattle.isle_model.specs.visits.Demands.{Demands, Visit, making, asking, iterating, calling, equating, unwraps, unwraps_all, asking_all, demands_of, result_of}
-use Rattle.isle_model.specs.sites.Closure.{field_terms}
 use Rattle.isle_model.proofs.Elements.{In, in_left, in_either}
-use Rattle.isle_laws_visits.proofs.WithSites.{IsLeaf, by_leaf, by_field, by_equating, Onward, KeptWithSites, AtEach, no_step, then_onward, rule_given}
-use Rattle.isle_laws_visits.proofs.Visited.{equated}
+use Rattle.isle_laws_visits.proofs.Patterns.{by_field}
+use Rattle.isle_laws_visits.proofs.WithSites.{IsLeaf, by_leaf, by_equating, Onward, KeptWithSites, AtEach, no_step, then_onward, rule_given}
+use Rattle.isle_laws_visits.proofs.AskedSites.{equated}
 
 abbrev mutual
   pub AllMade : List SiteTerm → SiteTerm → Type 0

@@ -5,17 +5,17 @@ use Rattle.isle_model.specs.lists.Tables.{Flags, TermEntry, TermKindEntry, varia
 use Rattle.isle_model.specs.rules.Values.{is_truth_type}
 use Rattle.isle_model.specs.rules.Program.{Program, Kind, a_variant, a_struct, a_call, unknown, kind, kind_of, flags_of, always_answers, arg_types}
 use Rattle.isle_model.specs.rules.Typed.{TypedPatterns, no_typed_pattern, typed_pattern_and, TypedRule}
-use Rattle.isle_model.specs.sites.Sites.{Constraint, is_variant, is_struct, is_bool, is_int, is_prim, is_present, SiteTerm, bool_term, int_term, prim_term, argument, extractor_call, constructor_call, pick_of, variant_made, variant_field, struct_made, struct_field, some_made, some_part, SiteTerms, no_site_term, site_term_and}
-use Rattle.isle_model.specs.visits.Demands.{Demands, demands_of, Visit, making, asking, iterating, from_to, pattern_count, Opened, output_sites, part_sites, open_call, open_term, valued, ValuedAll, call_result, call_sites, where_multi, visit_call, visit_term, asking_all}
+use Rattle.isle_model.specs.sites.Sites.{Constraint, is_variant, is_struct, is_bool, is_int, is_prim, is_present, SiteTerm, bool_term, int_term, prim_term, argument, extractor_call, constructor_call, pick_of, variant_made, variant_field, struct_made, struct_field, some_made, some_part, SiteTerms, no_site_term, site_term_and, fields_from}
+use Rattle.isle_model.specs.visits.Demands.{Demands, demands_of, Visit, making, asking, iterating, pattern_count, Opened, output_sites, part_sites, open_call, open_term, valued, ValuedAll, call_result, call_sites, where_multi, visit_call, visit_term, asking_all}
 use Rattle.isle_model.specs.sites.Serves.{constant_site}
 use Rattle.isle_model.specs.lists.Setting.{bool_type, has_constructor, has_extractor}
 use Rattle.isle_model.specs.lists.Formed.{is_formed_rule}
 use Rattle.isle_model.proofs.Elements.{In, in_either}
 use Rattle.isle_laws_visits.proofs.Patterns.{its_kind, term_known}
 use Rattle.isle_laws_visits.proofs.RuleParts.{rule_parts}
-use Rattle.isle_laws_visits.proofs.Visited.{equated}
+use Rattle.isle_laws_visits.proofs.AskedSites.{equated}
 use Rattle.isle_laws_visits.proofs.WithSites.{by_equating}
-use Rattle.isle_laws_visits.proofs.WithTypes.{Facts, AtEach, ValuesAtEach, IsGiven, KeptWithTypes, all_fields_each, outputs_each, rule_kept}
+use Rattle.isle_laws_visits.proofs.WithTypes.{Facts, AtEachTyped, ValuesAtEach, IsGiven, KeptWithTypes, all_fields_each, outputs_each, rule_kept_typed}
 use Rattle.isle_laws_visits.proofs.PatternParts.{AsMany}
 use Rattle.isle_laws_typing.specs.WellTypedPrograms.{IsWellTypedProgram}
 use Rattle.isle_laws_typing.proofs.WellTypedPrograms.{variant_takes, struct_takes}
@@ -77,7 +77,7 @@ module _ (p : Program) (uses : Uses) where
   and_shaped s ss h hs u (inl e) = subst (HasShape p uses) e h
   and_shaped s ss h hs u (inr i) = hs u i
 
-  each_shaped : (ss : List SiteTerm) (tys : List ℕ) → AtEach shapes ss tys → AllShaped ss
+  each_shaped : (ss : List SiteTerm) (tys : List ℕ) → AtEachTyped shapes ss tys → AllShaped ss
   each_shaped [] tys h = none_shaped
   each_shaped (s ∷ ss) [] h = absurd h
   each_shaped (s ∷ ss) (ty ∷ tys) h = and_shaped s ss (one_has s ty h.0) (each_shaped ss tys h.1)
@@ -115,7 +115,7 @@ module _ (p : Program) (uses : Uses) where
   one_made s ty v h g = (h, made_shaped (s ∷ []) v (and_shaped s [] (one_has s ty h) none_shaped) g)
 
   -- 2. the parts of a term's pattern
-  outputs_shaped : (s : SiteTerm) (qs : TypedPatterns) (tys : List ℕ) → AsMany qs tys → Shaped p uses s false false tys → AtEach shapes (output_sites s qs) tys
+  outputs_shaped : (s : SiteTerm) (qs : TypedPatterns) (tys : List ℕ) → AsMany qs tys → Shaped p uses s false false tys → AtEachTyped shapes (output_sites s qs) tys
   outputs_shaped s qs tys n h = outputs_each shapes s qs tys n (λ ty e. subst (Shaped p uses s false false) e h) (λ a b rest e j ty x. shaped_tuple (length rest) (ap length e) h x)
 
   parts_shaped : (s : SiteTerm) (qs : TypedPatterns) (tys : List ℕ) → AsMany qs tys → Shaped p uses s false false tys → AllShaped (part_sites s qs)
@@ -126,7 +126,7 @@ module _ (p : Program) (uses : Uses) where
 
   -- what opens is shaped, and its parts are of these types
   abbrev Opens : Opened → List ℕ → Type 0
-  Opens o tys = AreShaped o.visit.demands × AtEach shapes o.inputs tys
+  Opens o tys = AreShaped o.visit.demands × AtEachTyped shapes o.inputs tys
 
   call_opens : (pure multi partial rec infallible : Bool) (call : SiteTerm) (args : TypedPatterns) (tys : List ℕ) (v : Visit) → AsMany args tys → Shaped p uses call multi (not infallible) tys → AreShaped v.demands
       → Opens (open_call (record { pure = pure; multi = multi; partial = partial; rec = rec }) infallible call args v) tys
@@ -162,12 +162,12 @@ module _ (p : Program) (uses : Uses) where
         → (v : Visit) → AreShaped v.demands → Opens (open_term k t s args v) e.arg_tys
     term_opens t e used there x (a_variant ty i) q w s h args n v g =
         let a = variant_takes p well.parts t e there ty i w in
-        let fields = from_to (variant_field s i) 0 args in
+        let fields = fields_from (variant_field s i) 0 (pattern_count args) in
         let each = all_fields_each shapes (variant_field s i) args e.arg_tys n (λ j u r. shaped_variant_field (subst (IsOf s) a.0 h) a.1 r) in
         (asked_shaped s (is_variant ty i (pattern_count args)) (making fields v) none_shaped (made_shaped fields v (each_shaped fields e.arg_tys each) g), each)
     term_opens t e used there x (a_struct ty) q w s h args n v g =
         let a = struct_takes p well.parts t e there ty w in
-        let fields = from_to (struct_field s) 0 args in
+        let fields = fields_from (struct_field s) 0 (pattern_count args) in
         let each = all_fields_each shapes (struct_field s) args e.arg_tys n (λ j u r. shaped_struct_field (subst (IsOf s) a.0 h) a.1 r) in
         (asked_shaped s (is_struct ty (pattern_count args)) (making fields v) none_shaped (made_shaped fields v (each_shaped fields e.arg_tys each) g), each)
     term_opens t e used there x (a_call flags infallible) q w s h args n v g =
@@ -237,6 +237,6 @@ module _ (p : Program) (uses : Uses) where
     rule_shaped r f m k e =
         let a = rule_parts p r f in
         let own : a.entry.arg_tys ≡ uses.args = sym (ap (λ o. elim o as (λ _. List ℕ) [ None ↦ [] | Some x ↦ x.arg_tys ]) a.there) ∙ e in
-        rule_kept p shapes shapes_kept r a m k
+        rule_kept_typed p shapes shapes_kept r a m k
         (λ j ty v i g. let same : 0 + j ≡ j = omega arith in one_made (argument (0 + j)) ty v (shaped_argument (subst (λ n. slice_get uses.args n ≡ Some ty) (sym same) (subst (λ l. slice_get l j ≡ Some ty) own i))) g)
         ((λ s i. absurd i), (λ x i. absurd i), (λ x i. absurd i))

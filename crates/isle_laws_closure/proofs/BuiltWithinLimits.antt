@@ -1,4 +1,5 @@
--- A rule that is built passes no limit: its visit ends at no count, and its closing makes no more sites than there may be.
+-- A rule that is built is built within the limits: no count of its visit passes one, and its closing makes no more sites
+-- than there may be.
 use Rattle.std.proofs.Common.{◌≡◌, ◌≤◌, ℕ, true, false, not, nat_lt, List, length, Option, Some, None, is_none, refl, sym, ap, ◌∙◌, inl, inr, arith, ltb-false}
 use Rattle.std.proofs.lemmas.Bool.{cases_Bool, cond-true, cond-false, and_parts, false≢true, not-true}
 use Rattle.isle_model.specs.rules.Typed.{TypedRule}

@@ -8,7 +8,7 @@ use Rattle.isle_model.specs.sites.Sites.{is_present, SiteTerm, extractor_call, c
 use Rattle.isle_model.specs.rules.Typed.{TypedPattern, match_bind, match_var, match_bool, match_int, match_prim, match_term, match_any, match_and, TypedPatterns, no_typed_pattern, typed_pattern_and, TypedExpr, make_term, make_var, make_bool, make_int, make_prim, make_let, TypedExprs, no_typed_expr, typed_expr_and, TypedLets, no_typed_let, typed_let_and}
 use Rattle.isle_model.specs.visits.Demands.{site_term_eq, Visit, making, asking, equating, iterating, binding, or_no_site, var_site, Opened, open_call, open_term, visit_pattern, visit_each, visit_all, Valued, ValuedAll, valued, call_result, call_sites, where_multi, visit_call, visit_term, visit_expr, visit_exprs, visit_lets, asking_all}
 use Rattle.isle_model.proofs.Elements.{In, in_left, in_right, in_either}
-use Rattle.isle_laws_visits.proofs.Visited.{equated}
+use Rattle.isle_laws_visits.proofs.AskedSites.{equated}
 
 -- two visits at one place: their variables stand for the same sites, and they met as many impure calls
 pub record AreAlike (v w : Visit) : Type 0 where
@@ -46,16 +46,16 @@ record AreOpened (o q : Opened) : Type 0 where
   inputs : o.inputs ≡ q.inputs
   after : AreAlike o.visit q.visit
 
-call_alike : (pure multi partial rec infallible : Bool) (call : SiteTerm) (args : TypedPatterns) (v w : Visit) → AreAlike v w
+call_opened_alike : (pure multi partial rec infallible : Bool) (call : SiteTerm) (args : TypedPatterns) (v w : Visit) → AreAlike v w
     → AreOpened (open_call (record { pure = pure; multi = multi; partial = partial; rec = rec }) infallible call args v) (open_call (record { pure = pure; multi = multi; partial = partial; rec = rec }) infallible call args w)
-call_alike pure true partial rec infallible call args v w a = record { inputs = refl; after = record { vars = a.vars; impure_calls = a.impure_calls } }
-call_alike pure false partial rec true call args v w a = record { inputs = refl; after = record { vars = a.vars; impure_calls = a.impure_calls } }
-call_alike pure false partial rec false call args v w a = record { inputs = refl; after = record { vars = a.vars; impure_calls = a.impure_calls } }
+call_opened_alike pure true partial rec infallible call args v w a = record { inputs = refl; after = record { vars = a.vars; impure_calls = a.impure_calls } }
+call_opened_alike pure false partial rec true call args v w a = record { inputs = refl; after = record { vars = a.vars; impure_calls = a.impure_calls } }
+call_opened_alike pure false partial rec false call args v w a = record { inputs = refl; after = record { vars = a.vars; impure_calls = a.impure_calls } }
 
 term_alike : (k : Kind) (t : ℕ) (s : SiteTerm) (args : TypedPatterns) (v w : Visit) → AreAlike v w → AreOpened (open_term k t s args v) (open_term k t s args w)
 term_alike (a_variant ty variant) t s args v w a = record { inputs = refl; after = record { vars = a.vars; impure_calls = a.impure_calls } }
 term_alike (a_struct ty) t s args v w a = record { inputs = refl; after = record { vars = a.vars; impure_calls = a.impure_calls } }
-term_alike (a_call flags infallible) t s args v w a = call_alike flags.pure flags.multi flags.partial flags.rec infallible (extractor_call t s) args v w a
+term_alike (a_call flags infallible) t s args v w a = call_opened_alike flags.pure flags.multi flags.partial flags.rec infallible (extractor_call t s) args v w a
 term_alike unknown t s args v w a = record { inputs = refl; after = a }
 
 module _ (p : Program) where

@@ -6,7 +6,7 @@ use Rattle.isle_model.specs.rules.Program.{Program}
 use Rattle.isle_model.specs.sites.Overlap.{OverlapsWrongly, wrong_overlaps, position_eq, position_lt, has_end, other_end, is_reported_before, foremost, with_position, ascending_positions, OverlapReport, overlap_report, overlap_reports_in, overlap_reports}
 use Rattle.isle_laws_closure.specs.ReportLaws.{RulesHaveTerms, ListsBoth, IsListedOnce, OverlapAt}
 use Rattle.isle_model.proofs.Elements.{In, in_from_contains, contains_from_in, some_is, or_split, or_left, or_right, in_slice, in_filter, filter_from, passed_filter, in_map, map_in, from_flat_map}
-use Rattle.isle_laws_closure.proofs.overlaps.Reported.{wrong_means, wrong_there}
+use Rattle.isle_laws_closure.proofs.overlaps.ReportedOverlaps.{wrong_means, wrong_there}
 
 pub position_means : (a b : Position) → position_eq a b ≡ true → a ≡ b
 position_means a b h =

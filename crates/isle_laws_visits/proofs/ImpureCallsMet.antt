@@ -6,7 +6,7 @@ use Rattle.isle_model.specs.rules.Typed.{TypedPattern, TypedPatterns, TypedExpr,
 use Rattle.isle_model.specs.sites.Sites.{SiteTerm, constructor_call, SiteTerms}
 use Rattle.isle_model.specs.visits.Demands.{Visit, site_term_eq, equating, binding, Opened, open_term, visit_pattern, ValuedAll, call_result, visit_call, visit_term, visit_expr, visit_exprs, visit_lets, unwraps, asking_all, visit_args, visit_iflets}
 use Rattle.isle_model.specs.sites.DemandedGates.{IsPureExpr, ArePureExprs, ArePureLets, ArePureIfLets}
-use Rattle.isle_laws_visits.proofs.Visited.{equated}
+use Rattle.isle_laws_visits.proofs.AskedSites.{equated}
 use Rattle.isle_model.proofs.Either.{either}
 use Rattle.isle_laws_visits.proofs.Kept.{KeptByTests, KeptByValues, pattern_kept, asking_kept, args_kept, expr_kept, exprs_kept, lets_kept}
 
@@ -102,16 +102,16 @@ adds_kept v w h = record { new = []; impure = h ∙ sym (append-nil v.demands.im
 abbrev pub then_adds_calls : (u v w : Visit) → AddsCalls u v → AddsCalls v w → AddsCalls u w
 then_adds_calls u v w a b = record { new = a.new ++ b.new; impure = b.impure ∙ ap (λ l. l ++ b.new) a.impure ∙ append_assoc u.demands.impure a.new b.new }
 
-call_adds : (pure multi partial rec : Bool) (t : ℕ) (args : SiteTerms) (v : Visit) → AddsCalls v (visit_call (record { pure = pure; multi = multi; partial = partial; rec = rec }) t args v).visit
-call_adds true true partial rec t args v = adds_kept v (visit_call (record { pure = true; multi = true; partial = partial; rec = rec }) t args v).visit refl
-call_adds true false partial rec t args v = adds_kept v (visit_call (record { pure = true; multi = false; partial = partial; rec = rec }) t args v).visit refl
-call_adds false true partial rec t args v = record { new = call_result (record { pure = false; multi = true; partial = partial; rec = rec }) (constructor_call t args (suc v.impure_calls)) ∷ []; impure = refl }
-call_adds false false partial rec t args v = record { new = call_result (record { pure = false; multi = false; partial = partial; rec = rec }) (constructor_call t args (suc v.impure_calls)) ∷ []; impure = refl }
+call_adds_impure : (pure multi partial rec : Bool) (t : ℕ) (args : SiteTerms) (v : Visit) → AddsCalls v (visit_call (record { pure = pure; multi = multi; partial = partial; rec = rec }) t args v).visit
+call_adds_impure true true partial rec t args v = adds_kept v (visit_call (record { pure = true; multi = true; partial = partial; rec = rec }) t args v).visit refl
+call_adds_impure true false partial rec t args v = adds_kept v (visit_call (record { pure = true; multi = false; partial = partial; rec = rec }) t args v).visit refl
+call_adds_impure false true partial rec t args v = record { new = call_result (record { pure = false; multi = true; partial = partial; rec = rec }) (constructor_call t args (suc v.impure_calls)) ∷ []; impure = refl }
+call_adds_impure false false partial rec t args v = record { new = call_result (record { pure = false; multi = false; partial = partial; rec = rec }) (constructor_call t args (suc v.impure_calls)) ∷ []; impure = refl }
 
 pub term_adds_calls : (k : Kind) (t : ℕ) (a : ValuedAll) → AddsCalls a.visit (visit_term k t a).visit
 term_adds_calls (a_variant ty variant) t a = adds_kept a.visit (visit_term (a_variant ty variant) t a).visit refl
 term_adds_calls (a_struct ty) t a = adds_kept a.visit (visit_term (a_struct ty) t a).visit refl
-term_adds_calls (a_call flags infallible) t a = call_adds flags.pure flags.multi flags.partial flags.rec t a.sites a.visit
+term_adds_calls (a_call flags infallible) t a = call_adds_impure flags.pure flags.multi flags.partial flags.rec t a.sites a.visit
 term_adds_calls unknown t a = adds_kept a.visit a.visit refl
 
 module _ (p : Program) where

@@ -19,8 +19,8 @@ use Rattle.isle_model.specs.claims.SetMeanings.{DemandsItsGates}
 use Rattle.isle_model.proofs.Elements.{In, in_from_contains, contains_from_in, in_either, in_slice, slice_in, any_in, in_any, in_map, map_in, from_flat_map, or_split}
 use Rattle.isle_model.specs.sites.DemandedGates.{GatesDemanded}
 use Rattle.isle_laws_closure.specs.GateLaws.{BuiltRulesDemandGates, BuiltSetsAreWellBuilt}
-use Rattle.isle_laws_closure.proofs.built.Once.{sites_stand_once_lem}
-use Rattle.isle_laws_closure.proofs.built.Built.{set_rule, BuiltGates, built_gates, IsGood, below_good}
+use Rattle.isle_laws_closure.proofs.built.SitesOnce.{sites_stand_once_lem}
+use Rattle.isle_laws_closure.proofs.built.BuiltGates.{set_rule, BuiltGates, built_gates, IsGood, below_good}
 use Rattle.isle_laws_closure.proofs.built.BuiltSets.{BuiltSet, RuleOfSet}
 use Rattle.isle_model.proofs.Options.{is_there}
 use Rattle.isle_model.proofs.FewElements.{none_in}

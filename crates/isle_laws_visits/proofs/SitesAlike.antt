@@ -7,7 +7,7 @@ use Rattle.isle_model.specs.rules.Typed.{TypedExpr, make_term, make_var, make_bo
 use Rattle.isle_model.specs.visits.Demands.{Visit, binding, Valued, ValuedAll, call_result, visit_call, visit_term, visit_expr, visit_exprs, visit_lets}
 use Rattle.isle_model.specs.lists.Formed.{var_type, is_formed_expr, are_formed_args, formed_lets}
 use Rattle.isle_model.proofs.Elements.{some_is}
-use Rattle.isle_laws_visits.proofs.Visited.{Same}
+use Rattle.isle_laws_visits.proofs.AskedSites.{Same}
 use Rattle.isle_laws_visits.proofs.SameExprs.{from_let, from_term, from_args, from_body, after_alike, bound_alike}
 use Rattle.isle_laws_typing.proofs.FormedParts.{has_type}
 

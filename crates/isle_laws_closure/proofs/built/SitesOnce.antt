@@ -4,9 +4,9 @@ use Rattle.std.proofs.lemmas.Option.{slice_get_within}
 use Rattle.isle_model.specs.lists.Names.{IsDistinct}
 use Rattle.isle_model.specs.rules.Program.{Program, rules_of}
 use Rattle.isle_model.specs.rules.Typed.{TypedRule}
-use Rattle.isle_model.specs.sites.Sites.{Constraint, SiteSet, SiteTerm, unfold_site}
+use Rattle.isle_model.specs.sites.Sites.{Constraint, SiteSet, SiteTerm, unfold_site, field_terms}
 use Rattle.isle_model.specs.visits.Demands.{Demands, demands_of, with_sites}
-use Rattle.isle_model.specs.sites.Closure.{is_unreachable, field_terms, Closed, class_at, ascending, next_constrained, taken, closing, before_closing, most_closing_steps, closed}
+use Rattle.isle_model.specs.sites.Closure.{is_unreachable, Closed, class_at, ascending, next_constrained, taken, closing, before_closing, most_closing_steps, closed}
 use Rattle.isle_model.specs.sites.Limits.{RuleLimit, most_sites, passed_in_visit, sites_wanted, sites_until, sites_reached, sites_after_rule, sites_after_rules}
 use Rattle.isle_model.specs.sites.RuleSets.{IsBuilt}
 use Rattle.isle_model.proofs.Elements.{none_some}

@@ -12,12 +12,12 @@ use Rattle.isle_model.specs.trees.Collects.{IsPureAt, HasCollectedResults, sites
 use Rattle.isle_model.specs.trees.Places.{below, all_below}
 use Rattle.isle_laws_typing.specs.WellTypedPrograms.{IsWellTypedProgram}
 use Rattle.isle_model.proofs.Elements.{In, in_from_contains, contains_from_in, in_either, from_flat_map}
-use Rattle.isle_laws_closure.proofs.built.Built.{root_of_built, IsGood, below_good}
+use Rattle.isle_laws_closure.proofs.built.BuiltGates.{root_of_built, IsGood, below_good}
 use Rattle.isle_laws_closure.proofs.built.BuiltSets.{BuiltSet, RuleOfSet}
 use Rattle.isle_laws_visits.proofs.GoneOver.{none_left, pure_right_side}
-use Rattle.isle_laws_closure.proofs.built.Once.{sites_stand_once_lem}
-use Rattle.isle_laws_closure.proofs.built.Served.{built_calls, built_result, gate_at}
-use Rattle.isle_laws_closure.proofs.built.Sets.{all_from_in, in_from_all, each_tested, each_of_set, gates_of}
+use Rattle.isle_laws_closure.proofs.built.SitesOnce.{sites_stand_once_lem}
+use Rattle.isle_laws_closure.proofs.built.ServedSets.{built_calls, built_result, gate_at}
+use Rattle.isle_laws_closure.proofs.built.WellBuiltSets.{all_from_in, in_from_all, each_tested, each_of_set, gates_of}
 use Rattle.isle_model.proofs.Mapped.{nothing_mapped}
 use Rattle.isle_laws_closure.specs.BuiltLaws.{BuiltSetsAreCollected}
 

@@ -15,7 +15,7 @@ use Rattle.isle_laws_closure.specs.ReportLaws.{RulesHaveTerms}
 use Rattle.isle_model.proofs.Elements.{in_from_contains, contains_from_in, in_slice, slice_in}
 use Rattle.isle_laws_closure.proofs.Reports.{reports_are_exact_lem}
 use Rattle.isle_laws_closure.proofs.Settled.{verdict_is_exact_lem}
-use Rattle.isle_laws_closure.proofs.overlaps.Reported.{wrong_means, wrong_there, masked_means, masked_there}
+use Rattle.isle_laws_closure.proofs.overlaps.ReportedOverlaps.{wrong_means, wrong_there, masked_means, masked_there}
 use Rattle.isle_model.proofs.Mapped.{nothing_mapped}
 use Rattle.isle_model.proofs.FewElements.{nothing_if_none, none_in, not_empty}
 
@@ -26,8 +26,8 @@ no_parts : {X : Type 0} (xs ys : List X) → (xs ++ ys) ≡ [] → (xs ≡ []) �
 no_parts [] ys e = (refl, e)
 no_parts (x ∷ xs) ys e = absurd (not_empty x (xs ++ ys) e)
 
-both_empty : {X : Type 0} (xs ys : List X) → xs ≡ [] → ys ≡ [] → (xs ++ ys) ≡ []
-both_empty xs ys e f = ap (λ l. l ++ ys) e ∙ f
+append_empty : {X : Type 0} (xs ys : List X) → xs ≡ [] → ys ≡ [] → (xs ++ ys) ≡ []
+append_empty xs ys e f = ap (λ l. l ++ ys) e ∙ f
 
 module _ (p : Program) where
   -- rules that are all built
@@ -129,7 +129,7 @@ module _ (p : Program) where
   none_reported : (done rs : List TypedRule) → ((t : ℕ) → AllBuilt (sites_so_far t done) (of_term t rs)) → build_reports_after p done rs ≡ []
   none_reported done [] f = refl
   none_reported done (r ∷ rs) f =
-      both_empty (build_reports_of p (sites_so_far r.root_term done) r) (build_reports_after p (done ++ r ∷ []) rs)
+      append_empty (build_reports_of p (sites_so_far r.root_term done) r) (build_reports_after p (done ++ r ∷ []) rs)
       (built_silent (sites_so_far r.root_term done) r (first_limit p (sites_so_far r.root_term done) r) (at_head r.root_term (eq-eqb r.root_term r.root_term refl)).0)
       (none_reported (done ++ r ∷ []) rs (λ t. elim (cases_Bool (r.root_term == t)) [
         | inl h ↦ subst (λ s. AllBuilt s (of_term t rs)) (sym (one_more t done r h)) (at_head t h).1
@@ -184,7 +184,7 @@ module _ (p : Program) where
         here = k.1;
         shadows = w.hides;
       })) in
-      both_empty (build_reports p) (overlap_and_shadow_reports p)
+      append_empty (build_reports p) (overlap_and_shadow_reports p)
       (none_reported [] p.rules (λ t. kept_all [] (rules_of p t) (f.built t)))
       (ap (λ w. by_position (map rules_overlap (overlap_reports w) ++ map rule_shadows (shadow_reports p))) wrong ∙ ap (λ s. by_position (map rule_shadows s)) masks)
 

@@ -11,7 +11,7 @@ use Rattle.isle_model.specs.sites.Overlap.{BuiltRule, is_built, built_rule, buil
 use Rattle.isle_laws_closure.specs.ReportLaws.{RulesHaveTerms}
 use Rattle.isle_model.proofs.Elements.{In, contains_from_in, some_is, none_some, in_left, in_right, in_either, in_slice, slice_in, any_in, in_filter, filter_from, passed_filter, in_map, map_in, in_flat_map, from_flat_map}
 use Rattle.isle_laws_closure.proofs.overlaps.Overlaps.{clash_decides}
-use Rattle.isle_laws_closure.proofs.overlaps.Agreements.{shadows_decides}
+use Rattle.isle_laws_closure.proofs.overlaps.ShadowTest.{shadows_decides}
 
 -- each two elements, by their places
 pub two_places : {X : Type 0} (xs : List X) (e : X × X) → In (each_two xs) e → (i j : ℕ) × (i < j) × (slice_get xs i ≡ Some e.0) × (slice_get xs j ≡ Some e.1)

@@ -7,9 +7,9 @@ use Rattle.isle_model.specs.claims.SetMeanings.{ConstrainsOrEquates}
 use Rattle.isle_model.proofs.Elements.{In}
 use Rattle.isle_laws_closure.specs.BuiltLaws.{BuiltRulesConstrainOrEquate}
 use Rattle.isle_laws_closure.proofs.BuiltRules.{constrained_sites_stand_in_no_class_lem}
-use Rattle.isle_laws_closure.proofs.built.Built.{was_built}
+use Rattle.isle_laws_closure.proofs.built.BuiltGates.{was_built}
 use Rattle.isle_laws_closure.proofs.built.BuiltSets.{BuiltSet, RuleOfSet}
-use Rattle.isle_laws_closure.proofs.built.Sets.{each_of_set}
+use Rattle.isle_laws_closure.proofs.built.WellBuiltSets.{each_of_set}
 
 -- a constrained site stands in no class of the closed demands of a rule of a term
 built_apart : (p : Program) (t : ℕ) (b : BuiltRule) → In (built_rules p t) b → (s : SiteTerm) (c : Constraint) (class : List SiteTerm)

@@ -1,4 +1,4 @@
--- The test of shadows is exact; limits and sites agree with those of a whole program where rules have no equalities.
+-- The test of shadows is exact.
 use Rattle.std.proofs.Common.{◌≡◌, Bool, true, false, T, ◌&&◌, ℤ, ◌<ℤ◌, int_lt, nat_le, refl, leb-true, le-leb}
 use Rattle.std.proofs.lemmas.Bool.{and_parts, and_from, false≢true}
 use Rattle.std.specs.Bool.{Decides}

@@ -16,7 +16,7 @@ use Rattle.isle_laws_typing.proofs.Typings.{then_gives, if_gives}
 use Rattle.isle_laws_typing.proofs.JudgedReading.{lists_are_read_lem}
 use Rattle.isle_laws_typing.proofs.WellTypedRules.{read_programs_are_well_typed}
 use Rattle.isle_laws_closure.specs.AcceptLaws.{WellTypedRulesHaveTerms, RulesAreJudged, ListsAreAccepted, ListsAreNotAccepted}
-use Rattle.isle_laws_closure.proofs.overlaps.Checked.{check_is_exact_lem}
+use Rattle.isle_laws_closure.proofs.overlaps.CheckedPrograms.{check_is_exact_lem}
 use Rattle.isle_laws_closure.proofs.overlaps.Overlaps.{none_listed}
 
 some_entry : (o : Option TermEntry) (f : TermEntry → Bool) → of_entry o f ≡ true → (t : TermEntry) × (o ≡ Some t)

@@ -10,12 +10,12 @@ use Rattle.isle_model.specs.claims.Layers.{is_left_out}
 use Rattle.isle_model.proofs.Elements.{In, in_from_contains, contains_from_in, in_right, in_either, in_slice, in_filter, filter_from, passed_filter, in_map, map_in}
 use Rattle.isle_laws_closure.specs.ShadowLaws.{names_mask, shadowed_by, ListsItsShadowed, MasksAreNamedOnce, OnlyMasksAreNamed, CheckErrorsAreAnswered}
 use Rattle.isle_laws_closure.specs.PairLaws.{times}
-use Rattle.isle_laws_closure.proofs.overlaps.Agreements.{shadows_decides}
+use Rattle.isle_laws_closure.proofs.overlaps.ShadowTest.{shadows_decides}
 use Rattle.isle_laws_closure.proofs.overlaps.LeftOut.{build_reports_are_left_out}
-use Rattle.isle_laws_closure.proofs.overlaps.Listed.{position_means, position_same}
+use Rattle.isle_laws_closure.proofs.overlaps.ListedOverlaps.{position_means, position_same}
 use Rattle.isle_laws_closure.proofs.overlaps.Masks.{masks_are_reported_once_lem}
 use Rattle.isle_laws_closure.proofs.overlaps.Pairs.{none_pass, one_passes, times_append, times_map, never, times_sorted, sorted_in, in_sorted}
-use Rattle.isle_laws_closure.proofs.overlaps.Reported.{masked_means, masked_there}
+use Rattle.isle_laws_closure.proofs.overlaps.ReportedOverlaps.{masked_means, masked_there}
 
 -- an error that names a mask is a shadow report's
 abbrev listed_in : Refusal → List Position

@@ -2,9 +2,9 @@
 use Rattle.std.proofs.Common.{◌≡◌, ℕ, suc, Bool, true, false, List, [], ◌∷◌, ◌++◌, refl, ◌∙◌}
 use Rattle.isle_model.specs.lists.Tables.{Flags}
 use Rattle.isle_model.specs.rules.Program.{Program, Kind, a_variant, a_struct, a_call, unknown, kind, is_partial}
-use Rattle.isle_model.specs.sites.Sites.{Constraint, is_variant, is_struct, is_present, SiteTerm, extractor_call, constructor_call, pick_of, variant_made, variant_field, struct_made, struct_field, some_made, some_part, SiteTerms}
+use Rattle.isle_model.specs.sites.Sites.{Constraint, is_variant, is_struct, is_present, SiteTerm, extractor_call, constructor_call, pick_of, variant_made, struct_made, some_made, some_part, SiteTerms, field_terms}
 use Rattle.isle_model.specs.rules.Typed.{TypedPattern, TypedPatterns, TypedExpr, TypedExprs, TypedLets, TypedIfLet, TypedRule}
-use Rattle.isle_model.specs.visits.Demands.{Count, fields_matched, outputs_taken, Visit, counting, outputs_opened, site_term_eq, making, asking, equating, iterating, calling, binding, from_to, pattern_count, part_sites, open_call, open_term, visit_pattern, visit_each, visit_all, Valued, ValuedAll, call_result, call_sites, where_multi, visit_call, visit_term, visit_expr, visit_exprs, visit_lets, asking_all, visit_args, visit_iflets, finished}
+use Rattle.isle_model.specs.visits.Demands.{fields_opened, Count, fields_matched, outputs_taken, Visit, counting, outputs_opened, site_term_eq, making, asking, equating, iterating, calling, binding, pattern_count, part_sites, open_call, open_term, visit_pattern, visit_each, visit_all, Valued, ValuedAll, call_result, call_sites, where_multi, visit_call, visit_term, visit_expr, visit_exprs, visit_lets, asking_all, visit_args, visit_iflets, finished}
 use Rattle.isle_model.proofs.Elements.{In, in_left}
 use Rattle.isle_model.proofs.Either.{either}
 use Rattle.isle_laws_visits.proofs.Kept.{KeptByTests, KeptByValues, pattern_kept, each_kept, all_kept, expr_kept, exprs_kept, lets_kept, iflets_kept, args_kept}
@@ -16,8 +16,8 @@ pub record Grown (v w : Visit) : Type 0 where
   pub asked : (x : SiteTerm × Constraint) → In v.demands.constraints x → In w.demands.constraints x
   pub equal : (x : SiteTerm × SiteTerm) → In v.demands.equalities x → In w.demands.equalities x
 
-pub now : (v : Visit) → Grown v v
-now v = record { made = λ u i. i; calls = λ u i. i; asked = λ x i. i; equal = λ x i. i }
+pub grown_by_none : (v : Visit) → Grown v v
+grown_by_none v = record { made = λ u i. i; calls = λ u i. i; asked = λ x i. i; equal = λ x i. i }
 
 pub then_grown : (u v w : Visit) → Grown u v → Grown v w → Grown u w
 then_grown u v w a b = record {
@@ -55,10 +55,10 @@ grown_equated a b v = record { made = λ u i. i; calls = λ u i. i; asked = λ x
 
 pub grown_equating : (a b : SiteTerm) (v : Visit) → Grown v (equating a b v)
 unfolding equated
-grown_equating a b v = either (Grown v) (site_term_eq a b) v (equated a b v) (now v) (grown_equated a b v)
+grown_equating a b v = either (Grown v) (site_term_eq a b) v (equated a b v) (grown_by_none v) (grown_equated a b v)
 
 pub grown_all : (ss : List SiteTerm) (v : Visit) → Grown v (asking_all ss v)
-grown_all [] v = now v
+grown_all [] v = grown_by_none v
 grown_all (s ∷ ss) v = then_grown v (asking s is_present v) (asking_all ss (asking s is_present v)) (grown_asking s is_present v) (grown_all ss (asking s is_present v))
 
 -- 1. patterns
@@ -80,17 +80,17 @@ call_grown pure false partial rec false call args v =
     let b = asking call is_present a in
     outputs_grown v b (some_part call) args (then_grown v a b (grown_making (call ∷ (some_part call ∷ [])) v) (grown_asking call is_present a))
 
-fields_grown : (fields : List SiteTerm) (n : ℕ) (s : SiteTerm) (c : Constraint) (v : Visit) → Grown v (asking s c (making fields (counting (fields_matched n) v)))
-fields_grown fields n s c v =
+fields_grown : (c : Constraint) (n : ℕ) (s : SiteTerm) (v : Visit) → Grown v (fields_opened c n s v).visit
+fields_grown c n s v =
     let u = counting (fields_matched n) v in
-    let w = making fields u in
-    then_grown v u (asking s c w) (grown_counting (fields_matched n) v) (then_grown u w (asking s c w) (grown_making fields u) (grown_asking s c w))
+    let w = making (field_terms c s) u in
+    then_grown v u (asking s c w) (grown_counting (fields_matched n) v) (then_grown u w (asking s c w) (grown_making (field_terms c s) u) (grown_asking s c w))
 
 pub term_grown : (k : Kind) (t : ℕ) (s : SiteTerm) (args : TypedPatterns) (v : Visit) → Grown v (open_term k t s args v).visit
-term_grown (a_variant ty variant) t s args v = fields_grown (from_to (variant_field s variant) 0 args) (pattern_count args) s (is_variant ty variant (pattern_count args)) v
-term_grown (a_struct ty) t s args v = fields_grown (from_to (struct_field s) 0 args) (pattern_count args) s (is_struct ty (pattern_count args)) v
+term_grown (a_variant ty variant) t s args v = fields_grown (is_variant ty variant (pattern_count args)) (pattern_count args) s v
+term_grown (a_struct ty) t s args v = fields_grown (is_struct ty (pattern_count args)) (pattern_count args) s v
 term_grown (a_call flags infallible) t s args v = call_grown flags.pure flags.multi flags.partial flags.rec infallible (extractor_call t s) args v
-term_grown unknown t s args v = now v
+term_grown unknown t s args v = grown_by_none v
 
 tests_grow : (p : Program) (v : Visit) → KeptByTests p (Grown v)
 tests_grow p v = record {
@@ -102,13 +102,13 @@ tests_grow p v = record {
 }
 
 pub pattern_grown : (p : Program) (q : TypedPattern) (s : SiteTerm) (v : Visit) → Grown v (visit_pattern p q s v)
-pattern_grown p q s v = pattern_kept p (Grown v) (tests_grow p v) q s v (now v)
+pattern_grown p q s v = pattern_kept p (Grown v) (tests_grow p v) q s v (grown_by_none v)
 
 pub each_grown : (p : Program) (qs : TypedPatterns) (ss : List SiteTerm) (v : Visit) → Grown v (visit_each p qs ss v)
-each_grown p qs ss v = each_kept p (Grown v) (tests_grow p v) qs ss v (now v)
+each_grown p qs ss v = each_kept p (Grown v) (tests_grow p v) qs ss v (grown_by_none v)
 
 pub all_grown : (p : Program) (qs : TypedPatterns) (s : SiteTerm) (v : Visit) → Grown v (visit_all p qs s v)
-all_grown p qs s v = all_kept p (Grown v) (tests_grow p v) qs s v (now v)
+all_grown p qs s v = all_kept p (Grown v) (tests_grow p v) qs s v (grown_by_none v)
 
 -- 2. expressions: they ask and equate nothing
 pub record Adds (v w : Visit) : Type 0 where
@@ -117,7 +117,7 @@ pub record Adds (v w : Visit) : Type 0 where
   pub equalities : w.demands.equalities ≡ v.demands.equalities
 
 adds_nothing : (v : Visit) → Adds v v
-adds_nothing v = record { grown = now v; constraints = refl; equalities = refl }
+adds_nothing v = record { grown = grown_by_none v; constraints = refl; equalities = refl }
 
 pub then_adds : (u v w : Visit) → Adds u v → Adds v w → Adds u w
 then_adds u v w a b = record { grown = then_grown u v w a.grown b.grown; constraints = b.constraints ∙ a.constraints; equalities = b.equalities ∙ a.equalities }
@@ -179,10 +179,10 @@ values_grow p v = record {
 }
 
 pub iflets_grown : (p : Program) (is : List TypedIfLet) (v : Visit) → Grown v (visit_iflets p is v)
-iflets_grown p is v = iflets_kept p (Grown v) (tests_grow p v) (values_grow p v) is v (now v)
+iflets_grown p is v = iflets_kept p (Grown v) (tests_grow p v) (values_grow p v) is v (grown_by_none v)
 
 pub args_grown : (p : Program) (i : ℕ) (qs : List TypedPattern) (v : Visit) → Grown v (visit_args p i qs v)
-args_grown p i qs v = args_kept p (Grown v) (tests_grow p v) (values_grow p v).made i qs v (now v)
+args_grown p i qs v = args_kept p (Grown v) (tests_grow p v) (values_grow p v).made i qs v (grown_by_none v)
 
 pub finished_adds : (b : Bool) (a : Valued) → Adds a.visit (finished b a).visit
 finished_adds false a = adds_nothing a.visit

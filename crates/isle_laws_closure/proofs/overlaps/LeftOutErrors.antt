@@ -20,19 +20,19 @@ use Rattle.isle_laws_closure.specs.ErrorLaws.{says_left_out, AreSaidOnce}
 use Rattle.isle_laws_closure.specs.PairLaws.{one_if, times}
 use Rattle.isle_laws_visits.proofs.LimitsPassed.{first_limit_is_passed_lem, passed_limit_is_met_lem}
 use Rattle.isle_laws_closure.proofs.overlaps.LeftOut.{reports_of_rule}
-use Rattle.isle_laws_closure.proofs.overlaps.Listed.{position_means, position_same}
+use Rattle.isle_laws_closure.proofs.overlaps.ListedOverlaps.{position_means, position_same}
 use Rattle.isle_laws_closure.proofs.overlaps.Masks.{Apart, distinct_apart}
 use Rattle.isle_laws_closure.proofs.overlaps.Pairs.{none_pass, times_append, times_map}
 
-one_more : (k : ℕ) → 1 + k ≡ suc k
-one_more k = omega arith
+one_plus : (k : ℕ) → 1 + k ≡ suc k
+one_plus k = omega arith
 
 no_more : (k : ℕ) → k + 0 ≡ k
 no_more k = omega arith
 
 all_pass : {X : Type 0} (t : X → Bool) (xs : List X) → ((x : X) → In xs x → t x ≡ true) → times t xs ≡ length xs
 all_pass t [] f = refl
-all_pass t (x ∷ xs) f = ap (λ b. one_if b + times t xs) (f x (inl refl)) ∙ one_more (times t xs) ∙ ap suc (all_pass t xs (λ y i. f y (inr i)))
+all_pass t (x ∷ xs) f = ap (λ b. one_if b + times t xs) (f x (inl refl)) ∙ one_plus (times t xs) ∙ ap suc (all_pass t xs (λ y i. f y (inr i)))
 
 -- 1. reports of one rule
 module _ (at : Position) where

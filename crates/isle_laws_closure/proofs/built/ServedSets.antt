@@ -12,22 +12,22 @@ use Rattle.isle_model.specs.sites.Overlap.{BuiltRule, built_rules}
 use Rattle.isle_model.specs.trees.Places.{below, all_below}
 use Rattle.isle_model.proofs.Elements.{In, in_from_contains, contains_from_in, from_flat_map}
 use Rattle.isle_laws_closure.proofs.BuiltRules.{reachable}
-use Rattle.isle_laws_closure.proofs.built.Built.{stands_for, was_built, WasBuilt, typed_built, IsGood, below_good}
+use Rattle.isle_laws_closure.proofs.built.BuiltGates.{stands_for, was_built, WasBuilt, typed_built, IsGood, below_good}
 use Rattle.isle_laws_closure.proofs.built.BuiltSets.{BuiltSet, RuleOfSet, typed_rule}
 use Rattle.isle_model.specs.rules.CalledTerms.{CallsAlone}
 use Rattle.isle_laws_closure.specs.BuiltLaws.{BuiltSetsCanBeServed}
 use Rattle.isle_laws_typing.specs.WellTypedPrograms.{IsWellTypedRule, IsWellTypedProgram}
 use Rattle.isle_laws_typing.proofs.WellTypedPrograms.{pure_iflets, without_multi, without_partial}
 use Rattle.isle_laws_closure.proofs.ClosingGates.{closing_keeps_gates_lem}
-use Rattle.isle_laws_closure.proofs.built.Constrained.{built_rules_constrain_or_equate_lem}
+use Rattle.isle_laws_closure.proofs.built.ConstrainedOrEquated.{built_rules_constrain_or_equate_lem}
 use Rattle.isle_laws_visits.proofs.Exprs.{IsTotal}
 use Rattle.isle_laws_visits.proofs.Gates.{asking_of, AllIn, gates_stay}
 use Rattle.isle_laws_visits.proofs.GoneOver.{rule_calls, rule_result}
-use Rattle.isle_laws_closure.proofs.built.Once.{sites_stand_once_lem}
+use Rattle.isle_laws_closure.proofs.built.SitesOnce.{sites_stand_once_lem}
 use Rattle.isle_laws_closure.proofs.built.Priorities.{one_priority_lem}
 use Rattle.isle_laws_visits.proofs.RightSides.{IsSingle}
 use Rattle.isle_laws_visits.proofs.Rules.{formed_rules_demand_gates_lem}
-use Rattle.isle_laws_closure.proofs.built.Sets.{all_from_in, built_rules_demand_gates_lem}
+use Rattle.isle_laws_closure.proofs.built.WellBuiltSets.{all_from_in, built_rules_demand_gates_lem}
 
 -- 1. rules of programs
 -- closing keeps the constraints of a built rule

@@ -3,19 +3,20 @@ use Rattle.std.proofs.Common.{◌≡◌, ℕ, Bool, true, false, List, [], ◌�
 use Rattle.std.proofs.lemmas.Bool.{false≢true}
 use Rattle.isle_model.specs.lists.Tables.{Flags}
 use Rattle.isle_model.specs.rules.Program.{Program, a_call, kind, flags_of, is_multi, rules_of}
-use Rattle.isle_model.specs.sites.Sites.{Constraint, is_present, SiteTerm, extractor_call, constructor_call, some_part, SiteTerms, unfold_site}
+use Rattle.isle_model.specs.sites.Sites.{Constraint, is_present, SiteTerm, extractor_call, constructor_call, some_part, SiteTerms, unfold_site, field_terms}
 use Rattle.isle_model.specs.sites.Overlap.{BuiltRule, built_rule}
 use Rattle.isle_model.specs.sites.RuleSets.{IsRuleOf}
 use Rattle.isle_model.specs.rules.Typed.{TypedRule}
 use Rattle.isle_model.specs.visits.Demands.{Demands, demands_of, Visit, making, asking, equating, iterating, calling, unwraps, unwraps_all, asking_all, counting}
-use Rattle.isle_model.specs.sites.Closure.{field_terms, Joined, given, itself, turned, chained, at_field, closed}
+use Rattle.isle_model.specs.sites.Closure.{Joined, given, itself, turned, chained, at_field, closed}
 use Rattle.isle_model.proofs.Elements.{In, in_from_contains, in_either, in_slice}
 use Rattle.isle_laws_closure.specs.GateLaws.{NoRuleAsksAndGoesOver}
-use Rattle.isle_laws_closure.proofs.built.Built.{set_rule, was_built}
+use Rattle.isle_laws_closure.proofs.built.BuiltGates.{set_rule, was_built}
 use Rattle.isle_laws_closure.proofs.Closing.{closing_is_sound_lem}
 use Rattle.isle_model.specs.sites.DemandedGates.{IsMultiCall, HasNoPartialMulti, GoesOverMultiCalls}
-use Rattle.isle_laws_visits.proofs.Visited.{equated}
-use Rattle.isle_laws_visits.proofs.WithSites.{IsLeaf, by_leaf, by_field, by_equating, Onward, AtEach, KeptWithSites, unwrapped_at_each, rule_given}
+use Rattle.isle_laws_visits.proofs.Patterns.{by_field}
+use Rattle.isle_laws_visits.proofs.AskedSites.{equated}
+use Rattle.isle_laws_visits.proofs.WithSites.{IsLeaf, by_leaf, by_equating, Onward, AtEach, KeptWithSites, unwrapped_at_each, rule_given}
 
 module _ (p : Program) (neither : HasNoPartialMulti p) where
   -- no multi call
@@ -27,7 +28,7 @@ module _ (p : Program) (neither : HasNoPartialMulti p) where
   IsPlain u = IsOther u × ((s : SiteTerm) → In (unwraps u) s → IsOther s)
 
   -- where a visit stands
-  record IsApart (d : Demands) : Type 0 where
+  record MultiCallsApart (d : Demands) : Type 0 where
     asked : (e : SiteTerm × Constraint) → In d.constraints e → IsOther e.0
     equal : (e : SiteTerm × SiteTerm) → In d.equalities e → IsOther e.0 × IsOther e.1
     calls : (u : SiteTerm) → In d.iterators u → IsMultiCall p u
@@ -37,19 +38,19 @@ module _ (p : Program) (neither : HasNoPartialMulti p) where
   StaysPlain d u = IsPlain u
 
   abbrev OnwardApart : Demands → Demands → Type 0
-  OnwardApart = Onward IsApart StaysPlain
+  OnwardApart = Onward MultiCallsApart StaysPlain
 
-  onward : (d e : Demands) → IsApart e → OnwardApart d e
+  onward : (d e : Demands) → MultiCallsApart e → OnwardApart d e
   onward d e h = record { holds = h; stays = λ s o. o }
 
-  after_iterating : (s : SiteTerm) (v : Visit) → IsApart v.demands → IsMultiCall p s → IsApart (iterating s v).demands
+  after_iterating : (s : SiteTerm) (v : Visit) → MultiCallsApart v.demands → IsMultiCall p s → MultiCallsApart (iterating s v).demands
   after_iterating s v h m = record {
     asked = h.asked;
     equal = h.equal;
     calls = λ u i. elim (in_either v.demands.iterators (s ∷ []) u i) [ inl j ↦ h.calls u j | inr j ↦ elim j [ inl e ↦ subst (IsMultiCall p) e m | inr n ↦ absurd n ] ];
   }
 
-  after_asking : (s : SiteTerm) (c : Constraint) (v : Visit) → IsApart v.demands → IsOther s → IsApart (asking s c v).demands
+  after_asking : (s : SiteTerm) (c : Constraint) (v : Visit) → MultiCallsApart v.demands → IsOther s → MultiCallsApart (asking s c v).demands
   after_asking s c v h o = record {
     asked = λ e i. elim (in_either v.demands.constraints ((s, c) ∷ []) e i) [
       | inl j ↦ h.asked e j
@@ -59,11 +60,11 @@ module _ (p : Program) (neither : HasNoPartialMulti p) where
     calls = h.calls;
   }
 
-  after_asking_all : (ss : List SiteTerm) (v : Visit) → IsApart v.demands → ((s : SiteTerm) → In ss s → IsOther s) → IsApart (asking_all ss v).demands
+  after_asking_all : (ss : List SiteTerm) (v : Visit) → MultiCallsApart v.demands → ((s : SiteTerm) → In ss s → IsOther s) → MultiCallsApart (asking_all ss v).demands
   after_asking_all [] v h f = h
   after_asking_all (s ∷ ss) v h f = after_asking_all ss (asking s is_present v) (after_asking s is_present v h (f s (inl refl))) (λ t i. f t (inr i))
 
-  after_equated : (a b : SiteTerm) (v : Visit) → IsApart v.demands → IsOther a → IsOther b → IsApart (equated a b v).demands
+  after_equated : (a b : SiteTerm) (v : Visit) → MultiCallsApart v.demands → IsOther a → IsOther b → MultiCallsApart (equated a b v).demands
   after_equated a b v h m n = record {
     asked = h.asked;
     equal = λ e i. elim (in_either v.demands.equalities ((a, b) ∷ []) e i) [
@@ -77,8 +78,8 @@ module _ (p : Program) (neither : HasNoPartialMulti p) where
   leaf_plain = by_leaf IsPlain (λ i. (λ m. m, λ s k. absurd k)) (λ b ty. (λ m. m, λ s k. absurd k)) (λ z ty. (λ m. m, λ s k. absurd k)) (λ name. (λ m. m, λ s k. absurd k))
 
   -- none of these unwraps a multi call, nor does the answer of another call
-  all_unwrapped : (d : Demands) (us : SiteTerms) → AtEach IsApart StaysPlain d us → (s : SiteTerm) → In (unwraps_all us) s → IsOther s
-  all_unwrapped d = unwrapped_at_each IsApart StaysPlain IsOther d (λ u m. m.1)
+  all_unwrapped : (d : Demands) (us : SiteTerms) → AtEach MultiCallsApart StaysPlain d us → (s : SiteTerm) → In (unwraps_all us) s → IsOther s
+  all_unwrapped d = unwrapped_at_each MultiCallsApart StaysPlain IsOther d (λ u m. m.1)
 
   part_plain : (call : SiteTerm) → IsOther call → ((s : SiteTerm) → In (unwraps call) s → IsOther s) → IsPlain (some_part call)
   part_plain call o deep = (λ m. m, λ s i. elim i [ inl q ↦ subst IsOther q o | inr j ↦ deep s j ])
@@ -90,7 +91,7 @@ module _ (p : Program) (neither : HasNoPartialMulti p) where
   not_multi : (t : ℕ) (flags : Flags) (infallible : Bool) → kind p t ≡ a_call flags infallible → flags.multi ≡ false → is_multi p t ≡ true → ⊥
   not_multi t flags infallible e f m = false≢true (sym (its_multi t flags infallible e ∙ f) ∙ m)
 
-  apart_kept : KeptWithSites IsApart StaysPlain p
+  apart_kept : KeptWithSites MultiCallsApart StaysPlain p
   apart_kept = record {
     unbound = λ d. (λ m. m, λ s i. absurd i);
     leaf = λ d s l n. leaf_plain s l;
@@ -107,7 +108,7 @@ module _ (p : Program) (neither : HasNoPartialMulti p) where
     counts = λ c v h. onward v.demands (counting c v).demands (record { asked = h.asked; equal = h.equal; calls = h.calls });
     makes = λ ts v h. onward v.demands (making ts v).demands (record { asked = h.asked; equal = h.equal; calls = h.calls });
     calls = λ s v h m. onward v.demands (calling s v).demands (record { asked = h.asked; equal = h.equal; calls = h.calls });
-    equates = λ a b v h m n. onward v.demands (equating a b v).demands (by_equating (λ w. IsApart w.demands) a b v h (after_equated a b v h m.0 n.0));
+    equates = λ a b v h m n. onward v.demands (equating a b v).demands (by_equating (λ w. MultiCallsApart w.demands) a b v h (after_equated a b v h m.0 n.0));
     asks = λ s c v f h m. onward v.demands (asking s c v).demands (after_asking s c v h m.0);
     asks_all = λ s v h m. onward v.demands (asking_all (unwraps s) v).demands (after_asking_all (unwraps s) v h m.1);
     asks_call = λ t s v flags e f c n h m.
@@ -121,8 +122,8 @@ module _ (p : Program) (neither : HasNoPartialMulti p) where
         let call = constructor_call t us i in onward v.demands (iterating call v).demands (after_iterating call v h (its_multi t flags b e ∙ f));
   }
 
-  rule_apart : (r : TypedRule) → IsApart (demands_of p r)
-  rule_apart r = (rule_given p IsApart StaysPlain apart_kept r (record { asked = λ e i. absurd i; equal = λ e i. absurd i; calls = λ u i. absurd i })).0
+  rule_apart : (r : TypedRule) → MultiCallsApart (demands_of p r)
+  rule_apart r = (rule_given p MultiCallsApart StaysPlain apart_kept r (record { asked = λ e i. absurd i; equal = λ e i. absurd i; calls = λ u i. absurd i })).0
 
   -- fields are no calls
   field_other : (c : Constraint) (s u : SiteTerm) → In (field_terms c s) u → IsOther u
