@@ -4,11 +4,11 @@ use Rattle.std.proofs.lemmas.List.{append-nil, append_assoc, map-append}
 use Rattle.isle_model.specs.lists.Tables.{Flags}
 use Rattle.isle_model.specs.rules.Program.{Program, Kind, a_variant, a_struct, a_call, unknown, kind, is_partial}
 use Rattle.isle_model.specs.rules.Typed.{TypedPattern, match_bind, match_var, match_bool, match_int, match_prim, match_term, match_any, match_and, TypedPatterns, no_typed_pattern, typed_pattern_and, TypedIfLet}
-use Rattle.isle_model.specs.sites.Sites.{is_present, SiteTerm, SiteTerms, argument, constructor_call, extractor_call, some_part, pick_of, tuple_part, variant_field, struct_field}
+use Rattle.isle_model.specs.sites.Sites.{is_present, SiteTerm, SiteTerms, argument, constructor_call, extractor_call, some_part, pick_of, variant_field, struct_field}
 use Rattle.isle_model.specs.visits.Demands.{Count, argument_taken, fields_matched, outputs_taken, Visit, visit_start, making, asking, iterating, taking_argument, site_term_eq, from_to, pattern_count, output_sites, outputs_opened, open_call, open_term, visit_pattern, visit_each, visit_all, Valued, ValuedAll, call_sites, visit_call, visit_term, visit_expr, asking_all, unwraps, visit_args, visit_iflets, finished, var_site, value_of_rule}
 use Rattle.isle_model.proofs.Either.{either}
 use Rattle.isle_laws_visits.proofs.Kept.{KeptByValues, expr_kept}
-use Rattle.isle_laws_visits.proofs.Patterns.{AsMany, as_many}
+use Rattle.isle_laws_visits.proofs.Patterns.{AsMany, as_many, output_count}
 use Rattle.isle_laws_visits.proofs.Visited.{equated}
 use Rattle.isle_examples.specs.ShownCounts.{shown, shown_in, shown_of_args, term_shown, VisitsCountWhatIsShown}
 
@@ -17,11 +17,6 @@ abbrev counts : Visit → List Count
 counts v = map (λ c. c.0) v.demands.counted
 
 -- 1. terms
-outputs_as_many : (s : SiteTerm) (args : TypedPatterns) → AsMany (output_sites s args) args
-outputs_as_many s no_typed_pattern = tt
-outputs_as_many s (typed_pattern_and q no_typed_pattern) = tt
-outputs_as_many s (typed_pattern_and q (typed_pattern_and r rs)) = as_many (tuple_part s) 0 (typed_pattern_and q (typed_pattern_and r rs))
-
 -- one count, and then those of the parts
 one_then : (c : Count) (n : ℕ) (v : Visit) (parts all : List Count) → all ≡ map (λ d. d.0) (v.demands.counted ++ (c, n) ∷ []) ++ parts → all ≡ counts v ++ c ∷ parts
 one_then c n v parts all e = e ∙ ap (λ l. l ++ parts) (map-append (λ d. d.0) v.demands.counted ((c, n) ∷ [])) ∙ append_assoc (counts v) (c ∷ []) parts
@@ -31,13 +26,13 @@ module _ (p : Program) (args : TypedPatterns) (each : (ss : List SiteTerm) (v : 
       → (let o = open_call (record { pure = pure; multi = multi; partial = partial; rec = rec }) infallible call args v in counts (visit_each p args o.inputs o.visit) ≡ counts v ++ outputs_taken (pattern_count args) ∷ shown_in p args)
   call_shown pure true partial rec infallible call v =
       let w = iterating call (making (call ∷ (pick_of call ∷ [])) v) in
-      one_then (outputs_taken (pattern_count args)) _ v (shown_in p args) _ (each (output_sites (pick_of call) args) (outputs_opened (pick_of call) args w).visit (outputs_as_many (pick_of call) args))
+      one_then (outputs_taken (pattern_count args)) _ v (shown_in p args) _ (each (output_sites (pick_of call) args) (outputs_opened (pick_of call) args w).visit (output_count (pick_of call) args))
   call_shown pure false partial rec true call v =
       let w = making (call ∷ []) v in
-      one_then (outputs_taken (pattern_count args)) _ v (shown_in p args) _ (each (output_sites call args) (outputs_opened call args w).visit (outputs_as_many call args))
+      one_then (outputs_taken (pattern_count args)) _ v (shown_in p args) _ (each (output_sites call args) (outputs_opened call args w).visit (output_count call args))
   call_shown pure false partial rec false call v =
       let w = asking call is_present (making (call ∷ (some_part call ∷ [])) v) in
-      one_then (outputs_taken (pattern_count args)) _ v (shown_in p args) _ (each (output_sites (some_part call) args) (outputs_opened (some_part call) args w).visit (outputs_as_many (some_part call) args))
+      one_then (outputs_taken (pattern_count args)) _ v (shown_in p args) _ (each (output_sites (some_part call) args) (outputs_opened (some_part call) args w).visit (output_count (some_part call) args))
 
   nothing_visited : (qs : TypedPatterns) (v : Visit) → visit_each p qs [] v ≡ v
   nothing_visited no_typed_pattern v = refl
