@@ -20,9 +20,9 @@ use Rattle.isle_model.specs.claims.Refusals.{refusal_of}
 use Rattle.isle_model.proofs.Elements.{In, in_from_contains, contains_from_in, in_either, in_slice, in_filter, in_map, map_in, in_flat_map, from_flat_map}
 use Rattle.isle_model.proofs.Members.{all_members}
 use Rattle.isle_laws_typing.proofs.TypedRules.{lists_agree}
-use Rattle.isle_laws_closure.proofs.overlaps.Listed.{ascending_in}
+use Rattle.isle_laws_closure.proofs.overlaps.ListedOverlaps.{ascending_in}
 use Rattle.isle_laws_closure.proofs.overlaps.Pairs.{sorted_in}
-use Rattle.isle_laws_closure.proofs.overlaps.Reported.{built_of, wrong_means, report_of, masked_means}
+use Rattle.isle_laws_closure.proofs.overlaps.ReportedOverlaps.{built_of, wrong_means, report_of, masked_means}
 use Rattle.isle_base.specs.declared.syntax.Error.{Error}
 use Rattle.isle_base.specs.ErrorViews.{error_view, error_views}
 use Rattle.isle_base.specs.Positions.{HasSingleSpans, ErrorStandsAt, OccurAmong, definition_positions, positions_of, positions_named}

@@ -23,8 +23,8 @@ use Rattle.isle_model.proofs.Positions.{distinct_nil}
 use Rattle.isle_laws_closure.specs.RuleByRule.{AreBuiltSoFar, GoesPast, of_one_term, or_nothing_built}
 use Rattle.isle_laws_matching.specs.AnswerLaws.{BuiltSetsAreAnswered}
 use Rattle.isle_laws_closure.proofs.building.SetsSoFar.{building_ends_lem, building_goes_on_lem, building_starts_lem, stands}
-use Rattle.isle_laws_closure.proofs.overlaps.Judged.{well_typed_rules_have_terms_lem}
-use Rattle.isle_laws_closure.proofs.built.Once.{once_after}
+use Rattle.isle_laws_closure.proofs.overlaps.JudgedLists.{well_typed_rules_have_terms_lem}
+use Rattle.isle_laws_closure.proofs.built.SitesOnce.{once_after}
 use Rattle.isle_laws_typing.specs.WellTypedPrograms.{ElaboratedProgramsAreWellTyped}
 use Rattle.isle_base.specs.declared.syntax.Error.{Error}
 use Rattle.isle_types.specs.declared.ids.TermId.{TermId}

@@ -18,7 +18,7 @@ use Rattle.isle_laws_closure.specs.ReportLaws.{RulesHaveTerms}
 use Rattle.isle_term_sets.specs.AddedRules.{set_so_far}
 use Rattle.isle_builder.specs.SetsSoFar.{set_at}
 use Rattle.isle_term_sets.specs.declared.term_sets.TermSet.{TermSet}
-use Rattle.isle_sets.proofs.ListedConstraints.{tied}
+use Rattle.isle_model.proofs.Numbers.{tied}
 
 -- 1. ascending numbers of a range
 after_first : (k : ℕ) (ks : List ℕ) → IsStrictlySortedBy nat_cmp (k ∷ ks) → (m : ℕ) → In ks m → k < m

@@ -4,14 +4,16 @@ use Rattle.std.proofs.lemmas.Bool.{false≢true, true≢false}
 use Rattle.std.proofs.lemmas.Int.{ints}
 use Rattle.isle_model.specs.lists.Tables.{TypeEntry, builtin_type, primitive_type, enum_type, struct_type}
 use Rattle.isle_model.specs.rules.Values.{Value, truth, atom, is_atom_type}
+use Rattle.isle_model.specs.rules.Meaning.{total}
 use Rattle.isle_model.specs.rules.Program.{Program, rules_of}
 use Rattle.isle_model.specs.rules.Typed.{TypedRule}
 use Rattle.isle_model.specs.sites.Sites.{SiteTerm, bool_term, int_term, prim_term, argument, extractor_call, constructor_call, pick_of, variant_made, variant_field, struct_made, struct_field, some_made, some_part, tuple_part, no_site}
-use Rattle.isle_model.specs.sites.Serves.{constant_type, is_type_with_parts, tested_constants, written_type}
+use Rattle.isle_model.specs.sites.Serves.{constant_type, is_type_with_parts, tested_constants, written_type, written_value}
 use Rattle.isle_model.specs.claims.Environments.{program_of}
 use Rattle.isle_model.proofs.Elements.{some_is, none_some}
-use Rattle.isle_laws_matching.specs.TotalLaws.{matched_terms, called_terms, total_value}
-use Rattle.isle_laws_functions.proofs.Choosing.{runs_by_functions_as_chosen_lem}
+use Rattle.isle_laws_typing.proofs.WellTypedRules.{elaborated_programs_are_well_typed_lem}
+use Rattle.isle_laws_matching.specs.TotalLaws.{matched_by, called_by}
+use Rattle.isle_laws_matching.proofs.total.Total.{runs_by_functions_as_chosen_lem, tested_constant_used}
 use Rattle.isle_calls.specs.Echoes.{constant_number, named_value, echoes}
 use Rattle.isle_calls.specs.EchoLaws.{AreConstantTypesOf, WritesNoConstant, EchoesKeepConstantsApart, EchoesChooseAsSource}
 use Rattle.isle_calls.proofs.EchoesFit.{echoes_are_well_typed_lem}
@@ -72,7 +74,7 @@ module _ (p : Program) (types : ℕ → Option ℕ) (same : AreConstantTypesOf p
   forms e = ap is_truth e
 
   apart : (rs : List TypedRule) → WritesNoConstant p rs → (a b : SiteTerm) → Constant p ty a → Constant p ty b → Contains (tested_constants p rs) a → Contains (tested_constants p rs) b
-      → total_value (echoes types p.terms) a ≡ total_value (echoes types p.terms) b → a ≡ b
+      → written_value (total (echoes types p.terms)) a ≡ written_value (total (echoes types p.terms)) b → a ≡ b
   apart rs unwritten _ _ (a_bool b) (a_bool c) ia ib e = ap (λ x. bool_term x ty) (ap truth_of (is e))
   apart rs unwritten _ _ (a_bool b) (an_int z) ia ib e = absurd (true≢false (forms (is e)))
   apart rs unwritten _ _ (a_bool b) (a_prim n q) ia ib e = absurd (true≢false (forms (is e ∙ value_of n q)))
@@ -92,9 +94,9 @@ without_parts (Some (enum_type name id e n vs at)) h = absurd (false≢true h)
 without_parts (Some (struct_type name id e n fields at)) h = absurd (false≢true h)
 
 pub echoes_keep_constants_apart_lem : EchoesKeepConstantsApart
-echoes_keep_constants_apart_lem p types matched called rs same can unwritten = record {
-  different = λ a b ty ia ib either wa wb e. apart p types same ty rs unwritten a b (constant_of p ty a wa) (constant_of p ty b wb) ia ib e;
-  without_parts = λ r s name ty among asks is. without_parts (slice_get p.types ty) (can.constants name ty is);
+echoes_keep_constants_apart_lem p t types well same can unwritten = record {
+  different = λ a b ty v ia ib either wa wb ea eb. apart p types same ty (rules_of p t) unwritten a b (constant_of p ty a wa) (constant_of p ty b wb) ia ib (ea ∙ sym eb);
+  without_parts = λ r s name ty among asks is. without_parts (slice_get p.types ty) (can.constants name ty (tested_constant_used p well t r s name among asks) is);
 }
 
 pub echoes_choose_as_source_lem : EchoesChooseAsSource
@@ -102,5 +104,5 @@ echoes_choose_as_source_lem e defs expand rules t sites tree types args elaborat
     let p = program_of e defs rules.rules in
     let rs = rules_of p t in
     runs_by_functions_as_chosen_lem e defs expand rules t sites tree (echoes types p.terms) args elaborated plain runs
-    (echoes_are_well_typed_lem p types (matched_terms rs) (called_terms rs) same can)
-    (echoes_keep_constants_apart_lem p types (matched_terms rs) (called_terms rs) rs same can unwritten) typed
+    (echoes_are_well_typed_lem p types (matched_by rs) (called_by rs) same can)
+    (echoes_keep_constants_apart_lem p t types (elaborated_programs_are_well_typed_lem e defs expand rules elaborated) same can unwritten) typed

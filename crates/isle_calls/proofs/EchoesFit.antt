@@ -106,7 +106,7 @@ echoes_are_well_typed_lem p types matched called same can = record {
   ints = λ z ty h. atom_fits p.types ty z h;
   written_bools = λ b ty h. refl;
   written_ints = λ z ty h. refl;
-  constants = λ name ty is. constant_fits p name ty (types name) (same name ∙ is) (can.constants name ty is);
+  constants = λ name ty used is. constant_fits p name ty (types name) (same name ∙ is) (can.constants name ty used is);
   extractors = λ t e v among there may h. extracted_fits p t e v there may (can.extractors t e among there may) h;
   pures = λ t e vs among there may pure h.
       given_fits p t e (first_or_zero e.ret_ty vs) (made (slice_get p.terms t) vs) there may (first_fits p e.ret_ty e.arg_tys vs (can.pures t e among there may pure) h) (ap (λ o. made o vs) there);

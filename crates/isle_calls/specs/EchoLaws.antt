@@ -1,20 +1,22 @@
 -- Where echoes are well typed and tell constants apart, and so the run of a tree by them is the choice of a source rule.
-use Rattle.std.specs.Prelude.{◌≡◌, ℕ, ℤ, Bool, true, false, List, [], ◌∷◌, Option, Some, slice_get, Contains, IsTrue}
+use Rattle.std.specs.Prelude.{◌≡◌, ◌++◌, ℕ, ℤ, Bool, true, false, List, [], ◌∷◌, Option, Some, slice_get, Contains, IsTrue}
 use Rattle.std.specs.Bool.{◌==◌}
 use Rattle.std.specs.List.{list_all}
 use Rattle.isle_model.specs.lists.Syntax.{Definition}
 use Rattle.isle_model.specs.lists.Tables.{TermEntry}
 use Rattle.isle_model.specs.lists.Elaborated.{TypedRules}
 use Rattle.isle_model.specs.rules.Values.{Value, is_atom_type, args_well_typed}
+use Rattle.isle_model.specs.rules.Meaning.{total}
 use Rattle.isle_model.specs.rules.Program.{Program, arg_types, is_multi, is_pure, rules_of}
 use Rattle.isle_model.specs.rules.Typed.{TypedRule}
 use Rattle.isle_model.specs.sites.Sites.{Site, int_term, prim_term}
-use Rattle.isle_model.specs.sites.Serves.{constant_type, tested_constants}
+use Rattle.isle_model.specs.sites.Serves.{constant_type, tested_constants, TellsConstantsApart}
 use Rattle.isle_model.specs.trees.Trees.{Tree}
 use Rattle.isle_model.specs.claims.Environments.{TypesRead, IsElaborated, program_of}
 use Rattle.isle_model.specs.claims.Headline.{RunsAsChosen}
-use Rattle.isle_laws_matching.specs.TotalLaws.{IsWellTyped, KeepsConstantsApart, can_be_matched, can_be_called, matched_terms, called_terms}
-use Rattle.isle_laws_functions.specs.FunctionLaws.{ChoosesBy}
+use Rattle.isle_laws_typing.specs.WellTypedPrograms.{IsWellTypedProgram}
+use Rattle.isle_laws_visits.specs.RuleUses.{Use, a_term, a_constant}
+use Rattle.isle_laws_matching.specs.TotalLaws.{IsWellTyped, ChoosesUnder, can_be_matched, can_be_called, matched_by, called_by}
 use Rattle.isle_calls.specs.Echoes.{constant_number, echoes}
 
 -- a value of a type can be given: the first argument, or a number where there is none
@@ -22,13 +24,13 @@ abbrev pub CanGiveFirst : Program → ℕ → List ℕ → Type 0
 CanGiveFirst p ty [] = IsTrue (is_atom_type (slice_get p.types ty))
 CanGiveFirst p ty (first ∷ rest) = first ≡ ty
 
--- what is called can be echoed: named constants and the results of impure constructors are numbers, the outputs of an
+-- what is used can be echoed: named constants and the results of impure constructors are numbers, the outputs of an
 -- extractor have the type of what it takes apart, and a pure constructor's result that of its first argument
-pub record CanBeEchoed (p : Program) (matched called : List ℕ) : Type 0 where
-  pub constants : (name ty : ℕ) → constant_type p name ≡ Some ty → IsTrue (is_atom_type (slice_get p.types ty))
-  pub extractors : (t : ℕ) (e : TermEntry) → Contains matched t → slice_get p.terms t ≡ Some e → IsTrue (can_be_matched e.kind) → IsTrue (list_all (λ ty. ty == e.ret_ty) e.arg_tys)
-  pub pures : (t : ℕ) (e : TermEntry) → Contains called t → slice_get p.terms t ≡ Some e → IsTrue (can_be_called e.kind) → is_pure p t ≡ true → CanGiveFirst p e.ret_ty e.arg_tys
-  pub impures : (t : ℕ) (e : TermEntry) → Contains called t → slice_get p.terms t ≡ Some e → IsTrue (can_be_called e.kind) → is_pure p t ≡ false → IsTrue (is_atom_type (slice_get p.types e.ret_ty))
+pub record CanBeEchoed (p : Program) (matched called : List Use) : Type 0 where
+  pub constants : (name ty : ℕ) → Contains (matched ++ called) (a_constant name) → constant_type p name ≡ Some ty → IsTrue (is_atom_type (slice_get p.types ty))
+  pub extractors : (t : ℕ) (e : TermEntry) → Contains matched (a_term t) → slice_get p.terms t ≡ Some e → IsTrue (can_be_matched e.kind) → IsTrue (list_all (λ ty. ty == e.ret_ty) e.arg_tys)
+  pub pures : (t : ℕ) (e : TermEntry) → Contains called (a_term t) → slice_get p.terms t ≡ Some e → IsTrue (can_be_called e.kind) → is_pure p t ≡ true → CanGiveFirst p e.ret_ty e.arg_tys
+  pub impures : (t : ℕ) (e : TermEntry) → Contains called (a_term t) → slice_get p.terms t ≡ Some e → IsTrue (can_be_called e.kind) → is_pure p t ≡ false → IsTrue (is_atom_type (slice_get p.types e.ret_ty))
 
 -- the constants have the types of a program
 abbrev pub AreConstantTypesOf : Program → (ℕ → Option ℕ) → Type 0
@@ -37,7 +39,7 @@ AreConstantTypesOf p constant_types = (name : ℕ) → constant_types name ≡ c
 -- echoes are then well typed
 abbrev pub EchoesAreWellTyped : Type 0
 EchoesAreWellTyped =
-    (p : Program) (constant_types : ℕ → Option ℕ) (matched called : List ℕ) → AreConstantTypesOf p constant_types → CanBeEchoed p matched called
+    (p : Program) (constant_types : ℕ → Option ℕ) (matched called : List Use) → AreConstantTypesOf p constant_types → CanBeEchoed p matched called
     → IsWellTyped p matched called (echoes constant_types p.terms)
 
 -- no pattern writes a literal that is the number of a constant that a pattern names
@@ -45,11 +47,11 @@ abbrev pub WritesNoConstant : Program → List TypedRule → Type 0
 WritesNoConstant p rs =
     (z : ℤ) (ty name : ℕ) → Contains (tested_constants p rs) (int_term z ty) → Contains (tested_constants p rs) (prim_term name) → z ≡ constant_number name → ⊥
 
--- echoes then tell constants apart
+-- echoes then tell apart the constants of a term's rules
 abbrev pub EchoesKeepConstantsApart : Type 0
 EchoesKeepConstantsApart =
-    (p : Program) (constant_types : ℕ → Option ℕ) (matched called : List ℕ) (rs : List TypedRule) → AreConstantTypesOf p constant_types → CanBeEchoed p matched called
-    → WritesNoConstant p rs → KeepsConstantsApart p (echoes constant_types p.terms) rs
+    (p : Program) (t : ℕ) (constant_types : ℕ → Option ℕ) → IsWellTypedProgram p → AreConstantTypesOf p constant_types → CanBeEchoed p (matched_by (rules_of p t)) (called_by (rules_of p t))
+    → WritesNoConstant p (rules_of p t) → TellsConstantsApart p (total (echoes constant_types p.terms)) (rules_of p t)
 
 -- and so, in a term that isn't multi, a tree that runs as chosen comes by echoes to the outcome of the matching source rule of
 -- greatest priority
@@ -58,7 +60,7 @@ EchoesChooseAsSource =
     (e : TypesRead) (defs : List Definition) (expand : Bool) (rules : TypedRules) (t : ℕ) (sites : List Site) (tree : Tree) (constant_types : ℕ → Option ℕ) (args : List Value)
     → IsElaborated e defs expand rules → is_multi (program_of e defs rules.rules) t ≡ false → RunsAsChosen (program_of e defs rules.rules) t sites tree
     → AreConstantTypesOf (program_of e defs rules.rules) constant_types
-    → CanBeEchoed (program_of e defs rules.rules) (matched_terms (rules_of (program_of e defs rules.rules) t)) (called_terms (rules_of (program_of e defs rules.rules) t))
+    → CanBeEchoed (program_of e defs rules.rules) (matched_by (rules_of (program_of e defs rules.rules) t)) (called_by (rules_of (program_of e defs rules.rules) t))
     → WritesNoConstant (program_of e defs rules.rules) (rules_of (program_of e defs rules.rules) t)
     → IsTrue (args_well_typed (program_of e defs rules.rules).types (arg_types (program_of e defs rules.rules) t) args)
-    → ChoosesBy (program_of e defs rules.rules) t sites tree (echoes constant_types (program_of e defs rules.rules).terms) args
+    → ChoosesUnder (program_of e defs rules.rules) t sites tree (total (echoes constant_types (program_of e defs rules.rules).terms)) args

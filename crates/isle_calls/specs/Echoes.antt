@@ -2,9 +2,8 @@
 use Rattle.std.specs.Prelude.{ℕ, ℤ, pos, neg_ℤ, ◌+ℤ◌, ◌^◌, Bool, true, false, not, List, [], ◌∷◌, Option, Some, None, slice_get}
 use Rattle.isle_model.specs.lists.Tables.{TermEntry}
 use Rattle.isle_model.specs.rules.Values.{Value, truth, atom, Values, no_value, value_and}
-use Rattle.isle_model.specs.rules.Meaning.{Content, one, parts, nothing, just, many, no_content, content_and, Literal, bool_literal, int_literal}
+use Rattle.isle_model.specs.rules.Meaning.{Content, one, parts, nothing, just, many, no_content, content_and, Literal, bool_literal, int_literal, TotalMeaning}
 use Rattle.isle_model.specs.rules.Program.{Kind, a_call, kind_of}
-use Rattle.isle_laws_matching.specs.TotalLaws.{TotalMeaning}
 
 -- a literal is the value that it writes
 abbrev pub as_written : Literal → Value

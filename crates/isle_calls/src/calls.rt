@@ -1,7 +1,7 @@
 //! Calls of terms with rules.
 
 ghost use Rattle.std.specs.Prelude.{◌≡◌, IfOk};
-ghost use Rattle.isle_laws_functions.specs.RunBy.{run_by};
+ghost use Rattle.isle_model.specs.trees.Run.{run};
 ghost use Rattle.isle_serialize.specs.TreeViews.{tree_view};
 ghost use Rattle.isle_terms.specs.TermViews.{term_views};
 ghost use Rattle.isle_types.specs.Envs.{constant_at};
@@ -117,7 +117,7 @@ pub fn outcome_of(
     multi: bool,
     args: &[Value],
 ) -> Result<Outcome, AllocError>
-    ensures { IfOk result (λ o. outcome_view o ≡ run_by (tree_view entry.now.block) (stage_of (echoes (constant_at lowered.now.tyenv) (term_views lowered.now.termenv.terms.items)) entry.now.rules.bindings.items multi args.now)) }
+    ensures { IfOk result (λ o. outcome_view o ≡ run (tree_view entry.now.block) (stage_of (echoes (constant_at lowered.now.tyenv) (term_views lowered.now.termenv.terms.items)) entry.now.rules.bindings.items multi args.now)) }
 {
     let echo = Echo {
         tyenv: &lowered.tyenv,

@@ -9,19 +9,19 @@ use Rattle.isle_terms.specs.declared.term.TermFlags.{TermFlags}
 use Rattle.isle_terms.specs.declared.term.TermKind.{TermKind}
 use Rattle.isle_terms.specs.declared.term.TermKind.TheVariants as K
 use Rattle.isle_terms.specs.declared.term.Term.{Term}
-use Rattle.isle_terms.specs.TermViews.{extractor_view, flags_view, kind_view, term_view, term_views}
+use Rattle.isle_terms.specs.TermViews.{extractor_view, flags_view, kind_view, term_view}
 use Rattle.isle_model.specs.lists.Tables.{TermEntry}
-use Rattle.isle_model.specs.rules.Program.{Kind, a_variant, a_struct, a_call, unknown, always_answers, kind_of}
-use Rattle.isle_laws_functions.specs.ChoiceBy.{entry_kind}
+use Rattle.isle_model.specs.rules.Program.{Kind, a_variant, a_struct, a_call, unknown, always_answers, kind_of, kind}
+use Rattle.isle_choose.specs.SourceViews.{of_terms}
 
 abbrev of_entry : Option TermEntry → Kind
 of_entry o = elim o [ None ↦ unknown | Some e ↦ kind_of e ]
 
-pub known : (ts : List Term) (i t : ℕ) (e : Term) → i ≡ t → i < length ts → e ≡ get_or ts i e → entry_kind (term_views ts) t ≡ kind_of (term_view e)
-known ts i t e same h at = subst (λ n. entry_kind (term_views ts) n ≡ kind_of (term_view e)) same (ap of_entry (slice_get-map term_view ts i ∙ ap (option_map term_view) (slice_get-get_or ts i e h ∙ ap Some (sym at))))
+pub known : (ts : List Term) (i t : ℕ) (e : Term) → i ≡ t → i < length ts → e ≡ get_or ts i e → kind (of_terms ts) t ≡ kind_of (term_view e)
+known ts i t e same h at = subst (λ n. kind (of_terms ts) n ≡ kind_of (term_view e)) same (ap of_entry (slice_get-map term_view ts i ∙ ap (option_map term_view) (slice_get-get_or ts i e h ∙ ap Some (sym at))))
 
-pub not_known : (ts : List Term) (i t : ℕ) → i ≡ t → length ts ≤ i → entry_kind (term_views ts) t ≡ unknown
-not_known ts i t same h = subst (λ n. entry_kind (term_views ts) n ≡ unknown) same (ap of_entry (slice_get-map term_view ts i ∙ ap (option_map term_view) (slice_get_past ts i h)))
+pub not_known : (ts : List Term) (i t : ℕ) → i ≡ t → length ts ≤ i → kind (of_terms ts) t ≡ unknown
+not_known ts i t same h = subst (λ n. kind (of_terms ts) n ≡ unknown) same (ap of_entry (slice_get-map term_view ts i ∙ ap (option_map term_view) (slice_get_past ts i h)))
 
 abbrev with_kind : Term → TermKind → Kind
 with_kind e k = kind_of (record { id = e.id.0; at = position e.decl_pos; name = e.name.0; arg_tys = map (λ ty. ty.0) e.arg_tys.items; ret_ty = e.ret_ty.0; kind = kind_view k })

@@ -4,15 +4,13 @@ use Rattle.std.proofs.lemmas.Bool.{false≢true}
 use Rattle.std.specs.declared.alloc.Global.{Global}
 use Rattle.isle_types.specs.declared.ids.TypeId.{TypeId}
 use Rattle.isle_types.specs.declared.ids.VariantId.{VariantId}
-use Rattle.isle_model.specs.lists.Tables.{TermEntry}
 use Rattle.isle_model.specs.rules.Values as Values
 use Rattle.isle_model.specs.rules.Values.{Values}
 use Rattle.isle_model.specs.rules.Outcome.{then_option}
-use Rattle.isle_model.specs.rules.Program.{a_variant, a_struct}
+use Rattle.isle_model.specs.rules.Program.{a_variant, a_struct, Program}
 use Rattle.isle_model.specs.rules.Typed.{TypedPatterns}
-use Rattle.isle_model.specs.rules.Matching.{Vars}
-use Rattle.isle_laws_matching.specs.TotalLaws.{TotalMeaning}
-use Rattle.isle_laws_functions.specs.ChoiceBy.{parts_seen_by, holds_by, each_holds_by, args_hold_by}
+use Rattle.isle_model.specs.rules.Matching.{Vars, parts_seen, holds, each_holds, args_hold}
+use Rattle.isle_model.specs.rules.Meaning.{Meaning}
 use Rattle.isle_typed.specs.declared.patterns.Pattern.{Pattern}
 use Rattle.isle_typed.specs.PatternViews.{pattern_view, pattern_views, pattern_parts}
 use Rattle.isle_run.specs.declared.values.Value as V
@@ -24,14 +22,14 @@ use Rattle.isle_choose.specs.SourceViews.{if_held}
 
 -- 1. the fields of a variant and of a struct
 pub variant_seen : (v : Value) (s t : TypeId) (i j : VariantId) (xs : Vec Value Global) (out : Values) (b : Bool) → v ≡ V.Variant s i xs → b ≡ ((s.0 == t.0) && (i.0 == j.0)) → b ≡ true → out ≡ value_views xs.items
-    → (f : TotalMeaning) (n : ℕ) → Some out ≡ parts_seen_by (a_variant t.0 j.0) f n (value_view v)
-variant_seen v s t i j xs out b e test t1 is f n =
-    ap Some is ∙ ap (λ c. if c then Some (value_views xs.items) else None) (sym t1 ∙ test) ∙ sym (ap (parts_seen_by (a_variant t.0 j.0) f n) (ap value_view e ∙ view-Variant s i xs))
+    → (m : Meaning) (n : ℕ) → Some out ≡ parts_seen (a_variant t.0 j.0) m n (value_view v)
+variant_seen v s t i j xs out b e test t1 is m n =
+    ap Some is ∙ ap (λ c. if c then Some (value_views xs.items) else None) (sym t1 ∙ test) ∙ sym (ap (parts_seen (a_variant t.0 j.0) m n) (ap value_view e ∙ view-Variant s i xs))
 
 pub struct_seen : (v : Value) (s t : TypeId) (xs : Vec Value Global) (out : Values) (b : Bool) → v ≡ V.Struct s xs → b ≡ (s.0 == t.0) → b ≡ true → out ≡ value_views xs.items
-    → (f : TotalMeaning) (n : ℕ) → Some out ≡ parts_seen_by (a_struct t.0) f n (value_view v)
-struct_seen v s t xs out b e test t1 is f n =
-    ap Some is ∙ ap (λ c. if c then Some (value_views xs.items) else None) (sym t1 ∙ test) ∙ sym (ap (parts_seen_by (a_struct t.0) f n) (ap value_view e ∙ view-Struct s xs))
+    → (m : Meaning) (n : ℕ) → Some out ≡ parts_seen (a_struct t.0) m n (value_view v)
+struct_seen v s t xs out b e test t1 is m n =
+    ap Some is ∙ ap (λ c. if c then Some (value_views xs.items) else None) (sym t1 ∙ test) ∙ sym (ap (parts_seen (a_struct t.0) m n) (ap value_view e ∙ view-Struct s xs))
 
 -- 2. what was asked holds, or doesn't
 pub held : (b : Bool) (vars : Vars) (o : Option Vars) → if_held b vars ≡ o → b ≡ true → Some vars ≡ o
@@ -46,14 +44,14 @@ abbrev parts_of : List Pattern → TypedPatterns
 parts_of qs = pattern_parts (pattern_views qs)
 
 -- 3. the arguments of a rule
-module _ (terms : List TermEntry) (f : TotalMeaning) where
-  then_args : (o : Option Vars) (qs : List Pattern) (vs : List Value) → ((e : Vars) → each_holds_by terms f (parts_of qs) (value_views vs) e ≡ args_hold_by terms f (pattern_views qs) (arg_views vs) e)
-      → then_option o (λ e. each_holds_by terms f (parts_of qs) (value_views vs) e) ≡ then_option o (λ e. args_hold_by terms f (pattern_views qs) (arg_views vs) e)
+module _ (program : Program) (m : Meaning) where
+  then_args : (o : Option Vars) (qs : List Pattern) (vs : List Value) → ((e : Vars) → each_holds program m (parts_of qs) (value_views vs) e ≡ args_hold program m (pattern_views qs) (arg_views vs) e)
+      → then_option o (λ e. each_holds program m (parts_of qs) (value_views vs) e) ≡ then_option o (λ e. args_hold program m (pattern_views qs) (arg_views vs) e)
   then_args None qs vs h = refl
   then_args (Some e) qs vs h = h e
 
-  pub args_as_parts : (qs : List Pattern) (vs : List Value) (vars : Vars) → each_holds_by terms f (parts_of qs) (value_views vs) vars ≡ args_hold_by terms f (pattern_views qs) (arg_views vs) vars
+  pub args_as_parts : (qs : List Pattern) (vs : List Value) (vars : Vars) → each_holds program m (parts_of qs) (value_views vs) vars ≡ args_hold program m (pattern_views qs) (arg_views vs) vars
   args_as_parts [] [] vars = refl
   args_as_parts [] (v ∷ vs) vars = refl
   args_as_parts (q ∷ qs) [] vars = refl
-  args_as_parts (q ∷ qs) (v ∷ vs) vars = then_args (holds_by terms f (pattern_view q) (value_view v) vars) qs vs (λ e. args_as_parts qs vs e)
+  args_as_parts (q ∷ qs) (v ∷ vs) vars = then_args (holds program m (pattern_view q) (value_view v) vars) qs vs (λ e. args_as_parts qs vs e)

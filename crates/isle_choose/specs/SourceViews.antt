@@ -1,16 +1,22 @@
 -- What variables and what an expression comes to say, without where their parts lie in memory.
 use Rattle.std.specs.Prelude.{Bool, true, List, [], ◌∷◌, ◌++◌, Option, Some, None, if◌then◌else◌, option_map}
-use Rattle.isle_model.specs.rules.Program.{Kind, a_variant, a_struct, a_call, unknown}
+use Rattle.isle_model.specs.rules.Program.{Program, Kind, a_variant, a_struct, a_call, unknown}
 use Rattle.isle_model.specs.rules.Matching.{Vars}
 use Rattle.isle_model.specs.rules.Outcome as O
 use Rattle.isle_model.specs.rules.RightSide as R
 use Rattle.isle_types.specs.declared.ids.VarId.{VarId}
+use Rattle.isle_terms.specs.declared.term.Term.{Term}
+use Rattle.isle_terms.specs.TermViews.{term_views}
 use Rattle.isle_run.specs.declared.values.Value.{Value}
 use Rattle.isle_run.specs.ValueViews.{value_view, value_views}
 use Rattle.isle_choose.specs.declared.exprs.Evaluated.{Evaluated}
 use Rattle.isle_choose.specs.declared.exprs.Evaluated.TheVariants as E
 use Rattle.isle_choose.specs.declared.exprs.EvaluatedAll.{EvaluatedAll}
 use Rattle.isle_choose.specs.declared.exprs.EvaluatedAll.TheVariants as A
+
+-- a program of these terms; a choice asks nothing else of it
+abbrev pub of_terms : List Term → Program
+of_terms ts = record { types = []; constants = []; terms = term_views ts; rules = [] }
 
 -- what is pushed last is first
 abbrev pub vars_onto : List (VarId × Option Value) → Vars → Vars

@@ -3,12 +3,14 @@
 
 ghost use Rattle.std.specs.Prelude.{◌≡◌, ◌++◌, ◌∷◌, [], ℕ, IfOk, Some, length, option_map};
 ghost use Rattle.isle_model.specs.rules.Outcome.{then_option};
-ghost use Rattle.isle_laws_functions.specs.ChoiceBy.{applied_by, entry_kind, eval_all_by, eval_by, eval_lets_by, impure_call_by, pure_lets_by, pure_term_by, pure_value_by, pure_values_by};
-ghost use Rattle.isle_terms.specs.TermViews.{term_views};
+ghost use Rattle.isle_model.specs.rules.RightSide.{applied, eval_all, eval, eval_lets, impure_call};
+ghost use Rattle.isle_model.specs.rules.Program.{kind};
+ghost use Rattle.isle_model.specs.rules.Matching.{pure_lets, pure_term, pure_value, pure_values};
 ghost use Rattle.isle_typed.specs.ExprViews.{expr_parts, expr_view, expr_views, let_parts, let_views};
 ghost use Rattle.isle_run.specs.RunViews.{call_views};
 ghost use Rattle.isle_run.specs.ValueViews.{value_view, value_views};
-ghost use Rattle.isle_choose.specs.SourceViews.{evaluated_all_view, evaluated_view, lets_view, purity, vars_view, with_value};
+ghost use Rattle.isle_model.specs.rules.Meaning.{total};
+ghost use Rattle.isle_choose.specs.SourceViews.{of_terms, evaluated_all_view, evaluated_view, lets_view, purity, vars_view, with_value};
 
 use crate::answers::single;
 use crate::source::Source;
@@ -27,7 +29,7 @@ fn pure_term<E: Externs>(
     term: TermId,
     args: Vec<Value>,
 ) -> Result<Option<Value>, AllocError>
-    ensures { IfOk result (λ o. option_map value_view o ≡ pure_term_by (entry_kind (term_views source.now.terms.now) term.0) (E.functions source.now.externs.now) term.0 (value_views args.items)) }
+    ensures { IfOk result (λ o. option_map value_view o ≡ pure_term (kind (of_terms source.now.terms.now) term.0) (total (E.functions source.now.externs.now)) term.0 (value_views args.items)) }
 {
     match source.terms.get(term.index()) {
         Some(entry) => match &entry.kind {
@@ -51,7 +53,7 @@ pub fn pure_value<E: Externs>(
     expr: &Expr,
     vars: &[(VarId, Option<Value>)],
 ) -> Result<Option<Value>, AllocError>
-    ensures { IfOk result (λ o. option_map value_view o ≡ pure_value_by (term_views source.now.terms.now) (E.functions source.now.externs.now) (expr_view expr.now) (vars_view vars.now)) }
+    ensures { IfOk result (λ o. option_map value_view o ≡ pure_value (of_terms source.now.terms.now) (total (E.functions source.now.externs.now)) (expr_view expr.now) (vars_view vars.now)) }
 {
     match expr {
         Expr::Term(_, term, args) => match pure_values(source, args, vars)? {
@@ -77,7 +79,7 @@ fn pure_values<E: Externs>(
     exprs: &[Expr],
     vars: &[(VarId, Option<Value>)],
 ) -> Result<Option<Vec<Value>>, AllocError>
-    ensures { IfOk result (λ o. option_map (λ v. value_views v.items) o ≡ pure_values_by (term_views source.now.terms.now) (E.functions source.now.externs.now) (expr_parts (expr_views exprs.now)) (vars_view vars.now)) }
+    ensures { IfOk result (λ o. option_map (λ v. value_views v.items) o ≡ pure_values (of_terms source.now.terms.now) (total (E.functions source.now.externs.now)) (expr_parts (expr_views exprs.now)) (vars_view vars.now)) }
 {
     let mut out = Vec::new(source.alloc);
     for expr in exprs {
@@ -96,7 +98,7 @@ fn pure_lets<E: Externs>(
     bindings: &[(VarId, TypeId, Box<Expr>)],
     vars: &mut Vec<(VarId, Option<Value>)>,
 ) -> Result<(), AllocError>
-    ensures { IfOk result (λ u. vars_view vars.new.items ≡ pure_lets_by (term_views source.now.terms.now) (E.functions source.now.externs.now) (let_parts (let_views bindings.now)) (vars_view vars.old.items)) }
+    ensures { IfOk result (λ u. vars_view vars.new.items ≡ pure_lets (of_terms source.now.terms.now) (total (E.functions source.now.externs.now)) (let_parts (let_views bindings.now)) (vars_view vars.old.items)) }
 {
     for binding in bindings {
         let value = pure_value(source, &binding.2, vars)?;
@@ -130,7 +132,7 @@ fn impure_call<E: Externs>(
     args: Vec<Value>,
     calls: &mut Vec<Call>,
 ) -> Result<Evaluated, AllocError>
-    ensures { IfOk result (λ r. evaluated_view r (call_views calls.new.items) ≡ impure_call_by (E.functions source.now.externs.now) term.0 (Some (value_views args.items)) (call_views calls.old.items)) }
+    ensures { IfOk result (λ r. evaluated_view r (call_views calls.new.items) ≡ impure_call (total (E.functions source.now.externs.now)) term.0 (Some (value_views args.items)) (call_views calls.old.items)) }
 {
     let answer = source
         .externs
@@ -144,7 +146,7 @@ fn impure_call<E: Externs>(
 
 // Whether a term is pure, where there is such a term.
 fn purity(terms: &[Term], term: TermId) -> Option<bool>
-    ensures { result ≡ purity (entry_kind (term_views terms.now) term.0) }
+    ensures { result ≡ purity (kind (of_terms terms.now) term.0) }
 {
     match terms.get(term.index()) {
         Some(entry) => match &entry.kind {
@@ -162,7 +164,7 @@ fn pure_applied<E: Externs>(
     term: TermId,
     args: Option<Vec<Value>>,
 ) -> Result<Option<Value>, AllocError>
-    ensures { IfOk result (λ o. option_map value_view o ≡ then_option (option_map (λ v. value_views v.items) args) (λ vs. pure_term_by (entry_kind (term_views source.now.terms.now) term.0) (E.functions source.now.externs.now) term.0 vs)) }
+    ensures { IfOk result (λ o. option_map value_view o ≡ then_option (option_map (λ v. value_views v.items) args) (λ vs. pure_term (kind (of_terms source.now.terms.now) term.0) (total (E.functions source.now.externs.now)) term.0 vs)) }
 {
     match args {
         Some(args) => pure_term(source, term, args),
@@ -177,7 +179,7 @@ fn impure_applied<E: Externs>(
     args: Option<Vec<Value>>,
     calls: &mut Vec<Call>,
 ) -> Result<Evaluated, AllocError>
-    ensures { IfOk result (λ r. evaluated_view r (call_views calls.new.items) ≡ impure_call_by (E.functions source.now.externs.now) term.0 (option_map (λ v. value_views v.items) args) (call_views calls.old.items)) }
+    ensures { IfOk result (λ r. evaluated_view r (call_views calls.new.items) ≡ impure_call (total (E.functions source.now.externs.now)) term.0 (option_map (λ v. value_views v.items) args) (call_views calls.old.items)) }
 {
     match args {
         Some(args) => impure_call(source, term, args, calls),
@@ -192,7 +194,7 @@ fn applied<E: Externs>(
     args: Option<Vec<Value>>,
     calls: &mut Vec<Call>,
 ) -> Result<Evaluated, AllocError>
-    ensures { IfOk result (λ r. evaluated_view r (call_views calls.new.items) ≡ applied_by (entry_kind (term_views source.now.terms.now) term.0) (E.functions source.now.externs.now) term.0 (option_map (λ v. value_views v.items) args) (call_views calls.old.items)) }
+    ensures { IfOk result (λ r. evaluated_view r (call_views calls.new.items) ≡ applied (kind (of_terms source.now.terms.now) term.0) (total (E.functions source.now.externs.now)) term.0 (option_map (λ v. value_views v.items) args) (call_views calls.old.items)) }
 {
     match purity(source.terms, term) {
         Some(true) => Ok(Evaluated::Gives(pure_applied(source, term, args)?)),
@@ -209,7 +211,7 @@ pub fn eval<E: Externs>(
     vars: &[(VarId, Option<Value>)],
     calls: &mut Vec<Call>,
 ) -> Result<Evaluated, AllocError>
-    ensures { IfOk result (λ r. evaluated_view r (call_views calls.new.items) ≡ eval_by (term_views source.now.terms.now) (E.functions source.now.externs.now) (expr_view expr.now) (vars_view vars.now) (call_views calls.old.items)) }
+    ensures { IfOk result (λ r. evaluated_view r (call_views calls.new.items) ≡ eval (of_terms source.now.terms.now) (total (E.functions source.now.externs.now)) (expr_view expr.now) (vars_view vars.now) (call_views calls.old.items)) }
 {
     match expr {
         Expr::Term(_, term, args) => match eval_all(source, args, vars, calls)? {
@@ -266,7 +268,7 @@ fn eval_all<E: Externs>(
     vars: &[(VarId, Option<Value>)],
     calls: &mut Vec<Call>,
 ) -> Result<EvaluatedAll, AllocError>
-    ensures { IfOk result (λ r. evaluated_all_view r (call_views calls.new.items) ≡ eval_all_by (term_views source.now.terms.now) (E.functions source.now.externs.now) (expr_parts (expr_views exprs.now)) (vars_view vars.now) (call_views calls.old.items)) }
+    ensures { IfOk result (λ r. evaluated_all_view r (call_views calls.new.items) ≡ eval_all (of_terms source.now.terms.now) (total (E.functions source.now.externs.now)) (expr_parts (expr_views exprs.now)) (vars_view vars.now) (call_views calls.old.items)) }
 {
     let mut given = Some(Vec::new(source.alloc));
     for expr in exprs {
@@ -289,7 +291,7 @@ fn eval_lets<E: Externs>(
     vars: &mut Vec<(VarId, Option<Value>)>,
     calls: &mut Vec<Call>,
 ) -> Result<bool, AllocError>
-    ensures { IfOk result (λ b. lets_view b (vars_view vars.new.items) (call_views calls.new.items) ≡ eval_lets_by (term_views source.now.terms.now) (E.functions source.now.externs.now) (let_parts (let_views bindings.now)) (vars_view vars.old.items) (call_views calls.old.items)) }
+    ensures { IfOk result (λ b. lets_view b (vars_view vars.new.items) (call_views calls.new.items) ≡ eval_lets (of_terms source.now.terms.now) (total (E.functions source.now.externs.now)) (let_parts (let_views bindings.now)) (vars_view vars.old.items) (call_views calls.old.items)) }
 {
     for binding in bindings {
         match eval(source, &binding.2, vars, calls)? {

@@ -1,12 +1,12 @@
 //! Typed patterns, matched with values.
 
 ghost use Rattle.std.specs.Prelude.{◌≡◌, IfOk, Some, option_map};
-ghost use Rattle.isle_model.specs.rules.Program.{a_struct, a_variant};
-ghost use Rattle.isle_laws_functions.specs.ChoiceBy.{all_hold_by, each_holds_by, entry_kind, holds_by, parts_seen_by};
-ghost use Rattle.isle_terms.specs.TermViews.{term_views};
+ghost use Rattle.isle_model.specs.rules.Program.{a_struct, a_variant, kind};
+ghost use Rattle.isle_model.specs.rules.Matching.{all_hold, each_holds, holds, parts_seen};
 ghost use Rattle.isle_typed.specs.PatternViews.{pattern_parts, pattern_view, pattern_views};
 ghost use Rattle.isle_run.specs.ValueViews.{value_view, value_views};
-ghost use Rattle.isle_choose.specs.SourceViews.{if_held, vars_view};
+ghost use Rattle.isle_model.specs.rules.Meaning.{total};
+ghost use Rattle.isle_choose.specs.SourceViews.{of_terms, if_held, vars_view};
 
 use crate::answers::answered_outputs;
 use crate::source::Source;
@@ -24,7 +24,7 @@ fn variant_parts(
     variant: VariantId,
     value: &Value,
 ) -> Result<Option<Vec<Value>>, AllocError>
-    ensures { IfOk result (λ o. (f : _) (t : _) → option_map (λ v. value_views v.items) o ≡ parts_seen_by (a_variant ty.0 variant.0) f t (value_view value.now)) }
+    ensures { IfOk result (λ o. (f : _) (t : _) → option_map (λ v. value_views v.items) o ≡ parts_seen (a_variant ty.0 variant.0) f t (value_view value.now)) }
 {
     match value {
         Value::Variant(other, place, fields) => {
@@ -40,7 +40,7 @@ fn variant_parts(
 
 // The fields of a value that is this struct.
 fn struct_parts(ty: TypeId, value: &Value) -> Result<Option<Vec<Value>>, AllocError>
-    ensures { IfOk result (λ o. (f : _) (t : _) → option_map (λ v. value_views v.items) o ≡ parts_seen_by (a_struct ty.0) f t (value_view value.now)) }
+    ensures { IfOk result (λ o. (f : _) (t : _) → option_map (λ v. value_views v.items) o ≡ parts_seen (a_struct ty.0) f t (value_view value.now)) }
 {
     match value {
         Value::Struct(other, fields) => {
@@ -60,7 +60,7 @@ fn parts_seen<E: Externs>(
     term: TermId,
     value: &Value,
 ) -> Result<Option<Vec<Value>>, AllocError>
-    ensures { IfOk result (λ o. option_map (λ v. value_views v.items) o ≡ parts_seen_by (entry_kind (term_views source.now.terms.now) term.0) (E.functions source.now.externs.now) term.0 (value_view value.now)) }
+    ensures { IfOk result (λ o. option_map (λ v. value_views v.items) o ≡ parts_seen (kind (of_terms source.now.terms.now) term.0) (total (E.functions source.now.externs.now)) term.0 (value_view value.now)) }
 {
     match source.terms.get(term.index()) {
         Some(entry) => match &entry.kind {
@@ -85,7 +85,7 @@ pub fn holds<E: Externs>(
     value: &Value,
     vars: &mut Vec<(VarId, Option<Value>)>,
 ) -> Result<bool, AllocError>
-    ensures { IfOk result (λ b. if_held b (vars_view vars.new.items) ≡ holds_by (term_views source.now.terms.now) (E.functions source.now.externs.now) (pattern_view pattern.now) (value_view value.now) (vars_view vars.old.items)) }
+    ensures { IfOk result (λ b. if_held b (vars_view vars.new.items) ≡ holds (of_terms source.now.terms.now) (total (E.functions source.now.externs.now)) (pattern_view pattern.now) (value_view value.now) (vars_view vars.old.items)) }
 {
     match pattern {
         Pattern::BindPattern(_, var, inner) => {
@@ -125,7 +125,7 @@ pub fn each_holds<E: Externs>(
     values: &[Value],
     vars: &mut Vec<(VarId, Option<Value>)>,
 ) -> Result<bool, AllocError>
-    ensures { IfOk result (λ b. if_held b (vars_view vars.new.items) ≡ each_holds_by (term_views source.now.terms.now) (E.functions source.now.externs.now) (pattern_parts (pattern_views patterns.now)) (value_views values.now) (vars_view vars.old.items)) }
+    ensures { IfOk result (λ b. if_held b (vars_view vars.new.items) ≡ each_holds (of_terms source.now.terms.now) (total (E.functions source.now.externs.now)) (pattern_parts (pattern_views patterns.now)) (value_views values.now) (vars_view vars.old.items)) }
 {
     let mut place = 0;
     for pattern in patterns {
@@ -151,7 +151,7 @@ fn all_hold<E: Externs>(
     value: &Value,
     vars: &mut Vec<(VarId, Option<Value>)>,
 ) -> Result<bool, AllocError>
-    ensures { IfOk result (λ b. if_held b (vars_view vars.new.items) ≡ all_hold_by (term_views source.now.terms.now) (E.functions source.now.externs.now) (pattern_parts (pattern_views patterns.now)) (value_view value.now) (vars_view vars.old.items)) }
+    ensures { IfOk result (λ b. if_held b (vars_view vars.new.items) ≡ all_hold (of_terms source.now.terms.now) (total (E.functions source.now.externs.now)) (pattern_parts (pattern_views patterns.now)) (value_view value.now) (vars_view vars.old.items)) }
 {
     for pattern in patterns {
         let held = holds(source, pattern, value, vars)?;

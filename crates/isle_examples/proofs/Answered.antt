@@ -16,7 +16,7 @@ use Rattle.isle_laws_matching.proofs.outcomes.Outcomes.{taken_lem, taken_under_p
 use Rattle.isle_laws_matching.proofs.results.Held.{results_are_held_lem}
 use Rattle.isle_laws_matching.proofs.taken.NumbersInRange.{built_sets_have_numbers_in_range_lem}
 use Rattle.isle_laws_typing.proofs.WellTypedRules.{elaborated_programs_are_well_typed_lem}
-use Rattle.isle_laws_closure.proofs.built.Served.{can_be_served_lem}
+use Rattle.isle_laws_closure.proofs.built.ServedSets.{can_be_served_lem}
 use Rattle.isle_laws_closure.proofs.built.WholeDemands.{built_demands_are_whole_lem}
 use Rattle.isle_examples.proofs.ReadLists.{left_over_read}
 use Rattle.isle_examples.proofs.LeftOver.{left_over_built}

@@ -8,7 +8,7 @@ use Rattle.isle_laws_matching.proofs.NoMulti.{rules_without_multi_go_over_no_cal
 use Rattle.isle_laws_matching.proofs.ToldApart.{built_rules_are_told_apart_lem}
 use Rattle.isle_laws_matching.proofs.outcomes.Outcomes.{taken_lem}
 use Rattle.isle_laws_matching.proofs.taken.ServesRuns.{served_sets_serve_tests_lem}
-use Rattle.isle_laws_closure.proofs.built.Sets.{built_sets_are_tested_lem, built_sets_are_well_built_lem}
+use Rattle.isle_laws_closure.proofs.built.WellBuiltSets.{built_sets_are_tested_lem, built_sets_are_well_built_lem}
 use Rattle.isle_laws_closure.proofs.built.WholeDemands.{built_demands_are_whole_lem}
 use Rattle.isle_laws_trees.proofs.Soundness.{best_trees_are_sound_lem}
 use Rattle.isle_laws_trees.proofs.headline.Choosing.{ChoosingLaws, best_trees_run_as_chosen_lem}

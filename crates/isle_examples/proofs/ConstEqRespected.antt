@@ -2,9 +2,8 @@
 use Rattle.std.proofs.Common.{◌≡◌, Some, slice_get, refl, sym, subst, arith}
 use Rattle.std.proofs.lemmas.Option.{none-some}
 use Rattle.isle_model.proofs.Members.{in_alone}
-use Rattle.isle_model.specs.sites.Closure.{field_terms}
 use Rattle.isle_model.specs.visits.Demands.{demands_of}
-use Rattle.isle_model.specs.sites.Sites.{Constraint, SiteTerm}
+use Rattle.isle_model.specs.sites.Sites.{Constraint, SiteTerm, field_terms}
 use Rattle.isle_laws_closure.specs.ClosureLaws.{RespectsDemands}
 use Rattle.isle_laws_closure.proofs.Classes.{classes_bound}
 use Rattle.isle_examples.specs.ConstEq.{ConstEqIsRespected, const_eq_program, const_eq_rule, of_both}

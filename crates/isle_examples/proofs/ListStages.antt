@@ -6,7 +6,7 @@ use Rattle.isle_model.specs.claims.ReadJudge.{read_list}
 use Rattle.isle_model.specs.lists.Elaborated.{TypedRules}
 use Rattle.isle_model.specs.lists.Syntax.{Definition}
 use Rattle.isle_model.specs.sites.Overlap.{check_reports}
-use Rattle.isle_laws_closure.proofs.overlaps.Judged.{lists_are_accepted_lem}
+use Rattle.isle_laws_closure.proofs.overlaps.JudgedLists.{lists_are_accepted_lem}
 use Rattle.isle_laws_typing.proofs.JudgedReading.{lists_are_read_lem, lists_are_refused_lem}
 use Rattle.isle_examples.specs.Stages.{IsAcceptedBoth, IsNotRead, IsReadBoth}
 

@@ -22,7 +22,7 @@ use Rattle.isle_examples.proofs.SampleStages.{effects_stages}
 use Rattle.isle_examples.specs.Effects.{effects_defs}
 use Rattle.isle_model.specs.claims.Refusals.{Refusal, past_limit, of_nesting, IsIllTyped}
 use Rattle.isle_model.specs.claims.Layers.{RefusedBy, by_types, by_rules, by_check, IsAccepted}
-use Rattle.isle_laws_closure.proofs.overlaps.Judged.{lists_are_accepted_lem}
+use Rattle.isle_laws_closure.proofs.overlaps.JudgedLists.{lists_are_accepted_lem}
 use Rattle.isle_laws_typing.proofs.JudgedTerms.{terms_are_judged_lem}
 use Rattle.isle_examples.specs.MeaningForms.{v}
 use Rattle.isle_examples.specs.SetForms.{is_byte}

@@ -22,8 +22,8 @@ use Rattle.isle_laws_matching.proofs.BuiltMatches.{built_sets_match_by_demands_l
 use Rattle.isle_laws_matching.proofs.outcomes.Outcomes.{taken_under_picks_lem}
 use Rattle.isle_laws_matching.proofs.results.Held.{results_are_held_lem}
 use Rattle.isle_laws_matching.proofs.taken.ServesSets.{served_multi_sets_serve_lem}
-use Rattle.isle_laws_closure.proofs.built.Collected.{are_collected_lem}
-use Rattle.isle_laws_closure.proofs.built.Apart.{no_rule_asks_and_goes_over_lem}
+use Rattle.isle_laws_closure.proofs.built.CollectedSets.{are_collected_lem}
+use Rattle.isle_laws_closure.proofs.built.MultiCalls.{no_rule_asks_and_goes_over_lem}
 use Rattle.isle_laws_closure.proofs.built.Priorities.{one_priority_lem}
 use Rattle.isle_laws_closure.proofs.built.WholeDemands.{built_demands_are_whole_lem}
 use Rattle.isle_laws_runs.proofs.runs.Collection.{sound_trees_collect_lem}

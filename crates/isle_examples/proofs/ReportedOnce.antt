@@ -8,11 +8,11 @@ use Rattle.isle_model.specs.sites.Limits.{sites_after_rules}
 use Rattle.isle_model.specs.sites.Overlap.{BuiltRule, HasDistinctPositions, OverlapsWrongly, built_rule}
 use Rattle.isle_model.specs.claims.Layers.{own_program}
 use Rattle.isle_laws_typing.proofs.WellTypedRules.{read_programs_are_well_typed}
-use Rattle.isle_laws_closure.proofs.overlaps.Judged.{well_typed_rules_have_terms_lem}
-use Rattle.isle_laws_closure.proofs.overlaps.Listed.{overlaps_are_listed_once_lem}
+use Rattle.isle_laws_closure.proofs.overlaps.JudgedLists.{well_typed_rules_have_terms_lem}
+use Rattle.isle_laws_closure.proofs.overlaps.ListedOverlaps.{overlaps_are_listed_once_lem}
 use Rattle.isle_laws_closure.proofs.overlaps.Masks.{masks_are_reported_once_lem}
 use Rattle.isle_laws_closure.proofs.overlaps.Overlaps.{overlaps_decides}
-use Rattle.isle_laws_closure.proofs.built.Apart.{multi_calls_are_gone_over_lem}
+use Rattle.isle_laws_closure.proofs.built.MultiCalls.{multi_calls_are_gone_over_lem}
 use Rattle.isle_examples.proofs.ReadLists.{overlap_read, shadow_read}
 use Rattle.isle_examples.proofs.ToldApart.{shadow_is_told}
 use Rattle.isle_examples.specs.Fall.{fall_any}

@@ -4,12 +4,12 @@ use Rattle.std.proofs.lemmas.List.{append-nil, append_assoc, map-append}
 use Rattle.isle_model.specs.lists.Tables.{Flags}
 use Rattle.isle_model.specs.rules.Program.{Program, Kind, a_variant, a_struct, a_call, unknown, kind, is_partial}
 use Rattle.isle_model.specs.rules.Typed.{TypedPattern, match_bind, match_var, match_bool, match_int, match_prim, match_term, match_any, match_and, TypedPatterns, no_typed_pattern, typed_pattern_and, TypedIfLet}
-use Rattle.isle_model.specs.sites.Sites.{is_present, SiteTerm, SiteTerms, argument, constructor_call, extractor_call, some_part, pick_of, variant_field, struct_field}
-use Rattle.isle_model.specs.visits.Demands.{Count, argument_taken, fields_matched, outputs_taken, Visit, visit_start, making, asking, iterating, taking_argument, site_term_eq, from_to, pattern_count, output_sites, outputs_opened, open_call, open_term, visit_pattern, visit_each, visit_all, Valued, ValuedAll, call_sites, visit_call, visit_term, visit_expr, asking_all, unwraps, visit_args, visit_iflets, finished, var_site, value_of_rule}
+use Rattle.isle_model.specs.sites.Sites.{fields_from, is_present, SiteTerm, SiteTerms, argument, constructor_call, extractor_call, some_part, pick_of, variant_field, struct_field}
+use Rattle.isle_model.specs.visits.Demands.{Count, argument_taken, fields_matched, outputs_taken, Visit, visit_start, making, asking, iterating, taking_argument, site_term_eq, pattern_count, output_sites, outputs_opened, open_call, open_term, visit_pattern, visit_each, visit_all, Valued, ValuedAll, call_sites, visit_call, visit_term, visit_expr, asking_all, unwraps, visit_args, visit_iflets, finished, var_site, value_of_rule}
 use Rattle.isle_model.proofs.Either.{either}
 use Rattle.isle_laws_visits.proofs.Kept.{KeptByValues, expr_kept}
-use Rattle.isle_laws_visits.proofs.Patterns.{AsMany, as_many, output_count}
-use Rattle.isle_laws_visits.proofs.Visited.{equated}
+use Rattle.isle_laws_visits.proofs.Patterns.{AsManySites, as_many_sites, output_count}
+use Rattle.isle_laws_visits.proofs.AskedSites.{equated}
 use Rattle.isle_examples.specs.ShownCounts.{shown, shown_in, shown_of_args, term_shown, VisitsCountWhatIsShown}
 
 -- what a visit has counted so far
@@ -21,7 +21,7 @@ counts v = map (λ c. c.0) v.demands.counted
 one_then : (c : Count) (n : ℕ) (v : Visit) (parts all : List Count) → all ≡ map (λ d. d.0) (v.demands.counted ++ (c, n) ∷ []) ++ parts → all ≡ counts v ++ c ∷ parts
 one_then c n v parts all e = e ∙ ap (λ l. l ++ parts) (map-append (λ d. d.0) v.demands.counted ((c, n) ∷ [])) ∙ append_assoc (counts v) (c ∷ []) parts
 
-module _ (p : Program) (args : TypedPatterns) (each : (ss : List SiteTerm) (v : Visit) → AsMany ss args → counts (visit_each p args ss v) ≡ counts v ++ shown_in p args) where
+module _ (p : Program) (args : TypedPatterns) (each : (ss : List SiteTerm) (v : Visit) → AsManySites ss args → counts (visit_each p args ss v) ≡ counts v ++ shown_in p args) where
   call_shown : (pure multi partial rec infallible : Bool) (call : SiteTerm) (v : Visit)
       → (let o = open_call (record { pure = pure; multi = multi; partial = partial; rec = rec }) infallible call args v in counts (visit_each p args o.inputs o.visit) ≡ counts v ++ outputs_taken (pattern_count args) ∷ shown_in p args)
   call_shown pure true partial rec infallible call v =
@@ -41,9 +41,9 @@ module _ (p : Program) (args : TypedPatterns) (each : (ss : List SiteTerm) (v : 
   term_counts : (k : Kind) (t : ℕ) (s : SiteTerm) (v : Visit)
       → (let o = open_term k t s args v in counts (visit_each p args o.inputs o.visit) ≡ counts v ++ term_shown k (pattern_count args) (shown_in p args))
   term_counts (a_variant ty variant) t s v =
-      one_then (fields_matched (pattern_count args)) _ v (shown_in p args) _ (each (from_to (variant_field s variant) 0 args) (open_term (a_variant ty variant) t s args v).visit (as_many (variant_field s variant) 0 args))
+      one_then (fields_matched (pattern_count args)) _ v (shown_in p args) _ (each (fields_from (variant_field s variant) 0 (pattern_count args)) (open_term (a_variant ty variant) t s args v).visit (as_many_sites (variant_field s variant) 0 args))
   term_counts (a_struct ty) t s v =
-      one_then (fields_matched (pattern_count args)) _ v (shown_in p args) _ (each (from_to (struct_field s) 0 args) (open_term (a_struct ty) t s args v).visit (as_many (struct_field s) 0 args))
+      one_then (fields_matched (pattern_count args)) _ v (shown_in p args) _ (each (fields_from (struct_field s) 0 (pattern_count args)) (open_term (a_struct ty) t s args v).visit (as_many_sites (struct_field s) 0 args))
   term_counts (a_call flags infallible) t s v = call_shown flags.pure flags.multi flags.partial flags.rec infallible (extractor_call t s) v
   term_counts unknown t s v = ap counts (nothing_visited args v) ∙ sym (append-nil (counts v))
 
@@ -64,7 +64,7 @@ module _ (p : Program) where
     pattern_counts (match_any ty) s v = sym (append-nil (counts v))
     pattern_counts (match_and ty parts) s v = all_count parts s v
 
-    each_counts : (qs : TypedPatterns) (ss : List SiteTerm) (v : Visit) → AsMany ss qs → counts (visit_each p qs ss v) ≡ counts v ++ shown_in p qs
+    each_counts : (qs : TypedPatterns) (ss : List SiteTerm) (v : Visit) → AsManySites ss qs → counts (visit_each p qs ss v) ≡ counts v ++ shown_in p qs
     each_counts no_typed_pattern ss v m = sym (append-nil (counts v))
     each_counts (typed_pattern_and q qs) [] v m = absurd m
     each_counts (typed_pattern_and q qs) (s ∷ ss) v m =

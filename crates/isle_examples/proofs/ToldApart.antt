@@ -5,7 +5,7 @@ use Rattle.isle_model.specs.rules.Program.{rules_of}
 use Rattle.isle_model.specs.claims.Layers.{own_program}
 use Rattle.isle_laws_typing.proofs.WellTypedRules.{read_programs_are_well_typed}
 use Rattle.isle_laws_matching.proofs.ToldApart.{built_rules_are_told_apart_lem}
-use Rattle.isle_laws_closure.proofs.overlaps.Agreements.{shadows_decides}
+use Rattle.isle_laws_closure.proofs.overlaps.ShadowTest.{shadows_decides}
 use Rattle.isle_laws_closure.proofs.built.WholeDemands.{built_demands_are_whole_lem}
 use Rattle.isle_examples.proofs.ReadLists.{shadow_read}
 use Rattle.isle_examples.proofs.Served.{literals_apart, serves_without_calls}

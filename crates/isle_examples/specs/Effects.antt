@@ -9,13 +9,13 @@
 use Rattle.std.specs.Prelude.{◌∷◌, [], ◌++◌, ℕ, ℤ, pos, true, false, List, Some, codes}
 use Rattle.isle_model.specs.lists.Elaborated.{TypedRules}
 use Rattle.isle_model.specs.lists.Syntax.{Definition, declaration}
-use Rattle.isle_model.specs.rules.Meaning.{Content, Meaning, just, one}
+use Rattle.isle_model.specs.rules.Meaning.{Content, Meaning, just, one, finite}
 use Rattle.isle_model.specs.rules.Outcome.{Call, Outcome}
 use Rattle.isle_model.specs.rules.Typed.{TypedRule, make_term, make_var}
 use Rattle.isle_model.specs.rules.Values.{of_variant, value_and}
 use Rattle.isle_model.specs.sites.Sites.{SiteSet, argument_site, constructor_site, make_some_site, make_variant_site, match_some_site}
 use Rattle.isle_model.specs.trees.Trees.{Tree, no_step}
-use Rattle.isle_examples.specs.MeaningForms.{alone, blank, given, v}
+use Rattle.isle_examples.specs.MeaningForms.{alone, given, v, no_entries}
 use Rattle.isle_examples.specs.SetForms.{a_rule, returning}
 use Rattle.isle_examples.specs.Stages.{Sample, Ends}
 use Rattle.isle_examples.specs.TypedForms.{bind_any, e_list, own, rules_and_names, typed, typed_var, u8}
@@ -60,7 +60,7 @@ effects_sample = record { defs = effects_defs; rules = effects_rules; term = 2; 
 
 -- pp answers this at 1, and the first impure call answers 6
 abbrev pub effects_meaning : Content → Meaning
-effects_meaning answer = record blank { pure_calls = ((0, alone (pos 1)), answer) ∷ []; impure_calls = ((1, 0), one (v (pos 6))) ∷ [] }
+effects_meaning answer = finite (record no_entries { pure_calls = ((0, alone (pos 1)), answer) ∷ []; impure_calls = ((1, 0), one (v (pos 6))) ∷ [] })
 
 -- the one call that is made on 1
 abbrev pub im_of_one : List Call

@@ -8,7 +8,7 @@ use Rattle.std.specs.Prelude.{◌∷◌, [], ◌++◌, pos, false, List, Some, N
 use Rattle.isle_model.specs.claims.Layers.{own_program}
 use Rattle.isle_model.specs.lists.Elaborated.{TypedRules}
 use Rattle.isle_model.specs.lists.Syntax.{Definition, declaration}
-use Rattle.isle_model.specs.rules.Meaning.{Content, Meaning, nothing}
+use Rattle.isle_model.specs.rules.Meaning.{Content, Meaning, nothing, finite}
 use Rattle.isle_model.specs.rules.Outcome.{Outcome}
 use Rattle.isle_model.specs.rules.Program.{Program}
 use Rattle.isle_model.specs.rules.Typed.{TypedRule, make_int, make_var, match_int, match_term}
@@ -18,7 +18,7 @@ use Rattle.isle_model.specs.sites.Sites.{SetRule, SiteSet, argument_site, extrac
 use Rattle.isle_model.specs.trees.Run.{World, world_of}
 use Rattle.isle_model.specs.trees.SetRuns.{IsTestedSet, ServesTests}
 use Rattle.isle_model.specs.trees.Trees.{Check, Tree, arm, match_at, no_step, step}
-use Rattle.isle_examples.specs.MeaningForms.{given, just_number, literal, mute, v}
+use Rattle.isle_examples.specs.MeaningForms.{given, just_number, literal, mute, v, of_literals}
 use Rattle.isle_examples.specs.SetForms.{a_rule, byte, is_byte, one_arm, returning}
 use Rattle.isle_examples.specs.Stages.{Sample, Ends}
 use Rattle.isle_examples.specs.TypedForms.{bind_any, q_list, rules_and_names, typed, typed_var, u8}
@@ -94,11 +94,11 @@ extract_sample = record { defs = extract_defs; rules = extract_rules; term = 1; 
 
 -- the call answers this on 7
 abbrev pub extract_meaning : Content → Meaning
-extract_meaning answer = record (mute (literal (pos 1) ∷ literal (pos 10) ∷ [])) { extractor_calls = ((0, v (pos 7)), answer) ∷ [] }
+extract_meaning answer = finite (record (of_literals (literal (pos 1) ∷ literal (pos 10) ∷ [])) { extractor_calls = ((0, v (pos 7)), answer) ∷ [] })
 
 -- the same without calls
 abbrev pub extract_mute : Meaning
-extract_mute = mute (extract_meaning nothing).literals
+extract_mute = mute (literal (pos 1) ∷ literal (pos 10) ∷ [])
 
 abbrev pub extract_world : Content → World
 extract_world answer = world_of extract_program 1 extract_set.sites (extract_meaning answer) (given (pos 7))

@@ -3,7 +3,7 @@ use Rattle.std.specs.Prelude.{◌≡◌, ◌∷◌, [], pos, Some}
 use Rattle.isle_model.specs.claims.Layers.{own_program}
 use Rattle.isle_model.specs.claims.SetMeanings.{returning_once}
 use Rattle.isle_model.specs.rules.Matching.{Vars, matches}
-use Rattle.isle_model.specs.rules.Meaning.{Meaning, one}
+use Rattle.isle_model.specs.rules.Meaning.{Meaning, one, finite}
 use Rattle.isle_model.specs.rules.Outcome.{Outcome}
 use Rattle.isle_model.specs.rules.Program.{Program, rules_of}
 use Rattle.isle_model.specs.rules.RightSide.{right_side}
@@ -11,14 +11,14 @@ use Rattle.isle_model.specs.sites.Serves.{Serves, TellsConstantsApart}
 use Rattle.isle_model.specs.trees.Run.{World, world_of}
 use Rattle.isle_model.specs.trees.SetRuns.{IsTaken, IsTestedSet, ServesTests}
 use Rattle.isle_examples.specs.Impure.{after_call, call_on_argument, impure_defs, impure_rule, impure_rules, impure_set}
-use Rattle.isle_examples.specs.MeaningForms.{blank, given, v}
+use Rattle.isle_examples.specs.MeaningForms.{given, v, no_entries}
 
 abbrev pub impure_program : Program
 impure_program = own_program impure_defs impure_rules
 
 -- the first call of im answers 5
 abbrev pub five_at_first : Meaning
-five_at_first = record blank { impure_calls = ((0, 0), one (v (pos 5))) ∷ [] }
+five_at_first = finite (record no_entries { impure_calls = ((0, 0), one (v (pos 5))) ∷ [] })
 
 abbrev pub impure_world : World
 impure_world = world_of impure_program 1 impure_set.sites five_at_first (given (pos 1))

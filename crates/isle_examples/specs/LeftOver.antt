@@ -10,7 +10,7 @@ use Rattle.std.specs.Prelude.{◌≡◌, ◌∷◌, [], pos, true, false, List, 
 use Rattle.isle_model.specs.claims.Layers.{own_program}
 use Rattle.isle_model.specs.lists.Elaborated.{TypedRules}
 use Rattle.isle_model.specs.lists.Syntax.{Definition, declaration}
-use Rattle.isle_model.specs.rules.Meaning.{Meaning, nothing}
+use Rattle.isle_model.specs.rules.Meaning.{Meaning, nothing, finite}
 use Rattle.isle_model.specs.rules.Program.{Program}
 use Rattle.isle_model.specs.rules.Typed.{TypedRule, make_int, make_term, make_var, match_and, match_int}
 use Rattle.isle_model.specs.sites.Serves.{Serves, TellsConstantsApart}
@@ -19,7 +19,7 @@ use Rattle.isle_model.specs.trees.Collects.{Collects, IsCollectedSet, IsPureAt, 
 use Rattle.isle_model.specs.trees.Places.{waits}
 use Rattle.isle_model.specs.trees.Run.{World, run, world_of}
 use Rattle.isle_model.specs.trees.Trees.{Tree, no_step}
-use Rattle.isle_examples.specs.MeaningForms.{each, given, literal, mute}
+use Rattle.isle_examples.specs.MeaningForms.{each, given, literal, of_literals}
 use Rattle.isle_examples.specs.SetForms.{a_rule, byte, returning}
 use Rattle.isle_examples.specs.TypedForms.{bind_any, e_list, q_list, rules_and_names, typed, typed_var, u8}
 use Rattle.isle_examples.specs.Written.{both, call, constructor_by, int, number, numbers, of_f, rule_to, var, variable}
@@ -58,7 +58,7 @@ left_over_tree = returning [] 6 0 no_step
 
 -- im answers what is no number, as it is never called, and pu answers nothing at all
 abbrev pub left_over_meaning : Meaning
-left_over_meaning = record (mute (literal (pos 1) ∷ literal (pos 2) ∷ [])) { impure_calls = ((0, 0), nothing) ∷ [] }
+left_over_meaning = finite (record (of_literals (literal (pos 1) ∷ literal (pos 2) ∷ [])) { impure_calls = ((0, 0), nothing) ∷ [] })
 
 -- the world on 7
 abbrev pub left_over_world : World

@@ -1,7 +1,7 @@
 -- Short forms of values, meanings and outcomes: all values are of type u8.
 use Rattle.std.specs.Prelude.{ℤ, List, [], ◌∷◌}
 use Rattle.isle_model.specs.rules.Values.{Value, atom, Values, no_value, value_and}
-use Rattle.isle_model.specs.rules.Meaning.{Content, one, just, Contents, no_content, content_and, Literal, int_literal, Meaning}
+use Rattle.isle_model.specs.rules.Meaning.{Content, one, just, Contents, no_content, content_and, Literal, int_literal, Meaning, Maps, finite}
 use Rattle.isle_model.specs.rules.Outcome.{ended, Outcome}
 use Rattle.isle_model.specs.rules.Program.{Program}
 use Rattle.isle_model.specs.sites.Serves.{Serves}
@@ -24,9 +24,16 @@ just_number z = just (one (v z))
 abbrev pub literal : ℤ → Literal × Value
 literal z = (int_literal z 1, v z)
 
+-- maps with literals alone, and without entries
+abbrev pub of_literals : List (Literal × Value) → Maps
+of_literals literals = record { literals = literals; constants = []; extractor_calls = []; pure_calls = []; impure_calls = [] }
+
+abbrev pub no_entries : Maps
+no_entries = of_literals []
+
 -- a meaning with literals and no calls, and one with nothing
 abbrev pub mute : List (Literal × Value) → Meaning
-mute literals = record { literals = literals; constants = []; extractor_calls = []; pure_calls = []; impure_calls = [] }
+mute literals = finite (of_literals literals)
 
 abbrev pub blank : Meaning
 blank = mute []

@@ -1,6 +1,6 @@
 -- Samples that tell apart what a statement asks from what it might ask: the smallest inputs behind choices of statements.
 use Rattle.std.specs.Prelude.{◌≡◌, ◌∷◌, [], pos, false, List, None, All, IsTrue, is_some, slice_get, ℕ, true, codes, Some, Bool, map}
-use Rattle.isle_model.specs.rules.Meaning.{Meaning, nothing, look}
+use Rattle.isle_model.specs.rules.Meaning.{Meaning, nothing, look, finite}
 use Rattle.isle_model.specs.sites.Sites.{SetRule, Site, SiteSet, argument_site, constructor_site, make_variant_site, sources_at, match_some_site, is_present, is_variant, match_variant_site}
 use Rattle.isle_model.specs.trees.Collects.{content_at, IsPureAt}
 use Rattle.isle_model.specs.trees.Places.{waits}
@@ -26,7 +26,7 @@ use Rattle.isle_model.specs.lists.TypeTable.{type_table}
 use Rattle.isle_laws_typing.specs.QuestionLaws.{IsVariantsTerm}
 use Rattle.isle_model.specs.trees.Best.{total_constraints}
 use Rattle.isle_examples.specs.Effects.{effects_defs, effects_rule, effects_rules, effects_set}
-use Rattle.isle_examples.specs.MeaningForms.{given, literal, mute, answers}
+use Rattle.isle_examples.specs.MeaningForms.{given, literal, mute, answers, of_literals}
 use Rattle.isle_examples.specs.SetForms.{a_rule, byte, is_byte, returning}
 use Rattle.isle_examples.specs.TypedForms.{own, rules_and_names, typed, u8, by_constructor, by_extractor, entry, no_flags}
 use Rattle.isle_examples.specs.Written.{f_of_bytes, number, numbers, of_f, rule_to, variable, any, at}
@@ -54,7 +54,7 @@ wrapped_set = record { rules = wrapped_call ∷ wrapped_two ∷ []; sites = wrap
 
 -- the call answers nothing that is a number. It is never made on 2
 abbrev pub wrapped_meaning : Meaning
-wrapped_meaning = record (mute (literal (pos 1) ∷ literal (pos 2) ∷ [])) { impure_calls = ((0, 0), nothing) ∷ [] }
+wrapped_meaning = finite (record (of_literals (literal (pos 1) ∷ literal (pos 2) ∷ [])) { impure_calls = ((0, 0), nothing) ∷ [] })
 
 abbrev pub wrapped_world : World
 wrapped_world = record { sites = wrapped_sites; args = given (pos 2); meaning = wrapped_meaning; multi = false }

@@ -9,7 +9,7 @@ use Rattle.isle_model.specs.claims.SetMeanings.{returning_once}
 use Rattle.isle_model.specs.claims.Layers.{BindsBeforeUse, own_program}
 use Rattle.isle_model.specs.lists.Elaborated.{TypedRules}
 use Rattle.isle_model.specs.lists.Syntax.{Definition, declaration}
-use Rattle.isle_model.specs.rules.Meaning.{Meaning, many}
+use Rattle.isle_model.specs.rules.Meaning.{Meaning, many, finite}
 use Rattle.isle_model.specs.rules.Outcome.{ran_through}
 use Rattle.isle_model.specs.rules.Picks.{Pick, SitedVars, bag, matches_under, picks, right_side_under}
 use Rattle.isle_model.specs.rules.Program.{Program}
@@ -20,7 +20,7 @@ use Rattle.isle_model.specs.trees.Collects.{Collects, CollectsTheBag, HasCollect
 use Rattle.isle_model.specs.trees.Run.{World, run, world_of}
 use Rattle.isle_model.specs.trees.SetRuns.{IsTakenUnder}
 use Rattle.isle_model.specs.trees.Trees.{Tree, loop_at, match_at, no_step, step}
-use Rattle.isle_examples.specs.MeaningForms.{all_of, alone, answers, each, given, literal, mute}
+use Rattle.isle_examples.specs.MeaningForms.{all_of, alone, answers, each, given, literal, mute, of_literals}
 use Rattle.isle_examples.specs.SetForms.{a0, a_rule, byte, is_byte, one_arm, one_source, returning}
 use Rattle.isle_examples.specs.Stages.{Sample}
 use Rattle.isle_examples.specs.TypedForms.{bind_any, e_list, rules_and_names, typed, typed_var, u8}
@@ -81,16 +81,16 @@ LoopsMayBindAgain = BindsBeforeUse multi_set true (looped_with (1 ∷ []) (1 ∷
 
 -- m answers 4 and 4 at 1, 7 at 2, and the empty list at 3
 abbrev pub multi_meaning : Meaning
-multi_meaning = record (mute (literal (pos 1) ∷ literal (pos 9) ∷ [])) {
+multi_meaning = finite (record (of_literals (literal (pos 1) ∷ literal (pos 9) ∷ [])) {
   pure_calls =
       ((0, alone (pos 1)), many (all_of (pos 4 ∷ pos 4 ∷ [])))
       ∷ ((0, alone (pos 2)), many (all_of (pos 7 ∷ [])))
       ∷ ((0, alone (pos 3)), many (all_of [])) ∷ [];
-}
+})
 
 -- the same without calls
 abbrev pub multi_mute : Meaning
-multi_mute = mute multi_meaning.literals
+multi_mute = mute (literal (pos 1) ∷ literal (pos 9) ∷ [])
 
 -- the world of a run on an argument
 abbrev pub multi_world : ℤ → World

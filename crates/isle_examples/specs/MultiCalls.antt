@@ -1,6 +1,6 @@
 -- Samples of rules with multi calls: which calls are one, which are two, and what a call without a list comes to.
 use Rattle.std.specs.Prelude.{◌≡◌, ◌∷◌, [], ℕ, ℤ, pos, true, false, List, Some, None, map}
-use Rattle.isle_model.specs.rules.Meaning.{Content, Meaning, many, nothing, one, pure_answer}
+use Rattle.isle_model.specs.rules.Meaning.{Content, Meaning, many, nothing, one, pure_answer, finite}
 use Rattle.isle_model.specs.rules.Picks.{bag}
 use Rattle.isle_model.specs.rules.Program.{Program}
 use Rattle.isle_model.specs.rules.Typed.{TypedExpr, TypedIfLet, TypedPattern, TypedRule, make_int, make_term, make_var, match_and, match_any, match_term}
@@ -90,7 +90,7 @@ paired a b c = ((2, value_and (v a) (alone b)), one (v c))
 -- the literal 7 is 7; m answers 4 and 5 at 1, 6 and 7 at 4, and 8 at 5; e answers 4 and 5 at 1; pr sets two digits side by
 -- side; pp answers 5 at 1 and nothing at 2; w answers 4 and 5, then 6 and 7
 abbrev pub calls_meaning : Meaning
-calls_meaning = record {
+calls_meaning = finite (record {
   literals = literal (pos 7) ∷ [];
   constants = [];
   extractor_calls = ((5, v (pos 1)), many (all_of (pos 4 ∷ pos 5 ∷ []))) ∷ [];
@@ -103,7 +103,7 @@ calls_meaning = record {
       ∷ paired (pos 4) (pos 4) (pos 44) ∷ paired (pos 5) (pos 5) (pos 55) ∷ paired (pos 4) (pos 6) (pos 46) ∷ paired (pos 4) (pos 7) (pos 47)
       ∷ paired (pos 5) (pos 6) (pos 56) ∷ paired (pos 5) (pos 7) (pos 57) ∷ [];
   impure_calls = ((4, 0), many (all_of (pos 4 ∷ pos 5 ∷ []))) ∷ ((4, 1), many (all_of (pos 6 ∷ pos 7 ∷ []))) ∷ [];
-}
+})
 
 -- the bag of a rule alone on an argument
 abbrev pub Gives : TypedRule → ℤ → List ℤ → Type 0

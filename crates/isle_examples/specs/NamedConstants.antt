@@ -8,12 +8,12 @@ use Rattle.isle_model.specs.lists.Elaborated.{TypedRules}
 use Rattle.isle_model.specs.lists.Setting.{bool_type}
 use Rattle.isle_model.specs.lists.Syntax.{Definition, bool_pattern, prim_expr, prim_pattern}
 use Rattle.isle_model.specs.rules.Choice.{choice}
-use Rattle.isle_model.specs.rules.Meaning.{Meaning, bool_literal}
+use Rattle.isle_model.specs.rules.Meaning.{Meaning, bool_literal, finite}
 use Rattle.isle_model.specs.rules.Program.{Program, arg_types, rules_of}
 use Rattle.isle_model.specs.rules.Typed.{make_prim, match_bool, match_prim}
 use Rattle.isle_model.specs.rules.Values.{args_well_typed, truth}
 use Rattle.isle_model.specs.sites.Serves.{Serves, TellsConstantsApart}
-use Rattle.isle_examples.specs.MeaningForms.{answers, blank, v}
+use Rattle.isle_examples.specs.MeaningForms.{answers, v, no_entries}
 use Rattle.isle_examples.specs.TypedForms.{rules_and_names, typed, u8}
 use Rattle.isle_examples.specs.Written.{at, constant, declared, name, of_f, rule_to}
 
@@ -30,7 +30,7 @@ constants_program = own_program constants_defs constants_rules
 
 -- $X is 5, and true is itself
 abbrev pub constants_meaning : Meaning
-constants_meaning = record blank { literals = (bool_literal true bool_type, truth true) ∷ []; constants = (13, v (pos 5)) ∷ [] }
+constants_meaning = finite (record no_entries { literals = (bool_literal true bool_type, truth true) ∷ []; constants = (13, v (pos 5)) ∷ [] })
 
 -- 5 and true are of the arguments' types; on them the meaning has what the rule asks, and tells constants apart; so the rule
 -- matches and gives 5

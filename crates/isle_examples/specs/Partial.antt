@@ -8,14 +8,14 @@ use Rattle.std.specs.Prelude.{◌∷◌, [], ℤ, pos, true, false, List, None, 
 use Rattle.isle_model.specs.claims.Layers.{own_program}
 use Rattle.isle_model.specs.lists.Elaborated.{TypedRules}
 use Rattle.isle_model.specs.lists.Syntax.{Definition, declaration}
-use Rattle.isle_model.specs.rules.Meaning.{Content, Meaning, nothing}
+use Rattle.isle_model.specs.rules.Meaning.{Content, Meaning, nothing, finite}
 use Rattle.isle_model.specs.rules.Outcome.{Call, Outcome}
 use Rattle.isle_model.specs.rules.Program.{Program}
 use Rattle.isle_model.specs.rules.Typed.{TypedRule, make_int, make_term, match_any, match_int}
 use Rattle.isle_model.specs.sites.Serves.{Serves, TellsConstantsApart}
 use Rattle.isle_model.specs.sites.Sites.{SiteSet, argument_site, constructor_site, make_some_site, match_some_site}
 use Rattle.isle_model.specs.trees.Trees.{Tree, match_at, no_step, step}
-use Rattle.isle_examples.specs.MeaningForms.{alone, given, literal, mute}
+use Rattle.isle_examples.specs.MeaningForms.{alone, given, literal, mute, of_literals}
 use Rattle.isle_examples.specs.SetForms.{a_rule, byte, is_byte, one_arm, returning}
 use Rattle.isle_examples.specs.Stages.{Sample, Ends}
 use Rattle.isle_examples.specs.TypedForms.{e_list, rules_and_names, typed, u8}
@@ -55,11 +55,11 @@ partial_sample = record { defs = partial_defs; rules = partial_rules; term = 1; 
 
 -- the first impure call answers this
 abbrev pub partial_meaning : Content → Meaning
-partial_meaning answer = record (mute (literal (pos 1) ∷ literal (pos 7) ∷ [])) { impure_calls = ((0, 0), answer) ∷ [] }
+partial_meaning answer = finite (record (of_literals (literal (pos 1) ∷ literal (pos 7) ∷ [])) { impure_calls = ((0, 0), answer) ∷ [] })
 
 -- the same without calls
 abbrev pub partial_mute : Meaning
-partial_mute = mute (partial_meaning nothing).literals
+partial_mute = mute (literal (pos 1) ∷ literal (pos 7) ∷ [])
 
 -- the one call that is made on 1
 abbrev pub g_of_one : List Call

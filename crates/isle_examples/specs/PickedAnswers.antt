@@ -1,12 +1,12 @@
 -- Demands on two outputs of one multi call: one answer must meet both.
 use Rattle.std.specs.Prelude.{◌∷◌, [], ℤ, pos}
-use Rattle.isle_model.specs.rules.Meaning.{Content, Meaning, content_and, many, no_content, parts}
+use Rattle.isle_model.specs.rules.Meaning.{Content, Meaning, content_and, many, no_content, parts, finite}
 use Rattle.isle_model.specs.rules.Picks.{Pick}
 use Rattle.isle_model.specs.rules.Values.{value_and}
 use Rattle.isle_model.specs.sites.Closure.{DemandsHold}
 use Rattle.isle_model.specs.visits.Demands.{Demands}
 use Rattle.isle_model.specs.sites.Sites.{SiteTerm, extractor_call, pick_of, tuple_part}
-use Rattle.isle_examples.specs.MeaningForms.{alone, given, literal, mute, v}
+use Rattle.isle_examples.specs.MeaningForms.{alone, given, literal, v, of_literals}
 use Rattle.isle_examples.specs.SetForms.{a0, asking, is_byte}
 
 -- the call of a multi extractor on argument 0
@@ -18,7 +18,7 @@ pair a b = parts (value_and (v a) (alone b))
 
 -- the extractor answers these two pairs for 0
 abbrev pub answering : Content → Content → Meaning
-answering a b = record (mute (literal (pos 1) ∷ literal (pos 2) ∷ [])) { extractor_calls = ((0, v (pos 0)), many (content_and a (content_and b no_content))) ∷ [] }
+answering a b = finite (record (of_literals (literal (pos 1) ∷ literal (pos 2) ∷ [])) { extractor_calls = ((0, v (pos 0)), many (content_and a (content_and b no_content))) ∷ [] })
 
 -- of (rule (f (me 1 2)) 7)
 abbrev pub one_and_two : Demands

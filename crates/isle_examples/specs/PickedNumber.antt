@@ -7,7 +7,7 @@ use Rattle.std.specs.Prelude.{◌≡◌, ◌∷◌, [], ℕ, pos, true, false, L
 use Rattle.isle_model.specs.claims.Layers.{own_program}
 use Rattle.isle_model.specs.lists.Elaborated.{TypedRules}
 use Rattle.isle_model.specs.lists.Syntax.{Definition, declaration}
-use Rattle.isle_model.specs.rules.Meaning.{Meaning, many}
+use Rattle.isle_model.specs.rules.Meaning.{Meaning, many, finite}
 use Rattle.isle_model.specs.rules.Outcome.{ran_through}
 use Rattle.isle_model.specs.rules.Picks.{Pick, bag, matches_under, picks}
 use Rattle.isle_model.specs.rules.Program.{Program, rules_of}
@@ -17,7 +17,7 @@ use Rattle.isle_model.specs.sites.Sites.{SetRule, SiteSet, argument_site, extrac
 use Rattle.isle_model.specs.trees.Collects.{CollectsTheBag, HasCollectedResults, demands_hold, set_bag}
 use Rattle.isle_model.specs.trees.Run.{World, run, world_of}
 use Rattle.isle_model.specs.trees.Trees.{Tree, loop_at, match_at, no_step, step}
-use Rattle.isle_examples.specs.MeaningForms.{all_of, each, given, literal, mute, v}
+use Rattle.isle_examples.specs.MeaningForms.{all_of, each, given, literal, v, of_literals}
 use Rattle.isle_examples.specs.PickedAnswers.{call_me}
 use Rattle.isle_examples.specs.SetForms.{a_rule, byte, is_byte, one_arm, returning}
 use Rattle.isle_examples.specs.Stages.{Sample}
@@ -54,7 +54,7 @@ picked_number_sample = record { defs = picked_number_defs; rules = picked_number
 
 -- me answers 1 and 5 at 1
 abbrev pub one_and_five : Meaning
-one_and_five = record (mute (literal (pos 1) ∷ literal (pos 7) ∷ [])) { extractor_calls = ((0, v (pos 1)), many (all_of (pos 1 ∷ pos 5 ∷ []))) ∷ [] }
+one_and_five = finite (record (of_literals (literal (pos 1) ∷ literal (pos 7) ∷ [])) { extractor_calls = ((0, v (pos 1)), many (all_of (pos 1 ∷ pos 5 ∷ []))) ∷ [] })
 
 abbrev pub picked_number_world : World
 picked_number_world = world_of picked_number_program 1 picked_number_set.sites one_and_five (given (pos 1))

@@ -8,7 +8,7 @@ use Rattle.std.specs.Prelude.{◌≡◌, ◌∷◌, [], ℕ, ℤ, pos, true, Lis
 use Rattle.isle_model.specs.claims.Layers.{own_program}
 use Rattle.isle_model.specs.lists.Elaborated.{TypedRules}
 use Rattle.isle_model.specs.lists.Syntax.{Definition, ExprTree, declaration}
-use Rattle.isle_model.specs.rules.Meaning.{Content, Meaning, one}
+use Rattle.isle_model.specs.rules.Meaning.{Content, Meaning, one, finite}
 use Rattle.isle_model.specs.rules.Outcome.{ran_through, stuck}
 use Rattle.isle_model.specs.rules.Picks.{bag}
 use Rattle.isle_model.specs.rules.Program.{Program}
@@ -18,7 +18,7 @@ use Rattle.isle_model.specs.sites.Sites.{SiteSet, argument_site, constructor_sit
 use Rattle.isle_model.specs.trees.Collects.{set_bag}
 use Rattle.isle_model.specs.trees.Run.{World, run, world_of}
 use Rattle.isle_model.specs.trees.Trees.{Tree, no_step}
-use Rattle.isle_examples.specs.MeaningForms.{alone, each, given, mute, v}
+use Rattle.isle_examples.specs.MeaningForms.{alone, each, given, v, no_entries}
 use Rattle.isle_examples.specs.SetForms.{a_rule, returning}
 use Rattle.isle_examples.specs.TypedForms.{bind_any, e_list, rules_and_names, typed, typed_var, u8}
 use Rattle.isle_examples.specs.Written.{call, constructor_by, numbers, of_f, rule_to, var, variable}
@@ -58,7 +58,7 @@ shared_program = own_program shared_defs shared_rules
 
 -- p answers 2 at 1, and this at 2
 abbrev pub shared_meaning : List ((ℕ × Values) × Content) → Meaning
-shared_meaning at_two = record (mute []) { pure_calls = ((0, alone (pos 1)), one (v (pos 2))) ∷ at_two }
+shared_meaning at_two = finite (record no_entries { pure_calls = ((0, alone (pos 1)), one (v (pos 2))) ∷ at_two })
 
 abbrev pub shared_world : List ((ℕ × Values) × Content) → World
 shared_world at_two = world_of shared_program 1 shared_set.sites (shared_meaning at_two) (given (pos 1))

@@ -1,11 +1,12 @@
 -- Total meanings of what the sample with an extractor calls: one whose extractor answers its argument, and one whose extractor
 -- answers a boolean, which isn't well typed.
-use Rattle.std.specs.Prelude.{◌≡◌, ℤ, pos, true}
+use Rattle.std.specs.Prelude.{◌≡◌, ◌∷◌, [], ℤ, pos, true}
 use Rattle.isle_model.specs.rules.Values.{Value, truth, atom}
-use Rattle.isle_model.specs.rules.Meaning.{Content, one, just, Literal, bool_literal, int_literal}
+use Rattle.isle_model.specs.rules.Meaning.{Content, one, just, Literal, bool_literal, int_literal, TotalMeaning, total}
 use Rattle.isle_model.specs.rules.Choice.{choice}
-use Rattle.isle_model.specs.rules.Program.{rules_of}
-use Rattle.isle_laws_matching.specs.TotalLaws.{TotalMeaning, IsTotalFor, KeepsConstantsApart, Restricts}
+use Rattle.isle_model.specs.rules.Program.{Program, rules_of}
+use Rattle.isle_model.specs.sites.Serves.{Serves, TellsConstantsApart}
+use Rattle.isle_laws_matching.specs.TotalLaws.{IsTotalFor}
 use Rattle.isle_examples.specs.Extract.{extract_program}
 use Rattle.isle_examples.specs.MeaningForms.{answers, given, v}
 
@@ -26,15 +27,22 @@ misfit = extracting (λ x. just (one (truth true)))
 
 -- the echo is well typed and tells the constants apart, and the misfit isn't well typed
 abbrev pub EchoIsTotal : Type 0
-EchoIsTotal = IsTotalFor extract_program 1 echo × KeepsConstantsApart extract_program echo (rules_of extract_program 1)
+EchoIsTotal = IsTotalFor extract_program 1 echo × TellsConstantsApart extract_program (total echo) (rules_of extract_program 1)
 
 abbrev pub MisfitIsNotTotal : Type 0
 MisfitIsNotTotal = IsTotalFor extract_program 1 misfit → ⊥
 
--- so for each number there are finite maps that agree with the echo and serve
-abbrev pub EchoRestricts : Type 0
-EchoRestricts = (z : ℤ) → Restricts extract_program echo (given z) (rules_of extract_program 1)
+-- so it is with a constant more, of a type that the program hasn't: no rule names it
+abbrev pub with_a_constant : Program
+with_a_constant = record extract_program { constants = (20, 99) ∷ [] }
 
--- and on 1 all of them give 10, on 7 all give 7
+abbrev pub EchoIsTotalWithAConstant : Type 0
+EchoIsTotalWithAConstant = IsTotalFor with_a_constant 1 echo
+
+-- the echo serves for each number
+abbrev pub EchoServes : Type 0
+EchoServes = (z : ℤ) → Serves extract_program (total echo) (given z) (rules_of extract_program 1)
+
+-- and on 1 it gives 10, on 7 it gives 7
 abbrev pub EchoGives : ℤ → ℤ → Type 0
-EchoGives z result = (r : Restricts extract_program echo (given z) (rules_of extract_program 1)) → choice extract_program r.meaning (rules_of extract_program 1) (given z) ≡ answers result
+EchoGives z result = choice extract_program (total echo) (rules_of extract_program 1) (given z) ≡ answers result

@@ -7,7 +7,7 @@ use Rattle.std.specs.Prelude.{◌≡◌, ◌∷◌, [], pos, false, true, List, 
 use Rattle.isle_model.specs.claims.Layers.{own_program}
 use Rattle.isle_model.specs.lists.Elaborated.{TypedRules}
 use Rattle.isle_model.specs.lists.Syntax.{Definition, declaration, ExprTree}
-use Rattle.isle_model.specs.rules.Meaning.{Content, Meaning, impure_answer, nothing}
+use Rattle.isle_model.specs.rules.Meaning.{Content, Meaning, impure_answer, nothing, finite}
 use Rattle.isle_model.specs.rules.Outcome.{Call, Outcome}
 use Rattle.isle_model.specs.rules.Picks.{site_values}
 use Rattle.isle_model.specs.rules.Program.{Program}
@@ -15,7 +15,7 @@ use Rattle.isle_model.specs.rules.Typed.{TypedExpr, TypedRule, make_term, make_v
 use Rattle.isle_model.specs.sites.Serves.{Serves, TellsConstantsApart}
 use Rattle.isle_model.specs.sites.Sites.{SiteSet, SiteTerm, argument_site, constructor_call, constructor_site, make_some_site, match_some_site}
 use Rattle.isle_model.specs.trees.Trees.{Tree, no_step}
-use Rattle.isle_examples.specs.MeaningForms.{alone, blank, given}
+use Rattle.isle_examples.specs.MeaningForms.{alone, given, no_entries}
 use Rattle.isle_examples.specs.SetForms.{a0, a_rule, one_source, returning}
 use Rattle.isle_examples.specs.Stages.{Sample, Ends}
 use Rattle.isle_examples.specs.TypedForms.{bind_any, e_list, make_let_one, rules_and_names, typed, u8, variables}
@@ -64,7 +64,7 @@ unreached_sample = record { defs = unreached_defs; rules = unreached_rules; term
 
 -- the first impure call answers this, and there is no entry for the second one
 abbrev pub first_answers : Content → Meaning
-first_answers answer = record blank { impure_calls = ((0, 0), answer) ∷ [] }
+first_answers answer = finite (record no_entries { impure_calls = ((0, 0), answer) ∷ [] })
 
 -- the one call that is made on 1
 abbrev pub one_im_of_one : List Call

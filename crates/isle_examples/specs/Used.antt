@@ -7,12 +7,12 @@ use Rattle.std.specs.Prelude.{ℕ, ◌∷◌, [], pos, true, false, List, Some, 
 use Rattle.isle_model.specs.claims.Layers.{BindsBeforeUse}
 use Rattle.isle_model.specs.lists.Elaborated.{TypedRules}
 use Rattle.isle_model.specs.lists.Syntax.{Definition, declaration}
-use Rattle.isle_model.specs.rules.Meaning.{Content, Meaning}
+use Rattle.isle_model.specs.rules.Meaning.{Content, Meaning, finite}
 use Rattle.isle_model.specs.rules.Outcome.{Outcome}
 use Rattle.isle_model.specs.rules.Typed.{TypedRule, make_int, make_term, make_var, match_any}
 use Rattle.isle_model.specs.sites.Sites.{SiteSet, argument_site, constructor_site, is_present, match_some_site}
 use Rattle.isle_model.specs.trees.Trees.{Tree, match_at, no_step, step}
-use Rattle.isle_examples.specs.MeaningForms.{alone, given, literal, mute}
+use Rattle.isle_examples.specs.MeaningForms.{alone, given, literal, of_literals}
 use Rattle.isle_examples.specs.SetForms.{a_rule, byte, one_arm, returning}
 use Rattle.isle_examples.specs.Stages.{Sample, Ends}
 use Rattle.isle_examples.specs.TypedForms.{bind_any, e_list, make_let_one, rules_and_names, typed, typed_iflet, typed_var, u8}
@@ -51,7 +51,7 @@ used_tree = used_with (1 ∷ []) []
 
 -- pp answers this at 1
 abbrev pub pp_answers : Content → Meaning
-pp_answers answer = record (mute (literal (pos 7) ∷ [])) { pure_calls = ((0, alone (pos 1)), answer) ∷ [] }
+pp_answers answer = finite (record (of_literals (literal (pos 7) ∷ [])) { pure_calls = ((0, alone (pos 1)), answer) ∷ [] })
 
 abbrev pub used_sample : Sample
 used_sample = record { defs = used_defs; rules = used_rules; term = 1; multi = false; set = used_set; tree = used_tree; near_trees = [] }

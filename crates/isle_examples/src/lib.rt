@@ -47,7 +47,7 @@ ghost use Rattle.isle_examples.specs.Stages.{HasStages, IsBuiltOf, IsJudged, One
 ghost use Rattle.isle_examples.specs.Surplus.{surplus_sample};
 ghost use Rattle.isle_examples.specs.Ties.{ties_sample};
 ghost use Rattle.isle_examples.specs.ToldApart.{MasksMatchToo, ShadowIsServed, ShadowIsTold};
-ghost use Rattle.isle_examples.specs.TotalMeanings.{EchoIsTotal, MisfitIsNotTotal, EchoRestricts, EchoGives};
+ghost use Rattle.isle_examples.specs.TotalMeanings.{EchoIsTotal, EchoIsTotalWithAConstant, EchoGives, EchoServes, MisfitIsNotTotal};
 ghost use Rattle.isle_examples.specs.Tried.{ConstEqHolds, ConstEqHoldsAlike, ConstEqIsTried, OneStepDoesNotMatch, OneStepIsTried, VariantEqHolds, VariantEqHoldsAlike, VariantEqIsTried};
 ghost use Rattle.isle_examples.specs.Unasked.{UnaskedIsNotDemanded, unasked_defs, unasked_rules, unasked_sample, unasked_set};
 ghost use Rattle.isle_examples.specs.Unreached.{UnreachedCallsAreNotAsked, UnreachedEnds, first_answers, one_im_of_one, unreached_program, unreached_sample};
@@ -132,13 +132,14 @@ pub fn extract_is_served()
     ensures without_calls { DoesNotServe extract_program extract_mute (pos 7) }
 {}
 
-/// The total meaning whose extractor answers its argument is well typed, so for each number there are finite maps that agree
-/// with it and serve, and all of these give one outcome; the one whose extractor answers a boolean isn't.
-#[tactic(auto, using(crate::proofs::TotalMeanings::echo_is_total, crate::proofs::TotalMeanings::misfit_is_not_total, crate::proofs::TotalMeanings::echo_restricts, crate::proofs::TotalMeanings::echo_gives_ten, crate::proofs::TotalMeanings::echo_gives_itself))]
+/// The total meaning whose extractor answers its argument is well typed, so it serves for each number and gives what the rules say;
+/// a constant more, which no rule names, changes nothing; the one whose extractor answers a boolean isn't well typed.
+#[tactic(auto, using(crate::proofs::TotalMeanings::echo_is_total, crate::proofs::TotalMeanings::echo_is_total_with_a_constant, crate::proofs::TotalMeanings::misfit_is_not_total, crate::proofs::TotalMeanings::echo_serves, crate::proofs::TotalMeanings::echo_gives_ten, crate::proofs::TotalMeanings::echo_gives_itself))]
 pub fn total_meanings()
     ensures total { EchoIsTotal }
+    ensures with_a_constant { EchoIsTotalWithAConstant }
     ensures not_total { MisfitIsNotTotal }
-    ensures restricts { EchoRestricts }
+    ensures serves { EchoServes }
     ensures of_one { EchoGives (pos 1) (pos 10) }
     ensures of_seven { EchoGives (pos 7) (pos 7) }
 {}

@@ -14,7 +14,7 @@ use Rattle.isle_laws_closure.proofs.Ending.{few_made_end}
 use Rattle.isle_laws_closure.proofs.Settled.{verdict_is_exact_lem}
 use Rattle.isle_laws_closure.proofs.Whole.{none_constrained}
 use Rattle.isle_laws_closure.proofs.WholeClosing.{closing_is_whole_lem}
-use Rattle.isle_laws_closure.proofs.WholeVisits.{is_reached, few_made}
+use Rattle.isle_laws_closure.proofs.BuiltWithinLimits.{is_reached, few_made}
 
 pub closing_ends_lem : ClosingEnds
 closing_ends_lem p before r built = few_made_end before (demands_of p r) (few_made p before r built)

@@ -3,9 +3,9 @@
 use Rattle.std.proofs.Common.{◌≡◌, ◌⊎◌, ℕ, zero, suc, true, false, not, if◌then◌else◌, List, [], ◌∷◌, ◌++◌, map, length, Option, Some, None, slice_get, flat_map, refl, sym, ap, ◌∙◌, subst, inl, inr}
 use Rattle.std.proofs.lemmas.Bool.{cases_Bool, cond-true, cond-false, and_from, false≢true}
 use Rattle.std.specs.List.{list_any, zip}
-use Rattle.isle_model.specs.sites.Sites.{Constraint, is_variant, is_struct, is_bool, is_int, is_prim, is_present, SiteTerm, bool_term, int_term, prim_term, argument, extractor_call, constructor_call, pick_of, variant_made, variant_field, struct_made, struct_field, some_made, some_part, tuple_part, no_site}
+use Rattle.isle_model.specs.sites.Sites.{Constraint, is_variant, is_struct, is_bool, is_int, is_prim, is_present, SiteTerm, bool_term, int_term, prim_term, argument, extractor_call, constructor_call, pick_of, variant_made, variant_field, struct_made, struct_field, some_made, some_part, tuple_part, no_site, fields_from, field_terms}
 use Rattle.isle_model.specs.visits.Demands.{Demands, site_term_eq, has_site, with_sites, constraint_eq}
-use Rattle.isle_model.specs.sites.Closure.{Joined, given, itself, turned, chained, at_field, fields_from, field_terms, HasConstraint, IsPartOf, IsProperPart, directly, deeper, class_name, same_class, due_with, due, with_owners, spoken_of, class_names, differs_in_class, has_conflict, constrained_in, fields_of_first, parts_of, goes_deeper, has_cycle}
+use Rattle.isle_model.specs.sites.Closure.{Joined, given, itself, turned, chained, at_field, HasConstraint, IsPartOf, IsProperPart, directly, deeper, class_name, same_class, due_with, due, with_owners, spoken_of, class_names, differs_in_class, has_conflict, constrained_in, fields_of_first, parts_of, goes_deeper, has_cycle}
 use Rattle.isle_laws_closure.specs.ClosureLaws.{IsEquivalence, RespectsDemands}
 use Rattle.isle_model.proofs.Elements.{In, in_from_contains, some_is, none_some, in_left, in_right, in_either, in_slice, slice_in, any_in, in_any, map_in, from_flat_map, in_flat_map, zip_in}
 use Rattle.isle_model.proofs.SameSites.{term_means, same_term, constraint_means}
@@ -84,8 +84,8 @@ in_with_one ts s x h =
       | inr f ↦ subst (λ l. In l x) (sym (cond-false (has_site ts s) ts (ts ++ s ∷ []) f)) (elim h [ inl i ↦ in_left ts (s ∷ []) x i | inr e ↦ in_right ts (s ∷ []) x (inl e) ])
     ]
 
-with_one_in : (ts : List SiteTerm) (s x : SiteTerm) → In (if has_site ts s then ts else ts ++ s ∷ []) x → In ts x ⊎ (s ≡ x)
-with_one_in ts s x h =
+with_site_in : (ts : List SiteTerm) (s x : SiteTerm) → In (if has_site ts s then ts else ts ++ s ∷ []) x → In ts x ⊎ (s ≡ x)
+with_site_in ts s x h =
     elim (cases_Bool (has_site ts s)) [
       | inl t ↦ inl (subst (λ l. In l x) (cond-true (has_site ts s) ts (ts ++ s ∷ []) t) h)
       | inr f ↦ elim (in_either ts (s ∷ []) x (subst (λ l. In l x) (cond-false (has_site ts s) ts (ts ++ s ∷ []) f) h)) [ inl i ↦ inl i | inr j ↦ elim j [ inl e ↦ inr e | inr n ↦ absurd n ] ]
@@ -104,7 +104,7 @@ pub with_sites_in : (ts ss : List SiteTerm) (x : SiteTerm) → In (with_sites ts
 with_sites_in ts [] x h = inl h
 with_sites_in ts (s ∷ ss) x h =
     elim (with_sites_in (if has_site ts s then ts else ts ++ s ∷ []) ss x h) [
-      | inl i ↦ elim (with_one_in ts s x i) [ inl j ↦ inl j | inr e ↦ inr (inl e) ]
+      | inl i ↦ elim (with_site_in ts s x i) [ inl j ↦ inl j | inr e ↦ inr (inl e) ]
       | inr j ↦ inr (inr j)
     ]
 

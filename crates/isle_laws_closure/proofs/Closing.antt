@@ -2,9 +2,9 @@
 use Rattle.std.proofs.Common.{◌≡◌, ◌⊎◌, ◌↔◌, ℕ, zero, suc, not, if◌then◌else◌, List, [], ◌∷◌, ◌++◌, map, Option, Some, None, is_some, Contains, filter, flat_map, refl, sym, ap, ◌∙◌, subst, inl, inr}
 use Rattle.std.proofs.lemmas.Bool.{cases_Bool, cond-true, cond-false}
 use Rattle.std.specs.List.{zip}
-use Rattle.isle_model.specs.sites.Sites.{Constraint, SiteTerm}
+use Rattle.isle_model.specs.sites.Sites.{Constraint, SiteTerm, field_terms}
 use Rattle.isle_model.specs.visits.Demands.{Demands, site_term_eq, has_site, with_sites}
-use Rattle.isle_model.specs.sites.Closure.{Joined, given, itself, turned, chained, at_field, field_terms, HasConstraint, IsUnreachable, two_at_a_site, constraint_of, Closed, class_at, without_class_of, merged_classes, merged_all, with_constraint, with_constraints, ascending, is_in_class, next_constrained, field_equalities, taken, closing, before_closing, begins_with, in_order, most_closing_steps, closed, two_in_a_class}
+use Rattle.isle_model.specs.sites.Closure.{Joined, given, itself, turned, chained, at_field, HasConstraint, IsUnreachable, two_at_a_site, constraint_of, Closed, class_at, without_class_of, merged_classes, merged_all, with_constraint, with_constraints, ascending, is_in_class, next_constrained, field_equalities, taken, closing, before_closing, begins_with, in_order, most_closing_steps, closed, two_in_a_class}
 use Rattle.isle_laws_closure.specs.ClosureLaws.{ClosedFollows, HasEnded}
 use Rattle.isle_model.proofs.Elements.{In, in_from_contains, contains_from_in, some_is, none_some, in_left, in_right, in_either, in_map, from_flat_map, in_zip, in_filter, passed_filter}
 use Rattle.isle_model.proofs.SameSites.{term_means, constraint_cases}

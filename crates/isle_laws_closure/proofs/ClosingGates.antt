@@ -2,15 +2,15 @@
 use Rattle.std.proofs.Common.{ℕ, ◌+◌, ◌<◌, true, not, List, [], ◌∷◌, ◌++◌, map, Contains, filter, refl, sym, subst, inl, inr, arith}
 use Rattle.std.proofs.lemmas.Bool.{cases_Bool, cond-true, cond-false}
 use Rattle.std.specs.List.{zip}
-use Rattle.isle_model.specs.sites.Sites.{Constraint, is_variant, is_struct, is_bool, is_int, is_prim, is_present, SiteTerm, variant_field, struct_field}
+use Rattle.isle_model.specs.sites.Sites.{Constraint, is_variant, is_struct, is_bool, is_int, is_prim, is_present, SiteTerm, variant_field, struct_field, field_terms}
 use Rattle.isle_model.specs.visits.Demands.{Demands, has_site}
-use Rattle.isle_model.specs.sites.Closure.{field_terms, HasConstraint, IsUnreachable, Closed, class_at, without_class_of, merged_classes, merged_all, with_constraints, ascending, field_equalities, taken, closing, before_closing, begins_with, in_order, most_closing_steps, closed}
+use Rattle.isle_model.specs.sites.Closure.{HasConstraint, IsUnreachable, Closed, class_at, without_class_of, merged_classes, merged_all, with_constraints, ascending, field_equalities, taken, closing, before_closing, begins_with, in_order, most_closing_steps, closed}
 use Rattle.isle_model.proofs.Elements.{In, in_from_contains, contains_from_in, in_left, in_right, in_either, in_slice, in_map, map_in, from_flat_map, in_zip, in_filter, passed_filter}
 use Rattle.isle_model.proofs.SitesMade.{has_in}
-use Rattle.isle_laws_visits.proofs.WithSites.{in_fields}
 use Rattle.isle_laws_closure.proofs.Closing.{closing_keeps, OneEach, constraints_in, in_constraints, constraints_kept, one_each, FollowsSoFar, in_class_joined, constraint_carried, next_asked, taken_follows, before_closing_follows, in_order_follows, from_constraints, keeps_all, one_demanded}
 use Rattle.isle_model.specs.sites.DemandedGates.{GatesDemanded, CanBeTested, ClosedCanBeTested}
 use Rattle.isle_laws_visits.proofs.Gates.{asking_of, gates_stay}
+use Rattle.isle_laws_visits.proofs.Patterns.{in_fields}
 
 -- 1. members of classes
 module _ (P : SiteTerm → Type 0) where

@@ -3,9 +3,9 @@
 use Rattle.std.proofs.Common.{◌≡◌, ◌⊎◌, ◌+◌, ℕ, zero, suc, ◌<◌, ◌≤◌, Bool, true, false, not, ◌&&◌, cond, if◌then◌else◌, ◌*◌, List, [], ◌∷◌, length, Option, Some, None, sum_by, count_by, flat_map, refl, sym, ap, ◌∙◌, subst, inl, inr, arith}
 use Rattle.std.proofs.lemmas.Bool.{cases_Bool, cond-true, cond-false, and_parts, and_from, false≢true}
 use Rattle.std.proofs.lemmas.List.Sums.{sum_by-cons}
-use Rattle.isle_model.specs.sites.Sites.{Constraint, SiteTerm, bool_term, int_term, prim_term, argument, extractor_call, constructor_call, pick_of, variant_made, variant_field, struct_made, struct_field, some_made, some_part, tuple_part, no_site}
+use Rattle.isle_model.specs.sites.Sites.{Constraint, SiteTerm, bool_term, int_term, prim_term, argument, extractor_call, constructor_call, pick_of, variant_made, variant_field, struct_made, struct_field, some_made, some_part, tuple_part, no_site, field_terms}
 use Rattle.isle_model.specs.visits.Demands.{Demands, site_term_eq, has_site}
-use Rattle.isle_model.specs.sites.Closure.{field_terms, with_owners, constraint_of, Closed, class_at, without_class_of, merged_all, ascending, is_in_class, next_constrained, field_equalities, taken, closing, before_closing, most_closing_steps}
+use Rattle.isle_model.specs.sites.Closure.{with_owners, constraint_of, Closed, class_at, without_class_of, merged_all, ascending, is_in_class, next_constrained, field_equalities, taken, closing, before_closing, most_closing_steps}
 use Rattle.isle_model.specs.sites.Limits.{most_sites}
 use Rattle.isle_laws_closure.specs.ClosureLaws.{HasEnded}
 use Rattle.isle_model.proofs.Elements.{In, some_is, none_some, any_in, in_any, in_filter, filter_from, passed_filter}
@@ -153,8 +153,8 @@ either_passes p q r h =
           | inr f ↦ let x = ap bit f in omega (arith, x)
         ]
 
-none_pass : (p : SiteTerm → Bool) → ((x : SiteTerm) → p x ≡ true → ⊥) → (s : SiteTerm) → owners_by p s ≡ 0
-none_pass p h =
+none_owned : (p : SiteTerm → Bool) → ((x : SiteTerm) → p x ≡ true → ⊥) → (s : SiteTerm) → owners_by p s ≡ 0
+none_owned p h =
     by_owners (λ s. owners_by p s ≡ 0)
     (λ s o e. counted_alone p s e ∙ none s)
     (λ s a o e k. let x = counted_field p s a e in let y = none s in omega (arith, x, y, k))
@@ -163,7 +163,7 @@ none_pass p h =
     none s = elim (cases_Bool (p s)) [ inl t ↦ absurd (h s t) | inr f ↦ ap bit f ]
 
 owners_among : (us : List SiteTerm) (p : SiteTerm → Bool) → ((x : SiteTerm) → p x ≡ true → In us x) → (s : SiteTerm) → owners_by p s ≤ length us
-owners_among [] p h s = let e = none_pass p h s in omega (arith, e)
+owners_among [] p h s = let e = none_owned p h s in omega (arith, e)
 owners_among (y ∷ us) p h s =
     let a = owners_among us (λ x. p x && not (site_term_eq y x)) rest s in
     let b = owner_once y s in

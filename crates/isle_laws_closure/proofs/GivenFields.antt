@@ -2,15 +2,16 @@
 use Rattle.std.proofs.Common.{◌≡◌, ◌⊎◌, List, [], ◌∷◌, ◌++◌, Some, None, Contains, flat_map, refl, sym, ap, subst, inl, inr, ◌∙◌}
 use Rattle.isle_model.specs.rules.Program.{Program}
 use Rattle.isle_model.specs.rules.Typed.{TypedRule}
-use Rattle.isle_model.specs.sites.Sites.{Constraint, is_present, SiteTerm, bool_term, int_term, prim_term, argument, extractor_call, constructor_call, pick_of, variant_made, variant_field, struct_made, struct_field, some_made, some_part, tuple_part, no_site, SiteTerms}
+use Rattle.isle_model.specs.sites.Sites.{Constraint, is_present, SiteTerm, bool_term, int_term, prim_term, argument, extractor_call, constructor_call, pick_of, variant_made, variant_field, struct_made, struct_field, some_made, some_part, tuple_part, no_site, SiteTerms, field_terms}
 use Rattle.isle_model.specs.visits.Demands.{Demands, demands_of, Visit, making, asking, equating, iterating, calling, unwraps, unwraps_all, asking_all}
-use Rattle.isle_model.specs.sites.Closure.{field_terms, with_owners, spoken_of}
+use Rattle.isle_model.specs.sites.Closure.{with_owners, spoken_of}
 use Rattle.isle_model.proofs.Elements.{In, in_from_contains, contains_from_in, some_is, none_some, in_left, in_either, from_flat_map}
 use Rattle.isle_laws_closure.specs.FieldLaws.{IsGiven, FieldsAreGiven}
 use Rattle.isle_laws_closure.proofs.Classes.{with_sites_in}
 use Rattle.isle_laws_closure.proofs.Owners.{owner_of, owner_of_field, owners_of_field, no_other_owner}
-use Rattle.isle_laws_visits.proofs.Visited.{equated, at_left}
-use Rattle.isle_laws_visits.proofs.WithSites.{IsLeaf, by_leaf, by_field, by_equating, Onward, AtEach, KeptWithSites, unwrapped_at_each, no_step, then_onward, rule_given}
+use Rattle.isle_laws_visits.proofs.Patterns.{by_field}
+use Rattle.isle_laws_visits.proofs.AskedSites.{equated, at_left}
+use Rattle.isle_laws_visits.proofs.WithSites.{IsLeaf, by_leaf, by_equating, Onward, AtEach, KeptWithSites, unwrapped_at_each, no_step, then_onward, rule_given}
 
 -- 1. what is kept
 -- where a site is a field, a constraint of its owner gives it

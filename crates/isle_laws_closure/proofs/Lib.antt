@@ -1,4 +1,5 @@
 pub mod BuiltRules
+pub mod BuiltWithinLimits
 pub mod Classes
 pub mod Closing
 pub mod ClosingGates
@@ -13,7 +14,6 @@ pub mod Settled
 pub mod Verdict
 pub mod Whole
 pub mod WholeClosing
-pub mod WholeVisits
 pub mod building
 pub mod built
 pub mod overlaps

@@ -2,9 +2,9 @@
 use Rattle.std.proofs.Common.{◌≡◌, ℕ, zero, suc, true, if◌then◌else◌, List, [], ◌∷◌, ◌++◌, length, flat_map, refl, sym, ap, ◌∙◌, subst, inl, inr}
 use Rattle.std.proofs.lemmas.Bool.{cases_Bool, cond-true, cond-false}
 use Rattle.std.specs.List.{zip}
-use Rattle.isle_model.specs.sites.Sites.{Constraint, SiteTerm}
+use Rattle.isle_model.specs.sites.Sites.{Constraint, SiteTerm, field_terms}
 use Rattle.isle_model.specs.visits.Demands.{Demands, site_term_eq}
-use Rattle.isle_model.specs.sites.Closure.{Joined, given, itself, turned, chained, at_field, field_terms, class_name, same_class, joining, joining_each, due_with, due, joined_in, spoken_of, class_names}
+use Rattle.isle_model.specs.sites.Closure.{Joined, given, itself, turned, chained, at_field, class_name, same_class, joining, joining_each, due_with, due, joined_in, spoken_of, class_names}
 use Rattle.isle_model.proofs.Elements.{In, contains_from_in, from_flat_map, in_zip}
 use Rattle.isle_model.proofs.SameSites.{term_means, same_term}
 

@@ -1,9 +1,9 @@
 -- The site whose field a site is.
 use Rattle.std.proofs.Common.{◌≡◌, [], ◌∷◌, Option, Some, None, refl, sym, ◌∙◌}
-use Rattle.isle_model.specs.sites.Sites.{Constraint, SiteTerm, bool_term, int_term, prim_term, argument, extractor_call, constructor_call, pick_of, variant_made, variant_field, struct_made, struct_field, some_made, some_part, tuple_part, no_site}
-use Rattle.isle_model.specs.sites.Closure.{field_terms, with_owners}
+use Rattle.isle_model.specs.sites.Sites.{Constraint, SiteTerm, bool_term, int_term, prim_term, argument, extractor_call, constructor_call, pick_of, variant_made, variant_field, struct_made, struct_field, some_made, some_part, tuple_part, no_site, field_terms}
+use Rattle.isle_model.specs.sites.Closure.{with_owners}
 use Rattle.isle_model.proofs.Elements.{In, none_some}
-use Rattle.isle_laws_visits.proofs.WithSites.{by_field}
+use Rattle.isle_laws_visits.proofs.Patterns.{by_field}
 
 -- the site whose field a site is
 abbrev pub owner_of : SiteTerm → Option SiteTerm

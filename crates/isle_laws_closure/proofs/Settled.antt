@@ -3,9 +3,9 @@
 use Rattle.std.proofs.Common.{◌≡◌, ◌≢◌, ◌↔◌, ℕ, zero, suc, ◌≤◌, Bool, true, false, ◌&&◌, if◌then◌else◌, List, [], ◌∷◌, ◌++◌, length, Some, Contains, slice_get, flat_map, refl, sym, ap, ◌∙◌, subst, inl, inr, arith}
 use Rattle.std.proofs.lemmas.Bool.{cases_Bool, cond-true, cond-false, and_parts, false≢true}
 use Rattle.std.specs.List.{list_all, zip}
-use Rattle.isle_model.specs.sites.Sites.{Constraint, SiteTerm}
+use Rattle.isle_model.specs.sites.Sites.{Constraint, SiteTerm, field_terms}
 use Rattle.isle_model.specs.visits.Demands.{Demands, site_term_eq}
-use Rattle.isle_model.specs.sites.Closure.{field_terms, class_name, same_class, joining, joining_each, due_with, due, joined_in, spoken_of, class_names, Joined, IsUnreachable, has_conflict, is_unreachable}
+use Rattle.isle_model.specs.sites.Closure.{class_name, same_class, joining, joining_each, due_with, due, joined_in, spoken_of, class_names, Joined, IsUnreachable, has_conflict, is_unreachable}
 use Rattle.isle_model.proofs.Elements.{In, in_from_contains, in_left, in_right, in_slice, all_in, from_flat_map, in_flat_map, in_zip}
 use Rattle.isle_model.proofs.SameSites.{term_means, same_term}
 use Rattle.isle_laws_closure.proofs.Names.{same_name, name_same, named_alike}

@@ -2,9 +2,9 @@
 use Rattle.std.proofs.Common.{◌≡◌, ◌⊎◌, ℕ, zero, suc, ◌≤◌, true, false, not, List, [], ◌∷◌, map, length, Option, Some, None, refl, sym, ◌∙◌, subst, inl, inr, arith}
 use Rattle.std.proofs.lemmas.Bool.{cases_Bool, and_parts, false≢true, not-true}
 use Rattle.std.specs.List.{list_any}
-use Rattle.isle_model.specs.sites.Sites.{Constraint, SiteTerm}
+use Rattle.isle_model.specs.sites.Sites.{Constraint, SiteTerm, field_terms}
 use Rattle.isle_model.specs.visits.Demands.{Demands, constraint_eq}
-use Rattle.isle_model.specs.sites.Closure.{Joined, itself, field_terms, IsPartOf, IsProperPart, directly, deeper, IsUnreachable, two_at_a_site, two_in_a_class, part_of_itself, class_name, same_class, class_names, differs_in_class, has_conflict, constrained_in, fields_of_first, parts_of, goes_deeper, has_cycle, is_unreachable}
+use Rattle.isle_model.specs.sites.Closure.{Joined, itself, IsPartOf, IsProperPart, directly, deeper, IsUnreachable, two_at_a_site, two_in_a_class, part_of_itself, class_name, same_class, class_names, differs_in_class, has_conflict, constrained_in, fields_of_first, parts_of, goes_deeper, has_cycle, is_unreachable}
 use Rattle.isle_model.proofs.Elements.{In, contains_from_in, in_any, in_map, map_in, or_split, or_left, or_right}
 use Rattle.isle_model.proofs.SameSites.{same_constraint}
 use Rattle.isle_laws_closure.proofs.Names.{same_name, named_joined, names_sound, named_alike}

@@ -2,9 +2,9 @@
 use Rattle.std.proofs.Common.{◌≡◌, ◌⊎◌, ℕ, true, false, not, if◌then◌else◌, List, [], ◌∷◌, ◌++◌, map, Option, Some, None, is_some, slice_get, refl, sym, ap, ◌∙◌, subst, inl, inr}
 use Rattle.std.proofs.lemmas.Bool.{cases_Bool, cond-true, cond-false, false≢true, not-true}
 use Rattle.std.specs.List.{zip}
-use Rattle.isle_model.specs.sites.Sites.{Constraint, SiteTerm}
+use Rattle.isle_model.specs.sites.Sites.{Constraint, SiteTerm, field_terms}
 use Rattle.isle_model.specs.visits.Demands.{site_term_eq, has_site}
-use Rattle.isle_model.specs.sites.Closure.{field_terms, constraint_of, class_at, without_class_of, merged_classes, merged_all, with_constraint, with_constraints, is_in_class, next_constrained, field_equalities}
+use Rattle.isle_model.specs.sites.Closure.{constraint_of, class_at, without_class_of, merged_classes, merged_all, with_constraint, with_constraints, is_in_class, next_constrained, field_equalities}
 use Rattle.isle_model.proofs.Elements.{In, none_some, in_left, in_right, in_either, in_slice, in_map, map_in, from_flat_map, in_flat_map, zip_in, in_zip, in_filter, filter_from, passed_filter}
 use Rattle.isle_model.proofs.SameSites.{same_term}
 use Rattle.isle_model.proofs.SitesMade.{in_has, has_in}

@@ -1,9 +1,9 @@
 -- Closing keeps all that follows from the demands within reach; where it ends, all of it is asked.
 use Rattle.std.proofs.Common.{◌≡◌, ◌≢◌, ℕ, true, List, [], ◌∷◌, ◌++◌, map, filter, flat_map, refl, sym, ◌∙◌, subst, inl, inr}
 use Rattle.std.proofs.lemmas.Bool.{cases_Bool, false≢true}
-use Rattle.isle_model.specs.sites.Sites.{Constraint, SiteTerm}
+use Rattle.isle_model.specs.sites.Sites.{Constraint, SiteTerm, field_terms}
 use Rattle.isle_model.specs.visits.Demands.{Demands, has_site, with_sites}
-use Rattle.isle_model.specs.sites.Closure.{Joined, given, itself, turned, chained, at_field, field_terms, HasConstraint, IsUnreachable, IsFree, Closed, ClosedIsWhole, class_at, without_class_of, merged_all, ascending, field_equalities, taken, closing, before_closing, begins_with, in_order, most_closing_steps, closed}
+use Rattle.isle_model.specs.sites.Closure.{Joined, given, itself, turned, chained, at_field, HasConstraint, IsUnreachable, IsFree, Closed, ClosedIsWhole, class_at, without_class_of, merged_all, ascending, field_equalities, taken, closing, before_closing, begins_with, in_order, most_closing_steps, closed}
 use Rattle.isle_laws_visits.specs.VisitLaws.{EqualSitesAreMade}
 use Rattle.isle_laws_closure.specs.ClosureLaws.{HasEnded}
 use Rattle.isle_model.proofs.Elements.{In, in_from_contains, contains_from_in, some_is, in_right, in_either, any_in, in_map, map_in, from_flat_map, in_flat_map, in_filter, filter_from, passed_filter}

@@ -1,12 +1,12 @@
 -- What built sets are.
-pub mod Apart
-pub mod Built
+pub mod BuiltGates
 pub mod BuiltSets
-pub mod Collected
-pub mod Constrained
-pub mod Once
+pub mod CollectedSets
+pub mod ConstrainedOrEquated
+pub mod MultiCalls
 pub mod Priorities
-pub mod Served
-pub mod Sets
+pub mod ServedSets
+pub mod SitesOnce
 pub mod Unfolding
+pub mod WellBuiltSets
 pub mod WholeDemands

@@ -1,17 +1,17 @@
 -- Rules that overlap or are shadowed, and what is reported of them.
-pub mod Agreements
-pub mod Checked
-pub mod Counted
+pub mod CheckedPrograms
 pub mod Errors
-pub mod Judged
+pub mod JudgedLists
 pub mod LeftOut
-pub mod Listed
+pub mod LeftOutErrors
+pub mod ListedOverlaps
+pub mod MaskErrors
 pub mod Masks
 pub mod Overlaps
 pub mod Pairs
-pub mod Reported
+pub mod ReportedOverlaps
 pub mod SetChecks
 pub mod SetReports
 pub mod SetRules
-pub mod Shadowed
+pub mod ShadowTest
 pub mod Totals

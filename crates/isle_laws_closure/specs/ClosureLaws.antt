@@ -3,9 +3,9 @@ use Rattle.std.specs.Prelude.{[], ◌≡◌, ℕ, true, List, Some, None, slice_
 use Rattle.std.specs.Bool.{Decides}
 use Rattle.isle_model.specs.rules.Typed.{TypedRule}
 use Rattle.isle_model.specs.rules.Program.{Program}
-use Rattle.isle_model.specs.sites.Sites.{Constraint, SiteTerm}
+use Rattle.isle_model.specs.sites.Sites.{Constraint, SiteTerm, field_terms}
 use Rattle.isle_model.specs.visits.Demands.{Demands, demands_of, with_sites}
-use Rattle.isle_model.specs.sites.Closure.{field_terms, Joined, HasConstraint, IsUnreachable, is_unreachable, reported, same_class, class_names, spoken_of, with_constraints, Closed, ClosedIsWhole, next_constrained, closing, before_closing, most_closing_steps, closed}
+use Rattle.isle_model.specs.sites.Closure.{Joined, HasConstraint, IsUnreachable, is_unreachable, reported, same_class, class_names, spoken_of, with_constraints, Closed, ClosedIsWhole, next_constrained, closing, before_closing, most_closing_steps, closed}
 use Rattle.isle_model.specs.sites.Overlap.{Overlaps, overlaps, IsSubsetPair, is_subset_pair, BuiltRule, is_built, clash, Shadows, shadows}
 use Rattle.isle_laws_visits.specs.VisitLaws.{EqualSitesAreMade}
 

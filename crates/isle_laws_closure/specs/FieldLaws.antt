@@ -2,9 +2,9 @@
 use Rattle.std.specs.Prelude.{[], ◌≡◌, ◌↔◌, Contains}
 use Rattle.isle_model.specs.rules.Program.{Program}
 use Rattle.isle_model.specs.rules.Typed.{TypedRule}
-use Rattle.isle_model.specs.sites.Sites.{Constraint, SiteTerm, variant_field, struct_field}
+use Rattle.isle_model.specs.sites.Sites.{Constraint, SiteTerm, variant_field, struct_field, field_terms}
 use Rattle.isle_model.specs.visits.Demands.{Demands, demands_of}
-use Rattle.isle_model.specs.sites.Closure.{conflicts_met, field_terms, spoken_of}
+use Rattle.isle_model.specs.sites.Closure.{conflicts_met, spoken_of}
 
 -- a constraint of a site gives it this field
 abbrev pub GivesField : Demands → SiteTerm → SiteTerm → Type 0

@@ -97,7 +97,7 @@ pub fn fields_are_given()
 {}
 
 /// The test of shadows is exact.
-#[tactic(auto, using(crate::proofs::overlaps::Agreements::shadows_decides))]
+#[tactic(auto, using(crate::proofs::overlaps::ShadowTest::shadows_decides))]
 pub fn shadows_are_exact()
     ensures { ShadowsAreExact }
 {}
@@ -119,7 +119,7 @@ pub fn set_rules_constrain_as_their_demands()
 {}
 
 /// Nothing is reported of a program exactly where all its rules are built, none overlap wrongly, and none is shadowed.
-#[tactic(auto, using(crate::proofs::overlaps::Checked::check_is_exact_lem))]
+#[tactic(auto, using(crate::proofs::overlaps::CheckedPrograms::check_is_exact_lem))]
 pub fn check_is_exact()
     ensures { CheckIsExact }
 {}
@@ -130,7 +130,7 @@ pub fn overlaps_are_listed_once()
 {}
 
 /// Each further rule of a report overlaps wrongly with its first.
-#[tactic(auto, using(crate::proofs::overlaps::Listed::listed_rules_overlap_lem))]
+#[tactic(auto, using(crate::proofs::overlaps::ListedOverlaps::listed_rules_overlap_lem))]
 pub fn listed_rules_overlap()
     ensures { ListedRulesOverlap }
 {}
@@ -154,7 +154,7 @@ pub fn plain_closing_ends()
 {}
 
 /// In a built set no site stands twice.
-#[tactic(auto, using(crate::proofs::built::Once::sites_stand_once_lem))]
+#[tactic(auto, using(crate::proofs::built::SitesOnce::sites_stand_once_lem))]
 pub fn sites_stand_once()
     ensures { SitesStandOnce }
 {}
@@ -185,7 +185,7 @@ pub fn none_asked_and_gone_over()
 {}
 
 /// What a rule goes over are multi calls, and it tests none, where no term is multi and partial at once.
-#[tactic(auto, using(crate::proofs::built::Apart::multi_calls_are_gone_over_lem))]
+#[tactic(auto, using(crate::proofs::built::MultiCalls::multi_calls_are_gone_over_lem))]
 pub fn multi_calls_are_gone_over()
     ensures { MultiCallsAreGoneOver }
 {}
@@ -206,7 +206,7 @@ pub fn well_typed_rules_have_terms()
 {}
 
 /// The judge of rules is exact, where each rule's term is one of the program's.
-#[tactic(auto, using(crate::proofs::overlaps::Judged::rules_are_judged_lem))]
+#[tactic(auto, using(crate::proofs::overlaps::JudgedLists::rules_are_judged_lem))]
 pub fn rules_are_judged()
     ensures { RulesAreJudged }
 {}
@@ -340,19 +340,19 @@ pub fn only_wrong_pairs_stand()
 
 /// Each built rule that shadows others is the mask of an error of checking, which lists exactly these, in rule order; where
 /// rules stand at distinct positions, of no other.
-#[tactic(auto, using(crate::proofs::overlaps::Shadowed::masks_are_named_once_lem))]
+#[tactic(auto, using(crate::proofs::overlaps::MaskErrors::masks_are_named_once_lem))]
 pub fn masks_are_named_once()
     ensures { MasksAreNamedOnce }
 {}
 
 /// And each error that names a mask is of such a rule, and lists some.
-#[tactic(auto, using(crate::proofs::overlaps::Shadowed::only_masks_are_named_lem))]
+#[tactic(auto, using(crate::proofs::overlaps::MaskErrors::only_masks_are_named_lem))]
 pub fn only_masks_are_named()
     ensures { OnlyMasksAreNamed }
 {}
 
 /// These are the errors that checking answers where rules stand at distinct positions.
-#[tactic(auto, using(crate::proofs::overlaps::Shadowed::check_errors_are_answered_lem))]
+#[tactic(auto, using(crate::proofs::overlaps::MaskErrors::check_errors_are_answered_lem))]
 pub fn check_errors_are_answered()
     ensures { CheckErrorsAreAnswered }
 {}

@@ -21,8 +21,8 @@ value_there : (g : Given) (ty : ℕ) (o : Option Value) → IsSomeAnd o (λ v. I
 value_there g ty None h = absurd h
 value_there g ty (Some v) h = record { value = v; there = refl; typed = h }
 
-constant_there : (g : Given) (ty : ℕ) (t : Option ℕ) (o : Option Value) → t ≡ Some ty → IsSomeAnd o (λ v. IsTrue (typed_as g.program t v)) → IsValueOf g ty o
-constant_there g ty t o e h = value_there g ty o (subst (λ u. IsSomeAnd o (λ v. IsTrue (typed_as g.program u v))) e h)
+constant_value_there : (g : Given) (ty : ℕ) (t : Option ℕ) (o : Option Value) → t ≡ Some ty → IsSomeAnd o (λ v. IsTrue (typed_as g.program t v)) → IsValueOf g ty o
+constant_value_there g ty t o e h = value_there g ty o (subst (λ u. IsSomeAnd o (λ v. IsTrue (typed_as g.program u v))) e h)
 
 pub fits_there : (o : Option Content) (f : Content → Bool) → IsSomeAnd o (λ c. IsTrue (f c)) → Fits o f
 fits_there None f h = absurd h
@@ -87,7 +87,7 @@ module _ (g : Given) (r : TypedRule) where
     is_answered rs h c = record {
       bools = λ b ty i. value_there g ty (literal_value m (bool_literal b ty)) (h.bools b ty (ask (bool_term b ty) i));
       ints = λ z ty i. value_there g ty (literal_value m (int_literal z ty)) (h.ints z ty (ask (int_term z ty) i));
-      prims = λ name ty i e. constant_there g ty (constant_type p name) (constant_value m name) e (h.prims name (ask (prim_term name) i));
+      prims = λ name ty i e. constant_value_there g ty (constant_type p name) (constant_value m name) e (h.prims name (ask (prim_term name) i));
       extractors = λ t s v i e. fits_there (extractor_answer m t v) (fits_extractor p t (kind p t)) (h.extractors k t s v (ask (extractor_call t s) i) e);
       pures = λ t ss vs i e.
           fits_there (pure_answer m t vs) (fits_constructor p t (kind p t))

@@ -11,7 +11,7 @@ use Rattle.isle_model.proofs.Elements.{in_from_contains, contains_from_in, in_sl
 use Rattle.isle_laws_closure.specs.BuiltLaws.{BuiltDemandsAreWhole}
 use Rattle.isle_laws_matching.specs.MatchLaws.{IsTried, BuiltDemandsHoldAlike, BuiltSetsMatchByDemands}
 use Rattle.isle_laws_closure.proofs.overlaps.Overlaps.{bool_same}
-use Rattle.isle_laws_closure.proofs.built.Built.{was_built, one_rule}
+use Rattle.isle_laws_closure.proofs.built.BuiltGates.{was_built, one_rule}
 use Rattle.isle_laws_matching.proofs.ClosedAlike.{closed_demands_hold_alike_lem}
 use Rattle.isle_laws_matching.proofs.Numbers.{numbers_hold}
 use Rattle.isle_laws_matching.proofs.Visits.{given, visits_match_lem}

@@ -7,9 +7,9 @@ use Rattle.isle_model.specs.rules.Outcome.{then_option}
 use Rattle.isle_model.specs.rules.Program.{Program}
 use Rattle.isle_model.specs.rules.Picks.{field_of_variant, field_of_struct}
 use Rattle.isle_model.specs.trees.Run.{as_value, from_value, content_fields}
-use Rattle.isle_model.specs.sites.Sites.{Constraint, is_variant, is_struct, is_bool, is_int, is_prim, is_present, SiteTerm, variant_field, struct_field}
+use Rattle.isle_model.specs.sites.Sites.{Constraint, is_variant, is_struct, is_bool, is_int, is_prim, is_present, SiteTerm, variant_field, struct_field, fields_from, field_terms}
 use Rattle.isle_model.specs.visits.Demands.{Demands, has_site}
-use Rattle.isle_model.specs.sites.Closure.{fields_from, field_terms, Joined, given, itself, at_field, HasConstraint, Closed, ClosedIsWhole, class_at, without_class_of, begins_with, ascending, field_equalities, taken, closing, before_closing, in_order, most_closing_steps, closed, ClosedDemandsHold}
+use Rattle.isle_model.specs.sites.Closure.{Joined, given, itself, at_field, HasConstraint, Closed, ClosedIsWhole, class_at, without_class_of, begins_with, ascending, field_equalities, taken, closing, before_closing, in_order, most_closing_steps, closed, ClosedDemandsHold}
 use Rattle.isle_model.proofs.Elements.{In, in_from_contains, contains_from_in, in_map, in_filter, passed_filter, from_flat_map, some_is}
 use Rattle.isle_model.proofs.SameSites.{term_cases}
 use Rattle.isle_model.proofs.SitesMade.{has_in}

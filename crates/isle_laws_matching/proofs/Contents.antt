@@ -9,8 +9,8 @@ use Rattle.isle_model.specs.rules.Program.{Program, kind}
 use Rattle.isle_model.specs.rules.Typed.{TypedPatterns, no_typed_pattern, typed_pattern_and}
 use Rattle.isle_model.specs.rules.Picks.{Pick, place_of, picked, site_content, site_values}
 use Rattle.isle_model.specs.trees.Run.{as_value, from_value, part_at}
-use Rattle.isle_model.specs.sites.Sites.{SiteTerm, bool_term, int_term, prim_term, extractor_call, constructor_call, pick_of, tuple_part, SiteTerms}
-use Rattle.isle_model.specs.visits.Demands.{Demands, from_to, output_sites}
+use Rattle.isle_model.specs.sites.Sites.{SiteTerm, bool_term, int_term, prim_term, extractor_call, constructor_call, pick_of, tuple_part, SiteTerms, fields_from}
+use Rattle.isle_model.specs.visits.Demands.{Demands, output_sites, pattern_count}
 use Rattle.isle_model.specs.sites.Serves.{constant_type, fits_one, fits_answer, fits_extractor, fits_constructor}
 use Rattle.isle_laws_visits.proofs.PatternParts.{AsMany}
 use Rattle.isle_model.proofs.Elements.{In, in_slice, all_in, some_is, none_some}
@@ -118,7 +118,7 @@ fits_answered p tys (many cs) h = refl
 
 -- 3. sites of several values
 pub fields_here : (g : Given) (f : ℕ → SiteTerm) (i : ℕ) (qs : TypedPatterns) (tys : List ℕ) (vs : Values) → AsMany qs tys → all_well_typed g.program.types (Some tys) vs ≡ true
-    → ((j : ℕ) (v : Value) → slice_get (listed vs) j ≡ Some v → content_of g (f (i + j)) ≡ Some (one v)) → AreHere g (from_to f i qs) tys vs
+    → ((j : ℕ) (v : Value) → slice_get (listed vs) j ≡ Some v → content_of g (f (i + j)) ≡ Some (one v)) → AreHere g (fields_from f i (pattern_count qs)) tys vs
 fields_here g f i no_typed_pattern [] no_value n h c = tt
 fields_here g f i no_typed_pattern [] (value_and v vs) n h c = absurd (false≢true h)
 fields_here g f i no_typed_pattern (ty ∷ tys) vs n h c = absurd n

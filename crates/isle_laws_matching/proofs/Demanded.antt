@@ -13,11 +13,11 @@ use Rattle.isle_model.specs.lists.Formed.{var_type}
 use Rattle.isle_model.proofs.Elements.{In, in_right, in_either, some_is, none_some}
 use Rattle.isle_model.proofs.SameSites.{term_means}
 use Rattle.isle_model.proofs.ValuesEqual.{eq_means, eq_same}
-use Rattle.isle_laws_visits.proofs.Visited.{equating_binds}
+use Rattle.isle_laws_visits.proofs.AskedSites.{equating_binds}
 use Rattle.isle_laws_visits.proofs.PatternParts.{outside}
 use Rattle.isle_laws_visits.proofs.Patterns.{from_then}
 use Rattle.isle_laws_matching.proofs.Contents.{Given, content_of, Here, is_value}
-use Rattle.isle_laws_visits.proofs.Grown.{Grown, equated}
+use Rattle.isle_laws_visits.proofs.GrowingVisits.{Grown, equated}
 use Rattle.isle_laws_visits.proofs.SameExprs.{AreWithin}
 use Rattle.isle_laws_matching.proofs.Variables.{named, IsPresent, AllPresent, IsVar, AreVars, var_kept}
 use Rattle.isle_model.proofs.Either.{either}
@@ -202,8 +202,8 @@ constant_found (Some w) v h =
       | inr f ↦ absurd (false≢true (sym (ap is_some (cond-false (value_eq w v) (Some []) None f)) ∙ h))
     ]
 
-pub constant_there : (v : Value) → where_constant (Some v) v ≡ Some []
-constant_there v = cond-true (value_eq v v) (Some []) None (eq_same v)
+pub constant_where_same : (v : Value) → where_constant (Some v) v ≡ Some []
+constant_where_same v = cond-true (value_eq v v) (Some []) None (eq_same v)
 
 -- a constant
 pub constant_after : (g : Given) (vars : List (ℕ × ℕ)) (e : SitedVars) (v : Visit) (s : SiteTerm) (c : Constraint) (ty : ℕ) (x : Value) (o : Option Value)
@@ -213,7 +213,7 @@ constant_after g vars e v s c ty x o q h b =
     (λ m e' i.
     let a = same_found o x e e' i in
     met_asking g s c v
-    (record { content = one x; held = h.content; meets = ap is_some (q ∙ ap (λ y. where_constant y x) a.0 ∙ constant_there x) })
+    (record { content = one x; held = h.content; meets = ap is_some (q ∙ ap (λ y. where_constant y x) a.0 ∙ constant_where_same x) })
     (here_typed g s ty x h) m)
     (λ a.
     let m = a.asked (s, c) (asked_now s c v) in

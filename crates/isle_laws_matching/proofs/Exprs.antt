@@ -18,10 +18,10 @@ use Rattle.isle_model.specs.lists.Setting.{expr_type}
 use Rattle.isle_model.specs.lists.Formed.{var_type, is_formed_expr, are_formed_args, formed_lets}
 use Rattle.isle_model.proofs.Elements.{In, in_left, in_right, some_is, none_some}
 use Rattle.isle_model.proofs.Options.{is_there}
-use Rattle.isle_laws_visits.proofs.Visited.{Same}
+use Rattle.isle_laws_visits.proofs.AskedSites.{Same}
 use Rattle.isle_laws_visits.proofs.Patterns.{its_kind, from_then, term_known}
 use Rattle.isle_laws_matching.proofs.Contents.{Given, content_of, value_of, values_of, IsValueOf, Fits, IsAnswered, one_fits, maybe_fits, picked_fits}
-use Rattle.isle_laws_visits.proofs.Grown.{Grown, then_grown, grown_binding, expr_adds, exprs_add, lets_add, term_adds}
+use Rattle.isle_laws_visits.proofs.GrowingVisits.{Grown, then_grown, grown_binding, expr_adds, exprs_add, lets_add, term_adds}
 use Rattle.isle_laws_visits.proofs.SameExprs.{from_let, from_term, from_args, from_body, expr_keeps, term_site, pure_site, expr_alike, exprs_alike}
 use Rattle.isle_laws_typing.specs.WellTypedPrograms.{IsWellTypedProgram}
 use Rattle.isle_laws_typing.proofs.WellTypedPrograms.{variant_takes, struct_takes}

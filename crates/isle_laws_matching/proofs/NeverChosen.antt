@@ -7,7 +7,7 @@ use Rattle.isle_model.proofs.Elements.{in_from_contains}
 use Rattle.isle_laws_runs.proofs.choosing.OtherRules.{most, chosen_matches, others_in_programs_can_be_taken_away_lem}
 use Rattle.isle_laws_matching.specs.MatchLaws.{BuiltRulesAreToldApart}
 use Rattle.isle_laws_matching.specs.ShadowedLaws.{ShadowedRulesAreNeverChosen, ShadowedRulesCanBeTakenAway}
-use Rattle.isle_laws_closure.proofs.overlaps.Reported.{built_of}
+use Rattle.isle_laws_closure.proofs.overlaps.ReportedOverlaps.{built_of}
 
 not_both : (x y : ℤ) → x <ℤ y → y ≤ℤ x → ⊥
 not_both x y a b = omega (arith, ints)

@@ -14,7 +14,7 @@ use Rattle.isle_model.specs.sites.Closure.{Closed, ClosedDemandsHold}
 use Rattle.isle_model.specs.sites.RuleSets.{AsksFor, Equates}
 use Rattle.isle_model.proofs.Elements.{In, in_from_contains, contains_from_in, in_any, any_in, all_in, all_from}
 use Rattle.isle_model.proofs.ValuesEqual.{eq_means, eq_same}
-use Rattle.isle_laws_closure.proofs.built.Sets.{in_from_all}
+use Rattle.isle_laws_closure.proofs.built.WellBuiltSets.{in_from_all}
 use Rattle.isle_laws_matching.proofs.Contents.{Given, is_value}
 
 found_in : (x : ℕ) (xs : List ℕ) → is_in x xs ≡ true → In xs x

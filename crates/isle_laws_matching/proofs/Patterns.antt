@@ -11,18 +11,18 @@ use Rattle.isle_model.specs.rules.Program.{Program, Kind, a_variant, a_struct, a
 use Rattle.isle_model.specs.rules.Typed.{TypedPattern, match_bind, match_var, match_bool, match_int, match_prim, match_term, match_any, match_and, TypedPatterns, no_typed_pattern, typed_pattern_and}
 use Rattle.isle_model.specs.rules.Picks.{picked, taken_answer, field_of_variant, field_of_struct, part_of_some, Sited, SitedVars, sited, input_sites, parts_under, holds_under, each_holds_under, all_hold_under}
 use Rattle.isle_model.specs.trees.Run.{from_value, content_fields, all_one}
-use Rattle.isle_model.specs.sites.Sites.{Constraint, is_variant, is_struct, is_bool, is_int, is_prim, is_present, SiteTerm, extractor_call, pick_of, variant_field, struct_field, some_part}
-use Rattle.isle_model.specs.visits.Demands.{Visit, visit_start, making, asking, iterating, binding, from_to, pattern_count, Opened, opened, output_sites, open_call, open_term, visit_pattern, visit_each, visit_all, outputs_opened, fields_matched, counting}
+use Rattle.isle_model.specs.sites.Sites.{Constraint, is_variant, is_struct, is_bool, is_int, is_prim, is_present, SiteTerm, extractor_call, pick_of, variant_field, struct_field, some_part, fields_from, field_terms}
+use Rattle.isle_model.specs.visits.Demands.{fields_opened, Visit, visit_start, making, asking, iterating, binding, pattern_count, Opened, output_sites, open_call, open_term, visit_pattern, visit_each, visit_all, outputs_opened, fields_matched, counting}
 use Rattle.isle_model.specs.sites.Serves.{constant_type, term_args, fits_one, fits_answer, fits_extractor}
 use Rattle.isle_model.specs.lists.Setting.{bool_type}
 use Rattle.isle_model.specs.lists.Formed.{pattern_type, var_type, is_type, formed_pattern, formed_parts, formed_each}
 use Rattle.isle_model.proofs.Elements.{In, in_right, some_is, none_some}
 use Rattle.isle_model.proofs.Options.{is_there, some_then}
-use Rattle.isle_laws_visits.proofs.PatternParts.{AsMany, from_term, from_part, from_bind, pattern_within, parts_within, each_within, as_many, outside}
+use Rattle.isle_laws_visits.proofs.PatternParts.{AsMany, pattern_parts, from_part, from_bind, pattern_within, parts_within, each_within, as_many, outside}
 use Rattle.isle_laws_visits.proofs.Patterns.{its_kind, from_then, term_known}
 use Rattle.isle_laws_matching.proofs.Contents.{Given, content_of, Here, AreHere, IsAnswered, has_value, maybe_fits, picked_fits, fits_answered, fields_here, PutOut, put_out}
 use Rattle.isle_laws_matching.proofs.Demanded.{one_not_just, AreMet, AskEnough, same_content, here_typed, met_asking, asked_now, IsBound, AreBound, bound_kept, After, then_after, unbound, constant_after, var_after}
-use Rattle.isle_laws_visits.proofs.Grown.{Grown, then_grown, grown_asking, grown_iterating, each_grown, all_grown, outputs_grown, now}
+use Rattle.isle_laws_visits.proofs.GrowingVisits.{Grown, then_grown, grown_asking, grown_iterating, each_grown, all_grown, outputs_grown, grown_by_none}
 use Rattle.isle_laws_typing.specs.WellTypedPrograms.{HasTypedParts}
 use Rattle.isle_laws_typing.proofs.WellTypedPrograms.{variant_takes, struct_takes}
 use Rattle.isle_laws_matching.proofs.Variables.{here_valued, var_bound, not_among}
@@ -41,15 +41,15 @@ both_there true x y = refl
 both_there false x y = refl
 
 -- where a constraint is asked that is met exactly where the parts are seen
-asked_opens : (g : Given) (v : Visit) (n : ℕ) (s : SiteTerm) (c : Constraint) (ty : ℕ) (x : Value) (ins : List SiteTerm) (tys : List ℕ) (seen : Option Values) → Here g s ty x
-    → is_some (content_fields g.meaning c (one x)) ≡ is_some seen → ((ws : Values) → seen ≡ Some ws → AreHere g ins tys ws) → Opens g v (opened ins (asking s c (making ins (counting (fields_matched n) v)))) tys seen
-asked_opens g v n s c ty x ins tys seen h q i = record {
+asked_opens : (g : Given) (v : Visit) (n : ℕ) (s : SiteTerm) (c : Constraint) (ty : ℕ) (x : Value) (tys : List ℕ) (seen : Option Values) → Here g s ty x
+    → is_some (content_fields g.meaning c (one x)) ≡ is_some seen → ((ws : Values) → seen ≡ Some ws → AreHere g (field_terms c s) tys ws) → Opens g v (fields_opened c n s v) tys seen
+asked_opens g v n s c ty x tys seen h q i = record {
   binds = refl;
   met = λ m ws e.
-      met_asking g s c (making ins (counting (fields_matched n) v)) (record { content = one x; held = h.content; meets = q ∙ ap is_some e }) (here_typed g s ty x h)
+      met_asking g s c (making (field_terms c s) (counting (fields_matched n) v)) (record { content = one x; held = h.content; meets = q ∙ ap is_some e }) (here_typed g s ty x h)
       (record { asked = m.asked; equal = m.equal });
   found = λ a.
-      (let m = a.asked (s, c) (asked_now s c (making ins (counting (fields_matched n) v))) in
+      (let m = a.asked (s, c) (asked_now s c (making (field_terms c s) (counting (fields_matched n) v))) in
       let same = same_content g s m.content (one x) m.held h.content in
       is_there seen (sym q ∙ sym (ap (λ d. is_some (content_fields g.meaning c d)) same) ∙ m.meets));
   inputs = i;
@@ -57,7 +57,7 @@ asked_opens g v n s c ty x ins tys seen h q i = record {
 
 variant_opens : (g : Given) (v : Visit) (s : SiteTerm) (ty i t : ℕ) (args : TypedPatterns) (tys : List ℕ) (x : Value) → AsMany args tys → variant_types (slice_get g.program.types ty) i ≡ Some tys → Here g s ty x
     → Opens g v (open_term (a_variant ty i) t s args v) tys (parts_seen (a_variant ty i) g.meaning t x)
-variant_opens g v s ty i t args tys x n k h = asked_opens g v (pattern_count args) s (is_variant ty i (pattern_count args)) ty x (from_to (variant_field s i) 0 args) tys (parts_seen (a_variant ty i) g.meaning t x) h (same x) (each x h)
+variant_opens g v s ty i t args tys x n k h = asked_opens g v (pattern_count args) s (is_variant ty i (pattern_count args)) ty x tys (parts_seen (a_variant ty i) g.meaning t x) h (same x) (each x h)
   where
     same : (y : Value) → is_some (content_fields g.meaning (is_variant ty i (pattern_count args)) (one y)) ≡ is_some (parts_seen (a_variant ty i) g.meaning t y)
     same (of_variant u j fields) = both_there ((u == ty) && (j == i)) (all_one (listed fields)) fields
@@ -65,13 +65,13 @@ variant_opens g v s ty i t args tys x n k h = asked_opens g v (pattern_count arg
     same (truth b) = refl
     same (atom u z) = refl
 
-    each : (y : Value) → Here g s ty y → (ws : Values) → parts_seen (a_variant ty i) g.meaning t y ≡ Some ws → AreHere g (from_to (variant_field s i) 0 args) tys ws
+    each : (y : Value) → Here g s ty y → (ws : Values) → parts_seen (a_variant ty i) g.meaning t y ≡ Some ws → AreHere g (fields_from (variant_field s i) 0 (pattern_count args)) tys ws
     each (of_variant u j fields) w ws e =
         let a = from_if ((u == ty) && (j == i)) (Some fields) ws e in
         let b = and_parts (u == ty) (j == i) a.0 in
         let c = (and_parts (u == ty) (all_well_typed g.program.types (variant_types (slice_get g.program.types ty) j) fields) w.typed).1 in
         let d : all_well_typed g.program.types (Some tys) fields ≡ true = subst (λ o. all_well_typed g.program.types o fields ≡ true) (ap (variant_types (slice_get g.program.types ty)) (eqb-true j i b.1) ∙ k) c in
-        subst (AreHere g (from_to (variant_field s i) 0 args) tys) (some_is fields ws a.1)
+        subst (AreHere g (fields_from (variant_field s i) 0 (pattern_count args)) tys) (some_is fields ws a.1)
         (fields_here g (variant_field s i) 0 args tys fields n d
         (λ l y q.
         ap (λ o. then_option o (field_of_variant i (0 + l))) (has_value g s (of_variant u j fields) w.content)
@@ -83,7 +83,7 @@ variant_opens g v s ty i t args tys x n k h = asked_opens g v (pattern_count arg
 
 struct_opens : (g : Given) (v : Visit) (s : SiteTerm) (ty t : ℕ) (args : TypedPatterns) (tys : List ℕ) (x : Value) → AsMany args tys → struct_types (slice_get g.program.types ty) ≡ Some tys → Here g s ty x
     → Opens g v (open_term (a_struct ty) t s args v) tys (parts_seen (a_struct ty) g.meaning t x)
-struct_opens g v s ty t args tys x n k h = asked_opens g v (pattern_count args) s (is_struct ty (pattern_count args)) ty x (from_to (struct_field s) 0 args) tys (parts_seen (a_struct ty) g.meaning t x) h (same x) (each x h)
+struct_opens g v s ty t args tys x n k h = asked_opens g v (pattern_count args) s (is_struct ty (pattern_count args)) ty x tys (parts_seen (a_struct ty) g.meaning t x) h (same x) (each x h)
   where
     same : (y : Value) → is_some (content_fields g.meaning (is_struct ty (pattern_count args)) (one y)) ≡ is_some (parts_seen (a_struct ty) g.meaning t y)
     same (of_struct u fields) = both_there (u == ty) (all_one (listed fields)) fields
@@ -91,12 +91,12 @@ struct_opens g v s ty t args tys x n k h = asked_opens g v (pattern_count args) 
     same (truth b) = refl
     same (atom u z) = refl
 
-    each : (y : Value) → Here g s ty y → (ws : Values) → parts_seen (a_struct ty) g.meaning t y ≡ Some ws → AreHere g (from_to (struct_field s) 0 args) tys ws
+    each : (y : Value) → Here g s ty y → (ws : Values) → parts_seen (a_struct ty) g.meaning t y ≡ Some ws → AreHere g (fields_from (struct_field s) 0 (pattern_count args)) tys ws
     each (of_struct u fields) w ws e =
         let a = from_if (u == ty) (Some fields) ws e in
         let c = (and_parts (u == ty) (all_well_typed g.program.types (struct_types (slice_get g.program.types ty)) fields) w.typed).1 in
         let d : all_well_typed g.program.types (Some tys) fields ≡ true = subst (λ o. all_well_typed g.program.types o fields ≡ true) k c in
-        subst (AreHere g (from_to (struct_field s) 0 args) tys) (some_is fields ws a.1)
+        subst (AreHere g (fields_from (struct_field s) 0 (pattern_count args)) tys) (some_is fields ws a.1)
         (fields_here g (struct_field s) 0 args tys fields n d
         (λ l y q.
         ap (λ o. then_option o (field_of_struct (0 + l))) (has_value g s (of_struct u fields) w.content)
@@ -206,7 +206,7 @@ module _ (g : Given) (z : Visit) (h : IsAnswered g z.demands) (parts : HasTypedP
     call_opens pure false partial rec true q l =
         let made = making (call ∷ []) v in
         let o = outputs_opened call args made in
-        let k = then_grown made o.visit z (outputs_grown made made call args (now made)) l in
+        let k = then_grown made o.visit z (outputs_grown made made call args (grown_by_none made)) l in
         let c = h.extractors t s x (k.made call (in_right v.demands.made (call ∷ []) call (inl refl))) here.content in
         let f = fits_sure (record { pure = pure; multi = false; partial = partial; rec = rec }) c.answer q c.right in
         let w = put_out g call args e.arg_tys c.answer n f (call_content c.answer c.there) in
@@ -346,7 +346,7 @@ module _ (g : Given) (z : Visit) (h : IsAnswered g z.demands) (parts : HasTypedP
         subst (λ vs. After g vs e v (visit_pattern p (match_prim ty name) s v) (holds_under p g.meaning g.pick (match_prim ty name) s x e)) (some_is vars more (from_if (is_type (constant_type p name) ty) (Some vars) more f).1)
         (constant_after g vars e v s (is_prim name) ty x (constant_value g.meaning name) refl here b)
     pattern_after (match_term ty t args) s v vars more e x f here b l =
-        let a = from_term p ty t args vars more f in
+        let a = pattern_parts p ty t args vars more f in
         let o = open_term (kind p t) t s args v in
         let w = visit_each p args o.inputs o.visit in
         let k = each_grown p args o.inputs o.visit in

@@ -15,12 +15,12 @@ use Rattle.isle_model.specs.lists.Setting.{expr_type}
 use Rattle.isle_model.specs.lists.Formed.{pattern_type, formed_pattern, is_formed_expr, formed_list, formed_iflets, is_formed_rule}
 use Rattle.isle_model.proofs.Elements.{In, in_from_contains, in_either, some_is, none_some}
 use Rattle.isle_model.proofs.Options.{is_there, some_then}
-use Rattle.isle_laws_visits.proofs.Visited.{all_asked, asked_binds}
+use Rattle.isle_laws_visits.proofs.AskedSites.{all_asked, asked_binds}
 use Rattle.isle_laws_visits.proofs.Patterns.{from_then}
 use Rattle.isle_laws_matching.proofs.Contents.{Given, content_of, value_of, values_of, Here, IsAnswered, is_value}
 use Rattle.isle_laws_matching.proofs.Demanded.{AreMet, AskEnough, enough_before, met_all, meets_present, AreBound, bound_vars, Past, then_past, After}
 use Rattle.isle_laws_matching.proofs.Exprs.{expr_valued}
-use Rattle.isle_laws_visits.proofs.Grown.{Grown, then_grown, grown_all, expr_adds, pattern_grown, iflets_grown, args_grown, rule_adds}
+use Rattle.isle_laws_visits.proofs.GrowingVisits.{Grown, then_grown, grown_all, expr_adds, pattern_grown, iflets_grown, args_grown, rule_adds}
 use Rattle.isle_laws_visits.proofs.PatternParts.{from_part}
 use Rattle.isle_laws_matching.proofs.Patterns.{pattern_after}
 use Rattle.isle_laws_visits.proofs.SameExprs.{expr_keeps}

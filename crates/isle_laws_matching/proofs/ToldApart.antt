@@ -18,7 +18,7 @@ use Rattle.isle_laws_runs.proofs.picks.PlainMatching.{matches_as_plain_lem}
 use Rattle.isle_laws_closure.specs.BuiltLaws.{BuiltDemandsAreWhole}
 use Rattle.isle_laws_matching.specs.MatchLaws.{IsTried, BuiltRulesAreToldApart}
 use Rattle.isle_laws_closure.proofs.Closing.{FollowsSoFar, closed_follows}
-use Rattle.isle_laws_closure.proofs.built.Built.{was_built}
+use Rattle.isle_laws_closure.proofs.built.BuiltGates.{was_built}
 use Rattle.isle_laws_matching.proofs.BuiltMatches.{built_demands_hold_alike_lem, built_listed}
 use Rattle.isle_laws_closure.proofs.ConstrainedOnce.{StandOnce, closed_once, all_among}
 use Rattle.isle_laws_matching.proofs.Contents.{content_of}

@@ -8,9 +8,9 @@ use Rattle.isle_model.specs.rules.Program.{Program}
 use Rattle.isle_model.specs.rules.Typed.{TypedRule}
 use Rattle.isle_model.specs.rules.Picks.{field_of_variant, field_of_struct}
 use Rattle.isle_model.specs.trees.Run.{as_value, from_value}
-use Rattle.isle_model.specs.sites.Sites.{Constraint, is_variant, is_struct, is_bool, is_int, is_prim, is_present, SiteTerm, bool_term, int_term, prim_term, variant_field, struct_field}
+use Rattle.isle_model.specs.sites.Sites.{Constraint, is_variant, is_struct, is_bool, is_int, is_prim, is_present, SiteTerm, bool_term, int_term, prim_term, variant_field, struct_field, fields_from, field_terms}
 use Rattle.isle_model.specs.visits.Demands.{Demands, demands_of}
-use Rattle.isle_model.specs.sites.Closure.{fields_from, field_terms, Joined, given, itself, turned, chained, at_field, HasConstraint, IsPartOf, IsProperPart, directly, deeper, IsUnreachable, two_at_a_site, two_in_a_class, part_of_itself}
+use Rattle.isle_model.specs.sites.Closure.{Joined, given, itself, turned, chained, at_field, HasConstraint, IsPartOf, IsProperPart, directly, deeper, IsUnreachable, two_at_a_site, two_in_a_class, part_of_itself}
 use Rattle.isle_model.specs.sites.Serves.{asked_by, asked, constant_site, constant_type, typed_as, written_type, written_value, is_type_with_parts, tested_constants, is_own_type, is_open_constant, Serves, TellsConstantsApart}
 use Rattle.isle_model.proofs.Elements.{In, in_from_contains, contains_from_in, in_right, in_flat_map, slice_in, some_is, none_some}
 use Rattle.isle_model.proofs.Members.{get_within}
@@ -299,14 +299,14 @@ module _ (g : Given) (rs : List TypedRule) (r : TypedRule) (of : IsMetRule g rs 
   same_contents = joined_content g d met.equal
 
   -- a field that must be there is, and is smaller
-  record IsField (o : Option Content) (x : SiteTerm) : Type 0 where
+  record IsSmallerField (o : Option Content) (x : SiteTerm) : Type 0 where
     whole : Value
     there : o ≡ Some (one whole)
     part : Value
     field : content_of g x ≡ Some (one part)
     less : size part < size whole
 
-  field_there : (c : Constraint) (s x : SiteTerm) → HasParts (content_of g s) c → In (field_terms c s) x → IsField (content_of g s) x
+  field_there : (c : Constraint) (s x : SiteTerm) → HasParts (content_of g s) c → In (field_terms c s) x → IsSmallerField (content_of g s) x
   field_there (is_variant ty n fields) s x h i =
       let k = slice_in (field_terms (is_variant ty n fields) s) x i in
       let f = field_is (variant_field s n) 0 fields k.0 x k.1 in

@@ -1,8 +1,4 @@
--- Total meanings, and finite maps that serve.
-pub mod CallsMade
-pub mod Listed
-pub mod SameChoice
-pub mod SameContents
+-- Total meanings serve.
 pub mod Shaped
 pub mod ShapedSites
 pub mod Total

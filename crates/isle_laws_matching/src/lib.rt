@@ -1,4 +1,4 @@
-//! Laws of matching: rules match by what they demand, so built sets mean their rules, under finite meanings and total ones.
+//! Laws of matching: rules match by what they demand, so built sets mean their rules, under every meaning that serves them.
 //!
 //! A function here has no code, or calls the laws that its proof rests on: its clause is a law, and its proof stands in
 //! `proofs/`.
@@ -6,7 +6,7 @@
 
 ghost use Rattle.isle_laws_matching.specs.ShadowedLaws.{ShadowedRulesAreNeverChosen, ShadowedRulesCanBeTakenAway};
 ghost use Rattle.isle_laws_matching.specs.AnswerLaws.{BuiltSetsHaveNumbersInRange, BuiltSetsAreAnswered};
-ghost use Rattle.isle_laws_matching.specs.TotalLaws.{TotalMeaningsServe, AgreeingMapsTellApart, ChoiceIsOfFunctions, TotalMeaningsHaveOneOutcome};
+ghost use Rattle.isle_laws_matching.specs.TotalLaws.{RunsByFunctionsAsChosen, TotalMeaningsServe};
 ghost use Rattle.isle_laws_matching.specs.MatchLaws.{VisitsMatch, UnreachableRulesNeverMatch, ClosedDemandsHoldAlike, BuiltDemandsHoldAlike, BuiltSetsMatchByDemands, BuiltRulesAreToldApart, RulesWithoutMultiGoOverNoCalls, BuiltSetsHoldResults};
 ghost use Rattle.isle_laws_matching.specs.OutcomeLaws.{TakenRulesGiveTheirOutcome, TakenRulesGiveTheirOutcomeUnderPicks, BuiltSetsMeanTheirRules};
 ghost use Rattle.isle_laws_matching.specs.ServeLaws.{ServedSetsServeTests, ServedMultiSetsServe};
@@ -123,23 +123,13 @@ pub fn shadowed_rules_can_be_taken_away()
     shadowed_rules_are_never_chosen();
 }
 
-/// Every well-typed total meaning of what is called restricts to finite maps that serve the rules of a term.
+/// Every total meaning that is well typed for what the rules of a term use serves these rules.
 pub fn total_meanings_serve()
     ensures { TotalMeaningsServe }
 {}
 
-/// Maps that agree with total functions tell constants apart where the functions do.
-#[tactic(auto, using(crate::proofs::total::Total::agreeing_maps_tell_apart_lem))]
-pub fn agreeing_maps_tell_apart()
-    ensures { AgreeingMapsTellApart }
-{}
-
-/// What is chosen, and comes of it, is of the functions alone, whatever maps agree with them and serve.
-pub fn choice_is_of_functions()
-    ensures { ChoiceIsOfFunctions }
-{}
-
-/// By total functions a tree that chooses has one outcome, whatever finite maps restrict them.
-pub fn total_meanings_have_one_outcome()
-    ensures { TotalMeaningsHaveOneOutcome }
+/// In a term that isn't multi, by well-typed functions that tell constants apart, a tree that runs as chosen comes to the
+/// outcome of the matching source rule of greatest priority.
+pub fn runs_by_functions_as_chosen()
+    ensures { RunsByFunctionsAsChosen }
 {}

@@ -1,9 +1,7 @@
-pub mod ImpureCalls
-pub mod OneMeaning
+pub mod FiniteAndTotal
 pub mod PatternConstants
 pub mod ReadAgain
 pub mod RefusedAgain
 pub mod RulesAgain
 pub mod SetsServed
-pub mod TotalBags
 pub mod Uses

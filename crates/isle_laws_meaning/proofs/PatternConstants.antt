@@ -1,5 +1,5 @@
 -- The constants that demands ask of sites are those that patterns name.
-use Rattle.std.proofs.Common.{◌≡◌, ◌&&◌, ◌||◌, not, ℕ, suc, Bool, true, false, List, [], ◌∷◌, ◌++◌, Option, Some, slice_get, Contains, IsTrue, flat_map, refl, sym, ap, ◌∙◌, subst, inl, inr}
+use Rattle.std.proofs.Common.{◌≡◌, ◌&&◌, ◌||◌, not, ℕ, suc, Bool, true, false, List, [], ◌∷◌, ◌++◌, Some, slice_get, Contains, IsTrue, flat_map, refl, sym, ap, ◌∙◌, subst, inl, inr}
 use Rattle.std.proofs.lemmas.Bool.{and_from, false≢true, not-true}
 use Rattle.std.proofs.lemmas.List.Elements.{All-contains}
 use Rattle.isle_model.specs.lists.Formed.{is_type, formed_pattern, formed_parts, formed_each, formed_list, formed_iflets, is_formed_rule}
@@ -9,21 +9,20 @@ use Rattle.isle_model.specs.rules.Meaning.{bool_literal, int_literal, Meaning}
 use Rattle.isle_model.specs.rules.Program.{Program, Kind, a_variant, a_struct, a_call, unknown, kind, rules_of}
 use Rattle.isle_model.specs.rules.Typed.{TypedPattern, match_bind, match_var, match_bool, match_int, match_prim, match_term, match_any, match_and, TypedPatterns, no_typed_pattern, typed_pattern_and, TypedIfLet, TypedRule}
 use Rattle.isle_model.specs.sites.Sites.{Constraint, is_variant, is_struct, is_bool, is_int, is_prim, is_present, SiteTerm, bool_term, int_term, prim_term, argument, extractor_call, pick_of, some_part, variant_field, struct_field}
-use Rattle.isle_model.specs.visits.Demands.{site_term_eq, Visit, visit_start, making, asking, equating, binding, var_site, from_to, pattern_count, Opened, open_call, open_term, visit_pattern, visit_each, visit_all, visit_expr, unwraps, asking_all, visit_args, visit_iflets, demands_of, taking_argument}
+use Rattle.isle_model.specs.visits.Demands.{site_term_eq, Visit, visit_start, making, asking, equating, binding, var_site, pattern_count, Opened, open_call, open_term, visit_pattern, visit_each, visit_all, visit_expr, unwraps, asking_all, visit_args, visit_iflets, demands_of, taking_argument}
 use Rattle.isle_model.specs.sites.Serves.{constant_site, constant_type, written_type, written_value, tested_constants, is_open_constant, is_type_with_parts, TellsConstantsApart}
 use Rattle.isle_model.specs.claims.Environments.{program_of}
 use Rattle.isle_model.proofs.Either.{either}
 use Rattle.isle_model.proofs.Elements.{In, in_from_contains, contains_from_in, in_left, in_right, in_either, some_is, none_some, in_flat_map, from_flat_map}
 use Rattle.isle_laws_typing.proofs.FormedParts.{from_if, type_is}
-use Rattle.isle_laws_matching.specs.TotalLaws.{TotalMeaning, total_value, KeepsConstantsApart}
 use Rattle.isle_laws_typing.proofs.WellTypedRules.{elaborated_programs_are_well_typed_lem}
-use Rattle.isle_laws_visits.proofs.Patterns.{AsMany, term_known, as_many, output_count}
+use Rattle.isle_laws_visits.proofs.Patterns.{AsManySites, term_known, as_many_sites, output_count}
 use Rattle.isle_laws_visits.proofs.RuleParts.{iflet_parts, rule_parts}
-use Rattle.isle_laws_visits.proofs.Grown.{equated, Grown, each_grown, all_grown, args_grown, iflets_grown, expr_adds, rule_adds}
-use Rattle.isle_laws_visits.proofs.PatternParts.{from_term, from_part, from_bind}
+use Rattle.isle_laws_visits.proofs.GrowingVisits.{equated, Grown, each_grown, all_grown, args_grown, iflets_grown, expr_adds, rule_adds}
+use Rattle.isle_laws_visits.proofs.PatternParts.{pattern_parts, from_part, from_bind}
 use Rattle.isle_laws_closure.proofs.built.BuiltSets.{typed_rule}
 use Rattle.isle_laws_typing.specs.WellTypedPrograms.{IsWellTypedProgram}
-use Rattle.isle_laws_meaning.specs.PatternConstants.{PatternConstant, a_literal, a_name, pattern_constants, patterns_constants, rule_constants, rules_constants, type_of_constant, means_itself, AreToldApart, value_in, value_by, TellsPatternsApart, KeepsPatternsApart, LiteralsAreToldApart, ConstantsAreOfPatterns, FunctionsConstantsAreOfPatterns, HeadlineIsOfPatterns}
+use Rattle.isle_laws_meaning.specs.PatternConstants.{PatternConstant, a_literal, a_name, pattern_constants, patterns_constants, rule_constants, rules_constants, type_of_constant, means_itself, value_in, TellsPatternsApart, LiteralsAreToldApart, ConstantsAreOfPatterns, HeadlineIsOfPatterns}
 
 -- 1. each constant that demands ask for is named by a pattern
 -- the site of a constant
@@ -70,8 +69,8 @@ module _ (p : Program) (P : SiteTerm → Type 0) where
       (either (λ (o : Opened). AsksSuch o.visit) infallible _ _ h (asked_such c is_present (making (c ∷ (some_part c ∷ [])) v) none_such h))
 
   term_such : (k : Kind) (t : ℕ) (s : SiteTerm) (args : TypedPatterns) (v : Visit) → AsksSuch v → AsksSuch (open_term k t s args v).visit
-  term_such (a_variant ty i) t s args v h = asked_such s (is_variant ty i (pattern_count args)) (making (from_to (variant_field s i) 0 args) v) none_such h
-  term_such (a_struct ty) t s args v h = asked_such s (is_struct ty (pattern_count args)) (making (from_to (struct_field s) 0 args) v) none_such h
+  term_such (a_variant ty i) t s args v h = asked_such s (is_variant ty i (pattern_count args)) v none_such h
+  term_such (a_struct ty) t s args v h = asked_such s (is_struct ty (pattern_count args)) v none_such h
   term_such (a_call flags infallible) t s args v h = call_such flags infallible (extractor_call t s) args v h
   term_such unknown t s args v h = h
 
@@ -145,14 +144,14 @@ asked_later v w k g a = record { asked = a.asked; listed = g.asked a.asked a.lis
 asked_now : (s : SiteTerm) (c : Constraint) (v : Visit) (k : PatternConstant) → In (constant_site c) (site_of k) → IsAsked (asking s c v) k
 asked_now s c v k i = record { asked = (s, c); listed = in_right v.demands.constraints ((s, c) ∷ []) (s, c) (inl refl); constant = i }
 
-call_inputs : (flags : Flags) (infallible : Bool) (c : SiteTerm) (args : TypedPatterns) (v : Visit) → AsMany (open_call flags infallible c args v).inputs args
+call_inputs : (flags : Flags) (infallible : Bool) (c : SiteTerm) (args : TypedPatterns) (v : Visit) → AsManySites (open_call flags infallible c args v).inputs args
 call_inputs flags infallible c args v =
-    either (λ (o : Opened). AsMany o.inputs args) flags.multi _ _ (output_count (pick_of c) args)
-    (either (λ (o : Opened). AsMany o.inputs args) infallible _ _ (output_count c args) (output_count (some_part c) args))
+    either (λ (o : Opened). AsManySites o.inputs args) flags.multi _ _ (output_count (pick_of c) args)
+    (either (λ (o : Opened). AsManySites o.inputs args) infallible _ _ (output_count c args) (output_count (some_part c) args))
 
-term_inputs : (k : Kind) (t : ℕ) (s : SiteTerm) (args : TypedPatterns) (v : Visit) → (k ≡ unknown → ⊥) → AsMany (open_term k t s args v).inputs args
-term_inputs (a_variant ty i) t s args v known = as_many (variant_field s i) 0 args
-term_inputs (a_struct ty) t s args v known = as_many (struct_field s) 0 args
+term_inputs : (k : Kind) (t : ℕ) (s : SiteTerm) (args : TypedPatterns) (v : Visit) → (k ≡ unknown → ⊥) → AsManySites (open_term k t s args v).inputs args
+term_inputs (a_variant ty i) t s args v known = as_many_sites (variant_field s i) 0 args
+term_inputs (a_struct ty) t s args v known = as_many_sites (struct_field s) 0 args
 term_inputs (a_call flags infallible) t s args v known = call_inputs flags infallible (extractor_call t s) args v
 term_inputs unknown t s args v known = absurd (known refl)
 
@@ -189,13 +188,13 @@ module _ (p : Program) where
         one_met (asking s (is_prim name) v) (a_name name ty)
         (asked_now s (is_prim name) v (a_name name ty) (inl refl), type_is (constant_type p name) ty (from_if (is_type (constant_type p name) ty) (Some vars) more f).0)
     pattern_met (match_term ty t args) s v vars more f =
-        let a = from_term p ty t args vars more f in
+        let a = pattern_parts p ty t args vars more f in
         let o = open_term (kind p t) t s args v in
         each_met args o.inputs a.entry.arg_tys o.visit vars more a.formed (term_inputs (kind p t) t s args v (term_known p t a.entry a.there))
     pattern_met (match_any ty) s v vars more f = none_met v
     pattern_met (match_and ty subs) s v vars more f = all_met subs s ty v vars more f
 
-    each_met : (qs : TypedPatterns) (ss : List SiteTerm) (tys : List ℕ) (v : Visit) (vars more : List (ℕ × ℕ)) → formed_parts p qs tys vars ≡ Some more → AsMany ss qs → AreMet p (visit_each p qs ss v) (patterns_constants qs)
+    each_met : (qs : TypedPatterns) (ss : List SiteTerm) (tys : List ℕ) (v : Visit) (vars more : List (ℕ × ℕ)) → formed_parts p qs tys vars ≡ Some more → AsManySites ss qs → AreMet p (visit_each p qs ss v) (patterns_constants qs)
     each_met no_typed_pattern ss tys v vars more f n = none_met v
     each_met (typed_pattern_and q qs) [] tys v vars more f n = absurd n
     each_met (typed_pattern_and q qs) (s ∷ ss) [] v vars more f n = absurd (none_some more f)
@@ -281,15 +280,6 @@ value_there m (a_literal (bool_literal b ty)) = refl
 value_there m (a_literal (int_literal z ty)) = refl
 value_there m (a_name name ty) = refl
 
-total_there : (f : TotalMeaning) (k : PatternConstant) → total_value f (site_of k) ≡ value_by f k
-total_there f (a_literal (bool_literal b ty)) = refl
-total_there f (a_literal (int_literal z ty)) = refl
-total_there f (a_name name ty) = refl
-
-total_some : (f : TotalMeaning) (k : PatternConstant) → (v : Value) × (value_by f k ≡ Some v)
-total_some f (a_literal l) = (f.literals l, refl)
-total_some f (a_name name ty) = (f.constants name, refl)
-
 -- a site of a named constant
 of_name : (k : PatternConstant) (name : ℕ) → site_of k ≡ prim_term name → k ≡ a_name name (type_of_constant k)
 of_name (a_literal (bool_literal b ty)) name e = absurd (cc)
@@ -360,17 +350,17 @@ module _ (p : Program) (rs : List TypedRule) (formed : (r : TypedRule) → In rs
   are_open : (a b : PatternConstant) → (means_itself p a && means_itself p b) ≡ false → (is_open_constant p (site_of a) || is_open_constant p (site_of b)) ≡ true
   are_open a b h = ap (λ x. x || is_open_constant p (site_of b)) (open_or_itself p a) ∙ ap (λ x. not (means_itself p a) || x) (open_or_itself p b) ∙ not_both (means_itself p a) (means_itself p b) h
 
-  -- from patterns to sites, for whatever values of constants
-  same_site : {value : PatternConstant → Option Value} → AreToldApart p value rs → (a b : SiteTerm) (ty : ℕ) (x : IsTested a) (y : IsTested b) → (is_open_constant p a || is_open_constant p b) ≡ true → written_type p a ≡ Some ty → written_type p b ≡ Some ty
-      → (v : Value) → value x.constant ≡ Some v → value y.constant ≡ Some v → a ≡ b
-  same_site h a b ty x y o s t v g k =
+  -- from patterns to sites
+  same_site : (m : Meaning) → TellsPatternsApart p m rs → (a b : SiteTerm) (ty : ℕ) (x : IsTested a) (y : IsTested b) → (is_open_constant p a || is_open_constant p b) ≡ true → written_type p a ≡ Some ty → written_type p b ≡ Some ty
+      → (v : Value) → value_in m x.constant ≡ Some v → value_in m y.constant ≡ Some v → a ≡ b
+  same_site m h a b ty x y o s t v g k =
       let opened = ap (λ u. is_open_constant p u || is_open_constant p (site_of y.constant)) x.site ∙ ap (λ u. is_open_constant p a || is_open_constant p u) y.site ∙ o in
       let one = some_is (type_of_constant x.constant) ty (sym x.typed ∙ s) in
       let two = some_is (type_of_constant y.constant) ty (sym y.typed ∙ t) in
       sym x.site ∙ ap site_of (h.different x.constant y.constant v x.named y.named (one ∙ sym two) (one_is_open x.constant y.constant opened) g k) ∙ y.site
 
-  no_parts : {value : PatternConstant → Option Value} → AreToldApart p value rs → (r : TypedRule) (s : SiteTerm) (name ty : ℕ) → Contains rs r → Contains (demands_of p r).constraints (s, is_prim name) → constant_type p name ≡ Some ty → is_type_with_parts (slice_get p.types ty) ≡ false
-  no_parts h r s name ty c i t =
+  no_parts : (m : Meaning) → TellsPatternsApart p m rs → (r : TypedRule) (s : SiteTerm) (name ty : ℕ) → Contains rs r → Contains (demands_of p r).constraints (s, is_prim name) → constant_type p name ≡ Some ty → is_type_with_parts (slice_get p.types ty) ≡ false
+  no_parts m h r s name ty c i t =
       let x = of_rule r (in_from_contains rs r c) (s, is_prim name) (in_from_contains (demands_of p r).constraints (s, is_prim name) i) (prim_term name) (inl refl) in
       let one = some_is (type_of_constant x.constant) ty (sym x.typed ∙ t) in
       h.without_parts name ty (subst (Contains (rules_constants rs)) (of_name x.constant name x.site ∙ ap (a_name name) one) x.named)
@@ -391,8 +381,8 @@ module _ (p : Program) (rs : List TypedRule) (formed : (r : TypedRule) → In rs
     different = λ a b ty v i j o s t g k.
         (let x = tested a i in
         let y = tested b j in
-        same_site h a b ty x y o s t v (sym (value_there m x.constant) ∙ ap (written_value m) x.site ∙ g) (sym (value_there m y.constant) ∙ ap (written_value m) y.site ∙ k));
-    without_parts = no_parts h;
+        same_site m h a b ty x y o s t v (sym (value_there m x.constant) ∙ ap (written_value m) x.site ∙ g) (sym (value_there m y.constant) ∙ ap (written_value m) y.site ∙ k));
+    without_parts = no_parts m h;
   }
 
   told : (m : Meaning) → TellsConstantsApart p m rs → TellsPatternsApart p m rs
@@ -401,27 +391,6 @@ module _ (p : Program) (rs : List TypedRule) (formed : (r : TypedRule) → In rs
         one_constant a b
         (h.different (site_of a) (site_of b) (type_of_constant a) v (is_tested a i) (is_tested b j) (are_open a b o)
         (named_by a i).demanded.typed ((named_by b j).demanded.typed ∙ ap Some (sym same)) (value_there m a ∙ g) (value_there m b ∙ k))
-        same;
-    without_parts = parts_back h.without_parts;
-  }
-
-  keeps : (f : TotalMeaning) → KeepsPatternsApart p f rs → KeepsConstantsApart p f rs
-  keeps f h = record {
-    different = λ a b ty i j o s t g.
-        (let x = tested a i in
-        let y = tested b j in
-        let v = total_some f x.constant in
-        same_site h a b ty x y o s t v.0 v.1
-        (sym (total_there f y.constant) ∙ ap (total_value f) y.site ∙ sym g ∙ sym (ap (total_value f) x.site) ∙ total_there f x.constant ∙ v.1));
-    without_parts = no_parts h;
-  }
-
-  kept : (f : TotalMeaning) → KeepsConstantsApart p f rs → KeepsPatternsApart p f rs
-  kept f h = record {
-    different = λ a b v i j same o g k.
-        one_constant a b
-        (h.different (site_of a) (site_of b) (type_of_constant a) (is_tested a i) (is_tested b j) (are_open a b o)
-        (named_by a i).demanded.typed ((named_by b j).demanded.typed ∙ ap Some (sym same)) (total_there f a ∙ g ∙ sym k ∙ sym (total_there f b)))
         same;
     without_parts = parts_back h.without_parts;
   }
@@ -439,12 +408,6 @@ constants_are_of_patterns_lem e defs expand rules t m h =
     let formed = all_formed p t (elaborated_programs_are_well_typed_lem e defs expand rules h) in
     (tells p (rules_of p t) formed m, told p (rules_of p t) formed m)
 
-pub functions_constants_are_of_patterns_lem : FunctionsConstantsAreOfPatterns
-functions_constants_are_of_patterns_lem e defs expand rules t f h =
-    let p = program_of e defs rules.rules in
-    let formed = all_formed p t (elaborated_programs_are_well_typed_lem e defs expand rules h) in
-    (keeps p (rules_of p t) formed f, kept p (rules_of p t) formed f)
-
 pub headline_is_of_patterns_lem : HeadlineIsOfPatterns
 headline_is_of_patterns_lem e defs expand rules t sites tree h =
     let p = program_of e defs rules.rules in
@@ -456,7 +419,7 @@ headline_is_of_patterns_lem e defs expand rules t sites tree h =
 
 -- 5. literals that mean what they write
 pub literals_are_told_apart_lem : LiteralsAreToldApart
-literals_are_told_apart_lem p value rs all =
+literals_are_told_apart_lem p m rs all =
     let itself : (c : PatternConstant) → Contains (rules_constants rs) c → means_itself p c ≡ true = λ c i. All-contains (λ k. IsTrue (means_itself p k)) (rules_constants rs) c all i in
     record {
       different = λ a b v i j same o g k. absurd (false≢true (sym o ∙ and_from (means_itself p a) (means_itself p b) (itself a i) (itself b j)));

@@ -21,9 +21,9 @@ use Rattle.isle_laws_matching.specs.MatchLaws.{RulesWithoutMultiGoOverNoCalls}
 use Rattle.isle_laws_matching.specs.OutcomeLaws.{BuiltSetsMeanTheirRules}
 use Rattle.isle_laws_matching.specs.ServeLaws.{ServedSetsServeTests, ServedMultiSetsServe}
 use Rattle.isle_laws_closure.specs.GateLaws.{MultiTermsHaveOnePriority}
-use Rattle.isle_laws_closure.proofs.built.Built.{one_rule}
+use Rattle.isle_laws_closure.proofs.built.BuiltGates.{one_rule}
 use Rattle.isle_laws_matching.proofs.BuiltMatches.{built_listed}
-use Rattle.isle_laws_closure.proofs.built.Once.{sites_stand_once_lem}
+use Rattle.isle_laws_closure.proofs.built.SitesOnce.{sites_stand_once_lem}
 use Rattle.isle_laws_trees.specs.TreeMeanings.{BestTreesMeanTheirSets}
 use Rattle.isle_laws_trees.proofs.headline.NoCalls.{set_goes_over_none}
 use Rattle.isle_laws_trees.proofs.headline.Places.{Pair, of_set_rule}

@@ -1,6 +1,5 @@
-pub mod OneMeaning
+pub mod FiniteAndTotal
 pub mod PatternConstants
 pub mod ReadAgain
 pub mod SetsServed
-pub mod TotalBags
 pub mod Uses

@@ -16,7 +16,6 @@ use Rattle.isle_model.specs.trees.Run.{run, world_of}
 use Rattle.isle_model.specs.trees.Trees.{Tree}
 use Rattle.isle_model.specs.claims.Environments.{TypesRead, IsElaborated, program_of}
 use Rattle.isle_model.specs.claims.Headline.{RunsAsChosen}
-use Rattle.isle_laws_matching.specs.TotalLaws.{TotalMeaning, KeepsConstantsApart}
 
 -- a constant that a pattern names: a literal, with its type, or a named constant, with its type
 pub data PatternConstant : Type 0 where
@@ -59,28 +58,17 @@ means_itself p (a_literal (bool_literal b ty)) = true
 means_itself p (a_literal (int_literal z ty)) = is_own_type (slice_get p.types ty)
 means_itself p (a_name name ty) = false
 
--- different constants of one type that the patterns of these rules name have different values, unless both mean what they
--- write, and no pattern names a constant of an enum or of a struct
-pub record AreToldApart (p : Program) (value : PatternConstant → Option Value) (rs : List TypedRule) : Type 0 where
-  pub different : (a b : PatternConstant) (v : Value) → Contains (rules_constants rs) a → Contains (rules_constants rs) b
-      → type_of_constant a ≡ type_of_constant b → (means_itself p a && means_itself p b) ≡ false → value a ≡ Some v → value b ≡ Some v → a ≡ b
-  pub without_parts : (name ty : ℕ) → Contains (rules_constants rs) (a_name name ty) → is_type_with_parts (slice_get p.types ty) ≡ false
-
--- the value of a constant, in a meaning by finite maps, and in one by total functions
+-- the value of a constant
 abbrev pub value_in : Meaning → PatternConstant → Option Value
 value_in m (a_literal l) = literal_value m l
 value_in m (a_name name ty) = constant_value m name
 
-abbrev pub value_by : TotalMeaning → PatternConstant → Option Value
-value_by f (a_literal l) = Some (f.literals l)
-value_by f (a_name name ty) = Some (f.constants name)
-
--- a meaning tells apart the constants that patterns name
-abbrev pub TellsPatternsApart : Program → Meaning → List TypedRule → Type 0
-TellsPatternsApart p m rs = AreToldApart p (value_in m) rs
-
-abbrev pub KeepsPatternsApart : Program → TotalMeaning → List TypedRule → Type 0
-KeepsPatternsApart p f rs = AreToldApart p (value_by f) rs
+-- different constants of one type that the patterns of these rules name have different values, unless both mean what they
+-- write, and no pattern names a constant of an enum or of a struct
+pub record TellsPatternsApart (p : Program) (m : Meaning) (rs : List TypedRule) : Type 0 where
+  pub different : (a b : PatternConstant) (v : Value) → Contains (rules_constants rs) a → Contains (rules_constants rs) b
+      → type_of_constant a ≡ type_of_constant b → (means_itself p a && means_itself p b) ≡ false → value_in m a ≡ Some v → value_in m b ≡ Some v → a ≡ b
+  pub without_parts : (name ty : ℕ) → Contains (rules_constants rs) (a_name name ty) → is_type_with_parts (slice_get p.types ty) ≡ false
 
 -- of the rules of a term that elaborate, this is the headline's premise on constants, which speaks of sites and demands
 abbrev pub ConstantsAreOfPatterns : Type 0
@@ -89,16 +77,9 @@ ConstantsAreOfPatterns =
     → TellsPatternsApart (program_of e defs rules.rules) m (rules_of (program_of e defs rules.rules) t)
     ↔ TellsConstantsApart (program_of e defs rules.rules) m (rules_of (program_of e defs rules.rules) t)
 
--- and of total functions
-abbrev pub FunctionsConstantsAreOfPatterns : Type 0
-FunctionsConstantsAreOfPatterns =
-    (e : TypesRead) (defs : List Definition) (expand : Bool) (rules : TypedRules) (t : ℕ) (f : TotalMeaning) → IsElaborated e defs expand rules
-    → KeepsPatternsApart (program_of e defs rules.rules) f (rules_of (program_of e defs rules.rules) t)
-    ↔ KeepsConstantsApart (program_of e defs rules.rules) f (rules_of (program_of e defs rules.rules) t)
-
 -- where patterns name no constants but literals that mean what they write, every meaning tells them apart
 abbrev pub LiteralsAreToldApart : Type 0
-LiteralsAreToldApart = (p : Program) (value : PatternConstant → Option Value) (rs : List TypedRule) → All (λ c. IsTrue (means_itself p c)) (rules_constants rs) → AreToldApart p value rs
+LiteralsAreToldApart = (p : Program) (m : Meaning) (rs : List TypedRule) → All (λ c. IsTrue (means_itself p c)) (rules_constants rs) → TellsPatternsApart p m rs
 
 -- what holds on all well-typed arguments, under every meaning that serves a term's rules and tells the constants of their
 -- patterns apart

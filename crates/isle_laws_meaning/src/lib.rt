@@ -4,11 +4,10 @@
 //! `proofs/`.
 #![tactic(auto)]
 
-ghost use Rattle.isle_laws_meaning.specs.OneMeaning.{LoweredTermsHaveOneMeaning};
-ghost use Rattle.isle_laws_meaning.specs.PatternConstants.{ConstantsAreOfPatterns, FunctionsConstantsAreOfPatterns, HeadlineIsOfPatterns, LiteralsAreToldApart};
+ghost use Rattle.isle_laws_meaning.specs.FiniteAndTotal.{HeadlineIsOfMaps, LoweredTermsRunByFunctions};
+ghost use Rattle.isle_laws_meaning.specs.PatternConstants.{ConstantsAreOfPatterns, HeadlineIsOfPatterns, LiteralsAreToldApart};
 ghost use Rattle.isle_laws_meaning.specs.ReadAgain.{RefusedEnvironmentsCanBeReadAgain, RulesAreRefusedAgain, RulesAreTypedAgain};
 ghost use Rattle.isle_laws_meaning.specs.SetsServed.{LoweredSetsMeanTheirRules};
-ghost use Rattle.isle_laws_meaning.specs.TotalBags.{BagIsOfFunctions, TotalMeaningsHaveOneBag};
 ghost use Rattle.isle_laws_meaning.specs.Uses.{BytesAreToldApart};
 
 use isle_laws_closure::{
@@ -23,11 +22,6 @@ use isle_laws_trees::best_trees_mean_their_sets;
 /// The headline's premise on constants is one on the constants that a walk over typed patterns meets.
 pub fn constants_are_of_patterns()
     ensures { ConstantsAreOfPatterns }
-{}
-
-/// So is that on total functions.
-pub fn functions_constants_are_of_patterns()
-    ensures { FunctionsConstantsAreOfPatterns }
 {}
 
 /// So whatever tree has the headline, or collects the bag of a multi term, has it by this premise.
@@ -60,25 +54,17 @@ pub fn lowered_sets_mean_their_rules()
     built_sets_mean_their_rules();
 }
 
-/// The bag of rules that make no impure call is of total functions alone: whatever maps agree with them and serve, it is one list.
-pub fn bag_is_of_functions()
-    ensures { BagIsOfFunctions }
+/// Whatever tree has the headline, or collects the bag of a multi term, has it under all finite maps that serve: these are
+/// meanings.
+pub fn headline_is_of_maps()
+    ensures { HeadlineIsOfMaps }
 {}
 
-/// So by total functions a multi term has one bag, and a tree that collects the bag collects this one, whatever finite maps
-/// restrict them.
-pub fn total_meanings_have_one_bag()
-    ensures { TotalMeaningsHaveOneBag }
+/// By total functions that are well typed for what its rules use, and tell the constants of their patterns apart, the tree of
+/// each term of accepted definitions runs to the choice by priority, or collects the bag of the rules.
+pub fn lowered_terms_run_by_functions()
+    ensures { LoweredTermsRunByFunctions }
 {}
-
-/// Each term of accepted definitions has one meaning by total functions that are well typed and tell the constants of its
-/// patterns apart: whatever finite maps restrict them, its tree's run comes to one outcome, that of the choice by priority, or
-/// collects one bag, that of the rules.
-pub fn lowered_terms_have_one_meaning()
-    ensures { LoweredTermsHaveOneMeaning }
-{
-    rules_without_multi_go_over_no_calls();
-}
 
 /// What a refusal to read terms or rules leaves of a type environment can be read again: terms are valid by it exactly where
 /// they were, and the same errors refuse them.

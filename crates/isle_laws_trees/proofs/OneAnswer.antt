@@ -1,7 +1,7 @@
 -- Lowering gives one answer: of the same definitions, the same environments, typed rules, sets and trees; or the same errors.
 use Rattle.std.proofs.Common.{◌≡◌, ℕ, suc, Bool, List, [], ◌∷◌, map, length, Option, refl, sym, ap, ◌∙◌, subst, inl, inr, arith}
 use Rattle.std.proofs.lemmas.Option.{same_Some}
-use Rattle.isle_laws_closure.proofs.built.Sets.{in_from_all}
+use Rattle.isle_laws_closure.proofs.built.WellBuiltSets.{in_from_all}
 use Rattle.isle_model.specs.lists.Syntax.{Definition}
 use Rattle.isle_model.specs.lists.Names.{AreNumbersOf, IsDistinct}
 use Rattle.isle_model.specs.lists.TermTable.{term_names_met}
@@ -14,9 +14,9 @@ use Rattle.isle_model.specs.claims.Environments.{types_read, TypesRead, TypeEnvi
 use Rattle.isle_model.specs.claims.Refusals.{Refusal}
 use Rattle.isle_model.specs.claims.Layers.{own_program, IsCheckable, LoweredTerm, IsLoweredTerm, AreLowered, RefusedBy, by_types, by_rules, by_check}
 use Rattle.isle_model.proofs.Elements.{In}
-use Rattle.isle_laws_closure.proofs.built.Once.{sites_stand_once_lem}
+use Rattle.isle_laws_closure.proofs.built.SitesOnce.{sites_stand_once_lem}
 use Rattle.isle_laws_closure.specs.ShadowLaws.{check_errors}
-use Rattle.isle_laws_closure.proofs.overlaps.Shadowed.{check_errors_are_answered_lem}
+use Rattle.isle_laws_closure.proofs.overlaps.MaskErrors.{check_errors_are_answered_lem}
 use Rattle.isle_laws_trees.specs.OneAnswer.{EachTwo, BecameSame, SameTermsShowSame, ReadingGivesOne, SerializingGivesOne, BuildingGivesOne, LoweringGivesOne, NoneIsAcceptedAndRefused, RefusingGivesOne}
 use Rattle.isle_laws_trees.proofs.OneTree.{best_trees_are_one_lem}
 use Rattle.isle_laws_trees.proofs.SameSets.{options_one, head_or, rest_of, built_sets_show_same_lem}

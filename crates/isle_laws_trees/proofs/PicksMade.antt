@@ -5,10 +5,10 @@ use Rattle.std.proofs.lemmas.Option.{same_Some, slice_get_within}
 use Rattle.isle_model.specs.lists.Tables.{Flags}
 use Rattle.isle_model.specs.rules.Program.{Program, Kind, a_variant, a_struct, a_call, unknown, kind, flags_of, rules_of}
 use Rattle.isle_model.specs.rules.Typed.{TypedPatterns, TypedRule}
-use Rattle.isle_model.specs.sites.Sites.{Site, bool_site, int_site, prim_site, argument_site, extractor_site, constructor_site, iterator_site, make_variant_site, match_variant_site, make_struct_site, extract_struct_site, make_some_site, match_some_site, match_tuple_site, is_present, SetRule, SiteSet, sources_of, SiteTerm, extractor_call, constructor_call, pick_of, variant_made, struct_made, some_part, SiteTerms, layer_at, unfold_site}
+use Rattle.isle_model.specs.sites.Sites.{Site, bool_site, int_site, prim_site, argument_site, extractor_site, constructor_site, iterator_site, make_variant_site, match_variant_site, make_struct_site, extract_struct_site, make_some_site, match_some_site, match_tuple_site, is_present, SetRule, SiteSet, sources_of, SiteTerm, extractor_call, constructor_call, pick_of, variant_made, struct_made, some_part, SiteTerms, layer_at, unfold_site, field_terms}
 use Rattle.isle_model.specs.visits.Demands.{pattern_count, outputs_taken, counting, demands_of, Visit, making, asking, iterating, calling, equating, site_term_eq, has_site, with_sites, part_sites, open_call, open_term, ValuedAll, valued, call_sites, call_result, where_multi, visit_call, visit_term, visit_rule, outputs_opened}
 use Rattle.isle_model.specs.sites.DemandedGates.{HasNoPartialMulti}
-use Rattle.isle_model.specs.sites.Closure.{Closed, closed, before_closing, most_closing_steps, ascending, class_at, field_terms}
+use Rattle.isle_model.specs.sites.Closure.{Closed, closed, before_closing, most_closing_steps, ascending, class_at}
 use Rattle.isle_model.specs.sites.Limits.{RuleLimit, most_sites, passed_in_visit, sites_after_rule, sites_after_rules, sites_reached, sites_until}
 use Rattle.isle_model.specs.sites.Closure.{is_unreachable}
 use Rattle.isle_model.specs.sites.Overlap.{BuiltRule, is_built, built_rule, built_from, built_rules}
@@ -18,10 +18,10 @@ use Rattle.isle_model.proofs.Elements.{In, in_from_contains, in_left, in_right, 
 use Rattle.isle_model.proofs.Positions.{get_front}
 use Rattle.isle_laws_closure.proofs.Classes.{in_with_sites}
 use Rattle.isle_laws_closure.proofs.Closing.{closing_keeps}
-use Rattle.isle_laws_closure.proofs.WholeVisits.{reached_closed, few_made}
-use Rattle.isle_laws_closure.proofs.built.Built.{rule_at}
+use Rattle.isle_laws_closure.proofs.BuiltWithinLimits.{reached_closed, few_made}
+use Rattle.isle_laws_closure.proofs.built.BuiltGates.{rule_at}
 use Rattle.isle_laws_typing.proofs.WellTypedRules.{elaborated_programs_are_well_typed_lem}
-use Rattle.isle_laws_closure.proofs.built.Once.{one_number}
+use Rattle.isle_laws_closure.proofs.built.SitesOnce.{one_number}
 use Rattle.isle_laws_closure.proofs.built.Unfolding.{unfolds}
 use Rattle.isle_laws_visits.proofs.Kept.{rule_kept}
 

@@ -14,7 +14,7 @@ use Rattle.isle_model.specs.trees.Places.{is_in, joins_in, constraint_at}
 use Rattle.isle_model.proofs.Elements.{In, contains_from_in}
 use Rattle.isle_model.proofs.Members.{get_within, in_head, in_tail, member_found, member_is_in, constraint_in}
 use Rattle.isle_model.proofs.SameSites.{term_means, same_term}
-use Rattle.isle_laws_closure.proofs.built.Once.{once_of_term, one_number}
+use Rattle.isle_laws_closure.proofs.built.SitesOnce.{once_of_term, one_number}
 use Rattle.isle_laws_closure.proofs.built.Unfolding.{unfolds}
 use Rattle.isle_laws_trees.specs.OneAnswer.{EachTwo, ShowSame, BuiltSetsShowSame}
 use Rattle.isle_laws_runs.proofs.runs.Contents.{StandApart}

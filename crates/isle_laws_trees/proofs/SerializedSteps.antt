@@ -13,7 +13,7 @@ use Rattle.isle_model.specs.trees.Best.{BestSteps}
 use Rattle.isle_model.specs.claims.Layers.{IsBuiltForSome, IsSerialized}
 use Rattle.isle_model.proofs.Members.{from_up_to}
 use Rattle.isle_model.proofs.Elements.{contains_from_in}
-use Rattle.isle_laws_closure.proofs.built.Sets.{all_from_in}
+use Rattle.isle_laws_closure.proofs.built.WellBuiltSets.{all_from_in}
 use Rattle.isle_laws_trees.specs.TreeMeanings.{BestTreesMeanTheirSets}
 use Rattle.isle_laws_trees.proofs.StepCounts.{steps_make_best_trees_lem}
 

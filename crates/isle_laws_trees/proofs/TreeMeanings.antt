@@ -18,8 +18,8 @@ use Rattle.isle_model.proofs.Members.{in_cases, nothing_in, member_from_get, get
 use Rattle.isle_laws_runs.proofs.runs.Choice.{sound_trees_choose_lem}
 use Rattle.isle_laws_runs.proofs.runs.Collection.{sound_trees_collect_lem}
 use Rattle.isle_laws_runs.proofs.runs.HoldsOnce.{rules_hold_once_lem}
-use Rattle.isle_laws_closure.proofs.built.Built.{rule_at}
-use Rattle.isle_laws_closure.proofs.built.Apart.{no_rule_asks_and_goes_over_lem}
+use Rattle.isle_laws_closure.proofs.built.BuiltGates.{rule_at}
+use Rattle.isle_laws_closure.proofs.built.MultiCalls.{no_rule_asks_and_goes_over_lem}
 use Rattle.isle_laws_trees.specs.BuiltLaws.{BestTreesOfBuiltSetsAreSound}
 use Rattle.isle_laws_typing.proofs.WellTypedRules.{elaborated_programs_are_well_typed_lem}
 use Rattle.isle_laws_trees.specs.TreeMeanings.{BestTreesMeanTheirSets}

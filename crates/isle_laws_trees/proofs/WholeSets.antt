@@ -12,9 +12,9 @@ use Rattle.isle_model.specs.claims.Layers.{own_program}
 use Rattle.isle_model.proofs.Elements.{contains_from_in, in_slice}
 use Rattle.isle_laws_typing.proofs.WellTypedRules.{read_programs_are_well_typed}
 use Rattle.isle_laws_closure.specs.BuiltLaws.{BuiltDemandsAreWhole}
-use Rattle.isle_laws_closure.proofs.built.Built.{stands_for}
+use Rattle.isle_laws_closure.proofs.built.BuiltGates.{stands_for}
 use Rattle.isle_laws_closure.proofs.built.BuiltSets.{BuiltSet, RuleOfSet}
-use Rattle.isle_laws_closure.proofs.built.Once.{one_number}
+use Rattle.isle_laws_closure.proofs.built.SitesOnce.{one_number}
 use Rattle.isle_laws_trees.proofs.headline.Places.{Pair, of_set_rule, of_typed_rule, typed_here}
 use Rattle.isle_laws_trees.specs.WholeDemands.{AsksAt, JoinsAt, AsksWhatFollows, AcceptedSetsAreWhole}
 

@@ -94,8 +94,8 @@ pub fn formed_rules_can_be_visited()
     ensures { FormedRulesCanBeVisited }
 {}
 
-/// Rules that elaborate make a well-typed program: its types stand at their ids, and its rules hang together and call what
-/// their terms' flags allow.
+/// Rules that elaborate make a well-typed program: its types stand at their ids, and its rules hang together, call what
+/// their terms' flags allow, and have no priority of their own where their terms are multi.
 pub fn elaborated_programs_are_well_typed()
     ensures { ElaboratedProgramsAreWellTyped }
 {}

@@ -5,7 +5,8 @@ use Rattle.isle_model.specs.rules.Program.{Program, Kind, a_call, kind}
 use Rattle.isle_model.specs.sites.Sites.{Constraint, is_present, SiteTerm, extractor_call, constructor_call, some_part, SiteTerms}
 use Rattle.isle_model.specs.visits.Demands.{Demands, Visit, asking, equating, unwraps, unwraps_all, asking_all}
 use Rattle.isle_model.proofs.Elements.{In, in_from_contains, in_either}
-use Rattle.isle_laws_visits.proofs.WithSites.{IsLeaf, by_leaf, by_field, by_equating, Onward, AtEach, KeptWithSites, unwrapped_at_each}
+use Rattle.isle_laws_visits.proofs.Patterns.{by_field}
+use Rattle.isle_laws_visits.proofs.WithSites.{IsLeaf, by_leaf, by_equating, Onward, AtEach, KeptWithSites, unwrapped_at_each}
 use Rattle.isle_laws_visits.specs.Followers.{AsksNothingElse}
 
 -- whether a call of a term of this kind may answer nothing, in a pattern and in an expression

@@ -12,9 +12,9 @@ use Rattle.isle_laws_visits.proofs.VisitedRules.{visits_make_lem}
 use Rattle.isle_laws_visits.proofs.PatternParts.{AsMany}
 use Rattle.isle_laws_visits.proofs.Patterns.{term_known}
 use Rattle.isle_laws_visits.proofs.RuleParts.{rule_parts}
-use Rattle.isle_laws_visits.proofs.Visited.{equated}
+use Rattle.isle_laws_visits.proofs.AskedSites.{equated}
 use Rattle.isle_laws_visits.proofs.WithSites.{by_equating}
-use Rattle.isle_laws_visits.proofs.WithTypes.{Facts, AtEach, IsGiven, KeptWithTypes, all_fields_each, outputs_each, rule_kept}
+use Rattle.isle_laws_visits.proofs.WithTypes.{Facts, AtEachTyped, IsGiven, KeptWithTypes, all_fields_each, outputs_each, rule_kept_typed}
 
 abbrev IsSite : SiteTerm → Type 0
 IsSite u = u ≡ no_site → ⊥
@@ -39,11 +39,11 @@ after_asking_all [] v h = h
 after_asking_all (s ∷ ss) v h = after_asking_all ss (asking s is_present v) h
 
 -- 1. patterns
-outputs_are_sites : (s : SiteTerm) (args : TypedPatterns) (tys : List ℕ) → AsMany args tys → IsSite s → AtEach sites (output_sites s args) tys
+outputs_are_sites : (s : SiteTerm) (args : TypedPatterns) (tys : List ℕ) → AsMany args tys → IsSite s → AtEachTyped sites (output_sites s args) tys
 outputs_are_sites s args tys n m = outputs_each sites s args tys n (λ ty e. m) (λ a b rest e j ty g. λ q. cc)
 
 call_opens : (pure multi partial rec infallible : Bool) (call : SiteTerm) (args : TypedPatterns) (tys : List ℕ) (v : Visit) → AsMany args tys → IsSite call
-    → AtEach sites (open_call (record { pure = pure; multi = multi; partial = partial; rec = rec }) infallible call args v).inputs tys
+    → AtEachTyped sites (open_call (record { pure = pure; multi = multi; partial = partial; rec = rec }) infallible call args v).inputs tys
 call_opens pure true partial rec infallible call args tys v n m = outputs_are_sites (pick_of call) args tys n (λ e. cc)
 call_opens pure false partial rec true call args tys v n m = outputs_are_sites call args tys n m
 call_opens pure false partial rec false call args tys v n m = outputs_are_sites (some_part call) args tys n (λ e. cc)
@@ -54,7 +54,7 @@ call_equates pure false partial rec true call args v h = h
 call_equates pure false partial rec false call args v h = h
 
 term_opens : (k : Kind) (t : ℕ) (s : SiteTerm) (args : TypedPatterns) (tys : List ℕ) (v : Visit) → (k ≡ unknown → ⊥) → AsMany args tys → EqualsSites v.demands
-    → EqualsSites (open_term k t s args v).visit.demands × AtEach sites (open_term k t s args v).inputs tys
+    → EqualsSites (open_term k t s args v).visit.demands × AtEachTyped sites (open_term k t s args v).inputs tys
 term_opens (a_variant ty variant) t s args tys v known n h = (h, all_fields_each sites (variant_field s variant) args tys n (λ j u e. λ q. cc))
 term_opens (a_struct ty) t s args tys v known n h = (h, all_fields_each sites (struct_field s) args tys n (λ j u e. λ q. cc))
 term_opens (a_call flags infallible) t s args tys v known n h =
@@ -89,11 +89,11 @@ sites_kept p = record {
   equates = λ a b ty v m n h. by_equating (λ w. EqualsSites w.demands) a b v h (after_equated a b v m n h);
   asks_bool = λ s b ty v e h. h;
   asks_int = λ s z ty v e h. h;
-  asks_prim = λ s name ty v e h. h;
+  asks_prim = λ s name ty v e u h. h;
   opens = λ t e there x m s i args n v h. term_opens (kind p t) t s args e.arg_tys v (term_known p t e there) n h;
   makes_bool = λ b ty v e h. (λ q. cc, h);
   makes_int = λ z ty v e h. (λ q. cc, h);
-  makes_prim = λ name ty v e h. (λ q. cc, h);
+  makes_prim = λ name ty v e u h. (λ q. cc, h);
   values = λ t e there c m a g h. term_is_site (kind p t) t a e.ret_ty (term_known p t e there) h;
   asks_all = after_asking_all;
   result = λ s ty v m h. h;
@@ -106,5 +106,5 @@ pub formed_rules_make_equal_sites_lem : FormedRulesMakeEqualSites
 formed_rules_make_equal_sites_lem p r f a b i =
     let m = visits_make_lem p r a b i in
     let d = demands_of p r in
-    let n = rule_kept p sites (sites_kept p) r (rule_parts p r f) (λ t j. tt) (λ t j. tt) (λ j ty v e h. (λ q. cc, h)) (λ e j. absurd j) (a, b) (in_from_contains d.equalities (a, b) i) in
+    let n = rule_kept_typed p sites (sites_kept p) r (rule_parts p r f) (λ t j. tt) (λ t j. tt) (λ j ty v e h. (λ q. cc, h)) (λ e j. absurd j) (a, b) (in_from_contains d.equalities (a, b) i) in
     (only_made (visit_rule p r).visit a m.0 n.0, only_made (visit_rule p r).visit b m.1 n.1)

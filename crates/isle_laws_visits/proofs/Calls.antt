@@ -4,7 +4,7 @@ use Rattle.std.proofs.lemmas.Bool.{cases_Bool, cond-true, cond-false}
 use Rattle.isle_model.specs.sites.Sites.{SiteTerm}
 use Rattle.isle_model.specs.visits.Demands.{site_term_eq, Visit, equating, iterating}
 use Rattle.isle_model.proofs.Elements.{In, in_either}
-use Rattle.isle_laws_visits.proofs.Visited.{Good, Later, good_stays, equated}
+use Rattle.isle_laws_visits.proofs.AskedSites.{Good, Later, good_stays, equated}
 
 -- the gates of the calls that a later visit goes over are demanded by it, but for those of the earlier one
 abbrev pub NewCalls : Bool → Bool → Visit → Visit → Type 0

@@ -7,23 +7,23 @@ use Rattle.std.proofs.Math.Seq.{take-append_seam}
 use Rattle.isle_model.specs.lists.Tables.{Flags}
 use Rattle.isle_model.specs.rules.Program.{Program, Kind, a_variant, a_struct, a_call, unknown, kind}
 use Rattle.isle_model.specs.rules.Typed.{TypedPatterns}
-use Rattle.isle_model.specs.sites.Sites.{is_variant, is_struct, is_present, SiteTerm, SiteTerms, extractor_call, constructor_call, pick_of, variant_made, variant_field, struct_made, struct_field, some_part}
-use Rattle.isle_model.specs.visits.Demands.{Count, fields_matched, outputs_taken, Visit, site_term_eq, making, counting, asking, iterating, calling, equating, binding, from_to, pattern_count, part_sites, outputs_opened, open_call, open_term, ValuedAll, call_result, call_sites, where_multi, visit_call, visit_term}
+use Rattle.isle_model.specs.sites.Sites.{Constraint, is_variant, is_struct, is_present, SiteTerm, SiteTerms, extractor_call, constructor_call, pick_of, variant_made, struct_made, some_part, field_terms}
+use Rattle.isle_model.specs.visits.Demands.{fields_opened, Count, fields_matched, outputs_taken, Visit, site_term_eq, making, counting, asking, iterating, calling, equating, binding, pattern_count, part_sites, outputs_opened, open_call, open_term, ValuedAll, call_result, call_sites, where_multi, visit_call, visit_term}
 use Rattle.isle_model.specs.sites.Limits.{RuleLimit, passed_by, passed_or_later, first_passed}
 use Rattle.isle_model.proofs.Elements.{none_some}
 use Rattle.isle_model.proofs.Either.{either}
 use Rattle.isle_laws_visits.specs.VisitLaws.{Continues, VisitsContinue}
-use Rattle.isle_laws_visits.specs.LimitLaws.{VisitsEndAtCounts}
+use Rattle.isle_laws_visits.specs.LimitLaws.{FirstCountsArePassed}
 use Rattle.isle_laws_visits.proofs.Kept.{KeptByTests, KeptByValues, pattern_kept, args_kept, expr_kept, iflets_kept}
-use Rattle.isle_laws_visits.proofs.Visited.{equated}
+use Rattle.isle_laws_visits.proofs.AskedSites.{equated}
 
 -- 1. steps
 -- what is counted after the sites that a visit had made
-abbrev Later : Visit → Count × ℕ → Type 0
-Later v c = length v.demands.made ≤ c.1
+abbrev CountedLater : Visit → Count × ℕ → Type 0
+CountedLater v c = length v.demands.made ≤ c.1
 
 pub continues_now : (v : Visit) → Continues v v
-continues_now v = record { made = []; counted = []; makes = sym (append-nil v.demands.made); counts = sym (append-nil v.demands.counted); after = All-nil (Later v) }
+continues_now v = record { made = []; counted = []; makes = sym (append-nil v.demands.made); counts = sym (append-nil v.demands.counted); after = All-nil (CountedLater v) }
 
 -- a step that makes and counts nothing
 pub continues_alike : (v w x : Visit) → x.demands.made ≡ w.demands.made → x.demands.counted ≡ w.demands.counted → Continues v w → Continues v x
@@ -47,7 +47,7 @@ continues_counting c v w k =
       counted = k.counted ++ one;
       makes = k.makes;
       counts = ap (λ l. l ++ one) k.counts ∙ append_assoc v.demands.counted k.counted one;
-      after = All-append (Later v) k.counted one k.after (All-cons (Later v) (c, length w.demands.made) [] (omega (arith, longer)) (All-nil (Later v)));
+      after = All-append (CountedLater v) k.counted one k.after (All-cons (CountedLater v) (c, length w.demands.made) [] (omega (arith, longer)) (All-nil (CountedLater v)));
     }
 
 continues_equating : (a b : SiteTerm) (v w : Visit) → Continues v w → Continues v (equating a b w)
@@ -67,20 +67,15 @@ call_continues pure false partial rec false call args v w k =
     let a = making (call ∷ (some_part call ∷ [])) w in
     outputs_continue (some_part call) args v (asking call is_present a) (continues_alike v a (asking call is_present a) refl refl (continues_making (call ∷ (some_part call ∷ [])) v w k))
 
-fields_continue : (fields : List SiteTerm) (n : ℕ) (v w : Visit) → Continues v w → Continues v (making fields (counting (fields_matched n) w))
-fields_continue fields n v w k = continues_making fields v (counting (fields_matched n) w) (continues_counting (fields_matched n) v w k)
+fields_continue : (c : Constraint) (n : ℕ) (s : SiteTerm) (v w : Visit) → Continues v w → Continues v (fields_opened c n s w).visit
+fields_continue c n s v w k =
+    let x = counting (fields_matched n) w in
+    let u = making (field_terms c s) x in
+    continues_alike v u (asking s c u) refl refl (continues_making (field_terms c s) v x (continues_counting (fields_matched n) v w k))
 
 term_continues : (n : Kind) (t : ℕ) (s : SiteTerm) (args : TypedPatterns) (v w : Visit) → Continues v w → Continues v (open_term n t s args w).visit
-term_continues (a_variant ty variant) t s args v w k =
-    let m = pattern_count args in
-    let fields = from_to (variant_field s variant) 0 args in
-    let u = making fields (counting (fields_matched m) w) in
-    continues_alike v u (asking s (is_variant ty variant m) u) refl refl (fields_continue fields m v w k)
-term_continues (a_struct ty) t s args v w k =
-    let m = pattern_count args in
-    let fields = from_to (struct_field s) 0 args in
-    let u = making fields (counting (fields_matched m) w) in
-    continues_alike v u (asking s (is_struct ty m) u) refl refl (fields_continue fields m v w k)
+term_continues (a_variant ty variant) t s args v w k = fields_continue (is_variant ty variant (pattern_count args)) (pattern_count args) s v w k
+term_continues (a_struct ty) t s args v w k = fields_continue (is_struct ty (pattern_count args)) (pattern_count args) s v w k
 term_continues (a_call flags infallible) t s args v w k = call_continues flags.pure flags.multi flags.partial flags.rec infallible (extractor_call t s) args v w k
 term_continues unknown t s args v w k = k
 
@@ -139,8 +134,8 @@ passed_after (c ∷ cs) ds e = by (passed_by c.0) e (passed_after cs ds)
     by (Some m) h later = absurd (none_some (m, c.1) (sym h))
     by None h later = later h
 
-pub visits_end_at_counts_lem : VisitsEndAtCounts
-visits_end_at_counts_lem p r v c l k none passes =
+pub first_counts_are_passed_lem : FirstCountsArePassed
+first_counts_are_passed_lem p r v c l k none passes =
     let n = length v.demands.made in (
       ap first_passed (k.counts ∙ append_assoc v.demands.counted ((c, n) ∷ []) k.counted)
           ∙ passed_after v.demands.counted ((c, n) ∷ k.counted) none

@@ -16,7 +16,7 @@ use Rattle.isle_model.specs.sites.DemandedGates.{AsksAnswer, IsPureCall, AllGate
 use Rattle.isle_model.specs.rules.CalledTerms.{CallsAlone, CallAlone, LetsCallAlone}
 use Rattle.isle_laws_visits.proofs.Calls.{NewCalls, no_call, then_calls, one_call}
 use Rattle.isle_laws_visits.proofs.Gates.{unasked}
-use Rattle.isle_laws_visits.proofs.Visited.{Good, Later, good_stays, now, then_later, later_making, later_calling, later_binding, later_iterating, at_right, AreGood, Same, bound_good, good_and, good_later, then_same, same_binding}
+use Rattle.isle_laws_visits.proofs.AskedSites.{Good, Later, good_stays, now, then_later, later_making, later_calling, later_binding, later_iterating, at_right, AreGood, Same, bound_good, good_and, good_later, then_same, same_binding}
 use Rattle.isle_laws_visits.proofs.Patterns.{from_then, from_new}
 use Rattle.isle_laws_typing.proofs.FormedParts.{from_if, has_type, from_vars, from_entry}
 
@@ -25,7 +25,7 @@ abbrev AllGood : Bool → Bool → Visit → SiteTerms → Type 0
 AllGood asked pure v us = AllGatesDemanded asked pure v.demands.constraints v.demands.iterators us
 
 -- an expression's value, where answers don't matter
-pub record IsValued (pure : Bool) (vars : List (ℕ × ℕ)) (v : Visit) (a : Valued) : Type 0 where
+pub record IsValuedUnasked (pure : Bool) (vars : List (ℕ × ℕ)) (v : Visit) (a : Valued) : Type 0 where
   pub later : Later v a.visit
   pub same : Same vars v a.visit
   pub site : Good false pure a.visit a.site
@@ -113,8 +113,8 @@ term_valued asked pure unknown t a h k g = record { later = now a.visit; binds =
 abbrev Within : List (ℕ × ℕ) → List (ℕ × ℕ) → Type 0
 Within vars more = (x : ℕ) → is_some (var_type vars x) ≡ true → is_some (var_type more x) ≡ true
 
-within_new : (y ty : ℕ) (vars : List (ℕ × ℕ)) → Within vars ((y, ty) ∷ vars)
-within_new y ty vars x h =
+within_one_more : (y ty : ℕ) (vars : List (ℕ × ℕ)) → Within vars ((y, ty) ∷ vars)
+within_one_more y ty vars x h =
     elim (cases_Bool (y == x)) [
       | inl t ↦ ap is_some (cond-true (y == x) (Some ty) (var_type vars x) t)
       | inr n ↦ ap is_some (cond-false (y == x) (Some ty) (var_type vars x) n) ∙ h
@@ -205,15 +205,15 @@ module _ (asked pure : Bool) (p : Program) where
         let z = visit_lets p rest w in
         record {
           later = then_later v w z l d.later;
-          same = λ y i. d.same y (within_new x ty vars y i) ∙ same y i;
+          same = λ y i. d.same y (within_one_more x ty vars y i) ∙ same y i;
           good = d.good;
-          within = λ y i. d.within y (within_new x ty vars y i);
+          within = λ y i. d.within y (within_one_more x ty vars y i);
           calls = then_calls asked pure v w z d.later r.calls d.calls;
         }
 
 -- where answers don't matter
 pub expr_valued : (pure : Bool) (p : Program) (e : TypedExpr) (v : Visit) (vars : List (ℕ × ℕ)) → is_formed_expr p e vars ≡ true → (pure ≡ true → IsPureExpr p e) → AreGood false pure vars v
-    → IsValued pure vars v (visit_expr p e v)
+    → IsValuedUnasked pure vars v (visit_expr p e v)
 expr_valued pure p e v vars f h g =
     let a = expr_valued_by false pure p e v vars f h (λ q. absurd (false≢true q)) g in
     record { later = a.later; same = a.same; site = a.site }

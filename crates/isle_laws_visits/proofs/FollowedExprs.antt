@@ -7,10 +7,9 @@ use Rattle.isle_model.specs.lists.Formed.{is_formed_expr, are_formed_args, forme
 use Rattle.isle_model.specs.rules.Program.{Program, Kind, unknown, kind, kind_of}
 use Rattle.isle_model.specs.rules.Typed.{TypedExpr, make_term, make_var, make_bool, make_int, make_prim, make_let, TypedExprs, no_typed_expr, typed_expr_and, TypedLets, no_typed_let, typed_let_and}
 use Rattle.isle_model.specs.sites.Sites.{variant_made, struct_made}
-use Rattle.isle_model.specs.visits.Demands.{Visit, Valued, ValuedAll, binding, var_site, visit_call, visit_term, visit_expr, visit_exprs, visit_lets}
+use Rattle.isle_model.specs.visits.Demands.{Visit, Valued, ValuedAll, binding, var_site, visit_call, visit_term, visit_expr, visit_exprs, visit_lets, value_made}
 use Rattle.isle_model.specs.visits.Runs.{BoundIds, and_then, done, or_refused, refused, with_bound}
 use Rattle.isle_model.specs.visits.Visitors.{ExprSteps}
-use Rattle.isle_model.specs.visits.SiteVisitor.{value_made}
 use Rattle.isle_model.specs.visits.ExprRuns.{entry_arg_types, MakesKind, Makes, ExprRun, InputsRun, LetsRun}
 use Rattle.isle_model.proofs.Elements.{some_is}
 use Rattle.isle_laws_visits.specs.VisitLaws.{Continues}

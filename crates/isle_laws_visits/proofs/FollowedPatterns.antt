@@ -5,18 +5,17 @@ use Rattle.std.specs.List.{AllZip}
 use Rattle.isle_model.specs.lists.Tables.{TermKindEntry, variant_term, struct_term, declared_term, TermEntry}
 use Rattle.isle_model.specs.rules.Program.{Program, Kind, a_variant, a_struct, unknown, always_answers, kind, kind_of}
 use Rattle.isle_model.specs.rules.Typed.{TypedPattern, match_bind, match_var, match_bool, match_int, match_prim, match_term, match_any, match_and, TypedPatterns, no_typed_pattern, typed_pattern_and}
-use Rattle.isle_model.specs.sites.Sites.{is_variant, is_struct, is_bool, is_int, is_prim, is_present, SiteTerm, extractor_call, pick_of, variant_field, struct_field, some_part, tuple_part}
-use Rattle.isle_model.specs.sites.Closure.{fields_from}
-use Rattle.isle_model.specs.visits.Demands.{fields_matched, outputs_taken, Visit, making, counting, asking, equating, iterating, binding, var_site, pattern_count, opened, output_sites, part_sites, outputs_opened, open_call, open_term, visit_pattern, visit_each, visit_all}
+use Rattle.isle_model.specs.sites.Sites.{is_variant, is_struct, is_bool, is_int, is_prim, is_present, SiteTerm, extractor_call, pick_of, some_part, tuple_part, fields_from}
+use Rattle.isle_model.specs.visits.Demands.{outputs_taken, Visit, making, counting, asking, equating, iterating, binding, var_site, pattern_count, opened, output_sites, part_sites, outputs_opened, open_call, open_term, visit_pattern, visit_each, visit_all, fields_opened}
 use Rattle.isle_model.specs.visits.Runs.{BoundIds, done, with_bound, binds, finds, calls_visitor, on_variables}
 use Rattle.isle_model.specs.visits.Visitors.{PatternSteps}
-use Rattle.isle_model.specs.visits.SiteVisitor.{any_parts, fields_opened}
+use Rattle.isle_model.specs.visits.SiteVisitor.{any_parts}
 use Rattle.isle_model.specs.visits.PatternRuns.{part_types, OpensKind, Opens, PatternRun, PartsRun, EachRun}
 use Rattle.isle_laws_visits.specs.VisitLaws.{Continues}
 use Rattle.isle_laws_visits.proofs.Continued.{continues_now, tests_continue}
 use Rattle.isle_laws_visits.proofs.Kept.{each_kept, all_kept}
-use Rattle.isle_laws_visits.proofs.Visited.{equating_binds}
-use Rattle.isle_laws_visits.proofs.WithSites.{open_binds, same_fields}
+use Rattle.isle_laws_visits.proofs.AskedSites.{equating_binds}
+use Rattle.isle_laws_visits.proofs.WithSites.{open_binds}
 use Rattle.isle_laws_visits.specs.Followers.{Follower, Goes, GoesOn, GivesParts, FollowsPatterns, EndsOnTheWay}
 use Rattle.isle_laws_visits.proofs.FittingPatterns.{FitsTerm, Fits, FitAll}
 use Rattle.isle_laws_visits.proofs.KnownVars.{KnowsVars, by_and_then, goes_further, goes_nowhere, knows_more, knows_stay, no_fault, one_answer, refusal, refused_ends}
@@ -43,12 +42,12 @@ parts_by s (suc (suc n)) = fields_from (tuple_part s) 0 (suc (suc n))
 outputs_are : (s : SiteTerm) (args : TypedPatterns) → output_sites s args ≡ outputs_by s (pattern_count args)
 outputs_are s no_typed_pattern = refl
 outputs_are s (typed_pattern_and q no_typed_pattern) = refl
-outputs_are s (typed_pattern_and q (typed_pattern_and r rs)) = same_fields (tuple_part s) 0 (typed_pattern_and q (typed_pattern_and r rs))
+outputs_are s (typed_pattern_and q (typed_pattern_and r rs)) = refl
 
 parts_are : (s : SiteTerm) (args : TypedPatterns) → part_sites s args ≡ parts_by s (pattern_count args)
 parts_are s no_typed_pattern = refl
 parts_are s (typed_pattern_and q no_typed_pattern) = refl
-parts_are s (typed_pattern_and q (typed_pattern_and r rs)) = same_fields (tuple_part s) 0 (typed_pattern_and q (typed_pattern_and r rs))
+parts_are s (typed_pattern_and q (typed_pattern_and r rs)) = refl
 
 module _ (args parts : TypedPatterns) (same : pattern_count args ≡ pattern_count parts) where
   outputs_alike : (s : SiteTerm) (v : Visit) → outputs_opened s args v ≡ outputs_opened s parts v
@@ -65,17 +64,6 @@ module _ (args parts : TypedPatterns) (same : pattern_count args ≡ pattern_cou
       else (if infallible
       then outputs_alike call (making (call ∷ []) v) i
       else outputs_alike (some_part call) (asking call is_present (making (call ∷ (some_part call ∷ [])) v)) i)
-
-module _ (term : ℕ) (args : TypedPatterns) (u : SiteTerm) (w : Visit) where
-  variant_alike : (ty variant : ℕ) → fields_opened (is_variant ty variant (pattern_count args)) (pattern_count args) u w ≡ open_term (a_variant ty variant) term u args w
-  variant_alike ty variant =
-      let n = pattern_count args in
-      λ i. let fields = same_fields (variant_field u variant) 0 args in opened (sym fields i) (asking u (is_variant ty variant n) (making (sym fields i) (counting (fields_matched n) w)))
-
-  struct_alike : (ty : ℕ) → fields_opened (is_struct ty (pattern_count args)) (pattern_count args) u w ≡ open_term (a_struct ty) term u args w
-  struct_alike ty =
-      let n = pattern_count args in
-      λ i. let fields = same_fields (struct_field u) 0 args in opened (sym fields i) (asking u (is_struct ty n) (making (sym fields i) (counting (fields_matched n) w)))
 
 module _ {F S N : Type 0} (o : Follower F S N) (want : Option F) (ends : EndsOnTheWay o want) where
   -- 2. where a visitor goes, with its variables
@@ -119,10 +107,10 @@ module _ {F S N : Type 0} (o : Follower F S N) (want : Option F) (ends : EndsOnT
           → OpensKind want v e ty term (part_types args) n k s r t → GivesParts o s r t (open_term (kind_of (record e { kind = k })) term u args w)
       kind_opened u n term args e ty (variant_term variant) h named ret count run =
           subst (GivesParts o s r t)
-          (ap (λ m. fields_opened (is_variant ty variant m) m u w) count ∙ variant_alike term args u w ty variant ∙ ap (λ y. open_term (a_variant y variant) term u args w) (sym ret))
+          (ap (λ m. fields_opened (is_variant ty variant m) m u w) count ∙ ap (λ y. open_term (a_variant y variant) term u args w) (sym ret))
           (f.variant s w u n ty e.arg_tys variant r t h named run)
       kind_opened u n term args e ty struct_term h named ret count run =
-          subst (GivesParts o s r t) (ap (λ m. fields_opened (is_struct ty m) m u w) count ∙ struct_alike term args u w ty ∙ ap (λ y. open_term (a_struct y) term u args w) (sym ret))
+          subst (GivesParts o s r t) (ap (λ m. fields_opened (is_struct ty m) m u w) count ∙ ap (λ y. open_term (a_struct y) term u args w) (sym ret))
           (f.struct s w u n ty e.arg_tys r t h named run)
       kind_opened u n term args e ty (declared_term flags c None) h named ret count run = absurd run
       kind_opened u n term args e ty (declared_term flags c (Some x)) h named ret count run =

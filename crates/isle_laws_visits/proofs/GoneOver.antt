@@ -13,7 +13,7 @@ use Rattle.isle_model.specs.lists.Formed.{is_formed_expr, formed_iflets, is_form
 use Rattle.isle_model.proofs.Elements.{In, in_left, in_right, in_either, all_in, in_filter, filter_from, passed_filter}
 use Rattle.isle_model.specs.sites.DemandedGates.{GatesDemanded, IsPureExpr, ArePureIfLets}
 use Rattle.isle_model.proofs.SitesMade.{has_in}
-use Rattle.isle_laws_visits.proofs.Afresh.{AreAlike, asked_alike, asked_iterators, pattern_alike, AreValuedAlike, expr_alike}
+use Rattle.isle_laws_visits.proofs.VisitsAlike.{AreAlike, asked_alike, asked_iterators, pattern_alike, AreValuedAlike, expr_alike}
 use Rattle.isle_model.specs.rules.CalledTerms.{CallsAlone}
 use Rattle.isle_laws_typing.specs.WellTypedPrograms.{IsWellTypedRule}
 use Rattle.isle_laws_typing.proofs.WellTypedPrograms.{pure_iflets}
@@ -21,8 +21,8 @@ use Rattle.isle_laws_visits.proofs.Exprs.{IsTotal, expr_valued_by, expr_valued}
 use Rattle.isle_laws_visits.proofs.Gates.{unpurified, gates_of_taken}
 use Rattle.isle_laws_visits.proofs.Patterns.{IsAfter}
 use Rattle.isle_laws_visits.proofs.RightSides.{IsSingle, expr_single, expr_quiet}
-use Rattle.isle_laws_visits.proofs.Rules.{IsPast, IfLetMet, sides_past, less_good, iflet_tested, iflet_after, iflet_past, iflets_past}
-use Rattle.isle_laws_visits.proofs.Visited.{Good, MayTest, good_stays, AreGood}
+use Rattle.isle_laws_visits.proofs.Rules.{IsPast, IfLetMet, sides_past, less_good, iflet_tested, iflet_after, iflet_past, iflets_are_past}
+use Rattle.isle_laws_visits.proofs.AskedSites.{Good, MayTest, good_stays, AreGood}
 use Rattle.isle_laws_visits.proofs.RuleParts.{iflet_parts, rule_parts}
 
 -- 1. if-lets
@@ -43,7 +43,7 @@ iflets_calls p (i ∷ is) v v' vars more f h g alike u k =
     subst (λ t. AreAlike z (visit_pattern p i.lhs t y.visit)) same.site (pattern_alike p i.lhs x.site w y.visit (asked_alike (unwraps x.site) x.visit y.visit same.same.after)) in
     in_rest p i is v v' x y same w (iflet_tested p met) a.mid (iflet_after p met a.mid a.pattern) u
     (subst (λ l. In l u) (asked_iterators (unwraps x.site) x.visit))
-    (iflets_past p is z a.mid more a.rest h.1 r.good)
+    (iflets_are_past p is z a.mid more a.rest h.1 r.good)
     (iflets_calls p is z z' a.mid more a.rest h.1 r.good after u k)
   where
     in_rest : (p : Program) (i : TypedIfLet) (is : List TypedIfLet) (v v' : Visit) (x y : Valued) → AreValuedAlike v (afresh v') x y

@@ -1,9 +1,8 @@
 -- What variables are bound to while a visitor follows the visitor of sites: it goes on, and their ids stay those of their sites.
-use Rattle.std.proofs.Common.{◌≡◌, ℕ, ◌==◌, Bool, true, false, List, [], ◌∷◌, Option, Some, None, is_some, if◌then◌else◌, Result, Ok, Err, refl, sym, ap, ◌∙◌, subst, inl, inr, ⊎_elim, eqb-true, eq-eqb}
+use Rattle.std.proofs.Common.{◌≡◌, ℕ, ◌==◌, Bool, true, false, List, [], ◌∷◌, Option, Some, None, is_some, if◌then◌else◌, Result, Ok, Err, refl, sym, ap, ◌∙◌, subst, inl, inr, ⊎_elim, eqb-true}
 use Rattle.std.specs.Prelude.{MatchResult}
 use Rattle.std.proofs.lemmas.Bool.{cases_Bool, cond-true, cond-false}
 use Rattle.std.specs.Ordering.{nat_cmp, is_eq, match_ordering}
-use Rattle.std.specs.Cmp.{unsigned_tied}
 use Rattle.std.specs.declared.cmp.Ordering.TheVariants.{Less, Equal, Greater}
 use Rattle.std.proofs.lemmas.Map.Lookups.{exact_unsigned}
 use Rattle.isle_model.specs.lists.Formed.{var_type}
@@ -12,7 +11,8 @@ use Rattle.isle_model.specs.sites.Sites.{SiteTerm}
 use Rattle.isle_model.specs.visits.Demands.{Visit, binding, or_no_site, var_site}
 use Rattle.isle_model.specs.visits.Runs.{VisitRun, BoundIds, bound_at, with_bound, and_then, refused}
 use Rattle.isle_model.proofs.Elements.{some_is}
-use Rattle.isle_laws_visits.proofs.Visited.{Same}
+use Rattle.isle_model.proofs.Numbers.{tied}
+use Rattle.isle_laws_visits.proofs.AskedSites.{Same}
 use Rattle.isle_laws_visits.specs.Followers.{Follower, Goes, EndsOnTheWay}
 
 -- 1. runs
@@ -34,14 +34,6 @@ refusal None s r t run = absurd run
 refusal (Some e) s r t run = (e, refl, run.0)
 
 -- 2. variables by their numbers
-pub tied : (a b : ℕ) → is_eq (nat_cmp a b) ≡ (b == a)
-tied a b =
-    unsigned_tied a b
-    ∙ elim (cases_Bool (a == b)) [
-      | inl t ↦ t ∙ sym (eq-eqb b a (sym (eqb-true a b t)))
-      | inr m ↦ elim (cases_Bool (b == a)) [ inl t ↦ eq-eqb a b (sym (eqb-true b a t)) ∙ sym t | inr k ↦ m ∙ sym k ]
-    ]
-
 module _ {N : Type 0} where
   same_twice : (c : Bool) (a b r : Option N) → (if c then a else r) ≡ (if c then a else (if c then b else r))
   same_twice true a b r = refl

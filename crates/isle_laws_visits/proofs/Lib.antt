@@ -1,5 +1,5 @@
-pub mod Afresh
 pub mod AskedNothingElse
+pub mod AskedSites
 pub mod BoundSites
 pub mod Calls
 pub mod Continued
@@ -10,7 +10,8 @@ pub mod FollowedPatterns
 pub mod FollowedRules
 pub mod Gates
 pub mod GoneOver
-pub mod Grown
+pub mod GrowingVisits
+pub mod ImpureCallsMet
 pub mod Kept
 pub mod KnownVars
 pub mod LentVisits
@@ -19,7 +20,6 @@ pub mod LimitsPassed
 pub mod PatternParts
 pub mod Patterns
 pub mod PureCalls
-pub mod Quiet
 pub mod RightSides
 pub mod RuleParts
 pub mod Rules
@@ -27,8 +27,8 @@ pub mod SameExprs
 pub mod ScopeOfPatterns
 pub mod SiteRuns
 pub mod SiteRunsMade
-pub mod Sited
-pub mod Visited
+pub mod SitesAlike
 pub mod VisitedRules
+pub mod VisitsAlike
 pub mod WithSites
 pub mod WithTypes

@@ -36,8 +36,8 @@ pub record PatternParts (p : Program) (ty t : ℕ) (args : TypedPatterns) (vars 
   pub matched : has_extractor entry.kind ≡ true
   pub formed : formed_parts p args entry.arg_tys vars ≡ Some more
 
-pub from_term : (p : Program) (ty t : ℕ) (args : TypedPatterns) (vars more : List (ℕ × ℕ)) → formed_pattern p (match_term ty t args) vars ≡ Some more → PatternParts p ty t args vars more
-from_term p ty t args vars more f =
+pub pattern_parts : (p : Program) (ty t : ℕ) (args : TypedPatterns) (vars more : List (ℕ × ℕ)) → formed_pattern p (match_term ty t args) vars ≡ Some more → PatternParts p ty t args vars more
+pattern_parts p ty t args vars more f =
     let a = from_then (slice_get p.terms t) (λ (e : TermEntry). if (e.ret_ty == ty) && has_extractor e.kind then formed_parts p args e.arg_tys vars else None) more f in
     let b = from_if ((a.0.ret_ty == ty) && has_extractor a.0.kind) (formed_parts p args a.0.arg_tys vars) more a.2 in
     let c = and_parts (a.0.ret_ty == ty) (has_extractor a.0.kind) b.0 in
@@ -73,7 +73,7 @@ mutual
   pattern_within p (match_bool ty b) vars more f y t h = within_same vars more (some_is vars more (from_if (ty == bool_type) (Some vars) more f).1) y t h
   pattern_within p (match_int ty z) vars more f y t h = within_same vars more (some_is vars more (from_if (is_literal_of (slice_get p.types ty) z) (Some vars) more f).1) y t h
   pattern_within p (match_prim ty name) vars more f y t h = within_same vars more (some_is vars more (from_if (is_type (constant_type p name) ty) (Some vars) more f).1) y t h
-  pattern_within p (match_term ty n args) vars more f y t h = let a = from_term p ty n args vars more f in parts_within p args a.entry.arg_tys vars more a.formed y t h
+  pattern_within p (match_term ty n args) vars more f y t h = let a = pattern_parts p ty n args vars more f in parts_within p args a.entry.arg_tys vars more a.formed y t h
   pattern_within p (match_any ty) vars more f y t h = within_same vars more (some_is vars more f) y t h
   pattern_within p (match_and ty subs) vars more f y t h = each_within p subs ty vars more f y t h
 

@@ -1,19 +1,19 @@
 -- What patterns constrain and equate may be tested, and so may what their variables stand for, and the calls that they go
 -- over.
-use Rattle.std.proofs.Common.{◌≡◌, ℕ, suc, ◌+◌, ◌==◌, ◌<◌, Bool, true, false, ◌&&◌, if◌then◌else◌, List, [], ◌∷◌, Some, None, is_some, is_none, slice_get, Contains, refl, sym, ap, subst, inl, inr, ◌∙◌, arith}
+use Rattle.std.proofs.Common.{◌≡◌, ℕ, zero, suc, ◌+◌, ◌==◌, ◌<◌, Bool, true, false, ◌&&◌, if◌then◌else◌, List, [], ◌∷◌, Some, None, is_some, is_none, slice_get, Contains, refl, sym, ap, subst, inl, inr, ◌∙◌, arith}
 use Rattle.isle_model.specs.rules.Outcome.{then_option}
 use Rattle.isle_model.specs.lists.Ranges.{is_literal_of}
 use Rattle.isle_model.specs.lists.Tables.{TermEntry, TermKindEntry, variant_term, struct_term, declared_term}
 use Rattle.isle_model.specs.rules.Program.{Program, Kind, a_variant, a_struct, a_call, unknown, kind_of, kind, always_answers}
 use Rattle.isle_model.specs.sites.Serves.{constant_type}
-use Rattle.isle_model.specs.sites.Sites.{Constraint, is_variant, is_struct, is_bool, is_int, is_prim, is_present, SiteTerm, extractor_call, pick_of, variant_field, struct_field, some_part, tuple_part}
+use Rattle.isle_model.specs.sites.Sites.{Constraint, is_variant, is_struct, is_bool, is_int, is_prim, is_present, SiteTerm, extractor_call, pick_of, variant_field, struct_field, some_part, tuple_part, fields_from, field_terms}
 use Rattle.isle_model.specs.rules.Typed.{TypedPattern, match_bind, match_var, match_bool, match_int, match_prim, match_term, match_any, match_and, TypedPatterns, no_typed_pattern, typed_pattern_and}
-use Rattle.isle_model.specs.visits.Demands.{Visit, making, asking, equating, iterating, binding, var_site, from_to, pattern_count, Opened, opened, output_sites, part_sites, open_call, open_term, visit_pattern, visit_each, visit_all, outputs_opened, fields_matched, outputs_taken, counting}
+use Rattle.isle_model.specs.visits.Demands.{Visit, making, asking, equating, iterating, binding, var_site, pattern_count, Opened, opened, output_sites, part_sites, open_call, open_term, visit_pattern, visit_each, visit_all, outputs_opened, fields_matched, outputs_taken, counting}
 use Rattle.isle_model.specs.lists.Setting.{bool_type, has_extractor}
 use Rattle.isle_model.specs.lists.Formed.{pattern_type, var_type, is_type, with_new, formed_pattern, formed_parts, formed_each}
 use Rattle.isle_model.proofs.Elements.{In, some_is, none_some}
 use Rattle.isle_laws_visits.proofs.Calls.{NewCalls, no_call, then_calls, one_call, equating_calls}
-use Rattle.isle_laws_visits.proofs.Visited.{MayTest, Later, good_stays, now, then_later, later_making, later_binding, later_iterating, later_asking, later_equating, equating_binds, at_right, AreGood, Keeps, keeps_vars, then_keeps, keeps_binding, bound_good, good_and, later_counting}
+use Rattle.isle_laws_visits.proofs.AskedSites.{MayTest, Later, good_stays, now, then_later, later_making, later_binding, later_iterating, later_asking, later_equating, equating_binds, at_right, AreGood, Keeps, keeps_vars, then_keeps, keeps_binding, bound_good, good_and, later_counting}
 use Rattle.isle_laws_typing.proofs.FormedParts.{from_if, has_type, has_none}
 pub use Rattle.isle_model.proofs.Options.{then_some as from_then}
 
@@ -24,41 +24,51 @@ from_new x ty vars more e =
 
 -- 2. parts of a term's pattern
 -- as many sites as patterns
-abbrev pub AsMany : List SiteTerm → TypedPatterns → Type 0
-AsMany [] no_typed_pattern = Unit {0}
-AsMany (s ∷ ss) (typed_pattern_and q qs) = AsMany ss qs
-AsMany _ _ = ⊥
+abbrev pub AsManySites : List SiteTerm → TypedPatterns → Type 0
+AsManySites [] no_typed_pattern = Unit {0}
+AsManySites (s ∷ ss) (typed_pattern_and q qs) = AsManySites ss qs
+AsManySites _ _ = ⊥
 
-pub as_many : (f : ℕ → SiteTerm) (i : ℕ) (args : TypedPatterns) → AsMany (from_to f i args) args
-as_many f i no_typed_pattern = tt
-as_many f i (typed_pattern_and q qs) = as_many f (suc i) qs
+pub as_many_sites : (f : ℕ → SiteTerm) (i : ℕ) (args : TypedPatterns) → AsManySites (fields_from f i (pattern_count args)) args
+as_many_sites f i no_typed_pattern = tt
+as_many_sites f i (typed_pattern_and q qs) = as_many_sites f (suc i) qs
 
 -- a term's pattern, opened: the inputs of its parts may be tested, and a call that is gone over
-pub record IsOpened (v : Visit) (o : Opened) (args : TypedPatterns) : Type 0 where
+pub record HasTestableParts (v : Visit) (o : Opened) (args : TypedPatterns) : Type 0 where
   pub later : Later v o.visit
   pub binds : o.visit.vars ≡ v.vars
   pub inputs : (u : SiteTerm) → In o.inputs u → MayTest o.visit u
-  pub count : AsMany o.inputs args
+  pub count : AsManySites o.inputs args
   pub calls : NewCalls true true v o.visit
 
--- one of n numbers from i
-pub in_numbers : (f : ℕ → SiteTerm) (i : ℕ) (args : TypedPatterns) (u : SiteTerm) → In (from_to f i args) u → (j : ℕ) × (j < i + pattern_count args) × (f j ≡ u)
-in_numbers f i no_typed_pattern u k = absurd k
-in_numbers f i (typed_pattern_and q qs) u (inl e) = (i, omega arith, e)
-in_numbers f i (typed_pattern_and q qs) u (inr k) = let r = in_numbers f (suc i) qs u k in (r.0, let l : r.0 < suc i + pattern_count qs = r.1 in omega arith, r.2)
+-- one of n fields from i
+pub in_fields : (f : ℕ → SiteTerm) (i n : ℕ) (u : SiteTerm) → In (fields_from f i n) u → (j : ℕ) × (j < i + n) × (f j ≡ u)
+in_fields f i zero u k = absurd k
+in_fields f i (suc n) u (inl e) = (i, omega arith, e)
+in_fields f i (suc n) u (inr k) = let r = in_fields f (suc i) n u k in (r.0, let l : r.0 < suc i + n = r.1 in omega arith, r.2)
 
-output_good : (v : Visit) (s : SiteTerm) (args : TypedPatterns) (u : SiteTerm) → MayTest v s → In (output_sites s args) u → MayTest v u
-output_good v s no_typed_pattern u m i = absurd i
-output_good v s (typed_pattern_and q no_typed_pattern) u m i = elim i [ inl e ↦ subst (MayTest v) e m | inr n ↦ absurd n ]
-output_good v s (typed_pattern_and q (typed_pattern_and r rs)) u m i =
-    let k = in_numbers (tuple_part s) 0 (typed_pattern_and q (typed_pattern_and r rs)) u i in subst (MayTest v) k.2 m
+-- what holds of all fields of a site holds of those that a constraint gives it
+pub by_field : (P : SiteTerm → Type 0) (a : SiteTerm) → ((variant i : ℕ) → P (variant_field a variant i)) → ((i : ℕ) → P (struct_field a i)) → (c : Constraint) (x : SiteTerm) → In (field_terms c a) x → P x
+by_field P a f g (is_variant ty variant n) x i = let k = in_fields (variant_field a variant) 0 n x i in subst P k.2 (f variant k.0)
+by_field P a f g (is_struct ty n) x i = let k = in_fields (struct_field a) 0 n x i in subst P k.2 (g k.0)
+by_field P a f g (is_bool v ty) x i = absurd i
+by_field P a f g (is_int z ty) x i = absurd i
+by_field P a f g (is_prim name) x i = absurd i
+by_field P a f g is_present x i = absurd i
 
-pub output_count : (s : SiteTerm) (args : TypedPatterns) → AsMany (output_sites s args) args
+-- what holds of a site and of its parts holds of the outputs of its call
+pub by_output : (P : SiteTerm → Type 0) (a : SiteTerm) → P a → ((i : ℕ) → P (tuple_part a i)) → (args : TypedPatterns) (x : SiteTerm) → In (output_sites a args) x → P x
+by_output P a one part no_typed_pattern x i = absurd i
+by_output P a one part (typed_pattern_and q no_typed_pattern) x i = elim i [ inl e ↦ subst P e one | inr n ↦ absurd n ]
+by_output P a one part (typed_pattern_and q (typed_pattern_and r rs)) x i =
+    let k = in_fields (tuple_part a) 0 (pattern_count (typed_pattern_and q (typed_pattern_and r rs))) x i in subst P k.2 (part k.0)
+
+pub output_count : (s : SiteTerm) (args : TypedPatterns) → AsManySites (output_sites s args) args
 output_count s no_typed_pattern = tt
 output_count s (typed_pattern_and q no_typed_pattern) = tt
-output_count s (typed_pattern_and q (typed_pattern_and r rs)) = as_many (tuple_part s) 0 (typed_pattern_and q (typed_pattern_and r rs))
+output_count s (typed_pattern_and q (typed_pattern_and r rs)) = as_many_sites (tuple_part s) 0 (typed_pattern_and q (typed_pattern_and r rs))
 
-with_parts : (v w : Visit) (s : SiteTerm) (args : TypedPatterns) → Later v w → w.vars ≡ v.vars → MayTest w s → NewCalls true true v w → IsOpened v (outputs_opened s args w) args
+with_parts : (v w : Visit) (s : SiteTerm) (args : TypedPatterns) → Later v w → w.vars ≡ v.vars → MayTest w s → NewCalls true true v w → HasTestableParts v (outputs_opened s args w) args
 with_parts v w s args l e m n =
     let c = outputs_taken (pattern_count args) in
     let x = counting c w in
@@ -66,13 +76,13 @@ with_parts v w s args l e m n =
     record {
       later = then_later v w z l (then_later w x z (later_counting c w) (later_making (part_sites s args) x));
       binds = e;
-      inputs = λ u i. output_good w s args u m i;
+      inputs = by_output (MayTest w) s m (λ i. m) args;
       count = output_count s args;
       calls = n;
     }
 
 call_opened : (pure multi partial rec infallible : Bool) (t : ℕ) (s : SiteTerm) (args : TypedPatterns) (v : Visit) → MayTest v s
-    → IsOpened v (open_call (record { pure = pure; multi = multi; partial = partial; rec = rec }) infallible (extractor_call t s) args v) args
+    → HasTestableParts v (open_call (record { pure = pure; multi = multi; partial = partial; rec = rec }) infallible (extractor_call t s) args v) args
 call_opened pure true partial rec infallible t s args v m =
     let call = extractor_call t s in
     let made = making (call ∷ (pick_of call ∷ [])) v in
@@ -90,11 +100,11 @@ call_opened pure false partial rec false t s args v m =
     (at_right v.demands.constraints (call, is_present), good_stays made (asking call is_present made) (later_asking call is_present made m) true true call m) (λ u i. inl i)
 
 -- a site that is asked for fields
-fields_opened : (field : ℕ → SiteTerm) (c : Constraint) (s : SiteTerm) (args : TypedPatterns) (v : Visit) → MayTest v s
+fields_open : (field : ℕ → SiteTerm) (c : Constraint) (s : SiteTerm) (args : TypedPatterns) (v : Visit) → MayTest v s
     → ((w : Visit) (i : ℕ) → Contains w.demands.constraints (s, c) → i < pattern_count args → MayTest w s → MayTest w (field i))
-    → IsOpened v (opened (from_to field 0 args) (asking s c (making (from_to field 0 args) (counting (fields_matched (pattern_count args)) v)))) args
-fields_opened field c s args v m tested =
-    let fields = from_to field 0 args in
+    → HasTestableParts v (opened (fields_from field 0 (pattern_count args)) (asking s c (making (fields_from field 0 (pattern_count args)) (counting (fields_matched (pattern_count args)) v)))) args
+fields_open field c s args v m tested =
+    let fields = fields_from field 0 (pattern_count args) in
     let n = fields_matched (pattern_count args) in
     let x = counting n v in
     let w = asking s c (making fields x) in
@@ -103,19 +113,19 @@ fields_opened field c s args v m tested =
       later = then_later v x w (later_counting n v) (then_later x (making fields x) w (later_making fields x) l);
       binds = refl;
       inputs = λ u i.
-          let k = in_numbers field 0 args u i in
+          let k = in_fields field 0 (pattern_count args) u i in
           subst (MayTest w) k.2
           (tested w k.0 (at_right v.demands.constraints (s, c)) (let l : k.0 < 0 + pattern_count args = k.1 in omega arith) (good_stays (making fields x) w l true true s m));
-      count = as_many field 0 args;
+      count = as_many_sites field 0 args;
       calls = λ u i. inl i;
     }
 
-pub term_opened : (k : Kind) (t : ℕ) (s : SiteTerm) (args : TypedPatterns) (v : Visit) → (k ≡ unknown → ⊥) → MayTest v s → IsOpened v (open_term k t s args v) args
+pub term_opened : (k : Kind) (t : ℕ) (s : SiteTerm) (args : TypedPatterns) (v : Visit) → (k ≡ unknown → ⊥) → MayTest v s → HasTestableParts v (open_term k t s args v) args
 term_opened (a_variant ty variant) t s args v known m =
-    fields_opened (variant_field s variant) (is_variant ty variant (pattern_count args)) s args v m
+    fields_open (variant_field s variant) (is_variant ty variant (pattern_count args)) s args v m
     (λ w i asked many good. (record { ty = ty; fields = pattern_count args; asked = asked; many = many }, good))
 term_opened (a_struct ty) t s args v known m =
-    fields_opened (struct_field s) (is_struct ty (pattern_count args)) s args v m
+    fields_open (struct_field s) (is_struct ty (pattern_count args)) s args v m
     (λ w i asked many good. (record { ty = ty; fields = pattern_count args; asked = asked; many = many }, good))
 term_opened (a_call flags infallible) t s args v known m = call_opened flags.pure flags.multi flags.partial flags.rec infallible t s args v m
 term_opened unknown t s args v known m = absurd (known refl)
@@ -190,7 +200,7 @@ mutual
   pattern_after p (match_any ty) s v vars more f m g = unbound v v vars more (now v) refl g (some_is vars more f) (no_call true true v)
   pattern_after p (match_and ty subs) s v vars more f m g = all_after p subs s v ty vars more f m g
 
-  each_after : (p : Program) (qs : TypedPatterns) (ss : List SiteTerm) (v : Visit) (tys : List ℕ) (vars more : List (ℕ × ℕ)) → formed_parts p qs tys vars ≡ Some more → AsMany ss qs
+  each_after : (p : Program) (qs : TypedPatterns) (ss : List SiteTerm) (v : Visit) (tys : List ℕ) (vars more : List (ℕ × ℕ)) → formed_parts p qs tys vars ≡ Some more → AsManySites ss qs
       → ((u : SiteTerm) → In ss u → MayTest v u) → AreGood true true vars v → IsAfter v (visit_each p qs ss v) more
   each_after p no_typed_pattern ss v [] vars more f n h g = unbound v v vars more (now v) refl g (some_is vars more f) (no_call true true v)
   each_after p no_typed_pattern ss v (ty ∷ tys) vars more f n h g = absurd (none_some more f)

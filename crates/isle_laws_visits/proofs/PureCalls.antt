@@ -5,7 +5,7 @@ use Rattle.isle_model.specs.rules.Typed.{TypedPatterns, TypedRule}
 use Rattle.isle_model.specs.sites.Sites.{SiteTerm, extractor_call, constructor_call, SiteTerms}
 use Rattle.isle_model.specs.visits.Demands.{demands_of, site_term_eq, Visit, equating, iterating, open_call, open_term, ValuedAll, visit_call, visit_term}
 use Rattle.isle_model.proofs.Elements.{In, in_either}
-use Rattle.isle_laws_visits.proofs.Grown.{equated}
+use Rattle.isle_laws_visits.proofs.GrowingVisits.{equated}
 use Rattle.isle_model.proofs.Either.{either}
 use Rattle.isle_laws_visits.proofs.Kept.{rule_kept}
 use Rattle.isle_model.proofs.FewElements.{not_nothing}

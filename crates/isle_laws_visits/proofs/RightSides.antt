@@ -51,20 +51,20 @@ module _ (p : Program) where
 
 -- 2. impure calls
 -- no impure call was met
-abbrev IsQuiet : Visit → Type 0
-IsQuiet v = v.demands.impure ≡ []
+abbrev MetNoImpureCall : Visit → Type 0
+MetNoImpureCall v = v.demands.impure ≡ []
 
-quiet_before : (flags : Bool) (c : SiteTerm) (v : Visit) → IsQuiet (if flags then iterating c v else v) → IsQuiet v
+quiet_before : (flags : Bool) (c : SiteTerm) (v : Visit) → MetNoImpureCall (if flags then iterating c v else v) → MetNoImpureCall v
 quiet_before true c v h = h
 quiet_before false c v h = h
 
-call_quiet : (pure multi partial rec : Bool) (t : ℕ) (args : SiteTerms) (v : Visit) → IsQuiet (visit_call (record { pure = pure; multi = multi; partial = partial; rec = rec }) t args v).visit → IsTrue pure × IsQuiet v
+call_quiet : (pure multi partial rec : Bool) (t : ℕ) (args : SiteTerms) (v : Visit) → MetNoImpureCall (visit_call (record { pure = pure; multi = multi; partial = partial; rec = rec }) t args v).visit → IsTrue pure × MetNoImpureCall v
 call_quiet true multi partial rec t args v h =
     (refl, quiet_before multi (constructor_call t args 0) (making (call_sites (record { pure = true; multi = multi; partial = partial; rec = rec }) (constructor_call t args 0)) v) h)
 call_quiet false multi partial rec t args v h =
     absurd (not_nothing (where_multi (record { pure = false; multi = multi; partial = partial; rec = rec }) (constructor_call t args (suc v.impure_calls)) (making (call_sites (record { pure = false; multi = multi; partial = partial; rec = rec }) (constructor_call t args (suc v.impure_calls))) v)).demands.impure _ h)
 
-term_quiet : (k : Kind) (t : ℕ) (a : ValuedAll) → IsQuiet (visit_term k t a).visit → IsTrue (flags_of k).pure × IsQuiet a.visit
+term_quiet : (k : Kind) (t : ℕ) (a : ValuedAll) → MetNoImpureCall (visit_term k t a).visit → IsTrue (flags_of k).pure × MetNoImpureCall a.visit
 term_quiet (a_variant ty variant) t a h = (refl, h)
 term_quiet (a_struct ty) t a h = (refl, h)
 term_quiet (a_call flags infallible) t a h = call_quiet flags.pure flags.multi flags.partial flags.rec t a.sites a.visit h
@@ -73,7 +73,7 @@ term_quiet unknown t a h = (refl, h)
 module _ (p : Program) where
   mutual
     -- an expression whose visit meets no impure call is pure
-    pub expr_quiet : (x : TypedExpr) (v : Visit) → IsQuiet (visit_expr p x v).visit → IsPureExpr p x × IsQuiet v
+    pub expr_quiet : (x : TypedExpr) (v : Visit) → MetNoImpureCall (visit_expr p x v).visit → IsPureExpr p x × MetNoImpureCall v
     expr_quiet (make_term ty t args) v h = let a = term_quiet (kind p t) t (visit_exprs p args v) h in let b = exprs_quiet args v a.1 in ((a.0, b.0), b.1)
     expr_quiet (make_var ty x) v h = (tt, h)
     expr_quiet (make_bool ty b) v h = (tt, h)
@@ -81,11 +81,11 @@ module _ (p : Program) where
     expr_quiet (make_prim ty name) v h = (tt, h)
     expr_quiet (make_let ty defs body) v h = let a = expr_quiet body (visit_lets p defs v) h in let b = lets_quiet defs v a.1 in ((b.0, a.0), b.1)
 
-    exprs_quiet : (xs : TypedExprs) (v : Visit) → IsQuiet (visit_exprs p xs v).visit → ArePureExprs p xs × IsQuiet v
+    exprs_quiet : (xs : TypedExprs) (v : Visit) → MetNoImpureCall (visit_exprs p xs v).visit → ArePureExprs p xs × MetNoImpureCall v
     exprs_quiet no_typed_expr v h = (tt, h)
     exprs_quiet (typed_expr_and x xs) v h = let a = exprs_quiet xs (visit_expr p x v).visit h in let b = expr_quiet x v a.1 in ((b.0, a.0), b.1)
 
-    lets_quiet : (ds : TypedLets) (v : Visit) → IsQuiet (visit_lets p ds v) → ArePureLets p ds × IsQuiet v
+    lets_quiet : (ds : TypedLets) (v : Visit) → MetNoImpureCall (visit_lets p ds v) → ArePureLets p ds × MetNoImpureCall v
     lets_quiet no_typed_let v h = (tt, h)
     lets_quiet (typed_let_and x ty value rest) v h =
         let a = lets_quiet rest (binding x (visit_expr p value v).site (visit_expr p value v).visit) h in let b = expr_quiet value v a.1 in ((b.0, a.0), b.1)

@@ -12,10 +12,10 @@ use Rattle.isle_model.proofs.Elements.{in_from_contains, some_is, none_some}
 use Rattle.isle_model.specs.sites.DemandedGates.{IsPureExpr, ArePureIfLets, DemandsGates}
 use Rattle.isle_laws_visits.specs.VisitLaws.{WellTypedRulesDemandGates}
 use Rattle.isle_laws_visits.proofs.Gates.{asking_of, gates_stay, weaker, stronger, unwrapped}
-use Rattle.isle_laws_visits.proofs.Visited.{Good, MayTest, IsSound, Later, good_stays, now, then_later, later_making, asked_binds, asked_more, asked_calls, all_asked, later_asked, AreGood, later_counting}
+use Rattle.isle_laws_visits.proofs.AskedSites.{Good, MayTest, IsSound, Later, good_stays, now, then_later, later_making, asked_binds, asked_more, asked_calls, all_asked, later_asked, AreGood, later_counting}
 use Rattle.isle_laws_visits.proofs.Calls.{no_call}
 use Rattle.isle_laws_visits.proofs.Patterns.{from_then, IsAfter, unbound, then_after, pattern_after}
-use Rattle.isle_laws_visits.proofs.Exprs.{IsValued, expr_valued}
+use Rattle.isle_laws_visits.proofs.Exprs.{IsValuedUnasked, expr_valued}
 use Rattle.isle_laws_visits.proofs.RuleParts.{iflet_parts, RuleParts, rule_parts}
 use Rattle.isle_laws_typing.proofs.FormedParts.{from_if}
 use Rattle.isle_laws_typing.proofs.WellTypedPrograms.{pure_iflets}
@@ -25,8 +25,8 @@ pub record IsPast (v w : Visit) (more : List (ℕ × ℕ)) : Type 0 where
   pub later : Later v w
   pub good : AreGood true true more w
 
-then_past : (u v w : Visit) (more : List (ℕ × ℕ)) → Later u v → IsPast v w more → IsPast u w more
-then_past u v w more l r = record { later = then_later u v w l r.later; good = r.good }
+then_is_past : (u v w : Visit) (more : List (ℕ × ℕ)) → Later u v → IsPast v w more → IsPast u w more
+then_is_past u v w more l r = record { later = then_later u v w l r.later; good = r.good }
 
 nothing_past : (v : Visit) (vars more : List (ℕ × ℕ)) → Some vars ≡ Some more → AreGood true true vars v → IsPast v v more
 nothing_past v vars more e g = record { later = now v; good = subst (λ vs. AreGood true true vs v) (some_is vars more e) g }
@@ -79,7 +79,7 @@ module _ (p : Program) (of : IfLetMet p) where
   abbrev w : Visit
   w = asking_all (unwraps s) u
 
-  valued : IsValued true vars v (visit_expr p i.rhs v)
+  valued : IsValuedUnasked true vars v (visit_expr p i.rhs v)
   valued = expr_valued true p i.rhs v vars of.formed (λ q. of.pure) (less_good true vars v g)
 
   -- an if-let's value may be tested, once the calls that it unwraps are asked to answer
@@ -103,16 +103,16 @@ module _ (p : Program) (of : IfLetMet p) where
   pub iflet_past : (more : List (ℕ × ℕ)) → formed_pattern p i.lhs vars ≡ Some more → IsPast v (visit_pattern p i.lhs s w) more
   iflet_past more e =
       let b = iflet_after more e in
-      then_past v u (visit_pattern p i.lhs s w) more valued.later
-      (then_past u w (visit_pattern p i.lhs s w) more asked_later (record { later = b.later; good = b.good }))
+      then_is_past v u (visit_pattern p i.lhs s w) more valued.later
+      (then_is_past u w (visit_pattern p i.lhs s w) more asked_later (record { later = b.later; good = b.good }))
 
-pub iflets_past : (p : Program) (is : List TypedIfLet) (v : Visit) (vars more : List (ℕ × ℕ)) → formed_iflets p is vars ≡ Some more → ArePureIfLets p is → AreGood true true vars v → IsPast v (visit_iflets p is v) more
-iflets_past p [] v vars more f h g = nothing_past v vars more f g
-iflets_past p (i ∷ is) v vars more f h g =
+pub iflets_are_past : (p : Program) (is : List TypedIfLet) (v : Visit) (vars more : List (ℕ × ℕ)) → formed_iflets p is vars ≡ Some more → ArePureIfLets p is → AreGood true true vars v → IsPast v (visit_iflets p is v) more
+iflets_are_past p [] v vars more f h g = nothing_past v vars more f g
+iflets_are_past p (i ∷ is) v vars more f h g =
     let a = iflet_parts p i is vars more f in
     let r = iflet_past p (record { iflet = i; visit = v; vars = vars; formed = a.value; pure = h.0; good = g }) a.mid a.pattern in
     let w = visit_pattern p i.lhs (visit_expr p i.rhs v).site (asking_all (unwraps (visit_expr p i.rhs v).site) (visit_expr p i.rhs v).visit) in
-    then_past v w (visit_iflets p is w) more r.later (iflets_past p is w a.mid more a.rest h.1 r.good)
+    then_is_past v w (visit_iflets p is w) more r.later (iflets_are_past p is w a.mid more a.rest h.1 r.good)
 
 -- the visit of a rule before its right side: its arguments, then its if-lets
 pub record IsPastSides (p : Program) (r : TypedRule) (a : RuleParts p r) : Type 0 where
@@ -122,7 +122,7 @@ pub record IsPastSides (p : Program) (r : TypedRule) (a : RuleParts p r) : Type 
 pub sides_past : (p : Program) (r : TypedRule) (a : RuleParts p r) → ArePureIfLets p r.iflets → IsPastSides p r a
 sides_past p r a h =
     let args = args_after p 0 r.args a.entry.arg_tys visit_start [] a.mid a.args (λ x k. absurd (false≢true k)) in
-    record { args = args; iflets = iflets_past p r.iflets (visit_args p 0 r.args visit_start) a.mid a.vars a.iflets h args.good }
+    record { args = args; iflets = iflets_are_past p r.iflets (visit_args p 0 r.args visit_start) a.mid a.vars a.iflets h args.good }
 
 -- the whole visit
 record IsDone (a : Valued) : Type 0 where

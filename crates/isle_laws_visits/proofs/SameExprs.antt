@@ -13,7 +13,7 @@ use Rattle.isle_model.specs.lists.Formed.{var_type, with_new, of_entry, is_forme
 use Rattle.isle_model.specs.sites.DemandedGates.{IsPureExpr, ArePureExprs, ArePureLets}
 use Rattle.isle_model.proofs.Elements.{some_is}
 use Rattle.isle_model.proofs.Options.{is_there}
-use Rattle.isle_laws_visits.proofs.Visited.{Same, then_same, same_binding}
+use Rattle.isle_laws_visits.proofs.AskedSites.{Same, then_same, same_binding}
 use Rattle.isle_laws_visits.proofs.Patterns.{from_then, from_new}
 use Rattle.isle_laws_visits.proofs.WithSites.{term_binds}
 use Rattle.isle_laws_typing.proofs.FormedParts.{from_if, has_type, from_vars}

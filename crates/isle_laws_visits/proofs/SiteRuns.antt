@@ -3,11 +3,11 @@ use Rattle.std.proofs.Common.{◌≡◌, ℕ, Bool, true, false, not, if◌then�
 use Rattle.std.specs.List.{AllZip}
 use Rattle.isle_model.specs.lists.Tables.{Flags}
 use Rattle.isle_model.specs.sites.Sites.{Constraint, is_present, SiteTerm, SiteTerms, no_site_term, site_term_and, argument, is_bool, is_int, is_prim, is_variant, is_struct, bool_term, int_term, prim_term, variant_made, struct_made}
-use Rattle.isle_model.specs.visits.Demands.{Visit, visit_start, site_term_eq, asking, asking_all, equating, unwraps, Opened, Valued, valued, visit_call, taking_argument}
+use Rattle.isle_model.specs.visits.Demands.{Visit, visit_start, site_term_eq, asking, asking_all, equating, unwraps, Opened, Valued, valued, visit_call, taking_argument, fields_opened, value_made}
 use Rattle.isle_model.specs.visits.Runs.{done}
-use Rattle.isle_model.specs.visits.SiteVisitor.{fields_opened, extractor_opened, input_sites, value_made, site_patterns, site_exprs, site_rules}
+use Rattle.isle_model.specs.visits.SiteVisitor.{extractor_opened, sites_of_inputs, site_patterns, site_exprs, site_rules}
 use Rattle.isle_model.proofs.Elements.{none_some}
-use Rattle.isle_laws_visits.proofs.Visited.{equated}
+use Rattle.isle_laws_visits.proofs.AskedSites.{equated}
 use Rattle.isle_laws_visits.specs.Followers.{Follower, GoesOn, GivesParts, Gives, NameInputs, FollowsSites, FollowsPatterns, FollowsExprs, FollowsRules, SiteRunsVisit}
 use Rattle.isle_laws_visits.proofs.FollowedRules.{visits_follow_lem}
 
@@ -23,8 +23,8 @@ by_vars : (P : Visit → Type 0) (s v : Visit) → Alike s v → P (with_vars s.
 by_vars P s v h k =
     let same : s ≡ with_vars s.vars v = λ i. record { vars = s.vars; impure_calls = h.1 i; demands = h.0 i } in subst P (sym same) k
 
-equating_alike : (a b : SiteTerm) (s v : Visit) → Alike s v → Alike (equating a b s) (equating a b v)
-equating_alike a b s v h =
+equated_alike : (a b : SiteTerm) (s v : Visit) → Alike s v → Alike (equating a b s) (equating a b v)
+equated_alike a b s v h =
     by_vars (λ z. Alike (equating a b z) (equating a b v)) s v h (by (site_term_eq a b))
   where
     w : Visit
@@ -49,9 +49,9 @@ opened_alike multi infallible term n u s v h = by_vars (λ z. AlikeOpened (extra
     by false true = (refl, (refl, refl))
     by false false = (refl, (refl, refl))
 
-called_alike : (pure multi partial rec : Bool) (term : ℕ) (us : SiteTerms) (s v : Visit) → Alike s v
+calling_alike : (pure multi partial rec : Bool) (term : ℕ) (us : SiteTerms) (s v : Visit) → Alike s v
     → AlikeValued (visit_call (record { pure = pure; multi = multi; partial = partial; rec = rec }) term us s) (visit_call (record { pure = pure; multi = multi; partial = partial; rec = rec }) term us v)
-called_alike pure multi partial rec term us s v h = by_vars (λ z. AlikeValued (visit_call (flags pure multi) term us z) (visit_call (flags pure multi) term us v)) s v h (by pure multi)
+calling_alike pure multi partial rec term us s v h = by_vars (λ z. AlikeValued (visit_call (flags pure multi) term us z) (visit_call (flags pure multi) term us v)) s v h (by pure multi)
   where
     flags : Bool → Bool → Flags
     flags x y = record { pure = x; multi = y; partial = partial; rec = rec }
@@ -62,9 +62,9 @@ called_alike pure multi partial rec term us s v h = by_vars (λ z. AlikeValued (
     by false true = (refl, (refl, refl))
     by false false = (refl, (refl, refl))
 
-asked_alike : (us : List SiteTerm) (s v : Visit) → Alike s v → Alike (asking_all us s) (asking_all us v)
-asked_alike [] s v h = h
-asked_alike (u ∷ us) s v h = asked_alike us (asking u is_present s) (asking u is_present v) (by_vars (λ z. Alike (asking u is_present z) (asking u is_present v)) s v h (refl, refl))
+asking_alike : (us : List SiteTerm) (s v : Visit) → Alike s v → Alike (asking_all us s) (asking_all us v)
+asking_alike [] s v h = h
+asking_alike (u ∷ us) s v h = asking_alike us (asking u is_present s) (asking u is_present v) (by_vars (λ z. Alike (asking u is_present z) (asking u is_present v)) s v h (refl, refl))
 
 -- 2. the visitor of sites as a follower: its state stands where a visit does but for variables, its ids are sites, and it
 -- never ends on the way
@@ -89,7 +89,7 @@ module _ (s t : Visit) where
   gives : (a b : Valued) (r : Result SiteTerm ⊥) → AlikeValued a b → done a.site a.visit r t → Gives site_follower s r t b
   gives a b r h step = subst (λ z. Gives site_follower s z t b) (sym step.0) (record { stands = subst (λ z. Alike z b.visit) (sym step.1) h.1; kept = λ u n k. k }, h.0)
 
-inputs_are : (s : Visit) (us : SiteTerms) (inputs : List (SiteTerm × ℕ)) → NameInputs site_follower s us inputs → input_sites inputs ≡ us
+inputs_are : (s : Visit) (us : SiteTerms) (inputs : List (SiteTerm × ℕ)) → NameInputs site_follower s us inputs → sites_of_inputs inputs ≡ us
 inputs_are s no_site_term [] h = refl
 inputs_are s no_site_term (x ∷ xs) h = absurd h
 inputs_are s (site_term_and u us) [] h = absurd h
@@ -99,7 +99,7 @@ site_patterns_follow : FollowsPatterns site_follower site_patterns
 site_patterns_follow = record {
   equal = λ s w a b m n ty r t h e f step.
       went s t (equating m n s) (equating a b w) r
-      (subst (λ z. Alike (equating z n s) (equating a b w)) (sym e) (subst (λ z. Alike (equating a z s) (equating a b w)) (sym f) (equating_alike a b s w h))) step;
+      (subst (λ z. Alike (equating z n s) (equating a b w)) (sym e) (subst (λ z. Alike (equating a z s) (equating a b w)) (sym f) (equated_alike a b s w h))) step;
   bool = λ s w u n ty b r t h e step. asked s w u n (is_bool b ty) r t h e step;
   int = λ s w u n ty z r t h e step. asked s w u n (is_int z ty) r t h e step;
   prim = λ s w u n ty name r t h e step. asked s w u n (is_prim name) r t h e step;
@@ -121,26 +121,26 @@ site_patterns_follow = record {
         (subst (λ z. AlikeOpened (fields_opened c m z s) (fields_opened c m u w)) (sym e) (refl, by_vars (λ z. Alike (fields_opened c m u z).visit (fields_opened c m u w).visit) s w h (refl, refl))) step
 
 -- a value that is made as one site
-made_alike : (a : SiteTerm) (s v : Visit) → Alike s v → AlikeValued (value_made a s) (value_made a v)
-made_alike a s v h = (refl, by_vars (λ z. Alike (value_made a z).visit (value_made a v).visit) s v h (refl, refl))
+making_alike : (a : SiteTerm) (s v : Visit) → Alike s v → AlikeValued (value_made a s) (value_made a v)
+making_alike a s v h = (refl, by_vars (λ z. Alike (value_made a z).visit (value_made a v).visit) s v h (refl, refl))
 
 site_exprs_follow : FollowsExprs site_follower site_exprs
 site_exprs_follow = record {
-  bool = λ s w ty b r t h step. gives s t (value_made (bool_term b ty) s) (value_made (bool_term b ty) w) r (made_alike (bool_term b ty) s w h) step;
-  int = λ s w ty z r t h step. gives s t (value_made (int_term z ty) s) (value_made (int_term z ty) w) r (made_alike (int_term z ty) s w h) step;
-  prim = λ s w ty name r t h step. gives s t (value_made (prim_term name) s) (value_made (prim_term name) w) r (made_alike (prim_term name) s w h) step;
+  bool = λ s w ty b r t h step. gives s t (value_made (bool_term b ty) s) (value_made (bool_term b ty) w) r (making_alike (bool_term b ty) s w h) step;
+  int = λ s w ty z r t h step. gives s t (value_made (int_term z ty) s) (value_made (int_term z ty) w) r (making_alike (int_term z ty) s w h) step;
+  prim = λ s w ty name r t h step. gives s t (value_made (prim_term name) s) (value_made (prim_term name) w) r (making_alike (prim_term name) s w h) step;
   variant = λ s w us inputs ty variant r t h named step.
       let made : SiteTerms → SiteTerm = variant_made ty variant in
-      gives s t (value_made (made (input_sites inputs)) s) (value_made (made us) w) r
-      (subst (λ z. AlikeValued (value_made (made z) s) (value_made (made us) w)) (sym (inputs_are s us inputs named)) (made_alike (made us) s w h)) step;
+      gives s t (value_made (made (sites_of_inputs inputs)) s) (value_made (made us) w) r
+      (subst (λ z. AlikeValued (value_made (made z) s) (value_made (made us) w)) (sym (inputs_are s us inputs named)) (making_alike (made us) s w h)) step;
   struct = λ s w us inputs ty r t h named step.
       let made : SiteTerms → SiteTerm = struct_made ty in
-      gives s t (value_made (made (input_sites inputs)) s) (value_made (made us) w) r
-      (subst (λ z. AlikeValued (value_made (made z) s) (value_made (made us) w)) (sym (inputs_are s us inputs named)) (made_alike (made us) s w h)) step;
+      gives s t (value_made (made (sites_of_inputs inputs)) s) (value_made (made us) w) r
+      (subst (λ z. AlikeValued (value_made (made z) s) (value_made (made us) w)) (sym (inputs_are s us inputs named)) (making_alike (made us) s w h)) step;
   constructor = λ s w us inputs ty term pure infallible multi rec r t h named step.
       let call : SiteTerms → Visit → Valued = visit_call (record { pure = pure; multi = multi; partial = not infallible; rec = rec }) term in
-      gives s t (call (input_sites inputs) s) (call us w) r
-      (subst (λ z. AlikeValued (call z s) (call us w)) (sym (inputs_are s us inputs named)) (called_alike pure multi (not infallible) rec term us s w h)) step;
+      gives s t (call (sites_of_inputs inputs) s) (call us w) r
+      (subst (λ z. AlikeValued (call z s) (call us w)) (sym (inputs_are s us inputs named)) (calling_alike pure multi (not infallible) rec term us s w h)) step;
 }
 
 site_rules_follow : FollowsRules site_follower site_rules
@@ -150,7 +150,7 @@ site_rules_follow = record {
       (refl, by_vars (λ z. Alike (taking_argument i z) (taking_argument i w)) s w h (refl, refl)) step;
   expr_as_pattern = λ s w u n r t h e nothing step.
       let asks = λ (z : SiteTerm) (x : Visit). valued z (asking_all (unwraps z) x) in
-      gives s t (asks n s) (asks u w) r (subst (λ z. AlikeValued (asks z s) (asks u w)) (sym e) (refl, asked_alike (unwraps u) s w h)) step;
+      gives s t (asks n s) (asks u w) r (subst (λ z. AlikeValued (asks z s) (asks u w)) (sym e) (refl, asking_alike (unwraps u) s w h)) step;
   pattern_as_expr = λ s n r t step. step;
   lend_pattern = λ s r t step. step;
   take_pattern = λ s l r t step. step;

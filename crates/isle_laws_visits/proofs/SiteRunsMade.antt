@@ -7,20 +7,18 @@ use Rattle.isle_model.specs.lists.Tables.{TermKindEntry, variant_term, struct_te
 use Rattle.isle_model.specs.rules.Outcome.{then_option}
 use Rattle.isle_model.specs.rules.Program.{Program, always_answers}
 use Rattle.isle_model.specs.rules.Typed.{TypedPattern, match_bind, match_var, match_bool, match_int, match_prim, match_term, match_any, match_and, TypedPatterns, no_typed_pattern, typed_pattern_and, TypedExpr, make_term, make_var, make_bool, make_int, make_prim, make_let, TypedExprs, no_typed_expr, typed_expr_and, TypedLets, no_typed_let, typed_let_and, TypedIfLet}
-use Rattle.isle_model.specs.sites.Sites.{is_bool, is_int, is_prim, is_struct, is_variant, SiteTerm, pick_of, some_part, argument, bool_term, extractor_call, int_term, prim_term, struct_field, struct_made, variant_field, variant_made}
-use Rattle.isle_model.specs.sites.Closure.{fields_from}
-use Rattle.isle_model.specs.visits.Demands.{Visit, visit_start, asking, asking_all, equating, pattern_count, Opened, open_call, taking_argument, unwraps, visit_call}
+use Rattle.isle_model.specs.sites.Sites.{is_bool, is_int, is_prim, is_struct, is_variant, SiteTerm, pick_of, some_part, argument, bool_term, extractor_call, int_term, prim_term, struct_field, struct_made, variant_field, variant_made, fields_from}
+use Rattle.isle_model.specs.visits.Demands.{Visit, visit_start, asking, asking_all, equating, pattern_count, Opened, open_call, taking_argument, unwraps, visit_call, fields_opened, value_made}
 use Rattle.isle_model.specs.visits.Runs.{BoundIds, bound_at, with_bound}
-use Rattle.isle_model.specs.visits.SiteVisitor.{any_parts, extractor_opened, fields_opened, input_sites, value_made, site_patterns, site_exprs, site_rules}
+use Rattle.isle_model.specs.visits.SiteVisitor.{any_parts, extractor_opened, sites_of_inputs, site_patterns, site_exprs, site_rules}
 use Rattle.isle_model.specs.visits.PatternRuns.{part_types, OpensKind, Opens, PatternRun, PartsRun, EachRun}
 use Rattle.isle_model.specs.visits.ExprRuns.{entry_arg_types, MakesKind, Makes, ExprRun, InputsRun, LetsRun}
 use Rattle.isle_model.specs.visits.RuleRuns.{ExchangeRun, PatternCall, ValueRun, ArgsRun, IfLetsRun}
 use Rattle.isle_model.proofs.Elements.{none_some, some_is}
 use Rattle.isle_model.proofs.Options.{then_some}
 use Rattle.isle_laws_visits.proofs.SameExprs.{from_let, from_args, from_body}
-use Rattle.isle_laws_visits.proofs.Patterns.{AsMany, as_many, from_new, output_count}
+use Rattle.isle_laws_visits.proofs.Patterns.{AsManySites, as_many_sites, from_new, output_count}
 use Rattle.isle_laws_visits.proofs.RuleParts.{rule_parts, iflet_parts}
-use Rattle.isle_laws_visits.proofs.WithSites.{same_fields}
 use Rattle.isle_laws_typing.proofs.FormedParts.{from_entry, from_if, has_type}
 use Rattle.isle_laws_visits.specs.Followers.{SiteRunsExist}
 use Rattle.isle_laws_visits.proofs.FittingPatterns.{parts_fit}
@@ -64,33 +62,33 @@ one_more_bound vs vars x ty s bound y h =
     ]
 
 -- 2. patterns
-abbrev State : Type 0
-State = Visit × Bound
+abbrev VisitState : Type 0
+VisitState = Visit × Bound
 
 -- a run that ends with these variables bound, and with those that were
-record Ends (R : State → Type 0) (vs : Bound) (more : List (ℕ × ℕ)) : Type 0 where
-  last : State
+record EndsBound (R : VisitState → Type 0) (vs : Bound) (more : List (ℕ × ℕ)) : Type 0 where
+  last : VisitState
   run : R last
   bound : AreBound last.1 more
   kept : (y : ℕ) → IsBound vs y → IsBound last.1 y
 
 -- one that leaves them
-ends_here : (R : State → Type 0) (v : Visit) (vs : Bound) (vars more : List (ℕ × ℕ)) → vars ≡ more → R (v, vs) → AreBound vs vars → Ends R vs more
+ends_here : (R : VisitState → Type 0) (v : Visit) (vs : Bound) (vars more : List (ℕ × ℕ)) → vars ≡ more → R (v, vs) → AreBound vs vars → EndsBound R vs more
 ends_here R v vs vars more e run bound = record { last = (v, vs); run = run; bound = subst (AreBound vs) e bound; kept = λ y h. h }
 
 -- as many sites as parts
-open_count : (multi infallible pure partial rec : Bool) (call : SiteTerm) (args : TypedPatterns) (v : Visit) → AsMany (open_call (record { pure = pure; multi = multi; partial = partial; rec = rec }) infallible call args v).inputs args
+open_count : (multi infallible pure partial rec : Bool) (call : SiteTerm) (args : TypedPatterns) (v : Visit) → AsManySites (open_call (record { pure = pure; multi = multi; partial = partial; rec = rec }) infallible call args v).inputs args
 open_count true infallible pure partial rec call args v = output_count (pick_of call) args
 open_count false true pure partial rec call args v = output_count call args
 open_count false false pure partial rec call args v = output_count (some_part call) args
 
-many_fields : (f : ℕ → SiteTerm) (args : TypedPatterns) (n : ℕ) → n ≡ pattern_count args → AsMany (fields_from f 0 n) args
-many_fields f args n e = subst (λ us. AsMany us args) (same_fields f 0 args ∙ ap (fields_from f 0) (sym e)) (as_many f 0 args)
+many_fields : (f : ℕ → SiteTerm) (args : TypedPatterns) (n : ℕ) → n ≡ pattern_count args → AsManySites (fields_from f 0 n) args
+many_fields f args n e = subst (λ m. AsManySites (fields_from f 0 m) args) (sym e) (as_many_sites f 0 args)
 
 module _ (ty term : ℕ) (args : TypedPatterns) (u : SiteTerm) where
   -- a term's pattern is opened
   abbrev IsOpenedBy : (Visit → List SiteTerm → Type 0) → Type 0
-  IsOpenedBy R = (ids : List SiteTerm) × (m : Visit) × R m ids × AsMany ids args
+  IsOpenedBy R = (ids : List SiteTerm) × (m : Visit) × R m ids × AsManySites ids args
 
   kind_opened : (w : Visit) (e : TermEntry) (k : TermKindEntry) → has_extractor k ≡ true → length e.arg_tys ≡ pattern_count args
       → IsOpenedBy (λ m ids. OpensKind None site_patterns e ty term (part_types args) u k w (Ok ids) m)
@@ -109,7 +107,7 @@ module _ (ty term : ℕ) (args : TypedPatterns) (u : SiteTerm) where
       let call = extractor_call term u in
       let a = extractor_opened term n always flags.multi u w in
       let same = call_alike (any_parts n) args (any_count n ∙ types_count args) flags.multi flags.partial flags.rec flags.pure always call w in
-      (a.inputs, a.visit, inr (refl, refl), subst (λ (b : Opened). AsMany b.inputs args) (sym same) (open_count flags.multi always flags.pure flags.partial flags.rec call args w))
+      (a.inputs, a.visit, inr (refl, refl), subst (λ (b : Opened). AsManySites b.inputs args) (sym same) (open_count flags.multi always flags.pure flags.partial flags.rec call args w))
 
   term_opened : (w : Visit) (o : Option TermEntry) (e : TermEntry) → o ≡ Some e → has_extractor e.kind ≡ true → length e.arg_tys ≡ pattern_count args
       → IsOpenedBy (λ m ids. Opens None site_patterns ty term (part_types args) u o w (Ok ids) m)
@@ -118,8 +116,8 @@ module _ (ty term : ℕ) (args : TypedPatterns) (u : SiteTerm) where
 
 module _ (p : Program) where
   mutual
-    pattern_made : (q : TypedPattern) (n : SiteTerm) (s : State) (vars more : List (ℕ × ℕ)) → formed_pattern p q vars ≡ Some more → AreBound s.1 vars
-        → Ends (λ t. PatternRun None site_patterns p.terms q n s (Ok tt) t) s.1 more
+    pattern_made : (q : TypedPattern) (n : SiteTerm) (s : VisitState) (vars more : List (ℕ × ℕ)) → formed_pattern p q vars ≡ Some more → AreBound s.1 vars
+        → EndsBound (λ t. PatternRun None site_patterns p.terms q n s (Ok tt) t) s.1 more
     pattern_made (match_bind ty x of) n s vars more f bound =
         let a = from_if (pattern_type of == ty) (then_option (formed_pattern p of vars) (with_new x ty)) more f in
         let b = then_some (formed_pattern p of vars) (with_new x ty) more a.1 in
@@ -153,8 +151,8 @@ module _ (p : Program) where
     pattern_made (match_and ty parts) n s vars more f bound =
         let r = each_made parts n s ty vars more f bound in record { last = r.last; run = r.run; bound = r.bound; kept = r.kept }
 
-    parts_made : (qs : TypedPatterns) (ids : List SiteTerm) (s : State) (tys : List ℕ) (vars more : List (ℕ × ℕ)) → formed_parts p qs tys vars ≡ Some more → AsMany ids qs → AreBound s.1 vars
-        → Ends (λ t. PartsRun None site_patterns p.terms qs ids s (Ok tt) t) s.1 more
+    parts_made : (qs : TypedPatterns) (ids : List SiteTerm) (s : VisitState) (tys : List ℕ) (vars more : List (ℕ × ℕ)) → formed_parts p qs tys vars ≡ Some more → AsManySites ids qs → AreBound s.1 vars
+        → EndsBound (λ t. PartsRun None site_patterns p.terms qs ids s (Ok tt) t) s.1 more
     parts_made no_typed_pattern [] s [] vars more f many bound =
         ends_here (λ t. PartsRun None site_patterns p.terms no_typed_pattern [] s (Ok tt) t) s.0 s.1 vars more (some_is vars more f) (refl, refl) bound
     parts_made no_typed_pattern (id ∷ ids) s [] vars more f many bound = absurd many
@@ -168,8 +166,8 @@ module _ (p : Program) where
         let r = parts_made rest ids first.last tys b.0 more b.2 many first.bound in
         record { last = r.last; run = inl (tt, first.last, first.run, r.run); bound = r.bound; kept = λ y h. r.kept y (first.kept y h) }
 
-    each_made : (qs : TypedPatterns) (n : SiteTerm) (s : State) (ty : ℕ) (vars more : List (ℕ × ℕ)) → formed_each p qs ty vars ≡ Some more → AreBound s.1 vars
-        → Ends (λ t. EachRun None site_patterns p.terms qs n s (Ok tt) t) s.1 more
+    each_made : (qs : TypedPatterns) (n : SiteTerm) (s : VisitState) (ty : ℕ) (vars more : List (ℕ × ℕ)) → formed_each p qs ty vars ≡ Some more → AreBound s.1 vars
+        → EndsBound (λ t. EachRun None site_patterns p.terms qs n s (Ok tt) t) s.1 more
     each_made no_typed_pattern n s ty vars more f bound =
         ends_here (λ t. EachRun None site_patterns p.terms no_typed_pattern n s (Ok tt) t) s.0 s.1 vars more (some_is vars more f) (refl, refl) bound
     each_made (typed_pattern_and q rest) n s ty vars more f bound =
@@ -181,11 +179,11 @@ module _ (p : Program) where
 
   -- 3. expressions
   kind_made : (ty term : ℕ) (inputs : List (SiteTerm × ℕ)) (s : Visit) (k : TermKindEntry) → has_constructor k ≡ true → (n : SiteTerm) × (t : Visit) × MakesKind site_exprs ty term inputs k s (Ok n) t
-  kind_made ty term inputs s (variant_term variant) h = let a = value_made (variant_made ty variant (input_sites inputs)) s in (a.site, a.visit, (refl, refl))
-  kind_made ty term inputs s struct_term h = let a = value_made (struct_made ty (input_sites inputs)) s in (a.site, a.visit, (refl, refl))
+  kind_made ty term inputs s (variant_term variant) h = let a = value_made (variant_made ty variant (sites_of_inputs inputs)) s in (a.site, a.visit, (refl, refl))
+  kind_made ty term inputs s struct_term h = let a = value_made (struct_made ty (sites_of_inputs inputs)) s in (a.site, a.visit, (refl, refl))
   kind_made ty term inputs s (declared_term flags None x) h = absurd (false≢true h)
   kind_made ty term inputs s (declared_term flags (Some c) x) h =
-      let a = visit_call (record { pure = flags.pure; multi = flags.multi; partial = not (not flags.partial); rec = flags.rec }) term (input_sites inputs) s in (a.site, a.visit, (refl, refl))
+      let a = visit_call (record { pure = flags.pure; multi = flags.multi; partial = not (not flags.partial); rec = flags.rec }) term (sites_of_inputs inputs) s in (a.site, a.visit, (refl, refl))
 
   mutual
     expr_made : (x : TypedExpr) (vs : Bound) (vars : List (ℕ × ℕ)) (s : Visit) → is_formed_expr p x vars ≡ true → AreBound vs vars → (n : SiteTerm) × (t : Visit) × ExprRun None site_exprs p.terms x vs s (Ok n) t

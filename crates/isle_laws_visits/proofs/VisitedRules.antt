@@ -5,7 +5,7 @@ use Rattle.isle_model.specs.sites.Sites.{is_present, SiteTerm, no_site}
 use Rattle.isle_model.specs.rules.Typed.{TypedRule}
 use Rattle.isle_model.specs.visits.Demands.{Demands, demands_of, Visit, making, asking, unwraps, asking_all}
 use Rattle.isle_model.proofs.Elements.{In, in_from_contains, contains_from_in, in_left, in_either}
-use Rattle.isle_laws_visits.proofs.Visited.{equated}
+use Rattle.isle_laws_visits.proofs.AskedSites.{equated}
 use Rattle.isle_laws_visits.proofs.WithSites.{by_equating, Onward, KeptWithSites, no_step, rule_given}
 
 -- a site that is made, or none

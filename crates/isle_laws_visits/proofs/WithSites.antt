@@ -1,17 +1,16 @@
 -- What each step of a visit keeps of its demands, and of the sites that it stands at, binds and values, the visits of
 -- patterns, expressions and rules keep.
-use Rattle.std.proofs.Common.{◌≡◌, ℕ, ℤ, zero, suc, ◌+◌, ◌<◌, Contains, ap, ◌==◌, Bool, true, false, List, [], ◌∷◌, Some, refl, sym, subst, inl, inr, arith}
+use Rattle.std.proofs.Common.{◌≡◌, ℕ, ℤ, suc, Contains, ◌==◌, Bool, true, false, List, [], ◌∷◌, Some, refl, sym, subst, inl, inr}
 use Rattle.std.proofs.lemmas.Bool.{cases_Bool, cond-true, cond-false}
 use Rattle.isle_model.specs.lists.Tables.{Flags}
 use Rattle.isle_model.specs.rules.Meaning.{look}
 use Rattle.isle_model.specs.rules.Program.{Program, Kind, a_variant, a_struct, a_call, unknown, kind, is_partial}
 use Rattle.isle_model.specs.rules.Typed.{TypedPattern, match_bind, match_var, match_bool, match_int, match_prim, match_term, match_any, match_and, TypedPatterns, no_typed_pattern, typed_pattern_and, TypedExpr, make_term, make_var, make_bool, make_int, make_prim, make_let, TypedExprs, no_typed_expr, typed_expr_and, TypedLets, no_typed_let, typed_let_and, TypedIfLet, TypedRule}
-use Rattle.isle_model.specs.sites.Sites.{Constraint, is_variant, is_struct, is_bool, is_int, is_prim, is_present, SiteTerm, bool_term, int_term, prim_term, argument, extractor_call, constructor_call, pick_of, variant_made, variant_field, struct_made, struct_field, some_made, some_part, tuple_part, no_site, SiteTerms, no_site_term, site_term_and}
-use Rattle.isle_model.specs.visits.Demands.{Count, fields_matched, outputs_taken, argument_taken, counting, Demands, site_term_eq, Visit, visit_start, making, asking, equating, iterating, calling, binding, from_to, pattern_count, opened, output_sites, part_sites, call_result, call_sites, where_multi, unwraps_all, or_no_site, var_site, Opened, open_call, open_term, visit_pattern, visit_each, visit_all, Valued, ValuedAll, valued, visit_call, visit_term, visit_expr, visit_exprs, visit_lets, unwraps, asking_all, visit_args, visit_iflets, finished, visit_rule, taking_argument, outputs_opened}
-use Rattle.isle_model.specs.sites.Closure.{fields_from, field_terms}
+use Rattle.isle_model.specs.sites.Sites.{Constraint, is_variant, is_struct, is_bool, is_int, is_prim, is_present, SiteTerm, bool_term, int_term, prim_term, argument, extractor_call, constructor_call, pick_of, variant_made, variant_field, struct_made, struct_field, some_made, some_part, tuple_part, no_site, SiteTerms, no_site_term, site_term_and, field_terms}
+use Rattle.isle_model.specs.visits.Demands.{fields_opened, Count, fields_matched, outputs_taken, argument_taken, counting, Demands, site_term_eq, Visit, visit_start, making, asking, equating, iterating, calling, binding, pattern_count, output_sites, part_sites, call_result, call_sites, where_multi, unwraps_all, or_no_site, var_site, Opened, open_call, open_term, visit_pattern, visit_each, visit_all, Valued, ValuedAll, valued, visit_call, visit_term, visit_expr, visit_exprs, visit_lets, unwraps, asking_all, visit_args, visit_iflets, finished, visit_rule, taking_argument, outputs_opened}
 use Rattle.isle_model.proofs.Elements.{In, in_right, in_either}
-use Rattle.isle_laws_visits.proofs.Patterns.{in_numbers}
-use Rattle.isle_laws_visits.proofs.Visited.{equated, equating_binds, asked_binds, at_right}
+use Rattle.isle_laws_visits.proofs.Patterns.{in_fields}
+use Rattle.isle_laws_visits.proofs.AskedSites.{equated, equating_binds, asked_binds, at_right}
 
 -- 1. steps
 -- an argument, or a constant that an expression makes
@@ -39,21 +38,6 @@ by_leaf P a b c d (some_made s) l = absurd l
 by_leaf P a b c d (some_part s) l = absurd l
 by_leaf P a b c d (tuple_part s i) l = absurd l
 by_leaf P a b c d no_site l = absurd l
-
--- one of n fields from i on
-pub in_fields : (f : ℕ → SiteTerm) (i n : ℕ) (u : SiteTerm) → In (fields_from f i n) u → (j : ℕ) × (j < i + n) × (f j ≡ u)
-in_fields f i zero u k = absurd k
-in_fields f i (suc n) u (inl e) = (i, omega arith, e)
-in_fields f i (suc n) u (inr k) = let r = in_fields f (suc i) n u k in (r.0, let l : r.0 < suc i + n = r.1 in omega arith, r.2)
-
--- what holds of all fields of a site holds of those that a constraint gives it
-pub by_field : (P : SiteTerm → Type 0) (a : SiteTerm) → ((variant i : ℕ) → P (variant_field a variant i)) → ((i : ℕ) → P (struct_field a i)) → (c : Constraint) (x : SiteTerm) → In (field_terms c a) x → P x
-by_field P a f g (is_variant ty variant n) x i = let k = in_fields (variant_field a variant) 0 n x i in subst P k.2 (f variant k.0)
-by_field P a f g (is_struct ty n) x i = let k = in_fields (struct_field a) 0 n x i in subst P k.2 (g k.0)
-by_field P a f g (is_bool v ty) x i = absurd i
-by_field P a f g (is_int z ty) x i = absurd i
-by_field P a f g (is_prim name) x i = absurd i
-by_field P a f g is_present x i = absurd i
 
 -- what holds with an equality more, or as it was
 pub by_equating : (P : Visit → Type 0) (a b : SiteTerm) (v : Visit) → P v → P (equated a b v) → P (equating a b v)
@@ -190,10 +174,6 @@ term_binds (a_call flags infallible) t a = value_binds flags.pure flags.multi fl
 term_binds unknown t a = refl
 
 -- 3. terms
-pub same_fields : (f : ℕ → SiteTerm) (i : ℕ) (args : TypedPatterns) → from_to f i args ≡ fields_from f i (pattern_count args)
-same_fields f i no_typed_pattern = refl
-same_fields f i (typed_pattern_and q qs) = ap (λ l. f i ∷ l) (same_fields f (suc i) qs)
-
 module _ (p : Program) (R : Demands → Type 0) (Q : Demands → SiteTerm → Type 0) (k : KeptWithSites R Q p) where
   outputs_at : (w : Visit) (s : SiteTerm) (args : TypedPatterns) → Onward R Q w.demands (making (part_sites s args) w).demands → Q w.demands s → (u : SiteTerm) → In (output_sites s args) u → Q (making (part_sites s args) w).demands u
   outputs_at w s no_typed_pattern o m u i = absurd i
@@ -201,7 +181,7 @@ module _ (p : Program) (R : Demands → Type 0) (Q : Demands → SiteTerm → Ty
   outputs_at w s (typed_pattern_and q (typed_pattern_and r rs)) o m u i =
       let args = typed_pattern_and q (typed_pattern_and r rs) in
       let d = (making (part_sites s args) w).demands in
-      let n = in_numbers (tuple_part s) 0 args u i in
+      let n = in_fields (tuple_part s) 0 (pattern_count args) u i in
       subst (Q d) n.2 (k.tuple d s n.0 (in_right w.demands.made (part_sites s args) (tuple_part s n.0) (subst (In (part_sites s args)) (sym n.2) i)) (o.stays s m))
 
   with_parts : (d : Demands) (w : Visit) (s : SiteTerm) (args : TypedPatterns) → Onward R Q d w.demands → Q w.demands s → IsOpened R Q d (outputs_opened s args w)
@@ -233,31 +213,25 @@ module _ (p : Program) (R : Demands → Type 0) (Q : Demands → SiteTerm → Ty
       let b = k.asks_call t s w (record { pure = pure; multi = false; partial = partial; rec = rec }) e refl (in_right v.demands.made sites call (inl refl)) (in_right v.demands.made sites (some_part call) (inr (inl refl))) a.holds (a.stays s m) in
       with_parts v.demands (asking call is_present w) (some_part call) args (then_onward R Q v.demands w.demands (asking call is_present w).demands a b.onward) b.site
 
-  -- a site that is asked for fields, which are made first
-  fields_opened : (fields : List SiteTerm) (s : SiteTerm) (c : Constraint) (v : Visit) → fields ≡ field_terms c s → R v.demands → Q v.demands s → IsOpened R Q v.demands (opened fields (asking s c (making fields v)))
-  fields_opened fields s c v same h m =
-      let w = making fields v in
+  -- a site that is asked for fields, which are counted and made first
+  fields_open : (c : Constraint) (n : ℕ) (s : SiteTerm) (v : Visit) → R v.demands → Q v.demands s → IsOpened R Q v.demands (fields_opened c n s v)
+  fields_open c n s v h m =
+      let fields = field_terms c s in
+      let u = counting (fields_matched n) v in
+      let w = making fields u in
       let z = asking s c w in
-      let a = k.makes fields v h in
-      let b = k.asks s c w (λ x i. in_right v.demands.made fields x (subst (λ l. In l x) (sym same) i)) a.holds (a.stays s m) in
-      let o = then_onward R Q v.demands w.demands z.demands a b in
+      let a = k.counts (fields_matched n) v h in
+      let b = k.makes fields u a.holds in
+      let d = k.asks s c w (λ x i. in_right v.demands.made fields x i) b.holds (b.stays s (a.stays s m)) in
+      let o = then_onward R Q v.demands u.demands z.demands a (then_onward R Q u.demands w.demands z.demands b d) in
       record {
         onward = o;
-        inputs = λ u i. k.field z.demands c s u (in_right v.demands.made fields u i) (at_right v.demands.constraints (s, c)) (subst (λ l. In l u) same i) (o.stays s m);
+        inputs = λ x i. k.field z.demands c s x (in_right v.demands.made fields x i) (at_right v.demands.constraints (s, c)) i (o.stays s m);
       }
 
-  -- and which are counted before
-  counted_opened : (fields : List SiteTerm) (n : ℕ) (s : SiteTerm) (c : Constraint) (v : Visit) → fields ≡ field_terms c s → R v.demands → Q v.demands s
-      → IsOpened R Q v.demands (opened fields (asking s c (making fields (counting (fields_matched n) v))))
-  counted_opened fields n s c v same h m =
-      let u = counting (fields_matched n) v in
-      let a = k.counts (fields_matched n) v h in
-      let o = fields_opened fields s c u same a.holds (a.stays s m) in
-      record { onward = then_onward R Q v.demands u.demands (asking s c (making fields u)).demands a o.onward; inputs = o.inputs }
-
   term_opened : (n : Kind) (t : ℕ) (s : SiteTerm) (args : TypedPatterns) (v : Visit) → kind p t ≡ n → R v.demands → Q v.demands s → IsOpened R Q v.demands (open_term n t s args v)
-  term_opened (a_variant ty variant) t s args v e h m = counted_opened (from_to (variant_field s variant) 0 args) (pattern_count args) s (is_variant ty variant (pattern_count args)) v (same_fields (variant_field s variant) 0 args) h m
-  term_opened (a_struct ty) t s args v e h m = counted_opened (from_to (struct_field s) 0 args) (pattern_count args) s (is_struct ty (pattern_count args)) v (same_fields (struct_field s) 0 args) h m
+  term_opened (a_variant ty variant) t s args v e h m = fields_open (is_variant ty variant (pattern_count args)) (pattern_count args) s v h m
+  term_opened (a_struct ty) t s args v e h m = fields_open (is_struct ty (pattern_count args)) (pattern_count args) s v h m
   term_opened (a_call flags infallible) t s args v e h m = call_opened flags.pure flags.multi flags.partial flags.rec infallible t s args v e h m
   term_opened unknown t s args v e h m = record { onward = no_step R Q v.demands h; inputs = λ u i. absurd i }
 

@@ -7,9 +7,9 @@ use Rattle.isle_model.specs.rules.Program.{Program}
 use Rattle.isle_model.specs.rules.Typed.{TypedRule}
 use Rattle.isle_model.specs.sites.Sites as Sites
 use Rattle.isle_model.specs.sites.Sites.{is_variant, is_struct, is_bool, is_int, is_prim, is_present, SiteTerm, SiteTerms, no_site_term, site_term_and, argument, bool_term, int_term, prim_term, variant_made, struct_made}
-use Rattle.isle_model.specs.visits.Demands.{Visit, visit_start, asking, asking_all, equating, binding, taking_argument, unwraps, Opened, Valued, valued, visit_call, value_of_rule}
+use Rattle.isle_model.specs.visits.Demands.{Visit, visit_start, asking, asking_all, equating, binding, taking_argument, unwraps, Opened, Valued, valued, visit_call, value_of_rule, fields_opened, value_made}
 use Rattle.isle_model.specs.visits.RuleRuns.{RuleRun}
-use Rattle.isle_model.specs.visits.SiteVisitor.{fields_opened, extractor_opened, value_made, SiteRun}
+use Rattle.isle_model.specs.visits.SiteVisitor.{extractor_opened, SiteRun}
 use Rattle.isle_model.specs.visits.Visitors.{PatternSteps, ExprSteps, RuleSteps}
 use Rattle.isle_laws_visits.specs.VisitLaws.{Continues}
 
@@ -108,7 +108,8 @@ pub record FollowsSites {F S N : Type 0} (o : Follower F S N) (want : Option F) 
   pub ends : EndsOnTheWay o want
 
 -- 3. the laws
--- a visitor that follows the visitor of sites follows it through a rule that hangs together
+-- a visitor that follows the visitor of sites follows it through a rule that hangs together: a claim on all visitors, so a
+-- lemma has it, and no function's clause
 abbrev pub VisitsFollow : Type 1
 VisitsFollow =
     (F S N : Type 0) (o : Follower F S N) (want : Option F) (rules : RuleSteps F S S S N N N) (patterns : PatternSteps F S N) (exprs : ExprSteps F S N)

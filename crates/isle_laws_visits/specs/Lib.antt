@@ -1,4 +1,4 @@
 pub mod Followers
 pub mod LimitLaws
-pub mod RuleTerms
+pub mod RuleUses
 pub mod VisitLaws

@@ -16,10 +16,10 @@ PassedLimitIsMet =
     (p : Program) (before : List SiteTerm) (r : TypedRule) (l : RuleLimit) → PassesLimit p before r l
     → (m : RuleLimit) × (first_limit p before r ≡ Some m)
 
--- where nothing that the visit of a rule has counted passes a limit, and what it counts next does, that is the first that
--- is passed, and the sites made before are those that the visit has made
-abbrev pub VisitsEndAtCounts : Type 0
-VisitsEndAtCounts =
+-- the first count that passes a limit is the first limit that is passed, and what was made until then is what the visit had
+-- made
+abbrev pub FirstCountsArePassed : Type 0
+FirstCountsArePassed =
     (p : Program) (r : TypedRule) (v : Visit) (c : Count) (l : RuleLimit)
     → Continues (counting c v) (visit_rule p r).visit → first_passed v.demands.counted ≡ None → passed_by c ≡ Some l
     → (passed_in_visit p r ≡ Some (l, length v.demands.made)) × (take (length v.demands.made) (demands_of p r).made ≡ v.demands.made)

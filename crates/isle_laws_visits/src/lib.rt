@@ -1,12 +1,14 @@
 //! Laws of the visit of a typed rule: what it demands and makes, and which limit it meets first; and that a visitor
 //! which follows the visitor of sites step by step follows it through whole rules, faults included.
+//! This last law speaks of all visitors, so no clause can state it: `VisitsFollow` (`specs/Followers`) is proved by the lemma
+//! `visits_follow_lem` (`proofs/FollowedRules`).
 //!
 //! A function here has no code, or calls the laws that its proof rests on: its clause is a law, and its proof stands in
 //! `proofs/`.
 #![tactic(auto)]
 
 ghost use Rattle.isle_laws_visits.specs.Followers.{SiteRunsExist, SiteRunsVisit};
-ghost use Rattle.isle_laws_visits.specs.LimitLaws.{FirstLimitIsPassed, PassedLimitIsMet, LimitsAreMet, FullSitesStay, VisitsEndAtCounts};
+ghost use Rattle.isle_laws_visits.specs.LimitLaws.{FirstLimitIsPassed, PassedLimitIsMet, LimitsAreMet, FullSitesStay, FirstCountsArePassed};
 ghost use Rattle.isle_laws_visits.specs.VisitLaws.{VisitsMakeEqualSites, FormedRulesDemandGates, WellTypedRulesDemandGates, FormedRulesMakeEqualSites, VisitsContinue};
 
 /// A limit that is reported is passed.
@@ -60,9 +62,10 @@ pub fn visits_continue()
     ensures { VisitsContinue }
 {}
 
-/// The visit of a rule ends at the first count that passes a limit, with the sites that it has made.
-pub fn visits_end_at_counts()
-    ensures { VisitsEndAtCounts }
+/// The first count of a rule's visit that passes a limit is the first limit that is passed, and what was made until then is
+/// what the visit had made.
+pub fn first_counts_are_passed()
+    ensures { FirstCountsArePassed }
 {}
 
 /// The run of the visitor of sites over a rule that hangs together gives the site of the rule's value, what the rule

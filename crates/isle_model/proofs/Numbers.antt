@@ -1,7 +1,9 @@
 -- Numbers in lists: in one list or another, and the numbers of a list's elements, in order.
-use Rattle.std.proofs.Common.{◌≡◌, ◌⊎◌, ℕ, zero, suc, ◌+◌, ◌<◌, ◌≤◌, ◌==◌, Bool, true, false, cond, List, [], ◌∷◌, ◌++◌, length, filter, Contains, refl, sym, ap, ◌∙◌, subst, inl, inr, arith}
+use Rattle.std.proofs.Common.{◌≡◌, ◌⊎◌, ℕ, zero, suc, ◌+◌, ◌<◌, ◌≤◌, ◌==◌, Bool, true, false, cond, List, [], ◌∷◌, ◌++◌, length, filter, Contains, refl, sym, ap, ◌∙◌, subst, inl, inr, eqb-true, eq-eqb, arith}
 use Rattle.std.proofs.lemmas.Bool.{cases_Bool, cond-true, cond-false, cases_lt, or_cases, or_left, or_right}
 use Rattle.std.proofs.lemmas.List.Folds.{list_any-append}
+use Rattle.std.specs.Cmp.{unsigned_tied}
+use Rattle.std.specs.Ordering.{nat_cmp, is_eq}
 use Rattle.isle_model.specs.lists.Names.{IsDistinct}
 use Rattle.isle_model.specs.rules.Program.{numbers_from}
 use Rattle.isle_model.specs.trees.Places.{is_in}
@@ -98,3 +100,13 @@ module _ {X : Type 0} (P Q : ℕ → Bool) where
 
       rest_q : List ℕ
       rest_q = filter Q (numbers_from (suc i) xs)
+
+-- 3. compared
+-- a test of numbers by their order is one by whether they are the same
+pub tied : (a b : ℕ) → is_eq (nat_cmp a b) ≡ (b == a)
+tied a b =
+    unsigned_tied a b
+    ∙ elim (cases_Bool (a == b)) [
+      | inl t ↦ t ∙ sym (eq-eqb b a (sym (eqb-true a b t)))
+      | inr m ↦ elim (cases_Bool (b == a)) [ inl t ↦ eq-eqb a b (sym (eqb-true b a t)) ∙ sym t | inr k ↦ m ∙ sym k ]
+    ]

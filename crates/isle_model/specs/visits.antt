@@ -1,4 +1,5 @@
--- The visit of a typed rule, by any visitor and by the one of sites, whose run is what the rule demands.
+-- The visit of a typed rule, by any visitor and by the one of sites: its run gives what the rule demands and the
+-- site of its value, but for the Some that a partial term makes of its result.
 pub mod Demands
 pub mod ExprRuns
 pub mod PatternRuns

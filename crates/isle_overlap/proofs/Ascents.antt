@@ -5,7 +5,7 @@ use Rattle.std.proofs.lemmas.Bool.Decides.{nat_tests}
 use Rattle.isle_model.specs.lists.Syntax.{Position}
 use Rattle.isle_model.specs.sites.Overlap.{position_eq, position_lt, with_position, ascending_positions}
 use Rattle.isle_model.proofs.Elements.{In}
-use Rattle.isle_laws_closure.proofs.overlaps.Listed.{position_same, with_in, in_ascending, ascending_in}
+use Rattle.isle_laws_closure.proofs.overlaps.ListedOverlaps.{position_same, with_in, in_ascending, ascending_in}
 
 -- 1. an order of positions
 chain : (a b c d e f : ℕ) → (nat_lt a c || ((a == c) && nat_lt b d)) ≡ true → (nat_lt c e || ((c == e) && nat_lt d f)) ≡ true → (nat_lt a e || ((a == e) && nat_lt b f)) ≡ true

@@ -4,8 +4,7 @@ use Rattle.std.proofs.lemmas.Bool.{false≢true}
 use Rattle.std.proofs.lemmas.List.{at_drop_more, at_drop_all, append-nil}
 use Rattle.std.proofs.Math.Seq.{take-append_seam}
 use Rattle.isle_model.specs.rules.Outcome as O
-use Rattle.isle_model.specs.trees.Run.{Env, Bound, all_bound, then_bind}
-use Rattle.isle_laws_functions.specs.RunBy.{Stage, bind_site_by, bind_all_by}
+use Rattle.isle_model.specs.trees.Run.{Env, Bound, all_bound, then_bind, World, bind_site, bind_all}
 use Rattle.isle_run.specs.declared.values.Content.{Content}
 use Rattle.isle_run.specs.declared.state.Call.{Call}
 use Rattle.isle_run.specs.declared.state.Bound as C
@@ -28,29 +27,29 @@ pub cut_back : (old new cut : List (ℕ × Content)) (n : ℕ) → IsBeginningOf
 cut_back old new cut n g e is = is ∙ ap (λ k. take k new) e ∙ ap (take (length old)) g.1 ∙ take-append_seam old g.0
 
 -- 2. sites in order
-module _ (w : Stage) where
-  pub then_all : (env env' : Env) (calls calls' : List O.Call) (s : ℕ) (rest : List ℕ) (b : C.Bound) → bound_view b env' calls' ≡ bind_site_by w env calls s (slice_get w.sites s) → is_all_bound b ≡ true
-      → bind_all_by w env' calls' rest ≡ bind_all_by w env calls (s ∷ rest)
-  then_all env env' calls calls' s rest All e h = ap (λ z. then_bind z (λ env'' calls''. bind_all_by w env'' calls'' rest)) e
+module _ (w : World) where
+  pub then_all : (env env' : Env) (calls calls' : List O.Call) (s : ℕ) (rest : List ℕ) (b : C.Bound) → bound_view b env' calls' ≡ bind_site w env calls s (slice_get w.sites s) → is_all_bound b ≡ true
+      → bind_all w env' calls' rest ≡ bind_all w env calls (s ∷ rest)
+  then_all env env' calls calls' s rest All e h = ap (λ z. then_bind z (λ env'' calls''. bind_all w env'' calls'' rest)) e
   then_all env env' calls calls' s rest Failed e h = absurd (false≢true h)
   then_all env env' calls calls' s rest Missing e h = absurd (false≢true h)
 
-  pub not_all : (env env' : Env) (calls calls' : List O.Call) (s : ℕ) (rest : List ℕ) (b : C.Bound) → bound_view b env' calls' ≡ bind_site_by w env calls s (slice_get w.sites s) → is_all_bound b ≡ false
-      → bound_view b env' calls' ≡ bind_all_by w env calls (s ∷ rest)
+  pub not_all : (env env' : Env) (calls calls' : List O.Call) (s : ℕ) (rest : List ℕ) (b : C.Bound) → bound_view b env' calls' ≡ bind_site w env calls s (slice_get w.sites s) → is_all_bound b ≡ false
+      → bound_view b env' calls' ≡ bind_all w env calls (s ∷ rest)
   not_all env env' calls calls' s rest All e h = absurd (false≢true (sym h))
-  not_all env env' calls calls' s rest Failed e h = ap (λ z. then_bind z (λ env'' calls''. bind_all_by w env'' calls'' rest)) e
-  not_all env env' calls calls' s rest Missing e h = ap (λ z. then_bind z (λ env'' calls''. bind_all_by w env'' calls'' rest)) e
+  not_all env env' calls calls' s rest Failed e h = ap (λ z. then_bind z (λ env'' calls''. bind_all w env'' calls'' rest)) e
+  not_all env env' calls calls' s rest Missing e h = ap (λ z. then_bind z (λ env'' calls''. bind_all w env'' calls'' rest)) e
 
-  here : (env : Env) (calls : List O.Call) (ss : List ℕ) (i s : ℕ) → i < length ss → s ≡ get_or ss i s → bind_all_by w env calls (drop i ss) ≡ bind_all_by w env calls (s ∷ drop (i + 1) ss)
-  here env calls ss i s h at = at_drop_more (bind_all_by w env calls) ss i s h ∙ ap (λ k. bind_all_by w env calls (k ∷ drop (i + 1) ss)) (sym at)
+  here : (env : Env) (calls : List O.Call) (ss : List ℕ) (i s : ℕ) → i < length ss → s ≡ get_or ss i s → bind_all w env calls (drop i ss) ≡ bind_all w env calls (s ∷ drop (i + 1) ss)
+  here env calls ss i s h at = at_drop_more (bind_all w env calls) ss i s h ∙ ap (λ k. bind_all w env calls (k ∷ drop (i + 1) ss)) (sym at)
 
-  pub all_more : (env env' : Env) (calls calls' : List O.Call) (ss : List ℕ) (i s : ℕ) (b : C.Bound) (whole : Bound) → i < length ss → s ≡ get_or ss i s → bound_view b env' calls' ≡ bind_site_by w env calls s (slice_get w.sites s) → is_all_bound b ≡ true
-      → bind_all_by w env calls (drop i ss) ≡ whole → bind_all_by w env' calls' (drop (i + 1) ss) ≡ whole
+  pub all_more : (env env' : Env) (calls calls' : List O.Call) (ss : List ℕ) (i s : ℕ) (b : C.Bound) (whole : Bound) → i < length ss → s ≡ get_or ss i s → bound_view b env' calls' ≡ bind_site w env calls s (slice_get w.sites s) → is_all_bound b ≡ true
+      → bind_all w env calls (drop i ss) ≡ whole → bind_all w env' calls' (drop (i + 1) ss) ≡ whole
   all_more env env' calls calls' ss i s b whole h at e t inv = then_all env env' calls calls' s (drop (i + 1) ss) b e t ∙ sym (here env calls ss i s h at) ∙ inv
 
-  pub all_stopped : (env env' : Env) (calls calls' : List O.Call) (ss : List ℕ) (i s : ℕ) (b : C.Bound) (whole : Bound) → i < length ss → s ≡ get_or ss i s → bound_view b env' calls' ≡ bind_site_by w env calls s (slice_get w.sites s) → is_all_bound b ≡ false
-      → bind_all_by w env calls (drop i ss) ≡ whole → bound_view b env' calls' ≡ whole
+  pub all_stopped : (env env' : Env) (calls calls' : List O.Call) (ss : List ℕ) (i s : ℕ) (b : C.Bound) (whole : Bound) → i < length ss → s ≡ get_or ss i s → bound_view b env' calls' ≡ bind_site w env calls s (slice_get w.sites s) → is_all_bound b ≡ false
+      → bind_all w env calls (drop i ss) ≡ whole → bound_view b env' calls' ≡ whole
   all_stopped env env' calls calls' ss i s b whole h at e t inv = not_all env env' calls calls' s (drop (i + 1) ss) b e t ∙ sym (here env calls ss i s h at) ∙ inv
 
-  pub all_done : (env : Env) (calls : List O.Call) (ss : List ℕ) (i : ℕ) (whole : Bound) → length ss ≤ i → bind_all_by w env calls (drop i ss) ≡ whole → all_bound env calls ≡ whole
-  all_done env calls ss i whole h inv = sym (at_drop_all (bind_all_by w env calls) ss i h) ∙ inv
+  pub all_done : (env : Env) (calls : List O.Call) (ss : List ℕ) (i : ℕ) (whole : Bound) → length ss ≤ i → bind_all w env calls (drop i ss) ≡ whole → all_bound env calls ≡ whole
+  all_done env calls ss i whole h inv = sym (at_drop_all (bind_all w env calls) ss i h) ∙ inv

@@ -7,10 +7,9 @@ use Rattle.isle_run.specs.declared.values.Content as C
 use Rattle.isle_run.specs.declared.values.Content.{Content}
 use Rattle.isle_model.specs.rules.Values.{listed, Values, no_value, value_and}
 use Rattle.isle_model.specs.rules.Outcome.{then_option}
-use Rattle.isle_laws_functions.specs.RunBy.{Stage, used_value_by, used_values_by}
+use Rattle.isle_model.specs.trees.Run.{World, used_value, used_values, Env, bound_to, part_at, from_value}
 use Rattle.isle_run.proofs.ValueSteps.{before, before-push, before-none}
 use Rattle.isle_model.specs.rules.Meaning as M
-use Rattle.isle_model.specs.trees.Run.{Env, bound_to, part_at, from_value}
 use Rattle.isle_run.specs.RunViews.{env_onto, env_view}
 use Rattle.isle_run.specs.ValueViews.{value_view, value_views, content_view}
 
@@ -58,23 +57,23 @@ pub after_all : (out : List Value) → after out (Some no_value) ≡ Some (value
 unfolding after
 after_all out = ap Some (before-none out)
 
-module _ (w : Stage) (env : Env) where
+module _ (w : World) (env : Env) where
   abbrev all_used : List ℕ → Option Values
-  all_used ss = used_values_by w env ss
+  all_used ss = used_values w env ss
 
-  pub used_more : (out new : List Value) (v : Value) (ss : List ℕ) (i s : ℕ) → i < length ss → s ≡ get_or ss i s → Some (value_view v) ≡ used_value_by w env s → new ≡ out ++ v ∷ []
+  pub used_more : (out new : List Value) (v : Value) (ss : List ℕ) (i s : ℕ) → i < length ss → s ≡ get_or ss i s → Some (value_view v) ≡ used_value w env s → new ≡ out ++ v ∷ []
       → after out (all_used (drop i ss)) ≡ all_used ss → after new (all_used (drop (i + 1) ss)) ≡ all_used ss
   used_more out new v ss i s h at there is inv =
       let a = after_push out v (all_used (drop (i + 1) ss)) in
-      let d : all_used (drop i ss) ≡ then_option (used_value_by w env (get_or ss i s)) (λ u. then_option (all_used (drop (i + 1) ss)) (λ vs. Some (value_and u vs))) = at_drop_more all_used ss i s h in
-      let e = ap (λ o. then_option o (λ u. then_option (all_used (drop (i + 1) ss)) (λ vs. Some (value_and u vs)))) (ap (used_value_by w env) (sym at) ∙ sym there) in
+      let d : all_used (drop i ss) ≡ then_option (used_value w env (get_or ss i s)) (λ u. then_option (all_used (drop (i + 1) ss)) (λ vs. Some (value_and u vs))) = at_drop_more all_used ss i s h in
+      let e = ap (λ o. then_option o (λ u. then_option (all_used (drop (i + 1) ss)) (λ vs. Some (value_and u vs)))) (ap (used_value w env) (sym at) ∙ sym there) in
       ap (λ l. after l (all_used (drop (i + 1) ss))) is ∙ a ∙ ap (after out) (sym (d ∙ e)) ∙ inv
 
-  pub used_missing : (out : List Value) (ss : List ℕ) (i s : ℕ) → i < length ss → s ≡ get_or ss i s → None ≡ used_value_by w env s
+  pub used_missing : (out : List Value) (ss : List ℕ) (i s : ℕ) → i < length ss → s ≡ get_or ss i s → None ≡ used_value w env s
       → after out (all_used (drop i ss)) ≡ all_used ss → None ≡ all_used ss
   used_missing out ss i s h at none inv =
-      let d : all_used (drop i ss) ≡ then_option (used_value_by w env (get_or ss i s)) (λ u. then_option (all_used (drop (i + 1) ss)) (λ vs. Some (value_and u vs))) = at_drop_more all_used ss i s h in
-      let e = ap (λ o. then_option o (λ u. then_option (all_used (drop (i + 1) ss)) (λ vs. Some (value_and u vs)))) (ap (used_value_by w env) (sym at) ∙ sym none) in
+      let d : all_used (drop i ss) ≡ then_option (used_value w env (get_or ss i s)) (λ u. then_option (all_used (drop (i + 1) ss)) (λ vs. Some (value_and u vs))) = at_drop_more all_used ss i s h in
+      let e = ap (λ o. then_option o (λ u. then_option (all_used (drop (i + 1) ss)) (λ vs. Some (value_and u vs)))) (ap (used_value w env) (sym at) ∙ sym none) in
       sym (after_none out) ∙ ap (after out) (sym (d ∙ e)) ∙ inv
 
   pub used_all : (out : List Value) (ss : List ℕ) (i : ℕ) → length ss ≤ i → after out (all_used (drop i ss)) ≡ all_used ss → Some (value_views out) ≡ all_used ss

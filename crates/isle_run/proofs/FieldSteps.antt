@@ -4,10 +4,9 @@ use Rattle.std.proofs.lemmas.List.{at_drop_more, at_drop_all, append-nil, map-ap
 use Rattle.isle_model.specs.rules.Values as Values
 use Rattle.isle_model.specs.rules.Values.{listed}
 use Rattle.isle_model.specs.rules.Meaning as M
-use Rattle.isle_model.specs.trees.Run.{Env, all_one, bind_fields}
+use Rattle.isle_model.specs.trees.Run.{Env, all_one, bind_fields, value_fields, content_fields}
 use Rattle.isle_model.specs.sites.Sites.{Constraint, is_variant, is_struct, is_bool, is_int, is_prim, is_present}
-use Rattle.isle_laws_matching.specs.TotalLaws.{TotalMeaning}
-use Rattle.isle_laws_functions.specs.RunBy.{value_fields_by, content_fields_by}
+use Rattle.isle_model.specs.rules.Meaning.{Meaning}
 use Rattle.isle_run.specs.declared.values.Content as C
 use Rattle.isle_run.specs.declared.values.Content.{Content}
 use Rattle.std.specs.declared.alloc.Global.{Global}
@@ -87,47 +86,47 @@ pub fields_done : (fs : List (Option ℕ)) (cs : List Content) (i : ℕ) (env : 
 fields_done fs cs i env whole h inv = last cs i env ∙ sym (at_drop_all (λ l. bind_fields l (content_list (drop i cs)) env) fs i h) ∙ inv
 
 -- 4. what a content brings, by its form
-pub one_brings : (f : TotalMeaning) (constraint : Constraint) (v : Values.Value) → content_fields_by f constraint (M.one v) ≡ value_fields_by f constraint v
-one_brings f (is_variant ty variant fields) v = refl
-one_brings f (is_struct ty fields) v = refl
-one_brings f (is_bool b ty) v = refl
-one_brings f (is_int z ty) v = refl
-one_brings f (is_prim name) v = refl
-one_brings f is_present v = refl
+pub one_brings : (m : Meaning) (constraint : Constraint) (v : Values.Value) → content_fields m constraint (M.one v) ≡ value_fields m constraint v
+one_brings m (is_variant ty variant fields) v = refl
+one_brings m (is_struct ty fields) v = refl
+one_brings m (is_bool b ty) v = refl
+one_brings m (is_int z ty) v = refl
+one_brings m (is_prim name) v = refl
+one_brings m is_present v = refl
 
-pub parts_bring_none : (f : TotalMeaning) (constraint : Constraint) (vs : Values.Values) → content_fields_by f constraint (M.parts vs) ≡ None
-parts_bring_none f (is_variant ty variant fields) vs = refl
-parts_bring_none f (is_struct ty fields) vs = refl
-parts_bring_none f (is_bool b ty) vs = refl
-parts_bring_none f (is_int z ty) vs = refl
-parts_bring_none f (is_prim name) vs = refl
-parts_bring_none f is_present vs = refl
+pub parts_bring_none : (m : Meaning) (constraint : Constraint) (vs : Values.Values) → content_fields m constraint (M.parts vs) ≡ None
+parts_bring_none m (is_variant ty variant fields) vs = refl
+parts_bring_none m (is_struct ty fields) vs = refl
+parts_bring_none m (is_bool b ty) vs = refl
+parts_bring_none m (is_int z ty) vs = refl
+parts_bring_none m (is_prim name) vs = refl
+parts_bring_none m is_present vs = refl
 
-pub nothing_brings_none : (f : TotalMeaning) (constraint : Constraint) → content_fields_by f constraint M.nothing ≡ None
-nothing_brings_none f (is_variant ty variant fields) = refl
-nothing_brings_none f (is_struct ty fields) = refl
-nothing_brings_none f (is_bool b ty) = refl
-nothing_brings_none f (is_int z ty) = refl
-nothing_brings_none f (is_prim name) = refl
-nothing_brings_none f is_present = refl
+pub nothing_brings_none : (m : Meaning) (constraint : Constraint) → content_fields m constraint M.nothing ≡ None
+nothing_brings_none m (is_variant ty variant fields) = refl
+nothing_brings_none m (is_struct ty fields) = refl
+nothing_brings_none m (is_bool b ty) = refl
+nothing_brings_none m (is_int z ty) = refl
+nothing_brings_none m (is_prim name) = refl
+nothing_brings_none m is_present = refl
 
-pub many_bring_none : (f : TotalMeaning) (constraint : Constraint) (cs : M.Contents) → content_fields_by f constraint (M.many cs) ≡ None
-many_bring_none f (is_variant ty variant fields) cs = refl
-many_bring_none f (is_struct ty fields) cs = refl
-many_bring_none f (is_bool b ty) cs = refl
-many_bring_none f (is_int z ty) cs = refl
-many_bring_none f (is_prim name) cs = refl
-many_bring_none f is_present cs = refl
+pub many_bring_none : (m : Meaning) (constraint : Constraint) (cs : M.Contents) → content_fields m constraint (M.many cs) ≡ None
+many_bring_none m (is_variant ty variant fields) cs = refl
+many_bring_none m (is_struct ty fields) cs = refl
+many_bring_none m (is_bool b ty) cs = refl
+many_bring_none m (is_int z ty) cs = refl
+many_bring_none m (is_prim name) cs = refl
+many_bring_none m is_present cs = refl
 
 pub ruleset brought = (one_brings, parts_bring_none, nothing_brings_none, many_bring_none)
 
 -- 5. what a variant or a struct brings
 pub struct_brings : (v : Value) (s t : TypeId) (xs : Vec Value Global) (cs : List M.Content) → v ≡ V.Struct s xs → (s.0 == t.0) ≡ true → cs ≡ ones xs.items
-    → (f : TotalMeaning) (n : ℕ) → Some cs ≡ value_fields_by f (is_struct t.0 n) (value_view v)
-struct_brings v s t xs cs e same is f n =
-    ap Some is ∙ ap (λ b. if b then Some (ones xs.items) else None) (sym same) ∙ sym (ap (value_fields_by f (is_struct t.0 n)) (ap value_view e ∙ view-Struct s xs))
+    → (m : Meaning) (n : ℕ) → Some cs ≡ value_fields m (is_struct t.0 n) (value_view v)
+struct_brings v s t xs cs e same is m n =
+    ap Some is ∙ ap (λ b. if b then Some (ones xs.items) else None) (sym same) ∙ sym (ap (value_fields m (is_struct t.0 n)) (ap value_view e ∙ view-Struct s xs))
 
 pub variant_brings : (v : Value) (s t : TypeId) (i j : VariantId) (xs : Vec Value Global) (cs : List M.Content) → v ≡ V.Variant s i xs → ((s.0 == t.0) && (i.0 == j.0)) ≡ true → cs ≡ ones xs.items
-    → (f : TotalMeaning) (n : ℕ) → Some cs ≡ value_fields_by f (is_variant t.0 j.0 n) (value_view v)
-variant_brings v s t i j xs cs e same is f n =
-    ap Some is ∙ ap (λ b. if b then Some (ones xs.items) else None) (sym same) ∙ sym (ap (value_fields_by f (is_variant t.0 j.0 n)) (ap value_view e ∙ view-Variant s i xs))
+    → (m : Meaning) (n : ℕ) → Some cs ≡ value_fields m (is_variant t.0 j.0 n) (value_view v)
+variant_brings v s t i j xs cs e same is m n =
+    ap Some is ∙ ap (λ b. if b then Some (ones xs.items) else None) (sym same) ∙ sym (ap (value_fields m (is_variant t.0 j.0 n)) (ap value_view e ∙ view-Variant s i xs))

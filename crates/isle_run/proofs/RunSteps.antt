@@ -7,15 +7,13 @@ use Rattle.isle_model.specs.rules.Values as Values
 use Rattle.isle_model.specs.rules.Outcome as O
 use Rattle.isle_model.specs.rules.Outcome.{Outcome, then_option}
 use Rattle.isle_model.specs.trees.Trees.{Tree, step, Check, match_at, equal_at, loop_at, return_at, Arms, arm}
-use Rattle.isle_model.specs.trees.Run.{Env, Trace, all_bound, unwrap_failed, no_content_there, ending_at, with_calls, on_bound, on_ending, or_next, with_env, with_content, on_met, on_equal, for_each, on_many, iterated, returned, bind_fields}
+use Rattle.isle_model.specs.trees.Run.{Env, Trace, all_bound, unwrap_failed, no_content_there, ending_at, with_calls, on_bound, on_ending, or_next, with_env, with_content, on_met, on_equal, for_each, on_many, iterated, returned, bind_fields, World, used, used_value, bind_all, content_fields, run_tree, run_check, run_arms}
 use Rattle.isle_serialize.specs.declared.serialize.EvalStep.{EvalStep}
 use Rattle.isle_serialize.specs.declared.serialize.Block.{Block, out-Block, roll-out-Block}
 use Rattle.isle_serialize.specs.declared.serialize.MatchArm.{MatchArm, out-MatchArm, roll-out-MatchArm}
 use Rattle.isle_serialize.specs.TreeViews.{tree_view, check_view, arm_view, steps_view, arms_view}
 use Rattle.isle_serialize.proofs.TreeLaws.{arm_seen, block_seen}
 use Rattle.isle_sets.specs.SiteViews.{constraint_view}
-use Rattle.isle_laws_functions.specs.RunBy.{Stage, used_by, used_value_by, bind_all_by, content_fields_by, run_tree_by, run_check_by, run_arms_by}
-use Rattle.isle_laws_functions.proofs.Equations.{no_step_by, step_by, match_by, equal_by, loop_by, return_by, no_arm_by, arm_by}
 use Rattle.isle_run.specs.declared.values.Content.{Content}
 use Rattle.isle_run.specs.declared.state.Ending as E
 use Rattle.isle_run.specs.declared.state.Ending.TheVariants.{Ended, Failed, RanThrough, Stuck}
@@ -44,78 +42,77 @@ over Stuck t go h = refl
 abbrev pub step_view : EvalStep → Tree → Tree
 step_view s rest = step s.bind_order.items (check_view s.check) rest
 
-module _ (w : Stage) where
-  pub step_through : (binds : List ℕ) (check : Check) (env env' : Env) (t : Trace) (calls' : List O.Call) (e : E.Ending) (t' : T.Trace) → all_bound env' calls' ≡ bind_all_by w env t.calls binds
-      → outcome_at e t' ≡ run_check_by check w env' (with_calls t calls')
-      → (rest : Tree) → on_ending (ending_view e) (trace_view t') (run_tree_by rest w env') ≡ run_tree_by (step binds check rest) w env t
+module _ (w : World) where
+  pub step_through : (binds : List ℕ) (check : Check) (env env' : Env) (t : Trace) (calls' : List O.Call) (e : E.Ending) (t' : T.Trace) → all_bound env' calls' ≡ bind_all w env t.calls binds
+      → outcome_at e t' ≡ run_check check w env' (with_calls t calls')
+      → (rest : Tree) → on_ending (ending_view e) (trace_view t') (run_tree rest w env') ≡ run_tree (step binds check rest) w env t
   step_through binds check env env' t calls' e t' b o rest =
-      ap (λ z. or_next z (run_tree_by rest w env')) o
-      ∙ ap (λ z. on_bound z t (λ env'' t''. or_next (run_check_by check w env'' t'') (run_tree_by rest w env''))) b ∙ sym (step_by w env t binds check rest)
+      ap (λ z. or_next z (run_tree rest w env')) o
+      ∙ ap (λ z. on_bound z t (λ env'' t''. or_next (run_check check w env'' t'') (run_tree rest w env''))) b
 
-  pub step_failed : (binds : List ℕ) (check : Check) (env : Env) (t : Trace) (calls' : List O.Call) → unwrap_failed calls' ≡ bind_all_by w env t.calls binds
-      → (rest : Tree) → ending_at O.failed (with_calls t calls') ≡ run_tree_by (step binds check rest) w env t
+  pub step_failed : (binds : List ℕ) (check : Check) (env : Env) (t : Trace) (calls' : List O.Call) → unwrap_failed calls' ≡ bind_all w env t.calls binds
+      → (rest : Tree) → ending_at O.failed (with_calls t calls') ≡ run_tree (step binds check rest) w env t
   step_failed binds check env t calls' b rest =
-      ap (λ z. on_bound z t (λ env'' t''. or_next (run_check_by check w env'' t'') (run_tree_by rest w env''))) b ∙ sym (step_by w env t binds check rest)
+      ap (λ z. on_bound z t (λ env'' t''. or_next (run_check check w env'' t'') (run_tree rest w env''))) b
 
-  pub step_stuck : (binds : List ℕ) (check : Check) (env : Env) (t : Trace) (calls' : List O.Call) → no_content_there calls' ≡ bind_all_by w env t.calls binds
-      → (rest : Tree) → ending_at O.stuck (with_calls t calls') ≡ run_tree_by (step binds check rest) w env t
+  pub step_stuck : (binds : List ℕ) (check : Check) (env : Env) (t : Trace) (calls' : List O.Call) → no_content_there calls' ≡ bind_all w env t.calls binds
+      → (rest : Tree) → ending_at O.stuck (with_calls t calls') ≡ run_tree (step binds check rest) w env t
   step_stuck binds check env t calls' b rest =
-      ap (λ z. on_bound z t (λ env'' t''. or_next (run_check_by check w env'' t'') (run_tree_by rest w env''))) b ∙ sym (step_by w env t binds check rest)
+      ap (λ z. on_bound z t (λ env'' t''. or_next (run_check check w env'' t'') (run_tree rest w env''))) b
 
-  next_step : (ss : List EvalStep) (i : ℕ) (s : EvalStep) (env : Env) (t : Trace) → i < length ss → s ≡ get_or ss i s → run_tree_by (steps_view (drop i ss)) w env t ≡ run_tree_by (step_view s (steps_view (drop (i + 1) ss))) w env t
+  next_step : (ss : List EvalStep) (i : ℕ) (s : EvalStep) (env : Env) (t : Trace) → i < length ss → s ≡ get_or ss i s → run_tree (steps_view (drop i ss)) w env t ≡ run_tree (step_view s (steps_view (drop (i + 1) ss))) w env t
   next_step ss i s env t h at =
-      ap (λ l. run_tree_by l w env t) (at_drop_more steps_view ss i s h) ∙ ap (λ x. run_tree_by (step_view x (steps_view (drop (i + 1) ss))) w env t) (sym at)
+      ap (λ l. run_tree l w env t) (at_drop_more steps_view ss i s h) ∙ ap (λ x. run_tree (step_view x (steps_view (drop (i + 1) ss))) w env t) (sym at)
 
   pub block_more : (ss : List EvalStep) (i : ℕ) (s : EvalStep) (env env' : Env) (t t' : Trace) (e : E.Ending) (whole : Outcome) → i < length ss → s ≡ get_or ss i s
-      → ((rest : Tree) → on_ending (ending_view e) t' (run_tree_by rest w env') ≡ run_tree_by (step_view s rest) w env t) → is_through e ≡ true
-      → run_tree_by (steps_view (drop i ss)) w env t ≡ whole → run_tree_by (steps_view (drop (i + 1) ss)) w env' t' ≡ whole
+      → ((rest : Tree) → on_ending (ending_view e) t' (run_tree rest w env') ≡ run_tree (step_view s rest) w env t) → is_through e ≡ true
+      → run_tree (steps_view (drop i ss)) w env t ≡ whole → run_tree (steps_view (drop (i + 1) ss)) w env' t' ≡ whole
   block_more ss i s env env' t t' e whole h at ran on inv =
-      sym (through e t' (run_tree_by (steps_view (drop (i + 1) ss)) w env') on) ∙ ran (steps_view (drop (i + 1) ss)) ∙ sym (next_step ss i s env t h at) ∙ inv
+      sym (through e t' (run_tree (steps_view (drop (i + 1) ss)) w env') on) ∙ ran (steps_view (drop (i + 1) ss)) ∙ sym (next_step ss i s env t h at) ∙ inv
 
   pub block_over : (ss : List EvalStep) (i : ℕ) (s : EvalStep) (env env' : Env) (t t' : Trace) (e : E.Ending) (whole : Outcome) → i < length ss → s ≡ get_or ss i s
-      → ((rest : Tree) → on_ending (ending_view e) t' (run_tree_by rest w env') ≡ run_tree_by (step_view s rest) w env t) → is_through e ≡ false
-      → run_tree_by (steps_view (drop i ss)) w env t ≡ whole → ending_at (ending_view e) t' ≡ whole
+      → ((rest : Tree) → on_ending (ending_view e) t' (run_tree rest w env') ≡ run_tree (step_view s rest) w env t) → is_through e ≡ false
+      → run_tree (steps_view (drop i ss)) w env t ≡ whole → ending_at (ending_view e) t' ≡ whole
   block_over ss i s env env' t t' e whole h at ran off inv =
-      sym (over e t' (run_tree_by (steps_view (drop (i + 1) ss)) w env') off) ∙ ran (steps_view (drop (i + 1) ss)) ∙ sym (next_step ss i s env t h at) ∙ inv
+      sym (over e t' (run_tree (steps_view (drop (i + 1) ss)) w env') off) ∙ ran (steps_view (drop (i + 1) ss)) ∙ sym (next_step ss i s env t h at) ∙ inv
 
-  pub block_done : (ss : List EvalStep) (i : ℕ) (env : Env) (t : Trace) (whole : Outcome) → length ss ≤ i → run_tree_by (steps_view (drop i ss)) w env t ≡ whole → ending_at O.ran_through t ≡ whole
-  block_done ss i env t whole h inv = sym (no_step_by w env t) ∙ ap (λ l. run_tree_by l w env t) (sym (at_drop_all steps_view ss i h)) ∙ inv
+  pub block_done : (ss : List EvalStep) (i : ℕ) (env : Env) (t : Trace) (whole : Outcome) → length ss ≤ i → run_tree (steps_view (drop i ss)) w env t ≡ whole → ending_at O.ran_through t ≡ whole
+  block_done ss i env t whole h inv = ap (λ l. run_tree l w env t) (sym (at_drop_all steps_view ss i h)) ∙ inv
 
   -- 3. arms
   arm_is : (a : MatchArm) (rest : Arms) → arm_view a rest ≡ arm (constraint_view (out-MatchArm a).constraint) (out-MatchArm a).bindings.items (tree_view (out-MatchArm a).body) rest
   arm_is a rest = ap (λ (x : MatchArm). arm_view x rest) (sym (roll-out-MatchArm a)) ∙ arm_seen (out-MatchArm a).constraint (out-MatchArm a).bindings (out-MatchArm a).body rest
 
   next_arm : (arms : List MatchArm) (i : ℕ) (a : MatchArm) (c : M.Content) (env : Env) (t : Trace) → i < length arms → a ≡ get_or arms i a
-      → run_arms_by (arms_view (drop i arms)) w c env t
-      ≡ on_met (content_fields_by w.functions (constraint_view (out-MatchArm a).constraint) c) (out-MatchArm a).bindings.items env t (λ env'. run_tree_by (tree_view (out-MatchArm a).body) w env' t) (run_arms_by (arms_view (drop (i + 1) arms)) w c env t)
+      → run_arms (arms_view (drop i arms)) w c env t
+      ≡ on_met (content_fields w.meaning (constraint_view (out-MatchArm a).constraint) c) (out-MatchArm a).bindings.items env t (λ env'. run_tree (tree_view (out-MatchArm a).body) w env' t) (run_arms (arms_view (drop (i + 1) arms)) w c env t)
   next_arm arms i a c env t h at =
-      ap (λ l. run_arms_by l w c env t) (at_drop_more arms_view arms i a h ∙ ap (λ x. arm_view x (arms_view (drop (i + 1) arms))) (sym at) ∙ arm_is a (arms_view (drop (i + 1) arms)))
-      ∙ arm_by w env t c (constraint_view (out-MatchArm a).constraint) (out-MatchArm a).bindings.items (tree_view (out-MatchArm a).body) (arms_view (drop (i + 1) arms))
+      ap (λ l. run_arms l w c env t) (at_drop_more arms_view arms i a h ∙ ap (λ x. arm_view x (arms_view (drop (i + 1) arms))) (sym at) ∙ arm_is a (arms_view (drop (i + 1) arms)))
 
   pub arms_more : (arms : List MatchArm) (i : ℕ) (a : MatchArm) (c : M.Content) (env : Env) (t : Trace) (whole : Outcome) → i < length arms → a ≡ get_or arms i a
-      → None ≡ content_fields_by w.functions (constraint_view (out-MatchArm a).constraint) c
-      → run_arms_by (arms_view (drop i arms)) w c env t ≡ whole → run_arms_by (arms_view (drop (i + 1) arms)) w c env t ≡ whole
+      → None ≡ content_fields w.meaning (constraint_view (out-MatchArm a).constraint) c
+      → run_arms (arms_view (drop i arms)) w c env t ≡ whole → run_arms (arms_view (drop (i + 1) arms)) w c env t ≡ whole
   arms_more arms i a c env t whole h at none inv =
-      ap (λ o. on_met o (out-MatchArm a).bindings.items env t (λ env'. run_tree_by (tree_view (out-MatchArm a).body) w env' t) (run_arms_by (arms_view (drop (i + 1) arms)) w c env t)) none
+      ap (λ o. on_met o (out-MatchArm a).bindings.items env t (λ env'. run_tree (tree_view (out-MatchArm a).body) w env' t) (run_arms (arms_view (drop (i + 1) arms)) w c env t)) none
       ∙ sym (next_arm arms i a c env t h at) ∙ inv
 
   pub arms_met : (arms : List MatchArm) (i : ℕ) (a : MatchArm) (c : M.Content) (cs : List M.Content) (env : Env) (t : Trace) (o whole : Outcome) → i < length arms → a ≡ get_or arms i a
-      → Some cs ≡ content_fields_by w.functions (constraint_view (out-MatchArm a).constraint) c
-      → o ≡ with_env (bind_fields (out-MatchArm a).bindings.items cs env) t (λ env'. run_tree_by (tree_view (out-MatchArm a).body) w env' t)
-      → run_arms_by (arms_view (drop i arms)) w c env t ≡ whole → o ≡ whole
+      → Some cs ≡ content_fields w.meaning (constraint_view (out-MatchArm a).constraint) c
+      → o ≡ with_env (bind_fields (out-MatchArm a).bindings.items cs env) t (λ env'. run_tree (tree_view (out-MatchArm a).body) w env' t)
+      → run_arms (arms_view (drop i arms)) w c env t ≡ whole → o ≡ whole
   arms_met arms i a c cs env t o whole h at some is inv =
-      is ∙ ap (λ q. on_met q (out-MatchArm a).bindings.items env t (λ env'. run_tree_by (tree_view (out-MatchArm a).body) w env' t) (run_arms_by (arms_view (drop (i + 1) arms)) w c env t)) some
+      is ∙ ap (λ q. on_met q (out-MatchArm a).bindings.items env t (λ env'. run_tree (tree_view (out-MatchArm a).body) w env' t) (run_arms (arms_view (drop (i + 1) arms)) w c env t)) some
       ∙ sym (next_arm arms i a c env t h at) ∙ inv
 
-  pub arms_done : (arms : List MatchArm) (i : ℕ) (c : M.Content) (env : Env) (t : Trace) (whole : Outcome) → length arms ≤ i → run_arms_by (arms_view (drop i arms)) w c env t ≡ whole → ending_at O.ran_through t ≡ whole
-  arms_done arms i c env t whole h inv = sym (no_arm_by w env t c) ∙ ap (λ l. run_arms_by l w c env t) (sym (at_drop_all arms_view arms i h)) ∙ inv
+  pub arms_done : (arms : List MatchArm) (i : ℕ) (c : M.Content) (env : Env) (t : Trace) (whole : Outcome) → length arms ≤ i → run_arms (arms_view (drop i arms)) w c env t ≡ whole → ending_at O.ran_through t ≡ whole
+  arms_done arms i c env t whole h inv = ap (λ l. run_arms l w c env t) (sym (at_drop_all arms_view arms i h)) ∙ inv
 
   -- 4. tests
-  pub match_ran : (source : ℕ) (arms : Arms) (c : M.Content) (env : Env) (t : Trace) (o : Outcome) → Some c ≡ used_by w env source → o ≡ run_arms_by arms w c env t → o ≡ run_check_by (match_at source arms) w env t
-  match_ran source arms c env t o there is = is ∙ ap (λ q. with_content q t (λ d. run_arms_by arms w d env t)) there ∙ sym (match_by w env t source arms)
+  pub match_ran : (source : ℕ) (arms : Arms) (c : M.Content) (env : Env) (t : Trace) (o : Outcome) → Some c ≡ used w env source → o ≡ run_arms arms w c env t → o ≡ run_check (match_at source arms) w env t
+  match_ran source arms c env t o there is = is ∙ ap (λ q. with_content q t (λ d. run_arms arms w d env t)) there
 
-  pub match_stuck : (source : ℕ) (arms : Arms) (env : Env) (t : Trace) → None ≡ used_by w env source → ending_at O.stuck t ≡ run_check_by (match_at source arms) w env t
-  match_stuck source arms env t none = ap (λ q. with_content q t (λ d. run_arms_by arms w d env t)) none ∙ sym (match_by w env t source arms)
+  pub match_stuck : (source : ℕ) (arms : Arms) (env : Env) (t : Trace) → None ≡ used w env source → ending_at O.stuck t ≡ run_check (match_at source arms) w env t
+  match_stuck source arms env t none = ap (λ q. with_content q t (λ d. run_arms arms w d env t)) none
 
   abbrev on_test : Option Bool → Trace → Outcome → Outcome
   on_test None t body = ending_at O.stuck t
@@ -131,21 +128,21 @@ module _ (w : Stage) where
   tested (Some v) None t body = refl
   tested (Some v) (Some u) t body = test_is (Values.value_eq v u) t body
 
-  pub equal_ran : (a b : ℕ) (body : Tree) (env : Env) (t : Trace) (o : Outcome) (q : Option Bool) → q ≡ equality_by (used_value_by w env a) (used_value_by w env b) → o ≡ on_test q t (run_tree_by body w env t) → o ≡ run_check_by (equal_at a b body) w env t
+  pub equal_ran : (a b : ℕ) (body : Tree) (env : Env) (t : Trace) (o : Outcome) (q : Option Bool) → q ≡ equality_by (used_value w env a) (used_value w env b) → o ≡ on_test q t (run_tree body w env t) → o ≡ run_check (equal_at a b body) w env t
   equal_ran a b body env t o q e is =
-      is ∙ ap (λ z. on_test z t (run_tree_by body w env t)) e ∙ tested (used_value_by w env a) (used_value_by w env b) t (run_tree_by body w env t) ∙ sym (equal_by w env t a b body)
+      is ∙ ap (λ z. on_test z t (run_tree body w env t)) e ∙ tested (used_value w env a) (used_value w env b) t (run_tree body w env t)
 
-  pub return_ran : (at : _) (result : ℕ) (env : Env) (t : Trace) (o : Outcome) → o ≡ with_content (used_by w env result) t (returned w.multi t) → o ≡ run_check_by (return_at at result) w env t
-  return_ran at result env t o is = is ∙ sym (return_by w env t at result)
+  pub return_ran : (at : _) (result : ℕ) (env : Env) (t : Trace) (o : Outcome) → o ≡ with_content (used w env result) t (returned w.multi t) → o ≡ run_check (return_at at result) w env t
+  return_ran at result env t o is = is
 
   -- 5. results
   returned_is : (multi : Bool) (t : Trace) (c : M.Content) → returned multi t c ≡ record { calls = t.calls; results = t.results ++ c ∷ []; ending = if multi then O.ran_through else O.ended }
   returned_is true t c = refl
   returned_is false t c = refl
 
-  pub gave : (site : ℕ) (env : Env) (old new : T.Trace) (multi : Bool) (c : Content) (e : E.Ending) → Some (content_view c) ≡ used_by w env site → call_views new.calls.items ≡ call_views old.calls.items
+  pub gave : (site : ℕ) (env : Env) (old new : T.Trace) (multi : Bool) (c : Content) (e : E.Ending) → Some (content_view c) ≡ used w env site → call_views new.calls.items ≡ call_views old.calls.items
       → new.results.items ≡ old.results.items ++ c ∷ [] → ending_view e ≡ (if multi then O.ran_through else O.ended)
-      → outcome_at e new ≡ with_content (used_by w env site) (trace_view old) (returned multi (trace_view old))
+      → outcome_at e new ≡ with_content (used w env site) (trace_view old) (returned multi (trace_view old))
   gave site env old new multi c e there calls results ending =
       (λ i. record { calls = calls i; results = (ap content_list results ∙ map-append content_view old.results.items (c ∷ [])) i; ending = ending i })
       ∙ sym (returned_is multi (trace_view old) (content_view c)) ∙ ap (λ o. with_content o (trace_view old) (returned multi (trace_view old))) there
@@ -163,11 +160,11 @@ module _ (w : Stage) where
   many_is (Some (M.just c)) go t = refl
   many_is (Some (M.many cs)) go t = refl
 
-  pub loop_ran : (result : ℕ) (body : Tree) (env : Env) (t : Trace) (o : Outcome) (q : Option (List M.Content)) → q ≡ many_by (then_option (then_option (slice_get w.sites result) iterated) (used_by w env))
-      → o ≡ on_answers q (λ c t'. run_tree_by body w ((result, c) ∷ env) t') t → o ≡ run_check_by (loop_at result body) w env t
+  pub loop_ran : (result : ℕ) (body : Tree) (env : Env) (t : Trace) (o : Outcome) (q : Option (List M.Content)) → q ≡ many_by (then_option (then_option (slice_get w.sites result) iterated) (used w env))
+      → o ≡ on_answers q (λ c t'. run_tree body w ((result, c) ∷ env) t') t → o ≡ run_check (loop_at result body) w env t
   loop_ran result body env t o q e is =
-      is ∙ ap (λ z. on_answers z (λ c t'. run_tree_by body w ((result, c) ∷ env) t') t) e
-      ∙ many_is (then_option (then_option (slice_get w.sites result) iterated) (used_by w env)) (λ c t'. run_tree_by body w ((result, c) ∷ env) t') t ∙ sym (loop_by w env t result body)
+      is ∙ ap (λ z. on_answers z (λ c t'. run_tree body w ((result, c) ∷ env) t') t) e
+      ∙ many_is (then_option (then_option (slice_get w.sites result) iterated) (used w env)) (λ c t'. run_tree body w ((result, c) ∷ env) t') t
 
 abbrev each : List Content → (M.Content → Trace → Outcome) → Trace → Outcome
 each cs go t = for_each (content_list cs) go t

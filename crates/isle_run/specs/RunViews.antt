@@ -4,14 +4,14 @@ use Rattle.isle_model.specs.rules.Values as Values
 use Rattle.isle_model.specs.rules.Values.{value_eq}
 use Rattle.isle_model.specs.rules.Outcome as O
 use Rattle.isle_model.specs.trees.Run as R
-use Rattle.isle_model.specs.trees.Run.{Env, all_bound, unwrap_failed, no_content_there, ending_at}
+use Rattle.isle_model.specs.trees.Run.{Env, all_bound, unwrap_failed, no_content_there, ending_at, World}
 use Rattle.isle_model.specs.rules.Meaning as M
 use Rattle.isle_sets.specs.SiteViews.{site_views}
 use Rattle.isle_sets.specs.declared.trie_again.Binding.{Binding}
-use Rattle.isle_laws_matching.specs.TotalLaws.{TotalMeaning}
-use Rattle.isle_laws_functions.specs.RunBy.{Stage, stage_by}
+use Rattle.isle_model.specs.rules.Meaning.{TotalMeaning, total}
 use Rattle.isle_run.specs.declared.values.Value.{Value}
 use Rattle.isle_run.specs.declared.values.Content.{Content}
+use Rattle.isle_run.specs.declared.state.Stage.{Stage}
 use Rattle.isle_run.specs.declared.state.Call.{Call}
 use Rattle.isle_run.specs.declared.state.Trace.{Trace}
 use Rattle.isle_run.specs.declared.state.Outcome.{Outcome}
@@ -38,9 +38,12 @@ IsBeginningOf old new = (more : List (ℕ × Content)) × (new ≡ old ++ more)
 abbrev pub arg_views : List Value → List Values.Value
 arg_views vs = map value_view vs
 
--- what a run works with
-abbrev pub stage_of : TotalMeaning → List Binding → Bool → List Value → Stage
-stage_of f sites multi args = stage_by f (site_views sites) multi (arg_views args)
+-- what a run works with, what is called being these functions
+abbrev pub stage_of : TotalMeaning → List Binding → Bool → List Value → World
+stage_of f sites multi args = record { sites = site_views sites; args = arg_views args; meaning = total f; multi = multi }
+
+abbrev pub stage_view : {E : Type 0} → (E → TotalMeaning) → Stage E → World
+stage_view functions stage = stage_of (functions stage.externs.now) stage.sites.now stage.multi stage.args.now
 
 -- what a site holds: it is bound to it, or an unwrap failed, or there is nothing of the form that is used
 abbrev pub found_view : Found → Env → List O.Call → ℕ → R.Bound

@@ -3,10 +3,9 @@
 ghost use Rattle.std.specs.Prelude.{◌≡◌, IfOk, option_map};
 ghost use Rattle.isle_model.specs.rules.Meaning.{one};
 ghost use Rattle.isle_model.specs.rules.Values.{no_value, of_struct, of_variant};
-ghost use Rattle.isle_model.specs.trees.Run.{bound_to, part_at};
-ghost use Rattle.isle_laws_functions.specs.RunBy.{in_place_by, used_by, used_value_by, used_values_by};
+ghost use Rattle.isle_model.specs.trees.Run.{bound_to, part_at, in_place, used, used_value, used_values};
 ghost use Rattle.isle_sets.specs.SiteViews.{site_view};
-ghost use Rattle.isle_run.specs.RunViews.{env_view, stage_of};
+ghost use Rattle.isle_run.specs.RunViews.{env_view, stage_view};
 ghost use Rattle.isle_run.specs.ValueViews.{value_view, value_views, content_view};
 
 use crate::externs::Externs;
@@ -62,7 +61,7 @@ pub fn in_place<E: Externs>(
     env: &[(BindingId, Content)],
     binding: &Binding,
 ) -> Result<Option<Content>, AllocError>
-    ensures { IfOk result (λ o. option_map content_view o ≡ in_place_by (stage_of (E.functions stage.now.externs.now) stage.now.sites.now stage.now.multi stage.now.args.now) (env_view env.now) (site_view binding.now)) }
+    ensures { IfOk result (λ o. option_map content_view o ≡ in_place (stage_view E.functions stage.now) (env_view env.now) (site_view binding.now)) }
 {
     match binding {
         Binding::ConstInt { val, ty } => {
@@ -103,7 +102,7 @@ pub fn used<E: Externs>(
     env: &[(BindingId, Content)],
     site: BindingId,
 ) -> Result<Option<Content>, AllocError>
-    ensures { IfOk result (λ o. option_map content_view o ≡ used_by (stage_of (E.functions stage.now.externs.now) stage.now.sites.now stage.now.multi stage.now.args.now) (env_view env.now) site) }
+    ensures { IfOk result (λ o. option_map content_view o ≡ used (stage_view E.functions stage.now) (env_view env.now) site) }
 {
     match bound(env, site) {
         Some(content) => Ok(Some(content.clone()?)),
@@ -120,7 +119,7 @@ pub fn used_value<E: Externs>(
     env: &[(BindingId, Content)],
     site: BindingId,
 ) -> Result<Option<Value>, AllocError>
-    ensures { IfOk result (λ o. option_map value_view o ≡ used_value_by (stage_of (E.functions stage.now.externs.now) stage.now.sites.now stage.now.multi stage.now.args.now) (env_view env.now) site) }
+    ensures { IfOk result (λ o. option_map value_view o ≡ used_value (stage_view E.functions stage.now) (env_view env.now) site) }
 {
     match used(stage, env, site)? {
         Some(content) => Ok(content.into_value()),
@@ -134,7 +133,7 @@ pub fn used_values<E: Externs>(
     env: &[(BindingId, Content)],
     wanted: &[BindingId],
 ) -> Result<Option<Vec<Value>>, AllocError>
-    ensures { IfOk result (λ o. option_map (λ vs. value_views vs.items) o ≡ used_values_by (stage_of (E.functions stage.now.externs.now) stage.now.sites.now stage.now.multi stage.now.args.now) (env_view env.now) wanted.now) }
+    ensures { IfOk result (λ o. option_map (λ vs. value_views vs.items) o ≡ used_values (stage_view E.functions stage.now) (env_view env.now) wanted.now) }
 {
     let mut out = Vec::new(stage.alloc);
     for site in wanted {

@@ -1,11 +1,10 @@
 //! What a content brings that meets a constraint, and the sites of fields.
 
 ghost use Rattle.std.specs.Prelude.{◌≡◌, ◌==◌, ◌&&◌, ◌∷◌, [], IfOk, None, Some, false, if◌then◌else◌, map, option_map, true};
-ghost use Rattle.isle_model.specs.rules.Meaning.{just};
+ghost use Rattle.isle_model.specs.rules.Meaning.{just, total};
 ghost use Rattle.isle_model.specs.rules.Values.{listed};
 ghost use Rattle.isle_model.specs.trees.Run as Run;
-ghost use Rattle.isle_model.specs.trees.Run.{all_one, where_constant};
-ghost use Rattle.isle_laws_functions.specs.RunBy.{content_fields_by, value_fields_by};
+ghost use Rattle.isle_model.specs.trees.Run.{all_one, where_constant, content_fields, value_fields};
 ghost use Rattle.isle_model.specs.sites.Sites.{is_present, is_struct, is_variant};
 ghost use Rattle.isle_sets.specs.SiteViews.{constraint_view};
 ghost use Rattle.isle_run.specs.RunViews.{IsBeginningOf, content_list, env_view, if_bound, with_field};
@@ -36,7 +35,7 @@ fn variant_fields(
     variant: VariantId,
     value: &Value,
 ) -> Result<Option<Vec<Content>>, AllocError>
-    ensures { IfOk result (λ o. (f : _) (n : _) → option_map (λ v. content_list v.items) o ≡ value_fields_by f (is_variant ty.0 variant.0 n) (value_view value.now)) }
+    ensures { IfOk result (λ o. (m : _) (n : _) → option_map (λ v. content_list v.items) o ≡ value_fields m (is_variant ty.0 variant.0 n) (value_view value.now)) }
 {
     match value {
         Value::Variant(t, i, fields) => {
@@ -56,7 +55,7 @@ fn struct_fields(
     ty: TypeId,
     value: &Value,
 ) -> Result<Option<Vec<Content>>, AllocError>
-    ensures { IfOk result (λ o. (f : _) (n : _) → option_map (λ v. content_list v.items) o ≡ value_fields_by f (is_struct ty.0 n) (value_view value.now)) }
+    ensures { IfOk result (λ o. (m : _) (n : _) → option_map (λ v. content_list v.items) o ≡ value_fields m (is_struct ty.0 n) (value_view value.now)) }
 {
     match value {
         Value::Struct(t, fields) => {
@@ -87,7 +86,7 @@ fn value_fields<E: Externs>(
     constraint: Constraint,
     value: &Value,
 ) -> Result<Option<Vec<Content>>, AllocError>
-    ensures { IfOk result (λ o. option_map (λ v. content_list v.items) o ≡ value_fields_by (E.functions stage.now.externs.now) (constraint_view constraint) (value_view value.now)) }
+    ensures { IfOk result (λ o. option_map (λ v. content_list v.items) o ≡ value_fields (total (E.functions stage.now.externs.now)) (constraint_view constraint) (value_view value.now)) }
 {
     match constraint {
         Constraint::Variant { ty, variant, .. } => Ok(variant_fields(
@@ -128,7 +127,7 @@ fn inner_field(
     constraint: Constraint,
     inner: &Content,
 ) -> Result<Option<Vec<Content>>, AllocError>
-    ensures { IfOk result (λ o. (f : _) → option_map (λ v. content_list v.items) o ≡ content_fields_by f (constraint_view constraint) (just (content_view inner.now))) }
+    ensures { IfOk result (λ o. (m : _) → option_map (λ v. content_list v.items) o ≡ content_fields m (constraint_view constraint) (just (content_view inner.now))) }
 {
     match constraint {
         Constraint::Some => Ok(Some(single(alloc, inner)?)),
@@ -147,7 +146,7 @@ pub fn content_fields<E: Externs>(
     constraint: Constraint,
     content: &Content,
 ) -> Result<Option<Vec<Content>>, AllocError>
-    ensures { IfOk result (λ o. option_map (λ v. content_list v.items) o ≡ content_fields_by (E.functions stage.now.externs.now) (constraint_view constraint) (content_view content.now)) }
+    ensures { IfOk result (λ o. option_map (λ v. content_list v.items) o ≡ content_fields (total (E.functions stage.now.externs.now)) (constraint_view constraint) (content_view content.now)) }
 {
     match content {
         Content::One(value) => Ok(value_fields(stage, constraint, value)?),

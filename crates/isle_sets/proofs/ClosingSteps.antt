@@ -8,9 +8,9 @@ use Rattle.std.proofs.lemmas.Bool.{cases_Bool, and_parts, both_ways, false_from_
 use Rattle.std.proofs.lemmas.List.{length-map}
 use Rattle.std.proofs.lemmas.Option.{same_Some, slice_get_within}
 use Rattle.isle_disjointsets.specs.Partition.{together}
-use Rattle.isle_model.specs.sites.Sites.{Site, Constraint, is_variant, is_struct, is_bool, is_int, is_prim, is_present, SiteTerm, variant_field, struct_field, unfold_site}
+use Rattle.isle_model.specs.sites.Sites.{Site, Constraint, is_variant, is_struct, is_bool, is_int, is_prim, is_present, SiteTerm, variant_field, struct_field, unfold_site, fields_from, field_terms}
 use Rattle.isle_model.specs.visits.Demands.{with_sites}
-use Rattle.isle_model.specs.sites.Closure.{Closed, constraint_of, fields_from, field_terms, without_class_of, merged_all, with_constraints}
+use Rattle.isle_model.specs.sites.Closure.{Closed, constraint_of, without_class_of, merged_all, with_constraints}
 use Rattle.isle_model.specs.sites.RuleSets.{StandFor}
 use Rattle.isle_model.proofs.Elements.{In, in_from_contains, contains_from_in, slice_in, in_slice, in_map, in_zip}
 use Rattle.isle_model.proofs.SitesMade.{once_with}

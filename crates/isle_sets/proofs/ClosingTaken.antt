@@ -8,9 +8,9 @@ use Rattle.std.proofs.lemmas.Bool.{and_parts, false_from_ne_true}
 use Rattle.std.proofs.lemmas.List.Elements.{All-weaker}
 use Rattle.std.proofs.lemmas.Option.{same_Some, slice_get_within}
 use Rattle.isle_disjointsets.specs.Partition.{in_set}
-use Rattle.isle_model.specs.sites.Sites.{Site, Constraint, SiteTerm, unfold_site}
+use Rattle.isle_model.specs.sites.Sites.{Site, Constraint, SiteTerm, unfold_site, field_terms}
 use Rattle.isle_model.specs.visits.Demands.{has_site, with_sites}
-use Rattle.isle_model.specs.sites.Closure.{Closed, constraint_of, field_terms, class_at, merged_classes, merged_all, ascending, is_in_class, next_constrained, taken, closing}
+use Rattle.isle_model.specs.sites.Closure.{Closed, constraint_of, class_at, merged_classes, merged_all, ascending, is_in_class, next_constrained, taken, closing}
 use Rattle.isle_model.proofs.Elements.{In, any_in, in_any}
 use Rattle.isle_model.proofs.SitesMade.{in_has, has_in}
 use Rattle.isle_laws_closure.proofs.Closing.{closing_ends}

@@ -4,9 +4,9 @@ use Rattle.std.specs.Prelude.{nat_eq}
 use Rattle.std.proofs.lemmas.Bool.{cases_Bool}
 use Rattle.isle_disjointsets.specs.Partition.{IsPartition}
 use Rattle.isle_laws_closure.specs.FieldLaws.{GivesField}
-use Rattle.isle_model.specs.sites.Sites.{Site, Constraint, SiteTerm, unfold_site}
+use Rattle.isle_model.specs.sites.Sites.{Site, Constraint, SiteTerm, unfold_site, field_terms}
 use Rattle.isle_model.specs.visits.Demands.{Demands}
-use Rattle.isle_model.specs.sites.Closure.{Joined, itself, field_terms, IsPartOf, IsProperPart, directly, deeper, IsUnreachable, two_at_a_site, two_in_a_class, part_of_itself, class_name, class_names, fields_of_first, parts_of, goes_deeper, has_cycle}
+use Rattle.isle_model.specs.sites.Closure.{Joined, itself, IsPartOf, IsProperPart, directly, deeper, IsUnreachable, two_at_a_site, two_in_a_class, part_of_itself, class_name, class_names, fields_of_first, parts_of, goes_deeper, has_cycle}
 use Rattle.isle_model.proofs.Elements.{In, contains_from_in, in_from_contains, in_slice, slice_in, map_in, any_in}
 use Rattle.isle_laws_closure.proofs.Classes.{HasNoConflict, classes_bound, moved, fields_at, asked_spoken, constrained_means, constrained_there, one_constraint}
 use Rattle.isle_laws_closure.proofs.Settled.{names_settled}

@@ -6,9 +6,9 @@ use Rattle.std.proofs.lemmas.Bool.{cases_Bool, cond-true, cond-false, and_parts,
 use Rattle.std.proofs.lemmas.Option.{slice_get_within}
 use Rattle.isle_disjointsets.specs.Partition.{IsPartition}
 use Rattle.isle_laws_closure.specs.FieldLaws.{GivesField}
-use Rattle.isle_model.specs.sites.Sites.{Site, Constraint, is_variant, is_struct, is_bool, is_int, is_prim, is_present, SiteTerm, bool_term, int_term, prim_term, argument, extractor_call, constructor_call, pick_of, variant_made, variant_field, struct_made, struct_field, some_made, some_part, tuple_part, no_site, unfold_site}
+use Rattle.isle_model.specs.sites.Sites.{Site, Constraint, is_variant, is_struct, is_bool, is_int, is_prim, is_present, SiteTerm, bool_term, int_term, prim_term, argument, extractor_call, constructor_call, pick_of, variant_made, variant_field, struct_made, struct_field, some_made, some_part, tuple_part, no_site, unfold_site, fields_from, field_terms}
 use Rattle.isle_model.specs.visits.Demands.{Demands, site_term_eq}
-use Rattle.isle_model.specs.sites.Closure.{fields_from, field_terms, class_name, same_class, class_names, spoken_of, before_closing, merged_all}
+use Rattle.isle_model.specs.sites.Closure.{class_name, same_class, class_names, spoken_of, before_closing, merged_all}
 use Rattle.isle_model.proofs.Elements.{In, contains_from_in, in_from_contains, slice_in, some_is, none_some, or_split, or_left, or_right}
 use Rattle.isle_model.proofs.SameSites.{term_means, same_term}
 use Rattle.isle_laws_closure.specs.ClosureLaws.{RespectsDemands}

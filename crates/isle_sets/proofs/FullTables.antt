@@ -10,9 +10,9 @@ use Rattle.isle_base.specs.declared.syntax.Limit.TheVariants as Limits
 use Rattle.isle_base.specs.declared.visit_fault.VisitFault.{VisitFault}
 use Rattle.isle_base.specs.declared.visit_fault.VisitFault.TheVariants.{Memory, Limit, Stopped}
 use Rattle.isle_model.specs.lists.Names.{IsDistinct}
-use Rattle.isle_model.specs.sites.Sites.{Site, Constraint, sources_of, SiteTerm, layer, unfold_site}
+use Rattle.isle_model.specs.sites.Sites.{Site, Constraint, sources_of, SiteTerm, layer, unfold_site, field_terms}
 use Rattle.isle_model.specs.visits.Demands.{has_site, with_sites}
-use Rattle.isle_model.specs.sites.Closure.{Closed, field_terms, ascending, class_at, taken, closing}
+use Rattle.isle_model.specs.sites.Closure.{Closed, ascending, class_at, taken, closing}
 use Rattle.isle_model.specs.sites.Limits.{most_sites}
 use Rattle.isle_model.specs.sites.RuleSets.{StandFor}
 use Rattle.isle_model.specs.sites.SetRules.{each_place}

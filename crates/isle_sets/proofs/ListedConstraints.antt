@@ -10,6 +10,7 @@ use Rattle.std.specs.BTreeMap.{BTreeMap, IsOrdered, is_at}
 use Rattle.std.specs.Map.{lookup, keys_of}
 use Rattle.std.specs.List.Sorted.{IsStrictlySortedBy}
 use Rattle.std.proofs.lemmas.Map.Keys.{sorted_head, sorted_tail}
+use Rattle.isle_model.proofs.Numbers.{tied}
 use Rattle.isle_model.specs.trees.Places.{constraint_at}
 use Rattle.isle_sets.specs.Listings.{ascends, is_below_first, sites_of}
 use Rattle.isle_sets.specs.SiteViews.{constraint_view, constraint_views}
@@ -34,14 +35,6 @@ sorted_ascend [] s = refl
 sorted_ascend (n ∷ []) s = refl
 sorted_ascend (n ∷ m ∷ ns) s =
     and_from (is_below_first n (m ∷ ns)) (ascends (m ∷ ns)) (is_below n m (sorted_head nat_cmp n (m ∷ ns) s).0) (sorted_ascend (m ∷ ns) (sorted_tail nat_cmp n (m ∷ ns) s))
-
-pub tied : (a b : ℕ) → is_eq (nat_cmp a b) ≡ (b == a)
-tied a b =
-    unsigned_tied a b
-    ∙ elim (cases_Bool (a == b)) [
-      | inl t ↦ t ∙ sym (eq-eqb b a (sym (eqb-true a b t)))
-      | inr m ↦ elim (cases_Bool (b == a)) [ inl t ↦ eq-eqb a b (sym (eqb-true b a t)) ∙ sym t | inr k ↦ m ∙ sym k ]
-    ]
 
 seen_either : (b : Bool) (c : Constraint) (o : Option Constraint) → option_map constraint_view (cond b (Some c) o) ≡ cond b (Some (constraint_view c)) (option_map constraint_view o)
 seen_either true c o = refl

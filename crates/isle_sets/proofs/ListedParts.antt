@@ -6,9 +6,9 @@ use Rattle.std.proofs.lemmas.Option.{slice_get_within}
 use Rattle.isle_laws_closure.proofs.Reports.{joined_empty}
 use Rattle.isle_laws_closure.specs.FieldLaws.{GivesField}
 use Rattle.isle_model.specs.trees.Places.{constraint_at}
-use Rattle.isle_model.specs.sites.Sites.{Site, bool_site, int_site, prim_site, argument_site, extractor_site, constructor_site, iterator_site, make_variant_site, match_variant_site, make_struct_site, extract_struct_site, make_some_site, match_some_site, match_tuple_site, Constraint, is_variant, is_struct, is_bool, is_int, is_prim, is_present, sources_of, sources_at, SiteTerm, variant_field, struct_field, no_site, layer, layer_at, unfold_site}
+use Rattle.isle_model.specs.sites.Sites.{Site, bool_site, int_site, prim_site, argument_site, extractor_site, constructor_site, iterator_site, make_variant_site, match_variant_site, make_struct_site, extract_struct_site, make_some_site, match_some_site, match_tuple_site, Constraint, is_variant, is_struct, is_bool, is_int, is_prim, is_present, sources_of, sources_at, SiteTerm, variant_field, struct_field, no_site, layer, layer_at, unfold_site, fields_from, field_terms}
 use Rattle.isle_model.specs.visits.Demands.{Demands, site_term_eq, constraint_eq}
-use Rattle.isle_model.specs.sites.Closure.{constraint_of, conflict, conflict_with, conflicts_met, fields_from, field_terms, before_closing, with_constraints}
+use Rattle.isle_model.specs.sites.Closure.{constraint_of, conflict, conflict_with, conflicts_met, before_closing, with_constraints}
 use Rattle.isle_model.proofs.Elements.{In, contains_from_in, in_from_contains, slice_in, some_is, none_some, in_either, map_in}
 use Rattle.isle_model.proofs.FewElements.{not_empty, in_one}
 use Rattle.isle_model.proofs.SameSites.{same_term, constraint_means}

@@ -14,7 +14,8 @@ use Rattle.isle_model.specs.trees.Places.{is_in, joins_in}
 use Rattle.isle_sets.specs.Listings.{are_listed, ascends, is_below_first, is_listed_class}
 use Rattle.isle_sets.specs.SetLists.{AreNoted, IsListedBefore}
 use Rattle.isle_sets.proofs.JoinedSets.{in_set_in}
-use Rattle.isle_sets.proofs.ListedConstraints.{sorted_ascend, tied}
+use Rattle.isle_model.proofs.Numbers.{tied}
+use Rattle.isle_sets.proofs.ListedConstraints.{sorted_ascend}
 
 -- 1. members of a set
 contains_in : (s : BTreeSet ℕ) (a : ℕ) → contains nat_cmp s a ≡ is_in a s.keys

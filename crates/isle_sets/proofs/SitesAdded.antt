@@ -4,9 +4,8 @@ use Rattle.std.specs.Prelude.{Result, IfOk, Ok, Err, if◌then◌else◌}
 use Rattle.std.proofs.lemmas.List.{length_push, map-append}
 use Rattle.std.proofs.lemmas.List.Elements.{All-push, All-weaker}
 use Rattle.isle_model.specs.lists.Names.{IsDistinct}
-use Rattle.isle_model.specs.sites.Sites.{Site, match_variant_site, extract_struct_site, Constraint, is_variant, is_struct, sources_of, SiteTerm, variant_field, struct_field, layer, unfold_site}
+use Rattle.isle_model.specs.sites.Sites.{Site, match_variant_site, extract_struct_site, Constraint, is_variant, is_struct, sources_of, SiteTerm, variant_field, struct_field, layer, unfold_site, fields_from, field_terms}
 use Rattle.isle_model.specs.visits.Demands.{has_site, with_sites}
-use Rattle.isle_model.specs.sites.Closure.{fields_from, field_terms}
 use Rattle.isle_model.specs.sites.RuleSets.{StandFor}
 use Rattle.isle_model.specs.sites.SetRules.{each_place}
 use Rattle.isle_model.proofs.Elements.{contains_from_in}

@@ -5,9 +5,9 @@ use Rattle.std.specs.Ordering.{nat_cmp}
 use Rattle.std.specs.BTreeSet.{contains}
 use Rattle.isle_model.specs.lists.Names.{IsDistinct}
 use Rattle.isle_model.specs.sites.Sites as Sites
-use Rattle.isle_model.specs.sites.Sites.{Site, SiteTerm, unfold_site}
+use Rattle.isle_model.specs.sites.Sites.{Site, SiteTerm, unfold_site, field_terms}
 use Rattle.isle_model.specs.visits.Demands.{has_site, with_sites}
-use Rattle.isle_model.specs.sites.Closure.{Closed, constraint_of, field_equalities, field_terms, merged_all}
+use Rattle.isle_model.specs.sites.Closure.{Closed, constraint_of, field_equalities, merged_all}
 use Rattle.isle_model.specs.sites.RuleSets.{StandFor}
 use Rattle.isle_sets.specs.DemandsHeld.{constraint_held, are_equated, first_kept}
 use Rattle.isle_base.specs.declared.visit_fault.VisitFault.{VisitFault}

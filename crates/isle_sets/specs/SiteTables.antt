@@ -2,8 +2,7 @@
 use Rattle.std.specs.Prelude.{◌≡◌, ◌↔◌, ◌⊎◌, ℕ, ◌<◌, ◌≤◌, List, [], ◌∷◌, ◌++◌, length, map, Option, Some, slice_get, take, All, Contains}
 use Rattle.std.specs.HashMap.{get}
 use Rattle.isle_model.specs.lists.Names.{IsDistinct}
-use Rattle.isle_model.specs.sites.Sites.{Site, Constraint, sources_of, sources_at, SiteTerm, layer, unfold_site}
-use Rattle.isle_model.specs.sites.Closure.{field_terms}
+use Rattle.isle_model.specs.sites.Sites.{Site, Constraint, sources_of, sources_at, SiteTerm, layer, unfold_site, field_terms}
 use Rattle.isle_model.specs.visits.Demands.{with_sites}
 use Rattle.isle_model.specs.sites.RuleSets.{StandFor}
 use Rattle.isle_model.specs.sites.Limits.{most_sites}

@@ -1,7 +1,6 @@
 //! The binding sites of a term, as its rules are read.
 ghost use Rattle.std.specs.Prelude.{◌≡◌, ◌<◌, [], length, map, IfErr, IfOk, OnOk, MatchOption, None, Some, slice_get};
-ghost use Rattle.isle_model.specs.sites.Sites.{extract_struct_site, match_variant_site, layer, unfold_site};
-ghost use Rattle.isle_model.specs.sites.Closure.{field_terms};
+ghost use Rattle.isle_model.specs.sites.Sites.{extract_struct_site, match_variant_site, layer, unfold_site, field_terms};
 ghost use Rattle.isle_model.specs.sites.SetRules.{each_place};
 ghost use Rattle.isle_sets.specs.SiteViews.{constraint_view, site_view, site_views};
 ghost use Rattle.isle_sets.specs.SiteTables.{AddsFields, AddsSite, AddsSites, ForWantOfRoom, HasNoRoom, IsAbsent, IsSiteNumber, IsTable, LacksRoom, MayAdd, table_sites};

@@ -9,8 +9,7 @@ use Rattle.std.proofs.lemmas.Bool.{cond-true, cond-false}
 use Rattle.std.proofs.lemmas.List.{append-nil}
 use Rattle.isle_model.specs.lists.Tables.{Flags}
 use Rattle.isle_model.specs.sites.Sites.{SiteTerm, SiteTerms, constructor_call, each_term, pick_of, some_part, unfold_site}
-use Rattle.isle_model.specs.visits.Demands.{Visit, Valued, valued, call_result, call_sites, calling, iterating, making, visit_call, where_multi}
-use Rattle.isle_model.specs.visits.SiteVisitor.{value_made as value_made_of}
+use Rattle.isle_model.specs.visits.Demands.{Visit, Valued, valued, call_result, call_sites, calling, iterating, making, visit_call, where_multi, value_made as value_made_of}
 use Rattle.isle_base.specs.declared.visit_fault.VisitFault.{VisitFault}
 use Rattle.isle_term_sets.specs.VisitedSites.{EndsBefore, GoesTo, HaveSites, IsNextCall, IsSiteOf, StandsAt, Makes, MakesValue, ValuesTo, GivesValue, built_sites, call_number, input_ids, input_terms, value_sites}
 use Rattle.isle_term_sets.specs.declared.ruleset_builder.RuleSetBuilder.{RuleSetBuilder}

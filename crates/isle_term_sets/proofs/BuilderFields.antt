@@ -2,17 +2,14 @@
 use Rattle.std.proofs.Common.{◌≡◌, Bool, Contains, true, false, if◌then◌else◌, inl, inr, ℕ, zero, suc, ◌+◌, ◌<◌, ◌≤◌, List, [], ◌∷◌, ◌++◌, length, refl, sym, ap, ap₂, ◌∙◌, subst, arith, add-one}
 use Rattle.std.specs.Prelude.{Result, Ok, Err, IfOk, IfErr, MatchResult}
 use Rattle.std.specs.Global.{Vec}
-use Rattle.isle_laws_visits.proofs.WithSites.{same_fields}
 use Rattle.isle_typed.specs.VisitAnswers.{listed}
 use Rattle.std.proofs.lemmas.List.{append_assoc, append-nil, map-append}
 use Rattle.std.proofs.lemmas.Bool.{cases_lt}
 use Rattle.std.proofs.lemmas.Result.{IfErr-weaker}
 use Rattle.std.proofs.lemmas.List.Elements.{All-nil, All-push, All-weaker}
-use Rattle.isle_model.specs.sites.Sites.{Constraint, is_present, Site, SiteTerm, layer, pick_of, some_part, sources_of, tuple_part, unfold_site}
+use Rattle.isle_model.specs.sites.Sites.{Constraint, is_present, Site, SiteTerm, layer, pick_of, some_part, sources_of, tuple_part, unfold_site, fields_from, field_terms}
 use Rattle.isle_model.specs.rules.Typed.{TypedPatterns, no_typed_pattern, typed_pattern_and}
-use Rattle.isle_model.specs.visits.Demands.{fields_matched, outputs_taken, Visit, with_sites, asking, counting, iterating, making, pattern_count, Opened, open_call, output_sites, outputs_opened, part_sites}
-use Rattle.isle_model.specs.visits.SiteVisitor.{fields_opened}
-use Rattle.isle_model.specs.sites.Closure.{fields_from, field_terms}
+use Rattle.isle_model.specs.visits.Demands.{fields_matched, outputs_taken, Visit, with_sites, asking, counting, iterating, making, pattern_count, Opened, open_call, output_sites, outputs_opened, part_sites, fields_opened}
 use Rattle.isle_model.specs.sites.Limits.{most_outputs}
 use Rattle.isle_model.specs.lists.Tables.{Flags}
 use Rattle.isle_base.specs.declared.syntax.Limit.{Limit}
@@ -195,7 +192,7 @@ parts_are : (u : SiteTerm) (args : TypedPatterns) (n : ℕ) → pattern_count ar
 parts_are u no_typed_pattern n e l = absurd (omega (arith, e, l))
 parts_are u (typed_pattern_and q no_typed_pattern) n e l = absurd (omega (arith, e, l))
 parts_are u (typed_pattern_and q (typed_pattern_and r rs)) n e l =
-    let same = same_fields (tuple_part u) 0 (typed_pattern_and q (typed_pattern_and r rs)) ∙ ap (fields_from (tuple_part u) 0) e in (same, same)
+    let same = ap (fields_from (tuple_part u) 0) e in (same, same)
 
 module _ (before : List SiteTerm) (old new : RuleSetBuilder) (v : Visit) (u : SiteTerm) (args : TypedPatterns) (n count : ℕ) (r : Result (Vec ℕ) VisitFault) (same : n ≡ count) (few : count ≤ most_outputs)
     (is : pattern_count args ≡ count) (several : 1 < n) where
@@ -286,8 +283,8 @@ module _ (before : List SiteTerm) (v : Visit) (flags : Flags) (multi infallible 
         ap (λ (q : Opened). q.visit.demands.made) (sym (call_same qs)) ∙ ap (λ us. us ++ parts) a.1 ∙ append_assoc Call.demands.made a.0 parts,
       )
 
-  pub call_ends : (args : TypedPatterns) (count : ℕ) (b : RuleSetBuilder) (e : VisitFault) → EndsBefore before b Call e → EndsCall b count args e
-  call_ends args count b e h =
+  pub open_call_ends : (args : TypedPatterns) (count : ℕ) (b : RuleSetBuilder) (e : VisitFault) → EndsBefore before b Call e → EndsCall b count args e
+  open_call_ends args count b e h =
       let m = opened_makes args in
       let a = answered_makes multi infallible call Call in
       opening_ends before b (Wanted args).visit Answered Limits.Outputs most_outputs count e (ends_later before b Call (Wanted args).visit m.0 e m.1 h) (ends_later before b Call Answered a.0 e a.1 h)

@@ -9,12 +9,12 @@ use Rattle.isle_base.specs.declared.visit_fault.VisitFault.TheVariants.{Memory}
 use Rattle.isle_model.specs.lists.Tables.{Flags}
 use Rattle.isle_model.specs.sites.Limits.{first_passed, most_arguments, most_fields, most_outputs}
 use Rattle.isle_model.specs.sites.Sites.{Constraint, is_variant, is_struct, is_bool, is_int, is_prim, is_present, SiteTerm, SiteTerms, no_site_term, site_term_and, argument, bool_term, constructor_call, extractor_call, int_term, prim_term, struct_made, unfold_site, variant_made}
-use Rattle.isle_model.specs.visits.Demands.{Visit, Opened, Valued, asking, asking_all, call_sites, equating, iterating, making, pattern_count, site_term_eq, taking_argument, unwraps, valued, visit_call, where_multi}
-use Rattle.isle_model.specs.visits.SiteVisitor.{any_parts, extractor_opened, fields_opened, value_made}
+use Rattle.isle_model.specs.visits.Demands.{Visit, Opened, Valued, asking, asking_all, call_sites, equating, iterating, making, pattern_count, site_term_eq, taking_argument, unwraps, valued, visit_call, where_multi, binding, fields_opened, value_made}
+use Rattle.isle_model.specs.visits.SiteVisitor.{any_parts, extractor_opened}
 use Rattle.isle_model.proofs.Either.{either}
 use Rattle.isle_model.proofs.Elements.{some_is}
 use Rattle.isle_laws_visits.proofs.Continued.{continues_now}
-use Rattle.isle_laws_visits.proofs.Visited.{equated}
+use Rattle.isle_laws_visits.proofs.AskedSites.{equated}
 use Rattle.isle_laws_visits.proofs.FollowedPatterns.{any_count}
 use Rattle.isle_laws_visits.specs.Followers.{AsksNothingElse, EndsOnTheWay, FollowsExprs, FollowsPatterns, FollowsRules, FollowsSites, Follower, Gives, Goes, GoesOn, NameInputs, GivesParts}
 use Rattle.isle_typed.specs.VisitorSteps.{expr_steps, no_memory, pattern_steps, rule_steps}

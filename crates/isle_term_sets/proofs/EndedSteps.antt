@@ -14,10 +14,9 @@ use Rattle.isle_base.specs.declared.visit_fault.VisitFault.TheVariants as Faults
 use Rattle.isle_model.specs.lists.Tables.{Flags}
 use Rattle.isle_model.specs.rules.Typed.{TypedPatterns}
 use Rattle.isle_model.specs.sites.Limits.{RuleLimit, arguments_limit, fields_limit, outputs_limit, most_arguments, most_fields, most_outputs, first_passed, passed_by, passed_or_later}
-use Rattle.isle_model.specs.sites.Sites.{Constraint, SiteTerm, argument}
-use Rattle.isle_model.specs.sites.Closure.{field_terms}
-use Rattle.isle_model.specs.visits.Demands.{Count, fields_matched, outputs_taken, argument_taken, Visit, Opened, making, open_call, part_sites, pattern_count, taking_argument, with_sites}
-use Rattle.isle_model.specs.visits.SiteVisitor.{fields_opened}
+use Rattle.isle_model.specs.sites.Sites.{Constraint, SiteTerm, argument, field_terms}
+use Rattle.isle_model.specs.visits.Demands.{Count, fields_matched, outputs_taken, argument_taken, Visit, Opened, making, open_call, part_sites, pattern_count, taking_argument, with_sites, fields_opened}
+use Rattle.isle_model.specs.sites.RuleSets.{StandFor}
 use Rattle.isle_model.proofs.Elements.{none_some, some_is}
 use Rattle.isle_laws_visits.specs.VisitLaws.{Continues}
 use Rattle.isle_laws_visits.proofs.Continued.{passed_after}

@@ -5,9 +5,9 @@ use Rattle.std.proofs.lemmas.List.{length-append, length-take}
 use Rattle.std.proofs.lemmas.Option.{same_Some}
 use Rattle.isle_model.specs.rules.Program.{Program}
 use Rattle.isle_model.specs.rules.Typed.{TypedRule}
-use Rattle.isle_model.specs.sites.Sites.{Site, SiteTerm, unfold_site}
+use Rattle.isle_model.specs.sites.Sites.{Site, SiteTerm, unfold_site, field_terms}
 use Rattle.isle_model.specs.visits.Demands.{Demands, demands_of, with_sites}
-use Rattle.isle_model.specs.sites.Closure.{ascending, before_closing, class_at, closed, field_terms, is_unreachable, most_closing_steps}
+use Rattle.isle_model.specs.sites.Closure.{ascending, before_closing, class_at, closed, is_unreachable, most_closing_steps}
 use Rattle.isle_model.specs.sites.Limits.{RuleLimit, most_sites, passed_in_visit, sites_after_rule, sites_reached, sites_until, sites_wanted}
 use Rattle.isle_model.specs.sites.RuleSets.{StandFor}
 use Rattle.isle_laws_closure.specs.RuleByRule.{HaveGrown}

@@ -12,8 +12,7 @@ use Rattle.isle_model.specs.rules.Typed.{TypedPatterns, TypedRule}
 use Rattle.isle_model.specs.lists.Tables.{Flags}
 use Rattle.isle_model.specs.sites.Limits.{RuleLimit, arguments_limit, fields_limit, first_limit, first_passed, most_arguments, most_fields, most_outputs, outputs_limit, sites_after_rule, sites_limit}
 use Rattle.isle_model.specs.sites.RuleSets.{StandFor}
-use Rattle.isle_model.specs.visits.Demands.{Visit, Valued, valued, visit_call, call_result, Opened, open_call, pattern_count, with_sites, asking, asking_all, equating, iterating, making, taking_argument, unwraps}
-use Rattle.isle_model.specs.visits.SiteVisitor.{fields_opened}
+use Rattle.isle_model.specs.visits.Demands.{Visit, Valued, valued, visit_call, call_result, Opened, open_call, pattern_count, with_sites, asking, asking_all, equating, iterating, making, taking_argument, unwraps, fields_opened}
 use Rattle.isle_model.specs.sites.Closure.{Unreachability, conflict, conflicts_met, before_closing}
 use Rattle.isle_laws_visits.specs.Followers.{AsksNothingElse}
 use Rattle.isle_base.specs.declared.syntax.Limit.{Limit}
@@ -127,8 +126,8 @@ pub record MeetsCount (before : List SiteTerm) (b : RuleSetBuilder) (v : Visit) 
   pub until : made ≤ length v.demands.made
   pub sites : HasSites b (with_sites before (take made v.demands.made))
 
--- a builder ended on the way of a visit: memory was refused, or a limit was met, and then it has the sites that were made
--- until then, where there was no room for one the first of them
+-- a builder ended on the way of a visit: memory was refused; or a limit was met, and then the builder has the sites that were
+-- made until then; where there was no room for one more, it has the first of them
 abbrev pub EndsVisit : List SiteTerm → RuleSetBuilder → Visit → VisitFault → Type 0
 EndsVisit before b v (Faults.Memory e) = Unit {0}
 EndsVisit before b v (Faults.Limit Limits.Fields) = MeetsCount before b v fields_limit

@@ -2,8 +2,7 @@
 ghost use Rattle.std.specs.Prelude.{◌≡◌, ◌<◌, List, false, not, suc, length, map, All, IfErr, IfOk, OnOk, if◌then◌else◌};
 ghost use Rattle.isle_model.specs.lists.Tables.{Flags};
 ghost use Rattle.isle_model.specs.sites.Sites.{SiteTerm, bool_term, each_term, int_term, prim_term, struct_made, unfold_site, variant_made};
-ghost use Rattle.isle_model.specs.visits.Demands.{Visit, calling, finished, making, valued, visit_call, where_multi};
-ghost use Rattle.isle_model.specs.visits.SiteVisitor.{value_made};
+ghost use Rattle.isle_model.specs.visits.Demands.{Visit, calling, finished, making, valued, visit_call, where_multi, value_made};
 ghost use Rattle.isle_typed.specs.VisitAnswers.{typed_inputs};
 ghost use Rattle.isle_term_sets.specs.VisitedSites.{HaveSites, Constructs, EndsBefore, GivesValue, GoesTo, IsNextCall, MakesValue, StandsAt, ValuesTo, built_sites, input_terms, value_sites};
 

@@ -3,10 +3,8 @@ ghost use Rattle.std.specs.Prelude.{◌≡◌, ◌<◌, ◌≤◌, List, [], ◌
 ghost use Rattle.isle_base.specs.declared.syntax.Limit.TheVariants as Limits;
 ghost use Rattle.isle_model.specs.lists.Tables.{Flags};
 ghost use Rattle.isle_model.specs.rules.Typed.{TypedPatterns};
-ghost use Rattle.isle_model.specs.sites.Sites.{SiteTerm, extractor_call, is_bool, is_int, is_prim, is_struct, is_variant, unfold_site};
-ghost use Rattle.isle_model.specs.visits.Demands.{Visit, making, open_call, outputs_opened, pattern_count};
-ghost use Rattle.isle_model.specs.visits.SiteVisitor.{fields_opened};
-ghost use Rattle.isle_model.specs.sites.Closure.{fields_from};
+ghost use Rattle.isle_model.specs.sites.Sites.{SiteTerm, extractor_call, is_bool, is_int, is_prim, is_struct, is_variant, unfold_site, fields_from};
+ghost use Rattle.isle_model.specs.visits.Demands.{Visit, making, open_call, outputs_opened, pattern_count, fields_opened};
 ghost use Rattle.isle_model.specs.sites.Limits.{most_fields, most_outputs};
 ghost use Rattle.isle_sets.specs.SiteViews.{site_view};
 ghost use Rattle.isle_term_sets.specs.VisitedSites.{AnswersTo, Asks, EndsBefore, EndsOpening, AsksEqual, MakesAll, OpensExtractor, OpensFields, OpensTo, StandsAt, answered, built_sites, part_of, part_site};

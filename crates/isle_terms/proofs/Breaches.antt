@@ -8,10 +8,10 @@ use Rattle.isle_base.specs.Noting.{NotesMore, MayNoteMore}
 use Rattle.isle_base.specs.Positions.{NotesAt, OccurAmong}
 use Rattle.isle_base.proofs.Noted.{some_noted}
 use Rattle.isle_base.proofs.Positioned.{stand_among}
-use Rattle.isle_terms.specs.TermBreaches.{BeginsAt, BreaksTerms, FirstBreaksTerms}
+use Rattle.isle_terms.specs.TermBreaches.{FirstStandsAt, BreaksTerms, FirstBreaksTerms}
 
 -- what is noted at some positions begins there
-pub begins_noted : (ps : List Position) (old new : List Error) → NotesAt ps old new → BeginsAt ps old new
+pub begins_noted : (ps : List Position) (old new : List Error) → NotesAt ps old new → FirstStandsAt ps old new
 begins_noted ps old new n = record {
   begins = λ first rest none is. elim (n.each first (subst (λ l. Contains l first) (sym is) (in_head first rest))) [
     | inl before ↦ absurd (nothing_in first (subst (λ l. Contains l first) none before))
@@ -19,7 +19,7 @@ begins_noted ps old new n = record {
   ];
 }
 
-pub begins_among : (ps qs : List Position) (old new : List Error) → OccurAmong ps qs → BeginsAt ps old new → BeginsAt qs old new
+pub begins_among : (ps qs : List Position) (old new : List Error) → OccurAmong ps qs → FirstStandsAt ps old new → FirstStandsAt qs old new
 begins_among ps qs old new a b = record { begins = λ first rest none is. stand_among ps qs first a (b.begins first rest none is) }
 
 -- where more is noted the first error stays
@@ -30,22 +30,22 @@ first_kept more (x ∷ xs) es' first rest some e is =
     let same : x ≡ first = cc in
     (xs, ap (λ y. y ∷ xs) same)
 
-pub begins_before : (ps : List Position) (a b c : List Error) → NotesMore a b → BeginsAt ps a b → MayNoteMore b c → BeginsAt ps a c
-begins_before ps a b c some begun (inl same) = subst (BeginsAt ps a) (sym same) begun
+pub begins_before : (ps : List Position) (a b c : List Error) → NotesMore a b → FirstStandsAt ps a b → MayNoteMore b c → FirstStandsAt ps a c
+begins_before ps a b c some begun (inl same) = subst (FirstStandsAt ps a) (sym same) begun
 begins_before ps a b c some begun (inr n) = record {
   begins = λ first rest none is. let k = first_kept n.more b c first rest (some_noted some) n.added is in begun.begins first k.0 none k.1;
 }
 
 -- one thing after another
-pub begins_both : (ps : List Position) (a b c : List Error) → MayNoteMore a b → BeginsAt ps a b → MayNoteMore b c → BeginsAt ps b c → BeginsAt ps a c
-begins_both ps a b c (inl same) one more two = subst (λ l. BeginsAt ps l c) same two
+pub begins_both : (ps : List Position) (a b c : List Error) → MayNoteMore a b → FirstStandsAt ps a b → MayNoteMore b c → FirstStandsAt ps b c → FirstStandsAt ps a c
+begins_both ps a b c (inl same) one more two = subst (λ l. FirstStandsAt ps l c) same two
 begins_both ps a b c (inr some) one more two = begins_before ps a b c some one more
 
 -- where there is no error before, the first one now stands where a condition is broken
 pub record Breach (k : KnownTypes) (defs : List Definition) (es es' : List Error) : Type 0 where
   pub positions : List Position
   pub breaks : BreaksTerms k defs positions
-  pub begins : BeginsAt positions es es'
+  pub begins : FirstStandsAt positions es es'
 
 some_first : (es : List Error) → es ≢ [] → (first : Error) × (rest : List Error) × (es ≡ first ∷ rest)
 some_first [] some = absurd (some refl)

@@ -31,7 +31,7 @@ use Rattle.isle_terms.specs.TermTables.{same_types}
 use Rattle.isle_terms.specs.declared.term_table.TermTable.{TermTable}
 use Rattle.isle_terms.specs.TermViews.{term_views}
 use Rattle.isle_terms.specs.Reading.{IsWithin, term_of_name}
-use Rattle.isle_terms.specs.TermBreaches.{BeginsAt, BreaksConverter, unknown_converter, second_converter, by_converter}
+use Rattle.isle_terms.specs.TermBreaches.{FirstStandsAt, BreaksConverter, unknown_converter, second_converter, by_converter}
 use Rattle.isle_terms.specs.Stages.{constructor_after}
 use Rattle.isle_terms.specs.Signing.{ReadsTerms}
 use Rattle.isle_terms.specs.Converting.{type_by_id, converter_at, pair_of, converter_entry, template_after, ConvertersRead, Converts, IsWrongConverter, ReadsIfConverter}
@@ -200,7 +200,7 @@ module _ (e : TypesRead) (readable : AreReadable e) (defs read rest : List Defin
       (λ h _. subst (ConvertersRead e defs (read ++ d ∷ []) env) (sym same.1) (go h))
       (λ h x. absurd x) s
 
-  next : (d : Definition) → defs ≡ read ++ d ∷ rest → ReadsIfConverter d env table es table' es' → BeginsAt (definition_positions d) es es' → ReadsTerms e defs (ConvertersRead e defs read) env table es → ReadsTerms e defs (ConvertersRead e defs (read ++ d ∷ [])) env table' es'
+  next : (d : Definition) → defs ≡ read ++ d ∷ rest → ReadsIfConverter d env table es table' es' → FirstStandsAt (definition_positions d) es es' → ReadsTerms e defs (ConvertersRead e defs read) env table es → ReadsTerms e defs (ConvertersRead e defs (read ++ d ∷ [])) env table' es'
   next (converter_definition c) whole a b s =
       step e defs (ConvertersRead e defs read) (ConvertersRead e defs (read ++ converter_definition c ∷ [])) env env table table' es es' (Converts c env table table') (IsWrongConverter c env table) s.left w a
       (λ h x. converter_right e readable defs read rest c whole env table s.left h table' x)
@@ -214,7 +214,7 @@ module _ (e : TypesRead) (readable : AreReadable e) (defs read rest : List Defin
 
 -- after the definition at i
 pub next_converter : (e : TypesRead) → AreReadable e → (defs : List Def) (i : ℕ) (d : Def) → i < length defs → d ≡ get_or defs i d → (env : TypeEnv) (table table' : TermTable) (es es' : List Error) → IsWithin table'
-    → ReadsIfConverter (definition_view d) env table es table' es' → BeginsAt (definition_positions (definition_view d)) es es'
+    → ReadsIfConverter (definition_view d) env table es table' es' → FirstStandsAt (definition_positions (definition_view d)) es es'
     → ReadsTerms e (definition_views defs) (ConvertersRead e (definition_views defs) (definition_views (take i defs))) env table es
     → ReadsTerms e (definition_views defs) (ConvertersRead e (definition_views defs) (definition_views (take (i + 1) defs))) env table' es'
 next_converter e r defs i d within here env table table' es es' w a b s =

@@ -28,7 +28,7 @@ use Rattle.isle_types.specs.Envs.{names_of, symbol_of, type_of_name, IsInterned}
 use Rattle.isle_types.specs.EnvViews.{environment_view}
 use Rattle.isle_types.specs.VariantReading.{ReportsIf}
 use Rattle.isle_terms.specs.declared.term_table.TermTable.{TermTable}
-use Rattle.isle_terms.specs.TermBreaches.{BeginsAt, BreaksDeclaration, name_taken, both_marks, unknown_argument, unknown_result, by_declaration}
+use Rattle.isle_terms.specs.TermBreaches.{FirstStandsAt, BreaksDeclaration, name_taken, both_marks, unknown_argument, unknown_result, by_declaration}
 use Rattle.isle_terms.specs.TermTables.{term_at}
 use Rattle.isle_terms.specs.TermViews.{term_view, term_views}
 use Rattle.isle_terms.specs.Reading.{IsWithin, Interns, MayIntern, HaveTypes, HasUnknown, IsKnownInEnv, AddsTerm, IsTakenByTerm, IsFreeOrReported, AddsOrReports, signature_entry}
@@ -189,7 +189,7 @@ declaration_read d old new table table' es one two es' n f m a =
 
 -- what is noted of it begins at it
 pub declaration_begins : (d : DeclTree) (new : TypeEnv) (table table' : TermTable) (name : ℕ) (es one two es' : List Error) → IsFreeOrReported name table es one → ReportsIf (d.multi && d.partial) one two → AddsOrReports d new name table table' two es'
-    → BeginsAt (declaration_positions d) es one → BeginsAt (declaration_positions d) one two → BeginsAt (declaration_positions d) two es' → BeginsAt (declaration_positions d) es es'
+    → FirstStandsAt (declaration_positions d) es one → FirstStandsAt (declaration_positions d) one two → FirstStandsAt (declaration_positions d) two es' → FirstStandsAt (declaration_positions d) es es'
 declaration_begins d new table table' name es one two es' f m a x y z =
     let b : Bool = d.multi && d.partial in
     let first : MayNoteMore es one = may_note (term_at table name ≡ None) (IsTakenByTerm name table) es one f in
@@ -220,7 +220,7 @@ module _ (e : TypesRead) (r : AreReadable e) (defs read rest : List Definition) 
       (λ h _. subst (λ env. Declaring e defs (read ++ d ∷ []) env table') (sym same.1) (subst (Declaring e defs (read ++ d ∷ []) old) (sym same.2) (go h)))
       (λ h x. absurd x) s
 
-  pub next : (d : Definition) → defs ≡ read ++ d ∷ rest → ReadsIfDeclared d old table es new table' es' → BeginsAt (definition_positions d) es es' → ReadsTerms e defs (Declaring e defs read) old table es → ReadsTerms e defs (Declaring e defs (read ++ d ∷ [])) new table' es'
+  pub next : (d : Definition) → defs ≡ read ++ d ∷ rest → ReadsIfDeclared d old table es new table' es' → FirstStandsAt (definition_positions d) es es' → ReadsTerms e defs (Declaring e defs read) old table es → ReadsTerms e defs (Declaring e defs (read ++ d ∷ [])) new table' es'
   next (declaration d) whole a b s =
       step e defs (Declaring e defs read) (Declaring e defs (read ++ declaration d ∷ [])) old new table table' es es' (Declares d old new table table') (IsWrongDeclaration d old new table) (left_more e r old s.left new m) w a.reads
       (λ h x. right e r defs read rest d whole old table s.left h new a.interns table' x)
@@ -234,7 +234,7 @@ module _ (e : TypesRead) (r : AreReadable e) (defs read rest : List Definition) 
 
 -- after the definition at i
 pub next_declaration : (e : TypesRead) → AreReadable e → (defs : List Def) (i : ℕ) (d : Def) → i < length defs → d ≡ get_or defs i d → (old new : TypeEnv) (table table' : TermTable) (es es' : List Error) → MayIntern old new → IsWithin table'
-    → ReadsIfDeclared (definition_view d) old table es new table' es' → BeginsAt (definition_positions (definition_view d)) es es'
+    → ReadsIfDeclared (definition_view d) old table es new table' es' → FirstStandsAt (definition_positions (definition_view d)) es es'
     → ReadsTerms e (definition_views defs) (Declaring e (definition_views defs) (definition_views (take i defs))) old table es
     → ReadsTerms e (definition_views defs) (Declaring e (definition_views defs) (definition_views (take (i + 1) defs))) new table' es'
 next_declaration e r defs i d within here old new table table' es es' m w a b s =

@@ -23,7 +23,7 @@ use Rattle.isle_types.specs.declared.type_env.TypeEnv.{TypeEnv}
 use Rattle.isle_types.specs.Envs.{names_of, IsInterned}
 use Rattle.isle_types.specs.EnvViews.{environment_view}
 use Rattle.isle_terms.specs.declared.term_table.TermTable.{TermTable}
-use Rattle.isle_terms.specs.TermBreaches.{BeginsAt, BreaksConstructor, constructor_of_none, beside_rules, second_constructor, BreaksExternal, external_of_none, second_taker, by_constructor, by_external}
+use Rattle.isle_terms.specs.TermBreaches.{FirstStandsAt, BreaksConstructor, constructor_of_none, beside_rules, second_constructor, BreaksExternal, external_of_none, second_taker, by_constructor, by_external}
 use Rattle.isle_terms.specs.TermTables.{same_types}
 use Rattle.isle_terms.specs.Reading.{IsWithin, Interns, MayIntern, term_of_name}
 use Rattle.isle_terms.specs.Signing.{ReadsTerms, declared_so_far}
@@ -196,7 +196,7 @@ module _ (e : TypesRead) (readable : AreReadable e) (defs read rest : List Defin
       (λ h _. subst (λ env. ExternsRead e defs (read ++ d ∷ []) env table') (sym same.1) (subst (ExternsRead e defs (read ++ d ∷ []) old) (sym same.2) (go h)))
       (λ h x. absurd x) s
 
-  constructor : (term function : Name) (at : Position) → defs ≡ read ++ extern_definition (extern_constructor term function at) ∷ rest → ReadsIfExtern (extern_definition (extern_constructor term function at)) old table es new table' es' → BeginsAt (definition_positions (extern_definition (extern_constructor term function at))) es es'
+  constructor : (term function : Name) (at : Position) → defs ≡ read ++ extern_definition (extern_constructor term function at) ∷ rest → ReadsIfExtern (extern_definition (extern_constructor term function at)) old table es new table' es' → FirstStandsAt (definition_positions (extern_definition (extern_constructor term function at))) es es'
       → ReadsTerms e defs (ExternsRead e defs read) old table es → ReadsTerms e defs (ExternsRead e defs (read ++ extern_definition (extern_constructor term function at) ∷ [])) new table' es'
   constructor term function at whole a b s =
       let d : Definition = extern_definition (extern_constructor term function at) in
@@ -221,7 +221,7 @@ module _ (e : TypesRead) (readable : AreReadable e) (defs read rest : List Defin
       })
       (λ h x. record { positions = definition_positions d; breaks = by_constructor read rest term function at whole (constructor_wrong e defs (constructor_trees read) c met taken new table a.0.inverse (stand h) h.constructors x read refl); begins = b }) s
 
-  extractor : (term function : Name) (at : Position) (infallible : Bool) → defs ≡ read ++ extern_definition (extern_extractor term function at infallible) ∷ rest → ReadsIfExtern (extern_definition (extern_extractor term function at infallible)) old table es new table' es' → BeginsAt (definition_positions (extern_definition (extern_extractor term function at infallible))) es es'
+  extractor : (term function : Name) (at : Position) (infallible : Bool) → defs ≡ read ++ extern_definition (extern_extractor term function at infallible) ∷ rest → ReadsIfExtern (extern_definition (extern_extractor term function at infallible)) old table es new table' es' → FirstStandsAt (definition_positions (extern_definition (extern_extractor term function at infallible))) es es'
       → ReadsTerms e defs (ExternsRead e defs read) old table es → ReadsTerms e defs (ExternsRead e defs (read ++ extern_definition (extern_extractor term function at infallible) ∷ [])) new table' es'
   extractor term function at infallible whole a b s =
       let d : Definition = extern_definition (extern_extractor term function at infallible) in
@@ -246,7 +246,7 @@ module _ (e : TypesRead) (readable : AreReadable e) (defs read rest : List Defin
       })
       (λ h x. record { positions = definition_positions d; breaks = by_external read rest t whole (external_wrong e defs (external_trees read) t met made new table a.0.inverse (stand h) h.externals x read refl); begins = b }) s
 
-  pub next : (d : Definition) → defs ≡ read ++ d ∷ rest → ReadsIfExtern d old table es new table' es' → BeginsAt (definition_positions d) es es' → ReadsTerms e defs (ExternsRead e defs read) old table es → ReadsTerms e defs (ExternsRead e defs (read ++ d ∷ [])) new table' es'
+  pub next : (d : Definition) → defs ≡ read ++ d ∷ rest → ReadsIfExtern d old table es new table' es' → FirstStandsAt (definition_positions d) es es' → ReadsTerms e defs (ExternsRead e defs read) old table es → ReadsTerms e defs (ExternsRead e defs (read ++ d ∷ [])) new table' es'
   next (extern_definition (extern_constructor term function at)) whole a b s = constructor term function at whole a b s
   next (extern_definition (extern_extractor term function at infallible)) whole a b s = extractor term function at infallible whole a b s
   next (extern_definition (extern_const name ty at)) whole a b s = other (extern_definition (extern_const name ty at)) refl refl refl a s
@@ -259,7 +259,7 @@ module _ (e : TypesRead) (readable : AreReadable e) (defs read rest : List Defin
 
 -- after the definition at i
 pub next_extern : (e : TypesRead) → AreReadable e → (defs : List Def) (i : ℕ) (d : Def) → i < length defs → d ≡ get_or defs i d → (old new : TypeEnv) (table table' : TermTable) (es es' : List Error) → MayIntern old new → IsWithin table'
-    → ReadsIfExtern (definition_view d) old table es new table' es' → BeginsAt (definition_positions (definition_view d)) es es'
+    → ReadsIfExtern (definition_view d) old table es new table' es' → FirstStandsAt (definition_positions (definition_view d)) es es'
     → ReadsTerms e (definition_views defs) (ExternsRead e (definition_views defs) (definition_views (take i defs))) old table es
     → ReadsTerms e (definition_views defs) (ExternsRead e (definition_views defs) (definition_views (take (i + 1) defs))) new table' es'
 next_extern e r defs i d within here old new table table' es es' m w a b s =

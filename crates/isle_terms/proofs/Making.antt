@@ -29,7 +29,7 @@ use Rattle.isle_terms.specs.declared.term.Term.{Term}
 use Rattle.isle_terms.specs.Reading.{IsWithin}
 use Rattle.isle_terms.specs.TermTables.{term_at}
 use Rattle.isle_terms.specs.TermViews.{term_view, term_views}
-use Rattle.isle_terms.specs.TermBreaches.{BeginsAt}
+use Rattle.isle_terms.specs.TermBreaches.{FirstStandsAt}
 use Rattle.isle_terms.specs.Stages.{place_among}
 use Rattle.isle_terms.specs.Signing.{HoldsTerms, texts_at, NumbersAreMet, PushesTerm, GrowsBy, AreTaken, AddsMade, AddsAllMade, TakesNames}
 use Rattle.isle_terms.proofs.Breaches.{begins_before}
@@ -146,7 +146,7 @@ takes_before types t old es es' es'' more some p = record {
 }
 
 -- the terms of some types are added, and then those of the next one
-adds_next : (types : List TypeEntry) (t : TypeEntry) (a b c : TermTable) (es mid es' : List Error) → AddsMade (made_by t) (terms_made t) b mid c es' → BeginsAt (entry_positions t) mid es' → AddsAllMade types a es b mid → AddsAllMade (types ++ t ∷ []) a es c es'
+adds_next : (types : List TypeEntry) (t : TypeEntry) (a b c : TermTable) (es mid es' : List Error) → AddsMade (made_by t) (terms_made t) b mid c es' → FirstStandsAt (entry_positions t) mid es' → AddsAllMade types a es b mid → AddsAllMade (types ++ t ∷ []) a es c es'
 adds_next types t a b c es mid es' (inl q) begun (inl p) =
     let numbers = flat_map-append made_by types (t ∷ []) ∙ ap (λ l. flat_map made_by types ++ l) (append-nil (made_by t)) in
     let entries = flat_map-append terms_made types (t ∷ []) ∙ ap (λ l. flat_map terms_made types ++ l) (append-nil (terms_made t)) in
@@ -156,7 +156,7 @@ adds_next types t a b c es mid es' (inl q) begun (inl p) =
           (grows_more (flat_map made_by types) (made_by t) (flat_map terms_made types) (terms_made t) a b c p.1 q.1)),
     )
 adds_next types t a b c es mid es' (inr q) begun (inl p) =
-    inr (subst (λ l. NotesMore l es') p.0 q.0, record { before = types; entry = t; after = []; whole = refl; mid = b; grows = p.1; taken = q.1; begins = subst (λ l. BeginsAt (entry_positions t) l es') p.0 begun })
+    inr (subst (λ l. NotesMore l es') p.0 q.0, record { before = types; entry = t; after = []; whole = refl; mid = b; grows = p.1; taken = q.1; begins = subst (λ l. FirstStandsAt (entry_positions t) l es') p.0 begun })
 adds_next types t a b c es mid es' (inl q) begun (inr p) = inr (subst (NotesMore es) (sym q.0) p.0, takes_before types t a es mid es' (inl q.0) p.0 p.1)
 adds_next types t a b c es mid es' (inr q) begun (inr p) = inr (both es mid es' p.0 q.0, takes_before types t a es mid es' (inr q.0) p.0 p.1)
 
@@ -165,7 +165,7 @@ module _ (types : List T.Type) (i : ℕ) (t : T.Type) (within : i < length types
   views : type_views (take (i + 1) types) ≡ type_views (take i types) ++ type_view t ∷ []
   views = ap type_views (take_more types i t within ∙ ap (λ x. take i types ++ x ∷ []) (sym at)) ∙ map-append type_view (take i types) (t ∷ [])
 
-  pub next_made : (a b c : TermTable) (es mid es' : List Error) → AddsMade (made_by (type_view t)) (terms_made (type_view t)) b mid c es' → BeginsAt (entry_positions (type_view t)) mid es' → AddsAllMade (type_views (take i types)) a es b mid
+  pub next_made : (a b c : TermTable) (es mid es' : List Error) → AddsMade (made_by (type_view t)) (terms_made (type_view t)) b mid c es' → FirstStandsAt (entry_positions (type_view t)) mid es' → AddsAllMade (type_views (take i types)) a es b mid
       → AddsAllMade (type_views (take (i + 1) types)) a es c es'
   next_made a b c es mid es' q begun p = subst (λ l. AddsAllMade l a es c es') (sym views) (adds_next (type_views (take i types)) (type_view t) a b c es mid es' q begun p)
 

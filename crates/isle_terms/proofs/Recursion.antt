@@ -22,7 +22,7 @@ use Rattle.isle_types.specs.Envs.{IsInterned}
 use Rattle.isle_types.specs.EnvViews.{environment_view}
 use Rattle.isle_terms.specs.declared.term_table.TermTable.{TermTable}
 use Rattle.isle_terms.specs.Reading.{term_of_name}
-use Rattle.isle_terms.specs.TermBreaches.{BeginsAt, by_recursion}
+use Rattle.isle_terms.specs.TermBreaches.{FirstStandsAt, by_recursion}
 use Rattle.isle_terms.specs.TermPositions.{taker_template, template_place}
 use Rattle.isle_terms.specs.TermViews.{term_views}
 use Rattle.isle_terms.specs.Stages.{constructor_after}
@@ -234,7 +234,7 @@ return_broken e readable defs cs env table es es' left s r =
     record {
       positions = pattern_position y.0.template ∷ [];
       breaks = by_recursion y.0 y.1 (subst (λ x. Reaches defs x x) (sym y.2) b.3);
-      begins = subst (λ p. BeginsAt (p ∷ []) es es') (sym y.3) r.begins;
+      begins = subst (λ p. FirstStandsAt (p ∷ []) es es') (sym y.3) r.begins;
     }
 
 -- the search after all extractors

@@ -19,7 +19,7 @@ use Rattle.isle_types.specs.Envs.{IsInterned}
 use Rattle.isle_types.specs.EnvViews.{environment_view}
 use Rattle.isle_terms.specs.declared.term_table.TermTable.{TermTable}
 use Rattle.isle_terms.specs.Reading.{IsWithin, internal_entry, root_term_id, term_of_name}
-use Rattle.isle_terms.specs.TermBreaches.{BeginsAt, by_rule}
+use Rattle.isle_terms.specs.TermBreaches.{FirstStandsAt, by_rule}
 use Rattle.isle_terms.specs.Stages.{constructor_after}
 use Rattle.isle_terms.specs.Signing.{ReadsTerms, declared_so_far}
 use Rattle.isle_terms.specs.Standing.{Stand, RootsRead, IsOfDeclared, IsOfMade, ReadsIfRule}
@@ -85,7 +85,7 @@ module _ (e : TypesRead) (readable : AreReadable e) (defs read rest : List Defin
       (λ h _. subst (RootsRead e defs (read ++ d ∷ []) env) (sym same.1) (go h))
       (λ h x. absurd x) s
 
-  next : (d : Definition) → defs ≡ read ++ d ∷ rest → ReadsIfRule d env table es table' es' → BeginsAt (definition_positions d) es es' → ReadsTerms e defs (RootsRead e defs read) env table es → ReadsTerms e defs (RootsRead e defs (read ++ d ∷ [])) env table' es'
+  next : (d : Definition) → defs ≡ read ++ d ∷ rest → ReadsIfRule d env table es table' es' → FirstStandsAt (definition_positions d) es es' → ReadsTerms e defs (RootsRead e defs read) env table es → ReadsTerms e defs (RootsRead e defs (read ++ d ∷ [])) env table' es'
   next (rule_definition r) whole a b s =
       step e defs (RootsRead e defs read) (RootsRead e defs (read ++ rule_definition r ∷ [])) env env table table' es es' (IsOfDeclared r env table table') ((root_term_id env table r ≡ None) ⊎ IsOfMade r env table) s.left w a
       (λ h x. rule_rooted e defs read rest r whole env table s.left readable h table' x)
@@ -99,7 +99,7 @@ module _ (e : TypesRead) (readable : AreReadable e) (defs read rest : List Defin
 
 -- after the definition at i
 pub next_rule_root : (e : TypesRead) → AreReadable e → (defs : List Def) (i : ℕ) (d : Def) → i < length defs → d ≡ get_or defs i d → (env : TypeEnv) (table table' : TermTable) (es es' : List Error) → IsWithin table'
-    → ReadsIfRule (definition_view d) env table es table' es' → BeginsAt (definition_positions (definition_view d)) es es'
+    → ReadsIfRule (definition_view d) env table es table' es' → FirstStandsAt (definition_positions (definition_view d)) es es'
     → ReadsTerms e (definition_views defs) (RootsRead e (definition_views defs) (definition_views (take i defs))) env table es
     → ReadsTerms e (definition_views defs) (RootsRead e (definition_views defs) (definition_views (take (i + 1) defs))) env table' es'
 next_rule_root e r defs i d within here env table table' es es' w a b s =

@@ -12,7 +12,7 @@ use Rattle.isle_terms.specs.declared.reading.recursion.Mark.{Mark}
 use Rattle.isle_terms.specs.declared.reading.recursion.Mark.TheVariants.{Unmet, Met, Ends}
 use Rattle.isle_terms.specs.declared.reading.recursion.Search.{Search}
 use Rattle.isle_terms.specs.declared.term_table.TermTable.{TermTable}
-use Rattle.isle_terms.specs.TermBreaches.{BeginsAt}
+use Rattle.isle_terms.specs.TermBreaches.{FirstStandsAt}
 use Rattle.isle_terms.specs.TermPositions.{template_place}
 use Rattle.isle_terms.specs.TermViews.{term_views}
 use Rattle.isle_terms.specs.Stages.{HasNoConverter, constructor_after}
@@ -41,7 +41,7 @@ pub record ComesBack (table : TermTable) (callees : List (Vec TermId Global)) (a
 pub record NotesReturn (table : TermTable) (callees : List (Vec TermId Global)) (es es' : List Error) : Type 0 where
   pub at : Position
   pub back : ComesBack table callees at
-  pub begins : BeginsAt (at ∷ []) es es'
+  pub begins : FirstStandsAt (at ∷ []) es es'
 
 -- the terms that are named are told of too
 abbrev pub AreWithin : List (Vec TermId Global) → Type 0

@@ -16,7 +16,7 @@ use Rattle.isle_types.specs.EnvViews.{environment_view}
 use Rattle.isle_base.specs.Noting.{AreIllTyped, NotesMore}
 use Rattle.isle_terms.specs.declared.term_table.TermTable.{TermTable}
 use Rattle.isle_types.specs.TypePositions.{entry_positions}
-use Rattle.isle_terms.specs.TermBreaches.{BeginsAt, FirstBreaksTerms}
+use Rattle.isle_terms.specs.TermBreaches.{FirstStandsAt, FirstBreaksTerms}
 use Rattle.isle_terms.specs.TermTables.{term_at}
 use Rattle.isle_terms.specs.TermViews.{term_views}
 use Rattle.isle_terms.specs.Reading.{IsWithin, Interns, AddsTerm, IsTakenByTerm, HasUnknown}
@@ -153,7 +153,7 @@ pub record TakesNames (types : List TypeEntry) (old : TermTable) (es es' : List 
   pub mid : TermTable
   pub grows : GrowsBy (flat_map made_by before) (flat_map terms_made before) old mid
   pub taken : AreTaken (made_by entry) mid
-  pub begins : BeginsAt (entry_positions entry) es es'
+  pub begins : FirstStandsAt (entry_positions entry) es es'
 
 -- the terms that these types make are added, or one has a name that is taken
 abbrev pub AddsAllMade : List TypeEntry → TermTable → List Error → TermTable → List Error → Type 0

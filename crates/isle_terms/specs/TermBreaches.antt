@@ -78,5 +78,5 @@ pub record FirstBreaksTerms (k : KnownTypes) (defs : List Definition) (errors : 
   pub stands : ErrorStandsAt positions first
 
 -- where there was no error before, the first one now stands at some of these positions
-pub record BeginsAt (positions : List Position) (old new : List Error) : Type 0 where
+pub record FirstStandsAt (positions : List Position) (old new : List Error) : Type 0 where
   pub begins : (first : Error) (rest : List Error) → old ≡ [] → new ≡ first ∷ rest → ErrorStandsAt positions first

@@ -7,7 +7,7 @@ ghost use Rattle.isle_base.specs.SyntaxViews.{decl_view, name_view, position};
 ghost use Rattle.isle_types.specs.Envs.{names_of, IsInterned};
 ghost use Rattle.isle_model.specs.lists.Names.{number};
 ghost use Rattle.isle_base.specs.Noting.{NotesMore};
-ghost use Rattle.isle_terms.specs.TermBreaches.{BeginsAt};
+ghost use Rattle.isle_terms.specs.TermBreaches.{FirstStandsAt};
 ghost use Rattle.isle_terms.specs.TermTables.{term_at};
 ghost use Rattle.isle_terms.specs.TermViews.{term_view, term_views};
 ghost use Rattle.isle_terms.specs.Reading.{IsWithin, Interns, MayIntern, IsKnownInEnv, HaveTypes, IsFreeOrReported, AddsOrReports, internal_entry, signature_entry, term_of_name};
@@ -39,7 +39,7 @@ impl TermTable {
         requires { IsWithin self.now }
         ensures noted { OnOk result (IsFreeOrReported name.0 self.now errors.old.items errors.new.items) }
         ensures places { OnOk result (NotesAt (declaration_positions (decl_view decl.now) ++ table_positions self.now) errors.old.items errors.new.items) }
-        ensures begins { OnOk result (BeginsAt (declaration_positions (decl_view decl.now)) errors.old.items errors.new.items) }
+        ensures begins { OnOk result (FirstStandsAt (declaration_positions (decl_view decl.now)) errors.old.items errors.new.items) }
     {
         let Some(existing) = self.term_map.get(&name) else {
             return Ok(());

@@ -5,8 +5,7 @@ use Rattle.std.specs.Ordering.{int_eq}
 use Rattle.isle_model.specs.lists.Ranges.{reduced}
 use Rattle.isle_model.specs.lists.Tables.{TermEntry, TypeEntry}
 use Rattle.isle_model.specs.rules.Values.{Value, truth, atom, of_variant, of_struct, Values, no_value, value_and}
-use Rattle.isle_model.specs.rules.Meaning.{Content, one, parts, nothing, just, many, no_content, content_and}
-use Rattle.isle_laws_matching.specs.TotalLaws.{TotalMeaning}
+use Rattle.isle_model.specs.rules.Meaning.{Content, one, parts, nothing, just, many, no_content, content_and, TotalMeaning}
 use Rattle.isle_calls.specs.Echoes.{as_written, constant_number, counted, extracted, made}
 
 -- a value is withheld

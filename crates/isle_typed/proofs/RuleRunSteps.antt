@@ -181,10 +181,6 @@ module _ {S L M X P E : Type 0} (v : RuleSteps VisitFault S L M X P E) (p : Patt
       ArgsRun no_memory v p q terms (pattern_views (drop i ps)) (type_numbers (drop i tys)) i vs s (Err f) t
   args_stop ps tys i d y vs x s u f t lt lt' first second = rw (drop_more ps i d lt, drop_more tys i y lt') (inl (x, u, first, inr (f, second, refl)))
 
-  pub args_end : (ps : List Pattern) (tys : List TypeId) (i : ℕ) (vs : BoundIds P) (s : S) → length ps ≤ i → length tys ≤ i →
-      ArgsRun no_memory v p q terms (pattern_views (drop i ps)) (type_numbers (drop i tys)) i vs s (Ok vs) s
-  args_end ps tys i vs s h h' = rw (drop_all i ps h, drop_all i tys h') (refl, refl)
-
   pub iflets_step : (fs : List IfLet) (i : ℕ) (d : IfLet) (vs ws : BoundIds P) (e : X) (x : P) (s u w z : S) (r : Result (BoundIds P) VisitFault) (t : S) →
       i < length fs → ValueRun no_memory v p q terms (expr_view (get_or fs i d).rhs) vs s (Ok e) u → v.expr_as_pattern_steps u e (Ok x) w → PatternCall no_memory v p q terms (pattern_view (get_or fs i d).lhs) x vs w (Ok ws) z →
       IfLetsRun no_memory v p q terms (map iflet_view (drop (i + 1) fs)) ws z r t → IfLetsRun no_memory v p q terms (map iflet_view (drop i fs)) vs s r t
@@ -202,9 +198,6 @@ module _ {S L M X P E : Type 0} (v : RuleSteps VisitFault S L M X P E) (p : Patt
       i < length fs → ValueRun no_memory v p q terms (expr_view (get_or fs i d).rhs) vs s (Ok e) u → v.expr_as_pattern_steps u e (Ok x) w → PatternCall no_memory v p q terms (pattern_view (get_or fs i d).lhs) x vs w (Err f) t →
       IfLetsRun no_memory v p q terms (map iflet_view (drop i fs)) vs s (Err f) t
   iflets_stop_pattern fs i d vs e x s u w f t lt first second third = rw (drop_more fs i d lt) (inl (e, u, first, inl (x, w, second, inr (f, third, refl))))
-
-  pub iflets_end : (fs : List IfLet) (i : ℕ) (vs : BoundIds P) (s : S) → length fs ≤ i → IfLetsRun no_memory v p q terms (map iflet_view (drop i fs)) vs s (Ok vs) s
-  iflets_end fs i vs s h = rw (drop_all i fs h) (refl, refl)
 
   -- what is bound after all arguments, and after all if-lets
   pub args_bind : (ps : List TypedPattern) (tys : List ℕ) (i : ℕ) (vs : BoundIds P) (s : S) (ws : BoundIds P) (t : S) → ArgsRun no_memory v p q terms ps tys i vs s (Ok ws) t → SameVars (bound_vars ws) (bound_after_list ps (bound_vars vs))

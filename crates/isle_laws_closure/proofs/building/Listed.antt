@@ -15,7 +15,7 @@ use Rattle.isle_laws_closure.specs.RuleByRule.{AreListedAs, ListedDemandsStand}
 use Rattle.isle_laws_closure.proofs.building.Ordered.{order_asks_the_same_lem}
 use Rattle.isle_laws_closure.proofs.Closing.{found_constraint}
 use Rattle.isle_laws_closure.proofs.ConstrainedOnce.{StandOnce, closed_once}
-use Rattle.isle_laws_closure.proofs.built.Sets.{first_constraint}
+use Rattle.isle_laws_closure.proofs.built.WellBuiltSets.{first_constraint}
 
 -- where no site is constrained twice, its constraint is the first one
 the_constraint : (cs : List (SiteTerm × Constraint)) (s : SiteTerm) (c : Constraint) → StandOnce cs → In cs (s, c) → constraint_of cs s ≡ Some c

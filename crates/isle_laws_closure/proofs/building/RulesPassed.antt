@@ -14,8 +14,8 @@ use Rattle.isle_model.specs.sites.RuleSets.{AreRulesOfSet, AsksFor, Equates, Goe
 use Rattle.isle_model.proofs.Members.{all_members, nothing_in}
 use Rattle.std.proofs.lemmas.List.Elements.{All-contains}
 use Rattle.isle_laws_closure.specs.RuleByRule.{HaveGrown, SetsEndBuilt, SetsGoPastRules, SetsStartEmpty, StandsAfter, limit_met, rule_added, rule_unreachable}
-use Rattle.isle_laws_closure.proofs.WholeVisits.{has_room, all_wanted}
-use Rattle.isle_laws_closure.proofs.overlaps.Checked.{built_silent, sites_on}
+use Rattle.isle_laws_closure.proofs.BuiltWithinLimits.{has_room, all_wanted}
+use Rattle.isle_laws_closure.proofs.overlaps.CheckedPrograms.{built_silent, sites_on}
 
 -- 1. what was built stays where sites have grown
 module _ (before after : List Site) (g : HaveGrown before after) where
@@ -146,7 +146,7 @@ module _ (p : Program) (done : List TypedRule) (r : TypedRule) where
   added : (old new : SiteSet) → StandsAfter p done old → (rule : SetRule) → HaveGrown old.sites new.sites → is_built p then_sites r ≡ true → StandFor new.sites (sites_after_rule p then_sites r) → new.rules ≡ old.rules ++ rule ∷ []
       → IsRuleOf p new.sites (here then_sites) rule → StandsAfter p (done ++ r ∷ []) new
   added old new h rule g t s e q = record {
-    rules = subst (λ bs. AreRulesOfSet p new.sites bs new.rules) (sym one_more)
+    rules = subst (λ bs. AreRulesOfSet p new.sites bs new.rules) (sym one_rule_more)
         (subst (AreRulesOfSet p new.sites (built_from p [] done ++ here then_sites ∷ [])) (sym e)
         (rules_and p new.sites (built_from p [] done) (here then_sites ∷ []) old.rules (rule ∷ []) (rules_still old.sites new.sites g p (built_from p [] done) old.rules h.rules) (q, tt)));
     sites = subst (StandFor new.sites) (sym (sites_on p [] done r)) s;
@@ -154,8 +154,8 @@ module _ (p : Program) (done : List TypedRule) (r : TypedRule) where
     sources = g.sources;
   }
     where
-      one_more : built_from p [] (done ++ r ∷ []) ≡ built_from p [] done ++ here then_sites ∷ []
-      one_more = built_more p [] done r ∙ ap (λ l. built_from p [] done ++ (l ++ [])) (cond-true (is_built p then_sites r) (here then_sites ∷ []) [] t)
+      one_rule_more : built_from p [] (done ++ r ∷ []) ≡ built_from p [] done ++ here then_sites ∷ []
+      one_rule_more = built_more p [] done r ∙ ap (λ l. built_from p [] done ++ (l ++ [])) (cond-true (is_built p then_sites r) (here then_sites ∷ []) [] t)
 
 pub sets_go_past_rules_lem : SetsGoPastRules
 sets_go_past_rules_lem p done r old new said h (rule_added rule g none reachable stand rules is_rule) =

@@ -4,7 +4,7 @@ use Rattle.isle_model.specs.rules.Program.{is_multi}
 use Rattle.isle_model.specs.sites.Sites.{SetRule}
 use Rattle.isle_model.proofs.Elements.{In, in_slice}
 use Rattle.isle_laws_closure.specs.GateLaws.{MultiTermsHaveOnePriority}
-use Rattle.isle_laws_closure.proofs.built.Built.{set_rule, root_of_built, typed_built}
+use Rattle.isle_laws_closure.proofs.built.BuiltGates.{set_rule, root_of_built, typed_built}
 use Rattle.isle_laws_closure.proofs.built.BuiltSets.{BuiltSet}
 
 pub one_priority_lem : MultiTermsHaveOnePriority

@@ -8,7 +8,7 @@ use Rattle.isle_laws_closure.specs.BuiltLaws.{BuiltDemandsAreWhole}
 use Rattle.isle_model.proofs.Elements.{in_from_contains, contains_from_in}
 use Rattle.isle_laws_closure.proofs.BuiltRules.{closings_of_built_rules_are_whole_lem}
 use Rattle.isle_laws_visits.proofs.BoundSites.{formed_rules_make_equal_sites_lem}
-use Rattle.isle_laws_closure.proofs.built.Built.{was_built}
+use Rattle.isle_laws_closure.proofs.built.BuiltGates.{was_built}
 use Rattle.isle_laws_closure.proofs.built.BuiltSets.{typed_rule}
 
 pub built_demands_are_whole_lem : BuiltDemandsAreWhole

@@ -1,4 +1,4 @@
-use Rattle.isle_laws_closure.proofs.built.Constrained.{built_rules_constrain_or_equate_lem}
+use Rattle.isle_laws_closure.proofs.built.ConstrainedOrEquated.{built_rules_constrain_or_equate_lem}
 use Rattle.isle_laws_closure.proofs.built_rules_constrain_or_equate.Goals as goal
 
 pub returns : goal.returns

@@ -1,4 +1,4 @@
-use Rattle.isle_laws_closure.proofs.built.Sets.{built_rules_demand_gates_lem}
+use Rattle.isle_laws_closure.proofs.built.WellBuiltSets.{built_rules_demand_gates_lem}
 use Rattle.isle_laws_closure.proofs.built_rules_demand_gates.Goals as goal
 
 pub returns : goal.returns

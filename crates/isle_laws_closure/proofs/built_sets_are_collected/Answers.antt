@@ -1,4 +1,4 @@
-use Rattle.isle_laws_closure.proofs.built.Collected.{are_collected_lem}
+use Rattle.isle_laws_closure.proofs.built.CollectedSets.{are_collected_lem}
 use Rattle.isle_laws_closure.proofs.built_sets_are_collected.Goals as goal
 
 pub returns : goal.returns

@@ -1,4 +1,4 @@
-use Rattle.isle_laws_closure.proofs.built.Sets.{built_sets_are_well_built_lem}
+use Rattle.isle_laws_closure.proofs.built.WellBuiltSets.{built_sets_are_well_built_lem}
 use Rattle.isle_laws_closure.proofs.built_sets_are_well_built.Goals as goal
 
 pub returns : goal.returns

@@ -1,4 +1,4 @@
-use Rattle.isle_laws_closure.proofs.built.Served.{can_be_served_lem}
+use Rattle.isle_laws_closure.proofs.built.ServedSets.{can_be_served_lem}
 use Rattle.isle_laws_closure.proofs.built_sets_can_be_served.Goals as goal
 
 pub returns : goal.returns

@@ -1,4 +1,4 @@
-use Rattle.isle_laws_closure.proofs.overlaps.Judged.{lists_are_not_accepted_lem}
+use Rattle.isle_laws_closure.proofs.overlaps.JudgedLists.{lists_are_not_accepted_lem}
 use Rattle.isle_laws_closure.proofs.lists_are_not_accepted.Goals as goal
 
 pub returns : goal.returns

@@ -1,4 +1,4 @@
-use Rattle.isle_laws_closure.proofs.built.Apart.{none_asked_and_gone_over_lem}
+use Rattle.isle_laws_closure.proofs.built.MultiCalls.{none_asked_and_gone_over_lem}
 use Rattle.isle_laws_closure.proofs.none_asked_and_gone_over.Goals as goal
 
 pub returns : goal.returns

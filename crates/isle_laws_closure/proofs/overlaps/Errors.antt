@@ -12,12 +12,12 @@ use Rattle.isle_laws_closure.specs.ErrorLaws.{SaysLeftOut, NamesLeftOut, names_b
 use Rattle.isle_laws_closure.specs.PairLaws.{lists_both, one_if, times}
 use Rattle.isle_laws_closure.specs.ReportLaws.{RulesHaveTerms, OverlapAt}
 use Rattle.isle_laws_closure.specs.ShadowLaws.{check_errors}
-use Rattle.isle_laws_closure.proofs.overlaps.Counted.{said_once}
-use Rattle.isle_laws_closure.proofs.overlaps.Judged.{well_typed_rules_have_terms_lem}
+use Rattle.isle_laws_closure.proofs.overlaps.LeftOutErrors.{said_once}
+use Rattle.isle_laws_closure.proofs.overlaps.JudgedLists.{well_typed_rules_have_terms_lem}
 use Rattle.isle_laws_closure.proofs.overlaps.LeftOut.{build_reports_are_left_out, left_out_rules_are_reported_lem}
-use Rattle.isle_laws_closure.proofs.overlaps.Listed.{reports_list}
+use Rattle.isle_laws_closure.proofs.overlaps.ListedOverlaps.{reports_list}
 use Rattle.isle_laws_closure.proofs.overlaps.Pairs.{times_map, overlap_reported, wrong_pairs_stand_once_lem, only_wrong_pairs_stand_lem}
-use Rattle.isle_laws_closure.proofs.overlaps.Shadowed.{masks_are_named_once_lem, only_masks_are_named_lem}
+use Rattle.isle_laws_closure.proofs.overlaps.MaskErrors.{masks_are_named_once_lem, only_masks_are_named_lem}
 
 -- 1. rules that are left out
 said : (x : RuleReport) → is_left_out x ≡ true → SaysLeftOut (report_position x) (refusal_of x)
@@ -75,9 +75,9 @@ abbrev first_in : Position → Refusal → Position
 first_in other (overlapping (x ∷ xs)) = x
 first_in other _ = other
 
-abbrev others_in : Refusal → List Position
-others_in (overlapping (x ∷ xs)) = xs
-others_in _ = []
+abbrev others_named : Refusal → List Position
+others_named (overlapping (x ∷ xs)) = xs
+others_named _ = []
 
 -- the report that an overlap error is of
 pub record IsOfOverlap (x : RuleReport) (first : Position) (others : List Position) : Type 0 where
@@ -89,7 +89,7 @@ pub record IsOfOverlap (x : RuleReport) (first : Position) (others : List Positi
 of_overlap : (x : RuleReport) (first : Position) (others : List Position) → refusal_of x ≡ overlapping (first ∷ others) → IsOfOverlap x first others
 of_overlap (limit_passed l at) first others e = absurd (false≢true (ap is_overlapping e))
 of_overlap (not_reached why at) first others e = absurd (false≢true (ap is_overlapping e))
-of_overlap (rules_overlap r) first others e = record { report = r; is = refl; begins = ap (first_in first) e; lists = ap others_in e }
+of_overlap (rules_overlap r) first others e = record { report = r; is = refl; begins = ap (first_in first) e; lists = ap others_named e }
 of_overlap (rule_shadows r) first others e = absurd (false≢true (ap is_overlapping e))
 
 -- an overlap error is of some report

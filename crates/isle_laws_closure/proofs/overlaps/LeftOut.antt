@@ -22,8 +22,8 @@ first_of : {X : Type 0} (xs : List X) → (xs ≡ [] → ⊥) → (x : X) × In 
 first_of [] f = absurd (f refl)
 first_of (x ∷ xs) f = (x, inl refl)
 
-none_there : {X : Type 0} (xs : List X) (x : X) → xs ≡ [] → In xs x → ⊥
-none_there xs x e i = subst (λ l. In l x) e i
+empty_has_none : {X : Type 0} (xs : List X) (x : X) → xs ≡ [] → In xs x → ⊥
+empty_has_none xs x e i = subst (λ l. In l x) e i
 
 module _ (p : Program) where
   abbrev reports_by : List SiteTerm → TypedRule → Option RuleLimit → List RuleReport
@@ -52,7 +52,7 @@ module _ (p : Program) where
         ap report_position (sym w.2),
         elim (cases_Bool (is_unreachable (demands_of p r))) [
           | inl t ↦ ap not t
-          | inr f ↦ absurd (none_there (reported (sites_wanted p before r) (demands_of p r)) w.0
+          | inr f ↦ absurd (empty_has_none (reported (sites_wanted p before r) (demands_of p r)) w.0
               ((reports_are_exact_lem (sites_wanted p before r) (demands_of p r)).1 (λ u. false≢true (sym f ∙ (verdict_is_exact_lem (demands_of p r)).1 u))) w.1)
         ],
       )

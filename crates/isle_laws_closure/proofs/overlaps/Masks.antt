@@ -10,7 +10,7 @@ use Rattle.isle_model.specs.sites.Limits.{sites_after_rule}
 use Rattle.isle_model.specs.sites.Overlap.{HasDistinctPositions, BuiltRule, is_built, built_rule, built_from, built_rules, Shadows, shadows, compared, ShadowReport, shadow_report, shadow_reports_in, shadow_reports}
 use Rattle.isle_laws_closure.specs.ReportLaws.{RulesHaveTerms, IsOnlyOfMask}
 use Rattle.isle_model.proofs.Elements.{In, in_from_contains, contains_from_in, some_is, none_some, in_either, in_slice, slice_in, in_filter, passed_filter, map_in, from_flat_map}
-use Rattle.isle_laws_closure.proofs.overlaps.Reported.{built_of, compared_means, masked_means, masked_there}
+use Rattle.isle_laws_closure.proofs.overlaps.ReportedOverlaps.{built_of, compared_means, masked_means, masked_there}
 
 -- no key of a list comes again
 abbrev pub Apart : {X K : Type 0} → (X → K) → List X → Type 0
@@ -72,15 +72,15 @@ numbers_apart : {X : Type 0} (n : ℕ) (xs : List X) → Apart (λ (k : ℕ). k)
 numbers_apart n [] = tt
 numbers_apart n (x ∷ xs) = (λ y i e. let later = numbers_from_on (suc n) y xs i in absurd (omega (arith, later, e)), numbers_apart (suc n) xs)
 
-built_apart : (p : Program) (before : List SiteTerm) (rs : List TypedRule) → Apart (λ r. r.at) rs → Apart (λ b. b.rule.at) (built_from p before rs)
-built_apart p before [] a = tt
-built_apart p before (r ∷ rs) a =
+built_stand_apart : (p : Program) (before : List SiteTerm) (rs : List TypedRule) → Apart (λ r. r.at) rs → Apart (λ b. b.rule.at) (built_from p before rs)
+built_stand_apart p before [] a = tt
+built_stand_apart p before (r ∷ rs) a =
     apart_append (λ b. b.rule.at) (if is_built p before r then built_rule p before r ∷ [] else []) (built_from p (sites_after_rule p before r) rs)
     (elim (cases_Bool (is_built p before r)) [
       | inl t ↦ subst (Apart (λ b. b.rule.at)) (sym (cond-true (is_built p before r) (built_rule p before r ∷ []) [] t)) (λ y i e. absurd i, tt)
       | inr f ↦ subst (Apart (λ b. b.rule.at)) (sym (cond-false (is_built p before r) (built_rule p before r ∷ []) [] f)) tt
     ])
-    (built_apart p (sites_after_rule p before r) rs a.1)
+    (built_stand_apart p (sites_after_rule p before r) rs a.1)
     (λ x y i j e. a.0 y.rule (built_of p (sites_after_rule p before r) rs y j) (e ∙ ap (λ q. q.at) (is_first x i)))
   where
     is_first : (x : BuiltRule) → In (if is_built p before r then built_rule p before r ∷ [] else []) x → x.rule ≡ r
@@ -104,7 +104,7 @@ module _ (p : Program) (distinct : HasDistinctPositions p) where
         | inl m ↦ subst (Apart (λ b. b.rule.at)) (sym (cond-true (is_multi p t) [] (built_rules p t) m)) tt
         | inr f ↦
             subst (Apart (λ b. b.rule.at)) (sym (cond-false (is_multi p t) [] (built_rules p t) f))
-            (built_apart p [] (rules_of p t) (apart_filter (λ r. r.at) (λ q. q.root_term == t) p.rules rules_apart))
+            (built_stand_apart p [] (rules_of p t) (apart_filter (λ r. r.at) (λ q. q.root_term == t) p.rules rules_apart))
       ]
 
   -- the mask of a report of a term

@@ -11,7 +11,7 @@ use Rattle.isle_model.proofs.Elements.{In, in_from_contains, contains_from_in, i
 use Rattle.isle_laws_closure.specs.ReportLaws.{ListsBoth}
 use Rattle.isle_laws_closure.specs.PairLaws.{has_place, both_in, lists_both, one_if, times, WrongPairsStandOnce, OnlyWrongPairsStand}
 use Rattle.isle_laws_closure.proofs.overlaps.LeftOut.{build_reports_are_left_out}
-use Rattle.isle_laws_closure.proofs.overlaps.Listed.{position_means, position_same, overlaps_are_listed_once_lem, listed_rules_overlap_lem}
+use Rattle.isle_laws_closure.proofs.overlaps.ListedOverlaps.{position_means, position_same, overlaps_are_listed_once_lem, listed_rules_overlap_lem}
 
 -- 1. counting
 zero_suc : (k : ℕ) → 0 ≡ suc k → ⊥
@@ -70,34 +70,34 @@ module _ (t : RuleReport → Bool) where
   times_sorted [] = refl
   times_sorted (r ∷ rs) = times_with r (by_position rs) ∙ ap (λ k. one_if (t r) + k) (times_sorted rs)
 
-with_in : (a : RuleReport) (bs : List RuleReport) (x : RuleReport) → In (with_report a bs) x → (a ≡ x) ⊎ In bs x
-with_in a [] x i = i
-with_in a (b ∷ bs) x i = elim (cases_Bool (position_lt (report_position b) (report_position a))) [
+with_report_in : (a : RuleReport) (bs : List RuleReport) (x : RuleReport) → In (with_report a bs) x → (a ≡ x) ⊎ In bs x
+with_report_in a [] x i = i
+with_report_in a (b ∷ bs) x i = elim (cases_Bool (position_lt (report_position b) (report_position a))) [
   | inl h ↦ elim (subst (λ l. In l x) (cond-true (position_lt (report_position b) (report_position a)) (b ∷ with_report a bs) (a ∷ (b ∷ bs)) h) i) [
     | inl e ↦ inr (inl e)
-    | inr j ↦ elim (with_in a bs x j) [ inl e ↦ inl e | inr k ↦ inr (inr k) ]
+    | inr j ↦ elim (with_report_in a bs x j) [ inl e ↦ inl e | inr k ↦ inr (inr k) ]
   ]
   | inr h ↦ subst (λ l. In l x) (cond-false (position_lt (report_position b) (report_position a)) (b ∷ with_report a bs) (a ∷ (b ∷ bs)) h) i
 ]
 
 pub sorted_in : (rs : List RuleReport) (x : RuleReport) → In (by_position rs) x → In rs x
 sorted_in [] x i = i
-sorted_in (r ∷ rs) x i = elim (with_in r (by_position rs) x i) [ inl e ↦ inl e | inr j ↦ inr (sorted_in rs x j) ]
+sorted_in (r ∷ rs) x i = elim (with_report_in r (by_position rs) x i) [ inl e ↦ inl e | inr j ↦ inr (sorted_in rs x j) ]
 
-in_with : (a : RuleReport) (bs : List RuleReport) (x : RuleReport) → (a ≡ x) ⊎ In bs x → In (with_report a bs) x
-in_with a [] x i = i
-in_with a (b ∷ bs) x i = elim (cases_Bool (position_lt (report_position b) (report_position a))) [
+in_with_report : (a : RuleReport) (bs : List RuleReport) (x : RuleReport) → (a ≡ x) ⊎ In bs x → In (with_report a bs) x
+in_with_report a [] x i = i
+in_with_report a (b ∷ bs) x i = elim (cases_Bool (position_lt (report_position b) (report_position a))) [
   | inl h ↦ subst (λ l. In l x) (sym (cond-true (position_lt (report_position b) (report_position a)) (b ∷ with_report a bs) (a ∷ (b ∷ bs)) h)) (elim i [
-    | inl e ↦ inr (in_with a bs x (inl e))
-    | inr j ↦ elim j [ inl e ↦ inl e | inr k ↦ inr (in_with a bs x (inr k)) ]
+    | inl e ↦ inr (in_with_report a bs x (inl e))
+    | inr j ↦ elim j [ inl e ↦ inl e | inr k ↦ inr (in_with_report a bs x (inr k)) ]
   ])
   | inr h ↦ subst (λ l. In l x) (sym (cond-false (position_lt (report_position b) (report_position a)) (b ∷ with_report a bs) (a ∷ (b ∷ bs)) h)) i
 ]
 
 pub in_sorted : (rs : List RuleReport) (x : RuleReport) → In rs x → In (by_position rs) x
 in_sorted [] x i = i
-in_sorted (r ∷ rs) x (inl e) = in_with r (by_position rs) x (inl e)
-in_sorted (r ∷ rs) x (inr i) = in_with r (by_position rs) x (inr (in_sorted rs x i))
+in_sorted (r ∷ rs) x (inl e) = in_with_report r (by_position rs) x (inl e)
+in_sorted (r ∷ rs) x (inr i) = in_with_report r (by_position rs) x (inr (in_sorted rs x i))
 
 -- 3. what a report lists
 has_in : (b : Position) (xs : List Position) → has_place b xs ≡ true → In xs b

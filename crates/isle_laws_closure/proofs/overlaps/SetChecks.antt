@@ -8,7 +8,7 @@ use Rattle.isle_model.specs.claims.Refusals.{refusal_of, NamesOnlyPassed, Passed
 use Rattle.isle_model.specs.claims.Layers.{is_left_out}
 use Rattle.isle_laws_closure.specs.SetReportLaws.{all_reports, BuiltSetsAreChecked}
 use Rattle.isle_laws_closure.proofs.LimitsReported.{reports_name_passed_limits_lem}
-use Rattle.isle_laws_closure.proofs.overlaps.Checked.{check_is_exact_lem}
+use Rattle.isle_laws_closure.proofs.overlaps.CheckedPrograms.{check_is_exact_lem}
 use Rattle.isle_laws_closure.proofs.overlaps.SetReports.{built_sets_are_reported_lem}
 
 -- no report of an overlap or a shadow is of a rule that is left out

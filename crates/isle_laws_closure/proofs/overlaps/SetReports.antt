@@ -14,8 +14,8 @@ use Rattle.isle_laws_closure.specs.SetReportLaws.{BuiltSetsAreReported}
 use Rattle.isle_laws_closure.proofs.overlaps.Overlaps.{bool_same, overlaps_decides, subset_pair_decides}
 use Rattle.isle_laws_closure.proofs.overlaps.SetRules.{set_rules_overlap_as_their_demands_lem}
 use Rattle.isle_laws_closure.proofs.overlaps.Totals.{set_rules_constrain_as_their_demands_lem}
-use Rattle.isle_laws_closure.proofs.built.Built.{one_rule}
-use Rattle.isle_laws_closure.proofs.built.Sets.{in_from_all}
+use Rattle.isle_laws_closure.proofs.built.BuiltGates.{one_rule}
+use Rattle.isle_laws_closure.proofs.built.WellBuiltSets.{in_from_all}
 
 -- 1. lists whose elements are related one by one
 -- pairs whose parts are related

@@ -14,9 +14,9 @@ use Rattle.isle_model.proofs.Elements.{In, in_from_contains, contains_from_in, a
 use Rattle.isle_model.proofs.SameSites.{constraint_means, same_constraint, constraint_cases}
 use Rattle.isle_laws_closure.specs.SetOverlapLaws.{SetRulesOverlapAsTheirDemands, OverlapOfSetRulesIsSymmetric}
 use Rattle.isle_laws_closure.proofs.overlaps.Overlaps.{bool_same, none_listed}
-use Rattle.isle_laws_closure.proofs.built.Built.{stands_for, was_built}
+use Rattle.isle_laws_closure.proofs.built.BuiltGates.{stands_for, was_built}
 use Rattle.isle_laws_closure.proofs.built.BuiltSets.{BuiltSet, RuleOfSet}
-use Rattle.isle_laws_closure.proofs.built.Once.{one_number}
+use Rattle.isle_laws_closure.proofs.built.SitesOnce.{one_number}
 
 -- 1. the tests
 -- two constraints of one site that differ

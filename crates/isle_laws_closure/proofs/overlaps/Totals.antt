@@ -22,10 +22,10 @@ use Rattle.isle_model.proofs.SitesMade.{in_has, has_in}
 use Rattle.isle_laws_closure.specs.SetOverlapLaws.{SetRulesConstrainAsTheirDemands}
 use Rattle.isle_laws_closure.proofs.Closing.{closing_keeps}
 use Rattle.isle_laws_closure.proofs.Whole.{IsApart, class_cases, class_found, class_shares, joint_apart}
-use Rattle.isle_laws_closure.proofs.built.Built.{stands_for}
+use Rattle.isle_laws_closure.proofs.built.BuiltGates.{stands_for}
 use Rattle.isle_laws_closure.proofs.built.BuiltSets.{BuiltSet, RuleOfSet}
 use Rattle.isle_laws_closure.proofs.ConstrainedOnce.{StandOnce, closed_once}
-use Rattle.isle_laws_closure.proofs.built.Once.{once_closed, once_after_rule, one_number}
+use Rattle.isle_laws_closure.proofs.built.SitesOnce.{once_closed, once_after_rule, one_number}
 
 -- 1. classes in which no site stands twice
 -- no site of a class stands in others
@@ -115,14 +115,14 @@ once_merged ks h e =
           )
     ]
 
-each_once : (es : List (SiteTerm × SiteTerm)) (ks : List (List SiteTerm)) → ClassesOnce ks → ClassesOnce (merged_all ks es)
-each_once [] ks h = h
-each_once (e ∷ es) ks h = each_once es (merged_classes ks e) (once_merged ks h e)
+each_class_once : (es : List (SiteTerm × SiteTerm)) (ks : List (List SiteTerm)) → ClassesOnce ks → ClassesOnce (merged_all ks es)
+each_class_once [] ks h = h
+each_class_once (e ∷ es) ks h = each_class_once es (merged_classes ks e) (once_merged ks h e)
 
-closing_once : (n : ℕ) (k : Closed) → ClassesOnce k.classes → ClassesOnce (closing n k).classes
-closing_once =
+classes_closed_once : (n : ℕ) (k : Closed) → ClassesOnce k.classes → ClassesOnce (closing n k).classes
+classes_closed_once =
     closing_keeps (λ k. ClassesOnce k.classes)
-    (λ k h c e. each_once (field_equalities c.1 (ascending k.made (class_at k.classes c.0))) (without_class_of k.classes c.0) (once_filter (λ l. not (has_site l c.0)) k.classes h))
+    (λ k h c e. each_class_once (field_equalities c.1 (ascending k.made (class_at k.classes c.0))) (without_class_of k.classes c.0) (once_filter (λ l. not (has_site l c.0)) k.classes h))
 
 -- 3. in order
 ascending_once : (made : List SiteTerm) → IsDistinct made → (ks : List (List SiteTerm)) → ClassesOnce ks → ClassesOnce (map (ascending made) ks)
@@ -153,7 +153,7 @@ closed_classes_once : (before : List SiteTerm) (d : Demands) → IsDistinct befo
 closed_classes_once before d h =
     beginning_once (map (ascending (closed before d).made) (closing most_closing_steps (before_closing before d)).classes)
     (ascending_once (closed before d).made (once_closed before d h) (closing most_closing_steps (before_closing before d)).classes
-    (closing_once most_closing_steps (before_closing before d) (each_once d.equalities [] tt)))
+    (classes_closed_once most_closing_steps (before_closing before d) (each_class_once d.equalities [] tt)))
     (closed before d).made (once_closed before d h)
 
 -- 4. built rules

@@ -1,4 +1,4 @@
-use Rattle.isle_laws_closure.proofs.overlaps.Listed.{overlaps_are_listed_once_lem}
+use Rattle.isle_laws_closure.proofs.overlaps.ListedOverlaps.{overlaps_are_listed_once_lem}
 use Rattle.isle_laws_closure.proofs.overlaps_are_listed_once.Goals as goal
 
 pub returns : goal.returns

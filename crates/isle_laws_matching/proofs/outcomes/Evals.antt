@@ -23,14 +23,14 @@ use Rattle.isle_model.specs.lists.Formed.{var_type, is_formed_expr, are_formed_a
 use Rattle.isle_model.proofs.Elements.{In, in_right, some_is}
 use Rattle.isle_model.proofs.Options.{is_there}
 use Rattle.isle_laws_runs.proofs.taking.FollowedCalls.{Followed, goes_on, stops, then_follow, follow_with, follow, follow_there, follow_append, result_after}
-use Rattle.isle_laws_visits.proofs.Visited.{Same}
+use Rattle.isle_laws_visits.proofs.AskedSites.{Same}
 use Rattle.isle_laws_visits.proofs.Patterns.{term_known}
 use Rattle.isle_laws_matching.proofs.Contents.{Given, content_of, values_of, Fits, IsAnswered, one_fits, maybe_fits, picked_fits}
-use Rattle.isle_laws_visits.proofs.Grown.{Grown, then_grown, grown_binding, expr_adds, exprs_add, lets_add, term_adds}
+use Rattle.isle_laws_visits.proofs.GrowingVisits.{Grown, then_grown, grown_binding, expr_adds, exprs_add, lets_add, term_adds}
 use Rattle.isle_laws_visits.proofs.SameExprs.{from_let, from_term, from_args, from_body, expr_keeps}
 use Rattle.isle_laws_matching.proofs.Variables.{named}
-use Rattle.isle_laws_visits.proofs.Quiet.{AddsCalls, adds_kept, then_adds_calls, term_adds_calls, expr_adds_calls, exprs_add_calls, lets_add_calls}
-use Rattle.isle_laws_visits.proofs.Sited.{expr_sited, exprs_sited}
+use Rattle.isle_laws_visits.proofs.ImpureCallsMet.{AddsCalls, adds_kept, then_adds_calls, term_adds_calls, expr_adds_calls, exprs_add_calls, lets_add_calls}
+use Rattle.isle_laws_visits.proofs.SitesAlike.{expr_sited, exprs_sited}
 use Rattle.isle_laws_typing.proofs.FormedParts.{type_is}
 
 -- 1. a variable's own site is the visit's, which holds its value and nothing else

@@ -12,11 +12,11 @@ use Rattle.isle_model.specs.lists.Formed.{var_type, is_formed_expr, are_formed_a
 use Rattle.isle_model.proofs.Elements.{In, in_right, some_is}
 use Rattle.isle_laws_runs.proofs.taking.FollowedCalls.{answered_call}
 use Rattle.isle_laws_runs.proofs.taking.CallsIn.{CallsOnly, CallOnly, calls_more, call_more, Known, known_more, IsNext, InOrder}
-use Rattle.isle_laws_visits.proofs.Visited.{Same}
-use Rattle.isle_laws_visits.proofs.Grown.{Grown, then_grown, grown_binding, expr_adds, exprs_add, lets_add, term_adds}
+use Rattle.isle_laws_visits.proofs.AskedSites.{Same}
+use Rattle.isle_laws_visits.proofs.GrowingVisits.{Grown, then_grown, grown_binding, expr_adds, exprs_add, lets_add, term_adds}
 use Rattle.isle_laws_visits.proofs.SameExprs.{from_let, from_term, from_args, from_body, expr_keeps}
 use Rattle.isle_laws_matching.proofs.Variables.{named}
-use Rattle.isle_laws_visits.proofs.Quiet.{AddsCalls, expr_adds_calls, exprs_add_calls}
+use Rattle.isle_laws_visits.proofs.ImpureCallsMet.{AddsCalls, expr_adds_calls, exprs_add_calls}
 use Rattle.isle_laws_typing.proofs.FormedParts.{has_type}
 
 -- a term that is pure, or answers once

@@ -37,11 +37,11 @@ use Rattle.isle_model.proofs.CalledTerms.{calls_such}
 use Rattle.isle_laws_closure.specs.BuiltSets.{OfBuiltSets}
 use Rattle.isle_laws_typing.specs.WellTypedPrograms.{IsWellTypedProgram}
 use Rattle.isle_laws_typing.proofs.WellTypedPrograms.{pure_iflets}
-use Rattle.isle_laws_closure.proofs.built.Built.{stands_for, one_rule}
+use Rattle.isle_laws_closure.proofs.built.BuiltGates.{stands_for, one_rule}
 use Rattle.isle_laws_closure.proofs.built.BuiltSets.{BuiltSet, RuleOfSet, ServingMeaning}
-use Rattle.isle_laws_closure.proofs.built.Once.{one_number}
+use Rattle.isle_laws_closure.proofs.built.SitesOnce.{one_number}
 use Rattle.isle_laws_visits.proofs.RightSides.{expr_quiet}
-use Rattle.isle_laws_closure.proofs.built.Sets.{in_from_all}
+use Rattle.isle_laws_closure.proofs.built.WellBuiltSets.{in_from_all}
 use Rattle.isle_laws_matching.proofs.Answered.{fits_there}
 use Rattle.isle_laws_matching.proofs.BuiltMatches.{built_listed}
 use Rattle.isle_laws_matching.proofs.Contents.{Given, values_of, Fits}

@@ -17,13 +17,13 @@ use Rattle.isle_model.proofs.CalledTerms.{calls_such}
 use Rattle.isle_laws_visits.proofs.Rules.{sides_past}
 use Rattle.isle_laws_matching.proofs.Contents.{Given, content_of, IsAnswered, is_value}
 use Rattle.isle_laws_matching.proofs.Demanded.{AreBound}
-use Rattle.isle_laws_visits.proofs.Grown.{Grown, now, grown_making}
+use Rattle.isle_laws_visits.proofs.GrowingVisits.{Grown, grown_by_none, grown_making}
 use Rattle.isle_laws_matching.proofs.Rules.{rule_parts, before_result, rule_past}
 use Rattle.isle_laws_typing.specs.WellTypedPrograms.{IsWellTypedProgram}
 use Rattle.isle_laws_matching.proofs.Variables.{named}
 use Rattle.isle_laws_matching.proofs.outcomes.Evals.{AreWorth, MayBeCalled, follow_in, expr_came, outcome_follows}
 use Rattle.isle_laws_matching.proofs.outcomes.Ordered.{IsPureOrSingle, VarsKnownTo, IsOrderly, expr_ordered}
-use Rattle.isle_laws_visits.proofs.Quiet.{adds_kept, then_keeps_calls, args_keep, iflets_keep}
+use Rattle.isle_laws_visits.proofs.ImpureCallsMet.{adds_kept, then_keeps_calls, args_keep, iflets_keep}
 
 -- 1. no impure call stands in what may be tested
 pure_where : (n : ℕ) (P : Type 0) → IsPureCall true n → WhereImpure n P
@@ -55,7 +55,7 @@ module _ (P : SiteTerm → Type 0) (cs : List (SiteTerm × Constraint)) (calls :
 
 -- 2. the end of a visit
 finished_grown : (b : Bool) (a : Valued) → Grown a.visit (finished b a).visit
-finished_grown false a = now a.visit
+finished_grown false a = grown_by_none a.visit
 finished_grown true a = grown_making (some_made a.site ∷ []) a.visit
 
 pub finished_impure : (b : Bool) (a : Valued) → (finished b a).visit.demands.impure ≡ a.visit.demands.impure

@@ -18,12 +18,12 @@ use Rattle.isle_model.specs.lists.Setting.{expr_type}
 use Rattle.isle_model.proofs.Elements.{contains_from_in, in_slice}
 use Rattle.isle_laws_matching.specs.MatchLaws.{IsTried, BuiltSetsHoldResults}
 use Rattle.isle_laws_visits.proofs.GoneOver.{pure_right_side}
-use Rattle.isle_laws_closure.proofs.built.Built.{one_rule}
+use Rattle.isle_laws_closure.proofs.built.BuiltGates.{one_rule}
 use Rattle.isle_laws_matching.proofs.BuiltMatches.{built_listed}
 use Rattle.isle_laws_matching.proofs.Contents.{Given, content_of, IsAnswered, is_value}
 use Rattle.isle_laws_matching.proofs.Demanded.{bound_vars}
 use Rattle.isle_laws_matching.proofs.Exprs.{expr_valued}
-use Rattle.isle_laws_visits.proofs.Grown.{finished_adds}
+use Rattle.isle_laws_visits.proofs.GrowingVisits.{finished_adds}
 use Rattle.isle_laws_matching.proofs.Rules.{rule_parts, before_result, rule_past, unwrapped_present}
 use Rattle.isle_laws_typing.specs.WellTypedPrograms.{IsWellTypedProgram}
 use Rattle.isle_laws_typing.proofs.WellTypedPrograms.{pure_iflets}

@@ -213,12 +213,12 @@ element_fits types n [] (Some i) c h e = absurd (none_some c e)
 element_fits types n (d ∷ cs) (Some zero) c h e = subst (AreOutputs types n) (some_is d c e) h.0
 element_fits types n (d ∷ cs) (Some (suc i)) c h e = element_fits types n cs (Some i) c h.1 e
 
-picked_fits : (types : List TypeEntry) (o : Bool) (n : ℕ) (k : Pick) (call : SiteTerm) (x c : Content) → FitsAs types true o n x → picked k call x ≡ Some c → FitsAs types false false n c
-picked_fits types o n k call (many cs) c h e = element_fits types n (contents cs) (place_of k call) c h e
-picked_fits types o n k call (one v) c h e = absurd h
-picked_fits types o n k call (parts vs) c h e = absurd h
-picked_fits types o n k call nothing c h e = absurd h
-picked_fits types o n k call (just d) c h e = absurd h
+picked_fits_as : (types : List TypeEntry) (o : Bool) (n : ℕ) (k : Pick) (call : SiteTerm) (x c : Content) → FitsAs types true o n x → picked k call x ≡ Some c → FitsAs types false false n c
+picked_fits_as types o n k call (many cs) c h e = element_fits types n (contents cs) (place_of k call) c h e
+picked_fits_as types o n k call (one v) c h e = absurd h
+picked_fits_as types o n k call (parts vs) c h e = absurd h
+picked_fits_as types o n k call nothing c h e = absurd h
+picked_fits_as types o n k call (just d) c h e = absurd h
 
 element_there : (vs : List Value) (i : ℕ) → i < length vs → IsTrue (is_some (slice_get vs i))
 element_there [] i l = absurd (omega (arith, l))
@@ -356,7 +356,7 @@ module _ (stage : ServedWorld) (k : Pick) where
       subst (λ y. FitsForm p.types y c) (sym f.2) (constructor_fits p t f.0 c (call_fits (impure_answer w.meaning t i) (fits_constructor p t (kind p t)) (pure a.0 a.1) c a.2))
   site_fits (iterator_site source) pure ask fit q f c e =
       let a = from_then (content_at w k source) (picked k (U source)) c e in
-      subst (λ y. FitsForm p.types y c) (sym f.3) (picked_fits p.types f.0 f.1 k (U source) a.0 c (fit source (in_head source []) (form true f.0 f.1) f.2 a.0 a.1) a.2)
+      subst (λ y. FitsForm p.types y c) (sym f.3) (picked_fits_as p.types f.0 f.1 k (U source) a.0 c (fit source (in_head source []) (form true f.0 f.1) f.2 a.0 a.1) a.2)
   site_fits (make_variant_site ty i ss) pure ask fit q f c e =
       let a = from_then (site_values w.meaning w.args k (each_term U ss)) (λ vs. Some (one (of_variant ty i vs))) c e in
       let r = values_fit ss fit f.3 a.0 a.1 in
@@ -400,11 +400,11 @@ module _ (stage : ServedWorld) (k : Pick) where
       (λ x k. let m = source_of s a.0 a.1 x k in let less = h.before s x m in fits_below d x (omega (arith, l, less)) (answered_source s x pure m))
       q (subst (λ t. IsOfForm p n t q) (unfolded_layer w.sites h.before s a.0 a.1) f) c (sym (content_layer w k h.before s a.0 a.1) ∙ e)
 
-  pub fits_answered : (s : ℕ) → IsAnsweredBelow s → Fit s
-  fits_answered s = fits_below (suc s) s (omega arith)
+  pub fits_if_answered : (s : ℕ) → IsAnsweredBelow s → Fit s
+  fits_if_answered s = fits_below (suc s) s (omega arith)
 
   pub fits : (s : ℕ) → IsPureBelow w.sites s → Fit s
-  fits s pure = fits_answered s (pure_below_answered s pure)
+  fits s pure = fits_if_answered s (pure_below_answered s pure)
 
   -- 4. and something is there
   site_there : (b : Site) → IsAnsweredSite b → waits (Some b) ≡ false → Contains (asked p rs) (layer U b) ⊎ IsField (layer U b) → ((a : ℕ) → Contains (sources_of b) a → Fit a) → ((a : ℕ) → Contains (sources_of b) a → IsTrue (is_some (content_at w k a)))
@@ -443,7 +443,7 @@ module _ (stage : ServedWorld) (k : Pick) where
       let a = pure s (below_itself w.sites s) in
       let f = h.forms s (slice_get_within w.sites s a.0 a.1) in
       ap is_some (content_layer w k h.before s a.0 a.1)
-      ∙ site_there a.0 a.2 (sym (ap waits a.1) ∙ wait) (asked_layer s a.0 a.1) (λ x c. fits_answered x (answered_source s x pure (source_of s a.0 a.1 x c))) (λ x c. t x (source_of s a.0 a.1 x c))
+      ∙ site_there a.0 a.2 (sym (ap waits a.1) ∙ wait) (asked_layer s a.0 a.1) (λ x c. fits_if_answered x (answered_source s x pure (source_of s a.0 a.1 x c))) (λ x c. t x (source_of s a.0 a.1 x c))
       f.0 (subst (λ u. IsOfForm p n u f.0) (unfolded_layer w.sites h.before s a.0 a.1) f.1)
 
   pub found : (s : ℕ) → IsPureBelow w.sites s → waits (slice_get w.sites s) ≡ false → ((a : ℕ) → Contains (sources_at w.sites s) a → IsTrue (is_some (content_at w k a))) → IsTrue (is_some (content_at w k s))
@@ -454,7 +454,7 @@ module _ (stage : ServedWorld) (k : Pick) where
   unwraps_maybe s source pure at c e =
       let f = h.forms s (slice_get_within w.sites s (match_some_site source) at) in
       let g = subst (λ u. IsOfForm p n u f.0) (unfolded_layer w.sites h.before s (match_some_site source) at) f.1 in
-      by g.0 c (fits_answered source (answered_source s source pure (source_of s (match_some_site source) at source (in_head source []))) (form false true g.0) g.1 c e)
+      by g.0 c (fits_if_answered source (answered_source s source pure (source_of s (match_some_site source) at source (in_head source []))) (form false true g.0) g.1 c e)
     where
       by : (count : ℕ) (c : Content) → FitsAs p.types false true count c → (c ≡ nothing) ⊎ ((d : Content) × (c ≡ just d))
       by count nothing k = inl refl

@@ -12,7 +12,7 @@ use Rattle.isle_model.specs.visits.Demands.{Demands, demands_of}
 use Rattle.isle_model.specs.lists.Formed.{is_formed_rule}
 use Rattle.isle_model.proofs.Elements.{In, contains_from_in}
 use Rattle.isle_laws_typing.specs.WellTypedPrograms.{IsWellTypedProgram}
-use Rattle.isle_laws_visits.specs.RuleTerms.{matched_in, called_in}
+use Rattle.isle_laws_visits.specs.RuleUses.{matched_in, called_in}
 use Rattle.isle_laws_matching.proofs.total.Shaped.{Uses, Shaped, shaped_bool, shaped_int, shaped_prim, shaped_argument, shaped_extractor, shaped_pure, shaped_impure, shaped_pick, shaped_variant, shaped_variant_field, shaped_struct, shaped_struct_field, shaped_some, shaped_part, shaped_tuple, ShapedAll, shaped_none, shaped_and}
 use Rattle.isle_laws_matching.proofs.total.ShapedSites.{rule_shaped}
 
@@ -67,12 +67,12 @@ abbrev mutual
 abbrev pub IsValue : Program → ℕ → SiteTerm → Type 0
 IsValue p n s = IsOfForm p n s a_value
 
-abbrev pub HasForm : Program → ℕ → SiteTerm → Type 0
-HasForm p n s = (q : Form) × IsOfForm p n s q
+abbrev pub HasSomeForm : Program → ℕ → SiteTerm → Type 0
+HasSomeForm p n s = (q : Form) × IsOfForm p n s q
 
 -- the sites that demands make have forms, and those that they equate are values
 pub record AreKnown (p : Program) (n : ℕ) (d : Demands) : Type 0 where
-  pub made : (u : SiteTerm) → In d.made u → HasForm p n u
+  pub made : (u : SiteTerm) → In d.made u → HasSomeForm p n u
   pub equal : (e : SiteTerm × SiteTerm) → In d.equalities e → IsValue p n e.0 × IsValue p n e.1
 
 -- 2. a shape gives a form
@@ -84,7 +84,7 @@ module _ (p : Program) (uses : Uses) where
     shaped_form : {multi optional : Bool} {tys : List ℕ} (s : SiteTerm) → Shaped p uses s multi optional tys → IsOfForm p n s (form multi optional (length tys))
     shaped_form (bool_term b ty) (shaped_bool t) = refl
     shaped_form (int_term z ty) (shaped_int t) = (t, refl)
-    shaped_form (prim_term name) (shaped_prim t) = refl
+    shaped_form (prim_term name) (shaped_prim used t) = refl
     shaped_form (argument i) (shaped_argument {ty = ty} t) = (slice_get_within uses.args i ty t, refl)
     shaped_form (extractor_call t s) (shaped_extractor e flags infallible used there can k h) = (record { entry = e; flags = flags; infallible = infallible; there = there; call = k }, shaped_form s h, refl)
     shaped_form (constructor_call t ss zero) (shaped_pure e flags infallible used there can k pure h) = (record { entry = e; flags = flags; infallible = infallible; there = there; call = k }, (shaped_values ss h).0, refl)

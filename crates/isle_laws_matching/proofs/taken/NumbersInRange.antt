@@ -15,10 +15,10 @@ use Rattle.isle_laws_runs.proofs.runs.Contents.{unfolded_layer}
 use Rattle.isle_laws_matching.proofs.FormedDemands.{rule_formed}
 use Rattle.isle_laws_matching.proofs.ToldApart.{built_follows}
 use Rattle.isle_laws_matching.proofs.taken.BuiltSites.{sites_stand}
-use Rattle.isle_laws_matching.proofs.taken.Forms.{HasForm}
-use Rattle.isle_laws_closure.proofs.built.Built.{typed_built}
+use Rattle.isle_laws_matching.proofs.taken.Forms.{HasSomeForm}
+use Rattle.isle_laws_closure.proofs.built.BuiltGates.{typed_built}
 use Rattle.isle_laws_closure.proofs.built.BuiltSets.{BuiltSet, RuleOfSet}
-use Rattle.isle_laws_closure.proofs.built.Sets.{each_of_set}
+use Rattle.isle_laws_closure.proofs.built.WellBuiltSets.{each_of_set}
 
 module _ (s : BuiltSet) (h : IsWellTypedProgram s.program) where
   abbrev p : Program
@@ -30,7 +30,7 @@ module _ (s : BuiltSet) (h : IsWellTypedProgram s.program) where
   literal_site : (k ty : ℕ) (z : ℤ) → slice_get set.sites k ≡ Some (int_site z ty) → is_literal_of (slice_get p.types ty) z ≡ true
   literal_site k ty z there =
       let stands = sites_stand s h k (slice_get_within set.sites k (int_site z ty) there) in
-      let formed : HasForm p (length (arg_types p s.term)) (int_term z ty) = subst (HasForm p (length (arg_types p s.term))) (unfolded_layer set.sites s.built.sources k (int_site z ty) there) stands.form in
+      let formed : HasSomeForm p (length (arg_types p s.term)) (int_term z ty) = subst (HasSomeForm p (length (arg_types p s.term))) (unfolded_layer set.sites s.built.sources k (int_site z ty) there) stands.form in
       formed.1.0
 
   literal_asked : (x : RuleOfSet s) (u : SiteTerm) (ty : ℕ) (z : ℤ) → Contains x.typed.demands.constraints (u, is_int z ty) → is_literal_of (slice_get p.types ty) z ≡ true

@@ -23,9 +23,9 @@ use Rattle.isle_laws_typing.specs.WellTypedPrograms.{IsWellTypedProgram}
 use Rattle.isle_laws_runs.proofs.runs.Below.{IsPureBelow}
 use Rattle.isle_laws_matching.specs.ServeLaws.{ServedSetsServeTests}
 use Rattle.isle_laws_closure.proofs.Closing.{closing_is_sound_lem}
-use Rattle.isle_laws_closure.proofs.built.Built.{set_rule}
+use Rattle.isle_laws_closure.proofs.built.BuiltGates.{set_rule}
 use Rattle.isle_laws_closure.proofs.built.BuiltSets.{BuiltSet, RuleOfSet, ServingMeaning, typed_rule}
-use Rattle.isle_laws_closure.proofs.built.Sets.{gates_of, IsTested, constrained_tested, joined_tested, tested_good}
+use Rattle.isle_laws_closure.proofs.built.WellBuiltSets.{gates_of, IsTested, constrained_tested, joined_tested, tested_good}
 use Rattle.isle_laws_matching.proofs.FormedDemands.{IsFormed, rule_formed}
 use Rattle.isle_laws_matching.proofs.Shapes.{has_form, literal_without_parts, holds_there}
 use Rattle.isle_laws_matching.proofs.Unreachable.{IsConstant, MustBe, Shape, same_shape}

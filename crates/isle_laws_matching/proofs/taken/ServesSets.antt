@@ -19,8 +19,8 @@ use Rattle.isle_model.proofs.Elements.{in_from_contains}
 use Rattle.isle_model.proofs.Options.{then_some as from_then}
 use Rattle.isle_laws_typing.specs.WellTypedPrograms.{IsWellTypedProgram}
 use Rattle.isle_laws_matching.specs.ServeLaws.{ServedMultiSetsServe}
-use Rattle.isle_laws_closure.proofs.built.Apart.{multi_calls_are_gone_over_lem}
-use Rattle.isle_laws_closure.proofs.built.Built.{set_rule}
+use Rattle.isle_laws_closure.proofs.built.MultiCalls.{multi_calls_are_gone_over_lem}
+use Rattle.isle_laws_closure.proofs.built.BuiltGates.{set_rule}
 use Rattle.isle_laws_closure.proofs.built.BuiltSets.{BuiltSet, ServingMeaning}
 use Rattle.isle_laws_matching.proofs.Contents.{is_value}
 use Rattle.isle_laws_matching.proofs.taken.BuiltSites.{sites_stand}

@@ -4,9 +4,9 @@ use Rattle.std.proofs.lemmas.Bool.{cases_Bool, cond-true, cond-false}
 use Rattle.std.specs.List.{zip}
 use Rattle.isle_model.specs.rules.Program.{Program}
 use Rattle.isle_model.specs.rules.Typed.{TypedRule}
-use Rattle.isle_model.specs.sites.Sites.{Constraint, is_variant, is_struct, is_bool, is_int, is_prim, is_present, SiteTerm, variant_field, struct_field}
+use Rattle.isle_model.specs.sites.Sites.{Constraint, SiteTerm, field_terms}
 use Rattle.isle_model.specs.visits.Demands.{Demands, demands_of, has_site, with_sites}
-use Rattle.isle_model.specs.sites.Closure.{field_terms, constraint_of, Closed, class_at, is_in_class, next_constrained, ascending, field_equalities, taken, closing, before_closing, begins_with, in_order, most_closing_steps, closed, is_unreachable}
+use Rattle.isle_model.specs.sites.Closure.{constraint_of, Closed, class_at, is_in_class, next_constrained, ascending, field_equalities, taken, closing, before_closing, begins_with, in_order, most_closing_steps, closed, is_unreachable}
 use Rattle.isle_model.specs.sites.Limits.{RuleLimit, most_sites, passed_in_visit, sites_until, sites_reached, sites_after_rule, sites_after_rules}
 use Rattle.isle_model.specs.sites.Overlap.{BuiltRule, is_built, built_rule, built_from}
 use Rattle.isle_model.specs.sites.Serves.{asked_by, asked, constant_site}
@@ -15,26 +15,19 @@ use Rattle.isle_model.proofs.SitesMade.{has_in}
 use Rattle.isle_laws_closure.proofs.Classes.{with_sites_in}
 use Rattle.isle_laws_closure.proofs.Closing.{closing_keeps}
 use Rattle.isle_laws_closure.proofs.ClosingGates.{Members, in_class_at, without_members, all_merged_members}
-use Rattle.isle_laws_visits.proofs.WithSites.{in_fields}
+use Rattle.isle_laws_visits.proofs.Patterns.{by_field}
 use Rattle.isle_laws_matching.proofs.taken.Fits.{IsField}
-use Rattle.isle_laws_matching.proofs.taken.Forms.{a_value, IsValue, HasForm, AreKnown}
+use Rattle.isle_laws_matching.proofs.taken.Forms.{a_value, IsValue, HasSomeForm, AreKnown}
 
 module _ (p : Program) (n : ℕ) (rs : List TypedRule) where
   -- a site that has a form, and is asked by the rules or is a field
   pub record Stands (u : SiteTerm) : Type 0 where
-    pub form : HasForm p n u
+    pub form : HasSomeForm p n u
     pub asks : Contains (asked p rs) u ⊎ IsField u
 
   -- 1. fields of values
   field_value : (c : Constraint) (s u : SiteTerm) → IsValue p n s → In (field_terms c s) u → IsValue p n u × IsField u
-  field_value (is_variant ty variant fields) s u g i =
-      let k = in_fields (variant_field s variant) 0 fields u i in subst (λ x. IsValue p n x × IsField x) k.2 ((g, refl), tt)
-  field_value (is_struct ty fields) s u g i =
-      let k = in_fields (struct_field s) 0 fields u i in subst (λ x. IsValue p n x × IsField x) k.2 ((g, refl), tt)
-  field_value (is_bool b ty) s u g i = absurd i
-  field_value (is_int z ty) s u g i = absurd i
-  field_value (is_prim name) s u g i = absurd i
-  field_value is_present s u g i = absurd i
+  field_value c s u g = by_field (λ x. IsValue p n x × IsField x) s (λ k i. ((g, refl), tt)) (λ i. ((g, refl), tt)) c u
 
   -- 2. closing
   pub record IsKnownSoFar (k : Closed) : Type 0 where

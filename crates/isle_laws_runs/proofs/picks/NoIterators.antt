@@ -7,7 +7,7 @@ use Rattle.isle_model.specs.visits.Demands.{site_term_eq, pattern_count, Visit, 
 use Rattle.isle_model.specs.rules.Typed.{TypedPattern, match_bind, match_var, match_bool, match_int, match_prim, match_term, match_any, match_and, TypedPatterns, no_typed_pattern, typed_pattern_and, TypedExpr, make_term, make_var, make_bool, make_int, make_prim, make_let, TypedExprs, no_typed_expr, typed_expr_and, TypedLets, no_typed_let, typed_let_and, TypedIfLet, TypedRule}
 use Rattle.isle_model.specs.rules.CallsNoMulti.{WhereKnown, PatternCallsNoMulti, PatternsCallNoMulti, ExprCallsNoMulti, ExprsCallNoMulti, LetsCallNoMulti, ArgsCallNoMulti, IfLetsCallNoMulti, CallsNoMulti}
 use Rattle.isle_laws_runs.proofs.picks.VisitOrder.{met}
-use Rattle.isle_laws_runs.proofs.picks.PlainMatching.{from_to_count, output_count, either_count}
+use Rattle.isle_laws_runs.proofs.picks.PlainMatching.{fields_count, output_count, either_count}
 use Rattle.isle_laws_runs.proofs.picks.OnePick.{asking_met, finished_met}
 use Rattle.isle_model.proofs.Either.{either}
 use Rattle.isle_model.proofs.FewElements.{not_nothing}
@@ -50,8 +50,8 @@ module _ (p : Program) where
       → ((ss : List SiteTerm) (w : Visit) → length ss ≡ pattern_count args → met (visit_each p args ss w) ≡ [] → (met w ≡ []) × PatternsCallNoMulti p args)
       → met (visit_each p args (open_term kd t s args v).inputs (open_term kd t s args v).visit) ≡ []
       → (met (open_term kd t s args v).visit ≡ []) × WhereKnown kd (PatternsCallNoMulti p args)
-  parts_none (a_variant ty variant) t s args v ih h = ih _ _ (from_to_count _ 0 args) h
-  parts_none (a_struct ty) t s args v ih h = ih _ _ (from_to_count _ 0 args) h
+  parts_none (a_variant ty variant) t s args v ih h = ih _ _ (fields_count _ 0 (pattern_count args)) h
+  parts_none (a_struct ty) t s args v ih h = ih _ _ (fields_count _ 0 (pattern_count args)) h
   parts_none (a_call flags infallible) t s args v ih h =
       ih _ _ (either_count flags.multi _ _ (pattern_count args) (output_count _ args) (either_count infallible _ _ (pattern_count args) (output_count _ args) (output_count _ args))) h
   parts_none unknown t s no_typed_pattern v ih h = (h, tt)

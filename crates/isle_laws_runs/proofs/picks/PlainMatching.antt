@@ -1,5 +1,5 @@
 -- Without multi calls the two families of matching agree, whatever the pick.
-use Rattle.std.proofs.Common.{◌≡◌, ◌==◌, arith, ℕ, suc, Bool, true, false, cond, List, [], ◌∷◌, ◌++◌, length, Option, Some, None, refl, ap, ap₂, ◌∙◌}
+use Rattle.std.proofs.Common.{◌≡◌, ◌==◌, arith, ℕ, zero, suc, Bool, true, false, cond, List, [], ◌∷◌, ◌++◌, length, Option, Some, None, refl, ap, ap₂, ◌∙◌}
 use Rattle.std.proofs.lemmas.Bool.{true≢false}
 use Rattle.isle_model.specs.rules.Values.{Value, Values, no_value, value_and, value_eq}
 use Rattle.isle_model.specs.rules.Meaning.{Content, Meaning, look, literal_value, bool_literal, int_literal, constant_value, extractor_answer, pure_answer, impure_answer, answered_outputs}
@@ -7,8 +7,8 @@ use Rattle.isle_model.specs.rules.Outcome.{Call, then_option}
 use Rattle.isle_model.specs.rules.Program.{Program, Kind, a_variant, a_struct, a_call, unknown, flags_of, kind, is_partial}
 use Rattle.isle_model.specs.rules.Matching.{Vars, var_value, where_equal, parts_seen, holds, each_holds, all_hold, single, pure_term, pure_value, pure_values, pure_lets, args_hold, iflets_hold}
 use Rattle.isle_model.specs.rules.RightSide.{Eval, gives, ends, EvalAll, gives_all, ends_all, EvalLets, gives_vars, ends_lets, or_end, apply, pair_up, then_rest, then_lets, then_body, eval, eval_all, eval_lets, outcome_of}
-use Rattle.isle_model.specs.sites.Sites.{SiteTerm, argument, extractor_call, constructor_call, SiteTerms}
-use Rattle.isle_model.specs.visits.Demands.{from_to, pattern_count, Opened, output_sites}
+use Rattle.isle_model.specs.sites.Sites.{SiteTerm, argument, extractor_call, constructor_call, SiteTerms, fields_from}
+use Rattle.isle_model.specs.visits.Demands.{pattern_count, Opened, output_sites}
 use Rattle.isle_model.specs.rules.Picks.{Pick, taken_answer, Sited, sited, SitedVars, sited_value, values_in, expr_site, expr_sites, input_sites, where_same, parts_under, holds_under, each_holds_under, all_hold_under, term_under, value_under, values_under, lets_under, args_hold_under, iflets_hold_under, apply_under, SitedLets, gives_sited, ends_sited, then_sited_lets, then_sited_body, eval_under, eval_all_under, eval_lets_under}
 use Rattle.isle_model.specs.rules.Typed.{TypedPattern, match_bind, match_var, match_bool, match_int, match_prim, match_term, match_any, match_and, TypedPatterns, no_typed_pattern, typed_pattern_and, TypedExpr, make_term, make_var, make_bool, make_int, make_prim, make_let, TypedExprs, no_typed_expr, typed_expr_and, TypedLets, no_typed_let, typed_let_and, TypedIfLet}
 use Rattle.isle_model.proofs.Options.{then_same}
@@ -46,22 +46,22 @@ same_same None v e = refl
 same_same (Some w) v e = kept_same (value_eq w v) e
 
 -- 3. the sites of a pattern's parts are as many as the parts
-pub from_to_count : (f : ℕ → SiteTerm) (i : ℕ) (qs : TypedPatterns) → length (from_to f i qs) ≡ pattern_count qs
-from_to_count f i no_typed_pattern = refl
-from_to_count f i (typed_pattern_and q qs) = ap suc (from_to_count f (suc i) qs)
+pub fields_count : (f : ℕ → SiteTerm) (i n : ℕ) → length (fields_from f i n) ≡ n
+fields_count f i zero = refl
+fields_count f i (suc n) = ap suc (fields_count f (suc i) n)
 
 pub output_count : (s : SiteTerm) (qs : TypedPatterns) → length (output_sites s qs) ≡ pattern_count qs
 output_count s no_typed_pattern = refl
 output_count s (typed_pattern_and q no_typed_pattern) = refl
-output_count s (typed_pattern_and q (typed_pattern_and r rs)) = from_to_count _ 0 (typed_pattern_and q (typed_pattern_and r rs))
+output_count s (typed_pattern_and q (typed_pattern_and r rs)) = fields_count _ 0 (pattern_count (typed_pattern_and q (typed_pattern_and r rs)))
 
 pub either_count : (b : Bool) (x y : Opened) (n : ℕ) → length x.inputs ≡ n → length y.inputs ≡ n → length (cond b x y).inputs ≡ n
 either_count true x y n g h = g
 either_count false x y n g h = h
 
 input_count : (kd : Kind) (t : ℕ) (s : SiteTerm) (qs : TypedPatterns) (v : Value) (m : Meaning) (vs : Values) → parts_seen kd m t v ≡ Some vs → length (input_sites kd t s qs) ≡ pattern_count qs
-input_count (a_variant ty variant) t s qs v m vs h = from_to_count _ 0 qs
-input_count (a_struct ty) t s qs v m vs h = from_to_count _ 0 qs
+input_count (a_variant ty variant) t s qs v m vs h = fields_count _ 0 (pattern_count qs)
+input_count (a_struct ty) t s qs v m vs h = fields_count _ 0 (pattern_count qs)
 input_count (a_call flags infallible) t s qs v m vs h =
     either_count flags.multi _ _ (pattern_count qs) (output_count _ qs) (either_count infallible _ _ (pattern_count qs) (output_count _ qs) (output_count _ qs))
 input_count unknown t s qs v m vs h = absurd (none_some h)

@@ -1,13 +1,13 @@
 -- A rule meets each multi call after those that the call's arguments take answers of.
-use Rattle.std.proofs.Common.{◌≡◌, ◌==◌, ℕ, suc, Bool, true, false, cond, List, [], ◌∷◌, ◌++◌, Option, Some, Contains, sym, subst, inl, inr}
+use Rattle.std.proofs.Common.{◌≡◌, ◌==◌, ℕ, zero, suc, Bool, true, false, cond, List, [], ◌∷◌, ◌++◌, Option, Some, Contains, sym, subst, inl, inr}
 use Rattle.std.proofs.lemmas.Bool.{cases_Bool, cond-true, cond-false, or_cases, false≢true}
 use Rattle.std.proofs.lemmas.List.{append_assoc, append-nil}
 use Rattle.std.proofs.lemmas.List.Elements.{Contains-append_left, Contains-append_right, Contains-append_cases}
 use Rattle.isle_model.specs.lists.Tables.{Flags}
 use Rattle.isle_model.specs.rules.Meaning.{look}
 use Rattle.isle_model.specs.rules.Program.{Program, Kind, a_variant, a_struct, a_call, unknown, kind, is_partial}
-use Rattle.isle_model.specs.sites.Sites.{Constraint, is_present, SiteTerm, argument, extractor_call, constructor_call, pick_of, variant_field, struct_field, some_part, tuple_part, SiteTerms}
-use Rattle.isle_model.specs.visits.Demands.{site_term_eq, Visit, visit_start, making, asking, equating, iterating, calling, binding, or_no_site, var_site, from_to, Opened, output_sites, open_call, open_term, visit_pattern, visit_each, visit_all, Valued, ValuedAll, valued, call_result, call_sites, where_multi, visit_call, visit_term, visit_expr, visit_exprs, visit_lets, unwraps, asking_all, visit_args, visit_iflets, finished, demands_of, has_site, with_sites, taking_argument, outputs_opened}
+use Rattle.isle_model.specs.sites.Sites.{Constraint, is_present, SiteTerm, argument, extractor_call, constructor_call, pick_of, variant_field, struct_field, some_part, tuple_part, SiteTerms, fields_from}
+use Rattle.isle_model.specs.visits.Demands.{site_term_eq, Visit, visit_start, making, asking, equating, iterating, calling, binding, or_no_site, var_site, Opened, output_sites, open_call, open_term, visit_pattern, visit_each, visit_all, Valued, ValuedAll, valued, call_result, call_sites, where_multi, visit_call, visit_term, visit_expr, visit_exprs, visit_lets, unwraps, asking_all, visit_args, visit_iflets, finished, demands_of, has_site, with_sites, taking_argument, outputs_opened, pattern_count}
 use Rattle.isle_model.specs.trees.Collects.{calls_in, calls_in_all}
 use Rattle.isle_model.specs.rules.Picks.{multi_calls}
 use Rattle.isle_model.specs.rules.Typed.{TypedPattern, match_bind, match_var, match_bool, match_int, match_prim, match_term, match_any, match_and, TypedPatterns, no_typed_pattern, typed_pattern_and, TypedExpr, make_term, make_var, make_bool, make_int, make_prim, make_let, TypedExprs, no_typed_expr, typed_expr_and, TypedLets, no_typed_let, typed_let_and, TypedIfLet, TypedRule}
@@ -113,14 +113,14 @@ all_kept : (ls ms ss : List SiteTerm) → Within ls ms → AllCovered ls ss → 
 all_kept ls ms [] w h = tt
 all_kept ls ms (s ∷ ss) w h = ((λ c k. w c (h.0 c k)), all_kept ls ms ss w h.1)
 
-from_to_covered : (ls : List SiteTerm) (f : ℕ → SiteTerm) (i : ℕ) (qs : TypedPatterns) → ((j : ℕ) → Covered ls (f j)) → AllCovered ls (from_to f i qs)
-from_to_covered ls f i no_typed_pattern h = tt
-from_to_covered ls f i (typed_pattern_and q qs) h = (h i, from_to_covered ls f (suc i) qs h)
+fields_covered : (ls : List SiteTerm) (f : ℕ → SiteTerm) (i n : ℕ) → ((j : ℕ) → Covered ls (f j)) → AllCovered ls (fields_from f i n)
+fields_covered ls f i zero h = tt
+fields_covered ls f i (suc n) h = (h i, fields_covered ls f (suc i) n h)
 
 outputs_covered : (ls : List SiteTerm) (s : SiteTerm) (qs : TypedPatterns) → Covered ls s → AllCovered ls (output_sites s qs)
 outputs_covered ls s no_typed_pattern h = tt
 outputs_covered ls s (typed_pattern_and q no_typed_pattern) h = (h, tt)
-outputs_covered ls s (typed_pattern_and q (typed_pattern_and r rs)) h = from_to_covered ls (tuple_part s) 0 (typed_pattern_and q (typed_pattern_and r rs)) (λ j. h)
+outputs_covered ls s (typed_pattern_and q (typed_pattern_and r rs)) h = fields_covered ls (tuple_part s) 0 (pattern_count (typed_pattern_and q (typed_pattern_and r rs))) (λ j. h)
 
 pub record OpensWell (v : Visit) (o : Opened) : Type 0 where
   pub follows : Follows v o.visit
@@ -150,11 +150,11 @@ call_opens flags infallible call args v f h =
 term_opens : (k : Kind) (t : ℕ) (s : SiteTerm) (args : TypedPatterns) (v : Visit) → Fine v → Covered (met v) s → OpensWell v (open_term k t s args v)
 term_opens (a_variant ty variant) t s args v f h = record {
   follows = record { fine = record { order = f.order; vars = f.vars }; kept = λ c k. k };
-  inputs = from_to_covered (met v) (variant_field s variant) 0 args (λ j. h);
+  inputs = fields_covered (met v) (variant_field s variant) 0 (pattern_count args) (λ j. h);
 }
 term_opens (a_struct ty) t s args v f h = record {
   follows = record { fine = record { order = f.order; vars = f.vars }; kept = λ c k. k };
-  inputs = from_to_covered (met v) (struct_field s) 0 args (λ j. h);
+  inputs = fields_covered (met v) (struct_field s) 0 (pattern_count args) (λ j. h);
 }
 term_opens (a_call flags infallible) t s args v f h = call_opens flags infallible (extractor_call t s) args v f h
 term_opens unknown t s args v f h = record { follows = stays v f; inputs = tt }

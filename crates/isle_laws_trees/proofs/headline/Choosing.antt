@@ -29,7 +29,7 @@ use Rattle.isle_laws_runs.proofs.runs.Choice.{sound_trees_choose_lem}
 use Rattle.isle_laws_runs.proofs.runs.ChosenRules.{Chosen, no_match, matching, chosen_is, one_number}
 use Rattle.isle_laws_matching.specs.MatchLaws.{BuiltSetsMatchByDemands, BuiltRulesAreToldApart, RulesWithoutMultiGoOverNoCalls}
 use Rattle.isle_laws_matching.specs.ServeLaws.{ServedSetsServeTests}
-use Rattle.isle_laws_closure.proofs.built.Built.{one_rule}
+use Rattle.isle_laws_closure.proofs.built.BuiltGates.{one_rule}
 use Rattle.isle_laws_matching.proofs.ToldApart.{empty_pick, same_match}
 use Rattle.isle_laws_trees.specs.BuiltLaws.{BestTreesOfBuiltSetsAreSound}
 use Rattle.isle_laws_trees.proofs.headline.NoCalls.{rule_goes_over_none, pair_goes_over_none, set_goes_over_none}

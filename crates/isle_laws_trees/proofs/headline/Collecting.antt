@@ -49,9 +49,9 @@ use Rattle.isle_laws_matching.specs.MatchLaws.{BuiltSetsMatchByDemands, BuiltSet
 use Rattle.isle_laws_matching.specs.ServeLaws.{ServedMultiSetsServe}
 use Rattle.isle_laws_closure.specs.GateLaws.{NoRuleAsksAndGoesOver, MultiTermsHaveOnePriority}
 use Rattle.isle_laws_closure.proofs.Classes.{with_sites_in, in_with_sites}
-use Rattle.isle_laws_closure.proofs.built.Built.{one_rule, rule_at}
+use Rattle.isle_laws_closure.proofs.built.BuiltGates.{one_rule, rule_at}
 use Rattle.isle_laws_matching.proofs.BuiltMatches.{built_listed}
-use Rattle.isle_laws_closure.proofs.built.Sets.{first_constraint}
+use Rattle.isle_laws_closure.proofs.built.WellBuiltSets.{first_constraint}
 use Rattle.isle_laws_trees.specs.BuiltLaws.{BestTreesCollectTheBag}
 use Rattle.isle_laws_trees.proofs.Soundness.{best_trees_are_sound_lem}
 use Rattle.isle_laws_trees.proofs.headline.Places.{Pair, of_set_rule, of_typed_rule, typed_here}

@@ -8,7 +8,7 @@ use Rattle.isle_model.proofs.Members.{nothing_in, all_members, member_from_get, 
 use Rattle.isle_laws_typing.specs.WellTypedPrograms.{IsWellTypedProgram}
 use Rattle.isle_laws_closure.proofs.built.BuiltSets.{BuiltSet}
 use Rattle.isle_laws_matching.specs.MatchLaws.{RulesWithoutMultiGoOverNoCalls}
-use Rattle.isle_laws_closure.proofs.built.Built.{one_rule}
+use Rattle.isle_laws_closure.proofs.built.BuiltGates.{one_rule}
 use Rattle.isle_laws_matching.proofs.BuiltMatches.{built_listed}
 use Rattle.isle_laws_trees.proofs.headline.Places.{Pair, of_set_rule}
 

@@ -37,30 +37,65 @@ abbrev pub look : {K V : Type 0} → (K → Bool) → List (K × V) → Option V
 look p [] = None
 look p (e ∷ rest) = if p e.0 then Some e.1 else look p rest
 
--- a meaning, as five finite maps: literals; named constants by the number of the name; extractor calls by term
--- and argument; pure constructor calls by term and arguments; impure calls by term and the number of impure
--- calls made before
+-- a meaning: the value of each literal and of each named constant, by the number of the name, and what is answered to each call: of an
+-- extractor, by its term and its argument; of a pure constructor, by its term and its arguments; of an impure one, by its term and
+-- the number of impure calls made before. All are functions, and may say nothing
 pub record Meaning : Type 0 where
+  pub literals : Literal → Option Value
+  pub constants : ℕ → Option Value
+  pub extractors : ℕ → Value → Option Content
+  pub pures : ℕ → Values → Option Content
+  pub impures : ℕ → ℕ → Option Content
+
+abbrev pub literal_value : Meaning → Literal → Option Value
+literal_value m l = m.literals l
+
+abbrev pub constant_value : Meaning → ℕ → Option Value
+constant_value m name = m.constants name
+
+abbrev pub extractor_answer : Meaning → ℕ → Value → Option Content
+extractor_answer m term v = m.extractors term v
+
+abbrev pub pure_answer : Meaning → ℕ → Values → Option Content
+pure_answer m term vs = m.pures term vs
+
+abbrev pub impure_answer : Meaning → ℕ → ℕ → Option Content
+impure_answer m term before = m.impures term before
+
+-- five finite maps; of several entries for one key the first one counts
+pub record Maps : Type 0 where
   pub literals : List (Literal × Value)
   pub constants : List (ℕ × Value)
   pub extractor_calls : List ((ℕ × Value) × Content)
   pub pure_calls : List ((ℕ × Values) × Content)
   pub impure_calls : List ((ℕ × ℕ) × Content)
 
-abbrev pub literal_value : Meaning → Literal → Option Value
-literal_value m l = look (λ k. literal_eq k l) m.literals
+-- the meaning that says what the maps have
+abbrev pub finite : Maps → Meaning
+finite maps = record {
+  literals = λ l. look (λ k. literal_eq k l) maps.literals;
+  constants = λ name. look (λ k. k == name) maps.constants;
+  extractors = λ term v. look (λ k. (k.0 == term) && value_eq k.1 v) maps.extractor_calls;
+  pures = λ term vs. look (λ k. (k.0 == term) && values_eq k.1 vs) maps.pure_calls;
+  impures = λ term before. look (λ k. (k.0 == term) && (k.1 == before)) maps.impure_calls;
+}
 
-abbrev pub constant_value : Meaning → ℕ → Option Value
-constant_value m name = look (λ k. k == name) m.constants
+-- a meaning that says something of all
+pub record TotalMeaning : Type 0 where
+  pub literals : Literal → Value
+  pub constants : ℕ → Value
+  pub extractors : ℕ → Value → Content
+  pub pures : ℕ → Values → Content
+  pub impures : ℕ → ℕ → Content
 
-abbrev pub extractor_answer : Meaning → ℕ → Value → Option Content
-extractor_answer m term v = look (λ k. (k.0 == term) && value_eq k.1 v) m.extractor_calls
-
-abbrev pub pure_answer : Meaning → ℕ → Values → Option Content
-pure_answer m term vs = look (λ k. (k.0 == term) && values_eq k.1 vs) m.pure_calls
-
-abbrev pub impure_answer : Meaning → ℕ → ℕ → Option Content
-impure_answer m term before = look (λ k. (k.0 == term) && (k.1 == before)) m.impure_calls
+abbrev pub total : TotalMeaning → Meaning
+total f = record {
+  literals = λ l. Some (f.literals l);
+  constants = λ name. Some (f.constants name);
+  extractors = λ term v. Some (f.extractors term v);
+  pures = λ term vs. Some (f.pures term vs);
+  impures = λ term before. Some (f.impures term before);
+}
 
 -- the outputs of a call: one value stands alone, none or several stand together
 abbrev pub outputs : Content → Option Values

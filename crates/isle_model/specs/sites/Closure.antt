@@ -4,21 +4,10 @@ use Rattle.std.specs.Prelude.{◌≡◌, ◌≢◌, ℕ, zero, suc, Bool, true, 
 use Rattle.std.specs.List.{filter, flat_map, list_any, zip}
 use Rattle.isle_model.specs.rules.Values.{Value}
 use Rattle.isle_model.specs.rules.Meaning.{Content, one, Meaning, look}
-use Rattle.isle_model.specs.sites.Sites.{Constraint, is_variant, is_struct, SiteTerm, variant_field, struct_field}
+use Rattle.isle_model.specs.sites.Sites.{Constraint, SiteTerm, variant_field, struct_field, field_terms}
 use Rattle.isle_model.specs.visits.Demands.{Demands, site_term_eq, has_site, with_sites, constraint_eq}
 use Rattle.isle_model.specs.trees.Run.{content_fields}
 use Rattle.isle_model.specs.rules.Picks.{Pick, site_content}
-
--- n field sites from i on, each under a function
-abbrev pub fields_from : (ℕ → SiteTerm) → ℕ → ℕ → List SiteTerm
-fields_from f i zero = []
-fields_from f i (suc n) = f i ∷ fields_from f (suc i) n
-
--- the sites of the fields that a constraint gives a site; only variants and structs have fields
-abbrev pub field_terms : Constraint → SiteTerm → List SiteTerm
-field_terms (is_variant ty variant fields) s = fields_from (variant_field s variant) 0 fields
-field_terms (is_struct ty fields) s = fields_from (struct_field s) 0 fields
-field_terms _ s = []
 
 -- two sites must be equal: the least equivalence that holds the demanded equalities, and in which fields of equal
 -- sites with one constraint are equal, place by place

@@ -77,12 +77,12 @@ first_passed (c ∷ cs) = passed_or_later (passed_by c.0) c.1 (first_passed cs)
 abbrev pub passed_in_visit : Program → TypedRule → Option (RuleLimit × ℕ)
 passed_in_visit p r = first_passed (demands_of p r).counted
 
--- the term's sites, however many, where the visit ends at such a limit, or else all that are wanted
+-- the term's sites, however many, where building ends at such a limit, or else all that are wanted
 abbrev pub sites_until : Program → List SiteTerm → TypedRule → Option (RuleLimit × ℕ) → List SiteTerm
 sites_until p before r (Some passed) = with_sites before (take passed.1 (demands_of p r).made)
 sites_until p before r None = sites_wanted p before r
 
--- the term's sites, however many, where the visit or the closing ends
+-- the term's sites, however many, where building ends
 abbrev pub sites_reached : Program → List SiteTerm → TypedRule → List SiteTerm
 sites_reached p before r = sites_until p before r (passed_in_visit p r)
 
@@ -102,7 +102,7 @@ abbrev pub limit_of_passed : Option (RuleLimit × ℕ) → Option RuleLimit
 limit_of_passed (Some passed) = Some passed.0
 limit_of_passed None = None
 
--- the limit that is met first: that of the sites, where they pass it before the visit or the closing ends
+-- the limit that is met first: that of the sites, where they pass it before building ends
 abbrev pub first_limit : Program → List SiteTerm → TypedRule → Option RuleLimit
 first_limit p before r = if nat_lt most_sites (length (sites_reached p before r)) then Some sites_limit else limit_of_passed (passed_in_visit p r)
 

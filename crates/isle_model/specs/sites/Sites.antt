@@ -95,6 +95,17 @@ abbrev pub each_term : (ℕ → SiteTerm) → List ℕ → SiteTerms
 each_term f [] = no_site_term
 each_term f (s ∷ rest) = site_term_and (f s) (each_term f rest)
 
+-- n sites from i on, each under a function
+abbrev pub fields_from : (ℕ → SiteTerm) → ℕ → ℕ → List SiteTerm
+fields_from f i zero = []
+fields_from f i (suc n) = f i ∷ fields_from f (suc i) n
+
+-- the sites of the fields that a constraint gives a site; only variants and structs have fields
+abbrev pub field_terms : Constraint → SiteTerm → List SiteTerm
+field_terms (is_variant ty variant fields) s = fields_from (variant_field s variant) 0 fields
+field_terms (is_struct ty fields) s = fields_from (struct_field s) 0 fields
+field_terms _ s = []
+
 -- one layer, over what the sources stand for
 abbrev pub layer : (ℕ → SiteTerm) → Site → SiteTerm
 layer f (bool_site b ty) = bool_term b ty

@@ -7,7 +7,7 @@ use Rattle.std.proofs.Math.Bool.{beq}
 use Rattle.isle_model.specs.lists.Tables.{Flags}
 use Rattle.isle_model.specs.rules.Meaning.{look}
 use Rattle.isle_model.specs.rules.Program.{Program, Kind, a_variant, a_struct, a_call, unknown, kind, is_partial}
-use Rattle.isle_model.specs.sites.Sites.{Constraint, is_variant, is_struct, is_bool, is_int, is_prim, is_present, SiteTerm, bool_term, int_term, prim_term, argument, extractor_call, constructor_call, pick_of, variant_made, variant_field, struct_made, struct_field, some_made, some_part, tuple_part, no_site, SiteTerms, no_site_term, site_term_and}
+use Rattle.isle_model.specs.sites.Sites.{Constraint, is_variant, is_struct, is_bool, is_int, is_prim, is_present, SiteTerm, bool_term, int_term, prim_term, argument, extractor_call, constructor_call, pick_of, variant_made, variant_field, struct_made, struct_field, some_made, some_part, tuple_part, no_site, SiteTerms, no_site_term, site_term_and, fields_from, field_terms}
 use Rattle.isle_model.specs.rules.Typed.{TypedPattern, match_bind, match_var, match_bool, match_int, match_prim, match_term, match_any, match_and, TypedPatterns, no_typed_pattern, typed_pattern_and, TypedExpr, make_term, make_var, make_bool, make_int, make_prim, make_let, TypedExprs, no_typed_expr, typed_expr_and, TypedLets, no_typed_let, typed_let_and, TypedIfLet, TypedRule}
 
 -- whether two trees are one
@@ -101,11 +101,6 @@ or_no_site (Some s) = s
 abbrev pub var_site : Visit → ℕ → SiteTerm
 var_site v x = or_no_site (look (λ k. k == x) v.vars)
 
--- the first n numbers from i, each under a function
-abbrev pub from_to : (ℕ → SiteTerm) → ℕ → TypedPatterns → List SiteTerm
-from_to f i no_typed_pattern = []
-from_to f i (typed_pattern_and q qs) = f i ∷ from_to f (suc i) qs
-
 abbrev pub pattern_count : TypedPatterns → ℕ
 pattern_count no_typed_pattern = 0
 pattern_count (typed_pattern_and q qs) = suc (pattern_count qs)
@@ -118,16 +113,20 @@ pub record Opened : Type 0 where
 abbrev pub opened : List SiteTerm → Visit → Opened
 opened inputs v = record { inputs = inputs; visit = v }
 
+-- the n fields that a constraint gives a site are counted and made, and the site is asked to meet it
+abbrev pub fields_opened : Constraint → ℕ → SiteTerm → Visit → Opened
+fields_opened c n s v = opened (field_terms c s) (asking s c (making (field_terms c s) (counting (fields_matched n) v)))
+
 -- the outputs of a call: one is the site itself, several are its parts, none has no site
 abbrev pub output_sites : SiteTerm → TypedPatterns → List SiteTerm
 output_sites s no_typed_pattern = []
 output_sites s (typed_pattern_and q no_typed_pattern) = s ∷ []
-output_sites s (typed_pattern_and q (typed_pattern_and r rs)) = from_to (tuple_part s) 0 (typed_pattern_and q (typed_pattern_and r rs))
+output_sites s (typed_pattern_and q (typed_pattern_and r rs)) = fields_from (tuple_part s) 0 (pattern_count (typed_pattern_and q (typed_pattern_and r rs)))
 
 abbrev pub part_sites : SiteTerm → TypedPatterns → List SiteTerm
 part_sites s no_typed_pattern = []
 part_sites s (typed_pattern_and q no_typed_pattern) = []
-part_sites s (typed_pattern_and q (typed_pattern_and r rs)) = from_to (tuple_part s) 0 (typed_pattern_and q (typed_pattern_and r rs))
+part_sites s (typed_pattern_and q (typed_pattern_and r rs)) = fields_from (tuple_part s) 0 (pattern_count (typed_pattern_and q (typed_pattern_and r rs)))
 
 -- outputs of a call are counted before their parts are made
 abbrev pub outputs_opened : SiteTerm → TypedPatterns → Visit → Opened
@@ -143,10 +142,8 @@ open_call flags infallible call args v =
     else outputs_opened (some_part call) args (asking call is_present (making (call ∷ (some_part call ∷ [])) v)))
 
 abbrev pub open_term : Kind → ℕ → SiteTerm → TypedPatterns → Visit → Opened
-open_term (a_variant ty variant) t s args v =
-    let fields = from_to (variant_field s variant) 0 args in opened fields (asking s (is_variant ty variant (pattern_count args)) (making fields (counting (fields_matched (pattern_count args)) v)))
-open_term (a_struct ty) t s args v =
-    let fields = from_to (struct_field s) 0 args in opened fields (asking s (is_struct ty (pattern_count args)) (making fields (counting (fields_matched (pattern_count args)) v)))
+open_term (a_variant ty variant) t s args v = fields_opened (is_variant ty variant (pattern_count args)) (pattern_count args) s v
+open_term (a_struct ty) t s args v = fields_opened (is_struct ty (pattern_count args)) (pattern_count args) s v
 open_term (a_call flags infallible) t s args v = open_call flags infallible (extractor_call t s) args v
 open_term unknown t s args v = opened [] v
 
@@ -183,6 +180,10 @@ pub record ValuedAll : Type 0 where
 abbrev pub valued : SiteTerm → Visit → Valued
 valued s v = record { site = s; visit = v }
 
+-- a value that is made as one site
+abbrev pub value_made : SiteTerm → Visit → Valued
+value_made u v = valued u (making (u ∷ []) v)
+
 -- what a constructor's call gives: a pick of a multi one, the unwrapped answer of a partial one, else the call itself
 abbrev pub call_result : Flags → SiteTerm → SiteTerm
 call_result flags call = if flags.partial then some_part call else (if flags.multi then pick_of call else call)
@@ -200,8 +201,8 @@ visit_call flags t args v =
     else (let call = constructor_call t args (suc v.impure_calls) in valued (call_result flags call) (calling (call_result flags call) (where_multi flags call (making (call_sites flags call) v))))
 
 abbrev pub visit_term : Kind → ℕ → ValuedAll → Valued
-visit_term (a_variant ty variant) t a = let s = variant_made ty variant a.sites in valued s (making (s ∷ []) a.visit)
-visit_term (a_struct ty) t a = let s = struct_made ty a.sites in valued s (making (s ∷ []) a.visit)
+visit_term (a_variant ty variant) t a = value_made (variant_made ty variant a.sites) a.visit
+visit_term (a_struct ty) t a = value_made (struct_made ty a.sites) a.visit
 visit_term (a_call flags infallible) t a = visit_call flags t a.sites a.visit
 visit_term unknown t a = valued no_site a.visit
 
@@ -209,9 +210,9 @@ abbrev mutual
   pub visit_expr : Program → TypedExpr → Visit → Valued
   visit_expr p (make_term ty t args) v = visit_term (kind p t) t (visit_exprs p args v)
   visit_expr p (make_var ty x) v = valued (var_site v x) v
-  visit_expr p (make_bool ty b) v = valued (bool_term b ty) (making (bool_term b ty ∷ []) v)
-  visit_expr p (make_int ty z) v = valued (int_term z ty) (making (int_term z ty ∷ []) v)
-  visit_expr p (make_prim ty name) v = valued (prim_term name) (making (prim_term name ∷ []) v)
+  visit_expr p (make_bool ty b) v = value_made (bool_term b ty) v
+  visit_expr p (make_int ty z) v = value_made (int_term z ty) v
+  visit_expr p (make_prim ty name) v = value_made (prim_term name) v
   visit_expr p (make_let ty defs body) v = visit_expr p body (visit_lets p defs v)
 
   pub visit_exprs : Program → TypedExprs → Visit → ValuedAll
@@ -280,7 +281,7 @@ visit_iflets p (i ∷ rest) v =
 -- in a partial term the result is Some of the value
 abbrev pub finished : Bool → Valued → Valued
 finished false a = a
-finished true a = valued (some_made a.site) (making (some_made a.site ∷ []) a.visit)
+finished true a = value_made (some_made a.site) a.visit
 
 -- a rule up to the value of its right side
 abbrev pub value_of_rule : Program → TypedRule → Valued

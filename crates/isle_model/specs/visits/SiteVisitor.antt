@@ -1,18 +1,13 @@
 -- The visitor of sites: it answers the site of each part, and its state is what a rule demands so far. It has no fault;
 -- what is counted on the way says which limit is passed first.
-use Rattle.std.specs.Prelude.{◌≡◌, ℕ, zero, suc, Bool, true, false, not, List, [], ◌∷◌, length, None, Result, Ok}
-use Rattle.isle_model.specs.lists.Tables.{Flags, TermEntry}
+use Rattle.std.specs.Prelude.{◌≡◌, ℕ, zero, suc, Bool, true, false, not, List, [], ◌∷◌, length, None, Ok}
+use Rattle.isle_model.specs.lists.Tables.{TermEntry}
 use Rattle.isle_model.specs.rules.Typed.{TypedPatterns, no_typed_pattern, typed_pattern_and, match_any, TypedRule}
-use Rattle.isle_model.specs.sites.Sites.{Constraint, is_variant, is_struct, is_bool, is_int, is_prim, SiteTerm, SiteTerms, no_site_term, site_term_and, argument, bool_term, int_term, prim_term, extractor_call, variant_made, struct_made}
-use Rattle.isle_model.specs.visits.Demands.{fields_matched, Visit, visit_start, making, counting, taking_argument, asking, asking_all, equating, unwraps, Opened, opened, open_call, Valued, valued, visit_call}
-use Rattle.isle_model.specs.sites.Closure.{field_terms}
+use Rattle.isle_model.specs.sites.Sites.{is_variant, is_struct, is_bool, is_int, is_prim, SiteTerm, SiteTerms, no_site_term, site_term_and, argument, bool_term, int_term, prim_term, extractor_call, variant_made, struct_made}
+use Rattle.isle_model.specs.visits.Demands.{Visit, visit_start, taking_argument, asking, asking_all, equating, unwraps, Opened, open_call, visit_call, fields_opened, value_made}
 use Rattle.isle_model.specs.visits.Runs.{done}
 use Rattle.isle_model.specs.visits.Visitors.{PatternSteps, ExprSteps, RuleSteps}
 use Rattle.isle_model.specs.visits.RuleRuns.{RuleRun}
-
--- the n fields that a constraint gives a site are counted and made, and the site is asked to meet it
-abbrev pub fields_opened : Constraint → ℕ → SiteTerm → Visit → Opened
-fields_opened c n s v = opened (field_terms c s) (asking s c (making (field_terms c s) (counting (fields_matched n) v)))
 
 -- n parts of which nothing is asked
 abbrev pub any_parts : ℕ → TypedPatterns
@@ -36,23 +31,19 @@ site_patterns = record {
 }
 
 -- the sites of inputs
-abbrev pub input_sites : List (SiteTerm × ℕ) → SiteTerms
-input_sites [] = no_site_term
-input_sites (x ∷ xs) = site_term_and x.0 (input_sites xs)
-
--- a value that is made as one site
-abbrev pub value_made : SiteTerm → Visit → Valued
-value_made u v = valued u (making (u ∷ []) v)
+abbrev pub sites_of_inputs : List (SiteTerm × ℕ) → SiteTerms
+sites_of_inputs [] = no_site_term
+sites_of_inputs (x ∷ xs) = site_term_and x.0 (sites_of_inputs xs)
 
 abbrev pub site_exprs : ExprSteps ⊥ Visit SiteTerm
 site_exprs = record {
   const_bool_steps = λ v ty b r t. let a = value_made (bool_term b ty) v in done a.site a.visit r t;
   const_int_steps = λ v ty z r t. let a = value_made (int_term z ty) v in done a.site a.visit r t;
   const_prim_steps = λ v ty name r t. let a = value_made (prim_term name) v in done a.site a.visit r t;
-  create_variant_steps = λ v inputs ty variant r t. let a = value_made (variant_made ty variant (input_sites inputs)) v in done a.site a.visit r t;
-  create_struct_steps = λ v inputs ty r t. let a = value_made (struct_made ty (input_sites inputs)) v in done a.site a.visit r t;
+  create_variant_steps = λ v inputs ty variant r t. let a = value_made (variant_made ty variant (sites_of_inputs inputs)) v in done a.site a.visit r t;
+  create_struct_steps = λ v inputs ty r t. let a = value_made (struct_made ty (sites_of_inputs inputs)) v in done a.site a.visit r t;
   construct_steps = λ v inputs ty term pure infallible multi rec r t.
-      let a = visit_call (record { pure = pure; multi = multi; partial = not infallible; rec = rec }) term (input_sites inputs) v in done a.site a.visit r t;
+      let a = visit_call (record { pure = pure; multi = multi; partial = not infallible; rec = rec }) term (sites_of_inputs inputs) v in done a.site a.visit r t;
 }
 
 -- it lends itself; where a value is the input of a pattern, each call that it unwraps is asked to answer

@@ -9,7 +9,7 @@ ghost use Rattle.isle_types.specs.Envs.{IsInterned};
 ghost use Rattle.isle_terms.specs.Reading.{MayIntern};
 ghost use Rattle.isle_types.specs.VariantReading.{ReportsIf};
 ghost use Rattle.isle_terms.specs.Reading.{IsWithin};
-ghost use Rattle.isle_terms.specs.TermBreaches.{BeginsAt};
+ghost use Rattle.isle_terms.specs.TermBreaches.{FirstStandsAt};
 ghost use Rattle.isle_terms.specs.Signing.{ReadsTerms, Declaring, ReadsDeclaration, ReadsIfDeclared};
 ghost use Rattle.isle_terms.specs.TermPositions.{table_positions, IsPlacedAmong};
 
@@ -55,7 +55,7 @@ impl TermTable {
         ensures within { OnOk result (IsWithin self.new) }
         ensures reads { OnOk result (ReadsIfDeclared (definition_view def.now) tyenv.old self.old errors.old.items tyenv.new self.new errors.new.items) }
         ensures places { OnOk result (NotesAt (definition_positions (definition_view def.now) ++ table_positions self.old) errors.old.items errors.new.items) }
-        ensures begins { OnOk result (BeginsAt (definition_positions (definition_view def.now)) errors.old.items errors.new.items) }
+        ensures begins { OnOk result (FirstStandsAt (definition_positions (definition_view def.now)) errors.old.items errors.new.items) }
         ensures placed { OnOk result (IsPlacedAmong (definition_positions (definition_view def.now) ++ table_positions self.old) self.new) }
     {
         let Def::Decl(decl) = def else {
@@ -78,7 +78,7 @@ impl TermTable {
         ensures within { OnOk result (IsWithin self.new) }
         ensures reads { OnOk result (ReadsDeclaration (decl_view decl.now) tyenv.old self.old errors.old.items tyenv.new self.new errors.new.items) }
         ensures places { OnOk result (NotesAt (declaration_positions (decl_view decl.now) ++ table_positions self.old) errors.old.items errors.new.items) }
-        ensures begins { OnOk result (BeginsAt (declaration_positions (decl_view decl.now)) errors.old.items errors.new.items) }
+        ensures begins { OnOk result (FirstStandsAt (declaration_positions (decl_view decl.now)) errors.old.items errors.new.items) }
         ensures placed { OnOk result (IsPlacedAmong (declaration_positions (decl_view decl.now) ++ table_positions self.old) self.new) }
     {
         let name = meet_name(tyenv, &decl.term)?;

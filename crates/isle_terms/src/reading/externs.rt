@@ -14,7 +14,7 @@ ghost use Rattle.isle_terms.specs.Externing.{lacks_constructor, lacks_extractor,
 ghost use Rattle.isle_terms.specs.ExternStages.{ExternsRead, ReadsExtern, ReadsIfExtern};
 ghost use Rattle.isle_terms.specs.Reading.{IsWithin, MayIntern};
 ghost use Rattle.isle_terms.specs.Signing.{ReadsTerms};
-ghost use Rattle.isle_terms.specs.TermBreaches.{BeginsAt};
+ghost use Rattle.isle_terms.specs.TermBreaches.{FirstStandsAt};
 ghost use Rattle.isle_terms.specs.TermViews.{term_view};
 ghost use Rattle.isle_terms.specs.TermPositions.{entry_positions, table_positions, taker_places, IsPlacedAmong};
 
@@ -61,7 +61,7 @@ impl TermTable {
         ensures within { OnOk result (IsWithin self.new) }
         ensures reads { OnOk result (ReadsIfExtern (definition_view def.now) tyenv.old self.old errors.old.items tyenv.new self.new errors.new.items) }
         ensures places { OnOk result (NotesAt (definition_positions (definition_view def.now) ++ table_positions self.old) errors.old.items errors.new.items) }
-        ensures begins { OnOk result (BeginsAt (definition_positions (definition_view def.now)) errors.old.items errors.new.items) }
+        ensures begins { OnOk result (FirstStandsAt (definition_positions (definition_view def.now)) errors.old.items errors.new.items) }
         ensures placed { OnOk result (IsPlacedAmong (definition_positions (definition_view def.now) ++ table_positions self.old) self.new) }
     {
         let Def::Extern(extern_def) = def else {
@@ -84,7 +84,7 @@ impl TermTable {
         ensures within { OnOk result (IsWithin self.new) }
         ensures reads { OnOk result (ReadsExtern (extern_view extern_def.now) tyenv.old self.old errors.old.items tyenv.new self.new errors.new.items) }
         ensures places { OnOk result (NotesAt (extern_positions (extern_view extern_def.now) ++ table_positions self.old) errors.old.items errors.new.items) }
-        ensures begins { OnOk result (BeginsAt (extern_positions (extern_view extern_def.now)) errors.old.items errors.new.items) }
+        ensures begins { OnOk result (FirstStandsAt (extern_positions (extern_view extern_def.now)) errors.old.items errors.new.items) }
         ensures placed { OnOk result (IsPlacedAmong (extern_positions (extern_view extern_def.now) ++ table_positions self.old) self.new) }
     {
         match extern_def {
@@ -146,7 +146,7 @@ impl TermTable {
         ensures within { OnOk result (IsWithin self.new) }
         ensures reads { OnOk result (ReadsKind lacks_extractor (taken_by_this (external_extractor name.0 infallible (position pos))) (name_view term.now) tyenv.now self.old errors.old.items self.new errors.new.items) }
         ensures places { OnOk result (NotesAt (position pos ∷ table_positions self.old) errors.old.items errors.new.items) }
-        ensures begins { OnOk result (BeginsAt (position pos ∷ []) errors.old.items errors.new.items) }
+        ensures begins { OnOk result (FirstStandsAt (position pos ∷ []) errors.old.items errors.new.items) }
         ensures placed { OnOk result (IsPlacedAmong (position pos ∷ table_positions self.old) self.new) }
     {
         let Some(id) = self.find_term(tyenv, term) else {
@@ -215,7 +215,7 @@ fn may_have_external(
     ensures free { IfOk result (λ b. b ≡ lacks_extractor (term_view entry.now).kind) }
     ensures noted { IfOk result (λ b. ReportsIf (not b) errors.old.items errors.new.items) }
     ensures places { OnOk result (NotesAt (position pos ∷ entry_positions (term_view entry.now)) errors.old.items errors.new.items) }
-    ensures begins { OnOk result (BeginsAt (position pos ∷ []) errors.old.items errors.new.items) }
+    ensures begins { OnOk result (FirstStandsAt (position pos ∷ []) errors.old.items errors.new.items) }
 {
     match &entry.kind {
         TermKind::Decl {
@@ -245,7 +245,7 @@ fn report_second(
 ) -> Result<(), AllocError>
     ensures noted { OnOk result (NotesMore errors.old.items errors.new.items) }
     ensures places { OnOk result (NotesAt (position pos ∷ taker_places earlier.now) errors.old.items errors.new.items) }
-    ensures begins { OnOk result (BeginsAt (position pos ∷ []) errors.old.items errors.new.items) }
+    ensures begins { OnOk result (FirstStandsAt (position pos ∷ []) errors.old.items errors.new.items) }
 {
     let (second, first) = match earlier {
         ExtractorKind::ExternalExtractor { .. } => (

@@ -11,7 +11,7 @@ ghost use Rattle.isle_terms.specs.Reading.{IsWithin, term_of_name};
 ghost use Rattle.isle_terms.specs.Signing.{Notes, ReadsTerms};
 ghost use Rattle.isle_terms.specs.Recursion.{ExtractorsRead};
 ghost use Rattle.isle_terms.specs.Standing.{RootsRead};
-ghost use Rattle.isle_terms.specs.TermBreaches.{BeginsAt};
+ghost use Rattle.isle_terms.specs.TermBreaches.{FirstStandsAt};
 ghost use Rattle.isle_terms.specs.TermViews.{term_view};
 ghost use Rattle.isle_terms.specs.Templating.{AddsFound, AreArguments, AreCallees, AreFound, CantTakeTemplate, HaveUnknown, IsTemplate, IsWrongTemplate, NameNothing, ReadsIfTemplate, ReadsExtractor, SetsCallees, TakesTemplate, TemplatesRead, may_have_template};
 ghost use Rattle.isle_terms.specs.TermPositions.{argument_places, entry_positions, table_positions, taker_places, IsPlacedAmong};
@@ -88,7 +88,7 @@ impl TermTable {
         ensures callees { OnOk result (AreCallees self.new callees.new.items) }
         ensures reads { IfOk result (λ b. ReadsIfTemplate (definition_view def.now) tyenv.now self.old callees.old.items errors.old.items self.new callees.new.items errors.new.items b) }
         ensures places { OnOk result (NotesAt (definition_positions (definition_view def.now) ++ table_positions self.old) errors.old.items errors.new.items) }
-        ensures begins { OnOk result (BeginsAt (definition_positions (definition_view def.now)) errors.old.items errors.new.items) }
+        ensures begins { OnOk result (FirstStandsAt (definition_positions (definition_view def.now)) errors.old.items errors.new.items) }
         ensures placed { OnOk result (IsPlacedAmong (definition_positions (definition_view def.now) ++ table_positions self.old) self.new) }
     {
         let Def::Extractor(extractor) = def else {
@@ -112,7 +112,7 @@ impl TermTable {
         ensures callees { OnOk result (AreCallees self.new callees.new.items) }
         ensures reads { IfOk result (λ b. ReadsExtractor (extractor_view extractor.now) tyenv.now self.old callees.old.items errors.old.items self.new callees.new.items errors.new.items b) }
         ensures places { OnOk result (NotesAt (extractor_positions (extractor_view extractor.now) ++ table_positions self.old) errors.old.items errors.new.items) }
-        ensures begins { OnOk result (BeginsAt (extractor_positions (extractor_view extractor.now)) errors.old.items errors.new.items) }
+        ensures begins { OnOk result (FirstStandsAt (extractor_positions (extractor_view extractor.now)) errors.old.items errors.new.items) }
         ensures placed { OnOk result (IsPlacedAmong (extractor_positions (extractor_view extractor.now) ++ table_positions self.old) self.new) }
     {
         let Some(id) = self.find_term(tyenv, &extractor.term) else {
@@ -143,7 +143,7 @@ impl TermTable {
             (IsTemplate (extractor_view extractor.now) id.0 tyenv.now self.old self.new callees.old.items callees.new.items)
             (IsWrongTemplate (extractor_view extractor.now) id.0 tyenv.now self.old)) }
         ensures places { OnOk result (NotesAt (extractor_positions (extractor_view extractor.now) ++ table_positions self.old) errors.old.items errors.new.items) }
-        ensures begins { OnOk result (BeginsAt (extractor_positions (extractor_view extractor.now)) errors.old.items errors.new.items) }
+        ensures begins { OnOk result (FirstStandsAt (extractor_positions (extractor_view extractor.now)) errors.old.items errors.new.items) }
         ensures placed { OnOk result (IsPlacedAmong (extractor_positions (extractor_view extractor.now) ++ table_positions self.old) self.new) }
     {
         let arguments = arguments_of(*errors.allocator(), &extractor.template)?;
@@ -242,7 +242,7 @@ impl TermTable {
             (TakesTemplate (extractor_view extractor.now) id.0 self.old self.new)
             (CantTakeTemplate (extractor_view extractor.now) id.0 self.old)) }
         ensures places { OnOk result (NotesAt (position extractor.now.pos ∷ table_positions self.old) errors.old.items errors.new.items) }
-        ensures begins { OnOk result (BeginsAt (position extractor.now.pos ∷ []) errors.old.items errors.new.items) }
+        ensures begins { OnOk result (FirstStandsAt (position extractor.now.pos ∷ []) errors.old.items errors.new.items) }
         ensures placed { OnOk result (IsPlacedAmong (extractor_positions (extractor_view extractor.now) ++ table_positions self.old) self.new) }
     {
         if !can_have_template(errors, &self.terms[id.index()], extractor.pos)? {
@@ -311,7 +311,7 @@ fn can_have_template(errors: &mut Vec<Error>, entry: &Term, pos: Pos) -> Result<
     ensures free { IfOk result (λ b. b ≡ may_have_template (term_view entry.now).kind) }
     ensures noted { IfOk result (λ b. ReportsIf (not b) errors.old.items errors.new.items) }
     ensures places { OnOk result (NotesAt (position pos ∷ entry_positions (term_view entry.now)) errors.old.items errors.new.items) }
-    ensures begins { OnOk result (BeginsAt (position pos ∷ []) errors.old.items errors.new.items) }
+    ensures begins { OnOk result (FirstStandsAt (position pos ∷ []) errors.old.items errors.new.items) }
 {
     match &entry.kind {
         TermKind::Decl {
@@ -351,7 +351,7 @@ fn report_again(
 ) -> Result<(), AllocError>
     ensures noted { OnOk result (NotesMore errors.old.items errors.new.items) }
     ensures places { OnOk result (NotesAt (position pos ∷ taker_places earlier.now) errors.old.items errors.new.items) }
-    ensures begins { OnOk result (BeginsAt (position pos ∷ []) errors.old.items errors.new.items) }
+    ensures begins { OnOk result (FirstStandsAt (position pos ∷ []) errors.old.items errors.new.items) }
 {
     report(errors, pos, "Duplicate extractor definition")?;
     let what = "Extractor was already defined here";

@@ -1,5 +1,5 @@
 use Rattle.std.proofs.Common.{refl, rules, sym, ◌∙◌}
-use Rattle.isle_run.specs.RunViews.{call_views, env_view, stage_of}
+use Rattle.isle_run.specs.RunViews.{call_views, env_view, stage_view}
 use Rattle.isle_run.proofs.BindSteps.{all_done, all_more, all_stopped, begins_here, begins_then}
 use Rattle.isle_run.proofs.binds.bind_all.Goals as goal
 
@@ -8,7 +8,7 @@ loop-site-init g c = record { bound = refl; kept = begins_here c.args.env.now.it
 
 pub loop-site-preserved : goal.loop-site-preserved
 loop-site-preserved g c =
-    let w = stage_of (g.E.Externs.functions c.args.stage.now.externs.now) c.args.stage.now.sites.now c.args.stage.now.multi c.args.stage.now.args.now in
+    let w = stage_view g.E.Externs.functions c.args.stage.now in
     record {
       bound = all_more w (env_view c.loop-site.env.items) (env_view c.bind_site.new.env.items) (call_views c.loop-site.calls.items) (call_views c.bind_site.new.calls.items) c.args.sites.now c.loop-site.site-index
           c.site-item.result c.in_ok-bound.bound _ (search rules) c.site-item.is c.in_ok-bound.ensures.bound (sym c.is_all.ensures ∙ c.if-not-is_all.false) c.loop-site.invariant.bound;
@@ -17,7 +17,7 @@ loop-site-preserved g c =
 
 pub returns-then-not-is_all : goal.returns-then-not-is_all
 returns-then-not-is_all g c =
-    let w = stage_of (g.E.Externs.functions c.args.stage.now.externs.now) c.args.stage.now.sites.now c.args.stage.now.multi c.args.stage.now.args.now in
+    let w = stage_view g.E.Externs.functions c.args.stage.now in
     record {
       bound = all_stopped w (env_view c.loop-site.env.items) (env_view c.bind_site.new.env.items) (call_views c.loop-site.calls.items) (call_views c.bind_site.new.calls.items) c.args.sites.now c.loop-site.site-index
           c.site-item.result c.in_ok-bound.bound _ (search rules) c.site-item.is c.in_ok-bound.ensures.bound (sym c.is_all.ensures ∙ c.if-not-is_all.true) c.loop-site.invariant.bound;
@@ -26,7 +26,7 @@ returns-then-not-is_all g c =
 
 pub returns : goal.returns
 returns g c =
-    let w = stage_of (g.E.Externs.functions c.args.stage.now.externs.now) c.args.stage.now.sites.now c.args.stage.now.multi c.args.stage.now.args.now in
+    let w = stage_view g.E.Externs.functions c.args.stage.now in
     record {
       bound = all_done w (env_view c.loop-site.env.items) (call_views c.loop-site.calls.items) c.args.sites.now c.loop-site.site-index _ (search rules) c.loop-site.invariant.bound;
       kept = c.loop-site.invariant.kept;

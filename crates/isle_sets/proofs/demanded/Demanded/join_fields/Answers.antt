@@ -1,8 +1,7 @@
 use Rattle.std.proofs.Common.{◌≡◌, [], ◌∷◌, length, map, drop, sym, ap, ◌∙◌, subst, arith}
 use Rattle.std.specs.Prelude.{IfErr}
 use Rattle.std.proofs.lemmas.List.{drop_all}
-use Rattle.isle_model.specs.sites.Sites.{unfold_site}
-use Rattle.isle_model.specs.sites.Closure.{field_terms}
+use Rattle.isle_model.specs.sites.Sites.{unfold_site, field_terms}
 use Rattle.isle_sets.specs.Closings.{AreFieldsOf, EndsFull, GoOn, with_fields, with_member}
 use Rattle.isle_sets.specs.SiteTables.{table_sites}
 use Rattle.isle_sets.specs.SiteViews.{constraint_view}

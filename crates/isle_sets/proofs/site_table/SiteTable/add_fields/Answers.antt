@@ -1,7 +1,6 @@
 use Rattle.std.proofs.Common.{map}
 use Rattle.std.proofs.lemmas.Result.{IfErr-weaker}
-use Rattle.isle_model.specs.sites.Sites.{is_variant, is_struct, match_variant_site, extract_struct_site, layer, unfold_site}
-use Rattle.isle_model.specs.sites.Closure.{field_terms}
+use Rattle.isle_model.specs.sites.Sites.{is_variant, is_struct, match_variant_site, extract_struct_site, layer, unfold_site, field_terms}
 use Rattle.isle_model.specs.sites.SetRules.{each_place}
 use Rattle.isle_sets.specs.SiteTables.{table_sites, AddsSites, AddsFields, LacksRoom}
 use Rattle.isle_sets.proofs.FullTables.{same_lack}

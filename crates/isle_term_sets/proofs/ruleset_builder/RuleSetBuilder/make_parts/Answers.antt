@@ -1,7 +1,6 @@
 use Rattle.std.proofs.Common.{◌≡◌, ◌<◌, [], subst, sym, arith}
-use Rattle.isle_model.specs.sites.Sites.{unfold_site}
+use Rattle.isle_model.specs.sites.Sites.{unfold_site, fields_from}
 use Rattle.isle_model.specs.visits.Demands.{making}
-use Rattle.isle_model.specs.sites.Closure.{fields_from}
 use Rattle.isle_term_sets.specs.VisitedSites.{EndsBefore, MakesAll, built_sites, part_of}
 use Rattle.isle_term_sets.proofs.BuilderFields.{none_made, part_below, part_made, part_ends}
 use Rattle.isle_sets.proofs.FullTables.{passed_on}

@@ -1,8 +1,7 @@
 use Rattle.std.proofs.Common.{◌≡◌, ◌<◌, List, length}
 use Rattle.std.specs.Prelude.{vec_len}
-use Rattle.isle_model.specs.sites.Sites.{SiteTerm, unfold_site}
+use Rattle.isle_model.specs.sites.Sites.{SiteTerm, unfold_site, fields_from}
 use Rattle.isle_model.specs.visits.Demands.{Visit}
-use Rattle.isle_model.specs.sites.Closure.{fields_from}
 use Rattle.isle_term_sets.specs.VisitedSites.{MakesAll, StandsAt, built_sites, part_of}
 use Rattle.isle_term_sets.proofs.ruleset_builder.RuleSetBuilder.make_parts.Given as goal
 

@@ -2,7 +2,7 @@ use Rattle.std.proofs.Common.{ℕ}
 use Rattle.isle_model.specs.sites.Sites.{SiteTerm, extractor_call, unfold_site}
 use Rattle.isle_term_sets.specs.VisitedSites.{built_sites}
 use Rattle.isle_term_sets.specs.declared.ruleset_builder.RuleSetBuilder.{RuleSetBuilder}
-use Rattle.isle_term_sets.proofs.BuilderFields.{below_one, call_opens, call_ends, answer_ends, outputs_end}
+use Rattle.isle_term_sets.proofs.BuilderFields.{below_one, call_opens, open_call_ends, answer_ends, outputs_end}
 use Rattle.isle_sets.proofs.FullTables.{passed_on}
 use Rattle.isle_term_sets.proofs.ruleset_builder.RuleSetBuilder.open_extractor.Goals as goal
 
@@ -25,7 +25,7 @@ returns-clause-full c before v flags args h l is e =
 pub returns-in_err-call-clause-full : goal.returns-in_err-call-clause-full
 returns-in_err-call-clause-full c before v flags args h l is e =
     passed_on c.from_residual.result c.in_err-call.field-0.0 _ c.from_residual.ensures
-    (call_ends before v flags c.args.multi c.args.infallible is (call_for c.args.self.now c.args.term.0 c.args.input) args c.args.count c.make.new.self c.in_err-call.field-0.0
+    (open_call_ends before v flags c.args.multi c.args.infallible is (call_for c.args.self.now c.args.term.0 c.args.input) args c.args.count c.make.new.self c.in_err-call.field-0.0
     (c.in_err-call.ensures.full before v h (below_one c.args.self.now c.args.input l)))
 
 pub returns-in_err-site-clause-full : goal.returns-in_err-site-clause-full

@@ -1,8 +1,7 @@
 use Rattle.std.proofs.Common.{◌≡◌, ◌≤◌, subst, arith}
 use Rattle.isle_model.specs.sites.Sites.{is_struct, unfold_site}
 use Rattle.isle_model.specs.sites.Limits.{most_fields}
-use Rattle.isle_model.specs.visits.Demands.{counting, fields_matched}
-use Rattle.isle_model.specs.visits.SiteVisitor.{fields_opened}
+use Rattle.isle_model.specs.visits.Demands.{counting, fields_matched, fields_opened}
 use Rattle.isle_term_sets.specs.VisitedSites.{OpensTo, built_sites}
 use Rattle.isle_term_sets.proofs.BuilderFields.{fields_open}
 use Rattle.isle_term_sets.proofs.BuilderSteps.{counted_stands, fields_pass}

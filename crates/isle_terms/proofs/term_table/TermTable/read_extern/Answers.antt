@@ -1,4 +1,4 @@
-use Rattle.isle_terms.specs.TermBreaches.{BeginsAt}
+use Rattle.isle_terms.specs.TermBreaches.{FirstStandsAt}
 use Rattle.isle_terms.proofs.Breaches.{begins_among, begins_noted}
 use Rattle.std.proofs.Common.{[], ◌++◌, refl, sym, subst}
 use Rattle.std.proofs.lemmas.Result.{on_ok_weaker}
@@ -73,12 +73,12 @@ pub returns-in_ok-name-in-Constructor-clause-begins : goal.returns-in_ok-name-in
 returns-in_ok-name-in-Constructor-clause-begins c =
     let x = c.in-Constructor in
     on_ok_weaker c.read_constructor.result (λ r.
-    subst (λ d. BeginsAt (extern_positions (extern_view d)) c.args.errors.now.items c.read_constructor.new.errors.items) (sym x.is)
+    subst (λ d. FirstStandsAt (extern_positions (extern_view d)) c.args.errors.now.items c.read_constructor.new.errors.items) (sym x.is)
     (begins_among _ _ _ _ (extern_at (position x.pos) (position x.term.1) (position x.func.1) []) (begins_noted _ _ _ r))) c.read_constructor.ensures.places
 
 pub returns-in_ok-name-in-Extractor-clause-begins : goal.returns-in_ok-name-in-Extractor-clause-begins
 returns-in_ok-name-in-Extractor-clause-begins c =
     let x = c.in-Extractor in
     on_ok_weaker c.read_extractor.result (λ r.
-    subst (λ d. BeginsAt (extern_positions (extern_view d)) c.args.errors.now.items c.read_extractor.new.errors.items) (sym x.is)
+    subst (λ d. FirstStandsAt (extern_positions (extern_view d)) c.args.errors.now.items c.read_extractor.new.errors.items) (sym x.is)
     (begins_among _ _ _ _ (extern_at (position x.pos) (position x.term.1) (position x.func.1) []) r)) c.read_extractor.ensures.begins

@@ -1,4 +1,4 @@
-use Rattle.isle_terms.specs.TermBreaches.{BeginsAt}
+use Rattle.isle_terms.specs.TermBreaches.{FirstStandsAt}
 use Rattle.isle_terms.proofs.Breaches.{begins_noted}
 use Rattle.std.proofs.Common.{◌≡◌, [], ◌∷◌, Some, true, false, not, length, get_or, refl, sym, ap, subst, ◌∙◌, inl, inr, ⊎_elim, slice_get, rules}
 use Rattle.std.proofs.Math.ListN.{set}
@@ -111,4 +111,4 @@ pub returns-clause-begins : goal.returns-clause-begins
 returns-clause-begins c =
     let free : c.in_ok-can_have_template.field-0 ≡ true = search rules in
     let noted : c.can_have_template.new.errors.items ≡ c.args.errors.now.items = subst (λ b. ReportsIf (not b) c.args.errors.now.items c.can_have_template.new.errors.items) free c.in_ok-can_have_template.ensures.noted in
-    subst (λ l. BeginsAt (position c.args.extractor.now.pos ∷ []) l c.check_arguments.new.errors.items) noted (begins_noted _ _ _ c.in_ok-check_arguments.ensures.places)
+    subst (λ l. FirstStandsAt (position c.args.extractor.now.pos ∷ []) l c.check_arguments.new.errors.items) noted (begins_noted _ _ _ c.in_ok-check_arguments.ensures.places)

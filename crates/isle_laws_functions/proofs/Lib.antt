@@ -1,4 +1,0 @@
-pub mod Equations
-pub mod UnderMeanings
-pub mod Asking
-pub mod Choosing

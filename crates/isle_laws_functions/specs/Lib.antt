@@ -1,3 +1,0 @@
-pub mod RunBy
-pub mod ChoiceBy
-pub mod FunctionLaws
