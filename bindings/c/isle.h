@@ -1,4 +1,7 @@
-// The proved compiler of ISLE definitions, called from C: one function.
+// The compiler of ISLE definitions, called from C: one function.
+//
+// What definitions become is proved: their trees, or errors. Which definitions a text gives, and what is printed of trees
+// (Rust code too), is tested, and not proved.
 //
 // Link libisle_capi.a (`rt lib` in crates/isle_capi makes it, in the folder out there) and the toolchain's liblibc_c.a (in its
 // folder c), which hands the library's requests for memory to malloc, realloc and free. Both are for x86-64 Linux.
@@ -75,6 +78,13 @@ enum isle_status {
 //   - stack: 8 MB do for definitions that nest up to 1,000 levels, which is as deep as a text may nest. Internal extractors that
 //     use one another make rules 256 times as deep, which take up to half a gigabyte (docs/SPEED.md, "Deep texts").
 // Any number of threads may call at once. Nothing is kept between calls.
+//
+// The proof of trees asks this of what they call, and of what their Rust code calls:
+//   - extractors and pure constructors are functions of their arguments, without effect: trees share such calls, make them
+//     early and repeat them;
+//   - different constants of one type that patterns name differ in value;
+//   - no pattern names a constant of an enum or struct type.
+// The compiler checks none of these.
 uint32_t isle_capi_lower(const uint8_t *bytes, size_t bytes_length,
                          const struct isle_file *files, size_t files_length,
                          const struct isle_options *options,

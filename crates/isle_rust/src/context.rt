@@ -7,9 +7,19 @@ use cranelift_isle::sema::{ExternalSig, ReturnKind, Term};
 use std::alloc::AllocError;
 use std::collections::HashMap;
 
+// What the trait's functions and the constants owe: the premises of what is proved of trees.
+const OWED: &str = "
+/// The functions that the rules call.
+///
+/// Extractors and `pure` constructors must be functions of their arguments, without effect: the
+/// code shares such calls, makes them early and repeats them. Different constants of one type that
+/// patterns name must differ in value. No pattern may name a constant of an enum or struct type.
+/// What is proved of the trees rests on this. The compiler checks none of it.
+";
+
 /// Adds the trait: a function for each external constructor and extractor, each name once.
 pub(crate) fn push_context(out: &mut String, program: Program<'_>) -> Result<(), CodeError> {
-    out.push('\n')?;
+    out.push_str(OWED)?;
     out.push_str(ALLOWED)?;
     out.push_str("pub trait Context {\n")?;
     let mut seen = HashMap::new(program.alloc);

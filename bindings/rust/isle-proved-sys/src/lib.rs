@@ -1,4 +1,4 @@
-//! The static library of the proved ISLE compiler as it is: one unsafe function. `isle-proved` makes it safe, and
+//! The static library of the ISLE compiler as it is: one unsafe function. `isle-proved` makes it safe, and
 //! `bindings/c/isle.h` says what the numbers mean and what the caller owes. Nothing compares these declarations with the library.
 
 /// How many bytes a file's name takes, and its text.

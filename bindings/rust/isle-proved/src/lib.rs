@@ -1,4 +1,7 @@
-//! The proved compiler of ISLE definitions, for build scripts and tools.
+//! The compiler of ISLE definitions, for build scripts and tools.
+//!
+//! What definitions become is proved: their trees, or errors. Which definitions a text gives, and what is printed of trees
+//! (Rust code too), is tested, and not proved.
 //!
 //! A build script of three lines compiles rules to Rust code:
 //!
@@ -8,8 +11,8 @@
 //! }
 //! ```
 //!
-//! A module takes the code in by `include!(concat!(env!("OUT_DIR"), "/rules.rs"));`. What it has, and wants from the module
-//! above, says `docs/RUST-CODE.md`.
+//! A module takes the code in by `include!(concat!(env!("OUT_DIR"), "/rules.rs"));`. `docs/RUST-CODE.md` says what the code
+//! has, what it wants from the module above, and what a `Context` owes.
 //!
 //! All files of a call are one list of definitions. Each is handed in by its name, which stands in what is told of it, and its
 //! text.
