@@ -1,11 +1,15 @@
 -- Built sets, their errors and what is found in them.
 use Rattle.std.proofs.Common.{◌≡◌, ℕ, Bool, List, [], ◌++◌, map, slice_get, Some, None, sym, ap, subst, ◌∙◌}
+use Rattle.std.specs.Prelude.{Result, Ok, Err, IfOk}
+use Rattle.std.specs.Global.{Vec}
 use Rattle.std.proofs.lemmas.List.{map-append}
+use Rattle.isle_base.specs.declared.syntax.Fault.{Fault}
+use Rattle.isle_laws_trees.specs.NoLimits.{BuildsWithinLimits}
 use Rattle.isle_model.specs.rules.Program.{Program, kind_of, flags_of, unknown, is_multi}
 use Rattle.isle_model.specs.lists.Tables.{TermEntry}
 use Rattle.isle_model.specs.sites.Overlap.{RuleReport, check_reports}
 use Rattle.isle_model.specs.sites.SetRules.{reports_of_sets}
-use Rattle.isle_model.specs.claims.Layers.{CheckAnswers}
+use Rattle.isle_model.specs.claims.Layers.{CheckAnswers, IsCheckable}
 use Rattle.isle_model.specs.claims.Refusals.{refusal_of}
 use Rattle.isle_laws_closure.specs.SetReportLaws.{all_reports}
 use Rattle.isle_model.proofs.Mapped.{nothing_mapped}
@@ -17,9 +21,14 @@ use Rattle.isle_rules.specs.declared.term_env.TermEnv.{TermEnv}
 use Rattle.isle_sets.specs.declared.trie_again.RuleSet.{RuleSet}
 use Rattle.isle_term_sets.specs.AddedRules.{report_views}
 use Rattle.isle_builder.specs.Built.{term_set_views, WereBuilt}
-use Rattle.cranelift_isle.specs.Checks.{env_program, NamesRules, ReportsAreErrors}
+use Rattle.cranelift_isle.specs.Checks.{env_program, IsChecked, NamesRules, ReportsAreErrors}
 use Rattle.cranelift_isle.proofs.NamedPlaces.{reports_name_rules}
 use Rattle.isle_base.specs.ErrorViews.{error_view, error_views}
+
+-- where the rules of a program can be told apart, what is so of all such programs is so of it
+pub within : (p : Program) (result : Result (Vec (TermId × RuleSet)) Fault) → (IsCheckable p → BuildsWithinLimits p) → IsChecked p result → IfOk result (λ sets. BuildsWithinLimits p)
+within p (Ok sets) law checked = law checked.checkable
+within p (Err f) law checked = tt
 
 abbrev multi_among : List TermEntry → ℕ → Bool
 multi_among terms t = (flags_of (elim (slice_get terms t) [ None ↦ unknown | Some e ↦ kind_of e ])).multi

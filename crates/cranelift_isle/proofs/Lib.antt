@@ -5,3 +5,4 @@ pub mod Checked
 pub mod OneAnswer
 pub mod NamedErrors
 pub mod NamedPlaces
+pub mod ErrorsOfReading

@@ -15,16 +15,15 @@ use Rattle.isle_model.specs.rules.Program.{Program}
 use Rattle.isle_model.specs.sites.RuleSets.{IsBuilt}
 use Rattle.isle_model.specs.claims.Environments.{TypesRead, types_read, setting_of, IsElaborated, IsRead, TypeEnvironment, AreRulesOf, program_of}
 use Rattle.isle_model.specs.claims.Layers.{own_program, IsAccepted, IsBuiltForSome, CheckAnswers, LoweredTerm, AreLowered, LoweringAnswers, RefusedBy, by_check, BestTreesKeepTheHeadline}
-use Rattle.isle_model.specs.claims.Refusals.{Refusal, refusal_of, NamesOnlyPassed, PassedInReading, PassedInBuilding, RefusesTypes, RefusesRules}
+use Rattle.isle_model.specs.claims.Refusals.{Refusal, refusal_of, NamesOnlyPassed, PassedInBuilding}
 use Rattle.isle_model.proofs.Elements.{none_some}
 use Rattle.isle_model.proofs.Mapped.{nothing_mapped}
-use Rattle.isle_laws_trees.specs.NoLimits.{PassedInLowering, in_reading, in_building}
+use Rattle.isle_laws_trees.specs.NoLimits.{PassedInLowering, in_building}
 use Rattle.isle_laws_trees.specs.OneTree.{IsOnlyBest, LoweredTreesAreOnlyBest}
 use Rattle.isle_laws_trees.specs.OneAnswer.{AreCheckErrors}
 use Rattle.isle_laws_trees.specs.WholeDemands.{AcceptedDemandsAreWhole, AcceptedSetsAreWhole}
 use Rattle.isle_laws_trees.proofs.NoReadLimits.{elaborated_rules_are_within_limits_lem}
 use Rattle.isle_laws_closure.specs.ShadowLaws.{check_errors}
-use Rattle.isle_rules.specs.LimitsNamed.{NamesTypedPastLimits, NamesFirstPastLimits}
 use Rattle.isle_types.specs.declared.ids.TermId.{TermId}
 use Rattle.isle_base.specs.ErrorViews.{error_views}
 use Rattle.isle_rules.specs.ShownEnvs.{environment_shown_by}
@@ -34,7 +33,8 @@ use Rattle.isle_builder.specs.Built.{IsOfElaborated, ShowsElaborated, term_set_v
 use Rattle.cranelift_isle.specs.Checks.{IsChecked, NamesRules, OfErrors, ReportsAreErrors}
 use Rattle.cranelift_isle.proofs.NamedPlaces.{rules_stand}
 use Rattle.cranelift_isle.specs.declared.lower.Lowered.{Lowered}
-use Rattle.cranelift_isle.specs.Lowerings.{set_of_term, AreAccepted, IsLowered, OfAccepted, ChooseAsSource, CollectBags, SharesTests, DemandWhole, SetsAreWhole, NamesLackedLimits}
+use Rattle.cranelift_isle.specs.Lowerings.{set_of_term, AreAccepted, IsLowered, OfAccepted, ChooseAsSource, CollectBags, SharesTests, DemandWhole, SetsAreWhole}
+use Rattle.cranelift_isle.specs.Environments.{BreaksWhereRefused, NamesLackedLimits}
 
 same_rules : (a b : TypedRules) → Some a ≡ Some b → a ≡ b
 same_rules a b e = cc
@@ -190,6 +190,14 @@ module _ {defs : List Definition} {expand : Bool} {env : TermEnv} {types : TypeE
   lacked_as (Errors es) = none_lacked (error_views es.items)
   lacked_as (Memory m) = tt
 
+  -- and nothing lacks a type or a typed rule
+  none_broken : (es : List Error) → BreaksWhereRefused defs expand es
+  none_broken es = record { types = λ no. absurd (no read.valid); rules = λ valid no. absurd (no (rules, elaborated)) }
+
+  breach_as : (f : Fault) → OnErrors {A = Lowered} (Err f) (λ es. BreaksWhereRefused defs expand es)
+  breach_as (Errors es) = none_broken es.items
+  breach_as (Memory m) = tt
+
   limits_as : (f : Fault) → IsChecked p (Err f) → OnErrors {A = Lowered} (Err f) (λ es. NamesOnlyPassed (PassedInLowering defs expand) (error_views es))
   limits_as (Errors es) c = passed_in_building es.items c
   limits_as (Memory m) c = tt
@@ -217,31 +225,8 @@ module _ {defs : List Definition} {expand : Bool} {env : TermEnv} {types : TypeE
     pub named_of_check : OnErrors r (λ es. NamesLackedLimits defs expand (error_views es))
     named_of_check = subst (λ x. OnErrors x (λ es. NamesLackedLimits defs expand (error_views es))) (sym is) (lacked_as f)
 
+    pub breach_of_check : OnErrors r (λ es. BreaksWhereRefused defs expand es)
+    breach_of_check = subst (λ x. OnErrors x (λ es. BreaksWhereRefused defs expand es)) (sym is) (breach_as f)
+
     pub limits_of_check : OnErrors r (λ es. NamesOnlyPassed (PassedInLowering defs expand) (error_views es))
     limits_of_check = subst (λ x. OnErrors x (λ es. NamesOnlyPassed (PassedInLowering defs expand) (error_views es))) (sym is) (limits_as f (checked_as (Err f) check))
-
--- 5. errors of reading: what they give of an answer's errors, they give of another answer with these
-pub errors_so : (A B : Type 0) (f : Fault) (P Q : List Error → Type 0) → ((es : List Error) → P es → Q es) → OnErrors {A = B} (Err f) P → OnErrors {A = A} (Err f) Q
-errors_so A B (Errors es) P Q give h = give es.items h
-errors_so A B (Memory m) P Q give h = tt
-
-pub passed_in_reading : (defs : List Definition) (expand : Bool) → IsValidTypes defs → (es : List Error) → NamesOnlyPassed (PassedInReading (types_read defs) defs expand) (error_views es)
-    → NamesOnlyPassed (PassedInLowering defs expand) (error_views es)
-passed_in_reading defs expand valid es limits l at is = in_reading l at valid (limits l at is)
-
--- of definitions that aren't read nothing is asked
-pub unread_types : (defs : List Definition) (expand : Bool) (errors : List Refusal) → RefusesTypes defs errors → AreCheckErrors defs expand errors
-unread_types defs expand errors r rules read = absurd (r.not_valid read.types)
-
-pub unread_rules : (defs : List Definition) (expand : Bool) (errors : List Refusal) → RefusesRules (types_read defs) defs expand errors → AreCheckErrors defs expand errors
-unread_rules defs expand errors r rules read = absurd (r.no_rules (rules, read.elaborated))
-
--- nor of types that aren't valid
-pub no_valid_types : (defs : List Definition) (expand : Bool) (errors : List Refusal) → RefusesTypes defs errors → NamesLackedLimits defs expand errors
-no_valid_types defs expand errors r = record { each_rule = λ valid. absurd (r.not_valid valid); first_rule = λ valid. absurd (r.not_valid valid) }
-
--- limits that are lacked are named by the errors of rules
-pub lacked_in_reading : (defs : List Definition) (expand : Bool) (A : Type 0) (f : Fault) → OnErrors {A = A} (Err f) (λ es. NamesTypedPastLimits (types_read defs) defs expand (error_views es))
-    → OnErrors {A = A} (Err f) (λ es. NamesFirstPastLimits (types_read defs) defs expand (error_views es)) → OnErrors {A = Lowered} (Err f) (λ es. NamesLackedLimits defs expand (error_views es))
-lacked_in_reading defs expand A (Errors es) each first = record { each_rule = λ valid. each; first_rule = λ valid. first }
-lacked_in_reading defs expand A (Memory m) each first = tt

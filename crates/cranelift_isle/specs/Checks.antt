@@ -40,11 +40,15 @@ IsChecked p (Ok sets) = CheckAnswers p (term_set_views sets.items)
 IsChecked p (Err (Errors es)) = ReportsAreErrors p es.items
 IsChecked p (Err (Memory e)) = ⊤
 
--- what holds of the errors that checking an environment answers, for each list that the environment is of
-abbrev pub OfErrors : TermEnv → Result (Vec (TermId × RuleSet)) Fault → (Program → List Refusal → Type 0) → Type 0
-OfErrors env result P =
+-- what holds of the program of each list that an environment is of
+abbrev pub OfProgram : TermEnv → (Program → Type 0) → Type 0
+OfProgram env P =
     (e : TypesRead) (defs : List Definition) (expand : Bool) (rules : TypedRules) → IsElaborated e defs expand rules → ShowsElaborated e defs rules env
-    → OnErrors result (λ es. P (program_of e defs rules.rules) (error_views es))
+    → P (program_of e defs rules.rules)
+
+-- what holds of the errors that checking an environment answers
+abbrev pub OfErrors : TermEnv → Result (Vec (TermId × RuleSet)) Fault → (Program → List Refusal → Type 0) → Type 0
+OfErrors env result P = OfProgram env (λ p. OnErrors result (λ es. P p (error_views es)))
 
 -- where the rules of a program stand
 abbrev pub rule_places : Program → List Position

@@ -1,2 +1,3 @@
 pub mod Lowerings
 pub mod Checks
+pub mod Environments

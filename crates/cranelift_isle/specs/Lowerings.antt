@@ -1,22 +1,18 @@
 -- What lowering a list of definitions gives.
 use Rattle.std.specs.Prelude.{◌≡◌, ℕ, Bool, List, map, All}
 use Rattle.isle_model.specs.lists.Syntax.{Definition}
-use Rattle.isle_model.specs.lists.TypeTable.{IsValidTypes}
 use Rattle.isle_model.specs.lists.Elaborated.{TypedRules}
 use Rattle.isle_model.specs.rules.Program.{Program}
 use Rattle.isle_model.specs.sites.Sites.{SiteSet}
 use Rattle.isle_model.specs.trees.Trees.{Tree}
 use Rattle.isle_model.specs.trees.Best.{IsBestTree}
 use Rattle.isle_model.specs.trees.Collects.{CollectsTheBag}
-use Rattle.isle_model.specs.claims.Environments.{types_read}
 use Rattle.isle_model.specs.claims.Headline.{RunsAsChosen}
 use Rattle.isle_model.specs.claims.Layers.{own_program, IsAccepted, LoweredTerm, LoweringAnswers, TestsAreShared, MeansItsSet, BindsBeforeUse}
-use Rattle.isle_model.specs.claims.Refusals.{Refusal}
 use Rattle.isle_model.specs.claims.SetMeanings.{DemandsAreWhole}
 use Rattle.isle_laws_trees.specs.OneAnswer.{EachTwo, BecameSame}
 use Rattle.isle_laws_trees.specs.WholeDemands.{IsWhole}
 use Rattle.isle_types.specs.EnvViews.{environment_view}
-use Rattle.isle_rules.specs.LimitsNamed.{NamesTypedPastLimits, NamesFirstPastLimits}
 use Rattle.isle_rules.specs.ShownEnvs.{environment_shown_by}
 use Rattle.isle_sets.specs.SiteViews.{set_view}
 use Rattle.isle_serialize.specs.TreeViews.{tree_view}
@@ -86,9 +82,3 @@ SetsAreWhole ts p = All (λ t. IsWhole p t.term t.set) ts
 -- the closed demands of the rules of each term are all that follows from what the rules ask
 abbrev pub DemandWhole : List LoweredTerm → Program → Type 0
 DemandWhole ts p = All (λ t. DemandsAreWhole p t.term) ts
-
--- where the types are valid, an error names a limit on expansions at each rule that lacks nothing but these limits; and where
--- the rules of the whole list lack nothing else, at the first one that has no typed rule within them
-pub record NamesLackedLimits (defs : List Definition) (expand : Bool) (errors : List Refusal) : Type 0 where
-  pub each_rule : IsValidTypes defs → NamesTypedPastLimits (types_read defs) defs expand errors
-  pub first_rule : IsValidTypes defs → NamesFirstPastLimits (types_read defs) defs expand errors

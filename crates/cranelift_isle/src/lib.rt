@@ -6,6 +6,7 @@ pub use isle_base::{stablemapset, syntax};
 pub use isle_disjointsets::disjointsets;
 pub use isle_serialize::serialize;
 
+pub mod environments;
 pub mod lower;
 pub mod overlap;
 pub mod sema;

@@ -13,8 +13,10 @@ ghost use Rattle.isle_base.specs.ErrorViews.{error_views};
 ghost use Rattle.isle_builder.specs.Built.{term_set_views};
 ghost use Rattle.isle_sets.specs.SiteViews.{set_view};
 ghost use Rattle.isle_serialize.specs.TreeViews.{tree_view};
-ghost use Rattle.cranelift_isle.specs.Lowerings.{lowered_views, set_of_term, AreAccepted, IsLowered, OfAccepted, ChooseAsSource, SharesTests, CollectBags, BindsBeforeAnyUse, DemandWhole, SetsAreWhole, NamesLackedLimits, LoweringIsAFunction};
+ghost use Rattle.cranelift_isle.specs.Environments.{BreaksWhereRefused, NamesLackedLimits};
+ghost use Rattle.cranelift_isle.specs.Lowerings.{lowered_views, set_of_term, AreAccepted, IsLowered, OfAccepted, ChooseAsSource, SharesTests, CollectBags, BindsBeforeAnyUse, DemandWhole, SetsAreWhole, LoweringIsAFunction};
 
+use crate::environments::{Environments, environments_of};
 use crate::overlap::check;
 use isle_base::syntax::{Def, Fault};
 use isle_laws_trees::{
@@ -110,6 +112,9 @@ pub fn lower(alloc: Global, defs: &[Def], expand: bool) -> Result<Lowered, Fault
     // errors say by which pass the definitions are refused, and why
     ensures refused { OnErrors result (λ es. RefusedBy (definition_views defs.now) expand (error_views es)) }
 
+    // where definitions can't be read, the first error stands where a condition is broken
+    ensures breach { OnErrors result (λ es. BreaksWhereRefused (definition_views defs.now) expand es) }
+
     // where the types are valid, the errors are exactly those of the check, in order, if each rule has a typed rule
     ensures exact { OnErrors result (λ es. AreCheckErrors (definition_views defs.now) expand (error_views es)) }
 
@@ -129,8 +134,7 @@ pub fn lower(alloc: Global, defs: &[Def], expand: bool) -> Result<Lowered, Fault
     accepted_pass_no_limit();
     accepted_demands_are_whole();
     accepted_sets_are_whole();
-    let mut tyenv = TypeEnv::from_ast(alloc, defs)?;
-    let termenv = TermEnv::from_ast(alloc, &mut tyenv, defs, expand)?;
+    let Environments { tyenv, termenv } = environments_of(alloc, defs, expand)?;
     let sets = check(alloc, &termenv)?;
     let terms = trees_of(alloc, sets)?;
     Ok(Lowered {

@@ -8,18 +8,20 @@ ghost use Rattle.isle_model.specs.claims.Environments.{IsElaborated, TypesRead, 
 ghost use Rattle.isle_model.specs.sites.Overlap.{RuleReport};
 ghost use Rattle.isle_model.specs.sites.SetRules.{reports_of_sets};
 ghost use Rattle.isle_laws_closure.specs.ErrorLaws.{NamesLeftOut, NamesPairs, NamesMasks};
+ghost use Rattle.isle_laws_trees.specs.NoLimits.{BuildsWithinLimits};
 ghost use Rattle.isle_base.specs.Answers.{OnErrors};
 ghost use Rattle.isle_base.specs.ErrorViews.{error_views};
 ghost use Rattle.isle_base.specs.Positions.{HasSingleSpans};
 ghost use Rattle.isle_term_sets.specs.AddedRules.{report_views};
 ghost use Rattle.isle_builder.specs.Built.{IsOfElaborated, ShowsElaborated, WereBuilt, term_set_views};
-ghost use Rattle.cranelift_isle.specs.Checks.{IsChecked, NamesRules, OfErrors, env_program};
+ghost use Rattle.cranelift_isle.specs.Checks.{IsChecked, NamesRules, OfErrors, OfProgram, env_program};
 
 use isle_base::syntax::{Error, Fault};
 use isle_builder::build::build;
 use isle_laws_closure::{
     check_errors_name_left_out, check_errors_name_masks, check_errors_name_pairs,
 };
+use isle_laws_trees::checkable_programs_pass_no_limit;
 use isle_overlap::overlap::Errors;
 use isle_rules::TermEnv;
 use isle_sets::trie_again::RuleSet;
@@ -122,11 +124,15 @@ pub fn check(alloc: Global, termenv: &TermEnv) -> Result<Vec<(TermId, RuleSet)>,
     // by no other
     ensures masks { OfErrors termenv.now result NamesMasks }
 
+    // where they can be told apart, none passes a limit on what it makes
+    ensures within_limits { OfProgram termenv.now (λ p. IfOk result (λ sets. BuildsWithinLimits p)) }
+
     // an error names only positions of rules, and each of its spans is that of one position
     ensures places { OfErrors termenv.now result NamesRules }
     ensures single { OnErrors result (λ es. All HasSingleSpans es) }
 {
-    // laws, without code: what the errors name
+    // laws, without code: what the errors name, and that no limit is passed where there is none
+    checkable_programs_pass_no_limit();
     check_errors_name_left_out();
     check_errors_name_pairs();
     check_errors_name_masks();

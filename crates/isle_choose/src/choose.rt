@@ -199,8 +199,12 @@ fn no_rule(alloc: Global) -> Outcome
 /// What a term comes to on arguments by its source rules, under what is called: the matching rule of greatest priority is
 /// taken, its right side gives the result or fails, and the impure calls that it makes are listed in order; or no rule
 /// matches, and the outcome ran through. `terms` and `rules` are those of a `TermEnv`, of which the rules of `term` are
-/// looked at, and `args` has one value for each argument. A multi term has further results, which this doesn't give: its
-/// tree's run does.
+/// looked at, and `args` has one value for each argument.
+///
+/// Of a multi term this gives the outcome of the first rule that matches, and no further results: its tree's run gives all. A
+/// call that answers `Many` has no single value here. So a rule with a multi extractor in its patterns, or with an if-let whose
+/// value needs a multi call, never matches. A rule that is taken fails where its right side makes an impure multi call, or where
+/// its result or an impure call needs a pure multi call.
 ///
 /// Where calls are well-typed functions that tell constants apart, a tree that `lower` gives of a term that isn't multi runs
 /// to the same outcome on well-typed arguments.

@@ -9,9 +9,13 @@ use Rattle.isle_model.specs.claims.Environments.{types_read, TypesRead, setting_
 use Rattle.isle_model.specs.claims.Layers.{own_program, IsAccepted, IsCheckable}
 use Rattle.isle_model.specs.claims.Refusals.{NamedLimit, PassedInReading, PassedInBuilding}
 
--- no rule of a program whose rules can be told apart passes a limit while it is built
+-- no rule of a program passes a limit while it is built
+abbrev pub BuildsWithinLimits : Program → Type 0
+BuildsWithinLimits p = (l : NamedLimit) (at : Position) → PassedInBuilding p l at → ⊥
+
+-- that is so where its rules can be told apart
 abbrev pub CheckableProgramsPassNoLimit : Type 0
-CheckableProgramsPassNoLimit = (p : Program) → IsCheckable p → (l : NamedLimit) (at : Position) → PassedInBuilding p l at → ⊥
+CheckableProgramsPassNoLimit = (p : Program) → IsCheckable p → BuildsWithinLimits p
 
 -- each rule of a list that elaborates has a typed rule within the limits on expansions, also from the names of the terms alone
 abbrev pub ElaboratedRulesAreWithinLimits : Type 0

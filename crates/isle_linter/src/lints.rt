@@ -1,12 +1,12 @@
 //! What is wrong with rules, and which can never run.
 
+use cranelift_isle::environments::environments_of;
 use cranelift_isle::lower::{LoweredTerm, lower};
 use cranelift_isle::sema::{RuleId, TermEnv, TypeEnv};
 use cranelift_isle::serialize::ControlFlow;
 use cranelift_isle::syntax::{Def, Error, Fault, Pos};
 use isle_answers::answers::Answer;
 use isle_answers::texts::syntax_error_line;
-use isle_reading::environments::environments_of;
 use isle_reading::names::rule_name;
 use isle_reading::positions::{rules_at, rules_named};
 use isle_reading::premises::is_multi;

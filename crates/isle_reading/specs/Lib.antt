@@ -1,4 +1,3 @@
-pub mod Environments
 pub mod Lookups
 pub mod Named
 pub mod Premises

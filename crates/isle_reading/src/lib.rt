@@ -2,7 +2,6 @@
 //! tree.
 #![tactic(auto)]
 
-pub mod environments;
 pub mod in_place;
 pub mod names;
 pub mod positions;

@@ -278,8 +278,9 @@ fn run_each<E: Externs>(
 
 /// The run of a tree on arguments, from nothing, under what is called: the impure calls that were made and the results given,
 /// in order, and how it ends. `block` is a tree whose sites are those of `set`, `args` has one value for each argument, and
-/// `multi` says whether the term is multi. A site that holds nothing of the form that is used ends it as stuck, which no
-/// tree of `lower` is on well-typed arguments, by well-typed functions.
+/// `multi` says whether the term is multi. A site that holds nothing of the form that is used ends it as stuck. No tree that
+/// `lower` gives of a term that isn't multi is stuck on well-typed arguments, by well-typed functions that tell constants apart
+/// (`runs_by_functions_as_chosen` of `isle_laws_matching`).
 ///
 /// # Errors
 ///

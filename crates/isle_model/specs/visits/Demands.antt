@@ -62,37 +62,30 @@ abbrev pub visit_start : Visit
 visit_start = record { vars = []; impure_calls = 0; demands = record { constraints = []; equalities = []; iterators = []; impure = []; made = []; counted = [] } }
 
 abbrev pub with_demands : Visit → Demands → Visit
-with_demands v d = record { vars = v.vars; impure_calls = v.impure_calls; demands = d }
+with_demands v d = record v { demands = d }
 
 abbrev pub making : List SiteTerm → Visit → Visit
-making ts v = let d = v.demands in
-    with_demands v (record { constraints = d.constraints; equalities = d.equalities; iterators = d.iterators; impure = d.impure; made = d.made ++ ts; counted = d.counted })
+making ts v = with_demands v (record v.demands { made = v.demands.made ++ ts })
 
 -- something is counted, after the sites made so far
 abbrev pub counting : Count → Visit → Visit
-counting c v = let d = v.demands in
-    with_demands v (record { constraints = d.constraints; equalities = d.equalities; iterators = d.iterators; impure = d.impure; made = d.made; counted = d.counted ++ (c, length d.made) ∷ [] })
+counting c v = with_demands v (record v.demands { counted = v.demands.counted ++ (c, length v.demands.made) ∷ [] })
 
 abbrev pub asking : SiteTerm → Constraint → Visit → Visit
-asking s c v = let d = v.demands in
-    with_demands v (record { constraints = d.constraints ++ (s, c) ∷ []; equalities = d.equalities; iterators = d.iterators; impure = d.impure; made = d.made; counted = d.counted })
+asking s c v = with_demands v (record v.demands { constraints = v.demands.constraints ++ (s, c) ∷ [] })
 
 -- two sites are to be equal, where they are two
 abbrev pub equating : SiteTerm → SiteTerm → Visit → Visit
-equating a b v = let d = v.demands in
-    if site_term_eq a b then v
-    else with_demands v (record { constraints = d.constraints; equalities = d.equalities ++ (a, b) ∷ []; iterators = d.iterators; impure = d.impure; made = d.made; counted = d.counted })
+equating a b v = if site_term_eq a b then v else with_demands v (record v.demands { equalities = v.demands.equalities ++ (a, b) ∷ [] })
 
 abbrev pub iterating : SiteTerm → Visit → Visit
-iterating s v = let d = v.demands in
-    with_demands v (record { constraints = d.constraints; equalities = d.equalities; iterators = d.iterators ++ s ∷ []; impure = d.impure; made = d.made; counted = d.counted })
+iterating s v = with_demands v (record v.demands { iterators = v.demands.iterators ++ s ∷ [] })
 
 abbrev pub calling : SiteTerm → Visit → Visit
-calling s v = let d = v.demands in
-    record { vars = v.vars; impure_calls = suc v.impure_calls; demands = record { constraints = d.constraints; equalities = d.equalities; iterators = d.iterators; impure = d.impure ++ s ∷ []; made = d.made; counted = d.counted } }
+calling s v = record v { impure_calls = suc v.impure_calls; demands = record v.demands { impure = v.demands.impure ++ s ∷ [] } }
 
 abbrev pub binding : ℕ → SiteTerm → Visit → Visit
-binding x s v = record { vars = (x, s) ∷ v.vars; impure_calls = v.impure_calls; demands = v.demands }
+binding x s v = record v { vars = (x, s) ∷ v.vars }
 
 abbrev pub or_no_site : Option SiteTerm → SiteTerm
 or_no_site None = no_site

@@ -3,6 +3,7 @@ use Rattle.isle_model.specs.claims.Environments.{program_of}
 use Rattle.isle_laws_typing.proofs.WellTypedRules.{elaborated_programs_are_well_typed_lem}
 use Rattle.isle_laws_closure.specs.ErrorLaws.{NamesLeftOut, NamesPairs, NamesMasks}
 use Rattle.cranelift_isle.proofs.NamedErrors.{named, named_exactly}
+use Rattle.cranelift_isle.proofs.Checked.{within}
 use Rattle.cranelift_isle.proofs.overlap.check.Goals as goal
 
 pub returns : goal.returns
@@ -20,6 +21,10 @@ returns c = record {
   masks = λ e defs expand rules is shown.
       let p = program_of e defs rules.rules in
       named_exactly NamesMasks p c.check_built.result (c.check_errors_name_masks.ensures p (elaborated_programs_are_well_typed_lem e defs expand rules is))
+      (c.check_built.ensures.checked p (build_reports p) (c.in_ok-sets.ensures.built e defs expand rules is shown));
+  within_limits = λ e defs expand rules is shown.
+      let p = program_of e defs rules.rules in
+      within p c.check_built.result (c.checkable_programs_pass_no_limit.ensures p)
       (c.check_built.ensures.checked p (build_reports p) (c.in_ok-sets.ensures.built e defs expand rules is shown));
   places = λ e defs expand rules is shown.
       let p = program_of e defs rules.rules in c.check_built.ensures.places p (build_reports p) (c.in_ok-sets.ensures.built e defs expand rules is shown);
