@@ -1,11 +1,13 @@
 -- The sites of fields, one after another, and the site for a call's answers.
-use Rattle.std.proofs.Common.{◌≡◌, ℕ, zero, suc, ◌+◌, Bool, true, false, List, [], ◌∷◌, ◌++◌, map, Option, Some, None, slice_get, refl, sym, ap, ◌∙◌, inl, inr, arith, eqb-true, eq-eqb}
+use Rattle.std.proofs.Common.{◌≡◌, ℕ, zero, suc, ◌+◌, Bool, true, false, ◌||◌, List, [], ◌∷◌, ◌++◌, map, Option, Some, None, slice_get, refl, sym, ap, ◌∙◌, inl, inr, arith, eqb-true, eq-eqb}
+use Rattle.std.specs.List.{list_any}
 use Rattle.std.proofs.lemmas.Bool.{cases_Bool, cond-true, cond-false, false≢true}
 use Rattle.std.proofs.lemmas.Option.{none-some, same_Some}
 use Rattle.isle_model.specs.sites.Sites.{Site, iterator_site, Constraint, is_variant, is_struct, is_bool, is_int, is_prim, is_present}
 use Rattle.isle_model.specs.trees.Places.{site_from, each_field, fields_of, is_variant_field, is_struct_field}
 use Rattle.isle_model.specs.trees.Tests.{up_to}
-use Rattle.isle_serialize.specs.FieldTests.{is_field, field_count, is_pick}
+use Rattle.isle_model.proofs.Members.{member_from_get, passes_any}
+use Rattle.isle_serialize.specs.FieldTests.{is_field, field_count, is_pick, HasPick, IsPick}
 use Rattle.isle_serialize.proofs.Tables.{table_more}
 
 each_last : (p : ℕ → Site → Bool) (sites : List Site) (i n : ℕ) → each_field p sites i (suc n) ≡ each_field p sites i n ++ site_from 0 (p (i + n)) sites ∷ []
@@ -46,27 +48,26 @@ site_found p n (b ∷ rest) x e =
           (suc r.0, r.1, omega (arith, same), r.3, r.4)
     ]
 
-site_missed : (p : Site → Bool) (n : ℕ) (sites : List Site) (k : ℕ) (b : Site) → site_from n p sites ≡ None → slice_get sites k ≡ Some b → p b ≡ false
-site_missed p n [] k b e h = absurd (none-some b h)
-site_missed p n (a ∷ rest) k b e h =
+none_passes : (p : Site → Bool) (n : ℕ) (sites : List Site) → site_from n p sites ≡ None → list_any p sites ≡ false
+none_passes p n [] e = refl
+none_passes p n (a ∷ rest) e =
     elim (cases_Bool (p a)) [
       | inl t ↦ absurd (none-some n (sym e ∙ cond-true (p a) (Some n) (site_from (suc n) p rest) t))
-      | inr f ↦ by k h f (λ j g. site_missed p (suc n) rest j b (sym (cond-false (p a) (Some n) (site_from (suc n) p rest) f) ∙ e) g)
+      | inr f ↦ ap (λ b. b || list_any p rest) f ∙ none_passes p (suc n) rest (sym (cond-false (p a) (Some n) (site_from (suc n) p rest) f) ∙ e)
     ]
-  where
-    by : (k : ℕ) → slice_get (a ∷ rest) k ≡ Some b → p a ≡ false → ((j : ℕ) → slice_get rest j ≡ Some b → p b ≡ false) → p b ≡ false
-    by zero h f later = ap p (sym (same_Some a b h)) ∙ f
-    by (suc k) h f later = later k h
 
-picks_call : (call : ℕ) (b : Site) → is_pick call b ≡ true → b ≡ iterator_site call
+pub picks_call : (call : ℕ) (b : Site) → is_pick call b ≡ true → b ≡ iterator_site call
 picks_call call (iterator_site source) h = ap iterator_site (eqb-true source call h)
 picks_call call _ h = absurd (false≢true h)
 
-pub pick_found : (sites : List Site) (call x : ℕ) → site_from 0 (is_pick call) sites ≡ Some x → slice_get sites x ≡ Some (iterator_site call)
+pub pick_found : (sites : List Site) (call x : ℕ) → site_from 0 (is_pick call) sites ≡ Some x → IsPick sites call x
 pick_found sites call x e =
     let r = site_found (is_pick call) 0 sites x e in
     let same : x ≡ r.0 = (let s = r.2 in omega (arith, s)) in
     ap (slice_get sites) same ∙ r.3 ∙ ap Some (picks_call call r.1 r.4)
 
-pub pick_not_missed : (sites : List Site) (call k : ℕ) → slice_get sites k ≡ Some (iterator_site call) → site_from 0 (is_pick call) sites ≡ None → ⊥
-pick_not_missed sites call k h e = false≢true (sym (site_missed (is_pick call) 0 sites k (iterator_site call) e h) ∙ eq-eqb call call refl)
+pub pick_not_missed : (sites : List Site) (call : ℕ) → HasPick sites call → site_from 0 (is_pick call) sites ≡ None → ⊥
+pick_not_missed sites call h e = false≢true (sym (none_passes (is_pick call) 0 sites e) ∙ h)
+
+pub pick_there : (sites : List Site) (call k : ℕ) → IsPick sites call k → HasPick sites call
+pick_there sites call k e = passes_any (is_pick call) sites (iterator_site call) (member_from_get sites k (iterator_site call) e) (eq-eqb call call refl)

@@ -15,10 +15,12 @@ use Rattle.isle_sets.specs.SiteViews.{constraint_views}
 use Rattle.isle_sets.specs.declared.trie_again.Constraint.{Constraint as WrittenConstraint}
 use Rattle.isle_serialize.specs.declared.tests.Test.{Test}
 use Rattle.isle_serialize.specs.Bars.{reaches}
+use Rattle.isle_serialize.specs.FieldTests.{is_pick}
 use Rattle.isle_serialize.specs.Growing.{CanGrow}
 use Rattle.isle_serialize.specs.Opened.{Lists, AddsOpen, OfSome, IsMatch, IsMatchOf, IsEqualOf, IsPairOf, IsWanted, IsLoopBy, IsLoopOf}
 use Rattle.isle_serialize.specs.TestViews.{AreUseful}
 use Rattle.isle_serialize.proofs.BarSteps.{highest_need}
+use Rattle.isle_serialize.proofs.FieldSteps.{picks_call}
 
 -- one of the first of a list is one of it
 pub in_first : {X : Type 0} (i : ℕ) (xs : List X) (x : X) → Contains (take i xs) x → Contains xs x
@@ -96,7 +98,8 @@ module _ (set : SiteSet) (ar : Around) where
   loop_at g numbers s i k None e n = absurd (false≢true (sym (ap (is_needed (loop_test s)) e) ∙ n))
   loop_at g numbers s i k (Some r) e n =
       let p = g.picks r s (member_from_get set.rules i r e) (member_found s r.iterators (sym (ap (is_needed (loop_test s)) e) ∙ n)) in
-      (iterator_site s, member_from_get set.sites p.0 (iterator_site s) p.1, (s, refl, refl, k))
+      let q = one_passes (is_pick s) set.sites p in
+      (q.0, q.1, (s, picks_call s q.0 q.2, refl, k))
 
   pub loops_of : CanGrow set → (numbers : List ℕ) (u : Tests.Test) → IsLoopOf set.rules numbers u → OfSome (IsLoopBy set.rules numbers) set.sites u
   loops_of g numbers (match_test s) k = absurd k

@@ -11,9 +11,10 @@ use Rattle.isle_laws_trees.specs.TreeMeanings.{BestTreesMeanTheirSets}
 use Rattle.isle_laws_trees.proofs.PicksMade.{picks_are_made}
 use Rattle.isle_laws_trees.proofs.SerializedSteps.{best_steps_serialize}
 use Rattle.isle_serialize.specs.Growing.{IsBestFrom, CanGrow}
+use Rattle.isle_serialize.proofs.FieldSteps.{pick_there}
 
 pub can_grow : (set : SiteSet) → IsBuiltForSome set → CanGrow set
-can_grow set built = record { few = built.built.few; sources = built.built.sources; picks = picks_are_made set built }
+can_grow set built = record { few = built.built.few; sources = built.built.sources; picks = λ r s c i. let p = picks_are_made set built r s c i in pick_there set.sites s p.0 p.1 }
 
 pub whole_tree : BestTreesMeanTheirSets → (set : SiteSet) (here : List ℕ) (tree : Tree) → IsBuiltForSome set → IsPermutation (up_to (length set.rules)) here
     → IsBestFrom set nothing_around here tree → IsSerialized set tree

@@ -57,17 +57,17 @@ pub record IsInside (kept ar : Places.Around) : Type 0 where
   pub brought : kept.brought ≡ ar.brought
   pub emitted : (s : ℕ) → is_in s kept.emitted ≡ is_in s ar.emitted
 
+-- the same place, where these sites are emitted
+abbrev pub where_emitted : Places.Around → List ℕ → Places.Around
+where_emitted ar sites = record { tested = ar.tested; joined = ar.joined; looped = ar.looped; brought = ar.brought; emitted = sites }
+
 -- around the steps after one that uses these sites
 abbrev pub after_uses : SiteSet → Places.Around → List ℕ → Places.Around
-after_uses set ar used = record { tested = ar.tested; joined = ar.joined; looped = ar.looped; brought = ar.brought; emitted = all_below set.sites used ++ ar.emitted }
+after_uses set ar used = where_emitted ar (all_below set.sites used ++ ar.emitted)
 
 -- these sites are the emitted ones after a step that uses some
 abbrev pub AreEmitted : SiteSet → Places.Around → List ℕ → List ℕ → Type 0
 AreEmitted set ar used sites = (s : ℕ) → is_in s sites ≡ is_in s (all_below set.sites used ++ ar.emitted)
-
--- the same place, where these sites are emitted
-abbrev pub where_emitted : Places.Around → List ℕ → Places.Around
-where_emitted ar sites = record { tested = ar.tested; joined = ar.joined; looped = ar.looped; brought = ar.brought; emitted = sites }
 
 -- the same place, where two sites are joined too
 abbrev pub where_joined : Places.Around → ℕ → ℕ → Places.Around

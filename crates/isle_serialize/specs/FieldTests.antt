@@ -1,7 +1,7 @@
 -- Which sites are the fields that a constraint brings, one by one, and which ones an arm or a loop of a site can bring.
-use Rattle.std.specs.Prelude.{◌≡◌, ℕ, Bool, false, List, [], length, map, Option, Some, None, slice_get, slice_index_or}
+use Rattle.std.specs.Prelude.{◌≡◌, ℕ, Bool, false, cond, IsTrue, List, [], ◌∷◌, ◌++◌, length, map, Option, Some, None, slice_get, slice_index_or}
 use Rattle.std.specs.Bool.{◌==◌}
-use Rattle.std.specs.List.{filter}
+use Rattle.std.specs.List.{filter, list_any}
 use Rattle.std.specs.Global.{Vec}
 use Rattle.isle_model.specs.sites.Sites.{Site, iterator_site, match_variant_site, extract_struct_site, match_some_site, Constraint, is_variant, is_struct, is_present}
 use Rattle.isle_model.specs.trees.Places.{is_variant_field, is_struct_field, is_part_of}
@@ -27,6 +27,14 @@ abbrev pub is_pick : ℕ → Site → Bool
 is_pick s (iterator_site source) = source == s
 is_pick s _ = false
 
+-- the site of that number stands for each answer of a call
+abbrev pub IsPick : List Site → ℕ → ℕ → Type 0
+IsPick sites call each = slice_get sites each ≡ Some (iterator_site call)
+
+-- some site does
+abbrev pub HasPick : List Site → ℕ → Type 0
+HasPick sites call = IsTrue (list_any (is_pick call) sites)
+
 -- whether the site of a number passes a test
 abbrev pub passes_at : (Site → Bool) → List Site → ℕ → Bool
 passes_at p sites k = elim (slice_get sites k) [ None ↦ false | Some b ↦ p b ]
@@ -50,6 +58,10 @@ brought_by sites s = filter (passes_at (is_brought_from s) sites) (up_to (length
 -- the list of a number
 abbrev pub list_at : List (Vec ℕ) → ℕ → List ℕ
 list_at lists s = slice_index_or (map (λ v. v.items) lists) s []
+
+-- a site comes last in the list of its source, if it is brought; no other list changes
+abbrev pub ListsOneMore : Site → ℕ → List (Vec ℕ) → List (Vec ℕ) → Type 0
+ListsOneMore b site old new = (s : ℕ) → list_at new s ≡ list_at old s ++ cond (is_brought_from s b) (site ∷ []) []
 
 abbrev pub listed_under : Fields → ℕ → List ℕ
 listed_under fields s = list_at fields.by_source.items s

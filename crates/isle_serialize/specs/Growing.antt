@@ -1,12 +1,13 @@
 -- Trees that grow from a place on: what is best of the rules that are left there.
-use Rattle.std.specs.Prelude.{◌≡◌, ◌≢◌, ℕ, ◌<◌, ◌≤◌, true, false, not, List, [], ◌∷◌, length, Option, Some, None, slice_get, Contains, IsTrue, IsPermutation}
+use Rattle.std.specs.Prelude.{◌≡◌, ◌≢◌, ℕ, ◌<◌, ◌≤◌, true, false, not, List, [], ◌∷◌, length, Option, Some, None, Contains, IsTrue, IsPermutation}
 use Rattle.std.specs.List.{filter}
-use Rattle.isle_model.specs.sites.Sites.{iterator_site, Constraint, SetRule, SiteSet, sources_at}
+use Rattle.isle_model.specs.sites.Sites.{Constraint, SetRule, Site, SiteSet, sources_at}
 use Rattle.isle_model.specs.trees.Trees.{Tree, Check, match_at, equal_at, loop_at, Arms, Marked, MarkedArms, marks, marks_arms, plain, plain_arms}
 use Rattle.isle_model.specs.trees.Places.{Around, bind_order, in_equal, in_loop}
 use Rattle.isle_model.specs.trees.Tests.{Test, match_test, equal_test, loop_test, needs_at, is_covered, cover, IsOpen}
 use Rattle.isle_model.specs.trees.Best.{descend, BestSteps, BestArms}
 use Rattle.isle_serialize.specs.AroundViews.{AreEmitted}
+use Rattle.isle_serialize.specs.FieldTests.{HasPick, IsPick}
 use Rattle.isle_serialize.specs.TestViews.{test_view, IsChosen}
 use Rattle.isle_serialize.specs.declared.steps.NextTest.{NextTest}
 
@@ -37,14 +38,18 @@ abbrev pub IsBestBody : SiteSet → Around → Test → List ℕ → Check → T
 IsBestBody set ar (match_test s) here check = (arms : Arms) × (check ≡ match_at s arms) × AreBestArms set ar s None here arms
 IsBestBody set ar (equal_test a b) here check = (body : Tree) × (check ≡ equal_at a b body) × IsBestFrom set (in_equal set ar a b) here body
 IsBestBody set ar (loop_test s) here check =
-    (result : ℕ) × (body : Tree) × (check ≡ loop_at result body) × (slice_get set.sites result ≡ Some (iterator_site s)) × IsBestFrom set (in_loop set ar result) here body
+    (result : ℕ) × (body : Tree) × (check ≡ loop_at result body) × IsPick set.sites s result × IsBestFrom set (in_loop set ar result) here body
+
+-- each site stands behind its sources
+abbrev pub SourcesFirst : List Site → Type 0
+SourcesFirst sites = (s a : ℕ) → Contains (sources_at sites s) a → a < s
 
 -- what growing rests on in a set: few sites, each after its sources, and a site for the answers of each call that a rule
 -- goes over
 pub record CanGrow (set : SiteSet) : Type 0 where
   pub few : length set.sites ≤ 65536
-  pub sources : (s a : ℕ) → Contains (sources_at set.sites s) a → a < s
-  pub picks : (r : SetRule) (s : ℕ) → Contains set.rules r → Contains r.iterators s → (k : ℕ) × (slice_get set.sites k ≡ Some (iterator_site s))
+  pub sources : SourcesFirst set.sites
+  pub picks : (r : SetRule) (s : ℕ) → Contains set.rules r → Contains r.iterators s → HasPick set.sites s
 
 -- the test is open, and these are some rules, which all need it
 pub record IsStepOf (set : SiteSet) (ar : Around) (t : Test) (here : List ℕ) : Type 0 where
@@ -64,13 +69,17 @@ test_emits set (match_test s) = s ∷ []
 test_emits set (equal_test a b) = a ∷ (b ∷ [])
 test_emits set (loop_test s) = sources_at set.sites s
 
+-- these sites are the emitted ones after a step of the test
+abbrev pub AreEmittedBy : SiteSet → Around → Test → List ℕ → Type 0
+AreEmittedBy set ar t sites = AreEmitted set ar (test_emits set t) sites
+
 -- the test that is made at a place, and what goes with it
 pub record IsNextTest (set : SiteSet) (ar : Around) (here : List ℕ) (next : NextTest) : Type 0 where
   pub chosen : IsChosen set ar here (Some (test_view next.test))
   pub binds : next.binds.items ≡ bind_order set.sites ar (test_sites (test_view next.test))
   pub covered : next.covered.items ≡ cover set.rules here (test_view next.test)
   pub others : next.others.items ≡ filter (λ i. not (is_covered set.rules here (test_view next.test) i)) here
-  pub emitted : AreEmitted set ar (test_emits set (test_view next.test)) next.emitted.items
+  pub emitted : AreEmittedBy set ar (test_view next.test) next.emitted.items
 
 -- the same where there is one; where there is none, no open test covers a rule
 abbrev pub IsNext : SiteSet → Around → List ℕ → Option NextTest → Type 0

@@ -1,5 +1,6 @@
 pub mod TreeViews
 pub mod AroundViews
+pub mod PlaceViews
 pub mod TestViews
 pub mod Bars
 pub mod Opened

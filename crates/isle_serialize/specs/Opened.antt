@@ -6,6 +6,8 @@ use Rattle.isle_model.specs.trees.Places.{Around}
 use Rattle.isle_model.specs.trees.Tests as Tests
 use Rattle.isle_model.specs.trees.Tests.{match_test, equal_test, loop_test, needs, needs_at, IsOpen}
 use Rattle.isle_serialize.specs.declared.tests.Test.{Test}
+use Rattle.isle_serialize.specs.declared.place.Place.{Place}
+use Rattle.isle_serialize.specs.PlaceViews.{around_at, set_at}
 use Rattle.isle_serialize.specs.TestViews.{test_view}
 
 -- the test is among these
@@ -17,6 +19,10 @@ pub record AddsOpen (set : SiteSet) (ar : Around) (Kind : Tests.Test → Type 0)
   pub open_here : (t : Test) → Contains new t → Contains old t ⊎ IsOpen set ar (test_view t)
   pub kept : (u : Tests.Test) → Lists old u → Lists new u
   pub added : (u : Tests.Test) → IsOpen set ar u → Kind u → Lists new u
+
+-- the same at a place
+abbrev pub AddsAt : Place → (Tests.Test → Type 0) → List Test → List Test → Type 0
+AddsAt place Kind old new = AddsOpen (set_at place) (around_at place) Kind old new
 
 -- of the kind that one of these is of
 abbrev pub OfSome : {X : Type 0} → (X → Tests.Test → Type 0) → List X → Tests.Test → Type 0

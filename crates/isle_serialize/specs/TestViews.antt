@@ -1,5 +1,5 @@
 -- Tests and scores, sites by their numbers.
-use Rattle.std.specs.Prelude.{◌≡◌, ◌≢◌, ◌⊎◌, ℕ, false, List, [], Option, Some, None, Contains, if◌then◌else◌}
+use Rattle.std.specs.Prelude.{◌≡◌, ◌≢◌, ◌⊎◌, ℕ, Bool, false, List, [], Option, Some, None, Contains, if◌then◌else◌}
 use Rattle.isle_model.specs.sites.Sites.{SiteSet}
 use Rattle.isle_model.specs.trees.Places.{Around}
 use Rattle.isle_model.specs.trees.Sound.{as_number}
@@ -24,15 +24,19 @@ abbrev pub IsChosen : SiteSet → Around → List ℕ → Option Tests.Test → 
 IsChosen set ar here None = (u : Tests.Test) → IsOpen set ar u → cover set.rules here u ≡ []
 IsChosen set ar here (Some t) = IsGreatest set ar here t × (cover set.rules here t ≢ [])
 
+-- whether one test has a greater score than another
+abbrev pub beats : SiteSet → Around → List ℕ → Test → Test → Bool
+beats set ar here t u = is_greater (score set ar here (test_view t)) (score set ar here (test_view u))
+
 -- the one of the greater score, the first where there is no other
 abbrev pub greater_test : SiteSet → Around → List ℕ → Option Test → Test → Test
 greater_test set ar here None test = test
-greater_test set ar here (Some best) test = if is_greater (score set ar here (test_view test)) (score set ar here (test_view best)) then test else best
+greater_test set ar here (Some best) test = if beats set ar here test best then test else best
 
 -- one of some tests, which has no lower score than any of them; none where there are none
 abbrev pub IsGreatestOf : SiteSet → Around → List ℕ → List Test → Option Test → Type 0
 IsGreatestOf set ar here tests None = tests ≡ []
-IsGreatestOf set ar here tests (Some t) = Contains tests t × ((u : Test) → Contains tests u → is_greater (score set ar here (test_view u)) (score set ar here (test_view t)) ≡ false)
+IsGreatestOf set ar here tests (Some t) = Contains tests t × ((u : Test) → Contains tests u → beats set ar here u t ≡ false)
 
 -- the score is the test's
 abbrev pub IsScored : SiteSet → Around → List ℕ → Scored → Type 0

@@ -4,16 +4,18 @@ ghost use Rattle.std.specs.Prelude.{◌≡◌, ◌≤◌, ◌∷◌, [], IfOk, d
 ghost use Rattle.std.specs.List.{filter, prefix_len};
 ghost use Rattle.std.specs.Ordering.{is_lt};
 ghost use Rattle.isle_model.specs.trees.Sound as Sound;
+ghost use Rattle.isle_model.specs.trees.Tests.{match_test};
 ghost use Rattle.isle_sets.specs.SiteViews.{constraint_view, set_view};
-ghost use Rattle.isle_serialize.specs.AroundViews.{around_view, AreEmitted};
-ghost use Rattle.isle_serialize.specs.FieldTests.{AreFields};
-ghost use Rattle.isle_serialize.specs.Growing.{CanGrow};
+ghost use Rattle.isle_serialize.specs.AroundViews.{around_view};
+ghost use Rattle.isle_serialize.specs.Growing.{AreEmittedBy};
+ghost use Rattle.isle_serialize.specs.PlaceViews.{set_in};
 ghost use Rattle.isle_serialize.specs.Turns as Turns;
 ghost use Rattle.isle_serialize.specs.Turns.{numbers, asks_that, AreInTurn, AreTurns, IsNextArmOf};
 
 use crate::around::Around;
-use crate::fields::{Fields, fields_of};
+use crate::fields::fields_of;
 use crate::inside::in_arm;
+use crate::place::IndexedSet;
 use isle_sets::trie_again::{BindingId, Constraint, RuleSet};
 use std::alloc::{AllocError, Global};
 use std::cmp::Ordering;
@@ -136,24 +138,21 @@ pub fn behind(turns: &[Asked], count: usize) -> &[Asked]
 /// The next arm of a match, of the least constraint of those that are left, and none where none is left.
 pub fn next_arm(
     alloc: Global,
-    set: &RuleSet,
-    fields: &Fields,
+    indexed: &IndexedSet<'_>,
     around: &Around,
     emitted: &[BindingId],
     source: BindingId,
     left: &[Asked],
 ) -> Result<Option<NextArm>, AllocError>
-    requires set { CanGrow (set_view set.now) }
-    requires fields { AreFields (set_view set.now).sites fields.now }
-    requires turns { AreTurns (set_view set.now).rules source left.now }
-    requires emitted { AreEmitted (set_view set.now) (around_view around.now) (source ∷ []) emitted.now }
-    ensures { IfOk result (λ o. IsNextArmOf (set_view set.now) (around_view around.now) source (numbers left.now) o) }
+    requires turns { AreTurns (set_in indexed.now).rules source left.now }
+    requires emitted { AreEmittedBy (set_in indexed.now) (around_view around.now) (match_test source) emitted.now }
+    ensures { IfOk result (λ o. IsNextArmOf (set_in indexed.now) (around_view around.now) source (numbers left.now) o) }
 {
     let Some(first) = left.first() else {
         return Ok(None);
     };
     let constraint = first.constraint;
-    let fields = fields_of(alloc, set, fields, source, &constraint)?;
+    let fields = fields_of(alloc, indexed, source, &constraint)?;
     let count = run_len(left, &constraint);
     let asking = numbers_of(alloc, &left[..count])?;
     let inside = in_arm(alloc, around, emitted, source, &fields)?;

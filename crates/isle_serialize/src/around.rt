@@ -4,7 +4,9 @@ ghost use Rattle.std.specs.Prelude.{◌≡◌, ◌<◌, ◌==◌, if◌then◌el
 ghost use Rattle.isle_model.specs.trees.Places.{nothing_around, class, is_in, joins, waits};
 ghost use Rattle.isle_sets.specs.SiteViews.{site_view};
 ghost use Rattle.isle_serialize.specs.AroundViews.{around_view, sites_of_pairs, name_in, IsKnown, IsNaming, IsSetOf};
+ghost use Rattle.isle_serialize.specs.PlaceViews.{around_at};
 
+use crate::place::Place;
 use crate::small_set::{FEW, SmallSet};
 use isle_sets::trie_again::{Binding, BindingId};
 use std::alloc::{AllocError, Global};
@@ -80,35 +82,31 @@ pub fn set_of(alloc: Global, sites: &[BindingId]) -> Result<SmallSet, AllocError
 }
 
 /// Whether equalities around join two sites.
-pub fn are_joined(around: &Around, known: &Known, a: BindingId, b: BindingId) -> bool
-    requires { IsKnown (around_view around.now) known.now }
-    ensures { result ≡ joins around.now.joined.items a b }
+pub fn are_joined(place: &Place<'_>, a: BindingId, b: BindingId) -> bool
+    ensures { result ≡ joins (around_at place.now).joined a b }
 {
-    name_of(a, &known.names) == name_of(b, &known.names)
+    name_of(a, &place.known.names) == name_of(b, &place.known.names)
 }
 
 /// Whether an arm or a loop around has the site as its source.
-pub fn is_source(around: &Around, known: &Known, site: BindingId) -> bool
-    requires { IsKnown (around_view around.now) known.now }
-    ensures { result ≡ is_in site around.now.sources.items }
+pub fn is_source(place: &Place<'_>, site: BindingId) -> bool
+    ensures { result ≡ is_in site (around_at place.now).looped }
 {
-    known.sources.contains(site)
+    place.known.sources.contains(site)
 }
 
 /// Whether an arm or a loop around brought the site.
-pub fn is_brought(around: &Around, known: &Known, site: BindingId) -> bool
-    requires { IsKnown (around_view around.now) known.now }
-    ensures { result ≡ is_in site around.now.brought.items }
+pub fn is_brought(place: &Place<'_>, site: BindingId) -> bool
+    ensures { result ≡ is_in site (around_at place.now).brought }
 {
-    known.brought.contains(site)
+    place.known.brought.contains(site)
 }
 
 /// Whether the site is emitted.
-pub fn is_emitted(around: &Around, known: &Known, site: BindingId) -> bool
-    requires { IsKnown (around_view around.now) known.now }
-    ensures { result ≡ is_in site around.now.emitted.items }
+pub fn is_emitted(place: &Place<'_>, site: BindingId) -> bool
+    ensures { result ≡ is_in site (around_at place.now).emitted }
 {
-    known.emitted.contains(site)
+    place.known.emitted.contains(site)
 }
 
 /// The site of this number.

@@ -3,22 +3,21 @@
 ghost use Rattle.std.specs.Prelude.{◌≡◌, ◌≤◌, ◌∷◌, [], None, IfOk, IsTrue, length};
 ghost use Rattle.isle_model.specs.trees.Best.{descend};
 ghost use Rattle.isle_model.specs.trees.Tests as Tests;
-ghost use Rattle.isle_sets.specs.SiteViews.{set_view};
-ghost use Rattle.isle_serialize.specs.AroundViews.{around_view, AreEmitted};
-ghost use Rattle.isle_serialize.specs.FieldTests.{AreFields};
-ghost use Rattle.isle_serialize.specs.Growing.{AreBestArms, CanGrow, IsBestBody, IsBestFrom, IsStepOf, test_emits};
+ghost use Rattle.isle_serialize.specs.AroundViews.{around_view};
+ghost use Rattle.isle_serialize.specs.Growing.{AreBestArms, AreEmittedBy, IsBestBody, IsBestFrom, IsStepOf};
+ghost use Rattle.isle_serialize.specs.PlaceViews.{set_in};
 ghost use Rattle.isle_serialize.specs.TestViews.{test_view};
 ghost use Rattle.isle_serialize.specs.TreeViews.{arms_view, check_view, tree_view};
 
 use crate::arms::{asked_in_turn, behind, next_arm};
 use crate::around::Around;
 use crate::ends::returns_of;
-use crate::fields::Fields;
 use crate::inside::{in_equal, in_loop};
+use crate::place::IndexedSet;
 use crate::serialize::{Block, ControlFlow, EvalStep, MatchArm};
 use crate::steps::{next_test, pick_of};
 use crate::tests::Test;
-use isle_sets::trie_again::{BindingId, RuleSet};
+use isle_sets::trie_again::BindingId;
 use std::alloc::{AllocError, Global};
 
 /// The best steps from a place on, whose rules stand in order: tests while some open test covers a rule, then the
@@ -26,30 +25,19 @@ use std::alloc::{AllocError, Global};
 #[cycle(grow)]
 pub fn block_of(
     alloc: Global,
-    set: &RuleSet,
-    fields: &Fields,
+    indexed: &IndexedSet<'_>,
     here: Vec<usize>,
     around: Around,
 ) -> Result<Block, AllocError>
-    requires set { CanGrow (set_view set.now) }
-    requires fields { AreFields (set_view set.now).sites fields.now }
-    requires order { IsTrue (descend (set_view set.now).rules here.items) }
-    ensures { IfOk result (λ b. IsBestFrom (set_view set.now) (around_view around) here.items (tree_view b)) }
+    requires { IsTrue (descend (set_in indexed.now).rules here.items) }
+    ensures { IfOk result (λ b. IsBestFrom (set_in indexed.now) (around_view around) here.items (tree_view b)) }
 {
     let mut steps = Vec::new(alloc);
     let mut left = here;
     let mut around = around;
-    while let Some(next) = next_test(alloc, set, &around, &left)? {
+    while let Some(next) = next_test(alloc, indexed, &around, &left)? {
         let emitted = next.emitted;
-        let check = check_of(
-            alloc,
-            set,
-            fields,
-            &around,
-            &emitted,
-            next.test,
-            next.covered,
-        )?;
+        let check = check_of(alloc, indexed, &around, &emitted, next.test, next.covered)?;
         steps.push(EvalStep {
             bind_order: next.binds,
             check,
@@ -57,7 +45,7 @@ pub fn block_of(
         around.emitted = emitted;
         left = next.others;
     }
-    let mut ends = returns_of(alloc, set, left, around)?;
+    let mut ends = returns_of(alloc, indexed, left, around)?;
     steps.append(&mut ends)?;
     Ok(Block { steps })
 }
@@ -66,39 +54,36 @@ pub fn block_of(
 #[cycle(grow)]
 fn check_of(
     alloc: Global,
-    set: &RuleSet,
-    fields: &Fields,
+    indexed: &IndexedSet<'_>,
     around: &Around,
     emitted: &[BindingId],
     test: Test,
     here: Vec<usize>,
 ) -> Result<ControlFlow, AllocError>
-    requires set { CanGrow (set_view set.now) }
-    requires fields { AreFields (set_view set.now).sites fields.now }
-    requires order { IsTrue (descend (set_view set.now).rules here.items) }
-    requires step { IsStepOf (set_view set.now) (around_view around.now) (test_view test) here.items }
-    requires emitted { AreEmitted (set_view set.now) (around_view around.now) (test_emits (set_view set.now) (test_view test)) emitted.now }
-    ensures { IfOk result (λ check. IsBestBody (set_view set.now) (around_view around.now) (test_view test) here.items (check_view check)) }
+    requires order { IsTrue (descend (set_in indexed.now).rules here.items) }
+    requires step { IsStepOf (set_in indexed.now) (around_view around.now) (test_view test) here.items }
+    requires emitted { AreEmittedBy (set_in indexed.now) (around_view around.now) (test_view test) emitted.now }
+    ensures { IfOk result (λ check. IsBestBody (set_in indexed.now) (around_view around.now) (test_view test) here.items (check_view check)) }
 {
     match test {
         Test::Match { source } => Ok(ControlFlow::Match {
             source,
-            arms: arms_of(alloc, set, fields, around, emitted, source, here)?,
+            arms: arms_of(alloc, indexed, around, emitted, source, here)?,
         }),
         Test::Equal { a, b } => {
             let inside = in_equal(alloc, around, emitted, a, b)?;
             Ok(ControlFlow::Equal {
                 a,
                 b,
-                body: block_of(alloc, set, fields, here, inside)?,
+                body: block_of(alloc, indexed, here, inside)?,
             })
         }
         Test::Loop { source } => {
-            let result = pick_of(set, fields, source);
+            let result = pick_of(indexed, source);
             let inside = in_loop(alloc, around, emitted, source, result)?;
             Ok(ControlFlow::Loop {
                 result,
-                body: block_of(alloc, set, fields, here, inside)?,
+                body: block_of(alloc, indexed, here, inside)?,
             })
         }
     }
@@ -108,29 +93,26 @@ fn check_of(
 #[cycle(grow)]
 fn arms_of(
     alloc: Global,
-    set: &RuleSet,
-    fields: &Fields,
+    indexed: &IndexedSet<'_>,
     around: &Around,
     emitted: &[BindingId],
     source: BindingId,
     here: Vec<usize>,
 ) -> Result<Vec<MatchArm>, AllocError>
-    requires set { CanGrow (set_view set.now) }
-    requires fields { AreFields (set_view set.now).sites fields.now }
-    requires order { IsTrue (descend (set_view set.now).rules here.items) }
-    requires step { IsStepOf (set_view set.now) (around_view around.now) (Tests.match_test source) here.items }
-    requires emitted { AreEmitted (set_view set.now) (around_view around.now) (source ∷ []) emitted.now }
-    ensures { IfOk result (λ v. AreBestArms (set_view set.now) (around_view around.now) source None here.items (arms_view v.items)) }
+    requires order { IsTrue (descend (set_in indexed.now).rules here.items) }
+    requires step { IsStepOf (set_in indexed.now) (around_view around.now) (Tests.match_test source) here.items }
+    requires emitted { AreEmittedBy (set_in indexed.now) (around_view around.now) (Tests.match_test source) emitted.now }
+    ensures { IfOk result (λ v. AreBestArms (set_in indexed.now) (around_view around.now) source None here.items (arms_view v.items)) }
 {
-    let turns = asked_in_turn(alloc, set, source, &here)?;
+    let turns = asked_in_turn(alloc, indexed.set, source, &here)?;
     let mut arms = Vec::new(alloc);
     let mut left = behind(&turns, 0);
-    while let Some(next) = next_arm(alloc, set, fields, around, emitted, source, left)? {
+    while let Some(next) = next_arm(alloc, indexed, around, emitted, source, left)? {
         let asking = next.asking.len();
         arms.push(MatchArm {
             constraint: next.constraint,
             bindings: next.fields,
-            body: block_of(alloc, set, fields, next.asking, next.inside)?,
+            body: block_of(alloc, indexed, next.asking, next.inside)?,
         })?;
         left = behind(left, asking);
     }

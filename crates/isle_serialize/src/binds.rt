@@ -7,9 +7,11 @@ ghost use Rattle.isle_model.specs.trees.Places as Places;
 ghost use Rattle.isle_model.specs.trees.Places.{each_after, is_in, is_in_place, listed_below};
 ghost use Rattle.isle_sets.specs.SiteViews.{site_view, set_view};
 ghost use Rattle.isle_serialize.specs.AroundViews.{around_view, AreSettled, IsSetOf};
+ghost use Rattle.isle_serialize.specs.PlaceViews.{set_in};
 
 use crate::around::Around;
 use crate::parts::keep;
+use crate::place::IndexedSet;
 use crate::small_set::SmallSet;
 use isle_sets::trie_again::{Binding, BindingId, RuleSet};
 use std::alloc::{AllocError, Global};
@@ -40,22 +42,21 @@ fn is_settled(
 // Lists the sites below a site that aren't emitted, after those already listed: sources first, left to right, each once.
 fn list_below(
     alloc: Global,
-    set: &RuleSet,
+    indexed: &IndexedSet<'_>,
     emitted: &[BindingId],
     site: BindingId,
     settled: &mut SmallSet,
     listed: &mut Vec<BindingId>,
 ) -> Result<(), AllocError>
-    requires sources { (s a : ℕ) → Contains (sources_at (set_view set.now).sites s) a → a < s }
-    requires settled { AreSettled emitted.now listed.old.items settled.old }
+    requires { AreSettled emitted.now listed.old.items settled.old }
     ensures settled { OnOk result (AreSettled emitted.now listed.new.items settled.new) }
-    ensures listed { OnOk result ((n : ℕ) → site < n → listed.new.items ≡ listed_below n (set_view set.now).sites emitted.now listed.old.items site) }
+    ensures listed { OnOk result ((n : ℕ) → site < n → listed.new.items ≡ listed_below n (set_in indexed.now).sites emitted.now listed.old.items site) }
 {
     if is_settled(site, emitted, listed, settled) {
         return Ok(());
     }
-    for source in sources_of(set, site) {
-        list_below(alloc, set, emitted, *source, settled, listed)?;
+    for source in sources_of(indexed.set, site) {
+        list_below(alloc, indexed, emitted, *source, settled, listed)?;
     }
     settled.insert(site)?;
     listed.push(site)?;
@@ -66,18 +67,17 @@ fn list_below(
 /// added to the set of the emitted ones.
 pub fn all_listed(
     alloc: Global,
-    set: &RuleSet,
+    indexed: &IndexedSet<'_>,
     emitted: &[BindingId],
     settled: &mut SmallSet,
     sites: &[BindingId],
 ) -> Result<Vec<BindingId>, AllocError>
-    requires sources { (s a : ℕ) → Contains (sources_at (set_view set.now).sites s) a → a < s }
-    requires settled { IsSetOf emitted.now settled.old }
-    ensures { IfOk result (λ v. v.items ≡ each_after (λ done s. listed_below (suc s) (set_view set.now).sites emitted.now done s) [] sites.now) }
+    requires { IsSetOf emitted.now settled.old }
+    ensures { IfOk result (λ v. v.items ≡ each_after (λ done s. listed_below (suc s) (set_in indexed.now).sites emitted.now done s) [] sites.now) }
 {
     let mut listed = Vec::new(alloc);
     for site in sites {
-        list_below(alloc, set, emitted, *site, settled, &mut listed)?;
+        list_below(alloc, indexed, emitted, *site, settled, &mut listed)?;
     }
     Ok(listed)
 }
@@ -118,19 +118,18 @@ fn is_bound(set: &RuleSet, site: BindingId) -> bool
 /// added to the set of what is emitted.
 pub fn bind_order(
     alloc: Global,
-    set: &RuleSet,
+    indexed: &IndexedSet<'_>,
     around: &Around,
     settled: &mut SmallSet,
     sites: &[BindingId],
 ) -> Result<Vec<BindingId>, AllocError>
-    requires sources { (s a : ℕ) → Contains (sources_at (set_view set.now).sites s) a → a < s }
-    requires settled { IsSetOf around.now.emitted.items settled.old }
-    ensures { IfOk result (λ v. v.items ≡ Places.bind_order (set_view set.now).sites (around_view around.now) sites.now) }
+    requires { IsSetOf around.now.emitted.items settled.old }
+    ensures { IfOk result (λ v. v.items ≡ Places.bind_order (set_in indexed.now).sites (around_view around.now) sites.now) }
 {
-    let listed = all_listed(alloc, set, &around.emitted, settled, sites)?;
+    let listed = all_listed(alloc, indexed, &around.emitted, settled, sites)?;
     let mut bound = Vec::new(alloc);
     for site in &listed {
-        keep(&mut bound, *site, is_bound(set, *site))?;
+        keep(&mut bound, *site, is_bound(indexed.set, *site))?;
     }
     Ok(bound)
 }
@@ -139,12 +138,11 @@ pub fn bind_order(
 #[tactic(auto, using(crate::proofs::Listed::listed_are_below))]
 pub fn all_below(
     alloc: Global,
-    set: &RuleSet,
+    indexed: &IndexedSet<'_>,
     sites: &[BindingId],
 ) -> Result<Vec<BindingId>, AllocError>
-    requires { (s a : ℕ) → Contains (sources_at (set_view set.now).sites s) a → a < s }
-    ensures { IfOk result (λ v. (x : ℕ) → is_in x v.items ≡ is_in x (Places.all_below (set_view set.now).sites sites.now)) }
+    ensures { IfOk result (λ v. (x : ℕ) → is_in x v.items ≡ is_in x (Places.all_below (set_in indexed.now).sites sites.now)) }
 {
     let mut settled = SmallSet::new(alloc);
-    all_listed(alloc, set, &[], &mut settled, sites)
+    all_listed(alloc, indexed, &[], &mut settled, sites)
 }

@@ -1,7 +1,6 @@
 //! The end of a block: the rules that no open test covers return one after another.
 
 ghost use Rattle.std.specs.Prelude.{◌≡◌, ◌<◌, ℕ, IsTrue, None, Some, Contains, IfOk, slice_get};
-ghost use Rattle.isle_model.specs.sites.Sites.{sources_at};
 ghost use Rattle.isle_model.specs.trees.Best.{descend};
 ghost use Rattle.isle_model.specs.trees.Places as Places;
 ghost use Rattle.isle_model.specs.trees.Places.{return_uses};
@@ -9,11 +8,13 @@ ghost use Rattle.isle_model.specs.trees.Trees as Trees;
 ghost use Rattle.isle_sets.specs.SiteViews.{set_rule_view, set_view};
 ghost use Rattle.isle_serialize.specs.AroundViews.{around_view, IsSetOf};
 ghost use Rattle.isle_serialize.specs.Growing.{AreEnds};
+ghost use Rattle.isle_serialize.specs.PlaceViews.{set_in};
 ghost use Rattle.isle_serialize.specs.TreeViews.{check_view, steps_view};
 
 use crate::around::{Around, set_of};
 use crate::binds::bind_order;
 use crate::inside::emitted_after;
+use crate::place::IndexedSet;
 use crate::serialize::{ControlFlow, EvalStep};
 use crate::small_set::SmallSet;
 use isle_base::syntax::Pos;
@@ -68,21 +69,20 @@ fn return_of(set: &RuleSet, number: usize) -> ControlFlow
 // The step that returns by a rule, which uses these sites, where a set of what is emitted is at hand.
 fn return_step(
     alloc: Global,
-    set: &RuleSet,
+    indexed: &IndexedSet<'_>,
     around: &Around,
     settled: SmallSet,
     number: usize,
     used: &[BindingId],
 ) -> Result<EvalStep, AllocError>
-    requires sources { (s a : ℕ) → Contains (sources_at (set_view set.now).sites s) a → a < s }
-    requires settled { IsSetOf around.now.emitted.items settled }
-    ensures binds { IfOk result (λ s. s.bind_order.items ≡ Places.bind_order (set_view set.now).sites (around_view around.now) used.now) }
-    ensures check { IfOk result (λ s. check_view s.check ≡ Trees.return_of (slice_get (set_view set.now).rules number)) }
+    requires { IsSetOf around.now.emitted.items settled }
+    ensures binds { IfOk result (λ s. s.bind_order.items ≡ Places.bind_order (set_in indexed.now).sites (around_view around.now) used.now) }
+    ensures check { IfOk result (λ s. check_view s.check ≡ Trees.return_of (slice_get (set_in indexed.now).rules number)) }
 {
     let mut settled = settled;
     Ok(EvalStep {
-        bind_order: bind_order(alloc, set, around, &mut settled, used)?,
-        check: return_of(set, number),
+        bind_order: bind_order(alloc, indexed, around, &mut settled, used)?,
+        check: return_of(indexed.set, number),
     })
 }
 
@@ -90,13 +90,12 @@ fn return_step(
 /// emits isn't listed.
 pub fn returns_of(
     alloc: Global,
-    set: &RuleSet,
+    indexed: &IndexedSet<'_>,
     here: Vec<usize>,
     around: Around,
 ) -> Result<Vec<EvalStep>, AllocError>
-    requires sources { (s a : ℕ) → Contains (sources_at (set_view set.now).sites s) a → a < s }
-    requires order { IsTrue (descend (set_view set.now).rules here.items) }
-    ensures { IfOk result (λ v. AreEnds (set_view set.now) (around_view around) here.items (steps_view v.items)) }
+    requires { IsTrue (descend (set_in indexed.now).rules here.items) }
+    ensures { IfOk result (λ v. AreEnds (set_in indexed.now) (around_view around) here.items (steps_view v.items)) }
 {
     let mut steps = Vec::with_capacity(alloc, here.len())?;
     let Some((last, earlier)) = here.split_last() else {
@@ -104,14 +103,14 @@ pub fn returns_of(
     };
     let mut around = around;
     for number in earlier {
-        let used = used_by(alloc, set, *number)?;
+        let used = used_by(alloc, indexed.set, *number)?;
         let settled = set_of(alloc, &around.emitted)?;
-        let emitted = emitted_after(alloc, set, &around.emitted, &settled, &used)?;
-        steps.push(return_step(alloc, set, &around, settled, *number, &used)?)?;
+        let emitted = emitted_after(alloc, indexed, &around.emitted, &settled, &used)?;
+        steps.push(return_step(alloc, indexed, &around, settled, *number, &used)?)?;
         around.emitted = emitted;
     }
-    let used = used_by(alloc, set, *last)?;
+    let used = used_by(alloc, indexed.set, *last)?;
     let settled = set_of(alloc, &around.emitted)?;
-    steps.push(return_step(alloc, set, &around, settled, *last, &used)?)?;
+    steps.push(return_step(alloc, indexed, &around, settled, *last, &used)?)?;
     Ok(steps)
 }

@@ -2,14 +2,16 @@
 
 ghost use Rattle.std.specs.Prelude.{◌≡◌, ◌≤◌, ◌<◌, ◌∷◌, ◌++◌, [], ℕ, cond, Some, Contains, IfOk, OnOk, length};
 ghost use Rattle.std.specs.List.{find};
-ghost use Rattle.isle_model.specs.sites.Sites.{sources_at};
 ghost use Rattle.isle_model.specs.trees.Places as Places;
 ghost use Rattle.isle_model.specs.trees.Places.{site_from};
 ghost use Rattle.isle_sets.specs.SiteViews.{constraint_view, set_view, site_view};
 ghost use Rattle.isle_serialize.specs.FieldTests as FieldTests;
-ghost use Rattle.isle_serialize.specs.FieldTests.{passes_at, AreFields, is_brought_from, list_at, listed_under};
+ghost use Rattle.isle_serialize.specs.FieldTests.{passes_at, AreFields, ListsOneMore, list_at, listed_under};
+ghost use Rattle.isle_serialize.specs.Growing.{SourcesFirst};
+ghost use Rattle.isle_serialize.specs.PlaceViews.{set_in};
 
 use crate::around::site_at;
+use crate::place::IndexedSet;
 use isle_sets::trie_again::{Binding, BindingId, Constraint, RuleSet};
 use isle_types::VariantId;
 use std::alloc::{AllocError, Global};
@@ -76,7 +78,7 @@ fn add_field(
 ) -> Result<(), AllocError>
     requires { (a : ℕ) → FieldTests.brought_from (site_view binding.now) ≡ Some a → a < length lists.old.items }
     ensures count { OnOk result (length lists.new.items ≡ length lists.old.items) }
-    ensures listed { OnOk result ((s : ℕ) → list_at lists.new.items s ≡ list_at lists.old.items s ++ cond (is_brought_from s (site_view binding.now)) (site ∷ []) []) }
+    ensures listed { OnOk result (ListsOneMore (site_view binding.now) site lists.old.items lists.new.items) }
 {
     if let Some(source) = brought_from(binding) {
         lists[source.index()].push(site)?;
@@ -87,7 +89,7 @@ fn add_field(
 /// The sites of a set that arms and loops bring, by their sources.
 pub fn fields_by_source(alloc: Global, set: &RuleSet) -> Result<Fields, AllocError>
     requires few { length (set_view set.now).sites ≤ 65536 }
-    requires sources { (s a : ℕ) → Contains (sources_at (set_view set.now).sites s) a → a < s }
+    requires sources { SourcesFirst (set_view set.now).sites }
     ensures { IfOk result (AreFields (set_view set.now).sites) }
 {
     let mut by_source = empty_lists(alloc, set.bindings.len())?;
@@ -190,32 +192,34 @@ fn first_field(
 
 // The site of that field of what a constraint on a source brings.
 fn field_site(
-    set: &RuleSet,
-    fields: &Fields,
+    indexed: &IndexedSet<'_>,
     of: BindingId,
     constraint: &Constraint,
     number: usize,
 ) -> Option<BindingId>
-    requires { AreFields (set_view set.now).sites fields.now }
-    ensures { result ≡ site_from 0 (FieldTests.is_field of (constraint_view constraint.now) number) (set_view set.now).sites }
+    ensures { result ≡ site_from 0 (FieldTests.is_field of (constraint_view constraint.now) number) (set_in indexed.now).sites }
 {
-    first_field(set, fields.under(of), of, constraint, number)
+    first_field(
+        indexed.set,
+        indexed.fields.under(of),
+        of,
+        constraint,
+        number,
+    )
 }
 
 /// The sites of the fields that a constraint on a source brings, in order; None where the set has no such site.
 pub fn fields_of(
     alloc: Global,
-    set: &RuleSet,
-    fields: &Fields,
+    indexed: &IndexedSet<'_>,
     source: BindingId,
     constraint: &Constraint,
 ) -> Result<Vec<Option<BindingId>>, AllocError>
-    requires { AreFields (set_view set.now).sites fields.now }
-    ensures { IfOk result (λ v. v.items ≡ Places.fields_of (set_view set.now).sites source (constraint_view constraint.now)) }
+    ensures { IfOk result (λ v. v.items ≡ Places.fields_of (set_in indexed.now).sites source (constraint_view constraint.now)) }
 {
     let mut sites = Vec::new(alloc);
     for number in 0..field_count(constraint) {
-        sites.push(field_site(set, fields, source, constraint, number))?;
+        sites.push(field_site(indexed, source, constraint, number))?;
     }
     Ok(sites)
 }
@@ -251,9 +255,8 @@ fn first_pick(set: &RuleSet, sites: &[BindingId], call: BindingId) -> Option<Bin
 }
 
 /// The site that stands for each value that a call answered, if the set has one.
-pub fn iterator_of(set: &RuleSet, fields: &Fields, call: BindingId) -> Option<BindingId>
-    requires { AreFields (set_view set.now).sites fields.now }
-    ensures { result ≡ site_from 0 (FieldTests.is_pick call) (set_view set.now).sites }
+pub fn iterator_of(indexed: &IndexedSet<'_>, call: BindingId) -> Option<BindingId>
+    ensures { result ≡ site_from 0 (FieldTests.is_pick call) (set_in indexed.now).sites }
 {
-    first_pick(set, fields.under(call), call)
+    first_pick(indexed.set, indexed.fields.under(call), call)
 }

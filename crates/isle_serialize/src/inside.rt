@@ -2,16 +2,16 @@
 
 ghost use Rattle.std.specs.Prelude.{◌≡◌, ◌<◌, ◌∷◌, ◌++◌, [], ℕ, not, Contains, IfOk};
 ghost use Rattle.std.specs.List.{filter};
-ghost use Rattle.isle_model.specs.sites.Sites.{sources_at};
 ghost use Rattle.isle_model.specs.trees.Places as Places;
-ghost use Rattle.isle_sets.specs.SiteViews.{set_view};
 ghost use Rattle.isle_serialize.specs.AroundViews.{around_view, has, IsSetOf, brings, where_emitted, where_joined};
+ghost use Rattle.isle_serialize.specs.PlaceViews.{set_in};
 
 use crate::around::Around;
 use crate::binds::all_below;
 use crate::parts::keep;
+use crate::place::IndexedSet;
 use crate::small_set::SmallSet;
-use isle_sets::trie_again::{BindingId, RuleSet};
+use isle_sets::trie_again::BindingId;
 use std::alloc::{AllocError, Global};
 
 // One list after another.
@@ -59,16 +59,15 @@ fn field_sites(alloc: Global, fields: &[Option<BindingId>]) -> Result<Vec<Bindin
 /// The sites that are emitted once these are used too, each once.
 pub fn emitted_after(
     alloc: Global,
-    set: &RuleSet,
+    indexed: &IndexedSet<'_>,
     emitted: &[BindingId],
     known: &SmallSet,
     used: &[BindingId],
 ) -> Result<Vec<BindingId>, AllocError>
-    requires known { IsSetOf emitted.now known.now }
-    requires sources { (s a : ℕ) → Contains (sources_at (set_view set.now).sites s) a → a < s }
-    ensures { IfOk result (λ v. (s : ℕ) → Places.is_in s v.items ≡ Places.is_in s (Places.all_below (set_view set.now).sites used.now ++ emitted.now)) }
+    requires { IsSetOf emitted.now known.now }
+    ensures { IfOk result (λ v. (s : ℕ) → Places.is_in s v.items ≡ Places.is_in s (Places.all_below (set_in indexed.now).sites used.now ++ emitted.now)) }
 {
-    let below = all_below(alloc, set, used)?;
+    let below = all_below(alloc, indexed, used)?;
     let new = not_in(alloc, &below, known)?;
     chained(alloc, &new, emitted)
 }

@@ -10,6 +10,7 @@ pub mod fields;
 pub mod inside;
 pub mod open;
 mod parts;
+pub mod place;
 pub mod serialize;
 pub mod small_set;
 pub mod steps;

@@ -2,18 +2,18 @@
 
 ghost use Rattle.std.specs.Prelude.{◌≡◌, ◌<◌, ◌||◌, false, true, ℕ, IsTrue, Contains, IfOk, OnOk, slice_get};
 ghost use Rattle.std.specs.List.{list_any};
-ghost use Rattle.isle_model.specs.sites.Sites.{sources_at};
 ghost use Rattle.isle_model.specs.trees.Best.{descend};
 ghost use Rattle.isle_model.specs.trees.Places.{available, is_in, waits};
 ghost use Rattle.isle_model.specs.trees.Tests as Tests;
 ghost use Rattle.isle_sets.specs.SiteViews.{set_rule_view, set_view, site_view};
-ghost use Rattle.isle_serialize.specs.AroundViews.{around_view, has, AreAtHand, IsKnown};
-ghost use Rattle.isle_serialize.specs.Growing.{CanGrow};
-ghost use Rattle.isle_serialize.specs.Opened.{AddsOpen, IsEqualOf, IsLoopBy, IsLoopOf, IsMatchOf, IsPairOf, IsPairWith, IsTest, IsWanted, OfSome};
+ghost use Rattle.isle_serialize.specs.AroundViews.{has, AreAtHand};
+ghost use Rattle.isle_serialize.specs.PlaceViews.{around_at, set_at};
+ghost use Rattle.isle_serialize.specs.Opened.{AddsAt, IsEqualOf, IsLoopBy, IsLoopOf, IsMatchOf, IsPairOf, IsPairWith, IsTest, IsWanted, OfSome};
 ghost use Rattle.isle_serialize.specs.TestViews.{test_view, AreUseful};
 
-use crate::around::{Around, Known, are_joined, is_brought, is_source, must_wait};
+use crate::around::{are_joined, is_brought, is_source, must_wait};
 use crate::binds::sources_of;
+use crate::place::Place;
 use crate::small_set::SmallSet;
 use crate::tests::{Test, needs_at, reach_count};
 use isle_sets::trie_again::{Binding, BindingId, Rule, RuleSet};
@@ -30,25 +30,19 @@ fn waits_at(set: &RuleSet, site: BindingId) -> bool
 }
 
 // Whether a site is known to be available: it was brought, or was found to be.
-fn is_found(around: &Around, known: &Known, site: BindingId, found: &SmallSet) -> bool
-    requires { IsKnown (around_view around.now) known.now }
-    ensures { result ≡ (is_in site around.now.brought.items || has found.now site) }
+fn is_found(place: &Place<'_>, site: BindingId, found: &SmallSet) -> bool
+    ensures { result ≡ (is_in site (around_at place.now).brought || has found.now site) }
 {
-    is_brought(around, known, site) || found.contains(site)
+    is_brought(place, site) || found.contains(site)
 }
 
 // Notes that a site is available, where it is made of others: else that is found again as fast.
-fn note(
-    set: &RuleSet,
-    around: &Around,
-    site: BindingId,
-    found: &mut SmallSet,
-) -> Result<(), AllocError>
-    requires at_hand { available (set_view set.now).sites (around_view around.now) site ≡ true }
-    requires found { AreAtHand (set_view set.now).sites (around_view around.now) found.old }
-    ensures { OnOk result (AreAtHand (set_view set.now).sites (around_view around.now) found.new) }
+fn note(place: &Place<'_>, site: BindingId, found: &mut SmallSet) -> Result<(), AllocError>
+    requires at_hand { available (set_at place.now).sites (around_at place.now) site ≡ true }
+    requires found { AreAtHand (set_at place.now).sites (around_at place.now) found.old }
+    ensures { OnOk result (AreAtHand (set_at place.now).sites (around_at place.now) found.new) }
 {
-    if sources_of(set, site).is_empty() {
+    if sources_of(place.indexed.set, site).is_empty() {
         return Ok(());
     }
     found.insert(site)?;
@@ -58,109 +52,75 @@ fn note(
 // Whether a site is available: it was brought, or none has to bring it, and its sources are available. What is found to
 // be is noted, so that no site is asked twice.
 fn comes_to_hand(
-    set: &RuleSet,
-    around: &Around,
-    known: &Known,
+    place: &Place<'_>,
     site: BindingId,
     found: &mut SmallSet,
 ) -> Result<bool, AllocError>
-    requires sources { (s a : ℕ) → Contains (sources_at (set_view set.now).sites s) a → a < s }
-    requires known { IsKnown (around_view around.now) known.now }
-    requires found { AreAtHand (set_view set.now).sites (around_view around.now) found.old }
-    ensures at_hand { IfOk result (λ b. b ≡ available (set_view set.now).sites (around_view around.now) site) }
-    ensures found { OnOk result (AreAtHand (set_view set.now).sites (around_view around.now) found.new) }
+    requires { AreAtHand (set_at place.now).sites (around_at place.now) found.old }
+    ensures at_hand { IfOk result (λ b. b ≡ available (set_at place.now).sites (around_at place.now) site) }
+    ensures found { OnOk result (AreAtHand (set_at place.now).sites (around_at place.now) found.new) }
 {
-    if is_found(around, known, site, found) {
+    if is_found(place, site, found) {
         return Ok(true);
     }
-    if waits_at(set, site) {
+    if waits_at(place.indexed.set, site) {
         return Ok(false);
     }
-    for source in sources_of(set, site) {
-        if !comes_to_hand(set, around, known, *source, found)? {
+    for source in sources_of(place.indexed.set, site) {
+        if !comes_to_hand(place, *source, found)? {
             return Ok(false);
         }
     }
-    note(set, around, site, found)?;
+    note(place, site, found)?;
     Ok(true)
 }
 
 // Whether a site of the set is available.
-fn is_at_hand(
-    alloc: Global,
-    set: &RuleSet,
-    around: &Around,
-    known: &Known,
-    site: BindingId,
-) -> Result<bool, AllocError>
-    requires sources { (s a : ℕ) → Contains (sources_at (set_view set.now).sites s) a → a < s }
-    requires known { IsKnown (around_view around.now) known.now }
-    ensures { IfOk result (λ b. b ≡ Tests.is_at_hand (set_view set.now) (around_view around.now) site) }
+fn is_at_hand(alloc: Global, place: &Place<'_>, site: BindingId) -> Result<bool, AllocError>
+    ensures { IfOk result (λ b. b ≡ Tests.is_at_hand (set_at place.now) (around_at place.now) site) }
 {
-    if site.index() >= set.bindings.len() {
+    if site.index() >= place.indexed.set.bindings.len() {
         return Ok(false);
     }
     let mut found = SmallSet::new(alloc);
-    comes_to_hand(set, around, known, site, &mut found)
+    comes_to_hand(place, site, &mut found)
 }
 
 // Whether a site is available, and no arm or loop around has it as its source.
-fn is_open_site(
-    alloc: Global,
-    set: &RuleSet,
-    around: &Around,
-    known: &Known,
-    site: BindingId,
-) -> Result<bool, AllocError>
-    requires sources { (s a : ℕ) → Contains (sources_at (set_view set.now).sites s) a → a < s }
-    requires known { IsKnown (around_view around.now) known.now }
-    ensures { IfOk result (λ b. b ≡ Tests.is_open_site (set_view set.now) (around_view around.now) site) }
+fn is_open_site(alloc: Global, place: &Place<'_>, site: BindingId) -> Result<bool, AllocError>
+    ensures { IfOk result (λ b. b ≡ Tests.is_open_site (set_at place.now) (around_at place.now) site) }
 {
-    if is_source(around, known, site) {
+    if is_source(place, site) {
         return Ok(false);
     }
-    is_at_hand(alloc, set, around, known, site)
+    is_at_hand(alloc, place, site)
 }
 
 // Whether two sites, the lesser first, are available, and the equalities around don't join them.
 fn is_open_pair(
     alloc: Global,
-    set: &RuleSet,
-    around: &Around,
-    known: &Known,
+    place: &Place<'_>,
     a: BindingId,
     b: BindingId,
 ) -> Result<bool, AllocError>
-    requires sources { (s a : ℕ) → Contains (sources_at (set_view set.now).sites s) a → a < s }
-    requires known { IsKnown (around_view around.now) known.now }
-    ensures { IfOk result (λ x. x ≡ Tests.is_open_pair (set_view set.now) (around_view around.now) a b) }
+    ensures { IfOk result (λ x. x ≡ Tests.is_open_pair (set_at place.now) (around_at place.now) a b) }
 {
-    if b.index() <= a.index() || are_joined(around, known, a, b) {
+    if b.index() <= a.index() || are_joined(place, a, b) {
         return Ok(false);
     }
-    if !is_at_hand(alloc, set, around, known, a)? {
+    if !is_at_hand(alloc, place, a)? {
         return Ok(false);
     }
-    is_at_hand(alloc, set, around, known, b)
+    is_at_hand(alloc, place, b)
 }
 
 // Whether a test is open.
-fn is_open(
-    alloc: Global,
-    set: &RuleSet,
-    around: &Around,
-    known: &Known,
-    test: &Test,
-) -> Result<bool, AllocError>
-    requires sources { (s a : ℕ) → Contains (sources_at (set_view set.now).sites s) a → a < s }
-    requires known { IsKnown (around_view around.now) known.now }
-    ensures { IfOk result (λ x. x ≡ Tests.is_open (set_view set.now) (around_view around.now) (test_view test.now)) }
+fn is_open(alloc: Global, place: &Place<'_>, test: &Test) -> Result<bool, AllocError>
+    ensures { IfOk result (λ x. x ≡ Tests.is_open (set_at place.now) (around_at place.now) (test_view test.now)) }
 {
     match test {
-        Test::Match { source } | Test::Loop { source } => is_open_site(
-            alloc, set, around, known, *source,
-        ),
-        Test::Equal { a, b } => is_open_pair(alloc, set, around, known, *a, *b),
+        Test::Match { source } | Test::Loop { source } => is_open_site(alloc, place, *source),
+        Test::Equal { a, b } => is_open_pair(alloc, place, *a, *b),
     }
 }
 
@@ -185,21 +145,17 @@ fn is_listed(tests: &[Test], earlier: usize, test: &Test) -> bool
 // Adds a test, where it is open and isn't among the earlier ones.
 fn add_open(
     alloc: Global,
-    set: &RuleSet,
-    around: &Around,
-    known: &Known,
+    place: &Place<'_>,
     earlier: usize,
     test: Test,
     tests: &mut Vec<Test>,
 ) -> Result<(), AllocError>
-    requires sources { (s a : ℕ) → Contains (sources_at (set_view set.now).sites s) a → a < s }
-    requires known { IsKnown (around_view around.now) known.now }
-    ensures { OnOk result (AddsOpen (set_view set.now) (around_view around.now) (IsTest test) tests.old.items tests.new.items) }
+    ensures { OnOk result (AddsAt place.now (IsTest test) tests.old.items tests.new.items) }
 {
     if is_listed(tests, earlier, &test) {
         return Ok(());
     }
-    if is_open(alloc, set, around, known, &test)? {
+    if is_open(alloc, place, &test)? {
         tests.push(test)?;
     }
     Ok(())
@@ -208,20 +164,16 @@ fn add_open(
 // Adds the matches of the sites of which a rule asks something.
 fn add_matches(
     alloc: Global,
-    set: &RuleSet,
-    around: &Around,
-    known: &Known,
+    place: &Place<'_>,
     rule: &Rule,
     earlier: usize,
     tests: &mut Vec<Test>,
 ) -> Result<(), AllocError>
-    requires sources { (s a : ℕ) → Contains (sources_at (set_view set.now).sites s) a → a < s }
-    requires known { IsKnown (around_view around.now) known.now }
-    ensures { OnOk result (AddsOpen (set_view set.now) (around_view around.now) (IsMatchOf (set_rule_view rule.now)) tests.old.items tests.new.items) }
+    ensures { OnOk result (AddsAt place.now (IsMatchOf (set_rule_view rule.now)) tests.old.items tests.new.items) }
 {
     for asked in rule.constraints() {
         let test = Test::Match { source: asked.0 };
-        add_open(alloc, set, around, known, earlier, test, tests)?;
+        add_open(alloc, place, earlier, test, tests)?;
     }
     Ok(())
 }
@@ -229,21 +181,17 @@ fn add_matches(
 // Adds the equalities of a site and others.
 fn add_pairs_with(
     alloc: Global,
-    set: &RuleSet,
-    around: &Around,
-    known: &Known,
+    place: &Place<'_>,
     a: BindingId,
     others: &[BindingId],
     earlier: usize,
     tests: &mut Vec<Test>,
 ) -> Result<(), AllocError>
-    requires sources { (s a : ℕ) → Contains (sources_at (set_view set.now).sites s) a → a < s }
-    requires known { IsKnown (around_view around.now) known.now }
-    ensures { OnOk result (AddsOpen (set_view set.now) (around_view around.now) (IsPairWith others.now a) tests.old.items tests.new.items) }
+    ensures { OnOk result (AddsAt place.now (IsPairWith others.now a) tests.old.items tests.new.items) }
 {
     for b in others {
         let test = Test::Equal { a, b: *b };
-        add_open(alloc, set, around, known, earlier, test, tests)?;
+        add_open(alloc, place, earlier, test, tests)?;
     }
     Ok(())
 }
@@ -251,19 +199,15 @@ fn add_pairs_with(
 // Adds the equalities of two sites of a class.
 fn add_pairs(
     alloc: Global,
-    set: &RuleSet,
-    around: &Around,
-    known: &Known,
+    place: &Place<'_>,
     class: &[BindingId],
     earlier: usize,
     tests: &mut Vec<Test>,
 ) -> Result<(), AllocError>
-    requires sources { (s a : ℕ) → Contains (sources_at (set_view set.now).sites s) a → a < s }
-    requires known { IsKnown (around_view around.now) known.now }
-    ensures { OnOk result (AddsOpen (set_view set.now) (around_view around.now) (IsPairOf class.now) tests.old.items tests.new.items) }
+    ensures { OnOk result (AddsAt place.now (IsPairOf class.now) tests.old.items tests.new.items) }
 {
     for a in class {
-        add_pairs_with(alloc, set, around, known, *a, class, earlier, tests)?;
+        add_pairs_with(alloc, place, *a, class, earlier, tests)?;
     }
     Ok(())
 }
@@ -271,19 +215,15 @@ fn add_pairs(
 // Adds the equalities that a rule demands.
 fn add_equalities(
     alloc: Global,
-    set: &RuleSet,
-    around: &Around,
-    known: &Known,
+    place: &Place<'_>,
     rule: &Rule,
     earlier: usize,
     tests: &mut Vec<Test>,
 ) -> Result<(), AllocError>
-    requires sources { (s a : ℕ) → Contains (sources_at (set_view set.now).sites s) a → a < s }
-    requires known { IsKnown (around_view around.now) known.now }
-    ensures { OnOk result (AddsOpen (set_view set.now) (around_view around.now) (IsEqualOf (set_rule_view rule.now)) tests.old.items tests.new.items) }
+    ensures { OnOk result (AddsAt place.now (IsEqualOf (set_rule_view rule.now)) tests.old.items tests.new.items) }
 {
     for class in rule.classes() {
-        add_pairs(alloc, set, around, known, class, earlier, tests)?;
+        add_pairs(alloc, place, class, earlier, tests)?;
     }
     Ok(())
 }
@@ -292,22 +232,18 @@ fn add_equalities(
 // those of earlier rules alone.
 fn add_wanted(
     alloc: Global,
-    set: &RuleSet,
-    around: &Around,
-    known: &Known,
+    place: &Place<'_>,
     number: usize,
     tests: &mut Vec<Test>,
 ) -> Result<(), AllocError>
-    requires sources { (s a : ℕ) → Contains (sources_at (set_view set.now).sites s) a → a < s }
-    requires known { IsKnown (around_view around.now) known.now }
-    ensures { OnOk result (AddsOpen (set_view set.now) (around_view around.now) (IsWanted (set_view set.now).rules number) tests.old.items tests.new.items) }
+    ensures { OnOk result (AddsAt place.now (IsWanted (set_at place.now).rules number) tests.old.items tests.new.items) }
 {
-    let Some(rule) = set.rules.get(number) else {
+    let Some(rule) = place.indexed.set.rules.get(number) else {
         return Ok(());
     };
     let earlier = tests.len();
-    add_matches(alloc, set, around, known, rule, earlier, tests)?;
-    add_equalities(alloc, set, around, known, rule, earlier, tests)?;
+    add_matches(alloc, place, rule, earlier, tests)?;
+    add_equalities(alloc, place, rule, earlier, tests)?;
     Ok(())
 }
 
@@ -343,24 +279,20 @@ fn some_needs(set: &RuleSet, numbers: &[usize], test: &Test) -> bool
 // Adds the loop over a call's answers, where a site stands for these and one of some rules needs it.
 fn add_loop(
     alloc: Global,
-    set: &RuleSet,
-    around: &Around,
-    known: &Known,
+    place: &Place<'_>,
     highest: &[usize],
     binding: &Binding,
     tests: &mut Vec<Test>,
 ) -> Result<(), AllocError>
-    requires sources { (s a : ℕ) → Contains (sources_at (set_view set.now).sites s) a → a < s }
-    requires known { IsKnown (around_view around.now) known.now }
-    ensures { OnOk result (AddsOpen (set_view set.now) (around_view around.now) (IsLoopBy (set_view set.now).rules highest.now (site_view binding.now)) tests.old.items tests.new.items) }
+    ensures { OnOk result (AddsAt place.now (IsLoopBy (set_at place.now).rules highest.now (site_view binding.now)) tests.old.items tests.new.items) }
 {
     let Binding::Iterator { source } = binding else {
         return Ok(());
     };
     let test = Test::Loop { source: *source };
-    if some_needs(set, highest, &test) {
+    if some_needs(place.indexed.set, highest, &test) {
         let earlier = tests.len();
-        add_open(alloc, set, around, known, earlier, test, tests)?;
+        add_open(alloc, place, earlier, test, tests)?;
     }
     Ok(())
 }
@@ -368,21 +300,17 @@ fn add_loop(
 // Adds the loops that some rules need.
 fn add_loops(
     alloc: Global,
-    set: &RuleSet,
-    around: &Around,
-    known: &Known,
+    place: &Place<'_>,
     highest: &[usize],
     tests: &mut Vec<Test>,
 ) -> Result<(), AllocError>
-    requires set { CanGrow (set_view set.now) }
-    requires known { IsKnown (around_view around.now) known.now }
-    ensures { OnOk result (AddsOpen (set_view set.now) (around_view around.now) (IsLoopOf (set_view set.now).rules highest.now) tests.old.items tests.new.items) }
+    ensures { OnOk result (AddsAt place.now (IsLoopOf (set_at place.now).rules highest.now) tests.old.items tests.new.items) }
 {
-    if !some_goes_over(set, highest) {
+    if !some_goes_over(place.indexed.set, highest) {
         return Ok(());
     }
-    for binding in &set.bindings {
-        add_loop(alloc, set, around, known, highest, binding, tests)?;
+    for binding in &place.indexed.set.bindings {
+        add_loop(alloc, place, highest, binding, tests)?;
     }
     Ok(())
 }
@@ -390,18 +318,14 @@ fn add_loops(
 // Adds the matches and equalities that some rules need.
 fn add_all_wanted(
     alloc: Global,
-    set: &RuleSet,
-    around: &Around,
-    known: &Known,
+    place: &Place<'_>,
     highest: &[usize],
     tests: &mut Vec<Test>,
 ) -> Result<(), AllocError>
-    requires sources { (s a : ℕ) → Contains (sources_at (set_view set.now).sites s) a → a < s }
-    requires known { IsKnown (around_view around.now) known.now }
-    ensures { OnOk result (AddsOpen (set_view set.now) (around_view around.now) (OfSome (IsWanted (set_view set.now).rules) highest.now) tests.old.items tests.new.items) }
+    ensures { OnOk result (AddsAt place.now (OfSome (IsWanted (set_at place.now).rules) highest.now) tests.old.items tests.new.items) }
 {
     for number in highest {
-        add_wanted(alloc, set, around, known, *number, tests)?;
+        add_wanted(alloc, place, *number, tests)?;
     }
     Ok(())
 }
@@ -409,19 +333,15 @@ fn add_all_wanted(
 /// The open tests of a place that some of its highest rules needs: an open test that none of these needs covers no rule.
 pub fn useful_tests(
     alloc: Global,
-    set: &RuleSet,
-    around: &Around,
-    known: &Known,
+    place: &Place<'_>,
     here: &[usize],
 ) -> Result<Vec<Test>, AllocError>
-    requires known { IsKnown (around_view around.now) known.now }
-    requires set { CanGrow (set_view set.now) }
-    requires order { IsTrue (descend (set_view set.now).rules here.now) }
-    ensures { IfOk result (λ v. AreUseful (set_view set.now) (around_view around.now) here.now v.items) }
+    requires { IsTrue (descend (set_at place.now).rules here.now) }
+    ensures { IfOk result (λ v. AreUseful (set_at place.now) (around_at place.now) here.now v.items) }
 {
-    let highest = &here[..reach_count(set, here, here.first().copied())];
+    let highest = &here[..reach_count(place.indexed.set, here, here.first().copied())];
     let mut tests = Vec::new(alloc);
-    add_all_wanted(alloc, set, around, known, highest, &mut tests)?;
-    add_loops(alloc, set, around, known, highest, &mut tests)?;
+    add_all_wanted(alloc, place, highest, &mut tests)?;
+    add_loops(alloc, place, highest, &mut tests)?;
     Ok(tests)
 }

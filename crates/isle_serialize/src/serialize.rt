@@ -14,6 +14,7 @@ ghost use Rattle.isle_serialize.specs.TreeViews.{tree_view};
 use crate::around::Around;
 use crate::best::block_of;
 use crate::fields::fields_by_source;
+use crate::place::IndexedSet;
 use crate::tests::priority;
 use isle_base::syntax::Pos;
 use isle_laws_trees::{best_trees_mean_their_sets, built_sets_have_one_best_tree};
@@ -164,7 +165,11 @@ pub fn serialize(alloc: Global, set: &RuleSet) -> Result<Block, AllocError>
     let numbers = all_rules(alloc, set)?;
     let here = in_order(set, numbers)?;
     let fields = fields_by_source(alloc, set)?;
-    block_of(alloc, set, &fields, here, Around::new(alloc))
+    let indexed = IndexedSet {
+        set,
+        fields: &fields,
+    };
+    block_of(alloc, &indexed, here, Around::new(alloc))
 }
 
 // The numbers of all rules of a set, ascending.

@@ -9,11 +9,12 @@ ghost use Rattle.isle_model.specs.trees.Tests as Tests;
 ghost use Rattle.isle_sets.specs.SiteViews.{set_rule_view, set_view};
 ghost use Rattle.isle_serialize.specs.Bars as Bars;
 ghost use Rattle.isle_serialize.specs.Bars.{reaches};
-ghost use Rattle.isle_serialize.specs.AroundViews.{around_view, IsKnown};
+ghost use Rattle.isle_serialize.specs.PlaceViews.{around_at, set_at};
 ghost use Rattle.isle_serialize.specs.TestViews.{test_view, score_view, greater_test, IsGreatestScored, IsScored};
 
-use crate::around::{Around, Known, is_emitted};
+use crate::around::is_emitted;
 use crate::parts::part;
+use crate::place::Place;
 use isle_sets::trie_again::{BindingId, Rule, RuleSet};
 use std::alloc::{AllocError, Global};
 
@@ -208,30 +209,29 @@ fn cover_count(set: &RuleSet, here: &[usize], test: &Test) -> usize
 }
 
 /// The score of a test at a place.
-pub fn score_of(set: &RuleSet, around: &Around, known: &Known, here: &[usize], test: &Test) -> Score
-    requires known { IsKnown (around_view around.now) known.now }
-    requires order { IsTrue (descend (set_view set.now).rules here.now) }
-    ensures { score_view result ≡ Tests.score (set_view set.now) (around_view around.now) here.now (test_view test.now) }
+pub fn score_of(place: &Place<'_>, here: &[usize], test: &Test) -> Score
+    requires { IsTrue (descend (set_at place.now).rules here.now) }
+    ensures { score_view result ≡ Tests.score (set_at place.now) (around_at place.now) here.now (test_view test.now) }
 {
-    let count = cover_count(set, here, test);
+    let count = cover_count(place.indexed.set, here, test);
     match test {
         Test::Match { source } => Score {
             count,
-            is_emitted: is_emitted(around, known, *source),
+            is_emitted: is_emitted(place, *source),
             form: 0,
             site: *source,
             other: BindingId::from(0),
         },
         Test::Equal { a, b } => Score {
             count,
-            is_emitted: is_emitted(around, known, *a) && is_emitted(around, known, *b),
+            is_emitted: is_emitted(place, *a) && is_emitted(place, *b),
             form: 1,
             site: *a,
             other: *b,
         },
         Test::Loop { source } => Score {
             count,
-            is_emitted: is_emitted(around, known, *source),
+            is_emitted: is_emitted(place, *source),
             form: 2,
             site: *source,
             other: BindingId::from(0),
@@ -258,53 +258,37 @@ pub fn is_greater(x: Score, y: Score) -> bool
 }
 
 /// The greatest of some tests at a place, with its score.
-pub fn greatest_of(
-    set: &RuleSet,
-    around: &Around,
-    known: &Known,
-    here: &[usize],
-    tests: &[Test],
-) -> Option<Scored>
-    requires known { IsKnown (around_view around.now) known.now }
-    requires order { IsTrue (descend (set_view set.now).rules here.now) }
-    ensures { IsGreatestScored (set_view set.now) (around_view around.now) here.now tests.now result }
+pub fn greatest_of(place: &Place<'_>, here: &[usize], tests: &[Test]) -> Option<Scored>
+    requires { IsTrue (descend (set_at place.now).rules here.now) }
+    ensures { IsGreatestScored (set_at place.now) (around_at place.now) here.now tests.now result }
 {
     let mut best = None;
     for test in tests {
-        best = Some(greater_of(set, around, known, here, best, test));
+        best = Some(greater_of(place, here, best, test));
     }
     best
 }
 
 // A test with its score.
-fn with_score(set: &RuleSet, around: &Around, known: &Known, here: &[usize], test: &Test) -> Scored
-    requires known { IsKnown (around_view around.now) known.now }
-    requires order { IsTrue (descend (set_view set.now).rules here.now) }
+fn with_score(place: &Place<'_>, here: &[usize], test: &Test) -> Scored
+    requires { IsTrue (descend (set_at place.now).rules here.now) }
     ensures test { result.test ≡ test.now }
-    ensures score { IsScored (set_view set.now) (around_view around.now) here.now result }
+    ensures score { IsScored (set_at place.now) (around_at place.now) here.now result }
 {
     Scored {
         test: *test,
-        score: score_of(set, around, known, here, test),
+        score: score_of(place, here, test),
     }
 }
 
 // The greater one of a test whose score is known and of another one.
-fn greater_of(
-    set: &RuleSet,
-    around: &Around,
-    known: &Known,
-    here: &[usize],
-    best: Option<Scored>,
-    test: &Test,
-) -> Scored
-    requires known { IsKnown (around_view around.now) known.now }
-    requires order { IsTrue (descend (set_view set.now).rules here.now) }
-    requires best { MatchOption best (Unit {0}) (IsScored (set_view set.now) (around_view around.now) here.now) }
-    ensures test { result.test ≡ greater_test (set_view set.now) (around_view around.now) here.now (option_map (λ s. s.test) best) test.now }
-    ensures score { IsScored (set_view set.now) (around_view around.now) here.now result }
+fn greater_of(place: &Place<'_>, here: &[usize], best: Option<Scored>, test: &Test) -> Scored
+    requires order { IsTrue (descend (set_at place.now).rules here.now) }
+    requires best { MatchOption best (Unit {0}) (IsScored (set_at place.now) (around_at place.now) here.now) }
+    ensures test { result.test ≡ greater_test (set_at place.now) (around_at place.now) here.now (option_map (λ s. s.test) best) test.now }
+    ensures score { IsScored (set_at place.now) (around_at place.now) here.now result }
 {
-    let next = with_score(set, around, known, here, test);
+    let next = with_score(place, here, test);
     match best {
         Some(other) => if is_greater(next.score, other.score) {
             next

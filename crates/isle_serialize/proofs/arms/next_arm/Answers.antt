@@ -1,14 +1,15 @@
 use Rattle.std.proofs.Common.{◌∷◌, [], ◌∙◌, ap, sym}
-use Rattle.isle_sets.specs.SiteViews.{constraint_view, set_view}
+use Rattle.isle_sets.specs.SiteViews.{constraint_view}
 use Rattle.isle_serialize.specs.AroundViews.{around_view, brings, where_emitted}
 use Rattle.isle_model.specs.trees.Places.{field_sites}
+use Rattle.isle_serialize.specs.PlaceViews.{set_in}
 use Rattle.isle_serialize.proofs.InsideSteps.{brought_inside}
 use Rattle.isle_serialize.proofs.ArmRuns.{asking_first, least_of}
 use Rattle.isle_serialize.proofs.arms.next_arm.Goals as goal
 
 pub returns : goal.returns
 returns c =
-    let set = set_view c.args.set.now in
+    let set = set_in c.args.indexed.now in
     let s = c.args.source in
     let left = c.args.left.now in
     let fields = c.in_ok-fields.fields.items in

@@ -1,5 +1,4 @@
 use Rattle.std.proofs.Common.{◌≡◌, ◌<◌, ◌∙◌, ◌∷◌, [], None, ap, drop, length, refl, sym, subst, arith, rules}
-use Rattle.isle_sets.specs.SiteViews.{set_view}
 use Rattle.isle_serialize.specs.declared.serialize.ControlFlow.{Match, Equal, Loop}
 use Rattle.isle_serialize.specs.declared.serialize.MatchArm.{roll-MatchArm}
 use Rattle.isle_serialize.specs.AroundViews.{around_view, AreEmitted}
@@ -7,6 +6,7 @@ use Rattle.isle_serialize.specs.Growing.{IsBestFrom, IsBestBody, IsStepOf, test_
 use Rattle.isle_serialize.specs.TestViews.{test_view, IsChosen}
 use Rattle.isle_serialize.specs.Turns.{numbers, AreInTurn, IsNextArmOf}
 use Rattle.isle_serialize.specs.TreeViews.{tree_view, arms_view, check_view}
+use Rattle.isle_serialize.specs.PlaceViews.{set_in}
 use Rattle.isle_serialize.proofs.ArmSteps.{ArmsGrow, arms_start, fewer_left, asking_ordered, arms_more, arms_whole}
 use Rattle.isle_model.specs.sites.Sites.{sources_at}
 use Rattle.isle_serialize.specs.declared.around.Around.{Around}
@@ -19,18 +19,18 @@ use Rattle.isle_serialize.proofs.best.+grow.Goals as goal
 -- blocks
 pub block_of-check_of-requires : goal.block_of-check_of-requires
 block_of-check_of-requires t c =
-    let set = set_view c.args.set.now in
+    let set = set_in c.args.indexed.now in
     let ar = around_view c.loop-around.around in
     let left = c.loop-around.left.items in
     let next = c.in-Some.next in
     let h = subst (λ l. IsNextTest set ar l next) c.deref.ensures.value (subst (IsNext set ar c.deref.result.now) c.in-Some.is c.in_ok-next.ensures) in
     let emitted = subst (AreEmitted set ar (test_emits set (test_view next.test))) (sym c.deref-in-Some.ensures.value) h.emitted in
     let same : untried (length set.sites) ar ≡ untried (length set.sites) (around_view c.args.around) = c.loop-around.invariant.as_many in
-    (search (rules, arith, same), (c.requires.set, (c.requires.fields, (covered_ordered set ar left next h c.loop-around.invariant.ordered, (covered_step set ar left next h, emitted)))))
+    (search (rules, arith, same), (covered_ordered set ar left next h c.loop-around.invariant.ordered, (covered_step set ar left next h, emitted)))
 
 pub block_of-loop-around-smaller : goal.block_of-loop-around-smaller
 block_of-loop-around-smaller t c =
-    let set = set_view c.args.set.now in
+    let set = set_in c.args.indexed.now in
     let ar = around_view c.loop-around.around in
     let next = c.in-Some.next in
     let h = subst (λ l. IsNextTest set ar l next) c.deref.ensures.value (subst (IsNext set ar c.deref.result.now) c.in-Some.is c.in_ok-next.ensures) in
@@ -38,7 +38,7 @@ block_of-loop-around-smaller t c =
 
 pub block_of-loop-around-preserved : goal.block_of-loop-around-preserved
 block_of-loop-around-preserved t c =
-    let set = set_view c.args.set.now in
+    let set = set_in c.args.indexed.now in
     let ar = around_view c.loop-around.around in
     let next = c.in-Some.next in
     let h = subst (λ l. IsNextTest set ar l next) c.deref.ensures.value (subst (IsNext set ar c.deref.result.now) c.in-Some.is c.in_ok-next.ensures) in
@@ -49,7 +49,7 @@ block_of-loop-around-preserved t c =
 
 pub block_of-returns : goal.block_of-returns
 block_of-returns t c =
-    let set = set_view c.args.set.now in
+    let set = set_in c.args.indexed.now in
     let ar = around_view c.loop-around.around in
     let left = c.loop-around.left.items in
     let over = subst (λ l. IsChosen set ar l None) c.deref.ensures.value (subst (IsNext set ar c.deref.result.now) c.in_default.is c.in_ok-next.ensures) in
@@ -59,7 +59,7 @@ block_of-returns t c =
 -- tests
 pub check_of-block_of-requires : goal.check_of-block_of-requires
 check_of-block_of-requires t c =
-    let set = set_view c.args.set.now in
+    let set = set_in c.args.indexed.now in
     let around = c.args.around.now in
     let inside = c.in_ok-inside-in-Equal.inside in
     let here = c.args.here.items in
@@ -67,17 +67,17 @@ check_of-block_of-requires t c =
     let emitted = subst (λ u. AreEmitted set (around_view around) (test_emits set (test_view u)) c.args.emitted.now) c.in-Equal.is c.requires.emitted in
     let there = joined_inside set around c.in-Equal.a c.in-Equal.b c.args.emitted.now emitted inside c.in_ok-inside-in-Equal.ensures in
     let smaller : untried (length set.sites) (around_view inside) < untried (length set.sites) (around_view around) = equal_fewer set around inside here c.in-Equal.a c.in-Equal.b h.open_here there in
-    (search (rules, arith, smaller), (c.requires.set, (c.requires.fields, c.requires.order)))
+    (search (rules, arith, smaller), c.requires.order)
 
-pub check_of-pick_of-result-requires-clause-made : goal.check_of-pick_of-result-requires-clause-made
-check_of-pick_of-result-requires-clause-made t c =
-    let set = set_view c.args.set.now in
+pub check_of-pick_of-result-requires : goal.check_of-pick_of-result-requires
+check_of-pick_of-result-requires t c =
+    let set = set_in c.args.indexed.now in
     let ar = around_view c.args.around.now in
-    pick_made set c.requires.set ar c.in-Loop.source c.args.here.items (subst (λ u. IsStepOf set ar (test_view u) c.args.here.items) c.in-Loop.is c.requires.step)
+    pick_made set c.args.indexed.now.can_grow ar c.in-Loop.source c.args.here.items (subst (λ u. IsStepOf set ar (test_view u) c.args.here.items) c.in-Loop.is c.requires.step)
 
 pub check_of-block_of-requires-in-Loop : goal.check_of-block_of-requires-in-Loop
 check_of-block_of-requires-in-Loop t c =
-    let set = set_view c.args.set.now in
+    let set = set_in c.args.indexed.now in
     let around = c.args.around.now in
     let inside = c.in_ok-inside-in-Loop.inside in
     let here = c.args.here.items in
@@ -86,18 +86,18 @@ check_of-block_of-requires-in-Loop t c =
     let emitted = subst (λ u. AreEmitted set (around_view around) (test_emits set (test_view u)) c.args.emitted.now) c.in-Loop.is c.requires.emitted in
     let there = brought_inside set around (sources_at set.sites c.in-Loop.source) c.args.emitted.now emitted inside c.in-Loop.source (result ∷ []) c.in_ok-inside-in-Loop.ensures in
     let smaller : untried (length set.sites) (around_view inside) < untried (length set.sites) (around_view around) = loop_fewer set around inside here c.in-Loop.source result h.open_here there in
-    (search (rules, arith, smaller), (c.requires.set, (c.requires.fields, c.requires.order)))
+    (search (rules, arith, smaller), c.requires.order)
 
 pub check_of-returns-in_ok-arms_of-in-Match : goal.check_of-returns-in_ok-arms_of-in-Match
 check_of-returns-in_ok-arms_of-in-Match t c =
-    let set = set_view c.args.set.now in
+    let set = set_in c.args.indexed.now in
     let ar = around_view c.args.around.now in
     let arms = c.in_ok-arms_of-in-Match.field-0 in
     subst (λ u. IsBestBody set ar (test_view u) c.args.here.items (check_view (Match c.in-Match.source arms))) (sym c.in-Match.is) (arms_view arms.items, match_seen c.in-Match.source arms, c.in_ok-arms_of-in-Match.ensures)
 
 pub check_of-returns-in_ok-block_of-in-Equal : goal.check_of-returns-in_ok-block_of-in-Equal
 check_of-returns-in_ok-block_of-in-Equal t c =
-    let set = set_view c.args.set.now in
+    let set = set_in c.args.indexed.now in
     let here = c.args.here.items in
     let body = c.in_ok-block_of-in-Equal.field-0 in
     let around = c.args.around.now in
@@ -109,7 +109,7 @@ check_of-returns-in_ok-block_of-in-Equal t c =
 
 pub check_of-returns-in_ok-block_of-in-Loop : goal.check_of-returns-in_ok-block_of-in-Loop
 check_of-returns-in_ok-block_of-in-Loop t c =
-    let set = set_view c.args.set.now in
+    let set = set_in c.args.indexed.now in
     let here = c.args.here.items in
     let result = c.pick_of-result.result in
     let body = c.in_ok-block_of-in-Loop.field-0 in
@@ -123,7 +123,7 @@ check_of-returns-in_ok-block_of-in-Loop t c =
 -- arms
 pub arms_of-loop-arms-init : goal.arms_of-loop-arms-init
 arms_of-loop-arms-init t c =
-    let set = set_view c.args.set.now in
+    let set = set_in c.args.indexed.now in
     let around = c.args.around.now in
     let turns = c.in_ok-turns.turns.items in
     let here = c.args.here.items in
@@ -133,26 +133,23 @@ arms_of-loop-arms-init t c =
     (subst (λ l. ArmsGrow set (around_view around) c.args.source here l []) (sym (c.behind-left.ensures ∙ c.deref-2.ensures.value)) start)
 
 pub arms_of-next_arm-requires : goal.arms_of-next_arm-requires
-arms_of-next_arm-requires t c = record { set = c.requires.set; fields = c.requires.fields; turns = c.loop-arms.invariant.turns; emitted = c.requires.emitted }
+arms_of-next_arm-requires t c = record { turns = c.loop-arms.invariant.turns; emitted = c.requires.emitted }
 
 pub arms_of-block_of-requires : goal.arms_of-block_of-requires
 arms_of-block_of-requires t c =
-    let set = set_view c.args.set.now in
+    let set = set_in c.args.indexed.now in
     let around = c.args.around.now in
     let left = c.loop-arms.left.now in
     let next = c.in-Some.next in
     let h = subst (IsNextArmOf set (around_view around) c.args.source (numbers left)) c.in-Some.is c.in_ok-next.ensures in
     let smaller : untried (length set.sites) (around_view next.inside) < untried (length set.sites) (around_view around) = arm_fewer set around next.inside c.args.here.items c.args.source next.fields.items c.requires.step.open_here h.inside in (
       search (rules, arith, smaller),
-      (
-        c.requires.set,
-        (c.requires.fields, asking_ordered set around c.args.source c.args.here.items left next h c.loop-arms.invariant),
-      ),
+      asking_ordered set around c.args.source c.args.here.items left next h c.loop-arms.invariant,
     )
 
 pub arms_of-loop-arms-smaller : goal.arms_of-loop-arms-smaller
 arms_of-loop-arms-smaller t c =
-    let set = set_view c.args.set.now in
+    let set = set_in c.args.indexed.now in
     let around = c.args.around.now in
     let next = c.in-Some.next in
     let left = c.loop-arms.left.now in
@@ -162,7 +159,7 @@ arms_of-loop-arms-smaller t c =
 
 pub arms_of-loop-arms-preserved : goal.arms_of-loop-arms-preserved
 arms_of-loop-arms-preserved t c =
-    let set = set_view c.args.set.now in
+    let set = set_in c.args.indexed.now in
     let around = c.args.around.now in
     let next = c.in-Some.next in
     let body = c.in_ok-block_of.field-0 in
@@ -177,7 +174,7 @@ arms_of-loop-arms-preserved t c =
 
 pub arms_of-returns : goal.arms_of-returns
 arms_of-returns t c =
-    let set = set_view c.args.set.now in
+    let set = set_in c.args.indexed.now in
     let around = c.args.around.now in
     let left = c.loop-arms.left.now in
     let none = subst (IsNextArmOf set (around_view around) c.args.source (numbers left)) c.in_default.is c.in_ok-next.ensures in

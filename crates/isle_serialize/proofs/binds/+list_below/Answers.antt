@@ -1,7 +1,7 @@
 use Rattle.std.proofs.Common.{◌<◌, ◌∙◌, sym, ap, subst, rules, arith, Contains}
 use Rattle.isle_model.specs.trees.Places.{is_in, each_after, listed_below}
-use Rattle.isle_sets.specs.SiteViews.{set_view}
 use Rattle.std.proofs.Common.{List, ℕ, ◌||◌}
+use Rattle.isle_serialize.specs.PlaceViews.{set_in}
 use Rattle.isle_serialize.proofs.Listed.{each_more, listed_whole}
 use Rattle.isle_serialize.proofs.SiteSets.{settled_more}
 use Rattle.std.proofs.lemmas.List.{take_all}
@@ -10,14 +10,14 @@ use Rattle.isle_serialize.proofs.binds.+list_below.Goals as goal
 pub list_below-requires : goal.list_below-requires
 list_below-requires t c =
     let there = subst (λ l. Contains l c.source-item.result) c.sources_of-source-items.ensures (c.loop-source.source-index, c.loop-source-test.true, sym c.source-item.is) in
-    let smaller : c.source-item.result < c.args.site = c.requires.sources c.args.site c.source-item.result there in
-    (search (rules, arith, smaller), (c.requires.sources, c.loop-source.invariant.settled))
+    let smaller : c.source-item.result < c.args.site = c.args.indexed.now.can_grow.sources c.args.site c.source-item.result there in
+    (search (rules, arith, smaller), c.loop-source.invariant.settled)
 
 pub loop-source-preserved : goal.loop-source-preserved
 loop-source-preserved t c =
-    let sites = (set_view c.args.set.now).sites in
+    let sites = (set_in c.args.indexed.now).sites in
     let there = subst (λ l. Contains l c.source-item.result) c.sources_of-source-items.ensures (c.loop-source.source-index, c.loop-source-test.true, sym c.source-item.is) in
-    let smaller : c.source-item.result < c.args.site = c.requires.sources c.args.site c.source-item.result there in
+    let smaller : c.source-item.result < c.args.site = c.args.indexed.now.can_grow.sources c.args.site c.source-item.result there in
     record {
       settled = c.in_ok-list_below.ensures.settled;
       listed = λ m l.
@@ -31,7 +31,7 @@ returns-clause-settled t c =
 
 pub returns-clause-listed : goal.returns-clause-listed
 returns-clause-listed t c =
-    let sites = (set_view c.args.set.now).sites in
+    let sites = (set_in c.args.indexed.now).sites in
     let done = c.args.listed.now.items in
     let flag = ap (λ (l : List ℕ). is_in c.args.site c.args.emitted.now || is_in c.args.site l) (sym c.deref.ensures.value) ∙ sym c.is_settled.ensures ∙ c.if-is_settled.false in
     λ n l.

@@ -1,9 +1,10 @@
 use Rattle.std.proofs.Common.{◌≡◌, ◌∙◌, arith}
-use Rattle.isle_sets.specs.SiteViews.{constraint_view, set_view}
+use Rattle.isle_sets.specs.SiteViews.{constraint_view}
+use Rattle.isle_serialize.specs.PlaceViews.{set_in}
 use Rattle.isle_serialize.proofs.FieldSteps.{fields_done}
 use Rattle.isle_serialize.proofs.fields.fields_of.Goals as goal
 
 pub returns : goal.returns
 returns c =
     let e : c.loop-number.number ≡ c.field_count-number-end.result = omega arith in
-    fields_done (set_view c.args.set.now).sites c.args.source (constraint_view c.args.constraint.now) c.loop-number.number c.loop-number.sites.items (e ∙ c.field_count-number-end.ensures) c.loop-number.invariant
+    fields_done (set_in c.args.indexed.now).sites c.args.source (constraint_view c.args.constraint.now) c.loop-number.number c.loop-number.sites.items (e ∙ c.field_count-number-end.ensures) c.loop-number.invariant

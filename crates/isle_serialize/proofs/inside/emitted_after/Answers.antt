@@ -1,8 +1,8 @@
 use Rattle.std.proofs.Common.{◌≡◌, ◌∙◌, ◌++◌, ◌||◌, ℕ, Bool, List, not, sym, ap, filter}
 use Rattle.std.proofs.lemmas.Result.{IfOk-weaker}
 use Rattle.isle_model.specs.trees.Places.{is_in, all_below}
-use Rattle.isle_sets.specs.SiteViews.{set_view}
 use Rattle.isle_serialize.specs.AroundViews.{has}
+use Rattle.isle_serialize.specs.PlaceViews.{set_in}
 use Rattle.isle_serialize.proofs.InsideSteps.{listed_once}
 use Rattle.isle_serialize.proofs.Tables.{is_in_append}
 use Rattle.isle_serialize.proofs.inside.emitted_after.Goals as goal
@@ -12,9 +12,9 @@ returns c =
     let old = c.args.emitted.now in
     let known = c.args.known.now in
     let below = c.in_ok-below.below.items in
-    let all = all_below (set_view c.args.set.now).sites c.args.used.now in
+    let all = all_below (set_in c.args.indexed.now).sites c.args.used.now in
     let kept = λ (l : List ℕ). filter (λ t. not (is_in t old)) l in
-    let same : (λ (s : ℕ). not (has known s)) ≡ (λ (s : ℕ). not (is_in s old)) = λ i s. not (c.requires.known s i) in
+    let same : (λ (s : ℕ). not (has known s)) ≡ (λ (s : ℕ). not (is_in s old)) = λ i s. not (c.requires s i) in
     let new_is : c.deref-2.result.now ≡ kept below = c.deref-2.ensures.value ∙ c.in_ok-new.ensures ∙ ap (λ (p : ℕ → Bool). filter p c.deref.result.now) same ∙ ap kept c.deref.ensures.value in
     IfOk-weaker c.chained.result (λ v. v.items ≡ c.deref-2.result.now ++ old) (λ v. (s : ℕ) → is_in s v.items ≡ is_in s (all ++ old))
     (λ v e s.

@@ -1,8 +1,8 @@
 use Rattle.std.proofs.Common.{◌≡◌, true, take}
 use Rattle.std.specs.List.{list_all}
 use Rattle.isle_model.specs.trees.Places.{available}
-use Rattle.isle_sets.specs.SiteViews.{set_view}
-use Rattle.isle_serialize.specs.AroundViews.{around_view, AreAtHand}
+use Rattle.isle_serialize.specs.AroundViews.{AreAtHand}
+use Rattle.isle_serialize.specs.PlaceViews.{around_at, set_at}
 use Rattle.isle_serialize.proofs.open.+comes_to_hand.Given as goal
 
 abbrev pub decreases-comes_to_hand : goal.decreases-comes_to_hand
@@ -10,6 +10,6 @@ decreases-comes_to_hand l = l.site
 
 abbrev pub invariant-loop-source : goal.invariant-loop-source
 invariant-loop-source l = record {
-  found : AreAtHand (set_view l.set).sites (around_view l.around) l.found;
-  come : list_all (available (set_view l.set).sites (around_view l.around)) (take l.source-index l.source-items) ≡ true;
+  found : AreAtHand (set_at l.place).sites (around_at l.place) l.found;
+  come : list_all (available (set_at l.place).sites (around_at l.place)) (take l.source-index l.source-items) ≡ true;
 }

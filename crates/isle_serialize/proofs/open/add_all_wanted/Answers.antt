@@ -1,14 +1,13 @@
 use Rattle.std.proofs.Common.{get_or, refl}
-use Rattle.isle_sets.specs.SiteViews.{set_view}
-use Rattle.isle_serialize.specs.AroundViews.{around_view}
 use Rattle.isle_serialize.specs.Opened.{IsWanted}
+use Rattle.isle_serialize.specs.PlaceViews.{around_at, set_at}
 use Rattle.isle_serialize.proofs.Opening.{adds_more}
 use Rattle.isle_serialize.proofs.open.add_all_wanted.Goals as goal
 
 pub loop-number-preserved : goal.loop-number-preserved
 loop-number-preserved c =
-    let set = set_view c.args.set.now in
-    let ar = around_view c.args.around.now in
+    let set = set_at c.args.place.now in
+    let ar = around_at c.args.place.now in
     let i = c.loop-number.number-index in
     let x = get_or c.args.highest.now i 0 in
     adds_more set ar (IsWanted set.rules) c.args.highest.now i x 0 c.args.tests.now.items c.loop-number.tests.items c.add_wanted.new.tests.items

@@ -1,23 +1,23 @@
 use Rattle.std.proofs.Common.{ap, sym, subst, take}
-use Rattle.isle_sets.specs.SiteViews.{constraint_views, set_rule_view, set_view}
-use Rattle.isle_serialize.specs.AroundViews.{around_view}
+use Rattle.isle_sets.specs.SiteViews.{constraint_views, set_rule_view}
 use Rattle.isle_serialize.specs.Opened.{IsMatch, IsMatchOf, OfSome}
+use Rattle.isle_serialize.specs.PlaceViews.{around_at, set_at}
 use Rattle.isle_serialize.proofs.Opening.{adds_as, adds_more, matches_of}
 use Rattle.isle_serialize.proofs.open.add_matches.Goals as goal
 use Rattle.std.proofs.lemmas.List.{take_all}
 
 pub loop-asked-preserved : goal.loop-asked-preserved
 loop-asked-preserved c =
-    let set = set_view c.args.set.now in
-    let ar = around_view c.args.around.now in
+    let set = set_at c.args.place.now in
+    let ar = around_at c.args.place.now in
     let x = c.asked-item.result in
     adds_more set ar (λ d. IsMatch d.0) c.constraints-asked-items.result.now c.loop-asked.asked-index x x c.args.tests.now.items c.loop-asked.tests.items c.add_open.new.tests.items
     c.loop-asked-test.true c.asked-item.is c.loop-asked.invariant c.in_ok-add_open.ensures
 
 pub returns : goal.returns
 returns c =
-    let set = set_view c.args.set.now in
-    let ar = around_view c.args.around.now in
+    let set = set_at c.args.place.now in
+    let ar = around_at c.args.place.now in
     let items = c.constraints-asked-items.result.now in
     let k = c.loop-asked.asked-index in
     let r = set_rule_view c.args.rule.now in

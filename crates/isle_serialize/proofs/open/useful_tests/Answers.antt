@@ -1,17 +1,16 @@
 use Rattle.std.proofs.Common.{◌≡◌, ◌∙◌, ℕ, Option, ap, subst, take, slice_get}
 use Rattle.std.specs.List.{filter}
-use Rattle.isle_sets.specs.SiteViews.{set_view}
-use Rattle.isle_serialize.specs.AroundViews.{around_view}
 use Rattle.isle_serialize.specs.Bars.{reaches}
 use Rattle.isle_serialize.specs.Opened.{AddsOpen, IsWanted, OfSome}
+use Rattle.isle_serialize.specs.PlaceViews.{around_at, set_at}
 use Rattle.isle_serialize.proofs.Descents.{reaching_first}
 use Rattle.isle_serialize.proofs.Opening.{all_useful}
 use Rattle.isle_serialize.proofs.open.useful_tests.Goals as goal
 
 pub returns : goal.returns
 returns c =
-    let set = set_view c.args.set.now in
-    let ar = around_view c.args.around.now in
+    let set = set_at c.args.place.now in
+    let ar = around_at c.args.place.now in
     let here = c.args.here.now in
     let n = c.reach_count.result in
     let top = take n here in
@@ -19,6 +18,6 @@ returns c =
     let first = c.first.ensures.value in
     let head = λ (bar : Option ℕ). filter (reaches set.rules bar) here in
     let top_is : top ≡ head (slice_get here 0) =
-    ap (λ k. take k here) c.reach_count.ensures.value ∙ reaching_first set.rules c.copied.result here c.requires.order ∙ ap head (c.copied.ensures ∙ first) in
+    ap (λ k. take k here) c.reach_count.ensures.value ∙ reaching_first set.rules c.copied.result here c.requires ∙ ap head (c.copied.ensures ∙ first) in
     all_useful set ar here top some c.add_loops.new.tests.items top_is
     (subst (λ l. AddsOpen set ar (OfSome (IsWanted set.rules) top) l some) c.new-tests.ensures.items c.in_ok-add_all_wanted.ensures) c.in_ok-add_loops.ensures

@@ -18,8 +18,11 @@ in_order-requires c = ap ascends c.in_ok-numbers.ensures ∙ ascends_up_to (leng
 pub fields_by_source-requires : goal.fields_by_source-requires
 fields_by_source-requires c = let grow = can_grow (set_view c.args.set.now) c.requires in record { few = grow.few; sources = grow.sources }
 
+pub invariant_of-indexed : goal.invariant_of-indexed
+invariant_of-indexed c = record { can_grow = can_grow (set_view c.args.set.now) c.requires; are_fields = c.in_ok-fields.ensures }
+
 pub block_of-requires : goal.block_of-requires
-block_of-requires c = record { set = can_grow (set_view c.args.set.now) c.requires; fields = c.in_ok-fields.ensures; order = c.in_ok-here.ensures.order }
+block_of-requires c = c.in_ok-here.ensures.order
 
 pub returns-clause-serialized : goal.returns-clause-serialized
 returns-clause-serialized c =

@@ -1,0 +1,16 @@
+-- The set of a place, and what stands around it.
+use Rattle.isle_model.specs.sites.Sites.{SiteSet}
+use Rattle.isle_model.specs.trees.Places.{Around}
+use Rattle.isle_sets.specs.SiteViews.{set_view}
+use Rattle.isle_serialize.specs.AroundViews.{around_view}
+use Rattle.isle_serialize.specs.declared.place.IndexedSet.{IndexedSet}
+use Rattle.isle_serialize.specs.declared.place.Place.{Place}
+
+abbrev pub set_in : IndexedSet → SiteSet
+set_in indexed = set_view indexed.set.now
+
+abbrev pub set_at : Place → SiteSet
+set_at place = set_in place.indexed
+
+abbrev pub around_at : Place → Around
+around_at place = around_view place.around.now

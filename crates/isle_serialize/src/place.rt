@@ -1,0 +1,33 @@
+//! A place of a tree, and the set that the tree is made of.
+
+ghost use Rattle.isle_sets.specs.SiteViews.{set_view};
+ghost use Rattle.isle_serialize.specs.AroundViews.{around_view, IsKnown};
+ghost use Rattle.isle_serialize.specs.FieldTests.{AreFields};
+ghost use Rattle.isle_serialize.specs.Growing.{CanGrow};
+
+use crate::around::{Around, Known};
+use crate::fields::Fields;
+use isle_sets::trie_again::RuleSet;
+
+/// A set of which a tree can be grown, and its fields by their sources. All places of the tree share it.
+#[derive(Clone, Copy)]
+pub struct IndexedSet<'a> {
+    /// The rules and their sites.
+    pub set: &'a RuleSet,
+    /// The sites that arms and loops bring.
+    pub fields: &'a Fields,
+    pub ghost can_grow: { CanGrow (set_view set.now) },
+    pub ghost are_fields: { AreFields (set_view set.now).sites fields.now },
+}
+
+/// A place of a tree, for the time in which its next test is searched.
+#[derive(Clone, Copy)]
+pub struct Place<'a> {
+    /// The set that the tree is made of.
+    pub indexed: IndexedSet<'a>,
+    /// What stands around the place.
+    pub around: &'a Around,
+    /// What is looked up of it.
+    pub known: &'a Known,
+    pub ghost is_known: { IsKnown (around_view around.now) known.now },
+}
