@@ -1,5 +1,6 @@
 -- Errors of reading types and rules, as errors of the environments of definitions.
-use Rattle.std.proofs.Common.{◌≡◌, Bool, List, All, Err}
+use Rattle.std.proofs.Common.{◌≡◌, Bool, List, Err, sym, subst}
+use Rattle.std.specs.Prelude.{Result}
 use Rattle.isle_base.specs.Answers.{Answers, OnErrors}
 use Rattle.isle_base.specs.declared.syntax.Error.{Error}
 use Rattle.isle_base.specs.declared.syntax.Fault.{Fault}
@@ -16,11 +17,16 @@ use Rattle.isle_rules.specs.RuleBreaches.{FirstBreaksRules}
 use Rattle.isle_types.specs.TypeBreaches.{FirstBreaksTypes}
 use Rattle.cranelift_isle.specs.Environments.{AreTyped, BreaksWhereRefused, NamesLackedLimits}
 use Rattle.cranelift_isle.specs.declared.environments.Environments.{Environments}
+use Rattle.cranelift_isle.specs.declared.lower.Lowered.{Lowered}
 
 -- what the errors of an answer give, they give of another answer with these
 pub errors_so : (A B : Type 0) (f : Fault) (P Q : List Error → Type 0) → ((es : List Error) → P es → Q es) → OnErrors {A = B} (Err f) P → OnErrors {A = A} (Err f) Q
 errors_so A B (Errors es) P Q give h = give es.items h
 errors_so A B (Memory m) P Q give h = tt
+
+-- what holds of the errors of environments holds of those of lowering that are the same
+pub handed_over : (f : Fault) (r : Result Lowered Fault) → r ≡ Err f → (P : List Error → Type 0) → OnErrors {A = Environments} (Err f) P → OnErrors r P
+handed_over f r e P h = subst (λ x. OnErrors x P) (sym e) (errors_so Lowered Environments f P P (λ es p. p) h)
 
 module _ (defs : List Definition) (expand : Bool) where
   pub passed_in_reading : IsValidTypes defs → (es : List Error) → NamesOnlyPassed (PassedInReading (types_read defs) defs expand) (error_views es)

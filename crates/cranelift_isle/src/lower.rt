@@ -134,9 +134,10 @@ pub fn lower(alloc: Global, defs: &[Def], expand: bool) -> Result<Lowered, Fault
     accepted_pass_no_limit();
     accepted_demands_are_whole();
     accepted_sets_are_whole();
-    let Environments { tyenv, termenv } = environments_of(alloc, defs, expand)?;
-    let sets = check(alloc, &termenv)?;
+    let environments = environments_of(alloc, defs, expand)?;
+    let sets = check(alloc, &environments.termenv)?;
     let terms = trees_of(alloc, sets)?;
+    let Environments { tyenv, termenv } = environments;
     Ok(Lowered {
         tyenv,
         termenv,
