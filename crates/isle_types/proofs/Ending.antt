@@ -1,5 +1,5 @@
 -- What holds when all definitions were read.
-use Rattle.std.proofs.Common.{◌≡◌, ◌≢◌, ℕ, ◌||◌, true, false, cond, ◌==◌, List, [], ◌∷◌, ◌++◌, map, Some, None, nat_eq, slice_get, refl, sym, ap, subst, ◌∙◌, eqb-true, ⊎_elim}
+use Rattle.std.proofs.Common.{◌≡◌, ◌≢◌, ℕ, ◌||◌, true, false, cond, ◌==◌, List, [], ◌∷◌, ◌++◌, map, Some, None, nat_eq, slice_get, refl, sym, ap, subst, ◌∙◌, eqb-true}
 use Rattle.std.proofs.lemmas.List.{append-nil}
 use Rattle.std.proofs.lemmas.List.Elements.{All-nil}
 use Rattle.isle_model.specs.lists.Syntax.{Definition}
@@ -17,10 +17,11 @@ use Rattle.isle_laws_typing.proofs.TypeLaws.{names_later, type_names_distinct, l
 use Rattle.isle_types.specs.declared.type_env.TypeEnv.{TypeEnv}
 use Rattle.isle_types.specs.Envs.{symbol_of, IsInterned}
 use Rattle.isle_types.specs.Stages.{names_in_types, constant_names, last_type, TypingConstants, ReadsConstants}
-use Rattle.isle_types.specs.TypeBreaches.{FirstBreaksTypes}
+use Rattle.isle_types.specs.TypeErrors.{AreErrorsOfTypes}
 use Rattle.isle_types.specs.TypeTables.{SeesTypes}
-use Rattle.isle_types.proofs.FirstBreaches.{first_invalid}
+use Rattle.isle_types.proofs.FirstBreaches.{first_invalid, first_breaks}
 use Rattle.isle_types.proofs.RightTypes.{types_valid}
+use Rattle.isle_types.proofs.TypeErrors.{told_forms}
 
 -- no constant has a number past the names
 look_past : (ns : List (List ℕ)) (ty : ConstantTree → ℕ) (k : ℕ) → slice_get ns k ≡ None → (cs : List ConstantTree) → ((x : List ℕ) → has_name (map (λ c. c.name.text) cs) x ≡ true → has_name ns x ≡ true) → look (λ j. j == k) (map (λ c. (number ns c.name.text, ty c)) (last_definitions cs)) ≡ None
@@ -65,19 +66,12 @@ module _ (defs : List Definition) (env : TypeEnv) where
     errors = n.errors;
   }
 
-  module _ (es : List Error) (s : ReadsConstants defs [] env es) where
-    no_first : es ≡ [] → FirstBreaksTypes defs es → ⊥
-    no_first none first = absurd (let some = sym none ∙ first.is in cc)
+  pub at_ok : (es : List Error) → ReadsConstants defs [] env es → es ≡ [] → IsValidTypes defs × SeesTypes env defs (type_names_met defs)
+  at_ok es s none = let right = s.right none in (valid_of right, sees_of right s.inverse)
 
-    pub at_ok : es ≡ [] → IsValidTypes defs × SeesTypes env defs (type_names_met defs)
-    at_ok none = ⊎_elim (λ right. (valid_of right.1, sees_of right.1 s.inverse)) (λ first. absurd (no_first none first)) s.so_far
+module _ (defs : List Definition) (es : List Error) (a : AreErrorsOfTypes defs es) where
+  pub at_err : es ≢ [] → IsValidTypes defs → ⊥
+  at_err some v = first_invalid defs es (first_breaks defs es a some) v
 
-    -- the first error stands at a definition that breaks a condition
-    pub at_breach : es ≢ [] → FirstBreaksTypes defs es
-    at_breach some = ⊎_elim (λ right. absurd (some right.0)) (λ first. first) s.so_far
-
-    pub at_err : es ≢ [] → IsValidTypes defs → ⊥
-    at_err some v = first_invalid defs es (at_breach some) v
-
-    pub why_refused : es ≢ [] → RefusesTypes defs (error_views es)
-    why_refused some = record { some_error = some_views es some; forms = forms_of es s.ill_typed; not_valid = at_err some }
+  pub why_refused : es ≢ [] → RefusesTypes defs (error_views es)
+  why_refused some = record { some_error = some_views es some; forms = forms_of es (told_forms defs es a); not_valid = at_err some }

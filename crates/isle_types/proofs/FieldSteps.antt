@@ -1,6 +1,6 @@
 -- Reading the fields of a list, one after another.
-use Rattle.std.proofs.Common.{◌≡◌, ℕ, suc, ◌+◌, ◌<◌, ◌≤◌, true, false, List, [], ◌∷◌, ◌++◌, length, map, drop, get_or, Some, None, All, unwrap_or, refl, inr, sym, ap, subst, ◌∙◌, arith, ⊎_elim}
-use Rattle.std.specs.List.{enumerate_from}
+use Rattle.std.proofs.Common.{◌≡◌, ℕ, suc, ◌+◌, ◌<◌, ◌≤◌, true, false, List, [], ◌∷◌, ◌++◌, length, map, drop, get_or, Some, None, All, unwrap_or, refl, sym, ap, subst, ◌∙◌, arith, ⊎_elim}
+use Rattle.std.specs.List.{flat_map, enumerate_from}
 use Rattle.std.specs.Option.{is_some}
 use Rattle.std.proofs.lemmas.Bool.{false≢true}
 use Rattle.std.proofs.lemmas.List.{append_assoc, append-nil, map-append, length_push, at_drop_more, at_drop_all}
@@ -12,6 +12,7 @@ use Rattle.isle_model.specs.lists.TypeTable.{field_names, all_type_names, place_
 use Rattle.isle_base.specs.declared.syntax.Error.{Error}
 use Rattle.isle_base.specs.declared.syntax.StructField as S
 use Rattle.isle_base.specs.declared.syntax.TupleField as U
+use Rattle.isle_base.specs.Positions.{field_positions, tuple_field_positions}
 use Rattle.isle_base.specs.Stable.{Members}
 use Rattle.isle_base.specs.SyntaxViews as X
 use Rattle.isle_types.specs.declared.ids.Sym.{Sym}
@@ -21,13 +22,14 @@ use Rattle.isle_types.specs.declared.types.TupleField.{TupleField}
 use Rattle.isle_types.specs.Envs.{names_of, symbol_of, type_at, type_of_name, IsInterned}
 use Rattle.isle_types.specs.VariantReading.{HasSeen}
 use Rattle.isle_types.specs.FieldReading.{was_seen, IsField, ReadsField, IsTupleField, ReadsTupleField}
-use Rattle.isle_base.specs.Noting.{MayNoteMore, NotesMore}
-use Rattle.isle_types.specs.Reading.{MeetsNames, AreRightFields}
+use Rattle.isle_types.specs.Reading.{MeetsNames, EndsAt, AreRightFields}
 use Rattle.isle_types.specs.Stages.{Sees}
 use Rattle.isle_types.specs.TypeViews.{field_view, tuple_field_view}
 use Rattle.isle_model.proofs.ByNumber.{by_text}
 use Rattle.isle_model.proofs.FirstPlaces.{distinct_push, twice}
 use Rattle.isle_model.proofs.Names.{number_stays, with_names_append}
+use Rattle.isle_types.proofs.NamesMet.{meet_more}
+use Rattle.isle_types.proofs.PlacesNoted.{noted_first}
 use Rattle.isle_types.proofs.Seen.{sees_name}
 use Rattle.isle_types.proofs.SeenNames.{none_seen, not_seen, seen_text, one_seen}
 
@@ -185,12 +187,16 @@ module _ (defs : List Definition) (all rest : List FieldTree) (f : FieldTree) (r
 pub record ReadsMore (fields rest : List S.StructField) (read : List StructField) (seen : Members Sym) (old : TypeEnv) (es : List Error) (new : TypeEnv) (es' : List Error) : Type 0 where
   pub inverse : IsInterned new
   pub unnoted : es' ≡ es
+  pub met : List (List ℕ)
+  pub meets : MeetsNames met old new
   pub reads : (defs : List Definition) → Sees old (all_type_names defs) → FieldsRead defs (map X.field_view fields) (map X.field_view rest) read seen old new
 
 pub reads_first : (fields : List S.StructField) (read : List StructField) (seen : Members Sym) (env : TypeEnv) (es : List Error) → IsInterned env → read ≡ [] → ((k : ℕ) → was_seen seen k ≡ false) → ReadsMore fields fields read seen env es env es
 reads_first fields read seen env es i empty none = record {
   inverse = i;
   unnoted = refl;
+  met = [];
+  meets = record { names = refl; types = refl; type_map = refl; const_types = refl; errors = refl };
   reads = λ defs s. subst (λ fs. FieldsRead defs (map X.field_view fields) (map X.field_view fields) fs seen env env) (sym empty) (first_field defs (map X.field_view fields) seen env s none);
 }
 
@@ -209,13 +215,19 @@ module _ (fields : List S.StructField) (k : ℕ) (d : S.StructField) (within : k
   reads_next r at a = record {
     inverse = i;
     unnoted = a.0 ∙ s.unnoted;
+    met = s.met ++ (X.field_view d).name.text ∷ [];
+    meets = meet_more s.met ((X.field_view d).name.text ∷ []) old env new s.meets m;
     reads = λ defs sees. next_field defs (map X.field_view fields) (map X.field_view (drop (k + 1) fields)) (X.field_view d) read seen old env (so_far defs sees) new m i r id at seen' a.1;
   }
 
   -- at one that is wrong
-  pub reads_wrong : ReadsField (X.field_view d) id None env now seen new es' seen' → (defs : List Definition) → Sees old (all_type_names defs) → NotesMore es es' × (AreRightFields defs (struct_fields (map X.field_view fields)) → ⊥)
+  pub reads_wrong : ReadsField (X.field_view d) id None env now seen new es' seen' → (defs : List Definition) → Sees old (all_type_names defs) → EndsAt (flat_map field_positions (map X.field_view fields)) old es new es' × (AreRightFields defs (struct_fields (map X.field_view fields)) → ⊥)
   reads_wrong a defs sees = (
-    subst (λ es. NotesMore es es') s.unnoted a.0,
+    record {
+      met = s.met ++ (X.field_view d).name.text ∷ [];
+      meets = meet_more s.met ((X.field_view d).name.text ∷ []) old env new s.meets m;
+      notes = noted_first field_positions X.field_view fields k d within here es now es' s.unnoted a.0;
+    },
     λ right. ⊎_elim (not_twice defs (map X.field_view fields) (map X.field_view (drop (k + 1) fields)) (X.field_view d) read seen old env (so_far defs sees) new m i right) (has_type defs (map X.field_view fields) (map X.field_view (drop (k + 1) fields)) (X.field_view d) read seen old env (so_far defs sees) new m i right) a.1,
   )
 
@@ -296,9 +308,12 @@ module _ (fields : List U.TupleField) (k : ℕ) (d : U.TupleField) (within : k <
   }
 
   -- at one that is wrong
-  pub reads_wrong_tuple : ReadsTupleField (X.tuple_field_view d) id None env now es' → (defs : List Definition) → Sees env (all_type_names defs) → NotesMore es es' × (AreRightFields defs (tuple_fields (map X.tuple_field_view fields)) → ⊥)
-  reads_wrong_tuple a defs sees = (subst (λ es. NotesMore es es') s.unnoted a.0, wrong_part fields k d within here read env es now es' s i id defs sees a.1)
-
--- what is noted after nothing was noted
-pub noted_after : (a b c : List Error) → b ≡ a → NotesMore b c → MayNoteMore a c
-noted_after a b c same r = inr (subst (λ es. NotesMore es c) same r)
+  pub reads_wrong_tuple : ReadsTupleField (X.tuple_field_view d) id None env now es' → (defs : List Definition) → Sees env (all_type_names defs) → EndsAt (flat_map tuple_field_positions (map X.tuple_field_view fields)) env es env es' × (AreRightFields defs (tuple_fields (map X.tuple_field_view fields)) → ⊥)
+  reads_wrong_tuple a defs sees = (
+    record {
+      met = [];
+      meets = record { names = refl; types = refl; type_map = refl; const_types = refl; errors = refl };
+      notes = noted_first tuple_field_positions X.tuple_field_view fields k d within here es now es' s.unnoted a.0;
+    },
+    wrong_part fields k d within here read env es now es' s i id defs sees a.1,
+  )

@@ -1,33 +1,33 @@
 -- Reading what the types are, one definition after another.
-use Rattle.std.proofs.Common.{◌≡◌, ℕ, zero, suc, ◌+◌, ◌<◌, List, [], ◌∷◌, ◌++◌, length, drop, get_or, map, All, Contains, IsTrue, refl, sym, ap, subst, ◌∙◌, inl, inr, ◌⊎◌, ⊎_elim}
+use Rattle.std.proofs.Common.{◌≡◌, ℕ, ◌+◌, ◌<◌, List, [], ◌∷◌, ◌++◌, length, take, drop, get_or, All, Contains, IsTrue, refl, sym, ap, subst, ◌∙◌, inl, inr}
 use Rattle.std.specs.List.{flat_map}
-use Rattle.std.proofs.lemmas.List.{append_assoc, append-nil, at_drop_more, length_push, length-map, map_push, map-append}
+use Rattle.std.proofs.lemmas.List.{append_assoc, append-nil, at_drop_more, length_push, length-map, map_push}
 use Rattle.std.proofs.lemmas.List.Elements.{All-nil, All-cons, All-head}
 use Rattle.isle_model.specs.lists.Syntax.{TypeTree, Definition, type_definition, declaration, extractor_definition, converter_definition, rule_definition, extern_definition, other_definition}
 use Rattle.isle_model.specs.lists.Names.{has_name, with_names, IsDistinct}
 use Rattle.isle_model.specs.lists.Tables.{TypeEntry}
-use Rattle.isle_model.specs.lists.TypeTable.{builtin_names, type_of, type_trees, type_names, all_type_names, names_inside, type_names_met, type_entry, type_table}
+use Rattle.isle_model.specs.lists.TypeTable.{builtin_names, type_trees, type_names, all_type_names, names_inside, type_names_met, type_entry, type_table}
 use Rattle.isle_base.specs.declared.syntax.Def.{Def}
 use Rattle.isle_base.specs.declared.syntax.Error.{Error}
 use Rattle.isle_base.specs.SyntaxViews.{definition_view, definition_views}
-use Rattle.isle_base.proofs.Noted.{still_ill_typed}
 use Rattle.isle_types.specs.declared.type_env.TypeEnv.{TypeEnv}
 use Rattle.isle_types.specs.declared.types.Type as T
 use Rattle.isle_types.specs.Envs.{names_of, IsInterned}
-use Rattle.isle_base.specs.Noting.{AreIllTyped, NotesMore, MayNoteMore}
-use Rattle.isle_base.specs.Positions.{NotesAt, definition_positions}
+use Rattle.isle_base.specs.Positions.{type_positions}
 use Rattle.isle_types.specs.Reading.{MeetsNames, IsRightType}
-use Rattle.isle_types.specs.Stages.{Sees, SoFarOfTypes, Naming, NamesTypes, names_in_types, constant_names, entries_from, AreMet, Filling, FillsTypes}
-use Rattle.isle_types.specs.TypeBreaches.{isnt_right, FirstBreaksTypes}
+use Rattle.isle_types.specs.Promises.{DefinitionIsFilled}
+use Rattle.isle_types.specs.Stages.{Sees, KnowsTypes, Naming, NamesTypes, names_in_types, constant_names, entries_from, AreMet, Filling, FillsTypes}
+use Rattle.isle_types.specs.Telling.{NotesOf, NotesEach}
+use Rattle.isle_types.specs.TypeErrors.{TellsOfType}
 use Rattle.isle_types.specs.TypeViews.{type_view, type_views}
 use Rattle.isle_types.specs.VariantReading.{FillsType, FillsDefinition}
 use Rattle.isle_types.proofs.EntriesStay.{AllMet, met_more, met_self, type_stays}
 use Rattle.isle_types.proofs.NamesMet.{sees_after}
-use Rattle.isle_types.proofs.RightTypes.{all_left, all_right}
+use Rattle.isle_types.proofs.KnownTypes.{right_same, type_named, known_met, knows_met, one_more_read}
 use Rattle.isle_model.proofs.Members.{in_map}
 use Rattle.isle_model.proofs.Names.{with_names_append}
-use Rattle.isle_types.proofs.FirstBreaches.{first_noted, first_stays}
-use Rattle.isle_types.proofs.SoFar.{reads_on}
+use Rattle.isle_types.proofs.SoFar.{reads_on, reads_wrong, reads_same}
+use Rattle.isle_types.proofs.Telling.{some_told, not_same, noted_none, noted_more}
 
 -- one more entry, where what follows depends on how many there are
 push_entry : (es es' : List TypeEntry) (p q : TypeEntry) (G : ℕ → List TypeEntry) (whole : List TypeEntry) → es' ≡ es ++ p ∷ [] → p ≡ q → es ++ (q ∷ G (length es + 1)) ≡ whole → es' ++ G (length es') ≡ whole
@@ -77,7 +77,6 @@ module _ (defs rest : List Definition) (t : TypeTree) (old : TypeEnv) (n : Filli
     fill_right = record {
       sees = sees_after (all_type_names defs) inside old new f.names f.type_map f.const_types f.errors n.sees;
       distinct = n.distinct;
-      met = subst (λ ns. AllMet ns (all_type_names defs)) (sym f.names) (met_more (names_of old) inside (all_type_names defs) n.met);
       names = names_left;
       types = push_entry (type_views old.types.items) (type_views new.types.items) _ _ (λ k. entries_from defs k (type_trees rest)) (type_table defs) f.types same_entry n.types;
       right = λ h. n.right (All-cons (IsRightType defs) t (type_trees rest) f.right h);
@@ -88,92 +87,98 @@ fill_other : (defs rest rest' : List Definition) (env : TypeEnv) → type_trees 
 fill_other defs rest rest' env same n = record {
   sees = n.sees;
   distinct = n.distinct;
-  met = n.met;
   names = ap (λ ts. with_names (names_of env) (flat_map (λ t. names_inside t.name.text t.value) ts ++ constant_names defs)) same ∙ n.names;
   types = ap (λ ts. type_views env.types.items ++ entries_from defs (length (type_views env.types.items)) ts) same ∙ n.types;
   right = λ h. n.right (subst (All (IsRightType defs)) same h);
 }
 
--- what a definition leaves, where nothing was wrong before it
-abbrev Leaves : List Definition → List Definition → TypeEnv → List Error → Type 0
-Leaves defs rest new es' = SoFarOfTypes defs es' (Filling defs rest new)
+-- after a definition that isn't one of a type
+step_other : (defs rest : List Definition) (d : Definition) (old new : TypeEnv) (es es' : List Error) → type_trees rest ≡ type_trees (d ∷ rest) → FillsTypes defs (d ∷ rest) old es → (es' ≡ es) × (new ≡ old) → FillsTypes defs rest new es'
+step_other defs rest d old new es es' same s a =
+    reads_same (KnowsTypes defs) (KnowsTypes defs) (Filling defs (d ∷ rest)) (Filling defs rest) old new es es' a (λ k. k) (fill_other defs (d ∷ rest) rest old same) s
 
-leave_type : (defs rest : List Definition) (t : TypeTree) → Contains defs (type_definition t) → (old new : TypeEnv) (es es' : List Error) → es ≡ [] → NotesAt (definition_positions (type_definition t)) es es' → Filling defs (type_definition t ∷ rest) old → AreMet old (t.name.text ∷ []) → ((es' ≡ es) × FillsType defs t old new) ⊎ (NotesMore es es' × (IsRightType defs t → ⊥)) → Leaves defs rest new es'
-leave_type defs rest t here old new es es' none notes n own (inl a) =
-    inl (a.0 ∙ none, fill_right defs rest t old n (All-head (λ x. IsTrue (has_name (names_of old) x)) t.name.text [] own) new a.1)
-leave_type defs rest t here old new es es' none notes n own (inr a) = inr (first_noted defs (type_definition t) es es' none a.0 notes (isnt_right t here a.1))
+-- where nothing is noted, the type becomes an entry
+filled : (defs : List Definition) (t : TypeTree) (old new : TypeEnv) (es es' : List Error) → es' ≡ es → FillsDefinition defs (type_definition t) old es new es' → FillsType defs t old new
+filled defs t old new es es' same (inl a) = a.1
+filled defs t old new es es' same (inr a) = absurd (not_same 0 (type_positions t) es es' a.0.notes same)
 
-leave_other : (defs rest : List Definition) (d : Definition) (old new : TypeEnv) (es es' : List Error) → type_trees rest ≡ type_trees (d ∷ rest) → es ≡ [] → Filling defs (d ∷ rest) old → (es' ≡ es) × (new ≡ old) → Leaves defs rest new es'
-leave_other defs rest d old new es es' same none n a =
-    inl (a.0 ∙ none, subst (Filling defs rest) (sym a.1) (fill_other defs (d ∷ rest) rest old same n))
+none_met : (env : TypeEnv) → AreMet env []
+none_met env = All-nil (λ x. IsTrue (has_name (names_of env) x))
 
-leave : (defs rest : List Definition) (d : Definition) → Contains defs d → (old new : TypeEnv) (es es' : List Error) → es ≡ [] → NotesAt (definition_positions d) es es' → Filling defs (d ∷ rest) old → AreMet old (type_names (d ∷ [])) → FillsDefinition defs d old es new es' → Leaves defs rest new es'
-leave defs rest (type_definition t) here old new es es' none notes n own a = leave_type defs rest t here old new es es' none notes n own a
-leave defs rest (declaration d) here old new es es' none notes n own a = leave_other defs rest (declaration d) old new es es' refl none n a
-leave defs rest (extractor_definition d) here old new es es' none notes n own a = leave_other defs rest (extractor_definition d) old new es es' refl none n a
-leave defs rest (converter_definition d) here old new es es' none notes n own a = leave_other defs rest (converter_definition d) old new es es' refl none n a
-leave defs rest (rule_definition d) here old new es es' none notes n own a = leave_other defs rest (rule_definition d) old new es es' refl none n a
-leave defs rest (extern_definition d) here old new es es' none notes n own a = leave_other defs rest (extern_definition d) old new es es' refl none n a
-leave defs rest other_definition here old new es es' none notes n own a = leave_other defs rest other_definition old new es es' refl none n a
+-- the name of a type was met
+type_met : (defs : List Definition) (t : TypeTree) → Contains defs (type_definition t) → (env : TypeEnv) → KnowsTypes defs env → AreMet env (t.name.text ∷ [])
+type_met defs t here env k =
+    All-cons (λ x. IsTrue (has_name (names_of env) x)) t.name.text [] (known_met defs env k t.name.text (type_named defs t here)) (none_met env)
 
-ill_typed_after : (es es' : List Error) → MayNoteMore es es' → AreIllTyped es → AreIllTyped es'
-ill_typed_after es es' (inl e) h = subst AreIllTyped (sym e) h
-ill_typed_after es es' (inr r) h = still_ill_typed r h
+-- after one of a type
+step_type : (defs rest : List Definition) (t : TypeTree) (old new : TypeEnv) (es es' : List Error) → IsInterned new → FillsTypes defs (type_definition t ∷ rest) old es → AreMet old (t.name.text ∷ []) → ((kept : List Definition) → Sees old (all_type_names kept) → FillsDefinition kept (type_definition t) old es new es') → FillsTypes defs rest new es'
+step_type defs rest t old new es es' i s own step =
+    elim (step s.knows.kept s.knows.sees) [
+      | inl a ↦ reads_on (KnowsTypes defs) (KnowsTypes defs) (Filling defs (type_definition t ∷ rest)) (Filling defs rest) old new es es' i
+          (λ k. record { kept = k.kept; sees = sees_after (all_type_names k.kept) (names_inside t.name.text t.value) old new a.1.names a.1.type_map a.1.const_types a.1.errors k.sees; same = k.same })
+          a.0 (λ n. fill_right defs rest t old n (All-head (λ x. IsTrue (has_name (names_of old) x)) t.name.text [] own) new (filled defs t old new es es' a.0 (step defs n.sees))) s
+      | inr a ↦ reads_wrong (KnowsTypes defs) (KnowsTypes defs) (Filling defs (type_definition t ∷ rest)) (Filling defs rest) old new es es' i
+          (λ k. knows_met defs a.0.met old new a.0.meets k) (some_told 0 (type_positions t) es es' a.0.notes) s
+    ]
 
-first_after : (defs : List Definition) (es es' : List Error) → MayNoteMore es es' → FirstBreaksTypes defs es → FirstBreaksTypes defs es'
-first_after defs es es' (inl e) b = subst (FirstBreaksTypes defs) (sym e) b
-first_after defs es es' (inr r) b = first_stays defs es es' r b
+-- after any definition
+step_fill : (defs rest : List Definition) (d : Definition) → Contains defs d → (old new : TypeEnv) (es es' : List Error) → IsInterned new → FillsTypes defs (d ∷ rest) old es → DefinitionIsFilled d old es new es' → FillsTypes defs rest new es'
+step_fill defs rest (type_definition t) here old new es es' i s step =
+    let own = type_met defs t here old s.knows in
+    step_type defs rest t old new es es' i s own (λ kept sees. step kept sees own)
+step_fill defs rest (declaration d) here old new es es' i s step = step_other defs rest (declaration d) old new es es' refl s (step s.knows.kept s.knows.sees (none_met old))
+step_fill defs rest (extractor_definition d) here old new es es' i s step = step_other defs rest (extractor_definition d) old new es es' refl s (step s.knows.kept s.knows.sees (none_met old))
+step_fill defs rest (converter_definition d) here old new es es' i s step = step_other defs rest (converter_definition d) old new es es' refl s (step s.knows.kept s.knows.sees (none_met old))
+step_fill defs rest (rule_definition d) here old new es es' i s step = step_other defs rest (rule_definition d) old new es es' refl s (step s.knows.kept s.knows.sees (none_met old))
+step_fill defs rest (extern_definition d) here old new es es' i s step = step_other defs rest (extern_definition d) old new es es' refl s (step s.knows.kept s.knows.sees (none_met old))
+step_fill defs rest other_definition here old new es es' i s step = step_other defs rest other_definition old new es es' refl s (step s.knows.kept s.knows.sees (none_met old))
 
--- the names of the types of the definitions from a place on were met, where all were
-module _ (env : TypeEnv) where
-  abbrev Met : List ℕ → Type 0
-  Met x = IsTrue (has_name (names_of env) x)
+-- what is told of a type
+told_filled : (defs before : List Definition) (t : TypeTree) (old new : TypeEnv) (es es' : List Error) → (k : KnowsTypes defs old) → FillsDefinition k.kept (type_definition t) old es new es' → NotesOf (TellsOfType defs) before (type_definition t) es es'
+told_filled defs before t old new es es' k (inl a) =
+    record { more = []; added = a.0 ∙ sym (append-nil es); says = inl (right_same k.kept defs k.same t a.1.right, refl) }
+told_filled defs before t old new es es' k (inr a) = record {
+  more = a.0.notes.more;
+  added = a.0.notes.added;
+  says = inr (λ right. a.1 (right_same defs k.kept (λ x. sym (k.same x)) t right), a.0.notes.tells);
+}
 
-  abbrev named : Definition → List (List ℕ)
-  named d = map (λ t. t.name.text) (type_of d)
+-- and of any definition
+pub told_fill : (defs before : List Definition) (d : Definition) → Contains defs d → (old new : TypeEnv) (es es' : List Error) → KnowsTypes defs old → DefinitionIsFilled d old es new es' → NotesOf (TellsOfType defs) before d es es'
+told_fill defs before (type_definition t) here old new es es' k step = told_filled defs before t old new es es' k (step k.kept k.sees (type_met defs t here old k))
+told_fill defs before (declaration d) here old new es es' k step = record { more = []; added = (step k.kept k.sees (none_met old)).0 ∙ sym (append-nil es); says = refl }
+told_fill defs before (extractor_definition d) here old new es es' k step = record { more = []; added = (step k.kept k.sees (none_met old)).0 ∙ sym (append-nil es); says = refl }
+told_fill defs before (converter_definition d) here old new es es' k step = record { more = []; added = (step k.kept k.sees (none_met old)).0 ∙ sym (append-nil es); says = refl }
+told_fill defs before (rule_definition d) here old new es es' k step = record { more = []; added = (step k.kept k.sees (none_met old)).0 ∙ sym (append-nil es); says = refl }
+told_fill defs before (extern_definition d) here old new es es' k step = record { more = []; added = (step k.kept k.sees (none_met old)).0 ∙ sym (append-nil es); says = refl }
+told_fill defs before other_definition here old new es es' k step = record { more = []; added = (step k.kept k.sees (none_met old)).0 ∙ sym (append-nil es); says = refl }
 
-  split : (d : Definition) (ds : List Definition) → AreMet env (type_names (d ∷ ds)) → All Met (named d ++ type_names ds)
-  split d ds h = subst (All Met) (map-append (λ t. t.name.text) (type_of d) (type_trees ds)) h
-
-  met_first : (d : Definition) (ds : List Definition) → AreMet env (type_names (d ∷ ds)) → AreMet env (type_names (d ∷ []))
-  met_first d ds h =
-      let own : All Met (named d) = all_left Met (named d) (type_names ds) (split d ds h) in
-      subst (λ ts. All Met (map (λ t. t.name.text) ts)) (sym (append-nil (type_of d))) own
-
-  met_from : (i : ℕ) (defs : List Def) → AreMet env (type_names (definition_views defs)) → AreMet env (type_names (definition_views (drop i defs)))
-  met_from zero defs h = h
-  met_from (suc i) [] h = h
-  met_from (suc i) (d ∷ defs) h =
-      met_from i defs (all_right Met (named (definition_view d)) (type_names (definition_views defs)) (split (definition_view d) (definition_views defs) h))
+-- the types of the definitions before a place were read, with the errors that are told of them
+pub record FillsUpTo (defs : List Def) (i : ℕ) (start : List Error) (env : TypeEnv) (es : List Error) : Type 0 where
+  pub filled : FillsTypes (definition_views defs) (definition_views (drop i defs)) env es
+  pub told : NotesEach (TellsOfType (definition_views defs)) (definition_views (take i defs)) start es
 
 -- after the definition at i
-pub next_type : (defs : List Def) (i : ℕ) (d : Def) → i < length defs → d ≡ get_or defs i d → (old new : TypeEnv) (es es' : List Error) → IsInterned new → FillsTypes (definition_views defs) (definition_views (drop i defs)) old es → MayNoteMore es es' → NotesAt (definition_positions (definition_view d)) es es' → ((all : List Definition) → Sees old (all_type_names all) → AreMet old (type_names (definition_view d ∷ [])) → FillsDefinition all (definition_view d) old es new es') → FillsTypes (definition_views defs) (definition_views (drop (i + 1) defs)) new es'
-next_type defs i d within at old new es es' inverse s noted notes step =
+pub next_type : (defs : List Def) (i : ℕ) (d : Def) → i < length defs → d ≡ get_or defs i d → (old new : TypeEnv) (start es es' : List Error) → IsInterned new → FillsUpTo defs i start old es → DefinitionIsFilled (definition_view d) old es new es' → FillsUpTo defs (i + 1) start new es'
+next_type defs i d within at old new start es es' inverse s step =
+    let all = definition_views defs in
+    let before = definition_views (take i defs) in
     let rest = definition_views (drop (i + 1) defs) in
-    let left : definition_views (drop i defs) ≡ definition_view d ∷ rest =
-    at_drop_more definition_views defs i d within ∙ ap (λ x. definition_view x ∷ rest) (sym at) in
-    let before : SoFarOfTypes (definition_views defs) es (Filling (definition_views defs) (definition_view d ∷ rest) old) =
-    subst (λ ds. SoFarOfTypes (definition_views defs) es (Filling (definition_views defs) ds old)) left s.so_far in
+    let left : definition_views (drop i defs) ≡ definition_view d ∷ rest = at_drop_more definition_views defs i d within ∙ ap (λ x. definition_view x ∷ rest) (sym at) in
+    let here : Contains all (definition_view d) = in_map definition_view defs d (i, within, sym at) in
+    let filled = subst (λ ds. FillsTypes all ds old es) left s.filled in
     record {
-      inverse = inverse;
-      ill_typed = ill_typed_after es es' noted s.ill_typed;
-      so_far = ⊎_elim
-          (λ right.
-          let all : AreMet old (type_names (definition_views defs)) = all_right (Met old) builtin_names (type_names (definition_views defs)) right.1.met in
-          let here : AreMet old (type_names (definition_view d ∷ rest)) = subst (λ ds. AreMet old (type_names ds)) left (met_from old i defs all) in
-          let own = met_first old (definition_view d) rest here in
-          leave (definition_views defs) rest (definition_view d) (in_map definition_view defs d (i, within, sym at)) old new es es' right.0 notes right.1 own (step (definition_views defs) right.1.sees own))
-          (λ wrong. inr (first_after (definition_views defs) es es' noted wrong)) before;
+      filled = step_fill all rest (definition_view d) here old new es es' inverse filled step;
+      told = subst (λ ds. NotesEach (TellsOfType all) ds start es') (one_more_read defs i d within at)
+          (noted_more (TellsOfType all) before (definition_view d) start es es' s.told (told_fill all before (definition_view d) here old new es es' filled.knows step));
     }
 
 start : (defs : List Definition) (env : TypeEnv) → Naming defs [] env → Filling defs defs env
 start defs env n =
     let all : n.named ≡ all_type_names defs = sym (append-nil n.named) ∙ n.whole in
-    let names : names_of env ≡ with_names [] (all_type_names defs) = n.names ∙ sym (with_names_append [] builtin_names (type_names defs)) in
     record {
       sees = subst (Sees env) all n.sees;
       distinct = subst IsDistinct all n.distinct;
-      met = subst (λ ns. AllMet ns (all_type_names defs)) (sym names) (met_self [] (all_type_names defs));
       names = ap (λ ns. with_names ns (names_in_types defs ++ constant_names defs)) n.names
           ∙ sym (with_names_append builtin_names (type_names defs) (names_in_types defs ++ constant_names defs))
           ∙ ap (with_names builtin_names) (sym (append_assoc (type_names defs) (names_in_types defs) (constant_names defs)));
@@ -182,5 +187,8 @@ start defs env n =
     }
 
 -- before the first definition
-pub first_type : (defs : List Definition) (env : TypeEnv) (es : List Error) → NamesTypes defs [] env es → FillsTypes defs defs env es
-first_type defs env es s = reads_on defs (Naming defs []) (Filling defs defs) env env es es s.inverse refl (start defs env) s
+pub first_type : (defs : List Def) (env : TypeEnv) (es : List Error) → NamesTypes (definition_views defs) (definition_views defs) [] env es → FillsUpTo defs 0 es env es
+first_type defs env es s = record {
+  filled = reads_on (KnowsTypes (definition_views defs)) (KnowsTypes (definition_views defs)) (Naming (definition_views defs) []) (Filling (definition_views defs) (definition_views defs)) env env es es s.inverse (λ k. k) refl (start (definition_views defs) env) s;
+  told = noted_none (TellsOfType (definition_views defs)) es;
+}

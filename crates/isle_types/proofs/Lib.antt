@@ -24,3 +24,6 @@ pub mod Reducing
 pub mod PlacesNoted
 pub mod TablePositions
 pub mod FirstBreaches
+pub mod Telling
+pub mod KnownTypes
+pub mod TypeErrors

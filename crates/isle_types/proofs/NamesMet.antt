@@ -1,13 +1,18 @@
 -- Names that are met one after another, and that the types stay seen meanwhile.
-use Rattle.std.proofs.Common.{◌≡◌, ℕ, true, false, List, [], ◌∷◌, ◌++◌, option_map, slice_get, sym, ap, subst, ◌∙◌}
+use Rattle.std.proofs.Common.{◌≡◌, ℕ, true, false, List, [], ◌∷◌, ◌++◌, option_map, slice_get, refl, sym, ap, subst, ◌∙◌}
 use Rattle.isle_model.specs.lists.Names.{has_name, with_name, with_names}
 use Rattle.isle_model.specs.rules.Outcome.{then_option}
 use Rattle.isle_model.specs.lists.TypeTable.{place_from}
+use Rattle.isle_model.specs.lists.Syntax.{Position}
+use Rattle.isle_base.specs.declared.syntax.Error.{Error}
+use Rattle.isle_base.specs.Positions.{OccurAmong}
 use Rattle.isle_base.specs.Stable.{entry_count, look_up}
 use Rattle.isle_types.specs.declared.type_env.TypeEnv.{TypeEnv}
 use Rattle.isle_types.specs.Envs.{names_of, same_symbol, symbol}
-use Rattle.isle_types.specs.Reading.{MeetsNames}
+use Rattle.isle_types.specs.Reading.{MeetsNames, EndsAt}
 use Rattle.isle_types.specs.Stages.{Sees}
+use Rattle.isle_types.specs.Telling.{Notes}
+use Rattle.isle_types.proofs.Telling.{noted_among}
 use Rattle.isle_model.proofs.ByNumber.{then_withs}
 use Rattle.isle_model.proofs.Names.{known_name, missing_before, with_names_append}
 
@@ -53,3 +58,19 @@ sees_after ts xs old new names type_map const_types errors s = record {
 
 pub sees_met : (ts xs : List (List ℕ)) (old new : TypeEnv) → MeetsNames xs old new → Sees old ts → Sees new ts
 sees_met ts xs old new m s = sees_after ts xs old new m.names m.type_map m.const_types m.errors s
+
+-- an error is noted, and nothing else changes
+pub ends_here : (ps : List Position) (env : TypeEnv) (es es' : List Error) → Notes 1 ps es es' → EndsAt ps env es env es'
+ends_here ps env es es' noted = record {
+  met = [];
+  meets = record { names = refl; types = refl; type_map = refl; const_types = refl; errors = refl };
+  notes = noted;
+}
+
+-- the work on a part ends, and so does that on the whole
+pub ends_inside : (ps qs : List Position) (old new : TypeEnv) (es mid es' : List Error) → mid ≡ es → OccurAmong ps qs → EndsAt ps old mid new es' → EndsAt qs old es new es'
+ends_inside ps qs old new es mid es' same among e = record {
+  met = e.met;
+  meets = e.meets;
+  notes = subst (λ l. Notes 1 qs l es') same (noted_among 1 ps qs mid es' among e.notes);
+}

@@ -30,6 +30,9 @@ module _ (defs : List Definition) (t : TypeTree) (at : Position) where
   one_mark : false ≡ (t.is_extern && t.is_nodebug) → not (t.is_extern && t.is_nodebug) ≡ true
   one_mark e = sym (ap not e)
 
+  pub two_marks : (value : TypeValueTree) → true ≡ (t.is_extern && t.is_nodebug) → IsRightType defs (of_value t value) → ⊥
+  two_marks value e right = false≢true (ap not e ∙ right.marks)
+
   pub primitive_right : (name : Name) → t.is_nodebug ≡ false → t.is_extern ≡ false → IsRightType defs (of_value t (primitive_value name at))
   primitive_right name n e = record {
     unmarked = λ _. (e, n);
@@ -62,4 +65,5 @@ type_kept defs id w value (Some read) old mid new es es' is m r =
     (a.0, a.1, meet_more [] _ old mid new m a.2, a.3)
 type_kept defs id w value None old mid new es es' is m r =
     let P : TypeValueTree → Type 0 = λ v. ReadsType defs id (of_value (views.type_view w) v) None mid es new es' in
-    subst P (sym is) r
+    let a = subst P (sym is) r in
+    (record { met = a.0.met; meets = meet_more [] a.0.met old mid new m a.0.meets; notes = a.0.notes }, a.1)

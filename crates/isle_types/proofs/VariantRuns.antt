@@ -1,9 +1,9 @@
 -- Reading the variants of an enum, one after another.
-use Rattle.std.proofs.Common.{◌≡◌, ℕ, ◌+◌, ◌<◌, List, [], ◌∷◌, ◌++◌, length, take, drop, get_or, map, All, Some, None, refl, sym, ap, subst, ◌∙◌, arith}
+use Rattle.std.proofs.Common.{◌≡◌, ℕ, ◌+◌, ◌<◌, List, [], ◌∷◌, ◌++◌, length, take, drop, get_or, map, All, Contains, Some, None, refl, sym, ap, subst, ◌∙◌, arith}
 use Rattle.std.specs.List.{flat_map, enumerate_from}
 use Rattle.std.proofs.lemmas.List.{append-nil, map_push, map-append, length-map, at_drop_more, take_more, take-append-drop}
 use Rattle.std.proofs.lemmas.List.FromFn.{length-enumerate_from}
-use Rattle.std.proofs.lemmas.List.Elements.{All-head, All-push}
+use Rattle.std.proofs.lemmas.List.Elements.{All-head, All-push, Contains-append_right}
 use Rattle.std.proofs.lemmas.Grind.{flat_map-append}
 use Rattle.isle_model.specs.lists.Syntax.{FieldTrees, VariantTree, Definition}
 use Rattle.isle_model.specs.lists.Names.{IsDistinct}
@@ -17,15 +17,18 @@ use Rattle.isle_types.specs.declared.ids.Sym.{Sym}
 use Rattle.isle_types.specs.declared.type_env.TypeEnv.{TypeEnv}
 use Rattle.isle_types.specs.declared.types.Variant.{Variant}
 use Rattle.isle_types.specs.Envs.{names_of, IsInterned}
-use Rattle.isle_base.specs.Noting.{NotesMore, MayNoteMore}
+use Rattle.isle_base.specs.Positions.{variant_positions}
+use Rattle.isle_base.proofs.Positioned.{among_each}
+use Rattle.isle_types.specs.Telling.{Notes}
 use Rattle.isle_types.specs.Reading.{MeetsNames, AreRightFields}
 use Rattle.isle_types.specs.Stages.{Sees}
 use Rattle.isle_types.specs.TypeViews.{variant_view}
 use Rattle.isle_types.specs.VariantReading.{HasSeen, VariantRead, ReadsVariant, VariantsRead, ReadsVariants}
 use Rattle.isle_types.proofs.EntriesStay.{AllMet, met_self, variants_stay}
 use Rattle.isle_types.proofs.NamesMet.{meet_more, sees_met}
-use Rattle.isle_base.proofs.Noted.{may_both}
+use Rattle.isle_types.proofs.Telling.{noted_among}
 use Rattle.isle_types.proofs.RightTypes.{all_right}
+use Rattle.isle_model.proofs.Members.{in_head}
 use Rattle.isle_model.proofs.FirstPlaces.{distinct_push, twice}
 
 abbrev pub own_names : List VariantTree → List (List ℕ)
@@ -37,7 +40,6 @@ own_fields vs = map (λ v. v.fields) vs
 -- the first variants, these, are read
 pub record VariantsSoFar (ty : List ℕ) (done : List VariantTree) (read : List Variant) (old : TypeEnv) (es : List Error) (env : TypeEnv) (es' : List Error) (seen : Members Sym) : Type 0 where
   pub inverse : IsInterned env
-  pub noted : MayNoteMore es es'
   pub reads : (defs : List Definition) → Sees old (all_type_names defs) → (es' ≡ es) × VariantsRead defs ty done read old env × HasSeen (names_of env) seen (own_names done)
 
 entries_push : (f : ℕ → VariantTree → VariantEntry) (n : ℕ) (xs : List VariantTree) (v : VariantTree) → map (λ p. f p.0 p.1) (enumerate_from n (xs ++ v ∷ [])) ≡ map (λ p. f p.0 p.1) (enumerate_from n xs) ++ f (n + length xs) v ∷ []
@@ -84,12 +86,11 @@ module _ (ty : List ℕ) (done : List VariantTree) (v : VariantTree) (id : ℕ) 
     pub seen_more : HasSeen (names_of new) more (own_names (done ++ v ∷ []))
     seen_more = subst (HasSeen (names_of new) more) (sym (map_push (λ x. x.name.text) done v)) a.sees
 
-  module _ (es es' es'' : List Error) (new : TypeEnv) (seen more : Members Sym) (s : VariantsSoFar ty done read old es env es' seen) (noted : MayNoteMore es' es'') where
+  module _ (es es' es'' : List Error) (new : TypeEnv) (seen more : Members Sym) (s : VariantsSoFar ty done read old es env es' seen) where
     -- after one more variant
     pub run_more : (next : Variant) → id ≡ length read → IsInterned new → ((defs : List Definition) (earlier : List (List ℕ)) → Sees env (all_type_names defs) → HasSeen (names_of env) seen earlier → ReadsVariant defs ty id v earlier (Some next) env es' new es'' more) → VariantsSoFar ty (done ++ v ∷ []) (read ++ next ∷ []) old es new es'' more
     run_more next place i step = record {
       inverse = i;
-      noted = may_both es es' es'' s.noted noted;
       reads = λ defs sees.
           let r = s.reads defs sees in
           let a = step defs (own_names done) (sees_met (all_type_names defs) (flat_map (variant_names ty) done) old env r.1.meets sees) r.2 in
@@ -101,9 +102,14 @@ module _ (ty : List ℕ) (done : List VariantTree) (v : VariantTree) (id : ℕ) 
     run_wrong vs rest whole step defs sees =
         let r = s.reads defs sees in
         let a = step defs (own_names done) (sees_met (all_type_names defs) (flat_map (variant_names ty) done) old env r.1.meets sees) r.2 in
+        let here : Contains vs v = subst (λ l. Contains l v) whole (Contains-append_right done (v ∷ rest) v (in_head v rest)) in
         let names : own_names done ++ v.name.text ∷ own_names rest ≡ own_names vs = sym (map-append (λ x. x.name.text) done (v ∷ rest)) ∙ ap own_names whole in
         let fields : own_fields vs ≡ own_fields done ++ v.fields ∷ own_fields rest = sym (ap own_fields whole) ∙ map-append (λ x. x.fields) done (v ∷ rest) in (
-          subst (λ l. NotesMore l es'') r.0 a.0,
+          record {
+            met = flat_map (variant_names ty) done ++ a.0.met;
+            meets = meet_more (flat_map (variant_names ty) done) a.0.met old env new r.1.meets a.0.meets;
+            notes = subst (λ l. Notes 1 (flat_map variant_positions vs) l es'') r.0 (noted_among 1 (variant_positions v) (flat_map variant_positions vs) es' es'' (among_each variant_positions vs v here) a.0.notes);
+          },
           λ distinct right.
               let own : AreRightFields defs v.fields = All-head (AreRightFields defs) v.fields (own_fields rest) (all_right (AreRightFields defs) (own_fields done) (v.fields ∷ own_fields rest) (subst (All (AreRightFields defs)) fields right)) in
               elim (place_from 0 v.name.text (own_names done)) as (λ o. place_from 0 v.name.text (own_names done) ≡ o → ⊥) [

@@ -33,7 +33,7 @@ module _ (ty : List ℕ) (w : S.Variant) (old first env : TypeEnv) (one : MeetsN
   abbrev field_texts : List (List ℕ)
   field_texts = field_names (views.fields_view w.fields)
 
-  both_met : MeetsNames (whole ∷ (own ∷ [])) old env
+  pub both_met : MeetsNames (whole ∷ (own ∷ [])) old env
   both_met = meet_more (whole ∷ []) (own ∷ []) old first env one two
 
   pub sees_both : (ts : List (List ℕ)) → Sees old ts → Sees env ts

@@ -1,11 +1,11 @@
 -- What reading a constant does to a type environment and to the errors found so far.
-use Rattle.std.specs.Prelude.{◌≡◌, ℕ, nat_eq, List, ◌⊎◌, if◌then◌else◌, Some, None}
-use Rattle.isle_model.specs.lists.Syntax.{Name, Definition, extern_definition, extern_const}
+use Rattle.std.specs.Prelude.{◌≡◌, ℕ, nat_eq, List, [], ◌∷◌, ◌⊎◌, if◌then◌else◌, Some, None}
+use Rattle.isle_model.specs.lists.Syntax.{Position, Name, Definition, extern_definition, extern_const}
 use Rattle.isle_model.specs.lists.Names.{number, with_name}
 use Rattle.isle_base.specs.declared.syntax.Error.{Error}
 use Rattle.isle_types.specs.declared.type_env.TypeEnv.{TypeEnv}
 use Rattle.isle_types.specs.Envs.{names_of, constant_at, type_of_name}
-use Rattle.isle_base.specs.Noting.{NotesMore}
+use Rattle.isle_types.specs.Telling.{Notes}
 
 -- a name is met, and is that of a constant of a type that is known
 pub record TypesConstant (name ty : List ℕ) (old new : TypeEnv) : Type 0 where
@@ -17,11 +17,12 @@ pub record TypesConstant (name ty : List ℕ) (old new : TypeEnv) : Type 0 where
   pub type_map : new.type_map ≡ old.type_map
   pub errors : new.errors ≡ old.errors
 
--- a constant is read, or its type isn't known
-abbrev pub ReadsConstant : Name → Name → TypeEnv → List Error → TypeEnv → List Error → Type 0
-ReadsConstant name ty old es new es' = ((es' ≡ es) × TypesConstant name.text ty.text old new) ⊎ (NotesMore es es' × (type_of_name old ty.text ≡ None))
+-- a constant is read, or its type isn't known, which is noted at its position
+abbrev pub ReadsConstant : Name → Name → Position → TypeEnv → List Error → TypeEnv → List Error → Type 0
+ReadsConstant name ty at old es new es' =
+    ((es' ≡ es) × TypesConstant name.text ty.text old new) ⊎ (Notes 1 (at ∷ []) es es' × (new ≡ old) × (type_of_name old ty.text ≡ None))
 
 -- the constant that a definition makes is read
 abbrev pub ReadsDefinition : Definition → TypeEnv → List Error → TypeEnv → List Error → Type 0
-ReadsDefinition (extern_definition (extern_const name ty at)) old es new es' = ReadsConstant name ty old es new es'
+ReadsDefinition (extern_definition (extern_const name ty at)) old es new es' = ReadsConstant name ty at old es new es'
 ReadsDefinition _ old es new es' = (es' ≡ es) × (new ≡ old)

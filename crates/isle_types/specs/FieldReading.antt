@@ -3,13 +3,14 @@ use Rattle.std.specs.Prelude.{◌≡◌, ℕ, nat_eq, Bool, true, false, if◌th
 use Rattle.isle_model.specs.lists.Syntax.{FieldTree, TupleFieldTree}
 use Rattle.isle_model.specs.lists.Names.{number}
 use Rattle.isle_base.specs.declared.syntax.Error.{Error}
+use Rattle.isle_base.specs.Positions.{field_positions, tuple_field_positions}
 use Rattle.isle_base.specs.Stable.{Members, contains}
 use Rattle.isle_types.specs.declared.ids.Sym.{Sym}
 use Rattle.isle_types.specs.declared.type_env.TypeEnv.{TypeEnv}
 use Rattle.isle_types.specs.declared.types.StructField.{StructField}
 use Rattle.isle_types.specs.declared.types.TupleField.{TupleField}
 use Rattle.isle_types.specs.Envs.{names_of, same_symbol, symbol, type_of_name}
-use Rattle.isle_base.specs.Noting.{NotesMore}
+use Rattle.isle_types.specs.Telling.{Notes}
 
 -- the number of a name is one of those that were seen
 abbrev pub was_seen : Members Sym → ℕ → Bool
@@ -27,7 +28,7 @@ pub record IsField (f : FieldTree) (id : ℕ) (read : StructField) (old new : Ty
 abbrev pub ReadsField : FieldTree → ℕ → Option StructField → TypeEnv → List Error → Members Sym → TypeEnv → List Error → Members Sym → Type 0
 ReadsField f id (Some read) old es seen new es' seen' = (es' ≡ es) × IsField f id read old new seen seen'
 ReadsField f id None old es seen new es' seen' =
-    NotesMore es es' × ((was_seen seen (number (names_of old) f.name.text) ≡ true) ⊎ (type_of_name new f.ty.text ≡ None))
+    Notes 1 (field_positions f) es es' × ((was_seen seen (number (names_of old) f.name.text) ≡ true) ⊎ (type_of_name new f.ty.text ≡ None))
 
 -- a field without a name becomes the field of this id, and its type is known
 pub record IsTupleField (f : TupleFieldTree) (id : ℕ) (read : TupleField) (env : TypeEnv) : Type 0 where
@@ -37,4 +38,4 @@ pub record IsTupleField (f : TupleFieldTree) (id : ℕ) (read : TupleField) (env
 -- a field without a name is read, or its type isn't known
 abbrev pub ReadsTupleField : TupleFieldTree → ℕ → Option TupleField → TypeEnv → List Error → List Error → Type 0
 ReadsTupleField f id (Some read) env es es' = (es' ≡ es) × IsTupleField f id read env
-ReadsTupleField f id None env es es' = NotesMore es es' × (type_of_name env f.ty.text ≡ None)
+ReadsTupleField f id None env es es' = Notes 1 (tuple_field_positions f) es es' × (type_of_name env f.ty.text ≡ None)

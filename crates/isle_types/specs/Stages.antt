@@ -1,5 +1,5 @@
 -- How far the reading of a list of definitions is.
-use Rattle.std.specs.Prelude.{◌≡◌, ℕ, false, List, [], ◌++◌, ◌⊎◌, length, map, reverse, Option, None, option_map, slice_get, All, IsTrue}
+use Rattle.std.specs.Prelude.{◌≡◌, ℕ, false, List, [], ◌++◌, length, map, reverse, Option, None, option_map, slice_get, All, IsTrue}
 use Rattle.std.specs.List.{find, flat_map, enumerate_from}
 use Rattle.std.specs.Str.{bytes_eq}
 use Rattle.isle_model.specs.lists.Syntax.{TypeTree, Definition}
@@ -8,14 +8,12 @@ use Rattle.isle_model.specs.rules.Outcome.{then_option}
 use Rattle.isle_model.specs.lists.Tables.{TypeEntry, builtin_type}
 use Rattle.isle_model.specs.lists.TypeTable.{builtin_names, type_trees, type_names, all_type_names, names_inside, ConstantTree, constant_trees, type_names_met, type_id, type_or_first, type_of_number, place_from, IsOfKnownType, builtin_from, type_entry, type_table}
 use Rattle.isle_base.specs.declared.syntax.Error.{Error}
-use Rattle.isle_base.specs.Noting.{AreIllTyped}
 use Rattle.isle_base.specs.Stable.{entry_count}
 use Rattle.isle_types.specs.declared.builtin.BuiltinType.{BuiltinType}
 use Rattle.isle_types.specs.declared.type_env.TypeEnv.{TypeEnv}
 use Rattle.isle_types.specs.Builtin.{builtin_name, builtin_place}
 use Rattle.isle_types.specs.Envs.{names_of, type_at, constant_at, IsInterned}
 use Rattle.isle_types.specs.Reading.{IsRightType}
-use Rattle.isle_types.specs.TypeBreaches.{FirstBreaksTypes}
 use Rattle.isle_types.specs.TypeViews.{type_views}
 
 -- the types have these names, in the order of their numbers, and no constant was read
@@ -26,15 +24,17 @@ pub record Sees (env : TypeEnv) (types : List (List ℕ)) : Type 0 where
   pub constants : (k : ℕ) → constant_at env k ≡ None
   pub errors : env.errors.items ≡ []
 
--- there is no error so far, or the first one stands at a definition that breaks a condition
-abbrev pub SoFarOfTypes : List Definition → List Error → Type 0 → Type 0
-SoFarOfTypes defs es Right = ((es ≡ []) × Right) ⊎ FirstBreaksTypes defs es
+-- the types that have a name of their own are seen; they have all names that types of these definitions have
+pub record KnowsTypes (defs : List Definition) (env : TypeEnv) : Type 0 where
+  pub kept : List Definition
+  pub sees : Sees env (all_type_names kept)
+  pub same : (x : List ℕ) → has_name (all_type_names kept) x ≡ has_name (all_type_names defs) x
 
--- each name has its number, each error says that something isn't right, and where there is no error the environment is right so far
-pub record ReadsSoFar (defs : List Definition) (Right : TypeEnv → Type 0) (env : TypeEnv) (es : List Error) : Type 0 where
+-- each name has its number, the types are known so far, and where there is no error the environment is right so far
+pub record ReadsSoFar (Knows Right : TypeEnv → Type 0) (env : TypeEnv) (es : List Error) : Type 0 where
   pub inverse : IsInterned env
-  pub ill_typed : AreIllTyped es
-  pub so_far : SoFarOfTypes defs es (Right env)
+  pub knows : Knows env
+  pub right : es ≡ [] → Right env
 
 -- these built-in types are left to be added
 pub record Booting (env : TypeEnv) (rest : List BuiltinType) : Type 0 where
@@ -52,9 +52,9 @@ pub record Naming (defs rest : List Definition) (env : TypeEnv) : Type 0 where
   pub names : with_names (names_of env) (type_names rest) ≡ with_names builtin_names (type_names defs)
   pub types : type_views env.types.items ≡ builtin_from 0 builtin_names
 
--- such names of types are read
-abbrev pub NamesTypes : List Definition → List Definition → TypeEnv → List Error → Type 0
-NamesTypes defs rest env es = ReadsSoFar defs (Naming defs rest) env es
+-- the names of the types of the definitions before these are read
+abbrev pub NamesTypes : List Definition → List Definition → List Definition → TypeEnv → List Error → Type 0
+NamesTypes defs before rest env es = ReadsSoFar (KnowsTypes before) (Naming defs rest) env es
 
 -- the names inside these types, in order
 abbrev pub names_in_types : List Definition → List (List ℕ)
@@ -76,14 +76,13 @@ AreMet env xs = All (λ x. IsTrue (has_name (names_of env) x)) xs
 pub record Filling (defs rest : List Definition) (env : TypeEnv) : Type 0 where
   pub sees : Sees env (all_type_names defs)
   pub distinct : IsDistinct (all_type_names defs)
-  pub met : AreMet env (all_type_names defs)
   pub names : with_names (names_of env) (names_in_types rest ++ constant_names defs) ≡ type_names_met defs
   pub types : type_views env.types.items ++ entries_from defs (length (type_views env.types.items)) (type_trees rest) ≡ type_table defs
   pub right : All (IsRightType defs) (type_trees rest) → All (IsRightType defs) (type_trees defs)
 
 -- such types are read
 abbrev pub FillsTypes : List Definition → List Definition → TypeEnv → List Error → Type 0
-FillsTypes defs rest env es = ReadsSoFar defs (Filling defs rest) env es
+FillsTypes defs rest env es = ReadsSoFar (KnowsTypes defs) (Filling defs rest) env es
 
 -- the type of the last of these definitions of a constant
 abbrev pub last_type : List Definition → List ConstantTree → List ℕ → Option ℕ
@@ -103,6 +102,13 @@ pub record TypingConstants (defs rest : List Definition) (env : TypeEnv) : Type 
   pub constants : (k : ℕ) → constant_at env k ≡ then_option (slice_get (type_names_met defs) k) (last_type defs read)
   pub of_known : All (IsOfKnownType defs) (constant_trees rest) → All (IsOfKnownType defs) (constant_trees defs)
 
+-- the types that have a name of their own are found by it, while constants are read
+pub record LooksUpTypes (defs : List Definition) (env : TypeEnv) : Type 0 where
+  pub kept : List Definition
+  pub ids : (k : ℕ) → type_at env k ≡ type_of_number kept (names_of env) k
+  pub known : (x : List ℕ) → has_name (names_of env) x ≡ false → type_id kept x ≡ None
+  pub same : (x : List ℕ) → has_name (all_type_names kept) x ≡ has_name (all_type_names defs) x
+
 -- such constants are read
 abbrev pub ReadsConstants : List Definition → List Definition → TypeEnv → List Error → Type 0
-ReadsConstants defs rest env es = ReadsSoFar defs (TypingConstants defs rest) env es
+ReadsConstants defs rest env es = ReadsSoFar (LooksUpTypes defs) (TypingConstants defs rest) env es

@@ -1,18 +1,20 @@
 -- What reading the value of a type does, and reading the variants of an enum.
 use Rattle.std.specs.Prelude.{◌≡◌, ℕ, Bool, true, false, List, [], ◌∷◌, ◌++◌, ◌⊎◌, Option, length, Some, None, All, map, is_some, slice_get}
 use Rattle.std.specs.List.{flat_map, enumerate_from}
-use Rattle.isle_model.specs.lists.Syntax.{VariantTree, TypeTree, TypeValueTree, Definition, type_definition}
+use Rattle.isle_model.specs.lists.Syntax.{Position, VariantTree, TypeTree, TypeValueTree, Definition, type_definition}
 use Rattle.isle_model.specs.lists.Names.{number, has_name, with_names, IsDistinct}
 use Rattle.isle_model.specs.rules.Outcome.{then_option}
 use Rattle.isle_model.specs.lists.TypeTable.{place_from, variant_names, names_inside, variant_entry, type_entry}
 use Rattle.isle_base.specs.declared.syntax.Error.{Error}
+use Rattle.isle_base.specs.Noting.{NotesMore}
+use Rattle.isle_base.specs.Positions.{variant_positions, type_positions}
 use Rattle.isle_base.specs.Stable.{Members, contains}
 use Rattle.isle_types.specs.declared.ids.Sym.{Sym}
 use Rattle.isle_types.specs.declared.type_env.TypeEnv.{TypeEnv}
 use Rattle.isle_types.specs.declared.types.Variant.{Variant}
 use Rattle.isle_types.specs.Envs.{names_of, same_symbol, symbol}
-use Rattle.isle_base.specs.Noting.{NotesMore}
-use Rattle.isle_types.specs.Reading.{MeetsNames, AreRightFields, IsRightType}
+use Rattle.isle_types.specs.Reading.{MeetsNames, EndsAt, AreRightFields, IsRightType}
+use Rattle.isle_types.specs.Telling.{Notes}
 use Rattle.isle_types.specs.TypeViews.{variant_view, type_views}
 
 -- a type of which another value is read
@@ -23,6 +25,11 @@ of_value t value = record { name = t.name; is_extern = t.is_extern; is_nodebug =
 abbrev pub ReportsIf : Bool → List Error → List Error → Type 0
 ReportsIf true old new = NotesMore old new
 ReportsIf false old new = new ≡ old
+
+-- one error is noted at a position exactly if this holds
+abbrev pub NotesIf : Bool → Position → List Error → List Error → Type 0
+NotesIf true at old new = Notes 1 (at ∷ []) old new
+NotesIf false at old new = new ≡ old
 
 -- a name was met, and this is its number
 pub record IsNumberOf (n : ℕ) (name : List ℕ) (names : List (List ℕ)) : Type 0 where
@@ -45,7 +52,7 @@ pub record VariantRead (defs : List Definition) (ty : List ℕ) (id : ℕ) (v : 
 -- a variant becomes its entry, or its name is an earlier one's, or its fields aren't right
 abbrev pub ReadsVariant : List Definition → List ℕ → ℕ → VariantTree → List (List ℕ) → Option Variant → TypeEnv → List Error → TypeEnv → List Error → Members Sym → Type 0
 ReadsVariant defs ty id v earlier (Some read) old es new es' seen = (es' ≡ es) × VariantRead defs ty id v earlier read old new seen
-ReadsVariant defs ty id v earlier None old es new es' seen = NotesMore es es' × (place_from 0 v.name.text earlier ≡ None → AreRightFields defs v.fields → ⊥)
+ReadsVariant defs ty id v earlier None old es new es' seen = EndsAt (variant_positions v) old es new es' × (place_from 0 v.name.text earlier ≡ None → AreRightFields defs v.fields → ⊥)
 
 -- these variants become their entries
 pub record VariantsRead (defs : List Definition) (ty : List ℕ) (vs : List VariantTree) (read : List Variant) (old new : TypeEnv) : Type 0 where
@@ -57,7 +64,7 @@ pub record VariantsRead (defs : List Definition) (ty : List ℕ) (vs : List Vari
 -- the variants of an enum become their entries, or two have one name, or the fields of one aren't right
 abbrev pub ReadsVariants : List Definition → List ℕ → List VariantTree → Option (List Variant) → TypeEnv → List Error → TypeEnv → List Error → Type 0
 ReadsVariants defs ty vs (Some read) old es new es' = (es' ≡ es) × VariantsRead defs ty vs read old new
-ReadsVariants defs ty vs None old es new es' = NotesMore es es' × (IsDistinct (map (λ v. v.name.text) vs) → All (AreRightFields defs) (map (λ v. v.fields) vs) → ⊥)
+ReadsVariants defs ty vs None old es new es' = EndsAt (flat_map variant_positions vs) old es new es' × (IsDistinct (map (λ v. v.name.text) vs) → All (AreRightFields defs) (map (λ v. v.fields) vs) → ⊥)
 
 -- a type becomes the next entry
 pub record FillsType (defs : List Definition) (t : TypeTree) (old new : TypeEnv) : Type 0 where
@@ -70,5 +77,5 @@ pub record FillsType (defs : List Definition) (t : TypeTree) (old new : TypeEnv)
 
 -- a definition of a type becomes the next entry, or its type isn't right; another one changes nothing
 abbrev pub FillsDefinition : List Definition → Definition → TypeEnv → List Error → TypeEnv → List Error → Type 0
-FillsDefinition defs (type_definition t) old es new es' = ((es' ≡ es) × FillsType defs t old new) ⊎ (NotesMore es es' × (IsRightType defs t → ⊥))
+FillsDefinition defs (type_definition t) old es new es' = ((es' ≡ es) × FillsType defs t old new) ⊎ (EndsAt (type_positions t) old es new es' × (IsRightType defs t → ⊥))
 FillsDefinition defs _ old es new es' = (es' ≡ es) × (new ≡ old)

@@ -14,10 +14,12 @@ ghost use Rattle.isle_base.specs.SyntaxViews.{position, definition_view, definit
 ghost use Rattle.isle_types.specs.EnvViews.{environment_view};
 ghost use Rattle.isle_types.specs.Envs.{names_of, type_at, IsInterned};
 ghost use Rattle.isle_base.specs.Noting.{NotesMore};
-ghost use Rattle.isle_base.specs.Positions.{ErrorStandsAt, NotesAt, definition_positions, positions_of};
-ghost use Rattle.isle_types.specs.Reading.{AddsBuiltin, NamesType, NamesDefinition};
+ghost use Rattle.isle_base.specs.Positions.{ErrorStandsAt, NotesAt, positions_of};
+ghost use Rattle.isle_types.specs.Reading.{AddsBuiltin, NamesType, MeetsNames, NotesTaken, NamesDefinition};
 ghost use Rattle.isle_types.specs.Stages.{Booting, NamesTypes};
+ghost use Rattle.isle_types.specs.Telling.{Notes, NotesEach};
 ghost use Rattle.isle_types.specs.TypeBreaches.{FirstBreaksTypes};
+ghost use Rattle.isle_types.specs.TypeErrors.{TellsOfName, AreErrorsOfTypes};
 ghost use Rattle.isle_types.specs.TypeTables.{SeesTypes};
 
 mod constants;
@@ -68,6 +70,7 @@ impl TypeEnv {
         ensures refused { OnErrors result (λ es. RefusesTypes (definition_views defs.now) (error_views es)) }
         ensures places { OnErrors result (All (ErrorStandsAt (positions_of (definition_views defs.now)))) }
         ensures breach { OnErrors result (FirstBreaksTypes (definition_views defs.now)) }
+        ensures told { OnErrors result (AreErrorsOfTypes (definition_views defs.now)) }
         ensures shown { IfOk result (λ env. AreTypesOf (definition_views defs.now) (environment_view env)) }
         ensures well_formed { IfOk result (λ env. IsWellFormedEnvironment (environment_view env)) }
     {
@@ -105,7 +108,7 @@ impl TypeEnv {
         requires { IsInterned self.old }
         ensures inverse { IsInterned self.new }
         ensures named { IfOk result (λ o. MatchOption o (NamesType name.now self.old self.new)
-            (λ id. type_at self.old (number (names_of self.old) name.now) ≡ Some id.0)) }
+            (λ id. (type_at self.old (number (names_of self.old) name.now) ≡ Some id.0) × MeetsNames (name.now ∷ []) self.old self.new)) }
         ensures types { self.new.types ≡ self.old.types }
     {
         let sym = self.intern_text(name)?;
@@ -143,7 +146,6 @@ impl TypeEnv {
     fn name_definition(&mut self, errors: &mut Vec<Error>, def: &Def) -> Result<(), AllocError>
         requires { IsInterned self.old }
         ensures inverse { IsInterned self.new }
-        ensures places { OnOk result (NotesAt (definition_positions (definition_view def.now)) errors.old.items errors.new.items) }
         ensures names { OnOk result (NamesDefinition (definition_view def.now) self.old errors.old.items self.new errors.new.items) }
     {
         let Def::TypeDef(ty) = def else {
@@ -157,9 +159,9 @@ impl TypeEnv {
 
     // Reads the names of all types.
     fn name_types(&mut self, errors: &mut Vec<Error>, defs: &[Def]) -> Result<(), AllocError>
-        requires { NamesTypes (definition_views defs.now) (definition_views defs.now) self.old errors.old.items }
-        ensures names { OnOk result (NamesTypes (definition_views defs.now) [] self.new errors.new.items) }
-        ensures places { OnOk result (NotesAt (positions_of (definition_views defs.now)) errors.old.items errors.new.items) }
+        requires { NamesTypes (definition_views defs.now) [] (definition_views defs.now) self.old errors.old.items }
+        ensures names { OnOk result (NamesTypes (definition_views defs.now) (definition_views defs.now) [] self.new errors.new.items) }
+        ensures told { OnOk result (NotesEach TellsOfName (definition_views defs.now) errors.old.items errors.new.items) }
     {
         for def in defs {
             self.name_definition(errors, def)?;
@@ -173,11 +175,12 @@ impl TypeEnv {
 /// # Errors
 ///
 /// Where memory is refused.
-#[tactic(auto, using(isle_base::proofs::Positioned::notes_one, isle_base::proofs::Positioned::stands_there))]
+#[tactic(auto, using(isle_base::proofs::Positioned::notes_one, isle_base::proofs::Positioned::stands_there, crate::proofs::Telling::one_noted))]
 pub fn report(errors: &mut Vec<Error>, pos: Pos, msg: &str) -> Result<(), AllocError>
     ensures noted { OnOk result (NotesMore errors.old.items errors.new.items) }
     ensures places { OnOk result (NotesAt (position pos ∷ []) errors.old.items errors.new.items) }
     ensures one { OnOk result (error_views errors.new.items ≡ error_views errors.old.items ++ ill_typed (position pos) ∷ []) }
+    ensures told { OnOk result (Notes 1 (position pos ∷ []) errors.old.items errors.new.items) }
 {
     let msg = String::from_str(*errors.allocator(), msg)?;
     let span = Span::new_single(pos);
@@ -191,8 +194,7 @@ fn report_duplicate(
     ty: &syntax::Type,
     existing: TypeId,
 ) -> Result<(), AllocError>
-    ensures noted { OnOk result (NotesMore errors.old.items errors.new.items) }
-    ensures places { OnOk result (NotesAt (position ty.now.pos ∷ []) errors.old.items errors.new.items) }
+    ensures told { OnOk result (NotesTaken existing.0 (position ty.now.pos) errors.old.items errors.new.items) }
 {
     let alloc = *errors.allocator();
     let twice = format!(in alloc; "Type with name '{}' defined more than once", ty.name.0)?;

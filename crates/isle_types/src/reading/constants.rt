@@ -1,11 +1,12 @@
 //! How the types of constants are read, after all types are.
 
-ghost use Rattle.std.specs.Prelude.{[], ◌∷◌, OnOk};
-ghost use Rattle.isle_base.specs.Positions.{NotesAt, definition_positions, positions_of};
+ghost use Rattle.std.specs.Prelude.{[], OnOk};
 ghost use Rattle.isle_base.specs.SyntaxViews.{position, definition_view, definition_views, name_view};
 ghost use Rattle.isle_types.specs.ConstantReading.{ReadsConstant, ReadsDefinition};
 ghost use Rattle.isle_types.specs.Envs.{IsInterned};
 ghost use Rattle.isle_types.specs.Stages.{FillsTypes, ReadsConstants};
+ghost use Rattle.isle_types.specs.Telling.{NotesEach};
+ghost use Rattle.isle_types.specs.TypeErrors.{TellsOfConstant};
 
 use crate::reading::report;
 use crate::type_env::TypeEnv;
@@ -21,7 +22,7 @@ impl TypeEnv {
     ) -> Result<(), AllocError>
         requires { FillsTypes (definition_views defs.now) [] self.old errors.old.items }
         ensures reads { OnOk result (ReadsConstants (definition_views defs.now) [] self.new errors.new.items) }
-        ensures places { OnOk result (NotesAt (positions_of (definition_views defs.now)) errors.old.items errors.new.items) }
+        ensures told { OnOk result (NotesEach (TellsOfConstant (definition_views defs.now)) (definition_views defs.now) errors.old.items errors.new.items) }
     {
         for def in defs {
             self.read_definition(errors, def)?;
@@ -33,7 +34,6 @@ impl TypeEnv {
     fn read_definition(&mut self, errors: &mut Vec<Error>, def: &Def) -> Result<(), AllocError>
         requires { IsInterned self.old }
         ensures inverse { IsInterned self.new }
-        ensures places { OnOk result (NotesAt (definition_positions (definition_view def.now)) errors.old.items errors.new.items) }
         ensures reads { OnOk result (ReadsDefinition (definition_view def.now) self.old errors.old.items self.new errors.new.items) }
     {
         let Def::Extern(Extern::Const { name, ty, pos }) = def else {
@@ -52,8 +52,8 @@ impl TypeEnv {
     ) -> Result<(), AllocError>
         requires { IsInterned self.old }
         ensures inverse { IsInterned self.new }
-        ensures places { OnOk result (NotesAt (position pos ∷ []) errors.old.items errors.new.items) }
-        ensures reads { OnOk result (ReadsConstant (name_view name.now) (name_view ty.now) self.old errors.old.items self.new errors.new.items) }
+        ensures reads { OnOk result (ReadsConstant (name_view name.now) (name_view ty.now) (position pos)
+            self.old errors.old.items self.new errors.new.items) }
     {
         let Some(id) = self.get_type_by_name(ty) else {
             return report(errors, pos, "Unknown type for constant");

@@ -2,15 +2,14 @@
 //! that is wrong is noted and ends the work on it.
 
 ghost use Rattle.std.specs.Prelude.{◌≡◌, ◌&&◌, [], ◌∷◌, map, option_map, OnOk, IfOk, string_bytes};
-ghost use Rattle.std.specs.List.{flat_map};
 ghost use Rattle.isle_model.specs.lists.Syntax.{enum_value, struct_value};
-ghost use Rattle.isle_base.specs.Positions.{NotesAt, fields_positions, variant_positions, type_positions, definition_positions, positions_of};
 ghost use Rattle.isle_base.specs.SyntaxViews.{position, name_view, fields_view, variant_view, type_view, definition_view, definition_views};
 ghost use Rattle.isle_types.specs.Envs.{names_of, IsInterned};
-ghost use Rattle.isle_base.specs.Noting.{NotesMore, MayNoteMore};
 ghost use Rattle.isle_types.specs.Promises.{TypeIsRead, PrimitiveIsRead, ValueIsRead, VariantsAreRead, OneVariantIsRead, DefinitionIsFilled};
 ghost use Rattle.isle_types.specs.Stages.{NamesTypes, FillsTypes};
-ghost use Rattle.isle_types.specs.VariantReading.{ReportsIf, IsNumberOf};
+ghost use Rattle.isle_types.specs.Telling.{Notes, NotesEach};
+ghost use Rattle.isle_types.specs.TypeErrors.{TellsOfType};
+ghost use Rattle.isle_types.specs.VariantReading.{NotesIf, IsNumberOf};
 
 use crate::ids::{Sym, TypeId, VariantId};
 use crate::reading::report;
@@ -31,8 +30,6 @@ impl TypeEnv {
     ) -> Result<Option<Type>, AllocError>
         requires { IsInterned self.old }
         ensures inverse { IsInterned self.new }
-        ensures noted { OnOk result (MayNoteMore errors.old.items errors.new.items) }
-        ensures places { OnOk result (NotesAt (type_positions (type_view ty.now)) errors.old.items errors.new.items) }
         ensures reads { IfOk result (λ o. TypeIsRead id.0 (type_view ty.now) o self.old errors.old.items self.new errors.new.items) }
     {
         let name = self.intern_mut(&ty.name)?;
@@ -53,8 +50,6 @@ impl TypeEnv {
     ) -> Result<Option<Type>, AllocError>
         requires { IsInterned self.old }
         ensures inverse { IsInterned self.new }
-        ensures noted { OnOk result (MayNoteMore errors.old.items errors.new.items) }
-        ensures places { OnOk result (NotesAt (position ty.now.pos ∷ []) errors.old.items errors.new.items) }
         ensures reads { IfOk result (λ o. PrimitiveIsRead id.0 (type_view ty.now) (name_view inner.now) o
             self.old errors.old.items self.new errors.new.items) }
     {
@@ -82,9 +77,6 @@ impl TypeEnv {
         requires inverse { IsInterned self.old }
         requires name { IsNumberOf name.0 (string_bytes ty.now.name.0) (names_of self.old) }
         ensures inverse { IsInterned self.new }
-        ensures noted { OnOk result (MayNoteMore errors.old.items errors.new.items) }
-        ensures places { OnOk result (NotesAt (position ty.now.pos ∷ flat_map variant_positions (map variant_view variants.now))
-            errors.old.items errors.new.items) }
         ensures reads { IfOk result (λ o. ValueIsRead id.0 (type_view ty.now) (enum_value (map variant_view variants.now)) o
             self.old errors.old.items self.new errors.new.items) }
     {
@@ -116,9 +108,6 @@ impl TypeEnv {
         requires inverse { IsInterned self.old }
         requires name { IsNumberOf name.0 (string_bytes ty.now.name.0) (names_of self.old) }
         ensures inverse { IsInterned self.new }
-        ensures noted { OnOk result (MayNoteMore errors.old.items errors.new.items) }
-        ensures places { OnOk result (NotesAt (position ty.now.pos ∷ fields_positions (fields_view fields.now))
-            errors.old.items errors.new.items) }
         ensures reads { IfOk result (λ o. ValueIsRead id.0 (type_view ty.now) (struct_value (fields_view fields.now)) o
             self.old errors.old.items self.new errors.new.items) }
     {
@@ -147,9 +136,6 @@ impl TypeEnv {
     ) -> Result<Option<Vec<Variant>>, AllocError>
         requires { IsInterned self.old }
         ensures inverse { IsInterned self.new }
-        ensures noted { OnOk result (MayNoteMore errors.old.items errors.new.items) }
-        ensures places { OnOk result (NotesAt (flat_map variant_positions (map variant_view variants.now))
-            errors.old.items errors.new.items) }
         ensures reads { IfOk result (λ o. VariantsAreRead (string_bytes ty.now.0) (map variant_view variants.now) (option_map (λ v. v.items) o)
             self.old errors.old.items self.new errors.new.items) }
     {
@@ -177,8 +163,6 @@ impl TypeEnv {
     ) -> Result<Option<Variant>, AllocError>
         requires { IsInterned self.old }
         ensures inverse { IsInterned self.new }
-        ensures noted { OnOk result (MayNoteMore errors.old.items errors.new.items) }
-        ensures places { OnOk result (NotesAt (variant_positions (variant_view variant.now)) errors.old.items errors.new.items) }
         ensures reads { IfOk result (λ o. OneVariantIsRead (string_bytes ty.now.0) id.0 (variant_view variant.now) o
             self.old errors.old.items seen.old self.new errors.new.items seen.new) }
     {
@@ -205,8 +189,6 @@ impl TypeEnv {
     fn fill_definition(&mut self, errors: &mut Vec<Error>, def: &Def) -> Result<(), AllocError>
         requires { IsInterned self.old }
         ensures inverse { IsInterned self.new }
-        ensures noted { OnOk result (MayNoteMore errors.old.items errors.new.items) }
-        ensures places { OnOk result (NotesAt (definition_positions (definition_view def.now)) errors.old.items errors.new.items) }
         ensures fills { OnOk result (DefinitionIsFilled (definition_view def.now) self.old errors.old.items self.new errors.new.items) }
     {
         let Def::TypeDef(ty) = def else {
@@ -225,9 +207,9 @@ impl TypeEnv {
         errors: &mut Vec<Error>,
         defs: &[Def],
     ) -> Result<(), AllocError>
-        requires { NamesTypes (definition_views defs.now) [] self.old errors.old.items }
+        requires { NamesTypes (definition_views defs.now) (definition_views defs.now) [] self.old errors.old.items }
         ensures fills { OnOk result (FillsTypes (definition_views defs.now) [] self.new errors.new.items) }
-        ensures places { OnOk result (NotesAt (positions_of (definition_views defs.now)) errors.old.items errors.new.items) }
+        ensures told { OnOk result (NotesEach (TellsOfType (definition_views defs.now)) (definition_views defs.now) errors.old.items errors.new.items) }
     {
         for def in defs {
             self.fill_definition(errors, def)?;
@@ -239,8 +221,7 @@ impl TypeEnv {
 // Whether a type is marked both `extern` and `nodebug`, which is noted then.
 fn has_both_marks(errors: &mut Vec<Error>, ty: &syntax::Type) -> Result<bool, AllocError>
     ensures both { IfOk result (λ b. b ≡ (ty.now.is_extern && ty.now.is_nodebug)) }
-    ensures noted { IfOk result (λ b. ReportsIf b errors.old.items errors.new.items) }
-    ensures places { OnOk result (NotesAt (position ty.now.pos ∷ []) errors.old.items errors.new.items) }
+    ensures noted { IfOk result (λ b. NotesIf b (position ty.now.pos) errors.old.items errors.new.items) }
 {
     if !(ty.is_extern && ty.is_nodebug) {
         return Ok(false);
@@ -254,8 +235,7 @@ fn report_duplicate_variant(
     errors: &mut Vec<Error>,
     variant: &syntax::Variant,
 ) -> Result<(), AllocError>
-    ensures noted { OnOk result (NotesMore errors.old.items errors.new.items) }
-    ensures places { OnOk result (NotesAt (position variant.now.pos ∷ []) errors.old.items errors.new.items) }
+    ensures { OnOk result (Notes 1 (position variant.now.pos ∷ []) errors.old.items errors.new.items) }
 {
     let alloc = *errors.allocator();
     let text = format!(in alloc; "Duplicate variant name in type: '{}'", variant.name.0)?;

@@ -2,15 +2,13 @@
 //! that is wrong is noted and ends the reading.
 
 ghost use Rattle.std.specs.Prelude.{[], ◌∷◌, map, option_map, IfOk, OnOk};
-ghost use Rattle.std.specs.List.{flat_map};
 ghost use Rattle.isle_model.specs.lists.Syntax.{struct_fields, tuple_fields};
-ghost use Rattle.isle_base.specs.Positions.{NotesAt, field_positions, tuple_field_positions, fields_positions};
 ghost use Rattle.isle_base.specs.SyntaxViews.{position, fields_view, field_view, tuple_field_view};
 ghost use Rattle.isle_types.specs.Envs.{IsInterned};
 ghost use Rattle.isle_types.specs.FieldReading.{ReadsField, ReadsTupleField};
 ghost use Rattle.isle_types.specs.Promises.{FieldsAreRead};
-ghost use Rattle.isle_base.specs.Noting.{MayNoteMore, NotesMore};
 ghost use Rattle.isle_types.specs.Reading.{MeetsNames};
+ghost use Rattle.isle_types.specs.Telling.{Notes};
 
 use crate::ids::{FieldId, Sym};
 use crate::reading::report;
@@ -32,8 +30,6 @@ impl TypeEnv {
     ) -> Result<Option<Fields>, AllocError>
         requires { IsInterned self.old }
         ensures inverse { IsInterned self.new }
-        ensures noted { OnOk result (MayNoteMore errors.old.items errors.new.items) }
-        ensures places { OnOk result (NotesAt (fields_positions (fields_view fields.now)) errors.old.items errors.new.items) }
         ensures reads { IfOk result (λ o. FieldsAreRead (fields_view fields.now) o self.old errors.old.items self.new errors.new.items) }
     {
         match fields {
@@ -58,9 +54,6 @@ impl TypeEnv {
     ) -> Result<Option<StructFields>, AllocError>
         requires { IsInterned self.old }
         ensures inverse { IsInterned self.new }
-        ensures noted { OnOk result (MayNoteMore errors.old.items errors.new.items) }
-        ensures places { OnOk result (NotesAt (flat_map field_positions (map field_view fields.now))
-            errors.old.items errors.new.items) }
         ensures reads { IfOk result (λ o. FieldsAreRead (struct_fields (map field_view fields.now)) (option_map Fields.Struct o)
             self.old errors.old.items self.new errors.new.items) }
     {
@@ -89,7 +82,6 @@ impl TypeEnv {
         requires { IsInterned self.old }
         ensures inverse { IsInterned self.new }
         ensures meets { OnOk result (MeetsNames ((field_view field.now).name.text ∷ []) self.old self.new) }
-        ensures places { OnOk result (NotesAt (field_positions (field_view field.now)) errors.old.items errors.new.items) }
         ensures reads { IfOk result (λ o. ReadsField (field_view field.now) id.0 o self.old errors.old.items seen.old self.new errors.new.items seen.new) }
     {
         let name = self.intern_mut(&field.name)?;
@@ -114,9 +106,6 @@ impl TypeEnv {
         variant: Option<&Ident>,
     ) -> Result<Option<TupleFields>, AllocError>
         requires { IsInterned self.now }
-        ensures noted { OnOk result (MayNoteMore errors.old.items errors.new.items) }
-        ensures places { OnOk result (NotesAt (flat_map tuple_field_positions (map tuple_field_view fields.now))
-            errors.old.items errors.new.items) }
         ensures reads { IfOk result (λ o. FieldsAreRead (tuple_fields (map tuple_field_view fields.now)) (option_map Fields.Tuple o)
             self.now errors.old.items self.now errors.new.items) }
     {
@@ -140,7 +129,6 @@ impl TypeEnv {
         variant: Option<&Ident>,
     ) -> Result<Option<TupleField>, AllocError>
         ensures reads { IfOk result (λ o. ReadsTupleField (tuple_field_view field.now) id.0 o self.now errors.old.items errors.new.items) }
-        ensures places { OnOk result (NotesAt (tuple_field_positions (tuple_field_view field.now)) errors.old.items errors.new.items) }
     {
         let Some(ty) = self.get_type_by_name(&field.ty) else {
             let alloc = *self.syms.allocator();
@@ -158,8 +146,7 @@ fn report_duplicate_field(
     field: &syntax::StructField,
     variant: Option<&Ident>,
 ) -> Result<(), AllocError>
-    ensures noted { OnOk result (NotesMore errors.old.items errors.new.items) }
-    ensures places { OnOk result (NotesAt (position field.now.pos ∷ []) errors.old.items errors.new.items) }
+    ensures { OnOk result (Notes 1 (position field.now.pos ∷ []) errors.old.items errors.new.items) }
 {
     let alloc = *errors.allocator();
     let name = &field.name.0;
@@ -182,8 +169,7 @@ fn report_unknown_type(
     field: &str,
     variant: Option<&Ident>,
 ) -> Result<(), AllocError>
-    ensures noted { OnOk result (NotesMore errors.old.items errors.new.items) }
-    ensures places { OnOk result (NotesAt (position ty.now.1 ∷ []) errors.old.items errors.new.items) }
+    ensures { OnOk result (Notes 1 (position ty.now.1 ∷ []) errors.old.items errors.new.items) }
 {
     let alloc = *errors.allocator();
     let msg = match variant {

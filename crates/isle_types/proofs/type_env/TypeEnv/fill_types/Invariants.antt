@@ -1,11 +1,5 @@
-use Rattle.std.proofs.Common.{drop}
-use Rattle.isle_base.specs.Positions.{NotesAt, positions_of}
-use Rattle.isle_base.specs.SyntaxViews.{definition_views}
-use Rattle.isle_types.specs.Stages.{FillsTypes}
+use Rattle.isle_types.proofs.FillingTypes.{FillsUpTo}
 use Rattle.isle_types.proofs.type_env.TypeEnv.fill_types.Given as goal
 
 abbrev pub invariant-loop-def : goal.invariant-loop-def
-invariant-loop-def l = record {
-  filled : FillsTypes (definition_views l.defs) (definition_views (drop l.def-index l.defs)) l.self l.errors.items;
-  places : NotesAt (positions_of (definition_views l.defs)) l.initial.errors.items l.errors.items;
-}
+invariant-loop-def l = FillsUpTo l.defs l.def-index l.initial.errors.items l.self l.errors.items

@@ -1,6 +1,5 @@
 use Rattle.std.proofs.Common.{refl, sym, inl}
 use Rattle.isle_types.proofs.TypeMaps.{read_ids}
-use Rattle.isle_base.proofs.Positioned.{notes_nothing}
 use Rattle.isle_types.proofs.type_env.TypeEnv.read_constant.Goals as goal
 
 pub returns-clause-reads : goal.returns-clause-reads
@@ -16,6 +15,3 @@ returns-clause-reads c = inl (
     errors = c.in_ok-sym.ensures.errors;
   },
 )
-
-pub returns-clause-places : goal.returns-clause-places
-returns-clause-places c = notes_nothing _ _ _ refl

@@ -1,11 +1,14 @@
-use Rattle.std.proofs.Common.{◌≡◌, ◌&&◌, false, map, string_bytes, sym, ap, ◌∙◌}
+use Rattle.std.proofs.Common.{◌≡◌, ◌&&◌, true, false, map, string_bytes, refl, sym, ap, ◌∙◌}
+use Rattle.isle_model.specs.lists.Syntax.{enum_value}
 use Rattle.isle_model.specs.lists.Names.{number}
 use Rattle.isle_model.specs.lists.Tables.{enum_type}
 use Rattle.isle_base.specs.SyntaxViews as views
 use Rattle.isle_types.specs.Envs.{names_of}
 use Rattle.isle_types.specs.TypeViews.{variant_view}
-use Rattle.isle_types.proofs.RightValues.{number_later, enum_right}
-use Rattle.isle_types.proofs.PlacesNoted.{notes_there, notes_then}
+use Rattle.isle_types.specs.VariantReading.{of_value}
+use Rattle.isle_types.proofs.NamesMet.{ends_here, ends_inside}
+use Rattle.isle_types.proofs.RightValues.{number_later, enum_right, two_marks}
+use Rattle.isle_types.proofs.PlacesNoted.{noted_there, value_among}
 use Rattle.isle_types.proofs.type_env.TypeEnv.read_enum.Goals as goal
 
 pub returns-clause-reads : goal.returns-clause-reads
@@ -22,11 +25,15 @@ returns-clause-reads c =
           ∙ ap (λ l. enum_type (number (names_of c.read_variants.new.self) (string_bytes c.args.ty.now.name.0)) c.args.id.0 c.args.ty.now.is_extern c.args.ty.now.is_nodebug l (views.position c.args.ty.now.pos)) r.1.entries,
     )
 
-pub returns-then-branch-clause-places : goal.returns-then-branch-clause-places
-returns-then-branch-clause-places c = notes_there _ _ _ _ c.in_ok-has_both_marks.ensures.places
+pub returns-then-branch-clause-reads : goal.returns-then-branch-clause-reads
+returns-then-branch-clause-reads c =
+    let two : true ≡ (c.args.ty.now.is_extern && c.args.ty.now.is_nodebug) = sym c.if-branch.true ∙ c.in_ok-has_both_marks.ensures.both in
+    let noted = rw c.if-branch.true at c.in_ok-has_both_marks.ensures.noted in
+    λ defs at s. (ends_here _ _ _ _ (noted_there _ _ _ _ noted), two_marks defs (views.type_view c.args.ty.now) at (enum_value (map views.variant_view c.args.variants.now) at) two)
 
-pub returns-in_default-clause-places : goal.returns-in_default-clause-places
-returns-in_default-clause-places c = notes_then _ _ _ _ _ c.in_ok-has_both_marks.ensures.places c.in_ok-variants.ensures.places
-
-pub returns-clause-places : goal.returns-clause-places
-returns-clause-places c = notes_then _ _ _ _ _ c.in_ok-has_both_marks.ensures.places c.in_ok-variants.ensures.places
+pub returns-in_default-clause-reads : goal.returns-in_default-clause-reads
+returns-in_default-clause-reads c =
+    let none = rw c.if-branch.false at c.in_ok-has_both_marks.ensures.noted in
+    λ defs at s.
+    let r = rw c.in_default.is at c.in_ok-variants.ensures.reads defs s in
+    (ends_inside _ _ _ _ _ _ _ none (value_among (of_value (views.type_view c.args.ty.now) (enum_value (map views.variant_view c.args.variants.now) at)) at _ refl) r.0, λ right. r.1 right.variants right.fields)

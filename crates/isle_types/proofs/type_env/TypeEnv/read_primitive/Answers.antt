@@ -1,9 +1,10 @@
-use Rattle.std.proofs.Common.{string_bytes, refl, ap}
+use Rattle.std.proofs.Common.{string_bytes, refl, sym, ap, ◌∙◌}
+use Rattle.std.proofs.lemmas.Bool.{false≢true}
 use Rattle.isle_model.specs.lists.Tables.{primitive_type}
 use Rattle.isle_base.specs.SyntaxViews.{name_view, type_view, position}
-use Rattle.isle_types.proofs.NamesMet.{meet_one}
+use Rattle.isle_types.proofs.NamesMet.{meet_one, ends_here}
+use Rattle.isle_types.proofs.PlacesNoted.{noted_there}
 use Rattle.isle_types.proofs.RightValues.{named_now, primitive_right}
-use Rattle.isle_base.proofs.Positioned.{notes_nothing}
 use Rattle.isle_types.proofs.type_env.TypeEnv.read_primitive.Goals as goal
 
 pub returns-clause-reads : goal.returns-clause-reads
@@ -17,5 +18,10 @@ returns-clause-reads c =
       ap (λ k. primitive_type c.args.id.0 k (position c.args.ty.now.pos)) named.numbered,
     )
 
-pub returns-clause-places : goal.returns-clause-places
-returns-clause-places c = notes_nothing _ _ _ refl
+pub returns-then-ty-clause-reads : goal.returns-then-ty-clause-reads
+returns-then-ty-clause-reads c =
+    λ defs at. (ends_here _ _ _ _ (noted_there _ _ _ _ c.in_ok-report.ensures.told), λ right. false≢true (sym (right.unmarked refl).1 ∙ c.if-ty.true))
+
+pub returns-then-ty-2-clause-reads : goal.returns-then-ty-2-clause-reads
+returns-then-ty-2-clause-reads c =
+    λ defs at. (ends_here _ _ _ _ (noted_there _ _ _ _ c.in_ok-report-2.ensures.told), λ right. false≢true (sym (right.unmarked refl).0 ∙ c.if-ty-2.true))

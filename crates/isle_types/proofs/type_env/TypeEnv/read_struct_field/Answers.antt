@@ -1,14 +1,18 @@
-use Rattle.std.proofs.Common.{◌≡◌, true, false, refl, sym, inl, rules}
+use Rattle.std.proofs.Common.{◌≡◌, true, false, refl, sym, inl, inr, rules}
 use Rattle.isle_types.specs.FieldReading.{was_seen}
-use Rattle.isle_types.proofs.PlacesNoted.{notes_there, field_type_among}
-use Rattle.isle_base.proofs.Positioned.{notes_among, notes_nothing}
+use Rattle.isle_types.proofs.PlacesNoted.{noted_there, field_type_among}
+use Rattle.isle_types.proofs.Telling.{noted_among}
 use Rattle.isle_base.specs.SyntaxViews.{field_view}
 use Rattle.isle_types.proofs.type_env.TypeEnv.read_struct_field.Goals as goal
 
 pub returns-then-not-branch-clause-reads : goal.returns-then-not-branch-clause-reads
 returns-then-not-branch-clause-reads c =
     let before : was_seen c.args.seen.now c.in_ok-name.name.0 ≡ true = search rules in
-    (c.in_ok-report_duplicate_field.ensures.noted, inl (rw (← c.in_ok-name.ensures.number) before))
+    (noted_there _ _ _ _ c.in_ok-report_duplicate_field.ensures, inl (rw (← c.in_ok-name.ensures.number) before))
+
+pub returns-in_default-clause-reads : goal.returns-in_default-clause-reads
+returns-in_default-clause-reads c =
+    (noted_among 1 _ _ _ _ (field_type_among (field_view c.args.field.now)) c.in_ok-report_unknown_type.ensures, inr (search rules))
 
 pub returns-clause-reads : goal.returns-clause-reads
 returns-clause-reads c =
@@ -22,13 +26,3 @@ returns-clause-reads c =
         more = λ k. rw (← c.in_ok-name.ensures.number) (c.in_ok-insert.ensures.has (record { 0 = k }));
       },
     )
-
-pub returns-then-not-branch-clause-places : goal.returns-then-not-branch-clause-places
-returns-then-not-branch-clause-places c = notes_there _ _ _ _ c.in_ok-report_duplicate_field.ensures.places
-
-pub returns-in_default-clause-places : goal.returns-in_default-clause-places
-returns-in_default-clause-places c =
-    notes_among _ _ _ _ (field_type_among (field_view c.args.field.now)) c.in_ok-report_unknown_type.ensures.places
-
-pub returns-clause-places : goal.returns-clause-places
-returns-clause-places c = notes_nothing _ _ _ refl

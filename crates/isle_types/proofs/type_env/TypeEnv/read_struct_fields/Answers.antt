@@ -1,9 +1,5 @@
-use Rattle.std.proofs.Common.{◌≡◌, ◌<◌, ◌++◌, ◌∷◌, [], length, inl, ◌∙◌, rules}
-use Rattle.isle_types.proofs.FieldSteps.{noted_after, reads_first, reads_next, reads_wrong, reads_last}
-use Rattle.isle_types.proofs.PlacesNoted.{notes_first}
-use Rattle.isle_base.proofs.Positioned.{notes_nothing}
-use Rattle.isle_base.specs.Positions.{field_positions}
-use Rattle.isle_base.specs.SyntaxViews.{field_view}
+use Rattle.std.proofs.Common.{◌≡◌, ◌<◌, ◌++◌, ◌∷◌, [], length, ◌∙◌, rules}
+use Rattle.isle_types.proofs.FieldSteps.{reads_first, reads_next, reads_wrong, reads_last}
 use Rattle.isle_types.proofs.type_env.TypeEnv.read_struct_fields.Goals as goal
 
 pub loop-field-init : goal.loop-field-init
@@ -24,17 +20,3 @@ returns-in_default-clause-reads c =
 pub returns-clause-reads : goal.returns-clause-reads
 returns-clause-reads c =
     reads_last c.args.fields.now c.loop-field.field-index c.loop-field-test.false c.loop-field.read.items c.loop-field.seen c.args.self.now c.args.errors.now.items c.loop-field.self _ c.loop-field.invariant
-
-pub returns-in_default-clause-noted : goal.returns-in_default-clause-noted
-returns-in_default-clause-noted c = let r = c.loop-field.invariant.unnoted in let w = rw c.in_default.is at c.in_ok-field.ensures.reads in noted_after _ _ _ r w.0
-
-pub returns-clause-noted : goal.returns-clause-noted
-returns-clause-noted c = inl c.loop-field.invariant.unnoted
-
-pub returns-in_default-clause-places : goal.returns-in_default-clause-places
-returns-in_default-clause-places c =
-    let within : c.loop-field.field-index < length c.args.fields.now = search rules in
-    notes_first field_positions field_view c.args.fields.now c.loop-field.field-index c.field-item.result within c.field-item.is _ _ _ c.loop-field.invariant.unnoted c.in_ok-field.ensures.places
-
-pub returns-clause-places : goal.returns-clause-places
-returns-clause-places c = notes_nothing _ _ _ c.loop-field.invariant.unnoted

@@ -1,9 +1,5 @@
-use Rattle.std.proofs.Common.{◌≡◌, ◌<◌, ◌++◌, ◌∷◌, [], length, inl, ◌∙◌, rules}
-use Rattle.isle_types.proofs.FieldSteps.{noted_after, reads_first_tuple, reads_next_tuple, reads_wrong_tuple, reads_last_tuple}
-use Rattle.isle_types.proofs.PlacesNoted.{notes_first}
-use Rattle.isle_base.proofs.Positioned.{notes_nothing}
-use Rattle.isle_base.specs.Positions.{tuple_field_positions}
-use Rattle.isle_base.specs.SyntaxViews.{tuple_field_view}
+use Rattle.std.proofs.Common.{◌≡◌, ◌<◌, ◌++◌, ◌∷◌, [], length, ◌∙◌, rules}
+use Rattle.isle_types.proofs.FieldSteps.{reads_first_tuple, reads_next_tuple, reads_wrong_tuple, reads_last_tuple}
 use Rattle.isle_types.proofs.type_env.TypeEnv.read_tuple_fields.Goals as goal
 
 pub loop-field-init : goal.loop-field-init
@@ -15,25 +11,11 @@ loop-field-preserved c =
     let within : c.loop-field.field-index < length c.args.fields.now = search rules in
     rw items (reads_next_tuple c.args.fields.now c.loop-field.field-index c.field-item.result within c.field-item.is c.loop-field.read.items c.args.self.now c.args.errors.now.items _ _ c.loop-field.invariant c.requires c.len.result c.in-Some.field (c.len.ensures ∙ c.loop-field.read.ok.0) (rw c.in-Some.is at c.in_ok-field.ensures.reads))
 
-pub returns-in_default-clause-reads : goal.returns-in_default-clause-reads
-returns-in_default-clause-reads c =
+pub returns-in_default : goal.returns-in_default
+returns-in_default c =
     let within : c.loop-field.field-index < length c.args.fields.now = search rules in
-    reads_wrong_tuple c.args.fields.now c.loop-field.field-index c.field-item.result within c.field-item.is c.loop-field.read.items c.args.self.now c.args.errors.now.items _ _ c.loop-field.invariant c.requires c.len.result (rw c.in_default.is at c.in_ok-field.ensures.reads)
+    record { reads = reads_wrong_tuple c.args.fields.now c.loop-field.field-index c.field-item.result within c.field-item.is c.loop-field.read.items c.args.self.now c.args.errors.now.items _ _ c.loop-field.invariant c.requires c.len.result (rw c.in_default.is at c.in_ok-field.ensures.reads) }
 
-pub returns-clause-reads : goal.returns-clause-reads
-returns-clause-reads c =
-    reads_last_tuple c.args.fields.now c.loop-field.field-index c.loop-field-test.false c.loop-field.read.items c.args.self.now c.args.errors.now.items _ c.loop-field.invariant
-
-pub returns-in_default-clause-noted : goal.returns-in_default-clause-noted
-returns-in_default-clause-noted c = let r = c.loop-field.invariant.unnoted in let w = rw c.in_default.is at c.in_ok-field.ensures.reads in noted_after _ _ _ r w.0
-
-pub returns-clause-noted : goal.returns-clause-noted
-returns-clause-noted c = inl c.loop-field.invariant.unnoted
-
-pub returns-in_default-clause-places : goal.returns-in_default-clause-places
-returns-in_default-clause-places c =
-    let within : c.loop-field.field-index < length c.args.fields.now = search rules in
-    notes_first tuple_field_positions tuple_field_view c.args.fields.now c.loop-field.field-index c.field-item.result within c.field-item.is _ _ _ c.loop-field.invariant.unnoted c.in_ok-field.ensures.places
-
-pub returns-clause-places : goal.returns-clause-places
-returns-clause-places c = notes_nothing _ _ _ c.loop-field.invariant.unnoted
+pub returns : goal.returns
+returns c =
+    record { reads = reads_last_tuple c.args.fields.now c.loop-field.field-index c.loop-field-test.false c.loop-field.read.items c.args.self.now c.args.errors.now.items _ c.loop-field.invariant }

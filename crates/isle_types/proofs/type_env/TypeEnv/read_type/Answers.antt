@@ -1,12 +1,10 @@
 use Rattle.std.proofs.Common.{map, sym, ap, ◌∙◌}
-use Rattle.std.proofs.lemmas.Result.{IfOk-weaker, on_ok_weaker}
+use Rattle.std.proofs.lemmas.Result.{IfOk-weaker}
 use Rattle.isle_model.specs.lists.Syntax.{enum_value}
 use Rattle.isle_model.specs.lists.TypeTable.{all_type_names}
 use Rattle.isle_base.specs.SyntaxViews as views
 use Rattle.isle_types.proofs.NamesMet.{meet_known, sees_met}
 use Rattle.isle_types.proofs.RightValues.{named_now, type_kept}
-use Rattle.isle_types.proofs.PlacesNoted.{notes_there, enum_among, struct_among}
-use Rattle.isle_base.proofs.Positioned.{notes_among}
 use Rattle.isle_types.proofs.type_env.TypeEnv.read_type.Goals as goal
 
 pub read_enum-requires-clause-name : goal.read_enum-requires-clause-name
@@ -42,16 +40,3 @@ returns-in-Struct-clause-reads c =
     let m = meet_known _ c.args.self.now c.intern_mut.new.self h n.names n.types n.type_map n.const_types n.errors in
     type_kept defs c.args.id.0 c.args.ty.now _ o _ _ _ _ _ (ap views.type_value_view c.in-Struct.is) m (e defs (views.position c.in-Struct.field-1) (sees_met (all_type_names defs) _ c.args.self.now c.intern_mut.new.self m s)))
     c.read_struct.ensures.reads
-
-pub returns-in-Primitive-clause-places : goal.returns-in-Primitive-clause-places
-returns-in-Primitive-clause-places c = on_ok_weaker c.read_primitive.result (λ n. notes_there _ _ _ _ n) c.read_primitive.ensures.places
-
-pub returns-in-Enum-clause-places : goal.returns-in-Enum-clause-places
-returns-in-Enum-clause-places c =
-    let value = ap views.type_value_view c.in-Enum.is ∙ ap (λ l. enum_value (map views.variant_view l) (views.position c.in-Enum.field-1)) (sym c.deref.ensures.value) in
-    on_ok_weaker c.read_enum.result (λ n. notes_among _ _ _ _ (enum_among (views.type_view c.args.ty.now) _ _ value) n) c.read_enum.ensures.places
-
-pub returns-in-Struct-clause-places : goal.returns-in-Struct-clause-places
-returns-in-Struct-clause-places c =
-    let value = ap views.type_value_view c.in-Struct.is in
-    on_ok_weaker c.read_struct.result (λ n. notes_among _ _ _ _ (struct_among (views.type_view c.args.ty.now) _ _ value) n) c.read_struct.ensures.places

@@ -2,10 +2,10 @@ use Rattle.std.proofs.Common.{◌≡◌, string_bytes, refl, ap, ◌∙◌}
 use Rattle.isle_model.specs.lists.Names.{number}
 use Rattle.isle_model.specs.lists.TypeTable.{full_name, all_type_names}
 use Rattle.isle_types.specs.Envs.{names_of}
-use Rattle.isle_types.proofs.NamesMet.{meet_one}
-use Rattle.isle_types.proofs.VariantSteps.{variant_right, seen_twice, sees_both}
-use Rattle.isle_types.proofs.PlacesNoted.{notes_there, variant_fields_among}
-use Rattle.isle_base.proofs.Positioned.{notes_among}
+use Rattle.isle_types.proofs.NamesMet.{meet_one, meet_more}
+use Rattle.isle_types.proofs.VariantSteps.{variant_right, seen_twice, sees_both, both_met}
+use Rattle.isle_types.proofs.PlacesNoted.{noted_there, variant_fields_among}
+use Rattle.isle_types.proofs.Telling.{noted_among}
 use Rattle.isle_base.specs.SyntaxViews.{variant_view}
 use Rattle.isle_types.proofs.type_env.TypeEnv.read_variant.Goals as goal
 
@@ -18,7 +18,7 @@ returns-then-not-branch-clause-reads c =
     let one = meet_one _ _ c.args.self.now c.intern_mut.new.self same f.names f.types f.type_map f.const_types f.errors in
     let two = meet_one _ _ c.intern_mut.new.self c.intern_mut-2.new.self refl n.names n.types n.type_map n.const_types n.errors in
     λ defs earlier s h. (
-      c.in_ok-report_duplicate_variant.ensures.noted,
+      record { met = _; meets = both_met ty c.args.variant.now _ _ _ one two; notes = noted_there _ _ _ _ c.in_ok-report_duplicate_variant.ensures },
       λ none right. seen_twice ty c.args.variant.now _ _ _ one two c.args.seen.now earlier h c.in_ok-name.name n.number c.in_ok-insert.field-0 c.in_ok-insert.ensures.new c.if-not-branch.true none,
     )
 
@@ -31,8 +31,14 @@ returns-in_default-clause-reads c =
     let one = meet_one _ _ c.args.self.now c.intern_mut.new.self same f.names f.types f.type_map f.const_types f.errors in
     let two = meet_one _ _ c.intern_mut.new.self c.intern_mut-2.new.self refl n.names n.types n.type_map n.const_types n.errors in
     λ defs earlier s h.
-    let r = rw c.in_default.is at c.in_ok-fields.ensures.reads defs (sees_both ty c.args.variant.now _ _ _ one two (all_type_names defs) s) in
-    (r.0, λ none. r.1)
+    let r = rw c.in_default.is at c.in_ok-fields.ensures.reads defs (sees_both ty c.args.variant.now _ _ _ one two (all_type_names defs) s) in (
+      record {
+        met = _;
+        meets = meet_more _ r.0.met _ _ _ (both_met ty c.args.variant.now _ _ _ one two) r.0.meets;
+        notes = noted_among 1 _ _ _ _ (variant_fields_among (variant_view c.args.variant.now)) r.0.notes;
+      },
+      λ none. r.1,
+    )
 
 pub returns-clause-reads : goal.returns-clause-reads
 returns-clause-reads c =
@@ -48,13 +54,3 @@ returns-clause-reads c =
       r.0,
       variant_right ty c.args.variant.now _ _ _ one two c.args.seen.now earlier h c.in_ok-name.name n.number defs c.read_fields.new.self c.in_ok-fullname.fullname full c.args.id c.in-Some.fields r.2 n.inverse c.insert.new.self c.in_ok-insert.ensures.has c.in_ok-insert.field-0 c.in_ok-insert.ensures.new c.if-not-branch.false r.1 r.3,
     )
-
-pub returns-then-not-branch-clause-places : goal.returns-then-not-branch-clause-places
-returns-then-not-branch-clause-places c = notes_there _ _ _ _ c.in_ok-report_duplicate_variant.ensures.places
-
-pub returns-in_default-clause-places : goal.returns-in_default-clause-places
-returns-in_default-clause-places c =
-    notes_among _ _ _ _ (variant_fields_among (variant_view c.args.variant.now)) c.in_ok-fields.ensures.places
-
-pub returns-clause-places : goal.returns-clause-places
-returns-clause-places c = notes_among _ _ _ _ (variant_fields_among (variant_view c.args.variant.now)) c.in_ok-fields.ensures.places
