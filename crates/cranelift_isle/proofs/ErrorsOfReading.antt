@@ -14,8 +14,10 @@ use Rattle.isle_laws_trees.specs.NoLimits.{PassedInLowering, in_reading}
 use Rattle.isle_laws_trees.specs.OneAnswer.{AreCheckErrors}
 use Rattle.isle_rules.specs.LimitsNamed.{NamesTypedPastLimits, NamesFirstPastLimits}
 use Rattle.isle_rules.specs.RuleBreaches.{FirstBreaksRules}
+use Rattle.isle_rules.specs.RulesTold.{TellsReading}
 use Rattle.isle_types.specs.TypeBreaches.{FirstBreaksTypes}
-use Rattle.cranelift_isle.specs.Environments.{AreTyped, BreaksWhereRefused, NamesLackedLimits}
+use Rattle.isle_types.specs.TypeErrors.{AreErrorsOfTypes}
+use Rattle.cranelift_isle.specs.Environments.{AreTyped, BreaksWhereRefused, NamesLackedLimits, TellsOfEach}
 use Rattle.cranelift_isle.specs.declared.environments.Environments.{Environments}
 use Rattle.cranelift_isle.specs.declared.lower.Lowered.{Lowered}
 
@@ -46,6 +48,16 @@ module _ (defs : List Definition) (expand : Bool) where
       → OnErrors {A = Environments} (Err f) (λ es. BreaksWhereRefused defs expand es)
   rules_break A (Errors es) valid breaks = record { types = λ no. absurd (no valid); rules = λ also no. breaks }
   rules_break A (Memory m) valid breaks = tt
+
+  pub types_told : (A : Type 0) (f : Fault) → OnErrors {A = A} (Err f) (λ es. RefusesTypes defs (error_views es)) → OnErrors {A = A} (Err f) (AreErrorsOfTypes defs)
+      → OnErrors {A = Environments} (Err f) (λ es. TellsOfEach defs expand es)
+  types_told A (Errors es) refused told = record { types = λ no. told; rules = λ valid no. absurd (refused.not_valid valid) }
+  types_told A (Memory m) refused told = tt
+
+  pub rules_told : (A : Type 0) (f : Fault) → IsValidTypes defs → OnErrors {A = A} (Err f) (TellsReading (types_read defs) defs expand)
+      → OnErrors {A = Environments} (Err f) (λ es. TellsOfEach defs expand es)
+  rules_told A (Errors es) valid told = record { types = λ no. absurd (no valid); rules = λ also no. told }
+  rules_told A (Memory m) valid told = tt
 
   -- limits that are lacked are named by the errors of rules
   pub lacked_in_reading : (A : Type 0) (f : Fault) → OnErrors {A = A} (Err f) (λ es. NamesTypedPastLimits (types_read defs) defs expand (error_views es))

@@ -34,7 +34,7 @@ use Rattle.cranelift_isle.specs.Checks.{IsChecked, NamesRules, OfErrors, Reports
 use Rattle.cranelift_isle.proofs.NamedPlaces.{rules_stand}
 use Rattle.cranelift_isle.specs.declared.lower.Lowered.{Lowered}
 use Rattle.cranelift_isle.specs.Lowerings.{set_of_term, AreAccepted, IsLowered, OfAccepted, ChooseAsSource, CollectBags, SharesTests, DemandWhole, SetsAreWhole}
-use Rattle.cranelift_isle.specs.Environments.{BreaksWhereRefused, NamesLackedLimits}
+use Rattle.cranelift_isle.specs.Environments.{BreaksWhereRefused, NamesLackedLimits, TellsOfEach}
 
 same_rules : (a b : TypedRules) → Some a ≡ Some b → a ≡ b
 same_rules a b e = cc
@@ -198,6 +198,13 @@ module _ {defs : List Definition} {expand : Bool} {env : TermEnv} {types : TypeE
   breach_as (Errors es) = none_broken es.items
   breach_as (Memory m) = tt
 
+  none_told : (es : List Error) → TellsOfEach defs expand es
+  none_told es = record { types = λ no. absurd (no read.valid); rules = λ valid no. absurd (no (rules, elaborated)) }
+
+  told_as : (f : Fault) → OnErrors {A = Lowered} (Err f) (λ es. TellsOfEach defs expand es)
+  told_as (Errors es) = none_told es.items
+  told_as (Memory m) = tt
+
   limits_as : (f : Fault) → IsChecked p (Err f) → OnErrors {A = Lowered} (Err f) (λ es. NamesOnlyPassed (PassedInLowering defs expand) (error_views es))
   limits_as (Errors es) c = passed_in_building es.items c
   limits_as (Memory m) c = tt
@@ -227,6 +234,9 @@ module _ {defs : List Definition} {expand : Bool} {env : TermEnv} {types : TypeE
 
     pub breach_of_check : OnErrors r (λ es. BreaksWhereRefused defs expand es)
     breach_of_check = subst (λ x. OnErrors x (λ es. BreaksWhereRefused defs expand es)) (sym is) (breach_as f)
+
+    pub told_of_check : OnErrors r (λ es. TellsOfEach defs expand es)
+    told_of_check = subst (λ x. OnErrors x (λ es. TellsOfEach defs expand es)) (sym is) (told_as f)
 
     pub limits_of_check : OnErrors r (λ es. NamesOnlyPassed (PassedInLowering defs expand) (error_views es))
     limits_of_check = subst (λ x. OnErrors x (λ es. NamesOnlyPassed (PassedInLowering defs expand) (error_views es))) (sym is) (limits_as f (checked_as (Err f) check))

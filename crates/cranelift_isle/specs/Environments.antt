@@ -8,7 +8,9 @@ use Rattle.isle_model.specs.claims.Environments.{types_read, AreRulesOf, HasType
 use Rattle.isle_model.specs.claims.Refusals.{Refusal}
 use Rattle.isle_rules.specs.LimitsNamed.{NamesTypedPastLimits, NamesFirstPastLimits}
 use Rattle.isle_rules.specs.RuleBreaches.{FirstBreaksRules}
+use Rattle.isle_rules.specs.RulesTold.{TellsReading}
 use Rattle.isle_types.specs.TypeBreaches.{FirstBreaksTypes}
+use Rattle.isle_types.specs.TypeErrors.{AreErrorsOfTypes}
 
 -- the types of definitions are valid, and each rule has a typed rule
 abbrev pub AreTyped : List Definition → Bool → Type 0
@@ -23,6 +25,12 @@ AreEnvironments defs expand types terms = (rules : TypedRules) × AreRulesOf (ty
 pub record BreaksWhereRefused (defs : List Definition) (expand : Bool) (errors : List Error) : Type 0 where
   pub types : (IsValidTypes defs → ⊥) → FirstBreaksTypes defs errors
   pub rules : IsValidTypes defs → (HasTypedRules (types_read defs) defs expand → ⊥) → FirstBreaksRules (types_read defs) defs expand errors
+
+-- of what each definition and each rule is told: of types and constants exactly which errors there are, and in which order, where
+-- the types aren't valid; else, where the terms are, which errors each rule has, one rule after another
+pub record TellsOfEach (defs : List Definition) (expand : Bool) (errors : List Error) : Type 0 where
+  pub types : (IsValidTypes defs → ⊥) → AreErrorsOfTypes defs errors
+  pub rules : IsValidTypes defs → (HasTypedRules (types_read defs) defs expand → ⊥) → TellsReading (types_read defs) defs expand errors
 
 -- where the types are valid, an error names a limit on expansions at each rule that lacks nothing but these limits; and where
 -- the rules of the whole list lack nothing else, at the first one that has no typed rule within them

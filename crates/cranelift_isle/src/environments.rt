@@ -10,7 +10,7 @@ ghost use Rattle.isle_model.specs.claims.Refusals.{NamesOnlyPassed};
 ghost use Rattle.isle_laws_trees.specs.NoLimits.{PassedInLowering};
 ghost use Rattle.isle_rules.specs.ShownEnvs.{environment_shown_by};
 ghost use Rattle.isle_types.specs.EnvViews.{environment_view};
-ghost use Rattle.cranelift_isle.specs.Environments.{AreEnvironments, AreTyped, BreaksWhereRefused, NamesLackedLimits};
+ghost use Rattle.cranelift_isle.specs.Environments.{AreEnvironments, AreTyped, BreaksWhereRefused, NamesLackedLimits, TellsOfEach};
 
 use isle_base::syntax::{Def, Fault};
 use isle_rules::TermEnv;
@@ -42,6 +42,9 @@ pub fn environments_of(alloc: Global, defs: &[Def], expand: bool) -> Result<Envi
 
     // the first error stands where a condition is broken
     ensures breach { OnErrors result (λ es. BreaksWhereRefused (definition_views defs.now) expand es) }
+
+    // and each definition and each rule is told of: none that is right, and each that is wrong
+    ensures told { OnErrors result (λ es. TellsOfEach (definition_views defs.now) expand es) }
 
     // where the types are valid, a rule that lacks nothing but the limits on expansions is named
     ensures named { OnErrors result (λ es. NamesLackedLimits (definition_views defs.now) expand (error_views es)) }

@@ -13,7 +13,7 @@ ghost use Rattle.isle_base.specs.ErrorViews.{error_views};
 ghost use Rattle.isle_builder.specs.Built.{term_set_views};
 ghost use Rattle.isle_sets.specs.SiteViews.{set_view};
 ghost use Rattle.isle_serialize.specs.TreeViews.{tree_view};
-ghost use Rattle.cranelift_isle.specs.Environments.{BreaksWhereRefused, NamesLackedLimits};
+ghost use Rattle.cranelift_isle.specs.Environments.{BreaksWhereRefused, NamesLackedLimits, TellsOfEach};
 ghost use Rattle.cranelift_isle.specs.Lowerings.{lowered_views, set_of_term, AreAccepted, IsLowered, OfAccepted, ChooseAsSource, SharesTests, CollectBags, BindsBeforeAnyUse, DemandWhole, SetsAreWhole, LoweringIsAFunction};
 
 use crate::environments::{Environments, environments_of};
@@ -114,6 +114,9 @@ pub fn lower(alloc: Global, defs: &[Def], expand: bool) -> Result<Lowered, Fault
 
     // where definitions can't be read, the first error stands where a condition is broken
     ensures breach { OnErrors result (λ es. BreaksWhereRefused (definition_views defs.now) expand es) }
+
+    // and each definition and each rule is told of: none that is right, and each that is wrong
+    ensures told { OnErrors result (λ es. TellsOfEach (definition_views defs.now) expand es) }
 
     // where the types are valid, the errors are exactly those of the check, in order, if each rule has a typed rule
     ensures exact { OnErrors result (λ es. AreCheckErrors (definition_views defs.now) expand (error_views es)) }

@@ -13,9 +13,9 @@ use Rattle.isle_rules.proofs.RuleErrorSteps.{no_limit_named}
 use Rattle.isle_rules.specs.declared.term_env.TermEnv.{TermEnv}
 use Rattle.isle_types.specs.TypePositions.{types_positions}
 use Rattle.isle_types.specs.declared.type_env.TypeEnv.{TypeEnv}
-use Rattle.cranelift_isle.specs.Environments.{BreaksWhereRefused, NamesLackedLimits}
+use Rattle.cranelift_isle.specs.Environments.{BreaksWhereRefused, NamesLackedLimits, TellsOfEach}
 use Rattle.cranelift_isle.specs.declared.environments.Environments.{Environments}
-use Rattle.cranelift_isle.proofs.ErrorsOfReading.{errors_so, passed_in_reading, no_valid_types, types_break, rules_break, lacked_in_reading}
+use Rattle.cranelift_isle.proofs.ErrorsOfReading.{errors_so, passed_in_reading, no_valid_types, types_break, rules_break, types_told, rules_told, lacked_in_reading}
 use Rattle.cranelift_isle.proofs.NamedPlaces.{with_types_among}
 use Rattle.cranelift_isle.proofs.environments.environments_of.Goals as goal
 
@@ -37,6 +37,13 @@ returns-in_err-tyenv-clause-breach c =
     let e : c.from_residual.result ≡ Err c.in_err-tyenv.field-0.0 = search rules in
     subst (λ r. OnErrors r (λ es. BreaksWhereRefused defs c.args.expand es)) (sym e)
     (types_break defs c.args.expand TypeEnv c.in_err-tyenv.field-0.0 c.in_err-tyenv.ensures.refused c.in_err-tyenv.ensures.breach)
+
+pub returns-in_err-tyenv-clause-told : goal.returns-in_err-tyenv-clause-told
+returns-in_err-tyenv-clause-told c =
+    let defs = definition_views c.args.defs.now in
+    let e : c.from_residual.result ≡ Err c.in_err-tyenv.field-0.0 = search rules in
+    subst (λ r. OnErrors r (λ es. TellsOfEach defs c.args.expand es)) (sym e)
+    (types_told defs c.args.expand TypeEnv c.in_err-tyenv.field-0.0 c.in_err-tyenv.ensures.refused c.in_err-tyenv.ensures.told)
 
 pub returns-in_err-tyenv-clause-named : goal.returns-in_err-tyenv-clause-named
 returns-in_err-tyenv-clause-named c =
@@ -73,6 +80,13 @@ returns-in_err-termenv-clause-breach c =
     let e : c.from_residual-in_err-termenv.result ≡ Err c.in_err-termenv.field-0.0 = search rules in
     subst (λ r. OnErrors r (λ es. BreaksWhereRefused defs c.args.expand es)) (sym e)
     (rules_break defs c.args.expand TermEnv c.in_err-termenv.field-0.0 c.in_ok-tyenv.ensures.shown.valid c.in_err-termenv.ensures.breach)
+
+pub returns-in_err-termenv-clause-told : goal.returns-in_err-termenv-clause-told
+returns-in_err-termenv-clause-told c =
+    let defs = definition_views c.args.defs.now in
+    let e : c.from_residual-in_err-termenv.result ≡ Err c.in_err-termenv.field-0.0 = search rules in
+    subst (λ r. OnErrors r (λ es. TellsOfEach defs c.args.expand es)) (sym e)
+    (rules_told defs c.args.expand TermEnv c.in_err-termenv.field-0.0 c.in_ok-tyenv.ensures.shown.valid c.in_err-termenv.ensures.told)
 
 pub returns-in_err-termenv-clause-named : goal.returns-in_err-termenv-clause-named
 returns-in_err-termenv-clause-named c =

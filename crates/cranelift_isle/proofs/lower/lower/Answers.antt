@@ -11,10 +11,10 @@ use Rattle.isle_types.specs.EnvViews.{environment_view}
 use Rattle.isle_rules.specs.ShownEnvs.{environment_shown_by}
 use Rattle.cranelift_isle.specs.declared.environments.Environments.{Environments}
 use Rattle.cranelift_isle.specs.declared.lower.Lowered.{Lowered}
-use Rattle.cranelift_isle.specs.Environments.{AreEnvironments, BreaksWhereRefused, NamesLackedLimits}
+use Rattle.cranelift_isle.specs.Environments.{AreEnvironments, BreaksWhereRefused, NamesLackedLimits, TellsOfEach}
 use Rattle.cranelift_isle.specs.Lowerings.{lowered_views}
 use Rattle.cranelift_isle.proofs.ErrorsOfReading.{handed_over, unread}
-use Rattle.cranelift_isle.proofs.Lowered.{were_read, of_elaborated, accepted, built_for_some, answers, chosen, unique, whole, demands, collected, refused_by_check, why_refused, breach_of_check, exact_of_check, named_of_check, limits_of_check, stand_of_check}
+use Rattle.cranelift_isle.proofs.Lowered.{were_read, of_elaborated, accepted, built_for_some, answers, chosen, unique, whole, demands, collected, refused_by_check, why_refused, breach_of_check, told_of_check, exact_of_check, named_of_check, limits_of_check, stand_of_check}
 use Rattle.cranelift_isle.proofs.lower.lower.Goals as goal
 
 -- the environment is that of the definitions
@@ -84,6 +84,10 @@ pub returns-in_err-environments-clause-breach : goal.returns-in_err-environments
 returns-in_err-environments-clause-breach c =
     handed_over c.in_err-environments.field-0.0 c.from_residual.result (search rules) (λ es. BreaksWhereRefused (definition_views c.args.defs.now) c.args.expand es) c.in_err-environments.ensures.breach
 
+pub returns-in_err-environments-clause-told : goal.returns-in_err-environments-clause-told
+returns-in_err-environments-clause-told c =
+    handed_over c.in_err-environments.field-0.0 c.from_residual.result (search rules) (λ es. TellsOfEach (definition_views c.args.defs.now) c.args.expand es) c.in_err-environments.ensures.told
+
 pub returns-in_err-environments-clause-named : goal.returns-in_err-environments-clause-named
 returns-in_err-environments-clause-named c =
     handed_over c.in_err-environments.field-0.0 c.from_residual.result (search rules) (λ es. NamesLackedLimits (definition_views c.args.defs.now) c.args.expand (error_views es)) c.in_err-environments.ensures.named
@@ -124,6 +128,11 @@ pub returns-in_err-sets-clause-breach : goal.returns-in_err-sets-clause-breach
 returns-in_err-sets-clause-breach c =
     let read = were_read (definition_views c.args.defs.now) c.args.expand c.in_ok-environments.environments.termenv _ c.in_ok-environments.ensures.answers.0.0 c.in_ok-environments.ensures.answers.1 in
     breach_of_check read c.from_residual-in_err-sets.result c.in_err-sets.field-0.0 (search rules) c.in_err-sets.ensures.checked
+
+pub returns-in_err-sets-clause-told : goal.returns-in_err-sets-clause-told
+returns-in_err-sets-clause-told c =
+    let read = were_read (definition_views c.args.defs.now) c.args.expand c.in_ok-environments.environments.termenv _ c.in_ok-environments.ensures.answers.0.0 c.in_ok-environments.ensures.answers.1 in
+    told_of_check read c.from_residual-in_err-sets.result c.in_err-sets.field-0.0 (search rules) c.in_err-sets.ensures.checked
 
 pub returns-in_err-sets-clause-limits : goal.returns-in_err-sets-clause-limits
 returns-in_err-sets-clause-limits c =
