@@ -2,6 +2,7 @@
 use Rattle.std.specs.Prelude.{Bool, true, List, [], ◌∷◌, ◌++◌, Option, Some, None, if◌then◌else◌, option_map}
 use Rattle.isle_model.specs.rules.Program.{Program, Kind, a_variant, a_struct, a_call, unknown}
 use Rattle.isle_model.specs.rules.Matching.{Vars}
+use Rattle.isle_model.specs.rules.Meaning.{Meaning, TotalMeaning, total}
 use Rattle.isle_model.specs.rules.Outcome as O
 use Rattle.isle_model.specs.rules.RightSide as R
 use Rattle.isle_types.specs.declared.ids.VarId.{VarId}
@@ -9,6 +10,7 @@ use Rattle.isle_terms.specs.declared.term.Term.{Term}
 use Rattle.isle_terms.specs.TermViews.{term_views}
 use Rattle.isle_run.specs.declared.values.Value.{Value}
 use Rattle.isle_run.specs.ValueViews.{value_view, value_views}
+use Rattle.isle_choose.specs.declared.source.Source.{Source}
 use Rattle.isle_choose.specs.declared.exprs.Evaluated.{Evaluated}
 use Rattle.isle_choose.specs.declared.exprs.Evaluated.TheVariants as E
 use Rattle.isle_choose.specs.declared.exprs.EvaluatedAll.{EvaluatedAll}
@@ -17,6 +19,13 @@ use Rattle.isle_choose.specs.declared.exprs.EvaluatedAll.TheVariants as A
 -- a program of these terms; a choice asks nothing else of it
 abbrev pub of_terms : List Term → Program
 of_terms ts = record { types = []; constants = []; terms = term_views ts; rules = [] }
+
+-- the program of a source's terms, and the meaning of what it calls
+abbrev pub program_in : {E : Type 0} → Source E → Program
+program_in source = of_terms source.terms.now
+
+abbrev pub meaning_in : {E : Type 0} → (E → TotalMeaning) → Source E → Meaning
+meaning_in functions source = total (functions source.externs.now)
 
 -- what is pushed last is first
 abbrev pub vars_onto : List (VarId × Option Value) → Vars → Vars

@@ -13,7 +13,7 @@ ghost use Rattle.isle_typed.specs.RuleViews.{iflet_view, rule_view, rule_views};
 ghost use Rattle.isle_run.specs.RunViews.{arg_views, call_views, outcome_view};
 ghost use Rattle.isle_run.specs.ValueViews.{content_view, value_view};
 ghost use Rattle.isle_model.specs.rules.Meaning.{total};
-ghost use Rattle.isle_choose.specs.SourceViews.{of_terms, evaluated_view, if_held, vars_view};
+ghost use Rattle.isle_choose.specs.SourceViews.{of_terms, program_in, meaning_in, evaluated_view, if_held, vars_view};
 
 use crate::exprs::{Evaluated, eval, pure_value};
 use crate::patterns::{each_holds, holds};
@@ -32,7 +32,8 @@ fn iflets_hold<E: Externs>(
     iflets: &[IfLet],
     vars: &mut Vec<(VarId, Option<Value>)>,
 ) -> Result<bool, AllocError>
-    ensures { IfOk result (λ b. if_held b (vars_view vars.new.items) ≡ iflets_hold (of_terms source.now.terms.now) (total (E.functions source.now.externs.now)) (map iflet_view iflets.now) (vars_view vars.old.items)) }
+    ensures { IfOk result (λ b. if_held b (vars_view vars.new.items)
+        ≡ iflets_hold (program_in source.now) (meaning_in E.functions source.now) (map iflet_view iflets.now) (vars_view vars.old.items)) }
 {
     for iflet in iflets {
         match pure_value(source, &iflet.rhs, vars)? {
@@ -58,7 +59,8 @@ pub fn matched<E: Externs>(
     rule: &Rule,
     args: &[Value],
 ) -> Result<Option<Vec<(VarId, Option<Value>)>>, AllocError>
-    ensures { IfOk result (λ o. option_map (λ v. vars_view v.items) o ≡ matches (of_terms source.now.terms.now) (total (E.functions source.now.externs.now)) (rule_view rule.now) (arg_views args.now)) }
+    ensures { IfOk result (λ o. option_map (λ v. vars_view v.items) o
+        ≡ matches (of_terms source.now.terms.now) (total (E.functions source.now.externs.now)) (rule_view rule.now) (arg_views args.now)) }
 {
     let mut vars = Vec::new(source.alloc);
     let held = each_holds(source, &rule.args, args, &mut vars)?;
@@ -79,7 +81,8 @@ fn is_taken<E: Externs>(
     term: TermId,
     args: &[Value],
 ) -> Result<bool, AllocError>
-    ensures { IfOk result (λ b. b ≡ ((rule.now.root_term.0 == term.0) && is_some (matches (of_terms source.now.terms.now) (total (E.functions source.now.externs.now)) (rule_view rule.now) (arg_views args.now)))) }
+    ensures { IfOk result (λ b. b ≡ ((rule.now.root_term.0 == term.0)
+        && is_some (matches (program_in source.now) (meaning_in E.functions source.now) (rule_view rule.now) (arg_views args.now)))) }
 {
     if rule.root_term.index() == term.index() {
         Ok(matched(source, rule, args)?.is_some())
@@ -105,7 +108,9 @@ fn chosen<'a, E: Externs>(
     term: TermId,
     args: &[Value],
 ) -> Result<Option<&'a Rule>, AllocError>
-    ensures { IfOk result (λ o. option_map (λ r. rule_view r.now) o ≡ chosen (of_terms source.now.terms.now) (total (E.functions source.now.externs.now)) (filter (λ r. r.root_term == term.0) (rule_views rules.now)) (arg_views args.now)) }
+    ensures { IfOk result (λ o. option_map (λ r. rule_view r.now) o
+        ≡ chosen (program_in source.now) (meaning_in E.functions source.now) (filter (λ r. r.root_term == term.0) (rule_views rules.now))
+        (arg_views args.now)) }
 {
     let mut best = None;
     let mut at = rules.len();
@@ -175,7 +180,8 @@ fn right_side<E: Externs>(
     rule: &Rule,
     vars: &[(VarId, Option<Value>)],
 ) -> Result<Outcome, AllocError>
-    ensures { IfOk result (λ o. outcome_view o ≡ right_side (of_terms source.now.terms.now) (total (E.functions source.now.externs.now)) (rule_view rule.now) (vars_view vars.now)) }
+    ensures { IfOk result (λ o. outcome_view o
+        ≡ right_side (program_in source.now) (meaning_in E.functions source.now) (rule_view rule.now) (vars_view vars.now)) }
 {
     let mut calls = Vec::new(source.alloc);
     let evaluated = eval(source, &rule.rhs, vars, &mut calls)?;
@@ -220,7 +226,8 @@ pub fn choose<E: Externs>(
     term: TermId,
     args: &[Value],
 ) -> Result<Outcome, AllocError>
-    ensures { IfOk result (λ o. outcome_view o ≡ choice (of_terms terms.now) (total (E.functions externs.now)) (filter (λ r. r.root_term == term.0) (rule_views rules.now)) (arg_views args.now)) }
+    ensures { IfOk result (λ o. outcome_view o
+        ≡ choice (of_terms terms.now) (total (E.functions externs.now)) (filter (λ r. r.root_term == term.0) (rule_views rules.now)) (arg_views args.now)) }
 {
     let source = Source {
         alloc,

@@ -10,7 +10,7 @@ ghost use Rattle.isle_typed.specs.ExprViews.{expr_parts, expr_view, expr_views, 
 ghost use Rattle.isle_run.specs.RunViews.{call_views};
 ghost use Rattle.isle_run.specs.ValueViews.{value_view, value_views};
 ghost use Rattle.isle_model.specs.rules.Meaning.{total};
-ghost use Rattle.isle_choose.specs.SourceViews.{of_terms, evaluated_all_view, evaluated_view, lets_view, purity, vars_view, with_value};
+ghost use Rattle.isle_choose.specs.SourceViews.{of_terms, program_in, meaning_in, evaluated_all_view, evaluated_view, lets_view, purity, vars_view, with_value};
 
 use crate::answers::single;
 use crate::source::Source;
@@ -29,7 +29,8 @@ fn pure_term<E: Externs>(
     term: TermId,
     args: Vec<Value>,
 ) -> Result<Option<Value>, AllocError>
-    ensures { IfOk result (λ o. option_map value_view o ≡ pure_term (kind (of_terms source.now.terms.now) term.0) (total (E.functions source.now.externs.now)) term.0 (value_views args.items)) }
+    ensures { IfOk result (λ o. option_map value_view o
+        ≡ pure_term (kind (program_in source.now) term.0) (meaning_in E.functions source.now) term.0 (value_views args.items)) }
 {
     match source.terms.get(term.index()) {
         Some(entry) => match &entry.kind {
@@ -53,7 +54,8 @@ pub fn pure_value<E: Externs>(
     expr: &Expr,
     vars: &[(VarId, Option<Value>)],
 ) -> Result<Option<Value>, AllocError>
-    ensures { IfOk result (λ o. option_map value_view o ≡ pure_value (of_terms source.now.terms.now) (total (E.functions source.now.externs.now)) (expr_view expr.now) (vars_view vars.now)) }
+    ensures { IfOk result (λ o. option_map value_view o
+        ≡ pure_value (of_terms source.now.terms.now) (total (E.functions source.now.externs.now)) (expr_view expr.now) (vars_view vars.now)) }
 {
     match expr {
         Expr::Term(_, term, args) => match pure_values(source, args, vars)? {
@@ -79,7 +81,8 @@ fn pure_values<E: Externs>(
     exprs: &[Expr],
     vars: &[(VarId, Option<Value>)],
 ) -> Result<Option<Vec<Value>>, AllocError>
-    ensures { IfOk result (λ o. option_map (λ v. value_views v.items) o ≡ pure_values (of_terms source.now.terms.now) (total (E.functions source.now.externs.now)) (expr_parts (expr_views exprs.now)) (vars_view vars.now)) }
+    ensures { IfOk result (λ o. option_map (λ v. value_views v.items) o
+        ≡ pure_values (program_in source.now) (meaning_in E.functions source.now) (expr_parts (expr_views exprs.now)) (vars_view vars.now)) }
 {
     let mut out = Vec::new(source.alloc);
     for expr in exprs {
@@ -98,7 +101,8 @@ fn pure_lets<E: Externs>(
     bindings: &[(VarId, TypeId, Box<Expr>)],
     vars: &mut Vec<(VarId, Option<Value>)>,
 ) -> Result<(), AllocError>
-    ensures { IfOk result (λ u. vars_view vars.new.items ≡ pure_lets (of_terms source.now.terms.now) (total (E.functions source.now.externs.now)) (let_parts (let_views bindings.now)) (vars_view vars.old.items)) }
+    ensures { IfOk result (λ u. vars_view vars.new.items
+        ≡ pure_lets (program_in source.now) (meaning_in E.functions source.now) (let_parts (let_views bindings.now)) (vars_view vars.old.items)) }
 {
     for binding in bindings {
         let value = pure_value(source, &binding.2, vars)?;
@@ -132,7 +136,8 @@ fn impure_call<E: Externs>(
     args: Vec<Value>,
     calls: &mut Vec<Call>,
 ) -> Result<Evaluated, AllocError>
-    ensures { IfOk result (λ r. evaluated_view r (call_views calls.new.items) ≡ impure_call (total (E.functions source.now.externs.now)) term.0 (Some (value_views args.items)) (call_views calls.old.items)) }
+    ensures { IfOk result (λ r. evaluated_view r (call_views calls.new.items)
+        ≡ impure_call (meaning_in E.functions source.now) term.0 (Some (value_views args.items)) (call_views calls.old.items)) }
 {
     let answer = source
         .externs
@@ -164,7 +169,9 @@ fn pure_applied<E: Externs>(
     term: TermId,
     args: Option<Vec<Value>>,
 ) -> Result<Option<Value>, AllocError>
-    ensures { IfOk result (λ o. option_map value_view o ≡ then_option (option_map (λ v. value_views v.items) args) (λ vs. pure_term (kind (of_terms source.now.terms.now) term.0) (total (E.functions source.now.externs.now)) term.0 vs)) }
+    ensures { IfOk result (λ o. option_map value_view o
+        ≡ then_option (option_map (λ v. value_views v.items) args)
+        (λ vs. pure_term (kind (program_in source.now) term.0) (meaning_in E.functions source.now) term.0 vs)) }
 {
     match args {
         Some(args) => pure_term(source, term, args),
@@ -179,7 +186,8 @@ fn impure_applied<E: Externs>(
     args: Option<Vec<Value>>,
     calls: &mut Vec<Call>,
 ) -> Result<Evaluated, AllocError>
-    ensures { IfOk result (λ r. evaluated_view r (call_views calls.new.items) ≡ impure_call (total (E.functions source.now.externs.now)) term.0 (option_map (λ v. value_views v.items) args) (call_views calls.old.items)) }
+    ensures { IfOk result (λ r. evaluated_view r (call_views calls.new.items)
+        ≡ impure_call (meaning_in E.functions source.now) term.0 (option_map (λ v. value_views v.items) args) (call_views calls.old.items)) }
 {
     match args {
         Some(args) => impure_call(source, term, args, calls),
@@ -194,7 +202,9 @@ fn applied<E: Externs>(
     args: Option<Vec<Value>>,
     calls: &mut Vec<Call>,
 ) -> Result<Evaluated, AllocError>
-    ensures { IfOk result (λ r. evaluated_view r (call_views calls.new.items) ≡ applied (kind (of_terms source.now.terms.now) term.0) (total (E.functions source.now.externs.now)) term.0 (option_map (λ v. value_views v.items) args) (call_views calls.old.items)) }
+    ensures { IfOk result (λ r. evaluated_view r (call_views calls.new.items)
+        ≡ applied (kind (program_in source.now) term.0) (meaning_in E.functions source.now) term.0 (option_map (λ v. value_views v.items) args)
+        (call_views calls.old.items)) }
 {
     match purity(source.terms, term) {
         Some(true) => Ok(Evaluated::Gives(pure_applied(source, term, args)?)),
@@ -211,7 +221,9 @@ pub fn eval<E: Externs>(
     vars: &[(VarId, Option<Value>)],
     calls: &mut Vec<Call>,
 ) -> Result<Evaluated, AllocError>
-    ensures { IfOk result (λ r. evaluated_view r (call_views calls.new.items) ≡ eval (of_terms source.now.terms.now) (total (E.functions source.now.externs.now)) (expr_view expr.now) (vars_view vars.now) (call_views calls.old.items)) }
+    ensures { IfOk result (λ r. evaluated_view r (call_views calls.new.items)
+        ≡ eval (of_terms source.now.terms.now) (total (E.functions source.now.externs.now)) (expr_view expr.now) (vars_view vars.now)
+        (call_views calls.old.items)) }
 {
     match expr {
         Expr::Term(_, term, args) => match eval_all(source, args, vars, calls)? {
@@ -268,7 +280,9 @@ fn eval_all<E: Externs>(
     vars: &[(VarId, Option<Value>)],
     calls: &mut Vec<Call>,
 ) -> Result<EvaluatedAll, AllocError>
-    ensures { IfOk result (λ r. evaluated_all_view r (call_views calls.new.items) ≡ eval_all (of_terms source.now.terms.now) (total (E.functions source.now.externs.now)) (expr_parts (expr_views exprs.now)) (vars_view vars.now) (call_views calls.old.items)) }
+    ensures { IfOk result (λ r. evaluated_all_view r (call_views calls.new.items)
+        ≡ eval_all (program_in source.now) (meaning_in E.functions source.now) (expr_parts (expr_views exprs.now)) (vars_view vars.now)
+        (call_views calls.old.items)) }
 {
     let mut given = Some(Vec::new(source.alloc));
     for expr in exprs {
@@ -291,7 +305,9 @@ fn eval_lets<E: Externs>(
     vars: &mut Vec<(VarId, Option<Value>)>,
     calls: &mut Vec<Call>,
 ) -> Result<bool, AllocError>
-    ensures { IfOk result (λ b. lets_view b (vars_view vars.new.items) (call_views calls.new.items) ≡ eval_lets (of_terms source.now.terms.now) (total (E.functions source.now.externs.now)) (let_parts (let_views bindings.now)) (vars_view vars.old.items) (call_views calls.old.items)) }
+    ensures { IfOk result (λ b. lets_view b (vars_view vars.new.items) (call_views calls.new.items)
+        ≡ eval_lets (program_in source.now) (meaning_in E.functions source.now) (let_parts (let_views bindings.now)) (vars_view vars.old.items)
+        (call_views calls.old.items)) }
 {
     for binding in bindings {
         match eval(source, &binding.2, vars, calls)? {

@@ -6,7 +6,7 @@ ghost use Rattle.isle_model.specs.rules.Matching.{all_hold, each_holds, holds, p
 ghost use Rattle.isle_typed.specs.PatternViews.{pattern_parts, pattern_view, pattern_views};
 ghost use Rattle.isle_run.specs.ValueViews.{value_view, value_views};
 ghost use Rattle.isle_model.specs.rules.Meaning.{total};
-ghost use Rattle.isle_choose.specs.SourceViews.{of_terms, if_held, vars_view};
+ghost use Rattle.isle_choose.specs.SourceViews.{of_terms, program_in, meaning_in, if_held, vars_view};
 
 use crate::answers::answered_outputs;
 use crate::source::Source;
@@ -60,7 +60,8 @@ fn parts_seen<E: Externs>(
     term: TermId,
     value: &Value,
 ) -> Result<Option<Vec<Value>>, AllocError>
-    ensures { IfOk result (λ o. option_map (λ v. value_views v.items) o ≡ parts_seen (kind (of_terms source.now.terms.now) term.0) (total (E.functions source.now.externs.now)) term.0 (value_view value.now)) }
+    ensures { IfOk result (λ o. option_map (λ v. value_views v.items) o
+        ≡ parts_seen (kind (program_in source.now) term.0) (meaning_in E.functions source.now) term.0 (value_view value.now)) }
 {
     match source.terms.get(term.index()) {
         Some(entry) => match &entry.kind {
@@ -85,7 +86,9 @@ pub fn holds<E: Externs>(
     value: &Value,
     vars: &mut Vec<(VarId, Option<Value>)>,
 ) -> Result<bool, AllocError>
-    ensures { IfOk result (λ b. if_held b (vars_view vars.new.items) ≡ holds (of_terms source.now.terms.now) (total (E.functions source.now.externs.now)) (pattern_view pattern.now) (value_view value.now) (vars_view vars.old.items)) }
+    ensures { IfOk result (λ b. if_held b (vars_view vars.new.items)
+        ≡ holds (of_terms source.now.terms.now) (total (E.functions source.now.externs.now)) (pattern_view pattern.now) (value_view value.now)
+        (vars_view vars.old.items)) }
 {
     match pattern {
         Pattern::BindPattern(_, var, inner) => {
@@ -125,7 +128,9 @@ pub fn each_holds<E: Externs>(
     values: &[Value],
     vars: &mut Vec<(VarId, Option<Value>)>,
 ) -> Result<bool, AllocError>
-    ensures { IfOk result (λ b. if_held b (vars_view vars.new.items) ≡ each_holds (of_terms source.now.terms.now) (total (E.functions source.now.externs.now)) (pattern_parts (pattern_views patterns.now)) (value_views values.now) (vars_view vars.old.items)) }
+    ensures { IfOk result (λ b. if_held b (vars_view vars.new.items)
+        ≡ each_holds (of_terms source.now.terms.now) (total (E.functions source.now.externs.now)) (pattern_parts (pattern_views patterns.now))
+        (value_views values.now) (vars_view vars.old.items)) }
 {
     let mut place = 0;
     for pattern in patterns {
@@ -151,7 +156,9 @@ fn all_hold<E: Externs>(
     value: &Value,
     vars: &mut Vec<(VarId, Option<Value>)>,
 ) -> Result<bool, AllocError>
-    ensures { IfOk result (λ b. if_held b (vars_view vars.new.items) ≡ all_hold (of_terms source.now.terms.now) (total (E.functions source.now.externs.now)) (pattern_parts (pattern_views patterns.now)) (value_view value.now) (vars_view vars.old.items)) }
+    ensures { IfOk result (λ b. if_held b (vars_view vars.new.items)
+        ≡ all_hold (program_in source.now) (meaning_in E.functions source.now) (pattern_parts (pattern_views patterns.now)) (value_view value.now)
+        (vars_view vars.old.items)) }
 {
     for pattern in patterns {
         let held = holds(source, pattern, value, vars)?;

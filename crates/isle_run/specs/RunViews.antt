@@ -45,6 +45,16 @@ stage_of f sites multi args = record { sites = site_views sites; args = arg_view
 abbrev pub stage_view : {E : Type 0} → (E → TotalMeaning) → Stage E → World
 stage_view functions stage = stage_of (functions stage.externs.now) stage.sites.now stage.multi stage.args.now
 
+-- what a site holds that is used, on a stage and with these sites bound, and its value; and the values of some sites
+abbrev pub used_in : {E : Type 0} → (E → TotalMeaning) → Stage E → List (ℕ × Content) → ℕ → Option M.Content
+used_in functions stage env = R.used (stage_view functions stage) (env_view env)
+
+abbrev pub used_value_in : {E : Type 0} → (E → TotalMeaning) → Stage E → List (ℕ × Content) → ℕ → Option Values.Value
+used_value_in functions stage env = R.used_value (stage_view functions stage) (env_view env)
+
+abbrev pub used_values_in : {E : Type 0} → (E → TotalMeaning) → Stage E → List (ℕ × Content) → List ℕ → Option Values.Values
+used_values_in functions stage env = R.used_values (stage_view functions stage) (env_view env)
+
 -- what a site holds: it is bound to it, or an unwrap failed, or there is nothing of the form that is used
 abbrev pub found_view : Found → Env → List O.Call → ℕ → R.Bound
 found_view (F.There c) env calls s = all_bound ((s, content_view c) ∷ env) calls

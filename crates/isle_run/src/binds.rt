@@ -5,9 +5,10 @@ ghost use Rattle.isle_model.specs.rules.Meaning.{just, one};
 ghost use Rattle.isle_model.specs.rules.Outcome as Outcomes;
 ghost use Rattle.isle_model.specs.rules.Outcome.{then_option};
 ghost use Rattle.isle_model.specs.rules.Values.{of_struct, of_variant};
-ghost use Rattle.isle_model.specs.trees.Run.{Env, now_bound, part_at, unwrapped, bind_all, bind_site, constructed, used, used_value, used_values};
+ghost use Rattle.isle_model.specs.trees.Run.{Env, now_bound, part_at, unwrapped, bind_all, bind_site, constructed};
 ghost use Rattle.isle_sets.specs.SiteViews.{site_view, site_views};
 ghost use Rattle.isle_run.specs.RunViews.{IsBeginningOf, bound_view, call_views, env_view, found_view, is_all_bound, stage_view};
+ghost use Rattle.isle_run.specs.RunViews.{used_in, used_value_in, used_values_in};
 ghost use Rattle.isle_run.specs.ValueViews.{content_view, value_views};
 
 use crate::env::{in_place, part, used, used_value, used_values};
@@ -34,7 +35,8 @@ fn unwrap_used<E: Externs>(
     env: &[(BindingId, Content)],
     source: BindingId,
 ) -> Result<Found, AllocError>
-    ensures { IfOk result (λ f. (around : Env) (calls : _) (s : ℕ) → found_view f around calls s ≡ unwrapped around calls s (used (stage_view E.functions stage.now) (env_view env.now) source)) }
+    ensures { IfOk result (λ f. (around : Env) (calls : _) (s : ℕ) → found_view f around calls s
+        ≡ unwrapped around calls s (used_in E.functions stage.now env.now source)) }
 {
     match used(stage, env, source)? {
         Some(content) => Ok(content.unwrapped()),
@@ -49,7 +51,8 @@ fn part_used<E: Externs>(
     source: BindingId,
     place: usize,
 ) -> Result<Option<Content>, AllocError>
-    ensures { IfOk result (λ o. option_map content_view o ≡ then_option (used (stage_view E.functions stage.now) (env_view env.now) source) (λ c. part_at c place)) }
+    ensures { IfOk result (λ o. option_map content_view o
+        ≡ then_option (used_in E.functions stage.now env.now source) (λ c. part_at c place)) }
 {
     match used(stage, env, source)? {
         Some(content) => Ok(part(&content, place)?),
@@ -63,7 +66,8 @@ fn some_used<E: Externs>(
     env: &[(BindingId, Content)],
     source: BindingId,
 ) -> Result<Option<Content>, AllocError>
-    ensures { IfOk result (λ o. option_map content_view o ≡ then_option (used (stage_view E.functions stage.now) (env_view env.now) source) (λ c. Some (just c))) }
+    ensures { IfOk result (λ o. option_map content_view o
+        ≡ then_option (used_in E.functions stage.now env.now source) (λ c. Some (just c))) }
 {
     match used(stage, env, source)? {
         Some(content) => Ok(Some(Content::Just(Box::new(stage.alloc, content)?))),
@@ -78,7 +82,8 @@ fn extracted<E: Externs>(
     term: TermId,
     source: BindingId,
 ) -> Result<Option<Content>, AllocError>
-    ensures { IfOk result (λ o. option_map content_view o ≡ then_option (used_value (stage_view E.functions stage.now) (env_view env.now) source) (λ v. Some ((E.functions stage.now.externs.now).extractors term.0 v))) }
+    ensures { IfOk result (λ o. option_map content_view o
+        ≡ then_option (used_value_in E.functions stage.now env.now source) (λ v. Some ((E.functions stage.now.externs.now).extractors term.0 v))) }
 {
     match used_value(stage, env, source)? {
         Some(value) => Ok(Some(stage.externs.extractor(stage.alloc, term, &value)?)),
@@ -94,7 +99,8 @@ fn variant_made<E: Externs>(
     variant: VariantId,
     fields: &[BindingId],
 ) -> Result<Option<Content>, AllocError>
-    ensures { IfOk result (λ o. option_map content_view o ≡ then_option (used_values (stage_view E.functions stage.now) (env_view env.now) fields.now) (λ vs. Some (one (of_variant ty.0 variant.0 vs)))) }
+    ensures { IfOk result (λ o. option_map content_view o
+        ≡ then_option (used_values_in E.functions stage.now env.now fields.now) (λ vs. Some (one (of_variant ty.0 variant.0 vs)))) }
 {
     match used_values(stage, env, fields)? {
         Some(values) => Ok(Some(Content::One(Value::Variant(ty, variant, values)))),
@@ -109,7 +115,8 @@ fn struct_made<E: Externs>(
     ty: TypeId,
     fields: &[BindingId],
 ) -> Result<Option<Content>, AllocError>
-    ensures { IfOk result (λ o. option_map content_view o ≡ then_option (used_values (stage_view E.functions stage.now) (env_view env.now) fields.now) (λ vs. Some (one (of_struct ty.0 vs)))) }
+    ensures { IfOk result (λ o. option_map content_view o
+        ≡ then_option (used_values_in E.functions stage.now env.now fields.now) (λ vs. Some (one (of_struct ty.0 vs)))) }
 {
     match used_values(stage, env, fields)? {
         Some(values) => Ok(Some(Content::One(Value::Struct(ty, values)))),
@@ -142,7 +149,8 @@ fn called<E: Externs>(
     args: Vec<Value>,
     instance: u32,
 ) -> Result<Content, AllocError>
-    ensures { IfOk result (λ c. (env : Env) (s : ℕ) → now_bound env (call_views calls.new.items) s (Some (content_view c)) ≡ constructed (stage_view E.functions stage.now) env (call_views calls.old.items) s term.0 instance (Some (value_views args.items))) }
+    ensures { IfOk result (λ c. (env : Env) (s : ℕ) → now_bound env (call_views calls.new.items) s (Some (content_view c))
+        ≡ constructed (stage_view E.functions stage.now) env (call_views calls.old.items) s term.0 instance (Some (value_views args.items))) }
 {
     if instance == 0 {
         Ok(stage.externs.pure_call(stage.alloc, term, &args)?)
@@ -160,7 +168,9 @@ fn constructed<E: Externs>(
     parameters: &[BindingId],
     instance: u32,
 ) -> Result<Option<Content>, AllocError>
-    ensures { IfOk result (λ o. (around : Env) (s : ℕ) → now_bound around (call_views calls.new.items) s (option_map content_view o) ≡ constructed (stage_view E.functions stage.now) around (call_views calls.old.items) s term.0 instance (used_values (stage_view E.functions stage.now) (env_view env.now) parameters.now)) }
+    ensures { IfOk result (λ o. (around : Env) (s : ℕ) → now_bound around (call_views calls.new.items) s (option_map content_view o)
+        ≡ constructed (stage_view E.functions stage.now) around (call_views calls.old.items) s term.0 instance
+        (used_values_in E.functions stage.now env.now parameters.now)) }
 {
     match used_values(stage, env, parameters)? {
         Some(args) => Ok(Some(called(stage, calls, term, args, instance)?)),
@@ -175,7 +185,8 @@ fn found<E: Externs>(
     calls: &mut Vec<Call>,
     binding: &Binding,
 ) -> Result<Found, AllocError>
-    ensures { IfOk result (λ f. (s : ℕ) → found_view f (env_view env.now) (call_views calls.new.items) s ≡ bind_site (stage_view E.functions stage.now) (env_view env.now) (call_views calls.old.items) s (Some (site_view binding.now))) }
+    ensures { IfOk result (λ f. (s : ℕ) → found_view f (env_view env.now) (call_views calls.new.items) s
+        ≡ bind_site (stage_view E.functions stage.now) (env_view env.now) (call_views calls.old.items) s (Some (site_view binding.now))) }
 {
     match binding {
         Binding::ConstBool { val, ty } => Ok(Found::There(Content::One(
@@ -235,7 +246,9 @@ fn bind_site<E: Externs>(
     calls: &mut Vec<Call>,
     site: BindingId,
 ) -> Result<Bound, AllocError>
-    ensures bound { IfOk result (λ b. bound_view b (env_view env.new.items) (call_views calls.new.items) ≡ bind_site (stage_view E.functions stage.now) (env_view env.old.items) (call_views calls.old.items) site (slice_get (site_views stage.now.sites.now) site)) }
+    ensures bound { IfOk result (λ b. bound_view b (env_view env.new.items) (call_views calls.new.items)
+        ≡ bind_site (stage_view E.functions stage.now) (env_view env.old.items) (call_views calls.old.items) site
+        (slice_get (site_views stage.now.sites.now) site)) }
     ensures kept { IfOk result (λ b. IsBeginningOf env.old.items env.new.items) }
 {
     match stage.sites.get(site.index()) {
@@ -265,7 +278,8 @@ pub fn bind_all<E: Externs>(
     calls: &mut Vec<Call>,
     sites: &[BindingId],
 ) -> Result<Bound, AllocError>
-    ensures bound { IfOk result (λ b. bound_view b (env_view env.new.items) (call_views calls.new.items) ≡ bind_all (stage_view E.functions stage.now) (env_view env.old.items) (call_views calls.old.items) sites.now) }
+    ensures bound { IfOk result (λ b. bound_view b (env_view env.new.items) (call_views calls.new.items)
+        ≡ bind_all (stage_view E.functions stage.now) (env_view env.old.items) (call_views calls.old.items) sites.now) }
     ensures kept { IfOk result (λ b. IsBeginningOf env.old.items env.new.items) }
 {
     for site in sites {

@@ -35,7 +35,8 @@ fn variant_fields(
     variant: VariantId,
     value: &Value,
 ) -> Result<Option<Vec<Content>>, AllocError>
-    ensures { IfOk result (λ o. (m : _) (n : _) → option_map (λ v. content_list v.items) o ≡ value_fields m (is_variant ty.0 variant.0 n) (value_view value.now)) }
+    ensures { IfOk result (λ o. (m : _) (n : _) → option_map (λ v. content_list v.items) o
+        ≡ value_fields m (is_variant ty.0 variant.0 n) (value_view value.now)) }
 {
     match value {
         Value::Variant(t, i, fields) => {
@@ -86,7 +87,8 @@ fn value_fields<E: Externs>(
     constraint: Constraint,
     value: &Value,
 ) -> Result<Option<Vec<Content>>, AllocError>
-    ensures { IfOk result (λ o. option_map (λ v. content_list v.items) o ≡ value_fields (total (E.functions stage.now.externs.now)) (constraint_view constraint) (value_view value.now)) }
+    ensures { IfOk result (λ o. option_map (λ v. content_list v.items) o
+        ≡ value_fields (total (E.functions stage.now.externs.now)) (constraint_view constraint) (value_view value.now)) }
 {
     match constraint {
         Constraint::Variant { ty, variant, .. } => Ok(variant_fields(
@@ -127,7 +129,8 @@ fn inner_field(
     constraint: Constraint,
     inner: &Content,
 ) -> Result<Option<Vec<Content>>, AllocError>
-    ensures { IfOk result (λ o. (m : _) → option_map (λ v. content_list v.items) o ≡ content_fields m (constraint_view constraint) (just (content_view inner.now))) }
+    ensures { IfOk result (λ o. (m : _) → option_map (λ v. content_list v.items) o
+        ≡ content_fields m (constraint_view constraint) (just (content_view inner.now))) }
 {
     match constraint {
         Constraint::Some => Ok(Some(single(alloc, inner)?)),
@@ -146,7 +149,8 @@ pub fn content_fields<E: Externs>(
     constraint: Constraint,
     content: &Content,
 ) -> Result<Option<Vec<Content>>, AllocError>
-    ensures { IfOk result (λ o. option_map (λ v. content_list v.items) o ≡ content_fields (total (E.functions stage.now.externs.now)) (constraint_view constraint) (content_view content.now)) }
+    ensures { IfOk result (λ o. option_map (λ v. content_list v.items) o
+        ≡ content_fields (total (E.functions stage.now.externs.now)) (constraint_view constraint) (content_view content.now)) }
 {
     match content {
         Content::One(value) => Ok(value_fields(stage, constraint, value)?),

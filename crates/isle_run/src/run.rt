@@ -2,14 +2,15 @@
 
 ghost use Rattle.std.specs.Prelude.{◌≡◌, ◌∷◌, IfOk, if◌then◌else◌, map, option_map, slice_get};
 ghost use Rattle.isle_model.specs.rules.Outcome.{ended, ran_through, then_option};
-ghost use Rattle.isle_model.specs.trees.Run.{for_each, iterated, on_ending, returned, with_content, with_env, run_arms, run, run_check, run_tree, used, used_value};
+ghost use Rattle.isle_model.specs.trees.Run.{for_each, iterated, on_ending, returned, with_content, with_env, run_arms, run, run_check, run_tree};
 ghost use Rattle.isle_model.specs.trees.Run as Run;
 ghost use Rattle.isle_model.specs.trees.Trees as Trees;
 ghost use Rattle.isle_model.specs.trees.Trees.{Tree};
 ghost use Rattle.isle_serialize.specs.TreeViews.{arms_view, check_view, tree_view};
 ghost use Rattle.isle_serialize.specs.declared.serialize.MatchArm.{out-MatchArm};
 ghost use Rattle.isle_sets.specs.SiteViews.{site_view, site_views};
-ghost use Rattle.isle_run.specs.RunViews.{IsBeginningOf, arg_views, content_list, ending_view, env_view, equality_by, is_through, many_by, outcome_at, outcome_view, stage_of, stage_view, trace_view};
+ghost use Rattle.isle_run.specs.RunViews.{IsBeginningOf, arg_views, content_list, ending_view, env_view, equality_by, is_through, many_by};
+ghost use Rattle.isle_run.specs.RunViews.{outcome_at, outcome_view, stage_of, stage_view, trace_view, used_in, used_value_in};
 ghost use Rattle.isle_run.specs.ValueViews.{content_view};
 
 use crate::binds::bind_all;
@@ -29,7 +30,7 @@ fn are_equal<E: Externs>(
     a: BindingId,
     b: BindingId,
 ) -> Result<Option<bool>, AllocError>
-    ensures { IfOk result (λ o. o ≡ equality_by (used_value (stage_view E.functions stage.now) (env_view env.now) a) (used_value (stage_view E.functions stage.now) (env_view env.now) b)) }
+    ensures { IfOk result (λ o. o ≡ equality_by (used_value_in E.functions stage.now env.now a) (used_value_in E.functions stage.now env.now b)) }
 {
     let Some(one) = used_value(stage, env, a)? else {
         return Ok(None);
@@ -56,7 +57,8 @@ fn gone_over<E: Externs>(
     env: &[(BindingId, Content)],
     site: BindingId,
 ) -> Result<Option<Vec<Content>>, AllocError>
-    ensures { IfOk result (λ o. option_map (λ v. content_list v.items) o ≡ many_by (then_option (then_option (slice_get (site_views stage.now.sites.now) site) iterated) (used (stage_view E.functions stage.now) (env_view env.now)))) }
+    ensures { IfOk result (λ o. option_map (λ v. content_list v.items) o
+        ≡ many_by (then_option (then_option (slice_get (site_views stage.now.sites.now) site) iterated) (used_in E.functions stage.now env.now))) }
 {
     let Some(binding) = stage.sites.get(site.index()) else {
         return Ok(None);
@@ -100,7 +102,8 @@ fn give<E: Externs>(
     trace: &mut Trace,
     site: BindingId,
 ) -> Result<Ending, AllocError>
-    ensures { IfOk result (λ e. outcome_at e trace.new ≡ with_content (used (stage_view E.functions stage.now) (env_view env.now) site) (trace_view trace.old) (returned stage.now.multi (trace_view trace.old))) }
+    ensures { IfOk result (λ e. outcome_at e trace.new
+        ≡ with_content (used_in E.functions stage.now env.now site) (trace_view trace.old) (returned stage.now.multi (trace_view trace.old))) }
 {
     match used(stage, env, site)? {
         Some(content) => {
@@ -119,7 +122,8 @@ fn run_block<E: Externs>(
     env: &mut Vec<(BindingId, Content)>,
     trace: &mut Trace,
 ) -> Result<Ending, AllocError>
-    ensures ran { IfOk result (λ e. outcome_at e trace.new ≡ run_tree (tree_view block.now) (stage_view E.functions stage.now) (env_view env.old.items) (trace_view trace.old)) }
+    ensures ran { IfOk result (λ e. outcome_at e trace.new
+        ≡ run_tree (tree_view block.now) (stage_view E.functions stage.now) (env_view env.old.items) (trace_view trace.old)) }
     ensures kept { IfOk result (λ e. IsBeginningOf env.old.items env.new.items) }
 {
     for step in &block.steps {
@@ -139,7 +143,10 @@ fn run_step<E: Externs>(
     env: &mut Vec<(BindingId, Content)>,
     trace: &mut Trace,
 ) -> Result<Ending, AllocError>
-    ensures ran { IfOk result (λ e. (rest : Tree) → on_ending (ending_view e) (trace_view trace.new) (run_tree rest (stage_view E.functions stage.now) (env_view env.new.items)) ≡ run_tree (Trees.step step.now.bind_order.items (check_view step.now.check) rest) (stage_view E.functions stage.now) (env_view env.old.items) (trace_view trace.old)) }
+    ensures ran { IfOk result (λ e. (rest : Tree) → on_ending (ending_view e) (trace_view trace.new)
+        (run_tree rest (stage_view E.functions stage.now) (env_view env.new.items))
+        ≡ run_tree (Trees.step step.now.bind_order.items (check_view step.now.check) rest) (stage_view E.functions stage.now)
+        (env_view env.old.items) (trace_view trace.old)) }
     ensures kept { IfOk result (λ e. IsBeginningOf env.old.items env.new.items) }
 {
     match bind_all(stage, env, &mut trace.calls, &step.bind_order)? {
@@ -157,7 +164,8 @@ fn run_within<E: Externs>(
     env: &mut Vec<(BindingId, Content)>,
     trace: &mut Trace,
 ) -> Result<Ending, AllocError>
-    ensures ran { IfOk result (λ e. outcome_at e trace.new ≡ run_check (check_view check.now) (stage_view E.functions stage.now) (env_view env.old.items) (trace_view trace.old)) }
+    ensures ran { IfOk result (λ e. outcome_at e trace.new
+        ≡ run_check (check_view check.now) (stage_view E.functions stage.now) (env_view env.old.items) (trace_view trace.old)) }
     ensures kept { IfOk result (λ e. env.new.items ≡ env.old.items) }
 {
     let depth = env.len();
@@ -174,7 +182,8 @@ fn run_check<E: Externs>(
     env: &mut Vec<(BindingId, Content)>,
     trace: &mut Trace,
 ) -> Result<Ending, AllocError>
-    ensures ran { IfOk result (λ e. outcome_at e trace.new ≡ run_check (check_view check.now) (stage_view E.functions stage.now) (env_view env.old.items) (trace_view trace.old)) }
+    ensures ran { IfOk result (λ e. outcome_at e trace.new
+        ≡ run_check (check_view check.now) (stage_view E.functions stage.now) (env_view env.old.items) (trace_view trace.old)) }
     ensures kept { IfOk result (λ e. IsBeginningOf env.old.items env.new.items) }
 {
     match check {
@@ -204,7 +213,8 @@ fn run_arms<E: Externs>(
     env: &mut Vec<(BindingId, Content)>,
     trace: &mut Trace,
 ) -> Result<Ending, AllocError>
-    ensures ran { IfOk result (λ e. outcome_at e trace.new ≡ run_arms (arms_view arms.now) (stage_view E.functions stage.now) (content_view content.now) (env_view env.old.items) (trace_view trace.old)) }
+    ensures ran { IfOk result (λ e. outcome_at e trace.new
+        ≡ run_arms (arms_view arms.now) (stage_view E.functions stage.now) (content_view content.now) (env_view env.old.items) (trace_view trace.old)) }
     ensures kept { IfOk result (λ e. IsBeginningOf env.old.items env.new.items) }
 {
     for arm in arms {
@@ -224,7 +234,9 @@ fn run_arm<E: Externs>(
     env: &mut Vec<(BindingId, Content)>,
     trace: &mut Trace,
 ) -> Result<Ending, AllocError>
-    ensures ran { IfOk result (λ e. outcome_at e trace.new ≡ with_env (Run.bind_fields (out-MatchArm arm.now).bindings.items (content_list fields.now) (env_view env.old.items)) (trace_view trace.old) (λ inside. run_tree (tree_view (out-MatchArm arm.now).body) (stage_view E.functions stage.now) inside (trace_view trace.old))) }
+    ensures ran { IfOk result (λ e. outcome_at e trace.new
+        ≡ with_env (Run.bind_fields (out-MatchArm arm.now).bindings.items (content_list fields.now) (env_view env.old.items)) (trace_view trace.old)
+        (λ inside. run_tree (tree_view (out-MatchArm arm.now).body) (stage_view E.functions stage.now) inside (trace_view trace.old))) }
     ensures kept { IfOk result (λ e. IsBeginningOf env.old.items env.new.items) }
 {
     if bind_fields(env, &arm.bindings, fields)? {
@@ -244,7 +256,8 @@ fn run_once<E: Externs>(
     env: &mut Vec<(BindingId, Content)>,
     trace: &mut Trace,
 ) -> Result<Ending, AllocError>
-    ensures ran { IfOk result (λ e. outcome_at e trace.new ≡ run_tree (tree_view body.now) (stage_view E.functions stage.now) ((site, content_view content.now) ∷ env_view env.old.items) (trace_view trace.old)) }
+    ensures ran { IfOk result (λ e. outcome_at e trace.new
+        ≡ run_tree (tree_view body.now) (stage_view E.functions stage.now) ((site, content_view content.now) ∷ env_view env.old.items) (trace_view trace.old)) }
     ensures kept { IfOk result (λ e. env.new.items ≡ env.old.items) }
 {
     let depth = env.len();
@@ -264,7 +277,9 @@ fn run_each<E: Externs>(
     env: &mut Vec<(BindingId, Content)>,
     trace: &mut Trace,
 ) -> Result<Ending, AllocError>
-    ensures ran { IfOk result (λ e. outcome_at e trace.new ≡ for_each (content_list contents.now) (λ c after. run_tree (tree_view body.now) (stage_view E.functions stage.now) ((site, c) ∷ env_view env.old.items) after) (trace_view trace.old)) }
+    ensures ran { IfOk result (λ e. outcome_at e trace.new
+        ≡ for_each (content_list contents.now)
+        (λ c after. run_tree (tree_view body.now) (stage_view E.functions stage.now) ((site, c) ∷ env_view env.old.items) after) (trace_view trace.old)) }
     ensures kept { IfOk result (λ e. env.new.items ≡ env.old.items) }
 {
     for content in contents {

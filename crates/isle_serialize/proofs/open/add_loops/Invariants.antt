@@ -1,8 +1,8 @@
 use Rattle.std.proofs.Common.{take}
 use Rattle.isle_sets.specs.SiteViews.{site_view}
-use Rattle.isle_serialize.specs.Opened.{AddsOpen, IsLoopBy, OfSome}
-use Rattle.isle_serialize.specs.PlaceViews.{around_at, set_at}
+use Rattle.isle_serialize.specs.Opened.{AddsAt, IsLoopBy, OfSome}
+use Rattle.isle_serialize.specs.PlaceViews.{set_at}
 use Rattle.isle_serialize.proofs.open.add_loops.Given as goal
 
 abbrev pub invariant-loop-binding : goal.invariant-loop-binding
-invariant-loop-binding l = AddsOpen (set_at l.place) (around_at l.place) (OfSome (λ b. IsLoopBy (set_at l.place).rules l.highest (site_view b)) (take l.binding-index l.binding-items)) l.fn.tests.items l.tests.items
+invariant-loop-binding l = AddsAt l.place (OfSome (λ b. IsLoopBy (set_at l.place).rules l.highest (site_view b)) (take l.binding-index l.binding-items)) l.fn.tests.items l.tests.items

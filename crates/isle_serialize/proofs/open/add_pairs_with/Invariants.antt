@@ -1,7 +1,6 @@
 use Rattle.std.proofs.Common.{take}
-use Rattle.isle_serialize.specs.Opened.{AddsOpen, IsPair, OfSome}
-use Rattle.isle_serialize.specs.PlaceViews.{around_at, set_at}
+use Rattle.isle_serialize.specs.Opened.{AddsAt, IsPair, OfSome}
 use Rattle.isle_serialize.proofs.open.add_pairs_with.Given as goal
 
 abbrev pub invariant-loop-b : goal.invariant-loop-b
-invariant-loop-b l = AddsOpen (set_at l.place) (around_at l.place) (OfSome (IsPair l.a) (take l.b-index l.others)) l.fn.tests.items l.tests.items
+invariant-loop-b l = AddsAt l.place (OfSome (IsPair l.a) (take l.b-index l.others)) l.fn.tests.items l.tests.items
