@@ -8,7 +8,7 @@ use Rattle.isle_base.specs.Noting.{NotesMore, MayNoteMore}
 use Rattle.isle_base.specs.Positions.{NotesAt, OccurAmong}
 use Rattle.isle_base.proofs.Noted.{some_noted}
 use Rattle.isle_base.proofs.Positioned.{stand_among}
-use Rattle.isle_terms.specs.TermBreaches.{FirstStandsAt, BreaksTerms, FirstBreaksTerms}
+use Rattle.isle_terms.specs.TermBreaches.{TermGroup, FirstStandsAt, BreaksGroup, FirstBreaksGroup}
 
 -- what is noted at some positions begins there
 pub begins_noted : (ps : List Position) (old new : List Error) → NotesAt ps old new → FirstStandsAt ps old new
@@ -41,23 +41,23 @@ pub begins_both : (ps : List Position) (a b c : List Error) → MayNoteMore a b 
 begins_both ps a b c (inl same) one more two = subst (λ l. FirstStandsAt ps l c) same two
 begins_both ps a b c (inr some) one more two = begins_before ps a b c some one more
 
--- where there is no error before, the first one now stands where a condition is broken
-pub record Breach (k : KnownTypes) (defs : List Definition) (es es' : List Error) : Type 0 where
+-- where there is no error before, the first one now stands where a condition of a group is broken
+pub record Breach (k : KnownTypes) (group : TermGroup) (defs : List Definition) (es es' : List Error) : Type 0 where
   pub positions : List Position
-  pub breaks : BreaksTerms k defs positions
+  pub breaks : BreaksGroup k defs group positions
   pub begins : FirstStandsAt positions es es'
 
 some_first : (es : List Error) → es ≢ [] → (first : Error) × (rest : List Error) × (es ≡ first ∷ rest)
 some_first [] some = absurd (some refl)
 some_first (x ∷ xs) some = (x, xs, refl)
 
-pub first_found : (k : KnownTypes) (defs : List Definition) (es es' : List Error) → es ≡ [] → NotesMore es es' → Breach k defs es es' → FirstBreaksTerms k defs es'
-first_found k defs es es' none noted b =
+pub first_found : (k : KnownTypes) (group : TermGroup) (defs : List Definition) (es es' : List Error) → es ≡ [] → NotesMore es es' → Breach k group defs es es' → FirstBreaksGroup k group defs es'
+first_found k group defs es es' none noted b =
     let f = some_first es' (some_noted noted) in
     record { first = f.0; rest = f.1; is = f.2; positions = b.positions; breaks = b.breaks; stands = b.begins.begins f.0 f.1 none f.2 }
 
-pub first_stays : (k : KnownTypes) (defs : List Definition) (es es' : List Error) → NotesMore es es' → FirstBreaksTerms k defs es → FirstBreaksTerms k defs es'
-first_stays k defs es es' n f = record {
+pub first_stays : (k : KnownTypes) (group : TermGroup) (defs : List Definition) (es es' : List Error) → NotesMore es es' → FirstBreaksGroup k group defs es → FirstBreaksGroup k group defs es'
+first_stays k group defs es es' n f = record {
   first = f.first;
   rest = f.rest ++ n.more;
   is = n.added ∙ ap (λ l. l ++ n.more) f.is;

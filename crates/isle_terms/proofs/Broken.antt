@@ -12,7 +12,7 @@ use Rattle.isle_model.specs.lists.KnownTypes.{KnownTypes}
 use Rattle.isle_model.specs.lists.TermTable.{ConstructorTree, ExternalTree, converted_pairs, converter_of, converter_trees, constructor_trees, decl_names, decl_of, decl_trees, external_constructor_of, external_extractor_of, external_constructors, external_extractors, external_trees, extractor_of, extractor_trees, internal_extractors, made_by, rule_of, rule_trees, term_names, HasDeclaredRoot, HasKnownArguments, HasKnownResult, HoldsNoMacroArg, IsDeclaredTerm, IsKnownConverter, IsNotBothMultiAndPartial, IsOfPlainTerm, IsValidTerms, IsWithoutRules, NamesKnownTerms, UsesDeclaredArguments}
 use Rattle.isle_model.proofs.Members.{get_from_member}
 use Rattle.isle_model.proofs.Positions.{twice}
-use Rattle.isle_terms.specs.TermBreaches.{BreaksDeclaration, name_taken, both_marks, unknown_argument, unknown_result, BreaksMade, BreaksExtractor, extractor_of_none, second_extractor, extractor_of_multi, unknown_term, holds_macro_arg, argument_past, BreaksConverter, unknown_converter, second_converter, BreaksConstructor, constructor_of_none, beside_rules, second_constructor, BreaksExternal, external_of_none, second_taker, BreaksTerms, by_declaration, by_made, by_rule, by_extractor, by_recursion, by_converter, by_constructor, by_external}
+use Rattle.isle_terms.specs.TermBreaches.{TermGroup, BreaksDeclaration, name_taken, both_marks, unknown_argument, unknown_result, BreaksMade, BreaksExtractor, extractor_of_none, second_extractor, extractor_of_multi, unknown_term, holds_macro_arg, argument_past, BreaksConverter, unknown_converter, second_converter, BreaksConstructor, constructor_of_none, beside_rules, second_constructor, BreaksExternal, external_of_none, second_taker, BreaksGroup, BreaksTerms, by_declaration, by_made, by_rule, by_extractor, by_recursion, by_converter, by_constructor, by_external}
 use Rattle.isle_terms.proofs.Declaring.{at_middle}
 use Rattle.isle_terms.proofs.Making.{distinct_left}
 
@@ -93,13 +93,16 @@ module _ (k : KnownTypes) (defs : List Definition) (v : IsValidTerms k defs) whe
       (ap (λ l. internal_extractors defs ++ l) (named_parts defs before after d whole external_extractor_of (λ t. t.term.text) t one) ∙ sym (append_assoc (internal_extractors defs) (external_extractors before) (t.term.text ∷ external_extractors after)))
       b v.one_extractor
 
--- whatever condition is broken, the list isn't valid
+-- whatever condition of a group is broken, the list isn't valid
+group_invalid : (k : KnownTypes) (defs : List Definition) (ps : List Position) (group : TermGroup) → BreaksGroup k defs group ps → IsValidTerms k defs → ⊥
+group_invalid k defs ps _ (by_declaration before after d whole b) v = declaration_breaks k defs v before after d whole b
+group_invalid k defs ps _ (by_made before after t whole b) v = made_breaks k defs v before after t whole b
+group_invalid k defs ps _ (by_rule before after r whole b) v = rule_breaks k defs v before after r whole b
+group_invalid k defs ps _ (by_extractor before after x whole b) v = extractor_breaks k defs v before after x whole b
+group_invalid k defs ps _ (by_recursion x there back) v = v.acyclic x.term.text back
+group_invalid k defs ps _ (by_converter before after c whole b) v = converter_breaks k defs v before after c whole b
+group_invalid k defs ps _ (by_constructor before after term function at whole b) v = constructor_breaks k defs v before after (extern_definition (extern_constructor term function at)) (record { term = term; function = function }) whole refl b
+group_invalid k defs ps _ (by_external before after t whole b) v = external_breaks k defs v before after (extern_definition (extern_extractor t.term t.function t.at t.infallible)) t whole refl b
+
 pub breaks_invalid : (k : KnownTypes) (defs : List Definition) (ps : List Position) → BreaksTerms k defs ps → IsValidTerms k defs → ⊥
-breaks_invalid k defs ps (by_declaration before after d whole b) v = declaration_breaks k defs v before after d whole b
-breaks_invalid k defs ps (by_made before after t whole b) v = made_breaks k defs v before after t whole b
-breaks_invalid k defs ps (by_rule before after r whole b) v = rule_breaks k defs v before after r whole b
-breaks_invalid k defs ps (by_extractor before after x whole b) v = extractor_breaks k defs v before after x whole b
-breaks_invalid k defs ps (by_recursion x there back) v = v.acyclic x.term.text back
-breaks_invalid k defs ps (by_converter before after c whole b) v = converter_breaks k defs v before after c whole b
-breaks_invalid k defs ps (by_constructor before after term function at whole b) v = constructor_breaks k defs v before after (extern_definition (extern_constructor term function at)) (record { term = term; function = function }) whole refl b
-breaks_invalid k defs ps (by_external before after t whole b) v = external_breaks k defs v before after (extern_definition (extern_extractor t.term t.function t.at t.infallible)) t whole refl b
+breaks_invalid k defs ps b v = group_invalid k defs ps b.group b.breaks v

@@ -1,13 +1,13 @@
 -- Reading converters by types that are handed in, one definition after another.
-use Rattle.std.proofs.Common.{◌≡◌, ◌==◌, ◌&&◌, ℕ, zero, suc, ◌+◌, ◌<◌, Bool, true, false, cond, List, [], ◌∷◌, ◌++◌, length, take, drop, get_or, map, slice_get, None, Some, is_some, unwrap_or, option_map, All, refl, sym, ap, subst, ◌∙◌, inl, inr, eqb-true, Contains}
+use Rattle.std.proofs.Common.{◌≡◌, ◌==◌, ◌&&◌, ℕ, zero, suc, ◌+◌, ◌<◌, Bool, true, false, cond, List, [], ◌∷◌, ◌++◌, length, take, drop, get_or, map, slice_get, None, Some, is_some, unwrap_or, option_map, All, refl, sym, ap, subst, ◌∙◌, inl, inr, eqb-true, Contains, ⊎_elim}
 use Rattle.std.proofs.Math.Path.{ap₂}
 use Rattle.std.proofs.lemmas.Bool.{false≢true}
 use Rattle.std.proofs.lemmas.Bool.Decides.{Decides-eqb}
 use Rattle.std.proofs.lemmas.List.{append-nil, map-append}
 use Rattle.std.proofs.lemmas.List.Concat.{flat_map-append}
-use Rattle.std.proofs.lemmas.List.Elements.{All-contains, All-push}
+use Rattle.std.proofs.lemmas.List.Elements.{All-contains, All-push, Contains-append_left, Contains-append_right, Contains-append_cases}
 use Rattle.std.proofs.lemmas.Option.{same_Some, slice_get-map}
-use Rattle.isle_model.proofs.Members.{in_map, member_from_get}
+use Rattle.isle_model.proofs.Members.{in_alone, in_head, in_map, member_from_get, get_from_member, nothing_in}
 use Rattle.isle_model.proofs.Mapped.{mapped_some}
 use Rattle.isle_model.specs.lists.Syntax.{Name, ConverterTree, Definition, type_definition, declaration, extractor_definition, converter_definition, rule_definition, extern_definition, other_definition}
 use Rattle.isle_model.specs.lists.Names.{IsDistinct}
@@ -20,7 +20,7 @@ use Rattle.isle_model.proofs.Positions.{distinct_push}
 use Rattle.isle_base.specs.declared.syntax.Def.{Def}
 use Rattle.isle_base.specs.declared.syntax.Error.{Error}
 use Rattle.isle_base.specs.Stable.{Entries, look_up}
-use Rattle.isle_base.specs.Positions.{definition_positions}
+use Rattle.isle_base.specs.Positions.{converter_positions, definition_positions}
 use Rattle.isle_base.specs.SyntaxViews.{definition_view, definition_views}
 use Rattle.isle_types.specs.declared.type_env.TypeEnv.{TypeEnv}
 use Rattle.isle_types.specs.Envs.{same_symbol, symbol, type_of_name}
@@ -31,12 +31,16 @@ use Rattle.isle_terms.specs.TermTables.{same_types}
 use Rattle.isle_terms.specs.declared.term_table.TermTable.{TermTable}
 use Rattle.isle_terms.specs.TermViews.{term_views}
 use Rattle.isle_terms.specs.Reading.{IsWithin, term_of_name}
-use Rattle.isle_terms.specs.TermBreaches.{FirstStandsAt, BreaksConverter, unknown_converter, second_converter, by_converter}
+use Rattle.isle_terms.specs.TermBreaches.{of_converters, FirstStandsAt, BreaksConverter, unknown_converter, second_converter, by_converter}
 use Rattle.isle_terms.specs.Stages.{constructor_after}
-use Rattle.isle_terms.specs.Signing.{ReadsTerms}
+use Rattle.isle_terms.specs.Signing.{Notes, ReadsTerms}
+use Rattle.isle_terms.specs.TermErrors.{IsConvertedBefore, TellsOfConverter}
+use Rattle.isle_types.specs.Telling as T
+use Rattle.isle_types.specs.Telling.{NotesEach}
+use Rattle.isle_types.proofs.Telling.{noted_none, noted_more}
 use Rattle.isle_terms.specs.Converting.{type_by_id, converter_at, pair_of, converter_entry, template_after, ConvertersRead, Converts, IsWrongConverter, ReadsIfConverter}
 use Rattle.isle_terms.proofs.Declaring.{taken_next, around}
-use Rattle.isle_terms.proofs.Noting.{step}
+use Rattle.isle_terms.proofs.Noting.{some_noted, step}
 use Rattle.isle_terms.proofs.Standing.{term_is}
 use Rattle.isle_terms.proofs.TemplateSteps.{one_name}
 use Rattle.isle_terms.proofs.TypesStaying.{left_interned, type_is}
@@ -89,7 +93,7 @@ pair_is k i o h =
       | false ↦ λ e g. absurd (false≢true g)
     ] refl h
 
-module _ (e : TypesRead) (readable : AreReadable e) (defs read rest : List Definition) (c : ConverterTree) (whole : defs ≡ read ++ converter_definition c ∷ rest) (env : TypeEnv) (old : TermTable) (left : IsLeftByRefusal e (environment_view env)) (s : ConvertersRead e defs read env old) where
+module _ (e : TypesRead) (readable : AreReadable e) (defs read : List Definition) (c : ConverterTree) (env : TypeEnv) (old : TermTable) (left : IsLeftByRefusal e (environment_view env)) (s : ConvertersRead e defs read env old) where
   more : converter_trees (read ++ converter_definition c ∷ []) ≡ converter_trees read ++ c ∷ []
   more = flat_map-append converter_of read (converter_definition c ∷ [])
 
@@ -186,8 +190,13 @@ module _ (e : TypesRead) (readable : AreReadable e) (defs read rest : List Defin
       let is = pair_is (entry found.1).0 m.inner m.outer found.3 in
       second_converter (converted_before found.1 (member_from_get (converter_trees read) found.0 found.1 found.2) m.inner m.outer is.0 is.1 m.inner_is m.outer_is)
 
+-- what is noted of a converter, where it doesn't matter how much
+as_noted : (c : ConverterTree) (env : TypeEnv) (table table' : TermTable) (es es' : List Error) → ReadsIfConverter (converter_definition c) env table es table' es' → Notes es es' (Converts c env table table') (IsWrongConverter c env table)
+as_noted c env table table' es es' (inl a) = inl a
+as_noted c env table table' es es' (inr a) = inr (some_noted 0 (converter_positions c) es es' a.0, a.2)
+
 module _ (e : TypesRead) (readable : AreReadable e) (defs read rest : List Definition) (env : TypeEnv) (table table' : TermTable) (es es' : List Error) (w : IsWithin table') where
-  other : (d : Definition) → converter_of d ≡ [] → (es' ≡ es) × (table' ≡ table) → ReadsTerms e defs (ConvertersRead e defs read) env table es → ReadsTerms e defs (ConvertersRead e defs (read ++ d ∷ [])) env table' es'
+  other : (d : Definition) → converter_of d ≡ [] → (es' ≡ es) × (table' ≡ table) → ReadsTerms e of_converters defs (ConvertersRead e defs read) env table es → ReadsTerms e of_converters defs (ConvertersRead e defs (read ++ d ∷ [])) env table' es'
   other d none same s =
       let trees : converter_trees (read ++ d ∷ []) ≡ converter_trees read = flat_map-append converter_of read (d ∷ []) ∙ ap (λ l. converter_trees read ++ (l ++ [])) none ∙ append-nil (converter_trees read) in
       let go : ConvertersRead e defs read env table → ConvertersRead e defs (read ++ d ∷ []) env table = λ h. record {
@@ -196,15 +205,15 @@ module _ (e : TypesRead) (readable : AreReadable e) (defs read rest : List Defin
         distinct = subst (λ cs. IsDistinct (map pair_of cs)) (sym trees) h.distinct;
         conversions = λ i o. h.conversions i o ∙ ap (λ cs. look (λ k. (k.0 == i) && (k.1 == o)) (map (converter_entry e.known defs) cs)) (sym trees);
       } in
-      step e defs (ConvertersRead e defs read) (ConvertersRead e defs (read ++ d ∷ [])) env env table table' es es' (Unit {0}) ⊥ s.left w (inl (same.0, tt))
+      step e of_converters defs (ConvertersRead e defs read) (ConvertersRead e defs (read ++ d ∷ [])) env env table table' es es' (Unit {0}) ⊥ s.left w (inl (same.0, tt))
       (λ h _. subst (ConvertersRead e defs (read ++ d ∷ []) env) (sym same.1) (go h))
       (λ h x. absurd x) s
 
-  next : (d : Definition) → defs ≡ read ++ d ∷ rest → ReadsIfConverter d env table es table' es' → FirstStandsAt (definition_positions d) es es' → ReadsTerms e defs (ConvertersRead e defs read) env table es → ReadsTerms e defs (ConvertersRead e defs (read ++ d ∷ [])) env table' es'
+  next : (d : Definition) → defs ≡ read ++ d ∷ rest → ReadsIfConverter d env table es table' es' → FirstStandsAt (definition_positions d) es es' → ReadsTerms e of_converters defs (ConvertersRead e defs read) env table es → ReadsTerms e of_converters defs (ConvertersRead e defs (read ++ d ∷ [])) env table' es'
   next (converter_definition c) whole a b s =
-      step e defs (ConvertersRead e defs read) (ConvertersRead e defs (read ++ converter_definition c ∷ [])) env env table table' es es' (Converts c env table table') (IsWrongConverter c env table) s.left w a
-      (λ h x. converter_right e readable defs read rest c whole env table s.left h table' x)
-      (λ h x. record { positions = definition_positions (converter_definition c); breaks = by_converter read rest c whole (converter_wrong e readable defs read rest c whole env table s.left h x); begins = b }) s
+      step e of_converters defs (ConvertersRead e defs read) (ConvertersRead e defs (read ++ converter_definition c ∷ [])) env env table table' es es' (Converts c env table table') (IsWrongConverter c env table) s.left w (as_noted c env table table' es es' a)
+      (λ h x. converter_right e readable defs read c env table s.left h table' x)
+      (λ h x. record { positions = definition_positions (converter_definition c); breaks = by_converter read rest c whole (converter_wrong e readable defs read c env table s.left h x); begins = b }) s
   next (declaration d) whole a b s = other (declaration d) refl a s
   next (type_definition d) whole a b s = other (type_definition d) refl a s
   next (extractor_definition d) whole a b s = other (extractor_definition d) refl a s
@@ -215,11 +224,118 @@ module _ (e : TypesRead) (readable : AreReadable e) (defs read rest : List Defin
 -- after the definition at i
 pub next_converter : (e : TypesRead) → AreReadable e → (defs : List Def) (i : ℕ) (d : Def) → i < length defs → d ≡ get_or defs i d → (env : TypeEnv) (table table' : TermTable) (es es' : List Error) → IsWithin table'
     → ReadsIfConverter (definition_view d) env table es table' es' → FirstStandsAt (definition_positions (definition_view d)) es es'
-    → ReadsTerms e (definition_views defs) (ConvertersRead e (definition_views defs) (definition_views (take i defs))) env table es
-    → ReadsTerms e (definition_views defs) (ConvertersRead e (definition_views defs) (definition_views (take (i + 1) defs))) env table' es'
+    → ReadsTerms e of_converters (definition_views defs) (ConvertersRead e (definition_views defs) (definition_views (take i defs))) env table es
+    → ReadsTerms e of_converters (definition_views defs) (ConvertersRead e (definition_views defs) (definition_views (take (i + 1) defs))) env table' es'
 next_converter e r defs i d within here env table table' es es' w a b s =
-    subst (λ ds. ReadsTerms e (definition_views defs) (ConvertersRead e (definition_views defs) ds) env table' es') (sym (taken_next defs i d within here))
+    subst (λ ds. ReadsTerms e of_converters (definition_views defs) (ConvertersRead e (definition_views defs) ds) env table' es') (sym (taken_next defs i d within here))
     (next e r (definition_views defs) (definition_views (take i defs)) (definition_views (drop (i + 1) defs)) env table table' es es' w (definition_view d) (around defs i d within here) a b s)
+
+trees_more : (xs : List Definition) (c : ConverterTree) → converter_trees (xs ++ converter_definition c ∷ []) ≡ converter_trees xs ++ c ∷ []
+trees_more xs c = flat_map-append converter_of xs (converter_definition c ∷ [])
+
+trees_same : (xs : List Definition) (d : Definition) → converter_of d ≡ [] → converter_trees (xs ++ d ∷ []) ≡ converter_trees xs
+trees_same xs d none = flat_map-append converter_of xs (d ∷ []) ∙ ap (λ l. converter_trees xs ++ (l ++ [])) none ∙ append-nil (converter_trees xs)
+
+-- the converters of these definitions that were taken are those of some others, in which all are right
+pub record ConvertsUpTo (e : TypesRead) (defs before : List Definition) (env : TypeEnv) (start : List Error) (table : TermTable) (es : List Error) : Type 0 where
+  pub kept : List Definition
+  pub reads : ConvertersRead e defs kept env table
+  pub has : (p : List ℕ × List ℕ) → Contains (converted_pairs kept) p → IsConvertedBefore e.known defs before p
+  pub all : (p : List ℕ × List ℕ) → IsConvertedBefore e.known defs before p → Contains (converted_pairs kept) p
+  pub told : NotesEach (TellsOfConverter e.known defs) before start es
+
+module _ (e : TypesRead) (readable : AreReadable e) (defs before : List Definition) (env : TypeEnv) (left : IsLeftByRefusal e (environment_view env)) (start : List Error) (table table' : TermTable) (es es' : List Error) (u : ConvertsUpTo e defs before env start table es) where
+  abbrev Tells : List Definition → Definition → List Error → Type 0
+  Tells = TellsOfConverter e.known defs
+
+  -- a definition of something else
+  passed : (d : Definition) → converter_of d ≡ [] → ((own : List Error) → own ≡ [] → Tells before d own) → (es' ≡ es) × (table' ≡ table) → ConvertsUpTo e defs (before ++ d ∷ []) env start table' es'
+  passed d none says a = record {
+    kept = u.kept;
+    reads = subst (ConvertersRead e defs u.kept env) (sym a.1) u.reads;
+    has = λ p h. let b = u.has p h in record { converter = b.converter; there = subst (λ l. Contains l b.converter) (sym (trees_same before d none)) b.there; known = b.known; of_types = b.of_types };
+    all = λ p b. u.all p (record { converter = b.converter; there = subst (λ l. Contains l b.converter) (trees_same before d none) b.there; known = b.known; of_types = b.of_types });
+    told = noted_more Tells before d start es es' u.told (record { more = []; added = a.0 ∙ sym (append-nil es); says = says [] refl });
+  }
+
+  module _ (c : ConverterTree) where
+    abbrev here : Definition
+    here = converter_definition c
+
+    wider : (p : List ℕ × List ℕ) → IsConvertedBefore e.known defs before p → IsConvertedBefore e.known defs (before ++ here ∷ []) p
+    wider p b = record { converter = b.converter; there = subst (λ l. Contains l b.converter) (sym (trees_more before c)) (Contains-append_left (converter_trees before) (c ∷ []) b.converter b.there); known = b.known; of_types = b.of_types }
+
+    -- one that is taken
+    taken : es' ≡ es → Converts c env table table' → ConvertsUpTo e defs (before ++ here ∷ []) env start table' es'
+    taken same a =
+        let right = converter_right e readable defs u.kept c env table left u.reads table' a in
+        let pairs : converted_pairs (u.kept ++ here ∷ []) ≡ converted_pairs u.kept ++ pair_of c ∷ [] = ap (map pair_of) (trees_more u.kept c) ∙ map-append pair_of (converter_trees u.kept) (c ∷ []) in
+        let known : IsKnownConverter e.known defs c = All-contains (IsKnownConverter e.known defs) (converter_trees (u.kept ++ here ∷ [])) c right.known (subst (λ l. Contains l c) (sym (trees_more u.kept c)) (Contains-append_right (converter_trees u.kept) (c ∷ []) c (in_head c []))) in
+        let own : IsConvertedBefore e.known defs (before ++ here ∷ []) (pair_of c) = record { converter = c; there = subst (λ l. Contains l c) (sym (trees_more before c)) (Contains-append_right (converter_trees before) (c ∷ []) c (in_head c [])); known = known; of_types = refl } in
+        record {
+          kept = u.kept ++ here ∷ [];
+          reads = right;
+          has = λ p h. ⊎_elim (λ first. wider p (u.has p first)) (λ last. subst (IsConvertedBefore e.known defs (before ++ here ∷ [])) (in_alone (pair_of c) p last) own)
+              (Contains-append_cases (converted_pairs u.kept) (pair_of c ∷ []) p (subst (λ l. Contains l p) pairs h));
+          all = λ p b. subst (λ l. Contains l p) (sym pairs)
+              (⊎_elim (λ first. Contains-append_left (converted_pairs u.kept) (pair_of c ∷ []) p (u.all p (record { converter = b.converter; there = first; known = b.known; of_types = b.of_types })))
+              (λ last. Contains-append_right (converted_pairs u.kept) (pair_of c ∷ []) p (subst (λ q. Contains (pair_of c ∷ []) q) (ap pair_of (in_alone c b.converter last) ∙ b.of_types) (in_head (pair_of c) [])))
+              (Contains-append_cases (converter_trees before) (c ∷ []) b.converter (subst (λ l. Contains l b.converter) (trees_more before c) b.there)));
+          told = noted_more Tells before here start es es' u.told (record {
+            more = [];
+            added = same ∙ sym (append-nil es);
+            says = inl (record { known = known; first = λ b. let g = get_from_member (converted_pairs u.kept) (pair_of c) (u.all (pair_of c) b) in fresh e readable defs u.kept c env table left u.reads table' a g.0 g.1 }, refl);
+          });
+        }
+
+    -- one that is refused
+    refused : T.Notes 1 (converter_positions c) es es' → table' ≡ table → IsWrongConverter c env table → ConvertsUpTo e defs (before ++ here ∷ []) env start table' es'
+    refused n same wrong =
+        let why = converter_wrong e readable defs u.kept c env table left u.reads wrong in
+        record {
+          kept = u.kept;
+          reads = subst (ConvertersRead e defs u.kept env) (sym same) u.reads;
+          has = λ p h. wider p (u.has p h);
+          all = λ p b. ⊎_elim (λ first. u.all p (record { converter = b.converter; there = first; known = b.known; of_types = b.of_types }))
+              (λ last. let is = in_alone c b.converter last in subst (Contains (converted_pairs u.kept)) (ap pair_of is ∙ b.of_types) (second why (subst (IsKnownConverter e.known defs) (sym is) b.known)))
+              (Contains-append_cases (converter_trees before) (c ∷ []) b.converter (subst (λ l. Contains l b.converter) (trees_more before c) b.there));
+          told = noted_more Tells before here start es es' u.told (record { more = n.more; added = n.added; says = inr (λ r. r.first (u.has (pair_of c) (second why r.known)), n.tells) });
+        }
+      where
+        second : BreaksConverter e.known defs u.kept c → IsKnownConverter e.known defs c → Contains (converted_pairs u.kept) (pair_of c)
+        second (unknown_converter unknown) known = absurd (unknown known)
+        second (second_converter there) known = there
+
+  up_to : (d : Definition) → ReadsIfConverter d env table es table' es' → ConvertsUpTo e defs (before ++ d ∷ []) env start table' es'
+  up_to (converter_definition c) (inl a) = taken c a.0 a.1
+  up_to (converter_definition c) (inr a) = refused c a.0 a.1 a.2
+  up_to (declaration d) a = passed (declaration d) refl (λ own none. none) a
+  up_to (type_definition d) a = passed (type_definition d) refl (λ own none. none) a
+  up_to (extractor_definition d) a = passed (extractor_definition d) refl (λ own none. none) a
+  up_to (rule_definition d) a = passed (rule_definition d) refl (λ own none. none) a
+  up_to (extern_definition d) a = passed (extern_definition d) refl (λ own none. none) a
+  up_to other_definition a = passed other_definition refl (λ own none. none) a
+
+-- after the definition at i
+pub told_converter : (e : TypesRead) → AreReadable e → (defs : List Def) (i : ℕ) (d : Def) → i < length defs → d ≡ get_or defs i d → (env : TypeEnv) → IsLeftByRefusal e (environment_view env) → (start : List Error) (table table' : TermTable) (es es' : List Error)
+    → ReadsIfConverter (definition_view d) env table es table' es' → ConvertsUpTo e (definition_views defs) (definition_views (take i defs)) env start table es → ConvertsUpTo e (definition_views defs) (definition_views (take (i + 1) defs)) env start table' es'
+told_converter e r defs i d within here env left start table table' es es' a u =
+    subst (λ ds. ConvertsUpTo e (definition_views defs) ds env start table' es') (sym (taken_next defs i d within here))
+    (up_to e r (definition_views defs) (definition_views (take i defs)) env left start table table' es es' u (definition_view d) a)
+
+-- before the first one
+pub told_start : (e : TypesRead) (defs : List Definition) (env : TypeEnv) (table : TermTable) (es : List Error) → es ≡ [] → ReadsTerms e of_converters defs (ConvertersRead e defs []) env table es → ConvertsUpTo e defs [] env es table es
+told_start e defs env table es none s = record {
+  kept = [];
+  reads = ⊎_elim (λ r. r.1) (λ f. absurd (let some = sym none ∙ f.is in cc)) s.so_far;
+  has = λ p h. absurd (nothing_in p h);
+  all = λ p b. absurd (nothing_in b.converter b.there);
+  told = noted_none (TellsOfConverter e.known defs) es;
+}
+
+-- all errors are those that are told of each, where there was none before
+pub all_new : (Says : List Definition → Definition → List Error → Type 0) (defs : List Definition) (es es' : List Error) → es ≡ [] → NotesEach Says defs es es' → T.Told Says defs es'
+all_new Says defs es es' none n = subst (T.Told Says defs) (sym (n.added ∙ ap (λ l. l ++ n.more) none)) n.told
 
 -- what is looked up at a pair of types, after one more
 pub read_conversions : (old new : Entries (TypeId × TypeId) TermId) (a b : TypeId) (t : TermId) → ((x : TypeId × TypeId) → look_up same_types new x ≡ cond (same_types (a, b) x) (Some t) (look_up same_types old x))

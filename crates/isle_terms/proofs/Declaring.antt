@@ -28,7 +28,7 @@ use Rattle.isle_types.specs.Envs.{names_of, symbol_of, type_of_name, IsInterned}
 use Rattle.isle_types.specs.EnvViews.{environment_view}
 use Rattle.isle_types.specs.VariantReading.{ReportsIf}
 use Rattle.isle_terms.specs.declared.term_table.TermTable.{TermTable}
-use Rattle.isle_terms.specs.TermBreaches.{FirstStandsAt, BreaksDeclaration, name_taken, both_marks, unknown_argument, unknown_result, by_declaration}
+use Rattle.isle_terms.specs.TermBreaches.{of_signatures, FirstStandsAt, BreaksDeclaration, name_taken, both_marks, unknown_argument, unknown_result, by_declaration}
 use Rattle.isle_terms.specs.TermTables.{term_at}
 use Rattle.isle_terms.specs.TermViews.{term_view, term_views}
 use Rattle.isle_terms.specs.Reading.{IsWithin, Interns, MayIntern, HaveTypes, HasUnknown, IsKnownInEnv, AddsTerm, IsTakenByTerm, IsFreeOrReported, AddsOrReports, signature_entry}
@@ -209,20 +209,20 @@ module _ (defs : List Def) (i : ℕ) (d : Def) (within : i < length defs) (here 
       ∙ ap (λ l. definition_views (take i defs) ++ l) (at_drop_more definition_views defs i d within ∙ ap (λ x. definition_view x ∷ definition_views (drop (i + 1) defs)) (sym here))
 
 module _ (e : TypesRead) (r : AreReadable e) (defs read rest : List Definition) (old new : TypeEnv) (table table' : TermTable) (es es' : List Error) (m : MayIntern old new) (w : IsWithin table') where
-  other : (d : Definition) → decl_of d ≡ [] → (es' ≡ es) × (new ≡ old) × (table' ≡ table) → ReadsTerms e defs (Declaring e defs read) old table es → ReadsTerms e defs (Declaring e defs (read ++ d ∷ [])) new table' es'
+  other : (d : Definition) → decl_of d ≡ [] → (es' ≡ es) × (new ≡ old) × (table' ≡ table) → ReadsTerms e of_signatures defs (Declaring e defs read) old table es → ReadsTerms e of_signatures defs (Declaring e defs (read ++ d ∷ [])) new table' es'
   other d none same s =
       let trees : decl_trees (read ++ d ∷ []) ≡ decl_trees read = flat_map-append decl_of read (d ∷ []) ∙ ap (λ l. decl_trees read ++ (l ++ [])) none ∙ append-nil (decl_trees read) in
       let go : Declaring e defs read old table → Declaring e defs (read ++ d ∷ []) old table = λ h. record {
         has = subst (λ ds. HoldsTerms e (map (λ d. d.term.text) ds) (map (λ d. d.term.text) ds) (map (declared_alone e defs) ds) old table) (sym trees) h.has;
         right = subst (AreRightDeclarations e.known) (sym trees) h.right;
       } in
-      step e defs (Declaring e defs read) (Declaring e defs (read ++ d ∷ [])) old new table table' es es' (Unit {0}) ⊥ (left_more e r old s.left new m) w (inl (same.0, tt))
+      step e of_signatures defs (Declaring e defs read) (Declaring e defs (read ++ d ∷ [])) old new table table' es es' (Unit {0}) ⊥ (left_more e r old s.left new m) w (inl (same.0, tt))
       (λ h _. subst (λ env. Declaring e defs (read ++ d ∷ []) env table') (sym same.1) (subst (Declaring e defs (read ++ d ∷ []) old) (sym same.2) (go h)))
       (λ h x. absurd x) s
 
-  pub next : (d : Definition) → defs ≡ read ++ d ∷ rest → ReadsIfDeclared d old table es new table' es' → FirstStandsAt (definition_positions d) es es' → ReadsTerms e defs (Declaring e defs read) old table es → ReadsTerms e defs (Declaring e defs (read ++ d ∷ [])) new table' es'
+  pub next : (d : Definition) → defs ≡ read ++ d ∷ rest → ReadsIfDeclared d old table es new table' es' → FirstStandsAt (definition_positions d) es es' → ReadsTerms e of_signatures defs (Declaring e defs read) old table es → ReadsTerms e of_signatures defs (Declaring e defs (read ++ d ∷ [])) new table' es'
   next (declaration d) whole a b s =
-      step e defs (Declaring e defs read) (Declaring e defs (read ++ declaration d ∷ [])) old new table table' es es' (Declares d old new table table') (IsWrongDeclaration d old new table) (left_more e r old s.left new m) w a.reads
+      step e of_signatures defs (Declaring e defs read) (Declaring e defs (read ++ declaration d ∷ [])) old new table table' es es' (Declares d old new table table') (IsWrongDeclaration d old new table) (left_more e r old s.left new m) w a.reads
       (λ h x. right e r defs read rest d whole old table s.left h new a.interns table' x)
       (λ h x. record { positions = definition_positions (declaration d); breaks = by_declaration read rest d whole (wrong e r defs read rest d whole old table s.left h new a.interns x); begins = b }) s
   next (type_definition d) whole a b s = other (type_definition d) refl a s
@@ -235,8 +235,8 @@ module _ (e : TypesRead) (r : AreReadable e) (defs read rest : List Definition) 
 -- after the definition at i
 pub next_declaration : (e : TypesRead) → AreReadable e → (defs : List Def) (i : ℕ) (d : Def) → i < length defs → d ≡ get_or defs i d → (old new : TypeEnv) (table table' : TermTable) (es es' : List Error) → MayIntern old new → IsWithin table'
     → ReadsIfDeclared (definition_view d) old table es new table' es' → FirstStandsAt (definition_positions (definition_view d)) es es'
-    → ReadsTerms e (definition_views defs) (Declaring e (definition_views defs) (definition_views (take i defs))) old table es
-    → ReadsTerms e (definition_views defs) (Declaring e (definition_views defs) (definition_views (take (i + 1) defs))) new table' es'
+    → ReadsTerms e of_signatures (definition_views defs) (Declaring e (definition_views defs) (definition_views (take i defs))) old table es
+    → ReadsTerms e of_signatures (definition_views defs) (Declaring e (definition_views defs) (definition_views (take (i + 1) defs))) new table' es'
 next_declaration e r defs i d within here old new table table' es es' m w a b s =
-    subst (λ ds. ReadsTerms e (definition_views defs) (Declaring e (definition_views defs) ds) new table' es') (sym (taken_next defs i d within here))
+    subst (λ ds. ReadsTerms e of_signatures (definition_views defs) (Declaring e (definition_views defs) ds) new table' es') (sym (taken_next defs i d within here))
     (next e r (definition_views defs) (definition_views (take i defs)) (definition_views (drop (i + 1) defs)) old new table table' es es' m w (definition_view d) (around defs i d within here) a b s)

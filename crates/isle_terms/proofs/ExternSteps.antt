@@ -23,7 +23,7 @@ use Rattle.isle_types.specs.declared.type_env.TypeEnv.{TypeEnv}
 use Rattle.isle_types.specs.Envs.{names_of, IsInterned}
 use Rattle.isle_types.specs.EnvViews.{environment_view}
 use Rattle.isle_terms.specs.declared.term_table.TermTable.{TermTable}
-use Rattle.isle_terms.specs.TermBreaches.{FirstStandsAt, BreaksConstructor, constructor_of_none, beside_rules, second_constructor, BreaksExternal, external_of_none, second_taker, by_constructor, by_external}
+use Rattle.isle_terms.specs.TermBreaches.{of_externs, FirstStandsAt, BreaksConstructor, constructor_of_none, beside_rules, second_constructor, BreaksExternal, external_of_none, second_taker, by_constructor, by_external}
 use Rattle.isle_terms.specs.TermTables.{same_types}
 use Rattle.isle_terms.specs.Reading.{IsWithin, Interns, MayIntern, term_of_name}
 use Rattle.isle_terms.specs.Signing.{ReadsTerms, declared_so_far}
@@ -182,7 +182,7 @@ module _ (e : TypesRead) (readable : AreReadable e) (defs read rest : List Defin
   interned left = left_interned e readable old left
 
   other : (d : Definition) → function_of d ≡ [] → external_constructor_of d ≡ [] → external_extractor_of d ≡ [] → (es' ≡ es) × (new ≡ old) × (table' ≡ table)
-      → ReadsTerms e defs (ExternsRead e defs read) old table es → ReadsTerms e defs (ExternsRead e defs (read ++ d ∷ [])) new table' es'
+      → ReadsTerms e of_externs defs (ExternsRead e defs read) old table es → ReadsTerms e of_externs defs (ExternsRead e defs (read ++ d ∷ [])) new table' es'
   other d functions cs ts same s =
       let go : ExternsRead e defs read old table → ExternsRead e defs (read ++ d ∷ []) old table = λ h. record {
         stand = subst (λ fs. Stand e defs (decl_names defs ++ fs) (function_after e defs (constructor_trees (read ++ d ∷ []))) (external_after e defs (external_trees (read ++ d ∷ []))) old table) (sym (nothing_more function_of read d functions))
@@ -192,12 +192,12 @@ module _ (e : TypesRead) (readable : AreReadable e) (defs read rest : List Defin
         externals = subst (AreRightExternals defs) (sym (nothing_more external_extractor_of read d ts)) h.externals;
         conversions = h.conversions;
       } in
-      step e defs (ExternsRead e defs read) (ExternsRead e defs (read ++ d ∷ [])) old new table table' es es' (Unit {0}) ⊥ (left_more e readable old s.left new m) w (inl (same.0, tt))
+      step e of_externs defs (ExternsRead e defs read) (ExternsRead e defs (read ++ d ∷ [])) old new table table' es es' (Unit {0}) ⊥ (left_more e readable old s.left new m) w (inl (same.0, tt))
       (λ h _. subst (λ env. ExternsRead e defs (read ++ d ∷ []) env table') (sym same.1) (subst (ExternsRead e defs (read ++ d ∷ []) old) (sym same.2) (go h)))
       (λ h x. absurd x) s
 
   constructor : (term function : Name) (at : Position) → defs ≡ read ++ extern_definition (extern_constructor term function at) ∷ rest → ReadsIfExtern (extern_definition (extern_constructor term function at)) old table es new table' es' → FirstStandsAt (definition_positions (extern_definition (extern_constructor term function at))) es es'
-      → ReadsTerms e defs (ExternsRead e defs read) old table es → ReadsTerms e defs (ExternsRead e defs (read ++ extern_definition (extern_constructor term function at) ∷ [])) new table' es'
+      → ReadsTerms e of_externs defs (ExternsRead e defs read) old table es → ReadsTerms e of_externs defs (ExternsRead e defs (read ++ extern_definition (extern_constructor term function at) ∷ [])) new table' es'
   constructor term function at whole a b s =
       let d : Definition = extern_definition (extern_constructor term function at) in
       let c : ConstructorTree = record { term = term; function = function } in
@@ -207,7 +207,7 @@ module _ (e : TypesRead) (readable : AreReadable e) (defs read rest : List Defin
       let taken : List ℕ → Option ExtractorEntry = external_after e defs (external_trees read) in
       let stand = λ (h : ExternsRead e defs read old table). function_met e defs read rest d whole function.text refl (function_after e defs (constructor_trees read)) taken old table (interned s.left) h.stand new a.0 in
       let number_is = λ (h : ExternsRead e defs read old table). function_number e defs read rest d whole function.text refl (function_after e defs (constructor_trees read)) taken old table (interned s.left) h.stand new a.0 in
-      step e defs (ExternsRead e defs read) (ExternsRead e defs (read ++ d ∷ [])) old new table table' es es' (ChangesKind lacks_constructor (made_by_this (external_constructor (number (names_of old) function.text))) term new table table') ((term_of_name new table term ≡ None) ⊎ HasOtherKind lacks_constructor term new table)
+      step e of_externs defs (ExternsRead e defs read) (ExternsRead e defs (read ++ d ∷ [])) old new table table' es es' (ChangesKind lacks_constructor (made_by_this (external_constructor (number (names_of old) function.text))) term new table table') ((term_of_name new table term ≡ None) ⊎ HasOtherKind lacks_constructor term new table)
       (left_more e readable old s.left new m) w a.1
       (λ h x.
       let y = subst (λ k. ChangesKind lacks_constructor (made_by_this (external_constructor k)) term new table table') (number_is h) x in
@@ -222,7 +222,7 @@ module _ (e : TypesRead) (readable : AreReadable e) (defs read rest : List Defin
       (λ h x. record { positions = definition_positions d; breaks = by_constructor read rest term function at whole (constructor_wrong e defs (constructor_trees read) c met taken new table a.0.inverse (stand h) h.constructors x read refl); begins = b }) s
 
   extractor : (term function : Name) (at : Position) (infallible : Bool) → defs ≡ read ++ extern_definition (extern_extractor term function at infallible) ∷ rest → ReadsIfExtern (extern_definition (extern_extractor term function at infallible)) old table es new table' es' → FirstStandsAt (definition_positions (extern_definition (extern_extractor term function at infallible))) es es'
-      → ReadsTerms e defs (ExternsRead e defs read) old table es → ReadsTerms e defs (ExternsRead e defs (read ++ extern_definition (extern_extractor term function at infallible) ∷ [])) new table' es'
+      → ReadsTerms e of_externs defs (ExternsRead e defs read) old table es → ReadsTerms e of_externs defs (ExternsRead e defs (read ++ extern_definition (extern_extractor term function at infallible) ∷ [])) new table' es'
   extractor term function at infallible whole a b s =
       let d : Definition = extern_definition (extern_extractor term function at infallible) in
       let t : ExternalTree = record { term = term; function = function; infallible = infallible; at = at } in
@@ -232,7 +232,7 @@ module _ (e : TypesRead) (readable : AreReadable e) (defs read rest : List Defin
       let made : List ℕ → Option ConstructorEntry = function_after e defs (constructor_trees read) in
       let stand = λ (h : ExternsRead e defs read old table). function_met e defs read rest d whole function.text refl made (external_after e defs (external_trees read)) old table (interned s.left) h.stand new a.0 in
       let number_is = λ (h : ExternsRead e defs read old table). function_number e defs read rest d whole function.text refl made (external_after e defs (external_trees read)) old table (interned s.left) h.stand new a.0 in
-      step e defs (ExternsRead e defs read) (ExternsRead e defs (read ++ d ∷ [])) old new table table' es es' (ChangesKind lacks_extractor (taken_by_this (external_extractor (number (names_of old) function.text) infallible at)) term new table table') ((term_of_name new table term ≡ None) ⊎ HasOtherKind lacks_extractor term new table)
+      step e of_externs defs (ExternsRead e defs read) (ExternsRead e defs (read ++ d ∷ [])) old new table table' es es' (ChangesKind lacks_extractor (taken_by_this (external_extractor (number (names_of old) function.text) infallible at)) term new table table') ((term_of_name new table term ≡ None) ⊎ HasOtherKind lacks_extractor term new table)
       (left_more e readable old s.left new m) w a.1
       (λ h x.
       let y = subst (λ k. ChangesKind lacks_extractor (taken_by_this (external_extractor k infallible at)) term new table table') (number_is h) x in
@@ -246,7 +246,7 @@ module _ (e : TypesRead) (readable : AreReadable e) (defs read rest : List Defin
       })
       (λ h x. record { positions = definition_positions d; breaks = by_external read rest t whole (external_wrong e defs (external_trees read) t met made new table a.0.inverse (stand h) h.externals x read refl); begins = b }) s
 
-  pub next : (d : Definition) → defs ≡ read ++ d ∷ rest → ReadsIfExtern d old table es new table' es' → FirstStandsAt (definition_positions d) es es' → ReadsTerms e defs (ExternsRead e defs read) old table es → ReadsTerms e defs (ExternsRead e defs (read ++ d ∷ [])) new table' es'
+  pub next : (d : Definition) → defs ≡ read ++ d ∷ rest → ReadsIfExtern d old table es new table' es' → FirstStandsAt (definition_positions d) es es' → ReadsTerms e of_externs defs (ExternsRead e defs read) old table es → ReadsTerms e of_externs defs (ExternsRead e defs (read ++ d ∷ [])) new table' es'
   next (extern_definition (extern_constructor term function at)) whole a b s = constructor term function at whole a b s
   next (extern_definition (extern_extractor term function at infallible)) whole a b s = extractor term function at infallible whole a b s
   next (extern_definition (extern_const name ty at)) whole a b s = other (extern_definition (extern_const name ty at)) refl refl refl a s
@@ -260,8 +260,8 @@ module _ (e : TypesRead) (readable : AreReadable e) (defs read rest : List Defin
 -- after the definition at i
 pub next_extern : (e : TypesRead) → AreReadable e → (defs : List Def) (i : ℕ) (d : Def) → i < length defs → d ≡ get_or defs i d → (old new : TypeEnv) (table table' : TermTable) (es es' : List Error) → MayIntern old new → IsWithin table'
     → ReadsIfExtern (definition_view d) old table es new table' es' → FirstStandsAt (definition_positions (definition_view d)) es es'
-    → ReadsTerms e (definition_views defs) (ExternsRead e (definition_views defs) (definition_views (take i defs))) old table es
-    → ReadsTerms e (definition_views defs) (ExternsRead e (definition_views defs) (definition_views (take (i + 1) defs))) new table' es'
+    → ReadsTerms e of_externs (definition_views defs) (ExternsRead e (definition_views defs) (definition_views (take i defs))) old table es
+    → ReadsTerms e of_externs (definition_views defs) (ExternsRead e (definition_views defs) (definition_views (take (i + 1) defs))) new table' es'
 next_extern e r defs i d within here old new table table' es es' m w a b s =
-    subst (λ ds. ReadsTerms e (definition_views defs) (ExternsRead e (definition_views defs) ds) new table' es') (sym (taken_next defs i d within here))
+    subst (λ ds. ReadsTerms e of_externs (definition_views defs) (ExternsRead e (definition_views defs) ds) new table' es') (sym (taken_next defs i d within here))
     (next e r (definition_views defs) (definition_views (take i defs)) (definition_views (drop (i + 1) defs)) old new table table' es es' m w (definition_view d) (around defs i d within here) a b s)

@@ -22,7 +22,7 @@ use Rattle.isle_types.specs.Envs.{IsInterned}
 use Rattle.isle_types.specs.EnvViews.{environment_view}
 use Rattle.isle_terms.specs.declared.term_table.TermTable.{TermTable}
 use Rattle.isle_terms.specs.Reading.{term_of_name}
-use Rattle.isle_terms.specs.TermBreaches.{FirstStandsAt, by_recursion}
+use Rattle.isle_terms.specs.TermBreaches.{of_definitions, FirstStandsAt, by_recursion}
 use Rattle.isle_terms.specs.TermPositions.{taker_template, template_place}
 use Rattle.isle_terms.specs.TermViews.{term_views}
 use Rattle.isle_terms.specs.Stages.{constructor_after}
@@ -226,7 +226,7 @@ have_templates e readable defs cs env table left s t u entry h at =
     ap has_template r.2 ∙ found_some (extractor_trees defs) k.definition k.there
 
 -- a term that comes back to itself is that of an extractor whose pattern stands there
-return_broken : (e : TypesRead) → AreReadable e → (defs : List Definition) (cs : Callees) (env : TypeEnv) (table : TermTable) (es es' : List Error) → IsLeftByRefusal e (environment_view env) → TemplatesRead e defs defs cs env table → NotesReturn table cs es es' → Breach e.known defs es es'
+return_broken : (e : TypesRead) → AreReadable e → (defs : List Definition) (cs : Callees) (env : TypeEnv) (table : TermTable) (es es' : List Error) → IsLeftByRefusal e (environment_view env) → TemplatesRead e defs defs cs env table → NotesReturn table cs es es' → Breach e.known of_definitions defs es es'
 return_broken e readable defs cs env table es es' left s r =
     let b = back_reaches e defs cs s.right s.calls r.back.term r.back.comes in
     let k = extractor_entry e readable defs cs env table left s r.back.term b.0 b.1 b.2 r.back.entry r.back.entry_is in
@@ -240,10 +240,10 @@ return_broken e readable defs cs env table es es' left s r =
 -- the search after all extractors
 pub searched : (e : TypesRead) → AreReadable e → (defs : List Definition) (cs : Callees) (env : TypeEnv) (table : TermTable) (es es' : List Error) (b : Bool)
     → Notes es es' (EndsBelow table cs (length cs)) (NotesReturn table cs es es')
-    → ReadsTerms e defs (λ env table. (b ≡ true) × TemplatesRead e defs defs cs env table) env table es
-    → ReadsTerms e defs (ExtractorsRead e defs) env table es'
+    → ReadsTerms e of_definitions defs (λ env table. (b ≡ true) × TemplatesRead e defs defs cs env table) env table es
+    → ReadsTerms e of_definitions defs (ExtractorsRead e defs) env table es'
 searched e readable defs cs env table es es' b a s =
-    step e defs (λ env table. (b ≡ true) × TemplatesRead e defs defs cs env table) (ExtractorsRead e defs) env env table table es es' (EndsBelow table cs (length cs)) (NotesReturn table cs es es') s.left s.within a
+    step e of_definitions defs (λ env table. (b ≡ true) × TemplatesRead e defs defs cs env table) (ExtractorsRead e defs) env env table table es es' (EndsBelow table cs (length cs)) (NotesReturn table cs es es') s.left s.within a
     (λ h ends. record {
       stand = h.1.stand;
       roots = h.1.roots;

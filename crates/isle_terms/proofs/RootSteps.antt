@@ -19,7 +19,7 @@ use Rattle.isle_types.specs.Envs.{IsInterned}
 use Rattle.isle_types.specs.EnvViews.{environment_view}
 use Rattle.isle_terms.specs.declared.term_table.TermTable.{TermTable}
 use Rattle.isle_terms.specs.Reading.{IsWithin, internal_entry, root_term_id, term_of_name}
-use Rattle.isle_terms.specs.TermBreaches.{FirstStandsAt, by_rule}
+use Rattle.isle_terms.specs.TermBreaches.{of_definitions, FirstStandsAt, by_rule}
 use Rattle.isle_terms.specs.Stages.{constructor_after}
 use Rattle.isle_terms.specs.Signing.{ReadsTerms, declared_so_far}
 use Rattle.isle_terms.specs.Standing.{Stand, RootsRead, IsOfDeclared, IsOfMade, ReadsIfRule}
@@ -73,7 +73,7 @@ module _ (e : TypesRead) (defs read rest : List Definition) (r : RuleTree) (whol
       false≢true (sym other ∙ rooted)
 
 module _ (e : TypesRead) (readable : AreReadable e) (defs read rest : List Definition) (env : TypeEnv) (table table' : TermTable) (es es' : List Error) (w : IsWithin table') where
-  other : (d : Definition) → rule_of d ≡ [] → (es' ≡ es) × (table' ≡ table) → ReadsTerms e defs (RootsRead e defs read) env table es → ReadsTerms e defs (RootsRead e defs (read ++ d ∷ [])) env table' es'
+  other : (d : Definition) → rule_of d ≡ [] → (es' ≡ es) × (table' ≡ table) → ReadsTerms e of_definitions defs (RootsRead e defs read) env table es → ReadsTerms e of_definitions defs (RootsRead e defs (read ++ d ∷ [])) env table' es'
   other d none same s =
       let trees : rule_trees (read ++ d ∷ []) ≡ rule_trees read = flat_map-append rule_of read (d ∷ []) ∙ ap (λ l. rule_trees read ++ (l ++ [])) none ∙ append-nil (rule_trees read) in
       let go : RootsRead e defs read env table → RootsRead e defs (read ++ d ∷ []) env table = λ h. record {
@@ -81,13 +81,13 @@ module _ (e : TypesRead) (readable : AreReadable e) (defs read rest : List Defin
         roots = subst (All (HasDeclaredRoot defs)) (sym trees) h.roots;
         converters = h.converters;
       } in
-      step e defs (RootsRead e defs read) (RootsRead e defs (read ++ d ∷ [])) env env table table' es es' (Unit {0}) ⊥ s.left w (inl (same.0, tt))
+      step e of_definitions defs (RootsRead e defs read) (RootsRead e defs (read ++ d ∷ [])) env env table table' es es' (Unit {0}) ⊥ s.left w (inl (same.0, tt))
       (λ h _. subst (RootsRead e defs (read ++ d ∷ []) env) (sym same.1) (go h))
       (λ h x. absurd x) s
 
-  next : (d : Definition) → defs ≡ read ++ d ∷ rest → ReadsIfRule d env table es table' es' → FirstStandsAt (definition_positions d) es es' → ReadsTerms e defs (RootsRead e defs read) env table es → ReadsTerms e defs (RootsRead e defs (read ++ d ∷ [])) env table' es'
+  next : (d : Definition) → defs ≡ read ++ d ∷ rest → ReadsIfRule d env table es table' es' → FirstStandsAt (definition_positions d) es es' → ReadsTerms e of_definitions defs (RootsRead e defs read) env table es → ReadsTerms e of_definitions defs (RootsRead e defs (read ++ d ∷ [])) env table' es'
   next (rule_definition r) whole a b s =
-      step e defs (RootsRead e defs read) (RootsRead e defs (read ++ rule_definition r ∷ [])) env env table table' es es' (IsOfDeclared r env table table') ((root_term_id env table r ≡ None) ⊎ IsOfMade r env table) s.left w a
+      step e of_definitions defs (RootsRead e defs read) (RootsRead e defs (read ++ rule_definition r ∷ [])) env env table table' es es' (IsOfDeclared r env table table') ((root_term_id env table r ≡ None) ⊎ IsOfMade r env table) s.left w a
       (λ h x. rule_rooted e defs read rest r whole env table s.left readable h table' x)
       (λ h x. record { positions = definition_positions (rule_definition r); breaks = by_rule read rest r whole (rule_unrooted e defs read rest r whole env table s.left readable h x); begins = b }) s
   next (declaration d) whole a b s = other (declaration d) refl a s
@@ -100,8 +100,8 @@ module _ (e : TypesRead) (readable : AreReadable e) (defs read rest : List Defin
 -- after the definition at i
 pub next_rule_root : (e : TypesRead) → AreReadable e → (defs : List Def) (i : ℕ) (d : Def) → i < length defs → d ≡ get_or defs i d → (env : TypeEnv) (table table' : TermTable) (es es' : List Error) → IsWithin table'
     → ReadsIfRule (definition_view d) env table es table' es' → FirstStandsAt (definition_positions (definition_view d)) es es'
-    → ReadsTerms e (definition_views defs) (RootsRead e (definition_views defs) (definition_views (take i defs))) env table es
-    → ReadsTerms e (definition_views defs) (RootsRead e (definition_views defs) (definition_views (take (i + 1) defs))) env table' es'
+    → ReadsTerms e of_definitions (definition_views defs) (RootsRead e (definition_views defs) (definition_views (take i defs))) env table es
+    → ReadsTerms e of_definitions (definition_views defs) (RootsRead e (definition_views defs) (definition_views (take (i + 1) defs))) env table' es'
 next_rule_root e r defs i d within here env table table' es es' w a b s =
-    subst (λ ds. ReadsTerms e (definition_views defs) (RootsRead e (definition_views defs) ds) env table' es') (sym (taken_next defs i d within here))
+    subst (λ ds. ReadsTerms e of_definitions (definition_views defs) (RootsRead e (definition_views defs) ds) env table' es') (sym (taken_next defs i d within here))
     (next e r (definition_views defs) (definition_views (take i defs)) (definition_views (drop (i + 1) defs)) env table table' es es' w (definition_view d) (around defs i d within here) a b s)

@@ -30,7 +30,7 @@ use Rattle.isle_types.specs.Envs.{IsInterned}
 use Rattle.isle_types.specs.EnvViews.{environment_view}
 use Rattle.isle_terms.specs.declared.term_table.TermTable.{TermTable}
 use Rattle.isle_terms.specs.Reading.{IsWithin, term_of_name}
-use Rattle.isle_terms.specs.TermBreaches.{FirstStandsAt, BreaksExtractor, extractor_of_none, second_extractor, extractor_of_multi, unknown_term, holds_macro_arg, argument_past, by_extractor}
+use Rattle.isle_terms.specs.TermBreaches.{of_definitions, FirstStandsAt, BreaksExtractor, extractor_of_none, second_extractor, extractor_of_multi, unknown_term, holds_macro_arg, argument_past, by_extractor}
 use Rattle.isle_terms.specs.Stages.{constructor_after, place_among}
 use Rattle.isle_terms.specs.Signing.{ReadsTerms, declared_so_far}
 use Rattle.isle_terms.specs.Standing.{Stand, is_declared_kind}
@@ -247,7 +247,7 @@ module _ (e : TypesRead) (readable : AreReadable e) (defs read rest : List Defin
   abbrev Goes : Definition → TypeEnv → TermTable → Type 0
   Goes d env table = (b ≡ true) × TemplatesRead e defs (read ++ d ∷ []) callees' env table
 
-  other : (d : Definition) → extractor_of d ≡ [] → (es' ≡ es) × (table' ≡ table) × (callees' ≡ callees) × (b ≡ true) → ReadsTerms e defs (TemplatesRead e defs read callees) env table es → ReadsTerms e defs (Goes d) env table' es'
+  other : (d : Definition) → extractor_of d ≡ [] → (es' ≡ es) × (table' ≡ table) × (callees' ≡ callees) × (b ≡ true) → ReadsTerms e of_definitions defs (TemplatesRead e defs read callees) env table es → ReadsTerms e of_definitions defs (Goes d) env table' es'
   other d none same s =
       let trees : extractor_trees (read ++ d ∷ []) ≡ extractor_trees read = flat_map-append extractor_of read (d ∷ []) ∙ ap (λ l. extractor_trees read ++ (l ++ [])) none ∙ append-nil (extractor_trees read) in
       let go : TemplatesRead e defs read callees env table → TemplatesRead e defs (read ++ d ∷ []) callees env table = λ h. record {
@@ -257,13 +257,13 @@ module _ (e : TypesRead) (readable : AreReadable e) (defs read rest : List Defin
         calls = subst (λ es. CallsAreOf e defs es callees) (sym trees) h.calls;
         converters = h.converters;
       } in
-      step e defs (TemplatesRead e defs read callees) (Goes d) env env table table' es es' (Unit {0}) ⊥ s.left w (inl (same.0, tt))
+      step e of_definitions defs (TemplatesRead e defs read callees) (Goes d) env env table table' es es' (Unit {0}) ⊥ s.left w (inl (same.0, tt))
       (λ h _. (same.3, subst (λ cs. TemplatesRead e defs (read ++ d ∷ []) cs env table') (sym same.2) (subst (TemplatesRead e defs (read ++ d ∷ []) callees env) (sym same.1) (go h))))
       (λ h x. absurd x) s
 
-  next : (d : Definition) → defs ≡ read ++ d ∷ rest → ReadsIfTemplate d env table callees es table' callees' es' b → FirstStandsAt (definition_positions d) es es' → ReadsTerms e defs (TemplatesRead e defs read callees) env table es → ReadsTerms e defs (Goes d) env table' es'
+  next : (d : Definition) → defs ≡ read ++ d ∷ rest → ReadsIfTemplate d env table callees es table' callees' es' b → FirstStandsAt (definition_positions d) es es' → ReadsTerms e of_definitions defs (TemplatesRead e defs read callees) env table es → ReadsTerms e of_definitions defs (Goes d) env table' es'
   next (extractor_definition x) whole a f s =
-      step e defs (TemplatesRead e defs read callees) (Goes (extractor_definition x)) env env table table' es es' ((b ≡ true) × IsExtractor x env table table' callees callees') ((term_of_name env table x.term ≡ None) ⊎ IsWrongOfTerm x env table) s.left w a
+      step e of_definitions defs (TemplatesRead e defs read callees) (Goes (extractor_definition x)) env env table table' es es' ((b ≡ true) × IsExtractor x env table table' callees callees') ((term_of_name env table x.term ≡ None) ⊎ IsWrongOfTerm x env table) s.left w a
       (λ h r. (r.0, template_right e readable defs read rest x whole env table callees s.left h table' callees' r.1))
       (λ h r. record { positions = definition_positions (extractor_definition x); breaks = by_extractor read rest x whole (template_wrong e readable defs read rest x whole env table callees s.left h r); begins = f }) s
   next (declaration d) whole a f s = other (declaration d) refl a s
@@ -276,8 +276,8 @@ module _ (e : TypesRead) (readable : AreReadable e) (defs read rest : List Defin
 -- after the definition at i
 pub next_template : (e : TypesRead) → AreReadable e → (defs : List Def) (i : ℕ) (d : Def) → i < length defs → d ≡ get_or defs i d → (env : TypeEnv) (table table' : TermTable) (callees callees' : List (Vec TermId Global)) (es es' : List Error) (b : Bool) → IsWithin table'
     → ReadsIfTemplate (definition_view d) env table callees es table' callees' es' b → FirstStandsAt (definition_positions (definition_view d)) es es'
-    → ReadsTerms e (definition_views defs) (TemplatesRead e (definition_views defs) (definition_views (take i defs)) callees) env table es
-    → ReadsTerms e (definition_views defs) (λ env table. (b ≡ true) × TemplatesRead e (definition_views defs) (definition_views (take (i + 1) defs)) callees' env table) env table' es'
+    → ReadsTerms e of_definitions (definition_views defs) (TemplatesRead e (definition_views defs) (definition_views (take i defs)) callees) env table es
+    → ReadsTerms e of_definitions (definition_views defs) (λ env table. (b ≡ true) × TemplatesRead e (definition_views defs) (definition_views (take (i + 1) defs)) callees' env table) env table' es'
 next_template e r defs i d within here env table table' callees callees' es es' b w a f s =
-    subst (λ ds. ReadsTerms e (definition_views defs) (λ env table. (b ≡ true) × TemplatesRead e (definition_views defs) ds callees' env table) env table' es') (sym (taken_next defs i d within here))
+    subst (λ ds. ReadsTerms e of_definitions (definition_views defs) (λ env table. (b ≡ true) × TemplatesRead e (definition_views defs) ds callees' env table) env table' es') (sym (taken_next defs i d within here))
     (next e r (definition_views defs) (definition_views (take i defs)) (definition_views (drop (i + 1) defs)) env table table' callees callees' es es' b w (definition_view d) (around defs i d within here) a f s)

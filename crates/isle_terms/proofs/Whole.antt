@@ -29,7 +29,8 @@ use Rattle.isle_types.specs.EnvViews.{environment_view}
 use Rattle.isle_types.specs.TypePositions.{entry_positions}
 use Rattle.isle_types.specs.TypeViews.{type_views}
 use Rattle.isle_terms.specs.declared.term_table.TermTable.{TermTable}
-use Rattle.isle_terms.specs.TermBreaches.{by_made, FirstBreaksTerms}
+use Rattle.isle_terms.specs.TermBreaches.{TermGroup, of_signatures, of_definitions, of_converters, of_externs, by_made, FirstBreaksTerms, FirstBreaksGroup}
+use Rattle.isle_terms.specs.TermErrors.{AreRightSignatures, AreRightDefinitions, AreRightConverters}
 use Rattle.isle_terms.specs.TermTables.{term_at}
 use Rattle.isle_terms.specs.TermViews.{term_view}
 use Rattle.isle_terms.specs.Reading.{IsWithin}
@@ -43,11 +44,11 @@ use Rattle.isle_terms.specs.Whole.{shown_by}
 use Rattle.isle_terms.proofs.Breaches.{Breach}
 use Rattle.isle_terms.proofs.Broken.{breaks_invalid}
 use Rattle.isle_terms.proofs.Making.{met_left, met_right, texts_behind}
-use Rattle.isle_terms.proofs.Noting.{reads_as, step}
+use Rattle.isle_terms.proofs.Noting.{reads_next, step}
 use Rattle.isle_terms.proofs.TypesStaying.{left_distinct, left_interned}
 
 -- before the first definition
-pub first_declared : (e : TypesRead) (defs : List Definition) (env : TypeEnv) (table : TermTable) (es : List Error) → IsReadAs (environment_view env) e → table.terms.items ≡ [] → ((k : ℕ) → term_at table k ≡ None) → HasNoConverter table → es ≡ [] → ReadsTerms e defs (Declaring e defs []) env table es
+pub first_declared : (e : TypesRead) (defs : List Definition) (env : TypeEnv) (table : TermTable) (es : List Error) → IsReadAs (environment_view env) e → table.terms.items ≡ [] → ((k : ℕ) → term_at table k ≡ None) → HasNoConverter table → es ≡ [] → ReadsTerms e of_signatures defs (Declaring e defs []) env table es
 first_declared e defs env table es r terms ids converters none = record {
   left = record { more = []; types = subst (λ ns. IsReadAs (environment_view env) (with_read_names e ns)) (sym (append-nil e.known.names)) r };
   within = λ k n h. let a = ids k in absurd (cc);
@@ -73,7 +74,7 @@ made_met : (e : TypesRead) → IsWellFormed e.known → NumbersAreMet e (flat_ma
 made_met e w = all_made_only (λ n. n < length e.known.names) e.known.types (recursion_from_All (λ n. n < length e.known.names) (flat_map entry_numbers e.known.types) w.numbers_in_range)
 
 -- a type whose terms have a name that is taken
-made_broken : (e : TypesRead) → AreReadable e → (defs : List Definition) (env : TypeEnv) (old : TermTable) (es es' : List Error) → IsInterned env → Declaring e defs defs env old → TakesNames e.known.types old es es' → Breach e.known defs es es'
+made_broken : (e : TypesRead) → AreReadable e → (defs : List Definition) (env : TypeEnv) (old : TermTable) (es es' : List Error) → IsInterned env → Declaring e defs defs env old → TakesNames e.known.types old es es' → Breach e.known of_signatures defs es es'
 made_broken e readable defs env old es es' i h t =
     let front : List ℕ = flat_map made_by t.before in
     let numbers = ap (flat_map made_by) t.whole ∙ flat_map-append made_by t.before (t.entry ∷ t.after) in
@@ -100,12 +101,12 @@ made_broken e readable defs env old es es' i h t =
 -- after the terms that types make
 pub made_after : (e : TypesRead) → AreReadable e → (defs : List Definition) (env : TypeEnv) (table table' : TermTable) (es es' : List Error) → IsWithin table'
     → AddsAllMade (type_views env.types.items) table es table' es'
-    → ReadsTerms e defs (Declaring e defs defs) env table es → ReadsTerms e defs (RootsRead e defs []) env table' es'
+    → ReadsTerms e of_signatures defs (Declaring e defs defs) env table es → ReadsTerms e of_signatures defs (RootsRead e defs []) env table' es'
 made_after e readable defs env table table' es es' w a s =
     let ts : List TypeEntry = e.known.types in
     let b : AddsAllMade ts table es table' es' = subst (λ l. AddsAllMade l table es table' es') s.left.types.types a in
     let interned : IsInterned env = left_interned e readable env s.left in
-    step e defs (Declaring e defs defs) (RootsRead e defs []) env env table table' es es' (GrowsBy (flat_map made_by ts) (flat_map terms_made ts) table table') (TakesNames ts table es es') s.left w b
+    step e of_signatures defs (Declaring e defs defs) (RootsRead e defs []) env env table table' es es' (GrowsBy (flat_map made_by ts) (flat_map terms_made ts) table table') (TakesNames ts table es es') s.left w b
     (λ h g.
     let grown = g e (decl_names defs) (decl_names defs) (map (declared_alone e defs) (decl_trees defs)) env interned (made_met e readable.well_formed) h.has in
     record {
@@ -119,8 +120,8 @@ not_first : (es : List Error) (first : Error) (rest : List Error) → es ≡ [] 
 not_first es first rest none is = let both : [] ≡ first ∷ rest = sym none ∙ is in absurd (cc)
 
 -- what is right where nothing was noted
-pub right_now : (e : TypesRead) (defs : List Definition) (A : TypeEnv → TermTable → Type 0) (env : TypeEnv) (table : TermTable) (es : List Error) → ReadsTerms e defs A env table es → es ≡ [] → A env table
-right_now e defs A env table es s none = ⊎_elim (λ r. r.1) (λ f. absurd (not_first es f.first f.rest none f.is)) s.so_far
+pub right_now : (e : TypesRead) (group : TermGroup) (defs : List Definition) (A : TypeEnv → TermTable → Type 0) (env : TypeEnv) (table : TermTable) (es : List Error) → ReadsTerms e group defs A env table es → es ≡ [] → A env table
+right_now e group defs A env table es s none = ⊎_elim (λ r. r.1) (λ f. absurd (not_first es f.first f.rest none f.is)) s.so_far
 
 same_entries : (f g : DeclTree → ℕ → TermEntry) (fs : List (ℕ → TermEntry)) → ((d : DeclTree) (i : ℕ) → f d i ≡ g d i) → (n : ℕ) (ds : List DeclTree) → with_ids n (map f ds ++ fs) ≡ with_ids n (map g ds ++ fs)
 same_entries f g fs h n [] = refl
@@ -142,9 +143,9 @@ template_or e defs x =
     ] refl
 
 -- before the converters
-pub first_converter : (e : TypesRead) (defs : List Definition) (env : TypeEnv) (table : TermTable) (es : List Error) → ReadsTerms e defs (ExtractorsRead e defs) env table es → ReadsTerms e defs (ConvertersRead e defs []) env table es
-first_converter e defs env table es s =
-    reads_as e defs (ExtractorsRead e defs) (ConvertersRead e defs []) env table es (λ h. record {
+pub first_converter : (e : TypesRead) (defs : List Definition) (env : TypeEnv) (table : TermTable) (es : List Error) → es ≡ [] → ReadsTerms e of_definitions defs (ExtractorsRead e defs) env table es → ReadsTerms e of_converters defs (ConvertersRead e defs []) env table es
+first_converter e defs env table es none s =
+    reads_next e of_definitions of_converters defs (ExtractorsRead e defs) (ConvertersRead e defs []) env table es none (λ h. record {
       stand = h.stand;
       known = All-nil _;
       distinct = λ j k x p q. absurd (cc);
@@ -152,9 +153,9 @@ first_converter e defs env table es s =
     }) s
 
 -- before the external functions
-pub first_extern : (e : TypesRead) (defs : List Definition) (env : TypeEnv) (table : TermTable) (es : List Error) → IsDistinct (internal_extractors defs) → ReadsTerms e defs (ConvertersRead e defs defs) env table es → ReadsTerms e defs (ExternsRead e defs []) env table es
-first_extern e defs env table es once s =
-    reads_as e defs (ConvertersRead e defs defs) (ExternsRead e defs []) env table es (λ h. record {
+pub first_extern : (e : TypesRead) (defs : List Definition) (env : TypeEnv) (table : TermTable) (es : List Error) → IsDistinct (internal_extractors defs) → es ≡ [] → ReadsTerms e of_converters defs (ConvertersRead e defs defs) env table es → ReadsTerms e of_externs defs (ExternsRead e defs []) env table es
+first_extern e defs env table es once none s =
+    reads_next e of_converters of_externs defs (ConvertersRead e defs defs) (ExternsRead e defs []) env table es none (λ h. record {
       stand = record {
         names = h.stand.names ∙ ap (with_names e.known.names) (sym (append-nil (decl_names defs)));
         finds = h.stand.finds;
@@ -237,18 +238,35 @@ all_read e readable defs env old table before left x cr s = (valid, record { val
     types : IsReadAs (environment_view env) (with_read_names e (term_names_met e.known defs))
     types = subst (λ ns. IsReadAs (environment_view env) (with_read_names e ns)) (sym left.types.names ∙ s.stand.names) left.types
 
--- errors after one of the groups: the first one stands where a condition is broken
-pub first_broken : (e : TypesRead) (defs : List Definition) (A : TypeEnv → TermTable → Type 0) (env : TypeEnv) (table : TermTable) (es : List Error) → ReadsTerms e defs A env table es → (length es ≡ 0 → ⊥) → FirstBreaksTerms e.known defs es
-first_broken e defs A env table es s some = ⊎_elim (λ r. absurd (some (ap length r.0))) (λ f. f) s.so_far
+-- before the rules
+pub first_definition : (e : TypesRead) (defs : List Definition) (env : TypeEnv) (table : TermTable) (es : List Error) → es ≡ [] → ReadsTerms e of_signatures defs (RootsRead e defs []) env table es → ReadsTerms e of_definitions defs (RootsRead e defs []) env table es
+first_definition e defs env table es none s = reads_next e of_signatures of_definitions defs (RootsRead e defs []) (RootsRead e defs []) env table es none (λ h. h) s
 
--- so there are some, and the definitions aren't valid
-pub not_read : (e : TypesRead) (defs : List Definition) (A : TypeEnv → TermTable → Type 0) (env : TypeEnv) (table : TermTable) (es : List Error) → ReadsTerms e defs A env table es → (length es ≡ 0 → ⊥) → (es ≡ [] → ⊥) × (IsValidTerms e.known defs → ⊥)
-not_read e defs A env table es s some =
-    let first = first_broken e defs A env table es s some in
-    (λ none. some (ap length none), breaks_invalid e.known defs first.positions first.breaks)
+-- errors after one of the groups: the first one stands where a condition of the group is broken
+module _ (e : TypesRead) (group : TermGroup) (defs : List Definition) (A : TypeEnv → TermTable → Type 0) (env : TypeEnv) (table : TermTable) (es : List Error) (s : ReadsTerms e group defs A env table es) (some : length es ≡ 0 → ⊥) where
+  pub first_of_group : FirstBreaksGroup e.known group defs es
+  first_of_group = ⊎_elim (λ r. absurd (some (ap length r.0))) (λ f. f) s.so_far
 
--- and are refused
-pub why_refused : (e : TypesRead) (defs : List Definition) (A : TypeEnv → TermTable → Type 0) (env : TypeEnv) (table : TermTable) (es : List Error) → ReadsTerms e defs A env table es → (length es ≡ 0 → ⊥) → RefusesTerms e defs (error_views es)
-why_refused e defs A env table es s some =
-    let n = not_read e defs A env table es s some in
-    record { some_error = some_views es n.0; forms = forms_of es s.ill_typed; not_valid = n.1 }
+  pub first_broken : FirstBreaksTerms e.known defs es
+  first_broken =
+      let f = first_of_group in
+      record { first = f.first; rest = f.rest; is = f.is; positions = f.positions; breaks = record { group = group; breaks = f.breaks }; stands = f.stands }
+
+  -- so there are some, and the definitions aren't valid
+  pub not_read : (es ≡ [] → ⊥) × (IsValidTerms e.known defs → ⊥)
+  not_read = (λ none. some (ap length none), breaks_invalid e.known defs (first_broken).positions (first_broken).breaks)
+
+  -- and are refused
+  pub why_refused : RefusesTerms e defs (error_views es)
+  why_refused = record { some_error = some_views es (not_read).0; forms = forms_of es s.ill_typed; not_valid = (not_read).1 }
+
+-- what is right after the first groups
+module _ (e : TypesRead) (defs : List Definition) (env : TypeEnv) (table : TermTable) where
+  pub signatures_right : RootsRead e defs [] env table → AreRightSignatures e defs
+  signatures_right r = record { distinct = r.stand.distinct; declarations = r.stand.right }
+
+  pub definitions_right : ExtractorsRead e defs env table → AreRightDefinitions e defs
+  definitions_right x = record { roots = x.roots; extractors = x.right; acyclic = x.acyclic }
+
+  pub converters_right : ConvertersRead e defs defs env table → AreRightConverters e defs
+  converters_right c = record { known = c.known; distinct = c.distinct }

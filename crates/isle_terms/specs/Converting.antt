@@ -13,13 +13,14 @@ use Rattle.isle_model.specs.claims.Environments.{TypesRead}
 use Rattle.isle_base.specs.declared.syntax.Error.{Error}
 use Rattle.isle_base.specs.Stable.{look_up}
 use Rattle.isle_types.specs.declared.ids.TypeId.{TypeId}
+use Rattle.isle_base.specs.Positions.{converter_positions}
+use Rattle.isle_types.specs.Telling.{Notes}
 use Rattle.isle_types.specs.declared.type_env.TypeEnv.{TypeEnv}
 use Rattle.isle_types.specs.Envs.{type_of_name}
 use Rattle.isle_terms.specs.declared.term_table.TermTable.{TermTable}
 use Rattle.isle_terms.specs.TermTables.{same_types}
 use Rattle.isle_terms.specs.Reading.{term_of_name}
 use Rattle.isle_terms.specs.Stages.{constructor_after}
-use Rattle.isle_terms.specs.Signing.{Notes}
 use Rattle.isle_terms.specs.Standing.{Stand}
 
 -- a type by its id
@@ -76,8 +77,10 @@ abbrev pub IsWrongConverter : ConverterTree → TypeEnv → TermTable → Type 0
 IsWrongConverter c env old =
     (type_of_name env c.inner_ty.text ≡ None) ⊎ ((type_of_name env c.outer_ty.text ≡ None) ⊎ ((term_of_name env old c.term ≡ None) ⊎ IsConverted c env old))
 
+-- a converter is read, or one error is noted at its positions and nothing changes
 abbrev pub ReadsConverter : ConverterTree → TypeEnv → TermTable → List Error → TermTable → List Error → Type 0
-ReadsConverter c env old es new es' = Notes es es' (Converts c env old new) (IsWrongConverter c env old)
+ReadsConverter c env old es new es' =
+    ((es' ≡ es) × Converts c env old new) ⊎ (Notes 1 (converter_positions c) es es' × (new ≡ old) × IsWrongConverter c env old)
 
 -- a definition is read, if it is a converter
 abbrev pub ReadsIfConverter : Definition → TypeEnv → TermTable → List Error → TermTable → List Error → Type 0

@@ -14,3 +14,4 @@ pub mod Recursion
 pub mod Whole
 pub mod TermPositions
 pub mod TermBreaches
+pub mod TermErrors

@@ -16,7 +16,7 @@ use Rattle.isle_types.specs.EnvViews.{environment_view}
 use Rattle.isle_base.specs.Noting.{AreIllTyped, NotesMore}
 use Rattle.isle_terms.specs.declared.term_table.TermTable.{TermTable}
 use Rattle.isle_types.specs.TypePositions.{entry_positions}
-use Rattle.isle_terms.specs.TermBreaches.{FirstStandsAt, FirstBreaksTerms}
+use Rattle.isle_terms.specs.TermBreaches.{TermGroup, FirstStandsAt, FirstBreaksGroup}
 use Rattle.isle_terms.specs.TermTables.{term_at}
 use Rattle.isle_terms.specs.TermViews.{term_views}
 use Rattle.isle_terms.specs.Reading.{IsWithin, Interns, AddsTerm, IsTakenByTerm, HasUnknown}
@@ -26,17 +26,17 @@ use Rattle.isle_terms.specs.Stages.{Finds, place_among, HasNoConverter}
 abbrev pub Notes : List Error → List Error → Type 0 → Type 0 → Type 0
 Notes es es' Right Wrong = ((es' ≡ es) × Right) ⊎ (NotesMore es es' × Wrong)
 
--- there is no error so far, or the first one stands where a condition is broken
-abbrev pub SoFarByTypes : KnownTypes → List Definition → List Error → Type 0 → Type 0
-SoFarByTypes k defs es Right = ((es ≡ []) × Right) ⊎ FirstBreaksTerms k defs es
+-- there is no error so far, or the first one stands where a condition of the group is broken
+abbrev pub SoFarByTypes : KnownTypes → TermGroup → List Definition → List Error → Type 0 → Type 0
+SoFarByTypes k group defs es Right = ((es ≡ []) × Right) ⊎ FirstBreaksGroup k group defs es
 
 -- names were met and all else of the types stays; looked-up terms are terms of the table; each error says that
 -- something isn't right; and where there is no error the table is right so far
-pub record ReadsTerms (e : TypesRead) (defs : List Definition) (Right : TypeEnv → TermTable → Type 0) (env : TypeEnv) (table : TermTable) (es : List Error) : Type 0 where
+pub record ReadsTerms (e : TypesRead) (group : TermGroup) (defs : List Definition) (Right : TypeEnv → TermTable → Type 0) (env : TypeEnv) (table : TermTable) (es : List Error) : Type 0 where
   pub left : IsLeftByRefusal e (environment_view env)
   pub within : IsWithin table
   pub ill_typed : AreIllTyped es
-  pub so_far : SoFarByTypes e.known defs es (Right env table)
+  pub so_far : SoFarByTypes e.known group defs es (Right env table)
 
 -- terms, each with its id, from this id on
 abbrev pub with_ids : ℕ → List (ℕ → TermEntry) → List TermEntry

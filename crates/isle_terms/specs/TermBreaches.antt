@@ -54,19 +54,41 @@ pub data BreaksExternal (defs before : List Definition) (t : ExternalTree) : Typ
   external_of_none : (IsDeclaredTerm defs t.term → ⊥) → BreaksExternal defs before t
   second_taker : Contains (internal_extractors defs ++ external_extractors before) t.term.text → BreaksExternal defs before t
 
--- a definition, or a type that is known, breaks a condition: an error on it stands at its positions. On an internal extractor
+-- the groups in which terms are read: declarations and the terms that types make; rules' terms and internal extractors;
+-- converters; external functions
+pub data TermGroup : Type 0 where
+  of_signatures : TermGroup
+  of_definitions : TermGroup
+  of_converters : TermGroup
+  of_externs : TermGroup
+
+-- a definition, or a type that is known, breaks a condition of a group: an error on it stands at its positions. On an internal extractor
 -- that comes back to itself one stands at its pattern
-pub data BreaksTerms (k : KnownTypes) (defs : List Definition) : List Position → Type 0 where
-  by_declaration : (before after : List Definition) (d : DeclTree) → defs ≡ before ++ declaration d ∷ after → BreaksDeclaration k before d → BreaksTerms k defs (definition_positions (declaration d))
-  by_made : (before after : List TypeEntry) (t : TypeEntry) → k.types ≡ before ++ t ∷ after → BreaksMade k defs before t → BreaksTerms k defs (entry_positions t)
-  by_rule : (before after : List Definition) (r : RuleTree) → defs ≡ before ++ rule_definition r ∷ after → (HasDeclaredRoot defs r → ⊥) → BreaksTerms k defs (definition_positions (rule_definition r))
-  by_extractor : (before after : List Definition) (x : ExtractorTree) → defs ≡ before ++ extractor_definition x ∷ after → BreaksExtractor k defs before x → BreaksTerms k defs (definition_positions (extractor_definition x))
-  by_recursion : (x : ExtractorTree) → Contains (extractor_trees defs) x → Reaches defs x.term.text x.term.text → BreaksTerms k defs (pattern_position x.template ∷ [])
-  by_converter : (before after : List Definition) (c : ConverterTree) → defs ≡ before ++ converter_definition c ∷ after → BreaksConverter k defs before c → BreaksTerms k defs (definition_positions (converter_definition c))
+pub data BreaksGroup (k : KnownTypes) (defs : List Definition) : TermGroup → List Position → Type 0 where
+  by_declaration : (before after : List Definition) (d : DeclTree) → defs ≡ before ++ declaration d ∷ after → BreaksDeclaration k before d → BreaksGroup k defs of_signatures (definition_positions (declaration d))
+  by_made : (before after : List TypeEntry) (t : TypeEntry) → k.types ≡ before ++ t ∷ after → BreaksMade k defs before t → BreaksGroup k defs of_signatures (entry_positions t)
+  by_rule : (before after : List Definition) (r : RuleTree) → defs ≡ before ++ rule_definition r ∷ after → (HasDeclaredRoot defs r → ⊥) → BreaksGroup k defs of_definitions (definition_positions (rule_definition r))
+  by_extractor : (before after : List Definition) (x : ExtractorTree) → defs ≡ before ++ extractor_definition x ∷ after → BreaksExtractor k defs before x → BreaksGroup k defs of_definitions (definition_positions (extractor_definition x))
+  by_recursion : (x : ExtractorTree) → Contains (extractor_trees defs) x → Reaches defs x.term.text x.term.text → BreaksGroup k defs of_definitions (pattern_position x.template ∷ [])
+  by_converter : (before after : List Definition) (c : ConverterTree) → defs ≡ before ++ converter_definition c ∷ after → BreaksConverter k defs before c → BreaksGroup k defs of_converters (definition_positions (converter_definition c))
   by_constructor : (before after : List Definition) (term function : Name) (at : Position) → defs ≡ before ++ extern_definition (extern_constructor term function at) ∷ after
-      → BreaksConstructor defs before (record { term = term; function = function }) → BreaksTerms k defs (definition_positions (extern_definition (extern_constructor term function at)))
+      → BreaksConstructor defs before (record { term = term; function = function }) → BreaksGroup k defs of_externs (definition_positions (extern_definition (extern_constructor term function at)))
   by_external : (before after : List Definition) (t : ExternalTree) → defs ≡ before ++ extern_definition (extern_extractor t.term t.function t.at t.infallible) ∷ after
-      → BreaksExternal defs before t → BreaksTerms k defs (definition_positions (extern_definition (extern_extractor t.term t.function t.at t.infallible)))
+      → BreaksExternal defs before t → BreaksGroup k defs of_externs (definition_positions (extern_definition (extern_extractor t.term t.function t.at t.infallible)))
+
+-- a condition of some group is broken
+pub record BreaksTerms (k : KnownTypes) (defs : List Definition) (positions : List Position) : Type 0 where
+  pub group : TermGroup
+  pub breaks : BreaksGroup k defs group positions
+
+-- the first of these errors stands where a condition of a group is broken
+pub record FirstBreaksGroup (k : KnownTypes) (group : TermGroup) (defs : List Definition) (errors : List Error) : Type 0 where
+  pub first : Error
+  pub rest : List Error
+  pub is : errors ≡ first ∷ rest
+  pub positions : List Position
+  pub breaks : BreaksGroup k defs group positions
+  pub stands : ErrorStandsAt positions first
 
 -- the first of these errors stands where a condition is broken
 pub record FirstBreaksTerms (k : KnownTypes) (defs : List Definition) (errors : List Error) : Type 0 where

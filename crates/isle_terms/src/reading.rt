@@ -7,6 +7,7 @@ ghost use Rattle.isle_base.specs.SyntaxViews.{decl_view, name_view, position};
 ghost use Rattle.isle_types.specs.Envs.{names_of, IsInterned};
 ghost use Rattle.isle_model.specs.lists.Names.{number};
 ghost use Rattle.isle_base.specs.Noting.{NotesMore};
+ghost use Rattle.isle_types.specs.Telling.{Notes};
 ghost use Rattle.isle_terms.specs.TermBreaches.{FirstStandsAt};
 ghost use Rattle.isle_terms.specs.TermTables.{term_at};
 ghost use Rattle.isle_terms.specs.TermViews.{term_view, term_views};
@@ -173,6 +174,7 @@ pub(crate) fn report_name(
 ) -> Result<(), AllocError>
     ensures noted { OnOk result (NotesMore errors.old.items errors.new.items) }
     ensures places { OnOk result (NotesAt (position pos ∷ []) errors.old.items errors.new.items) }
+    ensures told { OnOk result (Notes 1 (position pos ∷ []) errors.old.items errors.new.items) }
 {
     let alloc = *errors.allocator();
     let msg = format!(in alloc; "{what} '{}'", name.0)?;

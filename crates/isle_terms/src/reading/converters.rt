@@ -5,7 +5,10 @@ ghost use Rattle.isle_model.specs.claims.Environments.{TypesRead, AreReadable};
 ghost use Rattle.isle_base.specs.Positions.{NotesAt, converter_positions, definition_positions, positions_of};
 ghost use Rattle.isle_base.specs.SyntaxViews.{converter_view, definition_view, definition_views, position};
 ghost use Rattle.isle_base.specs.Noting.{NotesMore};
+ghost use Rattle.isle_types.specs.Telling.{Notes, NotesEach};
+ghost use Rattle.isle_terms.specs.TermErrors.{TellsOfConverter};
 ghost use Rattle.isle_terms.specs.Reading.{IsWithin};
+ghost use Rattle.isle_terms.specs.TermBreaches.{of_converters};
 ghost use Rattle.isle_terms.specs.Signing.{ReadsTerms};
 ghost use Rattle.isle_terms.specs.Converting.{ConvertersRead, ReadsConverter, ReadsIfConverter};
 
@@ -25,10 +28,12 @@ impl TermTable {
     ) -> Result<(), AllocError>
         ghost read: { TypesRead }
         requires readable { AreReadable read }
-        requires start { ReadsTerms read (definition_views defs.now) (ConvertersRead read (definition_views defs.now) []) tyenv.now self.old errors.old.items }
-        ensures reads { OnOk result (ReadsTerms read (definition_views defs.now) (ConvertersRead read (definition_views defs.now) (definition_views defs.now)) tyenv.now self.new errors.new.items) }
+        requires start { ReadsTerms read of_converters (definition_views defs.now) (ConvertersRead read (definition_views defs.now) []) tyenv.now self.old errors.old.items }
+        requires none { errors.old.items ≡ [] }
+        ensures reads { OnOk result (ReadsTerms read of_converters (definition_views defs.now) (ConvertersRead read (definition_views defs.now) (definition_views defs.now)) tyenv.now self.new errors.new.items) }
         ensures places { OnOk result (NotesAt (positions_of (definition_views defs.now)) errors.old.items errors.new.items) }
         ensures terms { self.new.terms ≡ self.old.terms }
+        ensures told { OnOk result (NotesEach (TellsOfConverter read.known (definition_views defs.now)) (definition_views defs.now) errors.old.items errors.new.items) }
     {
         for def in defs {
             self.read_if_converter(tyenv, errors, def)?;
@@ -97,6 +102,7 @@ impl TermTable {
 fn report_converted(errors: &mut Vec<Error>, converter: &Converter) -> Result<(), AllocError>
     ensures noted { OnOk result (NotesMore errors.old.items errors.new.items) }
     ensures places { OnOk result (NotesAt (position converter.now.pos ∷ []) errors.old.items errors.new.items) }
+    ensures told { OnOk result (Notes 1 (position converter.now.pos ∷ []) errors.old.items errors.new.items) }
 {
     let alloc = *errors.allocator();
     let msg = format!(in alloc;

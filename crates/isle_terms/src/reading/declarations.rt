@@ -9,7 +9,7 @@ ghost use Rattle.isle_types.specs.Envs.{IsInterned};
 ghost use Rattle.isle_terms.specs.Reading.{MayIntern};
 ghost use Rattle.isle_types.specs.VariantReading.{ReportsIf};
 ghost use Rattle.isle_terms.specs.Reading.{IsWithin};
-ghost use Rattle.isle_terms.specs.TermBreaches.{FirstStandsAt};
+ghost use Rattle.isle_terms.specs.TermBreaches.{of_signatures, FirstStandsAt};
 ghost use Rattle.isle_terms.specs.Signing.{ReadsTerms, Declaring, ReadsDeclaration, ReadsIfDeclared};
 ghost use Rattle.isle_terms.specs.TermPositions.{table_positions, IsPlacedAmong};
 
@@ -29,9 +29,9 @@ impl TermTable {
     ) -> Result<(), AllocError>
         ghost read: { TypesRead }
         requires readable { AreReadable read }
-        requires start { ReadsTerms read (definition_views defs.now) (Declaring read (definition_views defs.now) []) tyenv.old self.old errors.old.items }
+        requires start { ReadsTerms read of_signatures (definition_views defs.now) (Declaring read (definition_views defs.now) []) tyenv.old self.old errors.old.items }
         ensures left { IsLeftByRefusal read (environment_view tyenv.new) }
-        ensures reads { OnOk result (ReadsTerms read (definition_views defs.now) (Declaring read (definition_views defs.now) (definition_views defs.now)) tyenv.new self.new errors.new.items) }
+        ensures reads { OnOk result (ReadsTerms read of_signatures (definition_views defs.now) (Declaring read (definition_views defs.now) (definition_views defs.now)) tyenv.new self.new errors.new.items) }
         ensures places { OnOk result (NotesAt (positions_of (definition_views defs.now) ++ table_positions self.old) errors.old.items errors.new.items) }
         ensures placed { OnOk result (IsPlacedAmong (positions_of (definition_views defs.now) ++ table_positions self.old) self.new) }
     {

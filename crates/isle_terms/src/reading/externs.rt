@@ -14,7 +14,7 @@ ghost use Rattle.isle_terms.specs.Externing.{lacks_constructor, lacks_extractor,
 ghost use Rattle.isle_terms.specs.ExternStages.{ExternsRead, ReadsExtern, ReadsIfExtern};
 ghost use Rattle.isle_terms.specs.Reading.{IsWithin, MayIntern};
 ghost use Rattle.isle_terms.specs.Signing.{ReadsTerms};
-ghost use Rattle.isle_terms.specs.TermBreaches.{FirstStandsAt};
+ghost use Rattle.isle_terms.specs.TermBreaches.{of_externs, FirstStandsAt};
 ghost use Rattle.isle_terms.specs.TermViews.{term_view};
 ghost use Rattle.isle_terms.specs.TermPositions.{entry_positions, table_positions, taker_places, IsPlacedAmong};
 
@@ -35,9 +35,9 @@ impl TermTable {
     ) -> Result<(), AllocError>
         ghost read: { TypesRead }
         requires readable { AreReadable read }
-        requires start { ReadsTerms read (definition_views defs.now) (ExternsRead read (definition_views defs.now) []) tyenv.old self.old errors.old.items }
+        requires start { ReadsTerms read of_externs (definition_views defs.now) (ExternsRead read (definition_views defs.now) []) tyenv.old self.old errors.old.items }
         ensures left { IsLeftByRefusal read (environment_view tyenv.new) }
-        ensures reads { OnOk result (ReadsTerms read (definition_views defs.now) (ExternsRead read (definition_views defs.now) (definition_views defs.now)) tyenv.new self.new errors.new.items) }
+        ensures reads { OnOk result (ReadsTerms read of_externs (definition_views defs.now) (ExternsRead read (definition_views defs.now) (definition_views defs.now)) tyenv.new self.new errors.new.items) }
         ensures places { OnOk result (NotesAt (positions_of (definition_views defs.now) ++ table_positions self.old) errors.old.items errors.new.items) }
         ensures placed { OnOk result (IsPlacedAmong (positions_of (definition_views defs.now) ++ table_positions self.old) self.new) }
     {

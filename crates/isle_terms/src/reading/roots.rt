@@ -5,6 +5,7 @@ ghost use Rattle.isle_model.specs.claims.Environments.{TypesRead, AreReadable};
 ghost use Rattle.isle_base.specs.Positions.{NotesAt, definition_positions, positions_of};
 ghost use Rattle.isle_base.specs.SyntaxViews.{definition_view, definition_views, position, rule_view};
 ghost use Rattle.isle_terms.specs.Reading.{IsWithin};
+ghost use Rattle.isle_terms.specs.TermBreaches.{of_definitions};
 ghost use Rattle.isle_terms.specs.Signing.{ReadsTerms};
 ghost use Rattle.isle_terms.specs.Standing.{is_declared_kind, RootsRead, ReadsRuleRoot, ReadsIfRule};
 ghost use Rattle.isle_terms.specs.TermViews.{term_view};
@@ -27,8 +28,8 @@ impl TermTable {
     ) -> Result<(), AllocError>
         ghost read: { TypesRead }
         requires readable { AreReadable read }
-        requires start { ReadsTerms read (definition_views defs.now) (RootsRead read (definition_views defs.now) []) tyenv.now self.old errors.old.items }
-        ensures reads { OnOk result (ReadsTerms read (definition_views defs.now) (RootsRead read (definition_views defs.now) (definition_views defs.now)) tyenv.now self.new errors.new.items) }
+        requires start { ReadsTerms read of_definitions (definition_views defs.now) (RootsRead read (definition_views defs.now) []) tyenv.now self.old errors.old.items }
+        ensures reads { OnOk result (ReadsTerms read of_definitions (definition_views defs.now) (RootsRead read (definition_views defs.now) (definition_views defs.now)) tyenv.now self.new errors.new.items) }
         ensures places { OnOk result (NotesAt (positions_of (definition_views defs.now)) errors.old.items errors.new.items) }
         ensures placed { OnOk result (IsPlacedAmong (table_positions self.old) self.new) }
     {

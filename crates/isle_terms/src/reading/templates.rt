@@ -11,7 +11,7 @@ ghost use Rattle.isle_terms.specs.Reading.{IsWithin, term_of_name};
 ghost use Rattle.isle_terms.specs.Signing.{Notes, ReadsTerms};
 ghost use Rattle.isle_terms.specs.Recursion.{ExtractorsRead};
 ghost use Rattle.isle_terms.specs.Standing.{RootsRead};
-ghost use Rattle.isle_terms.specs.TermBreaches.{FirstStandsAt};
+ghost use Rattle.isle_terms.specs.TermBreaches.{of_definitions, FirstStandsAt};
 ghost use Rattle.isle_terms.specs.TermViews.{term_view};
 ghost use Rattle.isle_terms.specs.Templating.{AddsFound, AreArguments, AreCallees, AreFound, CantTakeTemplate, HaveUnknown, IsTemplate, IsWrongTemplate, NameNothing, ReadsIfTemplate, ReadsExtractor, SetsCallees, TakesTemplate, TemplatesRead, may_have_template};
 ghost use Rattle.isle_terms.specs.TermPositions.{argument_places, entry_positions, table_positions, taker_places, IsPlacedAmong};
@@ -34,8 +34,8 @@ impl TermTable {
     ) -> Result<(), AllocError>
         ghost read: { TypesRead }
         requires readable { AreReadable read }
-        requires start { ReadsTerms read (definition_views defs.now) (RootsRead read (definition_views defs.now) (definition_views defs.now)) tyenv.now self.old errors.old.items }
-        ensures reads { OnOk result (ReadsTerms read (definition_views defs.now) (ExtractorsRead read (definition_views defs.now)) tyenv.now self.new errors.new.items) }
+        requires start { ReadsTerms read of_definitions (definition_views defs.now) (RootsRead read (definition_views defs.now) (definition_views defs.now)) tyenv.now self.old errors.old.items }
+        ensures reads { OnOk result (ReadsTerms read of_definitions (definition_views defs.now) (ExtractorsRead read (definition_views defs.now)) tyenv.now self.new errors.new.items) }
         ensures places { OnOk result (NotesAt (positions_of (definition_views defs.now) ++ table_positions self.old) errors.old.items errors.new.items) }
         ensures placed { OnOk result (IsPlacedAmong (positions_of (definition_views defs.now) ++ table_positions self.old) self.new) }
     {
@@ -58,9 +58,9 @@ impl TermTable {
         ghost read: { TypesRead }
         requires readable { AreReadable read }
         requires callees { AreCallees self.old callees.old.items }
-        requires start { ReadsTerms read (definition_views defs.now) (TemplatesRead read (definition_views defs.now) [] callees.old.items) tyenv.now self.old errors.old.items }
+        requires start { ReadsTerms read of_definitions (definition_views defs.now) (TemplatesRead read (definition_views defs.now) [] callees.old.items) tyenv.now self.old errors.old.items }
         ensures callees { OnOk result (AreCallees self.new callees.new.items) }
-        ensures reads { IfOk result (λ b. ReadsTerms read (definition_views defs.now)
+        ensures reads { IfOk result (λ b. ReadsTerms read of_definitions (definition_views defs.now)
             (λ env table. (b ≡ true) × TemplatesRead read (definition_views defs.now) (definition_views defs.now) callees.new.items env table) tyenv.now self.new errors.new.items) }
         ensures places { OnOk result (NotesAt (positions_of (definition_views defs.now) ++ table_positions self.old) errors.old.items errors.new.items) }
         ensures placed { OnOk result (IsPlacedAmong (positions_of (definition_views defs.now) ++ table_positions self.old) self.new) }

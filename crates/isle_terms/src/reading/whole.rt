@@ -13,7 +13,8 @@ ghost use Rattle.isle_terms.specs.Recursion.{ExtractorsRead};
 ghost use Rattle.isle_terms.specs.Signing.{Declaring, ReadsTerms};
 ghost use Rattle.isle_terms.specs.Stages.{HasNoConverter};
 ghost use Rattle.isle_terms.specs.Standing.{RootsRead};
-ghost use Rattle.isle_terms.specs.TermBreaches.{FirstBreaksTerms};
+ghost use Rattle.isle_terms.specs.TermBreaches.{of_signatures, of_definitions, FirstBreaksTerms};
+ghost use Rattle.isle_terms.specs.TermErrors.{AreErrorsOfTerms};
 ghost use Rattle.isle_terms.specs.TermTables.{term_at};
 ghost use Rattle.isle_terms.specs.Whole.{shown_by};
 ghost use Rattle.isle_terms.specs.TermPositions.{table_positions, IsPlacedAmong};
@@ -48,6 +49,7 @@ impl TermTable {
         ensures no_limit { NoLimit result }
         ensures refused { OnErrors result (λ es. RefusesTerms read (definition_views defs.now) (error_views es)) }
         ensures breach { OnErrors result (FirstBreaksTerms read.known (definition_views defs.now)) }
+        ensures told { OnErrors result (AreErrorsOfTerms read (definition_views defs.now)) }
         ensures places { OnErrors result (All (ErrorStandsAt (positions_of (definition_views defs.now) ++ types_positions read.known.types))) }
         ensures placed { IfOk result (IsPlacedAmong (positions_of (definition_views defs.now) ++ types_positions read.known.types)) }
     {
@@ -95,9 +97,9 @@ impl TermTable {
     ) -> Result<(), AllocError>
         ghost read: { TypesRead }
         requires readable { AreReadable read }
-        requires start { ReadsTerms read (definition_views defs.now) (Declaring read (definition_views defs.now) []) tyenv.old self.old errors.old.items }
+        requires start { ReadsTerms read of_signatures (definition_views defs.now) (Declaring read (definition_views defs.now) []) tyenv.old self.old errors.old.items }
         ensures left { IsLeftByRefusal read (environment_view tyenv.new) }
-        ensures reads { OnOk result (ReadsTerms read (definition_views defs.now) (RootsRead read (definition_views defs.now) []) tyenv.new self.new errors.new.items) }
+        ensures reads { OnOk result (ReadsTerms read of_signatures (definition_views defs.now) (RootsRead read (definition_views defs.now) []) tyenv.new self.new errors.new.items) }
         ensures places { OnOk result (NotesAt ((positions_of (definition_views defs.now) ++ types_positions read.known.types) ++ table_positions self.old) errors.old.items errors.new.items) }
         ensures placed { OnOk result (IsPlacedAmong ((positions_of (definition_views defs.now) ++ types_positions read.known.types) ++ table_positions self.old) self.new) }
     {
@@ -114,8 +116,8 @@ impl TermTable {
     ) -> Result<(), AllocError>
         ghost read: { TypesRead }
         requires readable { AreReadable read }
-        requires start { ReadsTerms read (definition_views defs.now) (RootsRead read (definition_views defs.now) []) tyenv.now self.old errors.old.items }
-        ensures reads { OnOk result (ReadsTerms read (definition_views defs.now) (ExtractorsRead read (definition_views defs.now)) tyenv.now self.new errors.new.items) }
+        requires start { ReadsTerms read of_definitions (definition_views defs.now) (RootsRead read (definition_views defs.now) []) tyenv.now self.old errors.old.items }
+        ensures reads { OnOk result (ReadsTerms read of_definitions (definition_views defs.now) (ExtractorsRead read (definition_views defs.now)) tyenv.now self.new errors.new.items) }
         ensures places { OnOk result (NotesAt (positions_of (definition_views defs.now) ++ table_positions self.old) errors.old.items errors.new.items) }
         ensures placed { OnOk result (IsPlacedAmong (positions_of (definition_views defs.now) ++ table_positions self.old) self.new) }
     {

@@ -5,11 +5,13 @@ use Rattle.isle_base.specs.SyntaxViews.{definition_views}
 use Rattle.isle_base.proofs.Noted.{name_no_limit}
 use Rattle.isle_terms.specs.Converting.{ConvertersRead}
 use Rattle.isle_terms.specs.ExternStages.{ExternsRead}
+use Rattle.isle_terms.specs.TermErrors.{in_signatures, in_definitions, in_converters, in_externs}
 use Rattle.isle_terms.specs.Recursion.{ExtractorsRead}
 use Rattle.isle_base.proofs.Positioned.{all_stand, among_left}
 use Rattle.isle_types.specs.TypePositions.{types_positions}
 use Rattle.isle_terms.proofs.PlacesNoted.{begun, converters_so_far, step_so_far}
-use Rattle.isle_terms.proofs.Whole.{first_converter, first_declared, first_extern, first_broken, not_read, right_now, all_read, why_refused}
+use Rattle.isle_terms.proofs.ConverterSteps.{all_new}
+use Rattle.isle_terms.proofs.Whole.{signatures_right, definitions_right, converters_right, first_of_group, first_definition, first_converter, first_declared, first_extern, first_broken, not_read, right_now, all_read, why_refused}
 use Rattle.isle_terms.proofs.term_table.TermTable.from_ast.Goals as goal
 
 pub read_signatures-requires : goal.read_signatures-requires
@@ -19,16 +21,24 @@ read_signatures-requires g c = (
 )
 
 pub read_converters-requires : goal.read_converters-requires
-read_converters-requires g c = (c.requires.0, first_converter _ _ _ _ _ c.in_ok-read_definitions.ensures.reads)
+read_converters-requires g c =
+    let none : length c.read_definitions.new.errors.items ≡ 0 = search rules in
+    (c.requires.0, (first_converter _ _ _ _ _ (nil_from_length _ none) c.in_ok-read_definitions.ensures.reads, nil_from_length _ none))
+
+pub read_definitions-requires : goal.read_definitions-requires
+read_definitions-requires g c =
+    let none : length c.read_signatures.new.errors.items ≡ 0 = search rules in
+    (c.requires.0, first_definition _ _ _ _ _ (nil_from_length _ none) c.in_ok-read_signatures.ensures.reads)
 
 pub read_externs-requires : goal.read_externs-requires
 read_externs-requires g c =
     let defs = definition_views c.args.defs.now in
     let env = c.read_signatures.new.tyenv in
     let none : length c.read_definitions.new.errors.items ≡ 0 = search rules in
-    let extractors = right_now g.read defs (ExtractorsRead g.read defs) env c.read_definitions.new.self c.read_definitions.new.errors.items c.in_ok-read_definitions.ensures.reads (nil_from_length _ none) in (
+    let none_then : length c.read_converters.new.errors.items ≡ 0 = search rules in
+    let extractors = right_now g.read _ defs (ExtractorsRead g.read defs) env c.read_definitions.new.self c.read_definitions.new.errors.items c.in_ok-read_definitions.ensures.reads (nil_from_length _ none) in (
       c.requires.0,
-      first_extern g.read defs env c.read_converters.new.self c.read_converters.new.errors.items extractors.right.distinct c.in_ok-read_converters.ensures.reads,
+      first_extern g.read defs env c.read_converters.new.self c.read_converters.new.errors.items extractors.right.distinct (nil_from_length _ none_then) c.in_ok-read_converters.ensures.reads,
     )
 
 pub returns-clause-answers : goal.returns-clause-answers
@@ -38,22 +48,22 @@ returns-clause-answers g c =
     let none : length c.read_definitions.new.errors.items ≡ 0 = search rules in
     let none_then : length c.read_converters.new.errors.items ≡ 0 = search rules in
     let none_left : length c.read_externs.new.errors.items ≡ 0 = search rules in
-    let extractors = right_now g.read defs (ExtractorsRead g.read defs) env c.read_definitions.new.self c.read_definitions.new.errors.items c.in_ok-read_definitions.ensures.reads (nil_from_length _ none) in
-    let converters = right_now g.read defs (ConvertersRead g.read defs defs) env c.read_converters.new.self c.read_converters.new.errors.items c.in_ok-read_converters.ensures.reads (nil_from_length _ none_then) in
-    let externs = right_now g.read defs (ExternsRead g.read defs defs) c.read_externs.new.tyenv c.read_externs.new.self c.read_externs.new.errors.items c.in_ok-read_externs.ensures.reads (nil_from_length _ none_left) in
+    let extractors = right_now g.read _ defs (ExtractorsRead g.read defs) env c.read_definitions.new.self c.read_definitions.new.errors.items c.in_ok-read_definitions.ensures.reads (nil_from_length _ none) in
+    let converters = right_now g.read _ defs (ConvertersRead g.read defs defs) env c.read_converters.new.self c.read_converters.new.errors.items c.in_ok-read_converters.ensures.reads (nil_from_length _ none_then) in
+    let externs = right_now g.read _ defs (ExternsRead g.read defs defs) c.read_externs.new.tyenv c.read_externs.new.self c.read_externs.new.errors.items c.in_ok-read_externs.ensures.reads (nil_from_length _ none_left) in
     all_read g.read c.requires.0 defs c.read_externs.new.tyenv env c.read_externs.new.self c.read_definitions.new.self c.in_ok-read_externs.ensures.left extractors (c.read_converters.new.self, converters) externs
 
 pub returns-then-not-is_empty-clause-refused : goal.returns-then-not-is_empty-clause-refused
-returns-then-not-is_empty-clause-refused g c = why_refused g.read _ _ _ _ _ c.in_ok-read_signatures.ensures.reads (search rules)
+returns-then-not-is_empty-clause-refused g c = why_refused g.read _ _ _ _ _ _ c.in_ok-read_signatures.ensures.reads (search rules)
 
 pub returns-then-not-is_empty-2-clause-refused : goal.returns-then-not-is_empty-2-clause-refused
-returns-then-not-is_empty-2-clause-refused g c = why_refused g.read _ _ _ _ _ c.in_ok-read_definitions.ensures.reads (search rules)
+returns-then-not-is_empty-2-clause-refused g c = why_refused g.read _ _ _ _ _ _ c.in_ok-read_definitions.ensures.reads (search rules)
 
 pub returns-then-not-is_empty-3-clause-refused : goal.returns-then-not-is_empty-3-clause-refused
-returns-then-not-is_empty-3-clause-refused g c = why_refused g.read _ _ _ _ _ c.in_ok-read_converters.ensures.reads (search rules)
+returns-then-not-is_empty-3-clause-refused g c = why_refused g.read _ _ _ _ _ _ c.in_ok-read_converters.ensures.reads (search rules)
 
 pub returns-then-not-is_empty-4-clause-refused : goal.returns-then-not-is_empty-4-clause-refused
-returns-then-not-is_empty-4-clause-refused g c = why_refused g.read _ _ _ _ _ c.in_ok-read_externs.ensures.reads (search rules)
+returns-then-not-is_empty-4-clause-refused g c = why_refused g.read _ _ _ _ _ _ c.in_ok-read_externs.ensures.reads (search rules)
 
 pub returns-then-not-is_empty-2-clause-no_limit : goal.returns-then-not-is_empty-2-clause-no_limit
 returns-then-not-is_empty-2-clause-no_limit g c = name_no_limit _ c.in_ok-read_definitions.ensures.reads.ill_typed
@@ -131,25 +141,52 @@ pub returns-then-not-is_empty-clause-no_limit : goal.returns-then-not-is_empty-c
 returns-then-not-is_empty-clause-no_limit g c = name_no_limit _ c.in_ok-read_signatures.ensures.reads.ill_typed
 
 pub returns-then-not-is_empty-clause-breach : goal.returns-then-not-is_empty-clause-breach
-returns-then-not-is_empty-clause-breach g c = first_broken g.read _ _ _ _ _ c.in_ok-read_signatures.ensures.reads (search rules)
+returns-then-not-is_empty-clause-breach g c = first_broken g.read _ _ _ _ _ _ c.in_ok-read_signatures.ensures.reads (search rules)
 
 pub returns-then-not-is_empty-2-clause-breach : goal.returns-then-not-is_empty-2-clause-breach
-returns-then-not-is_empty-2-clause-breach g c = first_broken g.read _ _ _ _ _ c.in_ok-read_definitions.ensures.reads (search rules)
+returns-then-not-is_empty-2-clause-breach g c = first_broken g.read _ _ _ _ _ _ c.in_ok-read_definitions.ensures.reads (search rules)
 
 pub returns-then-not-is_empty-3-clause-breach : goal.returns-then-not-is_empty-3-clause-breach
-returns-then-not-is_empty-3-clause-breach g c = first_broken g.read _ _ _ _ _ c.in_ok-read_converters.ensures.reads (search rules)
+returns-then-not-is_empty-3-clause-breach g c = first_broken g.read _ _ _ _ _ _ c.in_ok-read_converters.ensures.reads (search rules)
 
 pub returns-then-not-is_empty-4-clause-breach : goal.returns-then-not-is_empty-4-clause-breach
-returns-then-not-is_empty-4-clause-breach g c = first_broken g.read _ _ _ _ _ c.in_ok-read_externs.ensures.reads (search rules)
+returns-then-not-is_empty-4-clause-breach g c = first_broken g.read _ _ _ _ _ _ c.in_ok-read_externs.ensures.reads (search rules)
 
 pub returns-then-not-is_empty-clause-answers : goal.returns-then-not-is_empty-clause-answers
-returns-then-not-is_empty-clause-answers g c = not_read g.read _ _ _ _ _ c.in_ok-read_signatures.ensures.reads (search rules)
+returns-then-not-is_empty-clause-answers g c = not_read g.read _ _ _ _ _ _ c.in_ok-read_signatures.ensures.reads (search rules)
 
 pub returns-then-not-is_empty-2-clause-answers : goal.returns-then-not-is_empty-2-clause-answers
-returns-then-not-is_empty-2-clause-answers g c = not_read g.read _ _ _ _ _ c.in_ok-read_definitions.ensures.reads (search rules)
+returns-then-not-is_empty-2-clause-answers g c = not_read g.read _ _ _ _ _ _ c.in_ok-read_definitions.ensures.reads (search rules)
 
 pub returns-then-not-is_empty-3-clause-answers : goal.returns-then-not-is_empty-3-clause-answers
-returns-then-not-is_empty-3-clause-answers g c = not_read g.read _ _ _ _ _ c.in_ok-read_converters.ensures.reads (search rules)
+returns-then-not-is_empty-3-clause-answers g c = not_read g.read _ _ _ _ _ _ c.in_ok-read_converters.ensures.reads (search rules)
 
 pub returns-then-not-is_empty-4-clause-answers : goal.returns-then-not-is_empty-4-clause-answers
-returns-then-not-is_empty-4-clause-answers g c = not_read g.read _ _ _ _ _ c.in_ok-read_externs.ensures.reads (search rules)
+returns-then-not-is_empty-4-clause-answers g c = not_read g.read _ _ _ _ _ _ c.in_ok-read_externs.ensures.reads (search rules)
+
+pub returns-then-not-is_empty-clause-told : goal.returns-then-not-is_empty-clause-told
+returns-then-not-is_empty-clause-told g c = in_signatures (first_of_group g.read _ _ _ _ _ _ c.in_ok-read_signatures.ensures.reads (search rules))
+
+pub returns-then-not-is_empty-2-clause-told : goal.returns-then-not-is_empty-2-clause-told
+returns-then-not-is_empty-2-clause-told g c =
+    let none : length c.read_signatures.new.errors.items ≡ 0 = search rules in
+    let signatures = signatures_right g.read _ _ _ (right_now g.read _ _ _ _ _ _ c.in_ok-read_signatures.ensures.reads (nil_from_length _ none)) in
+    in_definitions signatures (first_of_group g.read _ _ _ _ _ _ c.in_ok-read_definitions.ensures.reads (search rules))
+
+pub returns-then-not-is_empty-3-clause-told : goal.returns-then-not-is_empty-3-clause-told
+returns-then-not-is_empty-3-clause-told g c =
+    let none : length c.read_signatures.new.errors.items ≡ 0 = search rules in
+    let none_then : length c.read_definitions.new.errors.items ≡ 0 = search rules in
+    let signatures = signatures_right g.read _ _ _ (right_now g.read _ _ _ _ _ _ c.in_ok-read_signatures.ensures.reads (nil_from_length _ none)) in
+    let definitions = definitions_right g.read _ _ _ (right_now g.read _ _ _ _ _ _ c.in_ok-read_definitions.ensures.reads (nil_from_length _ none_then)) in
+    in_converters signatures definitions (first_of_group g.read _ _ _ _ _ _ c.in_ok-read_converters.ensures.reads (search rules)) (all_new _ _ _ _ (nil_from_length _ none_then) c.in_ok-read_converters.ensures.told)
+
+pub returns-then-not-is_empty-4-clause-told : goal.returns-then-not-is_empty-4-clause-told
+returns-then-not-is_empty-4-clause-told g c =
+    let none : length c.read_signatures.new.errors.items ≡ 0 = search rules in
+    let none_then : length c.read_definitions.new.errors.items ≡ 0 = search rules in
+    let none_left : length c.read_converters.new.errors.items ≡ 0 = search rules in
+    let signatures = signatures_right g.read _ _ _ (right_now g.read _ _ _ _ _ _ c.in_ok-read_signatures.ensures.reads (nil_from_length _ none)) in
+    let definitions = definitions_right g.read _ _ _ (right_now g.read _ _ _ _ _ _ c.in_ok-read_definitions.ensures.reads (nil_from_length _ none_then)) in
+    let converters = converters_right g.read _ _ _ (right_now g.read _ _ _ _ _ _ c.in_ok-read_converters.ensures.reads (nil_from_length _ none_left)) in
+    in_externs signatures definitions converters (first_of_group g.read _ _ _ _ _ _ c.in_ok-read_externs.ensures.reads (search rules))

@@ -1,17 +1,31 @@
-use Rattle.std.proofs.Common.{◌≡◌, None, refl, sym, inl, inr, ◌∙◌}
+use Rattle.std.proofs.Common.{◌≡◌, None, refl, sym, inl, inr, ◌∙◌, rules}
 use Rattle.std.proofs.lemmas.Result.{on_ok_weaker}
 use Rattle.isle_base.specs.SyntaxViews.{converter_view}
 use Rattle.isle_terms.specs.Converting.{converter_at}
 use Rattle.isle_terms.proofs.ConverterSteps.{read_conversions}
 use Rattle.isle_terms.proofs.PlacesNoted.{noted_among, converter_first, converter_inner, converter_outer, converter_term}
+use Rattle.isle_types.proofs.Telling.{noted_among as told_among}
 use Rattle.isle_terms.proofs.Making.{none_mapped, some_mapped}
 use Rattle.isle_terms.proofs.term_table.TermTable.read_converter.Goals as goal
+
+pub returns-in_default-clause-reads : goal.returns-in_default-clause-reads
+returns-in_default-clause-reads c =
+    on_ok_weaker c.report_name.result (λ r. inr (told_among 1 _ _ _ _ (converter_inner (converter_view c.args.converter.now)) r, refl, inl (search rules))) c.report_name.ensures.told
+
+pub returns-in_default-get_type_by_name-clause-reads : goal.returns-in_default-get_type_by_name-clause-reads
+returns-in_default-get_type_by_name-clause-reads c =
+    on_ok_weaker c.report_name-in_default-get_type_by_name.result (λ r. inr (told_among 1 _ _ _ _ (converter_outer (converter_view c.args.converter.now)) r, refl, inr (inl (search rules)))) c.report_name-in_default-get_type_by_name.ensures.told
+
+pub returns-in_default-find_term-clause-reads : goal.returns-in_default-find_term-clause-reads
+returns-in_default-find_term-clause-reads c =
+    on_ok_weaker c.report_name-in_default-find_term.result (λ r. inr (told_among 1 _ _ _ _ (converter_term (converter_view c.args.converter.now)) r, refl, inr (inr (inl (search rules))))) c.report_name-in_default-find_term.ensures.told
 
 pub returns-then-contains_key-clause-reads : goal.returns-then-contains_key-clause-reads
 returns-then-contains_key-clause-reads c =
     let taken = some_mapped (λ t. t.0) _ (sym c.contains_key.ensures.value ∙ c.if-contains_key.true) in
     on_ok_weaker c.report_converted.result (λ r. inr (
-      r,
+      told_among 1 _ _ _ _ (converter_first (converter_view c.args.converter.now)) r,
+      refl,
       inr (inr (inr (record {
         inner = c.in-Some.inner.0;
         outer = c.in-Some-get_type_by_name.outer.0;
@@ -20,7 +34,7 @@ returns-then-contains_key-clause-reads c =
         outer_is = sym c.in-Some-get_type_by_name.ensures;
         taken = taken.1;
       }))),
-    )) c.report_converted.ensures.noted
+    )) c.report_converted.ensures.told
 
 pub returns-clause-reads : goal.returns-clause-reads
 returns-clause-reads c =

@@ -1,6 +1,7 @@
 use Rattle.std.proofs.Common.{◌++◌, take}
 use Rattle.isle_base.specs.Positions.{positions_of}
 use Rattle.isle_base.specs.SyntaxViews.{definition_views}
+use Rattle.isle_terms.specs.TermBreaches.{of_externs}
 use Rattle.isle_terms.specs.Signing.{ReadsTerms}
 use Rattle.isle_terms.specs.ExternStages.{ExternsRead}
 use Rattle.isle_terms.specs.TermPositions.{table_positions}
@@ -9,5 +10,5 @@ use Rattle.isle_terms.proofs.term_table.TermTable.read_externs.Given as goal
 
 abbrev pub invariant-loop-def : goal.invariant-loop-def
 invariant-loop-def g l =
-    ReadsTerms g.read (definition_views l.defs) (ExternsRead g.read (definition_views l.defs) (definition_views (take l.def-index l.defs))) l.tyenv l.self l.errors.items
+    ReadsTerms g.read of_externs (definition_views l.defs) (ExternsRead g.read (definition_views l.defs) (definition_views (take l.def-index l.defs))) l.tyenv l.self l.errors.items
     × PlacedSoFar (positions_of (definition_views l.defs) ++ table_positions l.initial.self) l.initial.errors.items l.self l.errors.items

@@ -1,6 +1,7 @@
 use Rattle.std.proofs.Common.{take}
 use Rattle.isle_base.specs.Positions.{NotesAt, positions_of}
 use Rattle.isle_base.specs.SyntaxViews.{definition_views}
+use Rattle.isle_terms.specs.TermBreaches.{of_definitions}
 use Rattle.isle_terms.specs.Signing.{ReadsTerms}
 use Rattle.isle_terms.specs.Standing.{RootsRead}
 use Rattle.isle_terms.specs.TermPositions.{table_positions, IsPlacedAmong}
@@ -8,6 +9,6 @@ use Rattle.isle_terms.proofs.term_table.TermTable.read_roots.Given as goal
 
 abbrev pub invariant-loop-def : goal.invariant-loop-def
 invariant-loop-def g l =
-    ReadsTerms g.read (definition_views l.defs) (RootsRead g.read (definition_views l.defs) (definition_views (take l.def-index l.defs))) l.tyenv l.self l.errors.items
+    ReadsTerms g.read of_definitions (definition_views l.defs) (RootsRead g.read (definition_views l.defs) (definition_views (take l.def-index l.defs))) l.tyenv l.self l.errors.items
     × NotesAt (positions_of (definition_views l.defs)) l.initial.errors.items l.errors.items
     × IsPlacedAmong (table_positions l.initial.self) l.self

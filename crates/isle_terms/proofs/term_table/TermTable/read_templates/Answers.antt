@@ -9,7 +9,7 @@ pub loop-def-preserved : goal.loop-def-preserved
 loop-def-preserved g c =
     let a = c.in_ok-read_if_template.ensures in (
       a.callees,
-      reads_as _ _ _ _ _ _ _ (λ h. h.1)
+      reads_as _ _ _ _ _ _ _ _ (λ h. h.1)
           (next_template _ c.requires.0 c.args.defs.now c.loop-def.def-index c.def-item.result (search rules) c.def-item.is _ _ _ _ _ _ _ _ a.within a.reads a.begins c.loop-def.invariant.1),
       next_so_far c.args.defs.now c.loop-def.def-index c.def-item.result (search rules) c.def-item.is _ _ _ _ _ _ a.places a.placed c.loop-def.invariant.2,
     )
@@ -21,7 +21,7 @@ pub returns-then-not-branch-clause-reads : goal.returns-then-not-branch-clause-r
 returns-then-not-branch-clause-reads g c =
     let a = c.in_ok-read_if_template.ensures in
     let stops : c.in_ok-read_if_template.field-0 ≡ false = search rules in
-    reads_as _ _ _ _ _ _ _ (λ h. absurd (false≢true (sym stops ∙ h.0)))
+    reads_as _ _ _ _ _ _ _ _ (λ h. absurd (false≢true (sym stops ∙ h.0)))
     (next_template _ c.requires.0 c.args.defs.now c.loop-def.def-index c.def-item.result (search rules) c.def-item.is _ _ _ _ _ _ _ _ a.within a.reads a.begins c.loop-def.invariant.1)
 
 pub returns-then-not-branch-clause-places : goal.returns-then-not-branch-clause-places

@@ -1,6 +1,7 @@
 use Rattle.std.proofs.Common.{◌++◌, take}
 use Rattle.isle_base.specs.Positions.{positions_of}
 use Rattle.isle_base.specs.SyntaxViews.{definition_views}
+use Rattle.isle_terms.specs.TermBreaches.{of_definitions}
 use Rattle.isle_terms.specs.Signing.{ReadsTerms}
 use Rattle.isle_terms.specs.Templating.{AreCallees, TemplatesRead}
 use Rattle.isle_terms.specs.TermPositions.{table_positions}
@@ -10,5 +11,5 @@ use Rattle.isle_terms.proofs.term_table.TermTable.read_templates.Given as goal
 abbrev pub invariant-loop-def : goal.invariant-loop-def
 invariant-loop-def g l =
     AreCallees l.self l.callees.items
-    × ReadsTerms g.read (definition_views l.defs) (TemplatesRead g.read (definition_views l.defs) (definition_views (take l.def-index l.defs)) l.callees.items) l.tyenv l.self l.errors.items
+    × ReadsTerms g.read of_definitions (definition_views l.defs) (TemplatesRead g.read (definition_views l.defs) (definition_views (take l.def-index l.defs)) l.callees.items) l.tyenv l.self l.errors.items
     × PlacedSoFar (positions_of (definition_views l.defs) ++ table_positions l.initial.self) l.initial.errors.items l.self l.errors.items
