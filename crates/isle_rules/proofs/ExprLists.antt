@@ -104,7 +104,7 @@ module _ (env : TermEnv) (old mid new : Standing) (d : ℕ) (flags : Flags) (arg
   abbrev tys_to : ℕ → List ℕ
   tys_to n = map (λ t. t.0) (take n tys)
 
-  one_further : (e : Setting) (c : ℕ) (s : Scope)
+  pub one_further : (e : Setting) (c : ℕ) (s : Scope)
       → args_reading (S.expr_views (take (i + 1) args)) flags (tys_to (i + 1)) e c s
       ≡ followed appended (args_reading (S.expr_views (take i args)) flags (tys_to i) e c s) (λ a. args_reading (S.expr_views (p ∷ [])) flags (ty.0 ∷ []) e c a.scope)
   one_further e c s =

@@ -75,7 +75,7 @@ module _ (env : TermEnv) (old : Standing) (e : Setting) (is : IsSettingOf old.ty
       rw (ne, k) refl
 
 -- where a converter is declared another type is expected
-other_expected : (env : TermEnv) (own : ℕ) (ty : Option ℕ) (by : TermEntry) → Some by ≡ declared_converter env own ty → is_expected ty own ≡ false
+pub other_expected : (env : TermEnv) (own : ℕ) (ty : Option ℕ) (by : TermEntry) → Some by ≡ declared_converter env own ty → is_expected ty own ≡ false
 other_expected env own None by h = absurd (none-some by (sym h))
 other_expected env own (Some want) by h = elim (cases_Bool (eqb own want)) [
   | inl same ↦ absurd (none-some by (sym (rw same refl) ∙ sym h))
@@ -116,7 +116,7 @@ module _ (env : TermEnv) (old : Standing) (whole : ExprTree) (at : Position) (fl
 
 -- a variable is found by its number
 module _ (env : TermEnv) (old : Standing) (inv : IsInterned old.tyenv) (name : Name) (at : Position) (flags : Flags) (ty : Option ℕ) where
-  var_found : (o : Option TypedVar) → o ≡ option_and_then (newest old.work) (symbol_of old.tyenv name.text) → (s : Scope) → Shows old s → var_of s name.text ≡ o
+  pub var_found : (o : Option TypedVar) → o ≡ option_and_then (newest old.work) (symbol_of old.tyenv name.text) → (s : Scope) → Shows old s → var_of s name.text ≡ o
   var_found o h s sh =
       ap (λ ns. var_named (number ns name.text) s.visible) (sym sh.names) ∙ sym (sh.visible (number (names_of old.tyenv) name.text)) ∙ by_number ∙ sym h
     where

@@ -91,14 +91,14 @@ module _ (env : TermEnv) (old mid new : Standing) (d : ℕ) (flags : Flags) (all
   abbrev alone_one : Reading TypedIfLet
   alone_one = iflet_reading (S.iflet_view one) flags
 
-  further : (e : Setting) (c : ℕ) (s : Scope) → after e c s ≡ followed ◌++◌ (before e c s) (λ a. last_one e c a.scope)
+  pub further : (e : Setting) (c : ℕ) (s : Scope) → after e c s ≡ followed ◌++◌ (before e c s) (λ a. last_one e c a.scope)
   further e c s =
       let a : take (i + 1) all ≡ take i all ++ one ∷ [] = take_more all i one w ∙ ap (λ q. take i all ++ q ∷ []) (sym one_is) in
       ap (λ ds. iflets_reading (map S.iflet_view ds) flags e c s) a
       ∙ ap (λ ts. iflets_reading ts flags e c s) (map-append S.iflet_view (take i all) (one ∷ []))
       ∙ iflets_after e c flags (map S.iflet_view (take i all)) (S.iflet_view one ∷ []) s
 
-  last_is : (e : Setting) (c : ℕ) (s : Scope) → last_one e c s ≡ made_into (λ x. x ∷ []) (alone_one e c s)
+  pub last_is : (e : Setting) (c : ℕ) (s : Scope) → last_one e c s ≡ made_into (λ x. x ∷ []) (alone_one e c s)
   last_is e c s = alone (alone_one e c s)
 
   pub next_iflet : (o : Option R.IfLet) → MayTranslate env mid new d alone_one iflet_view (Ok o) → IfLetsSoFar env old new d after (made ++ option_to_list o)
@@ -123,7 +123,7 @@ module _ {Q : Type 0} (env : TermEnv) (old mid new : Standing) (d : ℕ) (readin
   setting : (e : Setting) → IsSettingOf old.tyenv env e → IsSettingOf mid.tyenv env e
   setting e is = subst (λ t. IsSettingOf t env e) (sym same) is
 
-  unmet : NotesMore old.work.errors.items mid.work.errors.items → (P → ⊥) → IsReported env old mid reading
+  pub unmet : NotesMore old.work.errors.items mid.work.errors.items → (P → ⊥) → IsReported env old mid reading
   unmet more wrong = record { errors = inr more; noted = λ e s is sh. record { reports = more; none = λ c. needed wrong e c s } }
 
   pub checked_done : (q : Q) → Checks old.work.errors.items mid.work.errors.items P → MayNoteMore mid.work.errors.items new.work.errors.items

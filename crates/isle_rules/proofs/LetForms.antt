@@ -72,7 +72,7 @@ module _ (env : TermEnv) (old mid : Standing) (name ty : Name) (value : ExprTree
   abbrev one : Reading TypedLets
   one = lets_reading (let_and name ty value at no_let) flags
 
-  type_found : (o : Option ℕ) → o ≡ type_of_name old.tyenv ty.text → (e : Setting) (s : Scope) → IsSettingOf old.tyenv env e → Shows old s → M.type_of_name e s ty.text ≡ o
+  pub type_found : (o : Option ℕ) → o ≡ type_of_name old.tyenv ty.text → (e : Setting) (s : Scope) → IsSettingOf old.tyenv env e → Shows old s → M.type_of_name e s ty.text ≡ o
   type_found o h e s is sh =
       ap (λ ns. position_from (λ n. nat_eq n (number ns ty.text)) 0 e.type_names) (sym sh.names)
       ∙ sym (is.type_names (number (names_of old.tyenv) ty.text)) ∙ by_number ∙ sym h
@@ -248,12 +248,12 @@ module _ (env : TermEnv) (old mid new : Standing) (d : ℕ) (flags : Flags) (def
   abbrev last_one : Reading TypedLets
   last_one = lets_reading (with_let def no_let) flags
 
-  further : (e : Setting) (c : ℕ) (s : Scope) → after e c s ≡ followed lets_joined (before e c s) (λ a. last_one e c a.scope)
+  pub further : (e : Setting) (c : ℕ) (s : Scope) → after e c s ≡ followed lets_joined (before e c s) (λ a. last_one e c a.scope)
   further e c s =
       let a : take (i + 1) defs ≡ take i defs ++ def ∷ [] = take_more defs i def w ∙ ap (λ q. take i defs ++ q ∷ []) (sym def_is) in
       ap (λ ds. lets_reading (S.let_views ds) flags e c s) a ∙ lets_after (all_made e) flags c (take i defs) (def ∷ []) s
 
-  so_far : IsTranslated env old mid d before (let_parts (let_views made)) ⊎ IsReported env old mid before
+  pub so_far : IsTranslated env old mid d before (let_parts (let_views made)) ⊎ IsReported env old mid before
   so_far = ⊎_elim (λ x. inl x.0) (λ x. inr x) sofar
 
   pub next_def : (o : Option (VarId × TypeId × Box Expr Global)) (now : List (Sym × Option BoundVar)) → DefinesOne env mid new d last_one hidden now (Ok o)
@@ -295,10 +295,10 @@ module _ (env : TermEnv) (old mid new : Standing) (d : ℕ) (flags : Flags) (def
   abbrev bodies : Reading TypedExpr
   bodies = expr_reading body flags ty
 
-  abbrev inner : Reading TypedExpr
+  abbrev pub inner : Reading TypedExpr
   inner e c s = followed typed_let (lets_reading defs flags e c s) (λ a. expr_reading body flags ty e c a.scope)
 
-  inner_reported : (last : Standing) → IsReported env old last inner → IsReported env old last whole
+  pub inner_reported : (last : Standing) → IsReported env old last inner → IsReported env old last whole
   inner_reported last y = record {
     errors = y.errors;
     noted = λ e s is sh. let n = y.noted e s is sh in record { reports = n.reports; none = λ c. ap (scoped (after_let s)) (n.none c) };
@@ -318,7 +318,7 @@ module _ (env : TermEnv) (old mid new : Standing) (d : ℕ) (flags : Flags) (def
   let_first_stops stop y = inner_stops mid stop (first_stops env old mid mid d (lets_reading defs flags) (λ q. bodies) inner typed_let (λ e c s. refl) stop y)
 
   module _ (ds : TypedLets) (hidden : List (Sym × Option BoundVar)) (keeps : Keeps old.tyenv mid.tyenv) (done : Defines env old mid d (lets_reading defs flags) ds [] hidden) where
-    so_far_defs : IsTranslated env old mid d (lets_reading defs flags) ds ⊎ IsReported env old mid (lets_reading defs flags)
+    pub so_far_defs : IsTranslated env old mid d (lets_reading defs flags) ds ⊎ IsReported env old mid (lets_reading defs flags)
     so_far_defs = ⊎_elim (λ x. inl x.0) (λ x. inr x) done
 
     pub let_reported : IsReported env mid new bodies → IsReported env old new whole

@@ -15,6 +15,9 @@ pub mod PatternUsing
 pub mod PatternLists
 pub mod PatternSizes
 pub mod PatternForms
+pub mod LimitLists
+pub mod LimitSteps
+pub mod PatternLimits
 pub mod MadeSettings
 pub mod ExprLeaves
 pub mod ExprUsing
@@ -26,6 +29,9 @@ pub mod ExprForms
 pub mod IfLetLists
 pub mod SidesForms
 pub mod RuleForms
+pub mod ExprLimits
+pub mod LetLimits
+pub mod RuleLimits
 pub mod RuleEnds
 pub mod RuleListSteps
 pub mod NamesKept
@@ -34,6 +40,7 @@ pub mod CheckedUses
 pub mod RulesTyped
 pub mod RuleErrorSteps
 pub mod NamedLimits
+pub mod RulesTold
 pub mod FirstPastLimits
 pub mod RuleBreachSteps
 pub mod RuleBreaches

@@ -117,7 +117,7 @@ module _ (multi : Bool) (env : TermEnv) (old mid new : Standing) (d : ℕ) (args
   abbrev tys_to : ℕ → List ℕ
   tys_to n = map (λ t. t.0) (take n tys)
 
-  one_further : (e : Setting) (c : ℕ) (s : Scope)
+  pub one_further : (e : Setting) (c : ℕ) (s : Scope)
       → parts_reading multi (S.pattern_views (take (i + 1) args)) (tys_to (i + 1)) e c s
       ≡ followed appended (parts_reading multi (S.pattern_views (take i args)) (tys_to i) e c s) (λ a. parts_reading multi (S.pattern_views (p ∷ [])) (ty.0 ∷ []) e c a.scope)
   one_further e c s =
@@ -163,7 +163,7 @@ all_parts multi env old new d args tys i made w v sofar =
 -- a loop over patterns of one value
 module _ (multi : Bool) (env : TermEnv) (old mid new : Standing) (d : ℕ) (args : List T.Pattern) (ty : ℕ) (i : ℕ) (p : T.Pattern)
     (w : i < length args) (arg_is : p ≡ get_or args i p) (keeps : Keeps old.tyenv mid.tyenv) where
-  each_further : (e : Setting) (c : ℕ) (s : Scope)
+  pub each_further : (e : Setting) (c : ℕ) (s : Scope)
       → each_reading multi (S.pattern_views (take (i + 1) args)) ty e c s
       ≡ followed appended (each_reading multi (S.pattern_views (take i args)) ty e c s) (λ a. each_reading multi (S.pattern_views (p ∷ [])) ty e c a.scope)
   each_further e c s =

@@ -114,13 +114,13 @@ module _ (multi : Bool) (env : TermEnv) (old : Standing) (inv : IsInterned old.t
   }
 
   module _ (t : TermEntry) (known : Some t ≡ found_term env old.tyenv name.text) where
-    found : (e : Setting) (s : Scope) → IsSettingOf old.tyenv env e → Shows old s → term_of e s name.text ≡ Some t
+    pub found : (e : Setting) (s : Scope) → IsSettingOf old.tyenv env e → Shows old s → term_of e s name.text ≡ Some t
     found = found_so env old inv name.text (Some t) known
 
     at_place : (k : ℕ) × (slice_get (term_views env.terms.items) k ≡ Some t)
     at_place = let p = then_some (option_and_then (term_in_env env) (symbol_of old.tyenv name.text)) (slice_get (term_views env.terms.items)) t (sym known) in (p.0, p.2)
 
-    converter_is : (e : Setting) → IsSettingOf old.tyenv env e → eqb t.ret_ty ty ≡ false → pattern_converter e t.ret_ty ty ≡ found_converter env has_extractor_kind t.ret_ty ty
+    pub converter_is : (e : Setting) → IsSettingOf old.tyenv env e → eqb t.ret_ty ty ≡ false → pattern_converter e t.ret_ty ty ≡ found_converter env has_extractor_kind t.ret_ty ty
     converter_is e is ne =
         that_same (λ u. has_extractor u.kind) (λ u. has_extractor_kind u.kind) (λ u. same_extractor u.kind) _
         ∙ ap (λ o. that (λ u. has_extractor_kind u.kind) (then_option o (slice_get e.terms))) (sym (is.converters t.ret_ty ty))
@@ -129,7 +129,7 @@ module _ (multi : Bool) (env : TermEnv) (old : Standing) (inv : IsInterned old.t
 
     -- a use of another type, which a converter brings to this one
     module _ (by : TermEntry) (converts : Some by ≡ found_converter env has_extractor_kind t.ret_ty ty) where
-      differs : eqb t.ret_ty ty ≡ false
+      pub differs : eqb t.ret_ty ty ≡ false
       differs = elim (cases_Bool (eqb t.ret_ty ty)) [ inr f ↦ f | inl same ↦ absurd (none-some by (sym (rw same refl) ∙ sym converts)) ]
 
       conversion : (e : Setting) (s : Scope) → IsSettingOf old.tyenv env e → Shows old s → (c : ℕ)
@@ -169,7 +169,7 @@ module _ (multi : Bool) (env : TermEnv) (old : Standing) (inv : IsInterned old.t
 
       -- of the term itself
       module _ (no_template : None ≡ found_template env t) where
-        no_template_in : (e : Setting) → IsSettingOf old.tyenv env e → template_in e t.kind ≡ None
+        pub no_template_in : (e : Setting) → IsSettingOf old.tyenv env e → template_in e t.kind ≡ None
         no_template_in e is = ap (λ b. cond b (kind_template t.kind) None) is.expand ∙ sym no_template
 
         abbrev Fits : ℕ → Type 0
@@ -212,7 +212,7 @@ module _ (multi : Bool) (env : TermEnv) (old : Standing) (inv : IsInterned old.t
 
       -- of its template
       module _ (template : PatternTree) (there : Some template ≡ found_template env t) where
-        template_is : (e : Setting) → IsSettingOf old.tyenv env e → template_in e t.kind ≡ Some template
+        pub template_is : (e : Setting) → IsSettingOf old.tyenv env e → template_in e t.kind ≡ Some template
         template_is e is = ap (λ b. cond b (kind_template t.kind) None) is.expand ∙ sym there
 
         kind_is : kind_template t.kind ≡ Some template
@@ -229,7 +229,7 @@ module _ (multi : Bool) (env : TermEnv) (old : Standing) (inv : IsInterned old.t
           abbrev Matches : Type 0
           Matches = (t.ret_ty ≡ ty) × (n ≡ length t.arg_tys)
 
-          unmatched : (Matches → ⊥) → (e : Setting) (s : Scope) → IsSettingOf old.tyenv env e → Shows old s → (c : ℕ) → pattern_reading multi whole ty e c s ≡ None
+          pub unmatched : (Matches → ⊥) → (e : Setting) (s : Scope) → IsSettingOf old.tyenv env e → Shows old s → (c : ℕ) → pattern_reading multi whole ty e c s ≡ None
           unmatched wrong e s is sh c = elim (cases_Bool (eqb t.ret_ty ty)) [
             | inr ne ↦ mismatched e s is sh ne c
             | inl same ↦

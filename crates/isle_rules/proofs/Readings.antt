@@ -275,7 +275,7 @@ expanding_gives o (suc c) a h = let m = counted_gives (o c) h in (c, m.0, m.1, a
 
 -- what one expansion makes, in the place of the whole
 module _ {X Q : Type 0} (env : TermEnv) (old mid new : Standing) (same : mid.tyenv ≡ old.tyenv) (d left : ℕ) (nests : suc left ≡ d) (whole made : Reading Q) (view : X → Q) (x : ExpandsTo env old mid whole made ⊎ IsReported env old mid whole) where
-  expanded_reported : IsReported env mid new made → IsReported env old new whole
+  pub expanded_reported : IsReported env mid new made → IsReported env old new whole
   expanded_reported y =
       ⊎_elim
       (λ e. record {

@@ -29,10 +29,10 @@ use Rattle.isle_typed.specs.RuleViews.{var_view, rule_view, rule_views}
 use Rattle.isle_rules.specs.Translating.{Standing, standing, Reading, Shows, IsTranslated, IsReported, Stops, MayTranslate}
 use Rattle.isle_rules.proofs.Noted.{some_noted}
 
-few_some : {X : Type 0} (o : Option (Typing X)) (a : Typing X) → o ≡ Some a → a.expansions ≤ most_expansions → few_enough o ≡ Some a
+pub few_some : {X : Type 0} (o : Option (Typing X)) (a : Typing X) → o ≡ Some a → a.expansions ≤ most_expansions → few_enough o ≡ Some a
 few_some o a h few = ap few_enough h ∙ ap (λ b. cond b (Some a) None) (le-leb a.expansions most_expansions few)
 
-few_none : {X : Type 0} (o : Option (Typing X)) → ((a : Typing X) → o ≡ Some a → most_expansions < a.expansions) → few_enough o ≡ None
+pub few_none : {X : Type 0} (o : Option (Typing X)) → ((a : Typing X) → o ≡ Some a → most_expansions < a.expansions) → few_enough o ≡ None
 few_none None long = refl
 few_none (Some a) long = elim (cases_Bool (nat_le a.expansions most_expansions)) [
   | inl t ↦ absurd (let l = long a refl in let m = leb-true a.expansions most_expansions t in omega (arith, l, m))
@@ -50,7 +50,7 @@ module _ (env : TermEnv) (tyenv : TypeEnv) (fresh : Progress) (found : List Erro
   abbrev start : Scope
   start = new_scope (names_of tyenv)
 
-  starts : Shows old start
+  pub starts : Shows old start
   starts = record { names = refl; vars = ap (map var_view) f.vars; visible = f.names; met = λ k v h. absurd (none-some v (sym (f.names k) ∙ h)) }
 
   at_report : (new : Standing) (made : Option TypedRule) → IsReported env old new whole → CollectsRule env tyenv new.tyenv found new.work.errors.items id r made

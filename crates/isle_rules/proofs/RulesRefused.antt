@@ -30,6 +30,7 @@ use Rattle.isle_reports.proofs.FirstErrors.{begins_as}
 use Rattle.isle_terms.specs.TermBreaches.{FirstBreaksTerms}
 use Rattle.isle_rules.specs.RuleBreaches.{BreaksReading, BeginsWrong, BreaksRules, of_terms, of_rules, FirstBreaksRules}
 use Rattle.isle_rules.proofs.RuleBreaches.{of_list}
+use Rattle.isle_rules.specs.RulesTold.{TellsStages, TellsAll, TellsReading}
 use Rattle.isle_rules.specs.ShownEnvs.{terms_shown_by}
 use Rattle.isle_rules.specs.Translating.{IsSettingOf}
 use Rattle.isle_rules.proofs.NamedLimits.{each_named}
@@ -80,6 +81,10 @@ module _ (e : TypesRead) (r : AreReadable e) (defs : List Definition) (table : T
         | inr b ↦ begins_as (Tables (names_of old)) (BreaksRules e defs expand) (λ ps w. of_rules a.valid ps (of_list e defs expand ps (subst (λ ns. Tables ns ps) a.types.names w))) errors b
       ]
 
+  -- what is said rule by rule
+  pub all_said : TellsAll env old (rule_trees defs) errors → TellsReading e defs expand errors
+  all_said told valid = subst (λ ns. TellsStages (setting_of e defs expand) (rule_trees defs) ns errors) a.types.names (told (setting_of e defs expand) is)
+
   pub past_limits_named : NamesPastLimits env old (rule_trees defs) errors → NamesTypedPastLimits e defs expand (error_views errors)
   past_limits_named named = each_named e defs expand r terms env old is a.types.names errors named
 
@@ -103,6 +108,9 @@ module _ {X : Type 0} (e : TypesRead) (defs : List Definition) (expand : Bool) (
 
   pub no_first_to_name : OnErrors r (λ es. NamesFirstPastLimits e defs expand (error_views es))
   no_first_to_name = passed_on (λ es. RefusesTerms e defs (error_views es)) (λ es. NamesFirstPastLimits e defs expand (error_views es)) (λ es t p. absurd (t.not_valid p.terms)) r f h n
+
+pub nothing_said : {X : Type 0} (e : TypesRead) (defs : List Definition) (expand : Bool) (r : Result X Fault) (f : Fault) → IsErr r × IsErrAnd r (λ y. y ≡ f) → OnErrors {A = TermTable} (Err f) (λ es. RefusesTerms e defs (error_views es)) → OnErrors r (TellsReading e defs expand)
+nothing_said e defs expand r f h n = passed_on (λ es. RefusesTerms e defs (error_views es)) (TellsReading e defs expand) (λ es t valid. absurd (t.not_valid valid)) r f h n
 
 of_reading : (x : Refusal) → IsIllTyped x → IsOfReading x
 of_reading (ill_typed at) h = h

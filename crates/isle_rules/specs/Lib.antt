@@ -7,7 +7,11 @@ pub mod ExprReadings
 pub mod ExprUses
 pub mod Lets
 pub mod RuleReadings
+pub mod ReachedLimits
+pub mod LimitStops
+pub mod UseLimits
 pub mod RuleLists
+pub mod RulesTold
 pub mod RuleErrors
 pub mod LimitsNamed
 pub mod RulePositions

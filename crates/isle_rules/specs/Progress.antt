@@ -1,5 +1,5 @@
 -- What is seen of the work on a rule: its variables, the names that stand for some of them, and how many expansions it took.
-use Rattle.std.specs.Prelude.{◌≡◌, ℕ, suc, ◌+◌, ◌≤◌, nat_eq, List, [], ◌∷◌, ◌++◌, length, map, Option, Some, None, option_map, unwrap_or, Result, Ok, Err, if◌then◌else◌}
+use Rattle.std.specs.Prelude.{◌≡◌, ℕ, suc, ◌+◌, ◌≤◌, ◌<◌, nat_eq, List, [], ◌∷◌, ◌++◌, length, map, Option, Some, None, option_map, unwrap_or, Result, Ok, Err, if◌then◌else◌}
 use Rattle.isle_base.specs.declared.syntax.Error.{Error}
 use Rattle.isle_base.specs.Stable.{look_up}
 use Rattle.isle_model.specs.rules.Typed.{TypedVar}
@@ -50,12 +50,13 @@ pub record CountsOne (old new : Progress) : Type 0 where
   pub expansions : new.expansions ≡ old.expansions + 1
   pub errors : new.errors.items ≡ old.errors.items
 
--- one more expansion is counted, in which one fewer may nest; or none may, or there are as many as may be, and nothing changes
+-- one more expansion is counted, in which one fewer may nest; or none may, or some may and there are as many as may be, and nothing
+-- changes
 abbrev pub Counts : ℕ → Progress → Progress → Result ℕ Stop → Type 0
 Counts nesting old new (Ok left) = (suc left ≡ nesting) × CountsOne old new
 Counts nesting old new (Err (Memory e)) = ⊥
 Counts nesting old new (Err Nesting) = (nesting ≡ 0) × (new ≡ old)
-Counts nesting old new (Err Expansions) = (most_expansions ≤ old.expansions) × (new ≡ old)
+Counts nesting old new (Err Expansions) = (most_expansions ≤ old.expansions) × (new ≡ old) × (0 < nesting)
 
 -- at most errors were noted
 pub record Remains (old new : Progress) : Type 0 where

@@ -12,8 +12,9 @@ ghost use Rattle.isle_types.specs.EnvViews.{environment_view};
 ghost use Rattle.isle_types.specs.TypeViews.{type_views};
 ghost use Rattle.isle_terms.specs.Whole.{shown_by};
 ghost use Rattle.isle_base.specs.ErrorViews.{error_views};
-ghost use Rattle.isle_rules.specs.LimitsNamed.{NamesTypedPastLimits, NamesFirstPastLimits};
+ghost use Rattle.isle_rules.specs.LimitsNamed.{NamesTypedPastLimits, NamesFirstPastLimits, NonePassedInReading};
 ghost use Rattle.isle_rules.specs.RuleBreaches.{FirstBreaksRules};
+ghost use Rattle.isle_rules.specs.RulesTold.{TellsReading};
 ghost use Rattle.isle_rules.specs.ShownEnvs.{terms_shown_by, environment_shown_by};
 ghost use Rattle.isle_types.specs.TypePositions.{types_positions};
 ghost use Rattle.isle_rules.specs.TermEnvs.{term_in_env, rule_in_env, variant_term_in};
@@ -60,6 +61,8 @@ impl TermEnv {
     /// place of the rule; then each rule with a name that an earlier rule has; then each declared term without rules,
     /// external constructor and extractor; then each use of a term without a constructor in an expression.
     /// Each rule that lacks nothing but the limits on expansions is named with one of these.
+    /// A rule whose reading comes to such a limit before anything in it is wrong has that limit as its only error while rules are
+    /// typed; one in which something is wrong before has first what says so, and a limit at most behind it.
     /// `Memory` where memory is refused. Each error stands at positions that occur in the definitions or that the types of
     /// `tyenv` keep. The first error stands where a condition of this is broken: where the terms are valid, at the first rule
     /// that can't be typed, or in a template that is expanded; where all can, at the first rule whose name is taken; else at the
@@ -75,6 +78,7 @@ impl TermEnv {
         requires types { IsReadAs (environment_view tyenv.old) read }
         ensures answers { Answers result (HasTypedRules read (definition_views defs.now) expand_internal_extractors)
             (λ env. (rules : TypedRules) × AreRulesOf read (definition_views defs.now) expand_internal_extractors rules (environment_shown_by env) (environment_view tyenv.new)) }
+        ensures within_limits { IfOk result (λ env. NonePassedInReading read (definition_views defs.now) expand_internal_extractors) }
         ensures left { OnErr result (IsLeftByRefusal read (environment_view tyenv.new)) }
         ensures limits { OnErrors result (λ es. NamesOnlyPassed (PassedInReading read (definition_views defs.now) expand_internal_extractors) (error_views es)) }
         ensures named { OnErrors result (λ es. NamesTypedPastLimits read (definition_views defs.now) expand_internal_extractors (error_views es)) }
@@ -82,6 +86,7 @@ impl TermEnv {
         ensures refused { OnErrors result (λ es. RefusesRules read (definition_views defs.now) expand_internal_extractors (error_views es)) }
         ensures places { OnErrors result (All (ErrorStandsAt (positions_of (definition_views defs.now) ++ types_positions read.known.types))) }
         ensures breach { OnErrors result (FirstBreaksRules read (definition_views defs.now) expand_internal_extractors) }
+        ensures told { OnErrors result (TellsReading read (definition_views defs.now) expand_internal_extractors) }
     {
         let table = TermTable::from_ast(alloc, tyenv, defs)?;
         let mut env = TermEnv::with_terms(alloc, table, expand_internal_extractors);

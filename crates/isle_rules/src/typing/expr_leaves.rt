@@ -10,6 +10,7 @@ ghost use Rattle.isle_base.specs.Noting.{NotesMore};
 ghost use Rattle.isle_reports.specs.Elaborating.{Checks};
 ghost use Rattle.isle_typed.specs.ExprViews.{expr_view};
 ghost use Rattle.isle_rules.specs.ExprReadings.{expected, expr_reading};
+ghost use Rattle.isle_rules.specs.LimitStops.{NotLimited};
 ghost use Rattle.isle_rules.specs.Translating.{standing, Keeps, MayTranslate};
 ghost use Rattle.isle_base.specs.Positions.{NotesAt};
 ghost use Rattle.isle_rules.specs.RulePositions.{StaysPlaced};
@@ -37,6 +38,7 @@ impl TermEnv {
         ensures made { (flags : Flags) (d : ℕ) → MayTranslate self.now (standing tyenv.now work.old) (standing tyenv.now work.new) d
             (expr_reading (bool_expr val (position pos)) flags (expected expected_ty)) expr_view result }
         ensures places { StaysPlaced (position pos ∷ []) work.old.errors.items work.new.errors.items result }
+        ensures unlimited { NotLimited result }
     {
         check_truth(tyenv, &mut work.errors, pos, val, expected_ty)?;
         Ok(Some(Expr::ConstBool(TypeId::BOOL, val)))
@@ -55,6 +57,7 @@ impl TermEnv {
         ensures made { (flags : Flags) (d : ℕ) → MayTranslate self.now (standing tyenv.now work.old) (standing tyenv.now work.new) d
             (expr_reading (int_expr val (position pos)) flags (expected expected_ty)) expr_view result }
         ensures places { StaysPlaced (position pos ∷ []) work.old.errors.items work.new.errors.items result }
+        ensures unlimited { NotLimited result }
     {
         let Some(ty) = expected_ty else {
             report(
@@ -84,6 +87,7 @@ impl TermEnv {
         ensures made { (flags : Flags) (d : ℕ) → MayTranslate self.now (standing tyenv.old work.old) (standing tyenv.new work.new) d
             (expr_reading (prim_expr (name_view val.now) (position pos)) flags (expected expected_ty)) expr_view result }
         ensures places { StaysPlaced (position pos ∷ []) work.old.errors.items work.new.errors.items result }
+        ensures unlimited { NotLimited result }
     {
         let name = tyenv.intern_mut(val)?;
         let Some(ty) = constant_type(tyenv, name) else {

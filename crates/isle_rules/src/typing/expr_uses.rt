@@ -11,6 +11,7 @@ ghost use Rattle.isle_base.specs.Noting.{NotesMore};
 ghost use Rattle.isle_reports.specs.Elaborating.{Checks};
 ghost use Rattle.isle_rules.specs.ExprReadings.{expected};
 ghost use Rattle.isle_rules.specs.ExprUses.{found_expr_converter, declared_converter, inside_call, allowed, UsesVar, UsesCall};
+ghost use Rattle.isle_rules.specs.UseLimits.{VarComes, CallComes};
 ghost use Rattle.isle_rules.specs.Progress.{newest, Remains};
 ghost use Rattle.isle_typed.specs.RuleViews.{var_view};
 ghost use Rattle.isle_rules.specs.Translating.{standing};
@@ -94,6 +95,7 @@ impl TermEnv {
         ensures uses { (flags : Flags) → UsesVar self.now (standing tyenv.now work.old) (standing tyenv.now work.new) nesting (expr_view whole.now) flags (expected expected_ty) result }
         ensures places { StaysPlaced (position pos ∷ []) work.old.errors.items work.new.errors.items result }
         ensures among { ConvertsAmong (expr_positions (expr_view whole.now)) result }
+        ensures limits { (flags : Flags) → VarComes self.now (standing tyenv.now work.old) (standing tyenv.now work.new) nesting (expr_view whole.now) flags (expected expected_ty) result }
     {
         let Some(bound) = find_var(tyenv, work, name) else {
             report_variable(&mut work.errors, pos, name)?;
@@ -131,6 +133,7 @@ impl TermEnv {
         ensures uses { UsesCall self.now (standing tyenv.now work.old) (standing tyenv.now work.new) nesting (expr_view whole.now) (expr_views args.now) (flags_view flags) (expected expected_ty) result }
         ensures places { StaysPlaced (position pos ∷ []) work.old.errors.items work.new.errors.items result }
         ensures among { CallsAmong (expr_positions (expr_view whole.now)) result }
+        ensures limits { CallComes self.now (standing tyenv.now work.old) (standing tyenv.now work.new) nesting (expr_view whole.now) (expr_views args.now) (flags_view flags) (expected expected_ty) result }
     {
         let Some(term) = self.find_term(tyenv, sym) else {
             report_unknown(tyenv, work, pos, sym)?;

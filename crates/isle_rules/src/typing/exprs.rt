@@ -9,6 +9,8 @@ ghost use Rattle.isle_types.specs.Envs.{IsInterned};
 ghost use Rattle.isle_rules.specs.ExprReadings.{expected, expr_reading, args_reading, lets_reading};
 ghost use Rattle.isle_typed.specs.ExprViews.{expr_view, expr_views, expr_parts};
 ghost use Rattle.isle_rules.specs.Lets.{DefinesAll, DefinesOne, with_let};
+ghost use Rattle.isle_rules.specs.LimitStops.{MeetsLimits};
+ghost use Rattle.isle_rules.specs.ReachedLimits.{expr_limits, args_limits, lets_limits};
 ghost use Rattle.isle_rules.specs.Translating.{standing, Keeps, StaysNoted, MayTranslate, Translates};
 ghost use Rattle.isle_base.specs.Positions.{expr_positions, exprs_positions, lets_positions};
 ghost use Rattle.isle_rules.specs.RulePositions.{StaysPlaced};
@@ -47,6 +49,8 @@ impl TermEnv {
         ensures made { MayTranslate self.now (standing tyenv.old work.old) (standing tyenv.new work.new) nesting
             (expr_reading (S.expr_view expr.now) (flags_view flags) (expected expected_ty)) expr_view result }
         ensures places { StaysPlaced (expr_positions (S.expr_view expr.now)) work.old.errors.items work.new.errors.items result }
+        ensures limits { MeetsLimits self.now (standing tyenv.old work.old) (standing tyenv.new work.new) nesting
+            (expr_reading (S.expr_view expr.now) (flags_view flags) (expected expected_ty)) (expr_limits (S.expr_view expr.now) (flags_view flags) (expected expected_ty)) result }
     {
         match expr {
             syntax::Expr::Term { sym, args, pos } => {
@@ -121,6 +125,9 @@ impl TermEnv {
             (args_reading (S.expr_views args.now) (flags_view flags) (map (λ t. t.0) tys.now)) (λ v. expr_parts (expr_views v.items)) result }
         ensures errors { StaysNoted (standing tyenv.old work.old) (standing tyenv.new work.new) result }
         ensures places { StaysPlaced (exprs_positions (S.expr_views args.now)) work.old.errors.items work.new.errors.items result }
+        ensures limits { length args.now ≡ length tys.now
+            → MeetsLimits self.now (standing tyenv.old work.old) (standing tyenv.new work.new) nesting
+            (args_reading (S.expr_views args.now) (flags_view flags) (map (λ t. t.0) tys.now)) (args_limits (S.expr_views args.now) (flags_view flags) (map (λ t. t.0) tys.now)) result }
     {
         let count = args.len().min(tys.len());
         let mut parts = Vec::with_capacity(*self.terms.allocator(), count)?;
@@ -150,6 +157,9 @@ impl TermEnv {
         ensures made { MayTranslate self.now (standing tyenv.old work.old) (standing tyenv.new work.new) nesting
             (expr_reading (let_expr (S.let_views defs.now) (S.expr_view body.now) (S.position pos)) (flags_view flags) (expected expected_ty)) expr_view result }
         ensures places { StaysPlaced (expr_positions (let_expr (S.let_views defs.now) (S.expr_view body.now) (S.position pos))) work.old.errors.items work.new.errors.items result }
+        ensures limits { MeetsLimits self.now (standing tyenv.old work.old) (standing tyenv.new work.new) nesting
+            (expr_reading (let_expr (S.let_views defs.now) (S.expr_view body.now) (S.position pos)) (flags_view flags) (expected expected_ty))
+            (expr_limits (let_expr (S.let_views defs.now) (S.expr_view body.now) (S.position pos)) (flags_view flags) (expected expected_ty)) result }
     {
         let mut hidden = Vec::new(*self.terms.allocator());
         let bindings = self.translate_defs(tyenv, work, &mut hidden, defs, pos, flags, nesting)?;
@@ -178,6 +188,8 @@ impl TermEnv {
         ensures made { DefinesAll self.now (standing tyenv.old work.old) (standing tyenv.new work.new) nesting
             (lets_reading (S.let_views defs.now) (flags_view flags)) hidden.old.items hidden.new.items result }
         ensures places { StaysPlaced (S.position pos ∷ lets_positions (S.let_views defs.now)) work.old.errors.items work.new.errors.items result }
+        ensures limits { MeetsLimits self.now (standing tyenv.old work.old) (standing tyenv.new work.new) nesting
+            (lets_reading (S.let_views defs.now) (flags_view flags)) (lets_limits (S.let_views defs.now) (flags_view flags)) result }
     {
         let mut bindings = Vec::with_capacity(*self.terms.allocator(), defs.len())?;
         for def in defs {
@@ -204,6 +216,8 @@ impl TermEnv {
         ensures made { DefinesOne self.now (standing tyenv.old work.old) (standing tyenv.new work.new) nesting
             (lets_reading (with_let def.now no_let) (flags_view flags)) hidden.old.items hidden.new.items result }
         ensures places { StaysPlaced (S.position pos ∷ lets_positions (with_let def.now no_let)) work.old.errors.items work.new.errors.items result }
+        ensures limits { MeetsLimits self.now (standing tyenv.old work.old) (standing tyenv.new work.new) nesting
+            (lets_reading (with_let def.now no_let) (flags_view flags)) (lets_limits (with_let def.now no_let) (flags_view flags)) result }
     {
         let Some((name, ty)) = begin_def(tyenv, &mut work.errors, def, pos)? else {
             return Ok(None);

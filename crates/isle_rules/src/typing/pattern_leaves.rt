@@ -8,6 +8,7 @@ ghost use Rattle.isle_reports.specs.Elaborating.{Checks};
 ghost use Rattle.isle_typed.specs.PatternViews.{pattern_view};
 ghost use Rattle.isle_rules.specs.PatternReadings.{pattern_reading, BindsAround};
 ghost use Rattle.isle_rules.specs.Progress.{newest, Remains};
+ghost use Rattle.isle_rules.specs.LimitStops.{NotLimited};
 ghost use Rattle.isle_rules.specs.Translating.{standing, Keeps, MayTranslate};
 ghost use Rattle.isle_base.specs.Positions.{NotesAt};
 ghost use Rattle.isle_rules.specs.RulePositions.{StaysPlaced};
@@ -37,6 +38,7 @@ impl TermEnv {
         ensures made { (multi : Bool) (d : ℕ) → MayTranslate self.now (standing tyenv.old work.old) (standing tyenv.new work.new) d
             (pattern_reading multi (var_pattern (name_view var.now) (position pos)) expected_ty.0) pattern_view result }
         ensures places { StaysPlaced (position pos ∷ []) work.old.errors.items work.new.errors.items result }
+        ensures unlimited { NotLimited result }
     {
         let name = tyenv.intern_mut(var)?;
         let Some(bound) = work.lookup(name) else {
@@ -60,6 +62,7 @@ impl TermEnv {
         ensures made { (multi : Bool) (d : ℕ) → MayTranslate self.now (standing tyenv.now work.old) (standing tyenv.now work.new) d
             (pattern_reading multi (bool_pattern val (position pos)) expected_ty.0) pattern_view result }
         ensures places { StaysPlaced (position pos ∷ []) work.old.errors.items work.new.errors.items result }
+        ensures unlimited { NotLimited result }
     {
         check_bool(tyenv, &mut work.errors, pos, val, expected_ty)?;
         Ok(Some(Pattern::ConstBool(TypeId::BOOL, val)))
@@ -78,6 +81,7 @@ impl TermEnv {
         ensures made { (multi : Bool) (d : ℕ) → MayTranslate self.now (standing tyenv.now work.old) (standing tyenv.now work.new) d
             (pattern_reading multi (int_pattern val (position pos)) expected_ty.0) pattern_view result }
         ensures places { StaysPlaced (position pos ∷ []) work.old.errors.items work.new.errors.items result }
+        ensures unlimited { NotLimited result }
     {
         check_integer(tyenv, &mut work.errors, pos, val, expected_ty)?;
         let number = literal_number(tyenv, expected_ty, val);
@@ -99,6 +103,7 @@ impl TermEnv {
         ensures made { (multi : Bool) (d : ℕ) → MayTranslate self.now (standing tyenv.old work.old) (standing tyenv.new work.new) d
             (pattern_reading multi (prim_pattern (name_view val.now) (position pos)) expected_ty.0) pattern_view result }
         ensures places { StaysPlaced (position pos ∷ []) work.old.errors.items work.new.errors.items result }
+        ensures unlimited { NotLimited result }
     {
         let name = tyenv.intern_mut(val)?;
         let Some(ty) = constant_type(tyenv, name) else {
@@ -125,6 +130,7 @@ impl TermEnv {
         ensures binds { (d : ℕ) → BindsAround self.now (standing tyenv.old work.old) (standing tyenv.new work.new) d
             (string_bytes var.now.0) (pattern_view of) result }
         ensures places { StaysPlaced (position pos ∷ []) work.old.errors.items work.new.errors.items result }
+        ensures unlimited { NotLimited result }
     {
         let ty = of.ty();
         let name = tyenv.intern_mut(var)?;
@@ -146,6 +152,7 @@ impl TermEnv {
         ensures made { (multi : Bool) (d : ℕ) → MayTranslate self.now (standing tyenv.now work.old) (standing tyenv.now work.new) d
             (pattern_reading multi (macro_arg index (position pos)) expected_ty.0) pattern_view result }
         ensures places { StaysPlaced (position pos ∷ []) work.old.errors.items work.new.errors.items result }
+        ensures unlimited { NotLimited result }
     {
         report(
             &mut work.errors,

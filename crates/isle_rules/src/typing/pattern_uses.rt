@@ -11,6 +11,7 @@ ghost use Rattle.isle_base.specs.Noting.{NotesMore};
 ghost use Rattle.isle_reports.specs.Elaborating.{Checks};
 ghost use Rattle.isle_rules.specs.Progress.{Remains};
 ghost use Rattle.isle_rules.specs.PatternUses.{found_term, found_converter, found_template, inside_term, UsesTerm};
+ghost use Rattle.isle_rules.specs.UseLimits.{UseComes};
 ghost use Rattle.isle_rules.specs.Translating.{standing};
 ghost use Rattle.isle_base.specs.Positions.{NotesAt, pattern_positions};
 ghost use Rattle.isle_rules.specs.RulePositions.{with_templates, StaysPlaced, ExpandsAmong};
@@ -93,6 +94,7 @@ impl TermEnv {
         ensures uses { UsesTerm self.now (standing tyenv.now work.old) (standing tyenv.now work.new) nesting multi (pattern_view whole.now) (pattern_views args.now) expected_ty.0 result }
         ensures places { StaysPlaced (position pos ∷ []) work.old.errors.items work.new.errors.items result }
         ensures among { ExpandsAmong (with_templates self.now (pattern_positions (pattern_view whole.now))) result }
+        ensures limits { UseComes self.now (standing tyenv.now work.old) (standing tyenv.now work.new) nesting multi (pattern_view whole.now) (pattern_views args.now) expected_ty.0 result }
     {
         let Some(term) = self.find_term(tyenv, sym) else {
             report_unknown(&mut work.errors, pos, sym)?;

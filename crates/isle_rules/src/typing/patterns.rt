@@ -6,6 +6,8 @@ ghost use Rattle.isle_base.specs.SyntaxViews as S;
 ghost use Rattle.isle_types.specs.Envs.{IsInterned};
 ghost use Rattle.isle_typed.specs.PatternViews.{pattern_view, pattern_views, pattern_parts};
 ghost use Rattle.isle_rules.specs.PatternReadings.{pattern_reading, parts_reading, each_reading};
+ghost use Rattle.isle_rules.specs.LimitStops.{MeetsLimits};
+ghost use Rattle.isle_rules.specs.ReachedLimits.{pattern_limits, parts_limits, each_limits};
 ghost use Rattle.isle_rules.specs.Translating.{standing, Keeps, StaysNoted, MayTranslate, Translates};
 ghost use Rattle.isle_base.specs.Positions.{pattern_positions, patterns_positions};
 ghost use Rattle.isle_rules.specs.RulePositions.{with_templates, StaysPlaced};
@@ -40,6 +42,8 @@ impl TermEnv {
         ensures made { MayTranslate self.now (standing tyenv.old work.old) (standing tyenv.new work.new) nesting
             (pattern_reading multi (S.pattern_view pat.now) expected_ty.0) pattern_view result }
         ensures places { StaysPlaced (with_templates self.now (pattern_positions (S.pattern_view pat.now))) work.old.errors.items work.new.errors.items result }
+        ensures limits { MeetsLimits self.now (standing tyenv.old work.old) (standing tyenv.new work.new) nesting
+            (pattern_reading multi (S.pattern_view pat.now) expected_ty.0) (pattern_limits multi (S.pattern_view pat.now) expected_ty.0) result }
     {
         match pat {
             syntax::Pattern::Var { var, pos } => {
@@ -125,6 +129,9 @@ impl TermEnv {
             (parts_reading multi (S.pattern_views args.now) (map (λ t. t.0) tys.now)) (λ v. pattern_parts (pattern_views v.items)) result }
         ensures errors { StaysNoted (standing tyenv.old work.old) (standing tyenv.new work.new) result }
         ensures places { StaysPlaced (with_templates self.now (patterns_positions (S.pattern_views args.now))) work.old.errors.items work.new.errors.items result }
+        ensures limits { length args.now ≡ length tys.now
+            → MeetsLimits self.now (standing tyenv.old work.old) (standing tyenv.new work.new) nesting
+            (parts_reading multi (S.pattern_views args.now) (map (λ t. t.0) tys.now)) (parts_limits multi (S.pattern_views args.now) (map (λ t. t.0) tys.now)) result }
     {
         let count = args.len().min(tys.len());
         let mut parts = Vec::with_capacity(*self.terms.allocator(), count)?;
@@ -151,6 +158,8 @@ impl TermEnv {
         ensures made { Translates self.now (standing tyenv.old work.old) (standing tyenv.new work.new) nesting
             (each_reading multi (S.pattern_views subpats.now) expected_ty.0) (λ v. pattern_parts (pattern_views v.items)) result }
         ensures places { StaysPlaced (with_templates self.now (patterns_positions (S.pattern_views subpats.now))) work.old.errors.items work.new.errors.items result }
+        ensures limits { MeetsLimits self.now (standing tyenv.old work.old) (standing tyenv.new work.new) nesting
+            (each_reading multi (S.pattern_views subpats.now) expected_ty.0) (each_limits multi (S.pattern_views subpats.now) expected_ty.0) result }
     {
         let mut parts = Vec::with_capacity(*self.terms.allocator(), subpats.len())?;
         for subpat in subpats {

@@ -9,6 +9,8 @@ ghost use Rattle.isle_types.specs.Envs.{names_of, IsInterned};
 ghost use Rattle.isle_reports.specs.Elaborating.{Checks};
 ghost use Rattle.isle_rules.specs.RuleReadings.{rule_reading, sides_view, scope_of};
 ghost use Rattle.isle_typed.specs.RuleViews.{rule_view};
+ghost use Rattle.isle_rules.specs.LimitStops.{MeetsLimits};
+ghost use Rattle.isle_rules.specs.ReachedLimits.{rule_limits};
 ghost use Rattle.isle_rules.specs.Translating.{standing, Keeps, MayTranslate};
 ghost use Rattle.isle_base.specs.Positions.{NotesAt, rule_positions};
 ghost use Rattle.isle_rules.specs.RulePositions.{with_templates, StaysPlaced, StandsIf};
@@ -45,6 +47,8 @@ impl TermEnv {
         ensures made { MayTranslate self.now (standing tyenv.old work.old) (standing tyenv.new work.new) nesting
             (rule_reading (S.rule_view rule.now) id.0) rule_view result }
         ensures places { StaysPlaced (with_templates self.now (rule_positions (S.rule_view rule.now))) work.old.errors.items work.new.errors.items result }
+        ensures limits { MeetsLimits self.now (standing tyenv.old work.old) (standing tyenv.new work.new) nesting
+            (rule_reading (S.rule_view rule.now) id.0) (rule_limits (S.rule_view rule.now)) result }
         ensures stands { IfOk result (StandsIf (S.position rule.now.pos)) }
     {
         let Some(sym) = rule.pattern.root_term() else {

@@ -1,12 +1,13 @@
 //! How the rules of a list are typed, one after another and each within the limits on expansions.
 
-ghost use Rattle.std.specs.Prelude.{◌≡◌, ◌++◌, IfOk, OnOk, option_map};
+ghost use Rattle.std.specs.Prelude.{◌≡◌, [], ◌∷◌, ◌++◌, IfOk, OnOk, option_map};
 ghost use Rattle.isle_base.specs.SyntaxViews.{position, definition_view, definition_views, rule_view as tree_view};
 ghost use Rattle.isle_model.specs.lists.TermTable.{rule_of, rule_trees};
 ghost use Rattle.isle_types.specs.Envs.{IsInterned};
 ghost use Rattle.isle_rules.specs.LimitsNamed.{NamesPastLimits};
 ghost use Rattle.isle_rules.specs.RuleBreaches.{BeginsUntyped};
 ghost use Rattle.isle_rules.specs.RuleErrors.{NotesOfRules, NotesOfDefinition};
+ghost use Rattle.isle_rules.specs.RulesTold.{TellsTyping};
 ghost use Rattle.isle_rules.specs.RuleLists.{CollectsRule, CollectsNext, CollectsRules};
 ghost use Rattle.isle_typed.specs.RuleViews.{rule_view, rule_views};
 ghost use Rattle.isle_rules.specs.Translating.{Keeps};
@@ -26,8 +27,34 @@ use std::alloc::AllocError;
 const MOST_NESTED: usize = 256;
 
 impl TermEnv {
-    // A rule with this id, from the names met before it. A limit that it passes ends the work on it, and is noted at its
+    // A rule with this id, from the names met before it, where nothing was noted yet. A limit that it passes ends the work on it, and is noted at its
     // place. Upstream has no such limit.
+    fn type_rule(
+        &self,
+        tyenv: &mut TypeEnv,
+        work: &mut Progress,
+        rule: &syntax::Rule,
+        id: RuleId,
+    ) -> Result<Option<Rule>, AllocError>
+        requires inverse { IsInterned tyenv.old }
+        requires nothing { work.old.errors.items ≡ [] }
+        ensures keeps { Keeps tyenv.old tyenv.new }
+        ensures ends { IfOk result (λ o. CollectsRule self.now tyenv.old tyenv.new work.old.errors.items work.new.errors.items id.0 rule.now (option_map rule_view o)) }
+        ensures places { OnOk result (NotesAt (with_templates self.now (rule_positions (tree_view rule.now))) work.old.errors.items work.new.errors.items) }
+        ensures tells { OnOk result (TellsTyping self.now tyenv.old tyenv.new (tree_view rule.now ∷ []) work.old.errors.items work.new.errors.items) }
+        ensures stands { IfOk result (StandsIf (position rule.now.pos)) }
+    {
+        work.begin();
+        match self.translate_rule(tyenv, work, rule, id, MOST_NESTED) {
+            Ok(made) => Ok(made),
+            Err(stop) => {
+                stop.report(&mut work.errors, rule.pos)?;
+                Ok(None)
+            }
+        }
+    }
+
+    // The same, and what it notes comes behind what was noted before.
     fn collect_rule(
         &self,
         tyenv: &mut TypeEnv,
@@ -39,16 +66,15 @@ impl TermEnv {
         ensures keeps { Keeps tyenv.old tyenv.new }
         ensures ends { IfOk result (λ o. CollectsRule self.now tyenv.old tyenv.new work.old.errors.items work.new.errors.items id.0 rule.now (option_map rule_view o)) }
         ensures places { OnOk result (NotesAt (with_templates self.now (rule_positions (tree_view rule.now))) work.old.errors.items work.new.errors.items) }
+        ensures tells { OnOk result (TellsTyping self.now tyenv.old tyenv.new (tree_view rule.now ∷ []) work.old.errors.items work.new.errors.items) }
         ensures stands { IfOk result (StandsIf (position rule.now.pos)) }
     {
-        work.begin();
-        match self.translate_rule(tyenv, work, rule, id, MOST_NESTED) {
-            Ok(made) => Ok(made),
-            Err(stop) => {
-                stop.report(&mut work.errors, rule.pos)?;
-                Ok(None)
-            }
-        }
+        let none = Vec::new(*self.terms.allocator());
+        let mut errors = std::mem::replace(&mut work.errors, none);
+        let made = self.type_rule(tyenv, work, rule, id)?;
+        errors.append(&mut work.errors)?;
+        work.errors = errors;
+        Ok(made)
     }
 
     // The rule that a definition is, if it is one and can be typed, becomes the next one.
@@ -64,6 +90,7 @@ impl TermEnv {
         ensures reads { OnOk result (CollectsNext self.now tyenv.old tyenv.new work.old.errors.items work.new.errors.items (definition_view def.now) rules.old.items rules.new.items) }
         ensures notes { OnOk result (NotesOfDefinition self.now tyenv.old (definition_view def.now) work.old.errors.items work.new.errors.items) }
         ensures named { OnOk result (NamesPastLimits self.now tyenv.old (rule_of (definition_view def.now)) work.new.errors.items) }
+        ensures tells { OnOk result (TellsTyping self.now tyenv.old tyenv.new (rule_of (definition_view def.now)) work.old.errors.items work.new.errors.items) }
         ensures places { OnOk result (NotesAt (with_templates self.now (definition_positions (definition_view def.now))) work.old.errors.items work.new.errors.items) }
         ensures stand { OnOk result (OccurAmong (rules_at (rule_views rules.new.items)) (rules_at (rule_views rules.old.items) ++ definition_positions (definition_view def.now))) }
     {
@@ -96,6 +123,7 @@ impl TermEnv {
         ensures reads { IfOk result (λ v. CollectsRules self.now tyenv.old tyenv.new work.old.errors.items work.new.errors.items (rule_trees (definition_views defs.now)) (rule_views v.items)) }
         ensures notes { OnOk result (NotesOfRules self.now tyenv.old (rule_trees (definition_views defs.now)) work.old.errors.items work.new.errors.items) }
         ensures named { OnOk result (NamesPastLimits self.now tyenv.old (rule_trees (definition_views defs.now)) work.new.errors.items) }
+        ensures tells { OnOk result (TellsTyping self.now tyenv.old tyenv.new (rule_trees (definition_views defs.now)) work.old.errors.items work.new.errors.items) }
         ensures places { OnOk result (NotesAt (with_templates self.now (positions_of (definition_views defs.now))) work.old.errors.items work.new.errors.items) }
         ensures breach { OnOk result (BeginsUntyped self.now tyenv.old (rule_trees (definition_views defs.now)) work.old.errors.items work.new.errors.items) }
         ensures stand { IfOk result (λ v. OccurAmong (rules_at (rule_views v.items)) (positions_of (definition_views defs.now))) }

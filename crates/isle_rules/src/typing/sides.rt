@@ -10,6 +10,8 @@ ghost use Rattle.isle_rules.specs.PatternReadings.{parts_reading};
 ghost use Rattle.isle_typed.specs.PatternViews.{pattern_views, pattern_parts};
 ghost use Rattle.isle_rules.specs.RuleReadings.{iflet_reading, iflets_reading, sides_reading, sides_view};
 ghost use Rattle.isle_typed.specs.RuleViews.{iflet_view};
+ghost use Rattle.isle_rules.specs.LimitStops.{MeetsLimits};
+ghost use Rattle.isle_rules.specs.ReachedLimits.{iflet_limits, iflets_limits, root_limits, sides_limits};
 ghost use Rattle.isle_rules.specs.Translating.{standing, Keeps, MayTranslate, Translates};
 ghost use Rattle.std.specs.List.{flat_map};
 ghost use Rattle.isle_base.specs.Positions.{patterns_positions, iflet_positions, rule_positions};
@@ -53,6 +55,8 @@ impl TermEnv {
         ensures made { MayTranslate self.now (standing tyenv.old work.old) (standing tyenv.new work.new) nesting
             (iflet_reading (S.iflet_view iflet.now) (flags_view flags)) iflet_view result }
         ensures places { StaysPlaced (with_templates self.now (iflet_positions (S.iflet_view iflet.now))) work.old.errors.items work.new.errors.items result }
+        ensures limits { MeetsLimits self.now (standing tyenv.old work.old) (standing tyenv.new work.new) nesting
+            (iflet_reading (S.iflet_view iflet.now) (flags_view flags)) (iflet_limits (S.iflet_view iflet.now) (flags_view flags)) result }
     {
         let value = self.translate_expr(tyenv, work, &iflet.expr, None, flags.on_lhs(), nesting)?;
         let Some(rhs) = value else {
@@ -84,6 +88,8 @@ impl TermEnv {
         ensures made { Translates self.now (standing tyenv.old work.old) (standing tyenv.new work.new) nesting
             (iflets_reading (map S.iflet_view iflets.now) (flags_view flags)) (λ v. map iflet_view v.items) result }
         ensures places { StaysPlaced (with_templates self.now (flat_map iflet_positions (map S.iflet_view iflets.now))) work.old.errors.items work.new.errors.items result }
+        ensures limits { MeetsLimits self.now (standing tyenv.old work.old) (standing tyenv.new work.new) nesting
+            (iflets_reading (map S.iflet_view iflets.now) (flags_view flags)) (iflets_limits (map S.iflet_view iflets.now) (flags_view flags)) result }
     {
         let mut made = Vec::new(*self.terms.allocator());
         for iflet in iflets {
@@ -110,6 +116,8 @@ impl TermEnv {
         ensures made { Translates self.now (standing tyenv.old work.old) (standing tyenv.new work.new) nesting
             (parts_reading multi (S.pattern_views args.now) (map (λ t. t.0) tys.now)) (λ v. pattern_parts (pattern_views v.items)) result }
         ensures places { StaysPlaced (with_templates self.now (S.position pos ∷ patterns_positions (S.pattern_views args.now))) work.old.errors.items work.new.errors.items result }
+        ensures limits { MeetsLimits self.now (standing tyenv.old work.old) (standing tyenv.new work.new) nesting
+            (parts_reading multi (S.pattern_views args.now) (map (λ t. t.0) tys.now)) (root_limits multi (S.pattern_views args.now) (map (λ t. t.0) tys.now)) result }
     {
         check_count(&mut work.errors, pos, sym, args.len(), tys.len())?;
         self.translate_args(tyenv, work, args, tys, multi, nesting)
@@ -137,6 +145,8 @@ impl TermEnv {
         ensures made { MayTranslate self.now (standing tyenv.old work.old) (standing tyenv.new work.new) nesting
             (sides_reading (S.rule_view rule.now) (flags_view flags) (term_view term.now)) sides_view result }
         ensures places { StaysPlaced (with_templates self.now (rule_positions (S.rule_view rule.now))) work.old.errors.items work.new.errors.items result }
+        ensures limits { MeetsLimits self.now (standing tyenv.old work.old) (standing tyenv.new work.new) nesting
+            (sides_reading (S.rule_view rule.now) (flags_view flags) (term_view term.now)) (sides_limits (S.rule_view rule.now) (flags_view flags) (term_view term.now)) result }
     {
         let tys = term.arg_tys.as_slice();
         let parts = self.translate_root(

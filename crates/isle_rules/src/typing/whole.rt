@@ -8,6 +8,7 @@ ghost use Rattle.isle_rules.specs.LimitsNamed.{NamesPastLimits};
 ghost use Rattle.isle_rules.specs.RuleBreaches.{BeginsWrong};
 ghost use Rattle.isle_rules.specs.RuleErrors.{NotesOfRules};
 ghost use Rattle.isle_rules.specs.RulesRead.{ReadsRules};
+ghost use Rattle.isle_rules.specs.RulesTold.{TellsAll};
 ghost use Rattle.isle_rules.specs.ShownEnvs.{terms_shown_by};
 ghost use Rattle.isle_rules.specs.Translating.{Keeps};
 ghost use Rattle.isle_base.specs.Positions.{NotesAt, positions_of};
@@ -40,6 +41,7 @@ impl TermEnv {
         ensures reads { IfOk result (λ v. ReadsRules self.old tyenv.old tyenv.new (definition_views defs.now) self.new v.items) }
         ensures notes { IfOk result (λ v. NotesOfRules self.old tyenv.old (rule_trees (definition_views defs.now)) [] v.items) }
         ensures named { IfOk result (λ v. NamesPastLimits self.old tyenv.old (rule_trees (definition_views defs.now)) v.items) }
+        ensures tells { IfOk result (λ v. TellsAll self.old tyenv.old (rule_trees (definition_views defs.now)) v.items) }
         ensures breach { IfOk result (λ v. BeginsWrong self.old tyenv.old (rule_trees (definition_views defs.now)) [] v.items) }
         ensures places { IfOk result (λ v. NotesAt (positions_of (definition_views defs.now) ++ terms_positions (term_views self.old.terms.items)) [] v.items) }
     {

@@ -1,4 +1,4 @@
-use Rattle.std.proofs.Common.{◌≡◌, suc, ◌+◌, ◌<◌, List, [], ◌∷◌, length, get_or, refl, sym, ap, ◌∙◌, inl, Some, rules, arith}
+use Rattle.std.proofs.Common.{◌≡◌, suc, ◌+◌, ◌<◌, ◌≤◌, List, [], ◌∷◌, length, get_or, refl, sym, ap, ◌∙◌, inl, Some, None, rules, arith}
 use Rattle.std.proofs.lemmas.Int.{to_z-of_z}
 use Rattle.std.proofs.lemmas.List.{length-map}
 use mir.Val.{SFits}
@@ -7,7 +7,7 @@ use Rattle.isle_base.specs.SyntaxViews as S
 use Rattle.isle_model.specs.lists.Syntax.{Position, no_expr, term_expr, let_expr, no_let}
 use Rattle.isle_terms.specs.TermViews.{flags_view, term_view}
 use Rattle.isle_types.specs.declared.ids.TypeId.{TypeId}
-use Rattle.isle_rules.specs.ExprReadings.{expected, expr_reading, args_reading}
+use Rattle.isle_rules.specs.ExprReadings.{expected, expr_reading, args_reading, lets_reading}
 use Rattle.isle_typed.specs.ExprViews.{expr_view, let_views, let_parts}
 use Rattle.isle_rules.specs.Translating.{standing}
 use Rattle.isle_reports.proofs.Defaults.{same_default}
@@ -22,6 +22,11 @@ use Rattle.isle_base.proofs.Positioned.{among_same, among_first, notes_among, no
 use Rattle.isle_rules.specs.Lets.{with_let}
 use Rattle.isle_rules.proofs.Placed.{stays_among, stays_step, stop_among, stop_step, notes_step}
 use Rattle.isle_rules.proofs.PartPlaces.{among_both_first, call_inside, defs_inside, body_inside, arg_inside, def_inside, value_inside}
+use Rattle.isle_rules.specs.ReachedLimits.{expr_limits}
+use Rattle.isle_rules.proofs.LimitSteps.{not_limited}
+use Rattle.isle_rules.proofs.PatternLimits.{expanded_meets}
+use Rattle.isle_rules.proofs.ExprLimits.{args_end, args_none, next_arg_none, arg_ends, all_args_none}
+use Rattle.isle_rules.proofs.LetLimits.{def_unknown_comes, def_comes, def_ends, next_def_none, next_def_ends, all_defs_none, let_first_ends, let_none, let_ends}
 use Rattle.isle_rules.proofs.term_env.TermEnv.+translate_expr.Goals as goal
 
 pub translate_expr-use_in_expr-requires-clause-whole : goal.translate_expr-use_in_expr-requires-clause-whole
@@ -122,6 +127,7 @@ translate_exprs-loop-i-init t c = (
   keep_none c.args.tyenv.now c.requires,
   none_yet c.args.self.now (standing c.args.tyenv.now c.args.work.now) c.args.nesting (args_reading no_expr (flags_view c.args.flags) []) c.in_ok-parts.parts.items c.in_ok-parts.ensures.items (λ e k s. refl),
   notes_nothing _ _ _ refl,
+  λ e s is sh. refl,
 )
 
 pub translate_exprs-returns-in_err-part-clause-made : goal.translate_exprs-returns-in_err-part-clause-made
@@ -159,6 +165,9 @@ translate_exprs-loop-i-preserved t c =
           notes_step whole part whole c.args.work.now.errors.items c.loop-i.work.errors.items c.translate_expr.new.work.errors.items
           (among_same whole) (arg_inside c.args.args.now c.loop-i.i c.index-args-i.result w c.index-args-i.is) c.loop-i.invariant.2 c.in_ok-part.ensures.places
           ),
+      next_arg_none c.args.self.now (standing c.args.tyenv.now c.args.work.now) (standing c.loop-i.tyenv c.loop-i.work) (standing c.translate_expr.new.tyenv c.translate_expr.new.work) c.args.nesting (flags_view c.args.flags)
+          c.args.args.now c.args.tys.now c.loop-i.i c.index-args-i.result ty w v c.index-args-i.is (same_default c.args.tys.now c.loop-i.i (record { 0 = 0 }) ty v) c.loop-i.invariant.0
+          c.loop-i.parts.items c.loop-i.invariant.1 c.loop-i.invariant.3 c.in_ok-part.ensures.limits,
     )
 
 pub translate_let-translate_defs-requires : goal.translate_let-translate_defs-requires
@@ -205,6 +214,7 @@ translate_defs-loop-def-init t c = (
   keep_none c.args.tyenv.now c.requires,
   no_def_yet c.args.self.now (standing c.args.tyenv.now c.args.work.now) c.args.nesting (flags_view c.args.flags) c.args.hidden.now.items c.in_ok-bindings.bindings.items c.in_ok-bindings.ensures.items,
   notes_nothing _ _ _ refl,
+  λ e s is sh. refl,
 )
 
 pub translate_defs-translate_def-requires : goal.translate_defs-translate_def-requires
@@ -236,6 +246,8 @@ translate_defs-loop-def-preserved t c =
           let inside : OccurAmong (at ∷ one) whole = among_both_first at one (lets_positions (S.let_views c.args.defs.now)) (def_inside c.args.defs.now c.loop-def.def-index c.def-item.result c.loop-def-test.true c.def-item.is) in
           notes_step whole (at ∷ one) whole c.args.work.now.errors.items c.loop-def.work.errors.items c.translate_def.new.work.errors.items (among_same whole) inside c.loop-def.invariant.2 c.in_ok-made.ensures.places
           ),
+      next_def_none c.args.self.now (standing c.args.tyenv.now c.args.work.now) (standing c.loop-def.tyenv c.loop-def.work) (standing c.translate_def.new.tyenv c.translate_def.new.work) c.args.nesting (flags_view c.args.flags)
+          c.args.defs.now c.loop-def.def-index c.def-item.result c.loop-def-test.true c.def-item.is c.loop-def.invariant.0 c.loop-def.bindings.items c.args.hidden.now.items c.loop-def.hidden.items c.loop-def.invariant.1 c.loop-def.invariant.3 c.in_ok-made.ensures.limits,
     )
 
 pub translate_def-returns-in_default-clause-made : goal.translate_def-returns-in_default-clause-made
@@ -487,3 +499,160 @@ pub translate_expr-returns-in-Let-clause-places : goal.translate_expr-returns-in
 translate_expr-returns-in-Let-clause-places t c =
     rw (seen_let c.args.expr.now c.in-Let.defs c.in-Let.body c.in-Let.pos c.deref-in-Let.result.now c.deref-in-Let-2.result.now c.in-Let.is c.deref-in-Let.ensures.value c.deref-in-Let-2.ensures)
     c.translate_let.ensures.places
+
+pub translate_expr-returns-in-Conversion-clause-limits : goal.translate_expr-returns-in-Conversion-clause-limits
+translate_expr-returns-in-Conversion-clause-limits t c =
+    let u = rw c.in-Conversion.is at c.in_ok-use_in_expr-in-Term.ensures.uses in
+    let leads = rw c.in-Conversion.is at c.in_ok-use_in_expr-in-Term.ensures.limits in
+    expanded_meets c.args.self.now (standing c.args.tyenv.now c.args.work.now) (standing c.args.tyenv.now c.use_in_expr.new.work) _ refl c.args.nesting c.in-Conversion.left u.nests
+    (expr_reading (S.expr_view c.args.expr.now) (flags_view c.args.flags) (expected c.args.expected_ty)) (expr_reading (S.expr_view c.in-Conversion.inside) (flags_view c.args.flags) (expected c.args.expected_ty)) (expr_limits (S.expr_view c.args.expr.now) (flags_view c.args.flags) (expected c.args.expected_ty)) (expr_limits (S.expr_view c.in-Conversion.inside) (flags_view c.args.flags) (expected c.args.expected_ty))
+    expr_view (inl u.expands) leads _ c.translate_expr.ensures.made c.translate_expr.ensures.limits
+
+pub translate_expr-returns-in_err-parts-in-Parts-clause-limits : goal.translate_expr-returns-in_err-parts-in-Parts-clause-limits
+translate_expr-returns-in_err-parts-in-Parts-clause-limits t c =
+    let u = rw c.in-Parts.is at c.in_ok-use_in_expr-in-Term.ensures.uses in
+    let leads = rw c.in-Parts.is at c.in_ok-use_in_expr-in-Term.ensures.limits in
+    let args : c.deref-in-Parts.result.now ≡ c.deref.result.now = c.deref-in-Parts.ensures.value ∙ sym c.deref.ensures.value in
+    let limits = rw (args, c.as_slice-tys.ensures.value) at c.in_err-parts-in-Parts.ensures.limits in
+    rw (stop_is c.from_residual-in_err-parts-in-Parts.result c.in_err-parts-in-Parts.field-0.0 c.from_residual-in_err-parts-in-Parts.ensures)
+    (args_end c.args.self.now (standing c.args.tyenv.now c.args.work.now) (standing c.args.tyenv.now c.use_in_expr.new.work) (standing c.translate_exprs.new.tyenv c.translate_exprs.new.work) refl c.args.nesting
+    (S.expr_view c.args.expr.now) c.deref.result.now (flags_view c.args.flags) (expected c.args.expected_ty) (term_view c.in-Parts.term.now) leads u
+    c.in_err-parts-in-Parts.field-0.0 c.in_err-parts-in-Parts.ensures.errors (λ same. limits (same ∙ length-map c.in-Parts.term.now.arg_tys.items (λ ty. ty.0))))
+
+pub translate_expr-returns-in_ok-parts-in-Parts-clause-limits : goal.translate_expr-returns-in_ok-parts-in-Parts-clause-limits
+translate_expr-returns-in_ok-parts-in-Parts-clause-limits t c =
+    let u = rw c.in-Parts.is at c.in_ok-use_in_expr-in-Term.ensures.uses in
+    let leads = rw c.in-Parts.is at c.in_ok-use_in_expr-in-Term.ensures.limits in
+    let args : c.deref-in-Parts.result.now ≡ c.deref.result.now = c.deref-in-Parts.ensures.value ∙ sym c.deref.ensures.value in
+    let limits = rw (args, c.as_slice-tys.ensures.value) at c.in_ok-parts-in-Parts.ensures.limits in
+    (args_none c.args.self.now (standing c.args.tyenv.now c.args.work.now) (standing c.args.tyenv.now c.use_in_expr.new.work) (standing c.translate_exprs.new.tyenv c.translate_exprs.new.work) refl c.args.nesting
+    (S.expr_view c.args.expr.now) c.deref.result.now (flags_view c.args.flags) (expected c.args.expected_ty) (term_view c.in-Parts.term.now) leads u
+    c.in_ok-parts-in-Parts.ensures.errors (λ same. limits (same ∙ length-map c.in-Parts.term.now.arg_tys.items (λ ty. ty.0))))
+
+pub translate_expr-returns-in_err-use_var-in-Var-clause-limits : goal.translate_expr-returns-in_err-use_var-in-Var-clause-limits
+translate_expr-returns-in_err-use_var-in-Var-clause-limits t c =
+    rw (stop_is c.from_residual-in_err-use_var-in-Var.result c.in_err-use_var-in-Var.field-0.0 c.from_residual-in_err-use_var-in-Var.ensures) (c.in_err-use_var-in-Var.ensures.limits (flags_view c.args.flags))
+
+pub translate_expr-returns-in-Wrong-2-clause-limits : goal.translate_expr-returns-in-Wrong-2-clause-limits
+translate_expr-returns-in-Wrong-2-clause-limits t c =
+    rw c.in-Wrong-2.is at (c.in_ok-use_var-in-Var.ensures.limits (flags_view c.args.flags))
+
+pub translate_expr-returns-in-Conversion-2-clause-limits : goal.translate_expr-returns-in-Conversion-2-clause-limits
+translate_expr-returns-in-Conversion-2-clause-limits t c =
+    let u = rw c.in-Conversion-2.is at (c.in_ok-use_var-in-Var.ensures.uses (flags_view c.args.flags)) in
+    let leads = rw c.in-Conversion-2.is at (c.in_ok-use_var-in-Var.ensures.limits (flags_view c.args.flags)) in
+    expanded_meets c.args.self.now (standing c.args.tyenv.now c.args.work.now) (standing c.args.tyenv.now c.use_var.new.work) _ refl c.args.nesting c.in-Conversion-2.left u.nests
+    (expr_reading (S.expr_view c.args.expr.now) (flags_view c.args.flags) (expected c.args.expected_ty)) (expr_reading (S.expr_view c.in-Conversion-2.inside) (flags_view c.args.flags) (expected c.args.expected_ty)) (expr_limits (S.expr_view c.args.expr.now) (flags_view c.args.flags) (expected c.args.expected_ty)) (expr_limits (S.expr_view c.in-Conversion-2.inside) (flags_view c.args.flags) (expected c.args.expected_ty))
+    expr_view (inl u.expands) leads _ c.translate_expr-in-Conversion-2.ensures.made c.translate_expr-in-Conversion-2.ensures.limits
+
+pub translate_expr-returns-in-Var-2-clause-limits : goal.translate_expr-returns-in-Var-2-clause-limits
+translate_expr-returns-in-Var-2-clause-limits t c =
+    rw c.in-Var-2.is at (c.in_ok-use_var-in-Var.ensures.limits (flags_view c.args.flags))
+
+pub translate_expr-returns-in-ConstBool-clause-limits : goal.translate_expr-returns-in-ConstBool-clause-limits
+translate_expr-returns-in-ConstBool-clause-limits t c =
+    not_limited c.args.self.now (standing c.args.tyenv.now c.args.work.now) (standing c.args.tyenv.now c.make_bool.new.work) c.args.nesting (expr_reading (S.expr_view c.args.expr.now) (flags_view c.args.flags) (expected c.args.expected_ty)) (expr_limits (S.expr_view c.args.expr.now) (flags_view c.args.flags) (expected c.args.expected_ty))
+    c.make_bool.result c.make_bool.ensures.unlimited (λ e s is sh. ap (λ x. expr_limits (S.expr_view x) (flags_view c.args.flags) (expected c.args.expected_ty) e c.args.nesting c.args.work.now.expansions s) c.in-ConstBool.is)
+
+pub translate_expr-returns-in-ConstInt-clause-limits : goal.translate_expr-returns-in-ConstInt-clause-limits
+translate_expr-returns-in-ConstInt-clause-limits t c =
+    not_limited c.args.self.now (standing c.args.tyenv.now c.args.work.now) (standing c.args.tyenv.now c.make_int.new.work) c.args.nesting (expr_reading (S.expr_view c.args.expr.now) (flags_view c.args.flags) (expected c.args.expected_ty)) (expr_limits (S.expr_view c.args.expr.now) (flags_view c.args.flags) (expected c.args.expected_ty))
+    c.make_int.result c.make_int.ensures.unlimited (λ e s is sh. ap (λ x. expr_limits (S.expr_view x) (flags_view c.args.flags) (expected c.args.expected_ty) e c.args.nesting c.args.work.now.expansions s) c.in-ConstInt.is)
+
+pub translate_expr-returns-in-ConstPrim-clause-limits : goal.translate_expr-returns-in-ConstPrim-clause-limits
+translate_expr-returns-in-ConstPrim-clause-limits t c =
+    not_limited c.args.self.now (standing c.args.tyenv.now c.args.work.now) (standing c.make_prim.new.tyenv c.make_prim.new.work) c.args.nesting (expr_reading (S.expr_view c.args.expr.now) (flags_view c.args.flags) (expected c.args.expected_ty)) (expr_limits (S.expr_view c.args.expr.now) (flags_view c.args.flags) (expected c.args.expected_ty))
+    c.make_prim.result c.make_prim.ensures.unlimited (λ e s is sh. ap (λ x. expr_limits (S.expr_view x) (flags_view c.args.flags) (expected c.args.expected_ty) e c.args.nesting c.args.work.now.expansions s) c.in-ConstPrim.is)
+
+pub translate_expr-returns-in-Let-clause-limits : goal.translate_expr-returns-in-Let-clause-limits
+translate_expr-returns-in-Let-clause-limits t c =
+    rw (seen_let c.args.expr.now c.in-Let.defs c.in-Let.body c.in-Let.pos c.deref-in-Let.result.now c.deref-in-Let-2.result.now c.in-Let.is c.deref-in-Let.ensures.value c.deref-in-Let-2.ensures)
+    c.translate_let.ensures.limits
+
+pub translate_exprs-returns-in_err-part-clause-limits : goal.translate_exprs-returns-in_err-part-clause-limits
+translate_exprs-returns-in_err-part-clause-limits t c count =
+    let w : c.loop-i.i < length c.args.args.now = search rules in
+    let v : c.loop-i.i < length c.args.tys.now = search rules in
+    let ty : TypeId = get_or c.args.tys.now c.loop-i.i (record { 0 = 0 }) in
+    rw (stop_is c.from_residual-in_err-part.result c.in_err-part.field-0.0 c.from_residual-in_err-part.ensures)
+    (arg_ends c.args.self.now (standing c.args.tyenv.now c.args.work.now) (standing c.loop-i.tyenv c.loop-i.work) (standing c.translate_expr.new.tyenv c.translate_expr.new.work) c.args.nesting (flags_view c.args.flags)
+    c.args.args.now c.args.tys.now c.loop-i.i c.index-args-i.result ty w v c.index-args-i.is (same_default c.args.tys.now c.loop-i.i (record { 0 = 0 }) ty v) c.loop-i.invariant.0
+    c.loop-i.parts.items c.loop-i.invariant.1 c.loop-i.invariant.3
+    c.in_err-part.field-0.0 (stop_keeps c.args.self.now (standing c.loop-i.tyenv c.loop-i.work) (standing c.translate_expr.new.tyenv c.translate_expr.new.work) c.args.nesting (expr_reading (S.expr_view c.index-args-i.result) (flags_view c.args.flags) (Some ty.0)) c.in_err-part.field-0.0 c.in_err-part.ensures.made) c.in_err-part.ensures.limits count)
+
+pub translate_let-returns-in_err-bindings-clause-limits : goal.translate_let-returns-in_err-bindings-clause-limits
+translate_let-returns-in_err-bindings-clause-limits t c =
+    rw (stop_is c.from_residual.result c.in_err-bindings.field-0.0 c.from_residual.ensures)
+    (let_first_ends c.args.self.now (standing c.args.tyenv.now c.args.work.now) (standing c.translate_defs.new.tyenv c.translate_defs.new.work) (standing c.translate_defs.new.tyenv c.translate_defs.new.work) c.args.nesting (flags_view c.args.flags)
+    (S.let_views c.args.defs.now) (S.expr_view c.args.body.now) (S.position c.args.pos) (expected c.args.expected_ty)
+    c.in_err-bindings.field-0.0 c.in_err-bindings.ensures.limits)
+
+pub translate_let-returns-in_err-made-clause-limits : goal.translate_let-returns-in_err-made-clause-limits
+translate_let-returns-in_err-made-clause-limits t c =
+    let done = rw c.new-hidden.ensures.items at c.in_ok-bindings.ensures.made in
+    rw (stop_is c.from_residual-in_err-made.result c.in_err-made.field-0.0 c.from_residual-in_err-made.ensures)
+    (let_ends c.args.self.now (standing c.args.tyenv.now c.args.work.now) (standing c.translate_defs.new.tyenv c.translate_defs.new.work) (standing c.translate_expr.new.tyenv c.translate_expr.new.work) c.args.nesting (flags_view c.args.flags)
+    (S.let_views c.args.defs.now) (S.expr_view c.args.body.now) (S.position c.args.pos) (expected c.args.expected_ty) (let_parts (let_views c.in_ok-bindings.bindings.items)) c.translate_defs.new.hidden.items
+    c.translate_defs.ensures.keeps done c.in_ok-bindings.ensures.limits
+    c.in_err-made.field-0.0 (stop_keeps c.args.self.now (standing c.translate_defs.new.tyenv c.translate_defs.new.work) (standing c.translate_expr.new.tyenv c.translate_expr.new.work) c.args.nesting (expr_reading (S.expr_view c.args.body.now) (flags_view c.args.flags) (expected c.args.expected_ty)) c.in_err-made.field-0.0 c.in_err-made.ensures.made) c.in_err-made.ensures.limits)
+
+pub translate_let-returns-in_default-clause-limits : goal.translate_let-returns-in_default-clause-limits
+translate_let-returns-in_default-clause-limits t c =
+    let done = rw c.new-hidden.ensures.items at c.in_ok-bindings.ensures.made in
+    let_none c.args.self.now (standing c.args.tyenv.now c.args.work.now) (standing c.translate_defs.new.tyenv c.translate_defs.new.work) (standing c.translate_expr.new.tyenv c.translate_expr.new.work) c.args.nesting (flags_view c.args.flags)
+    (S.let_views c.args.defs.now) (S.expr_view c.args.body.now) (S.position c.args.pos) (expected c.args.expected_ty) (let_parts (let_views c.in_ok-bindings.bindings.items)) c.translate_defs.new.hidden.items
+    c.translate_defs.ensures.keeps done c.in_ok-bindings.ensures.limits
+    c.in_ok-made.ensures.limits
+
+pub translate_let-returns-clause-limits : goal.translate_let-returns-clause-limits
+translate_let-returns-clause-limits t c =
+    let done = rw c.new-hidden.ensures.items at c.in_ok-bindings.ensures.made in
+    let_none c.args.self.now (standing c.args.tyenv.now c.args.work.now) (standing c.translate_defs.new.tyenv c.translate_defs.new.work) (standing c.translate_expr.new.tyenv c.translate_expr.new.work) c.args.nesting (flags_view c.args.flags)
+    (S.let_views c.args.defs.now) (S.expr_view c.args.body.now) (S.position c.args.pos) (expected c.args.expected_ty) (let_parts (let_views c.in_ok-bindings.bindings.items)) c.translate_defs.new.hidden.items
+    c.translate_defs.ensures.keeps done c.in_ok-bindings.ensures.limits
+    c.in_ok-made.ensures.limits
+
+pub translate_defs-returns-in_err-made-clause-limits : goal.translate_defs-returns-in_err-made-clause-limits
+translate_defs-returns-in_err-made-clause-limits t c =
+    rw (stop_is c.from_residual-in_err-made.result c.in_err-made.field-0.0 c.from_residual-in_err-made.ensures)
+    (next_def_ends c.args.self.now (standing c.args.tyenv.now c.args.work.now) (standing c.loop-def.tyenv c.loop-def.work) (standing c.translate_def.new.tyenv c.translate_def.new.work) c.args.nesting (flags_view c.args.flags)
+    c.args.defs.now c.loop-def.def-index c.def-item.result c.loop-def-test.true c.def-item.is c.loop-def.invariant.0 c.loop-def.bindings.items c.args.hidden.now.items c.loop-def.hidden.items c.loop-def.invariant.1 c.loop-def.invariant.3
+    c.in_err-made.field-0.0 (stop_keeps c.args.self.now (standing c.loop-def.tyenv c.loop-def.work) (standing c.translate_def.new.tyenv c.translate_def.new.work) c.args.nesting (lets_reading (with_let c.def-item.result no_let) (flags_view c.args.flags)) c.in_err-made.field-0.0 c.in_err-made.ensures.made) c.in_err-made.ensures.limits)
+
+pub translate_defs-returns-clause-limits : goal.translate_defs-returns-clause-limits
+translate_defs-returns-clause-limits t c =
+    all_defs_none c.args.self.now (standing c.args.tyenv.now c.args.work.now) c.args.nesting (flags_view c.args.flags) c.args.defs.now c.loop-def.def-index c.loop-def-test.false c.loop-def.invariant.3
+
+pub translate_def-returns-in_default-clause-limits : goal.translate_def-returns-in_default-clause-limits
+translate_def-returns-in_default-clause-limits t c =
+    let u = rw c.in_default.is at c.in_ok-name.ensures.begins in
+    def_unknown_comes c.args.self.now (standing c.args.tyenv.now c.args.work.now) (standing c.args.tyenv.now c.args.work.now) (S.name_view c.args.def.now.var) (S.name_view c.args.def.now.ty) (S.expr_view c.args.def.now.val.value) (S.position c.args.def.now.pos) (flags_view c.args.flags)
+    c.requires u.1 c.args.nesting
+
+pub translate_def-returns-in_err-made-clause-limits : goal.translate_def-returns-in_err-made-clause-limits
+translate_def-returns-in_err-made-clause-limits t c =
+    let u = rw c.in-Some.is at c.in_ok-name.ensures.begins in
+    rw (stop_is c.from_residual-in_err-made.result c.in_err-made.field-0.0 c.from_residual-in_err-made.ensures)
+    (def_ends c.args.self.now (standing c.args.tyenv.now c.args.work.now) (standing c.begin_def.new.tyenv _) (S.name_view c.args.def.now.var) (S.name_view c.args.def.now.ty) (S.expr_view c.args.def.now.val.value) (S.position c.args.def.now.pos) (flags_view c.args.flags)
+    c.requires c.begin_def.ensures.keeps u.1 (record { vars = refl; names = λ k. refl; expansions = refl }) c.in-Some.ty.0 u.3 u.0 c.args.nesting (standing c.translate_expr.new.tyenv c.translate_expr.new.work) c.in_err-made.field-0.0
+    (rw c.deref.ensures at c.in_err-made.ensures.limits))
+
+pub translate_def-returns-in_default-made-clause-limits : goal.translate_def-returns-in_default-made-clause-limits
+translate_def-returns-in_default-made-clause-limits t c =
+    let u = rw c.in-Some.is at c.in_ok-name.ensures.begins in
+    def_comes c.args.self.now (standing c.args.tyenv.now c.args.work.now) (standing c.begin_def.new.tyenv _) (S.name_view c.args.def.now.var) (S.name_view c.args.def.now.ty) (S.expr_view c.args.def.now.val.value) (S.position c.args.def.now.pos) (flags_view c.args.flags)
+    c.requires c.begin_def.ensures.keeps u.1 (record { vars = refl; names = λ k. refl; expansions = refl }) c.in-Some.ty.0 u.3 u.0 c.args.nesting None
+    (rw c.deref.ensures at c.in_ok-made.ensures.limits)
+
+pub translate_def-returns-clause-limits : goal.translate_def-returns-clause-limits
+translate_def-returns-clause-limits t c =
+    let u = rw c.in-Some.is at c.in_ok-name.ensures.begins in
+    def_comes c.args.self.now (standing c.args.tyenv.now c.args.work.now) (standing c.begin_def.new.tyenv _) (S.name_view c.args.def.now.var) (S.name_view c.args.def.now.ty) (S.expr_view c.args.def.now.val.value) (S.position c.args.def.now.pos) (flags_view c.args.flags)
+    c.requires c.begin_def.ensures.keeps u.1 (record { vars = refl; names = λ k. refl; expansions = refl }) c.in-Some.ty.0 u.3 u.0 c.args.nesting None
+    (rw c.deref.ensures at c.in_ok-made.ensures.limits)
+
+pub translate_exprs-returns-clause-limits : goal.translate_exprs-returns-clause-limits
+translate_exprs-returns-clause-limits t c count =
+    let w : length c.args.args.now ≤ c.loop-i.i = search (rules, count) in
+    let v : length c.args.tys.now ≤ c.loop-i.i = search (rules, count) in
+    all_args_none c.args.self.now (standing c.args.tyenv.now c.args.work.now) c.args.nesting (flags_view c.args.flags) c.args.args.now c.args.tys.now c.loop-i.i w v c.loop-i.invariant.3

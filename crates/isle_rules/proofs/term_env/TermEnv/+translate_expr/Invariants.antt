@@ -1,10 +1,12 @@
-use Rattle.std.proofs.Common.{suc, ◌+◌, ◌∷◌, map, take}
+use Rattle.std.proofs.Common.{suc, ◌+◌, ◌∷◌, map, take, None}
 use Rattle.isle_base.specs.SyntaxViews as S
 use Rattle.isle_base.specs.Positions.{NotesAt, exprs_positions, lets_positions}
 use Rattle.isle_terms.specs.TermViews.{flags_view}
 use Rattle.isle_rules.specs.ExprReadings.{args_reading, lets_reading}
 use Rattle.isle_typed.specs.ExprViews.{let_views, let_parts}
 use Rattle.isle_rules.specs.Lets.{Defines}
+use Rattle.isle_rules.specs.ReachedLimits.{args_limits, lets_limits}
+use Rattle.isle_rules.specs.LimitStops.{ComesTo}
 use Rattle.isle_rules.specs.Translating.{standing, Keeps}
 use Rattle.isle_rules.proofs.ExprLists.{SoFar}
 use Rattle.isle_rules.proofs.ExprSizes.{expr_size, exprs_size, lets_size}
@@ -31,9 +33,11 @@ invariant-translate_exprs-loop-i l =
     Keeps l.fn.tyenv l.tyenv
     × SoFar l.self (standing l.fn.tyenv l.fn.work) (standing l.tyenv l.work) l.nesting (args_reading (S.expr_views (take l.i l.args)) (flags_view l.flags) (map (λ t. t.0) (take l.i l.tys))) l.parts.items
     × NotesAt (exprs_positions (S.expr_views l.args)) l.fn.work.errors.items l.work.errors.items
+    × ComesTo l.self (standing l.fn.tyenv l.fn.work) l.nesting (args_limits (S.expr_views (take l.i l.args)) (flags_view l.flags) (map (λ t. t.0) (take l.i l.tys))) None
 
 abbrev pub invariant-translate_defs-loop-def : goal.invariant-translate_defs-loop-def
 invariant-translate_defs-loop-def l =
     Keeps l.fn.tyenv l.tyenv
     × Defines l.self (standing l.fn.tyenv l.fn.work) (standing l.tyenv l.work) l.nesting (lets_reading (S.let_views (take l.def-index l.defs)) (flags_view l.flags)) (let_parts (let_views l.bindings.items)) l.fn.hidden.items l.hidden.items
     × NotesAt (S.position l.pos ∷ lets_positions (S.let_views l.defs)) l.fn.work.errors.items l.work.errors.items
+    × ComesTo l.self (standing l.fn.tyenv l.fn.work) l.nesting (lets_limits (S.let_views (take l.def-index l.defs)) (flags_view l.flags)) None

@@ -1,9 +1,9 @@
-use Rattle.std.proofs.Common.{◌≡◌, ℕ, ◌<◌, List, [], ◌∷◌, length, get_or, refl, sym, ap, ◌∙◌, rules, arith}
+use Rattle.std.proofs.Common.{◌≡◌, ℕ, ◌<◌, ◌≤◌, List, [], ◌∷◌, length, get_or, refl, sym, ap, ◌∙◌, rules, arith}
 use Rattle.std.proofs.lemmas.Int.{to_z-of_z}
 use Rattle.std.proofs.lemmas.List.{length-map}
 use mir.Val.{SFits}
 use mir.Syntax.{w128}
-use Rattle.isle_model.specs.lists.Syntax.{Position, no_pattern, bind_pattern, term_pattern, and_pattern}
+use Rattle.isle_model.specs.lists.Syntax.{Position, no_pattern, var_pattern, bool_pattern, prim_pattern, macro_arg, bind_pattern, term_pattern, and_pattern}
 use Rattle.isle_model.specs.rules.Typed.{match_and}
 use Rattle.isle_types.specs.declared.ids.TypeId.{TypeId}
 use Rattle.isle_base.specs.SyntaxViews as S
@@ -16,12 +16,15 @@ use Rattle.isle_typed.proofs.PatternBridges.{row_patterns-hidden}
 use Rattle.isle_rules.proofs.PatternLists.{none_yet, next_part, part_stops, next_each, each_stops}
 use Rattle.isle_rules.proofs.PatternSizes.{tree_size, trees_size, growth, grown, smaller, deeper_smaller, expansion_smaller, smaller_part}
 use Rattle.isle_rules.proofs.PatternForms.{seen_bind, seen_term, seen_and, any_used, bind_done, bind_reported, bind_stops, parts_done, parts_stop}
-use Rattle.isle_rules.proofs.Readings.{stop_is, stop_keeps, stays_on, may_report, keep_none, keep_on, made_done, made_stops, expanded_done}
+use Rattle.isle_rules.proofs.Readings.{stop_is, stop_keeps, stays_on, may_report, keep_none, keep_on, made_done, made_reported, made_stops, expanded_done}
 use Rattle.isle_base.specs.Positions.{OccurAmong, pattern_positions, patterns_positions}
 use Rattle.isle_base.proofs.Positioned.{among_same, among_first, notes_among, notes_nothing}
 use Rattle.isle_rules.specs.RulePositions.{with_templates}
 use Rattle.isle_rules.proofs.Placed.{among_with, among_here, among_made, stays_head, stays_step, stop_among, stop_step, notes_step}
 use Rattle.isle_rules.proofs.PartPlaces.{bind_inside, term_inside, and_inside, part_inside}
+use Rattle.isle_rules.specs.ReachedLimits.{pattern_limits, each_limits}
+use Rattle.isle_rules.proofs.LimitSteps.{not_limited, same_ends}
+use Rattle.isle_rules.proofs.PatternLimits.{expanded_meets, parts_end, parts_none, next_part_none, part_ends, all_parts_none, next_each_none, each_ends, all_each_none}
 use Rattle.isle_rules.proofs.term_env.TermEnv.+translate_pattern.Goals as goal
 
 pub translate_pattern-returns-in_err-made-in-BindPattern-clause-made : goal.translate_pattern-returns-in_err-made-in-BindPattern-clause-made
@@ -160,6 +163,7 @@ translate_args-loop-i-init t c = (
   keep_none c.args.tyenv.now c.requires,
   none_yet c.args.self.now (standing c.args.tyenv.now c.args.work.now) c.args.nesting (parts_reading c.args.multi no_pattern []) c.in_ok-parts.parts.items c.in_ok-parts.ensures.items (λ e k s. refl),
   notes_nothing _ _ _ refl,
+  λ e s is sh. refl,
 )
 
 pub translate_args-returns-in_err-part-clause-made : goal.translate_args-returns-in_err-part-clause-made
@@ -197,6 +201,9 @@ translate_args-loop-i-preserved t c =
           notes_step (with_templates c.args.self.now whole) (with_templates c.args.self.now part) (with_templates c.args.self.now whole) c.args.work.now.errors.items c.loop-i.work.errors.items c.translate_pattern.new.work.errors.items
           (among_same (with_templates c.args.self.now whole)) (among_with c.args.self.now part whole (part_inside c.args.args.now c.loop-i.i c.index-args-i.result w c.index-args-i.is)) c.loop-i.invariant.2 c.in_ok-part.ensures.places
           ),
+      next_part_none c.args.multi c.args.self.now (standing c.args.tyenv.now c.args.work.now) (standing c.loop-i.tyenv c.loop-i.work) (standing c.translate_pattern.new.tyenv c.translate_pattern.new.work) c.args.nesting
+          c.args.args.now c.args.tys.now c.loop-i.i c.index-args-i.result ty w v c.index-args-i.is (same_default c.args.tys.now c.loop-i.i (record { 0 = 0 }) ty v) c.loop-i.invariant.0
+          c.loop-i.parts.items c.loop-i.invariant.1 c.loop-i.invariant.3 c.in_ok-part.ensures.limits,
     )
 
 pub translate_each-loop-subpat-init : goal.translate_each-loop-subpat-init
@@ -204,6 +211,7 @@ translate_each-loop-subpat-init t c = (
   keep_none c.args.tyenv.now c.requires,
   none_yet c.args.self.now (standing c.args.tyenv.now c.args.work.now) c.args.nesting (each_reading c.args.multi no_pattern c.args.expected_ty.0) c.in_ok-parts.parts.items c.in_ok-parts.ensures.items (λ e k s. refl),
   notes_nothing _ _ _ refl,
+  λ e s is sh. refl,
 )
 
 pub translate_each-returns-in_err-part-clause-made : goal.translate_each-returns-in_err-part-clause-made
@@ -227,6 +235,9 @@ translate_each-loop-subpat-preserved t c =
           notes_step (with_templates c.args.self.now whole) (with_templates c.args.self.now part) (with_templates c.args.self.now whole) c.args.work.now.errors.items c.loop-subpat.work.errors.items c.translate_pattern.new.work.errors.items
           (among_same (with_templates c.args.self.now whole)) (among_with c.args.self.now part whole (part_inside c.args.subpats.now c.loop-subpat.subpat-index c.subpat-item.result c.loop-subpat-test.true c.subpat-item.is)) c.loop-subpat.invariant.2 c.in_ok-part.ensures.places
           ),
+      next_each_none c.args.multi c.args.self.now (standing c.args.tyenv.now c.args.work.now) (standing c.loop-subpat.tyenv c.loop-subpat.work) (standing c.translate_pattern.new.tyenv c.translate_pattern.new.work) c.args.nesting
+          c.args.subpats.now c.args.expected_ty.0 c.loop-subpat.subpat-index c.subpat-item.result c.loop-subpat-test.true c.subpat-item.is c.loop-subpat.invariant.0
+          c.loop-subpat.parts.items c.loop-subpat.invariant.1 c.loop-subpat.invariant.3 c.in_ok-part.ensures.limits,
     )
 
 pub translate_args-returns-in_err-part-clause-places : goal.translate_args-returns-in_err-part-clause-places
@@ -382,3 +393,113 @@ translate_pattern-returns-in_ok-parts-in-And-clause-places t c =
     let at = S.position c.in-And.pos in
     let inside : OccurAmong (with_templates c.args.self.now (patterns_positions parts)) (with_templates c.args.self.now (pattern_positions (and_pattern parts at))) = among_with c.args.self.now (patterns_positions parts) (pattern_positions (and_pattern parts at)) (and_inside parts at) in
     rw (seen_and c.args.pat.now c.in-And.subpats c.in-And.pos c.deref-in-And.result.now c.in-And.is c.deref-in-And.ensures.value) (notes_among (with_templates c.args.self.now (patterns_positions parts)) (with_templates c.args.self.now (pattern_positions (and_pattern parts at))) c.args.work.now.errors.items c.translate_each.new.work.errors.items inside c.in_ok-parts-in-And.ensures.places)
+
+pub translate_pattern-returns-in-Var-clause-limits : goal.translate_pattern-returns-in-Var-clause-limits
+translate_pattern-returns-in-Var-clause-limits t c =
+    rw c.in-Var.is (not_limited c.args.self.now (standing c.args.tyenv.now c.args.work.now) (standing c.translate_var.new.tyenv c.translate_var.new.work) c.args.nesting (pattern_reading c.args.multi (var_pattern (S.name_view c.in-Var.var) (S.position c.in-Var.pos)) c.args.expected_ty.0) (pattern_limits c.args.multi (var_pattern (S.name_view c.in-Var.var) (S.position c.in-Var.pos)) c.args.expected_ty.0) c.translate_var.result c.translate_var.ensures.unlimited (λ e s is sh. refl))
+
+pub translate_pattern-returns-in-ConstBool-clause-limits : goal.translate_pattern-returns-in-ConstBool-clause-limits
+translate_pattern-returns-in-ConstBool-clause-limits t c =
+    rw c.in-ConstBool.is (not_limited c.args.self.now (standing c.args.tyenv.now c.args.work.now) (standing c.args.tyenv.now c.translate_bool.new.work) c.args.nesting (pattern_reading c.args.multi (bool_pattern c.in-ConstBool.val (S.position c.in-ConstBool.pos)) c.args.expected_ty.0) (pattern_limits c.args.multi (bool_pattern c.in-ConstBool.val (S.position c.in-ConstBool.pos)) c.args.expected_ty.0) c.translate_bool.result c.translate_bool.ensures.unlimited (λ e s is sh. refl))
+
+pub translate_pattern-returns-in-ConstInt-clause-limits : goal.translate_pattern-returns-in-ConstInt-clause-limits
+translate_pattern-returns-in-ConstInt-clause-limits t c =
+    not_limited c.args.self.now (standing c.args.tyenv.now c.args.work.now) (standing c.args.tyenv.now c.translate_int.new.work) c.args.nesting (pattern_reading c.args.multi (S.pattern_view c.args.pat.now) c.args.expected_ty.0) (pattern_limits c.args.multi (S.pattern_view c.args.pat.now) c.args.expected_ty.0)
+    c.translate_int.result c.translate_int.ensures.unlimited (λ e s is sh. ap (λ p. pattern_limits c.args.multi (S.pattern_view p) c.args.expected_ty.0 e c.args.nesting c.args.work.now.expansions s) c.in-ConstInt.is)
+
+pub translate_pattern-returns-in-ConstPrim-clause-limits : goal.translate_pattern-returns-in-ConstPrim-clause-limits
+translate_pattern-returns-in-ConstPrim-clause-limits t c =
+    rw c.in-ConstPrim.is (not_limited c.args.self.now (standing c.args.tyenv.now c.args.work.now) (standing c.translate_prim.new.tyenv c.translate_prim.new.work) c.args.nesting (pattern_reading c.args.multi (prim_pattern (S.name_view c.in-ConstPrim.val) (S.position c.in-ConstPrim.pos)) c.args.expected_ty.0) (pattern_limits c.args.multi (prim_pattern (S.name_view c.in-ConstPrim.val) (S.position c.in-ConstPrim.pos)) c.args.expected_ty.0) c.translate_prim.result c.translate_prim.ensures.unlimited (λ e s is sh. refl))
+
+pub translate_pattern-returns-in-MacroArg-clause-limits : goal.translate_pattern-returns-in-MacroArg-clause-limits
+translate_pattern-returns-in-MacroArg-clause-limits t c =
+    rw c.in-MacroArg.is (not_limited c.args.self.now (standing c.args.tyenv.now c.args.work.now) (standing c.args.tyenv.now c.refuse_macro_arg.new.work) c.args.nesting (pattern_reading c.args.multi (macro_arg c.in-MacroArg.index (S.position c.in-MacroArg.pos)) c.args.expected_ty.0) (pattern_limits c.args.multi (macro_arg c.in-MacroArg.index (S.position c.in-MacroArg.pos)) c.args.expected_ty.0) c.refuse_macro_arg.result c.refuse_macro_arg.ensures.unlimited (λ e s is sh. refl))
+
+pub translate_pattern-returns-in-Wildcard-clause-limits : goal.translate_pattern-returns-in-Wildcard-clause-limits
+translate_pattern-returns-in-Wildcard-clause-limits t c =
+    rw c.in-Wildcard.is (λ e s is sh. refl)
+
+pub translate_pattern-returns-in_err-made-in-BindPattern-clause-limits : goal.translate_pattern-returns-in_err-made-in-BindPattern-clause-limits
+translate_pattern-returns-in_err-made-in-BindPattern-clause-limits t c =
+    rw (stop_is c.from_residual.result c.in_err-made-in-BindPattern.field-0.0 c.from_residual.ensures, seen_bind c.args.pat.now c.in-BindPattern.var c.in-BindPattern.subpat c.in-BindPattern.pos c.deref.result.now c.in-BindPattern.is c.deref.ensures)
+    (same_ends c.args.self.now (standing c.args.tyenv.now c.args.work.now) (standing c.translate_pattern.new.tyenv c.translate_pattern.new.work) c.args.nesting (pattern_reading c.args.multi (S.pattern_view c.deref.result.now) c.args.expected_ty.0) (pattern_reading c.args.multi (bind_pattern (S.name_view c.in-BindPattern.var) (S.pattern_view c.deref.result.now) (S.position c.in-BindPattern.pos)) c.args.expected_ty.0) (pattern_limits c.args.multi (S.pattern_view c.deref.result.now) c.args.expected_ty.0) (pattern_limits c.args.multi (bind_pattern (S.name_view c.in-BindPattern.var) (S.pattern_view c.deref.result.now) (S.position c.in-BindPattern.pos)) c.args.expected_ty.0) (λ e s is sh. refl)
+    (bind_reported c.args.multi (S.name_view c.in-BindPattern.var) (S.pattern_view c.deref.result.now) (S.position c.in-BindPattern.pos) c.args.expected_ty.0 c.args.self.now (standing c.args.tyenv.now c.args.work.now) (standing c.translate_pattern.new.tyenv c.translate_pattern.new.work) (standing c.translate_pattern.new.tyenv c.translate_pattern.new.work) c.args.nesting)
+    c.in_err-made-in-BindPattern.field-0.0 c.in_err-made-in-BindPattern.ensures.limits)
+
+pub translate_pattern-returns-in_default-clause-limits : goal.translate_pattern-returns-in_default-clause-limits
+translate_pattern-returns-in_default-clause-limits t c =
+    rw (seen_bind c.args.pat.now c.in-BindPattern.var c.in-BindPattern.subpat c.in-BindPattern.pos c.deref.result.now c.in-BindPattern.is c.deref.ensures) c.in_ok-made-in-BindPattern.ensures.limits
+
+pub translate_pattern-returns-in-Some-clause-limits : goal.translate_pattern-returns-in-Some-clause-limits
+translate_pattern-returns-in-Some-clause-limits t c =
+    rw (seen_bind c.args.pat.now c.in-BindPattern.var c.in-BindPattern.subpat c.in-BindPattern.pos c.deref.result.now c.in-BindPattern.is c.deref.ensures)
+    (not_limited c.args.self.now (standing c.args.tyenv.now c.args.work.now) (standing c.bind_around.new.tyenv c.bind_around.new.work) c.args.nesting (pattern_reading c.args.multi (bind_pattern (S.name_view c.in-BindPattern.var) (S.pattern_view c.deref.result.now) (S.position c.in-BindPattern.pos)) c.args.expected_ty.0) (pattern_limits c.args.multi (bind_pattern (S.name_view c.in-BindPattern.var) (S.pattern_view c.deref.result.now) (S.position c.in-BindPattern.pos)) c.args.expected_ty.0) c.bind_around.result c.bind_around.ensures.unlimited c.in_ok-made-in-BindPattern.ensures.limits)
+
+pub translate_pattern-returns-in-Expansion-clause-limits : goal.translate_pattern-returns-in-Expansion-clause-limits
+translate_pattern-returns-in-Expansion-clause-limits t c =
+    let u = rw c.in-Expansion.is at c.in_ok-use_in_pattern-in-Term.ensures.uses in
+    let leads = rw c.in-Expansion.is at c.in_ok-use_in_pattern-in-Term.ensures.limits in
+    expanded_meets c.args.self.now (standing c.args.tyenv.now c.args.work.now) (standing c.args.tyenv.now c.use_in_pattern.new.work) _ refl c.args.nesting c.in-Expansion.left u.0
+    (pattern_reading c.args.multi (S.pattern_view c.args.pat.now) c.args.expected_ty.0) (pattern_reading c.args.multi (S.pattern_view c.in-Expansion.made) c.args.expected_ty.0) (pattern_limits c.args.multi (S.pattern_view c.args.pat.now) c.args.expected_ty.0) (pattern_limits c.args.multi (S.pattern_view c.in-Expansion.made) c.args.expected_ty.0)
+    pattern_view u.2 leads _ c.translate_pattern-in-Expansion.ensures.made c.translate_pattern-in-Expansion.ensures.limits
+
+pub translate_pattern-returns-in_err-parts-in-Parts-clause-limits : goal.translate_pattern-returns-in_err-parts-in-Parts-clause-limits
+translate_pattern-returns-in_err-parts-in-Parts-clause-limits t c =
+    let u = rw c.in-Parts.is at c.in_ok-use_in_pattern-in-Term.ensures.uses in
+    let leads = rw c.in-Parts.is at c.in_ok-use_in_pattern-in-Term.ensures.limits in
+    let args : c.deref-in-Parts.result.now ≡ c.deref-in-Term.result.now = c.deref-in-Parts.ensures.value ∙ sym c.deref-in-Term.ensures.value in
+    let limits = rw (args, c.as_slice-tys.ensures.value) at c.in_err-parts-in-Parts.ensures.limits in
+    rw (stop_is c.from_residual-in_err-parts-in-Parts.result c.in_err-parts-in-Parts.field-0.0 c.from_residual-in_err-parts-in-Parts.ensures)
+    (parts_end c.args.multi c.args.self.now (standing c.args.tyenv.now c.args.work.now) (standing c.args.tyenv.now c.use_in_pattern.new.work) (standing c.translate_args.new.tyenv c.translate_args.new.work) refl c.args.nesting
+    (S.pattern_view c.args.pat.now) c.deref-in-Term.result.now c.args.expected_ty.0 (term_view c.in-Parts.term.now) leads u
+    c.in_err-parts-in-Parts.field-0.0 c.in_err-parts-in-Parts.ensures.errors (λ same. limits (same ∙ length-map c.in-Parts.term.now.arg_tys.items (λ ty. ty.0))))
+
+pub translate_pattern-returns-in_ok-parts-in-Parts-clause-limits : goal.translate_pattern-returns-in_ok-parts-in-Parts-clause-limits
+translate_pattern-returns-in_ok-parts-in-Parts-clause-limits t c =
+    let u = rw c.in-Parts.is at c.in_ok-use_in_pattern-in-Term.ensures.uses in
+    let leads = rw c.in-Parts.is at c.in_ok-use_in_pattern-in-Term.ensures.limits in
+    let args : c.deref-in-Parts.result.now ≡ c.deref-in-Term.result.now = c.deref-in-Parts.ensures.value ∙ sym c.deref-in-Term.ensures.value in
+    let limits = rw (args, c.as_slice-tys.ensures.value) at c.in_ok-parts-in-Parts.ensures.limits in
+    (parts_none c.args.multi c.args.self.now (standing c.args.tyenv.now c.args.work.now) (standing c.args.tyenv.now c.use_in_pattern.new.work) (standing c.translate_args.new.tyenv c.translate_args.new.work) refl c.args.nesting
+    (S.pattern_view c.args.pat.now) c.deref-in-Term.result.now c.args.expected_ty.0 (term_view c.in-Parts.term.now) leads u
+    c.in_ok-parts-in-Parts.ensures.errors (λ same. limits (same ∙ length-map c.in-Parts.term.now.arg_tys.items (λ ty. ty.0))))
+
+pub translate_pattern-returns-in_err-parts-in-And-clause-limits : goal.translate_pattern-returns-in_err-parts-in-And-clause-limits
+translate_pattern-returns-in_err-parts-in-And-clause-limits t c =
+    rw (stop_is c.from_residual-in_err-parts-in-And.result c.in_err-parts-in-And.field-0.0 c.from_residual-in_err-parts-in-And.ensures, seen_and c.args.pat.now c.in-And.subpats c.in-And.pos c.deref-in-And.result.now c.in-And.is c.deref-in-And.ensures.value)
+    (same_ends c.args.self.now (standing c.args.tyenv.now c.args.work.now) (standing c.translate_each.new.tyenv c.translate_each.new.work) c.args.nesting (each_reading c.args.multi (S.pattern_views c.deref-in-And.result.now) c.args.expected_ty.0) (pattern_reading c.args.multi (and_pattern (S.pattern_views c.deref-in-And.result.now) (S.position c.in-And.pos)) c.args.expected_ty.0) (each_limits c.args.multi (S.pattern_views c.deref-in-And.result.now) c.args.expected_ty.0) (pattern_limits c.args.multi (and_pattern (S.pattern_views c.deref-in-And.result.now) (S.position c.in-And.pos)) c.args.expected_ty.0) (λ e s is sh. refl)
+    (made_reported c.args.self.now (standing c.args.tyenv.now c.args.work.now) (standing c.translate_each.new.tyenv c.translate_each.new.work) c.args.nesting (each_reading c.args.multi (S.pattern_views c.deref-in-And.result.now) c.args.expected_ty.0) (pattern_reading c.args.multi (and_pattern (S.pattern_views c.deref-in-And.result.now) (S.position c.in-And.pos)) c.args.expected_ty.0) (match_and c.args.expected_ty.0) (λ e k s. refl))
+    c.in_err-parts-in-And.field-0.0 c.in_err-parts-in-And.ensures.limits)
+
+pub translate_pattern-returns-in_ok-parts-in-And-clause-limits : goal.translate_pattern-returns-in_ok-parts-in-And-clause-limits
+translate_pattern-returns-in_ok-parts-in-And-clause-limits t c =
+    rw (seen_and c.args.pat.now c.in-And.subpats c.in-And.pos c.deref-in-And.result.now c.in-And.is c.deref-in-And.ensures.value) c.in_ok-parts-in-And.ensures.limits
+
+pub translate_args-returns-in_err-part-clause-limits : goal.translate_args-returns-in_err-part-clause-limits
+translate_args-returns-in_err-part-clause-limits t c count =
+    let w : c.loop-i.i < length c.args.args.now = search rules in
+    let v : c.loop-i.i < length c.args.tys.now = search rules in
+    let ty : TypeId = get_or c.args.tys.now c.loop-i.i (record { 0 = 0 }) in
+    rw (stop_is c.from_residual-in_err-part.result c.in_err-part.field-0.0 c.from_residual-in_err-part.ensures)
+    (part_ends c.args.multi c.args.self.now (standing c.args.tyenv.now c.args.work.now) (standing c.loop-i.tyenv c.loop-i.work) (standing c.translate_pattern.new.tyenv c.translate_pattern.new.work) c.args.nesting
+    c.args.args.now c.args.tys.now c.loop-i.i c.index-args-i.result ty w v c.index-args-i.is (same_default c.args.tys.now c.loop-i.i (record { 0 = 0 }) ty v) c.loop-i.invariant.0
+    c.loop-i.parts.items c.loop-i.invariant.1 c.loop-i.invariant.3
+    c.in_err-part.field-0.0 (stop_keeps c.args.self.now (standing c.loop-i.tyenv c.loop-i.work) (standing c.translate_pattern.new.tyenv c.translate_pattern.new.work) c.args.nesting (pattern_reading c.args.multi (S.pattern_view c.index-args-i.result) ty.0) c.in_err-part.field-0.0 c.in_err-part.ensures.made) c.in_err-part.ensures.limits count)
+
+pub translate_each-returns-in_err-part-clause-limits : goal.translate_each-returns-in_err-part-clause-limits
+translate_each-returns-in_err-part-clause-limits t c =
+    rw (stop_is c.from_residual-in_err-part.result c.in_err-part.field-0.0 c.from_residual-in_err-part.ensures)
+    (each_ends c.args.multi c.args.self.now (standing c.args.tyenv.now c.args.work.now) (standing c.loop-subpat.tyenv c.loop-subpat.work) (standing c.translate_pattern.new.tyenv c.translate_pattern.new.work) c.args.nesting
+    c.args.subpats.now c.args.expected_ty.0 c.loop-subpat.subpat-index c.subpat-item.result c.loop-subpat-test.true c.subpat-item.is c.loop-subpat.invariant.0
+    c.loop-subpat.parts.items c.loop-subpat.invariant.1 c.loop-subpat.invariant.3
+    c.in_err-part.field-0.0 (stop_keeps c.args.self.now (standing c.loop-subpat.tyenv c.loop-subpat.work) (standing c.translate_pattern.new.tyenv c.translate_pattern.new.work) c.args.nesting (pattern_reading c.args.multi (S.pattern_view c.subpat-item.result) c.args.expected_ty.0) c.in_err-part.field-0.0 c.in_err-part.ensures.made) c.in_err-part.ensures.limits)
+
+pub translate_each-returns-clause-limits : goal.translate_each-returns-clause-limits
+translate_each-returns-clause-limits t c =
+    all_each_none c.args.multi c.args.self.now (standing c.args.tyenv.now c.args.work.now) c.args.nesting c.args.subpats.now c.args.expected_ty.0 c.loop-subpat.subpat-index c.loop-subpat-test.false c.loop-subpat.invariant.3
+
+pub translate_args-returns-clause-limits : goal.translate_args-returns-clause-limits
+translate_args-returns-clause-limits t c count =
+    let w : length c.args.args.now ≤ c.loop-i.i = search (rules, count) in
+    let v : length c.args.tys.now ≤ c.loop-i.i = search (rules, count) in
+    all_parts_none c.args.multi c.args.self.now (standing c.args.tyenv.now c.args.work.now) c.args.nesting c.args.args.now c.args.tys.now c.loop-i.i w v c.loop-i.invariant.3

@@ -1,9 +1,11 @@
-use Rattle.std.proofs.Common.{map, take}
+use Rattle.std.proofs.Common.{map, take, None}
 use Rattle.isle_base.specs.SyntaxViews as S
 use Rattle.isle_base.specs.Positions.{NotesAt, patterns_positions}
 use Rattle.isle_terms.specs.TermViews.{term_views}
 use Rattle.isle_rules.specs.RulePositions.{with_templates}
 use Rattle.isle_rules.specs.PatternReadings.{parts_reading, each_reading}
+use Rattle.isle_rules.specs.ReachedLimits.{parts_limits, each_limits}
+use Rattle.isle_rules.specs.LimitStops.{ComesTo}
 use Rattle.isle_rules.specs.Translating.{standing, Keeps}
 use Rattle.isle_rules.proofs.PatternLists.{SoFar}
 use Rattle.isle_rules.proofs.PatternSizes.{tree_size, trees_size, growth, grown}
@@ -23,9 +25,11 @@ invariant-translate_args-loop-i l =
     Keeps l.fn.tyenv l.tyenv
     × SoFar l.self (standing l.fn.tyenv l.fn.work) (standing l.tyenv l.work) l.nesting (parts_reading l.multi (S.pattern_views (take l.i l.args)) (map (λ t. t.0) (take l.i l.tys))) l.parts.items
     × NotesAt (with_templates l.self (patterns_positions (S.pattern_views l.args))) l.fn.work.errors.items l.work.errors.items
+    × ComesTo l.self (standing l.fn.tyenv l.fn.work) l.nesting (parts_limits l.multi (S.pattern_views (take l.i l.args)) (map (λ t. t.0) (take l.i l.tys))) None
 
 abbrev pub invariant-translate_each-loop-subpat : goal.invariant-translate_each-loop-subpat
 invariant-translate_each-loop-subpat l =
     Keeps l.fn.tyenv l.tyenv
     × SoFar l.self (standing l.fn.tyenv l.fn.work) (standing l.tyenv l.work) l.nesting (each_reading l.multi (S.pattern_views (take l.subpat-index l.subpats)) l.expected_ty.0) l.parts.items
     × NotesAt (with_templates l.self (patterns_positions (S.pattern_views l.subpats))) l.fn.work.errors.items l.work.errors.items
+    × ComesTo l.self (standing l.fn.tyenv l.fn.work) l.nesting (each_limits l.multi (S.pattern_views (take l.subpat-index l.subpats)) l.expected_ty.0) None

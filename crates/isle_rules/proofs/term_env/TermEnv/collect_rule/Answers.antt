@@ -1,32 +1,39 @@
-use Rattle.isle_rules.specs.Translating.{standing}
-use Rattle.isle_rules.proofs.RuleEnds.{at_end, at_stop}
-use Rattle.std.proofs.Common.{[], ◌∷◌}
+use Rattle.std.proofs.Common.{[], ◌∷◌, ◌++◌, ◌≡◌, option_map, subst, sym, ap, ◌∙◌}
+use Rattle.isle_base.specs.Positions.{NotesAt, rule_positions}
 use Rattle.isle_base.specs.SyntaxViews.{rule_view}
-use Rattle.isle_base.specs.Positions.{OccurAmong, rule_positions}
+use Rattle.isle_typed.specs.RuleViews.{rule_view as typed_view}
+use Rattle.isle_rules.specs.RuleLists.{CollectsRule}
 use Rattle.isle_rules.specs.RulePositions.{with_templates}
-use Rattle.isle_rules.proofs.Placed.{among_here, stop_noted}
-use Rattle.isle_rules.proofs.PartPlaces.{rule_at}
+use Rattle.isle_rules.specs.RulesTold.{TellsTyping}
+use Rattle.isle_rules.proofs.RulesTold.{collected_behind, told_behind, placed_behind}
 use Rattle.isle_rules.proofs.term_env.TermEnv.collect_rule.Goals as goal
 
-pub returns-in-Ok-clause-ends : goal.returns-in-Ok-clause-ends
-returns-in-Ok-clause-ends c =
-    at_end c.args.self.now c.args.tyenv.now c.begin.new.self c.args.work.now.errors.items c.begin.ensures c.args.id.0 c.args.rule.now (standing c.translate_rule.new.tyenv c.translate_rule.new.work)
-    c.in-Ok.made c.translate_rule.new.work.few c.in-Ok.ensures.made
-
-pub returns-in_ok-report-in-Err-clause-ends : goal.returns-in_ok-report-in-Err-clause-ends
-returns-in_ok-report-in-Err-clause-ends c =
-    at_stop c.args.self.now c.args.tyenv.now c.begin.new.self c.args.work.now.errors.items c.begin.ensures c.args.id.0 c.args.rule.now (standing c.translate_rule.new.tyenv c.translate_rule.new.work) c.report.new.errors.items
-    c.in-Err.stop c.in-Err.ensures.made c.in_ok-report-in-Err.ensures.noted
-
-pub returns-in-Ok-clause-places : goal.returns-in-Ok-clause-places
-returns-in-Ok-clause-places c =
-    rw (← c.begin.ensures.errors) c.in-Ok.ensures.places
-
-pub returns-in_ok-report-in-Err-clause-places : goal.returns-in_ok-report-in-Err-clause-places
-returns-in_ok-report-in-Err-clause-places c =
+pub returns-clause-ends : goal.returns-clause-ends
+returns-clause-ends c =
     let env = c.args.self.now in
-    let tree = rule_view c.args.rule.now in
-    let all = with_templates env (rule_positions tree) in
-    let here : OccurAmong (tree.at ∷ []) all = among_here env (tree.at ∷ []) (rule_positions tree) (rule_at tree) in
-    rw (← c.begin.ensures.errors)
-    (stop_noted (tree.at ∷ []) all c.begin.new.self.errors.items c.translate_rule.new.work.errors.items c.report.new.errors.items c.args.rule.now.pos c.in-Err.stop here c.in-Err.ensures.places c.in_ok-report-in-Err.ensures.places c.in_ok-report-in-Err.ensures.noted)
+    let old = c.args.tyenv.now in
+    let new = c.type_rule.new.tyenv in
+    let mid = c.type_rule.new.work.errors.items in
+    let made = option_map typed_view c.in_ok-made.made in
+    let alone = subst (λ es. CollectsRule env old new es mid c.args.id.0 c.args.rule.now made) (ap (λ v. v.items) c.replace-errors.ensures.after ∙ c.new-none.ensures.items) c.in_ok-made.ensures.ends in
+    let same = c.in_ok-append.ensures.items ∙ ap (λ v. v.items ++ mid) c.replace-errors.ensures.value in
+    subst (λ es. CollectsRule env old new c.args.work.now.errors.items es c.args.id.0 c.args.rule.now made) (sym same) (collected_behind env old new c.args.work.now.errors.items mid c.args.id.0 c.args.rule.now made alone)
+
+pub returns-clause-places : goal.returns-clause-places
+returns-clause-places c =
+    let ps = with_templates c.args.self.now (rule_positions (rule_view c.args.rule.now)) in
+    let mid = c.type_rule.new.work.errors.items in
+    let alone = subst (λ es. NotesAt ps es mid) (ap (λ v. v.items) c.replace-errors.ensures.after ∙ c.new-none.ensures.items) c.in_ok-made.ensures.places in
+    let same = c.in_ok-append.ensures.items ∙ ap (λ v. v.items ++ mid) c.replace-errors.ensures.value in
+    subst (NotesAt ps c.args.work.now.errors.items) (sym same) (placed_behind ps c.args.work.now.errors.items mid alone)
+
+pub returns-clause-tells : goal.returns-clause-tells
+returns-clause-tells c =
+    let env = c.args.self.now in
+    let old = c.args.tyenv.now in
+    let new = c.type_rule.new.tyenv in
+    let trees = rule_view c.args.rule.now ∷ [] in
+    let mid = c.type_rule.new.work.errors.items in
+    let alone = subst (λ es. TellsTyping env old new trees es mid) (ap (λ v. v.items) c.replace-errors.ensures.after ∙ c.new-none.ensures.items) c.in_ok-made.ensures.tells in
+    let same = c.in_ok-append.ensures.items ∙ ap (λ v. v.items ++ mid) c.replace-errors.ensures.value in
+    subst (TellsTyping env old new trees c.args.work.now.errors.items) (sym same) (told_behind env old new trees c.args.work.now.errors.items mid alone)

@@ -15,6 +15,7 @@ use Rattle.isle_reports.specs.RuleNaming.{rules_at}
 use Rattle.isle_rules.proofs.Placed.{among_joined, among_with, notes_step}
 use Rattle.isle_rules.proofs.PartPlaces.{each_inside}
 use Rattle.isle_rules.proofs.SubstitutedPlaces.{among_nothing}
+use Rattle.isle_rules.proofs.RulesTold.{nothing_told, next_told, all_told}
 use Rattle.isle_rules.proofs.term_env.TermEnv.collect_rules.Goals as goal
 
 pub loop-def-init : goal.loop-def-init
@@ -26,6 +27,7 @@ loop-def-init c = (
   notes_nothing _ _ _ refl,
   rw c.in_ok-rules.ensures.items (among_nothing (positions_of (definition_views c.args.defs.now))),
   first_begins c.args.self.now c.args.tyenv.now c.args.work.now.errors.items (rule_trees (definition_views c.args.defs.now)) c.in_ok-rules.rules.items c.in_ok-rules.ensures.items,
+  nothing_told c.args.self.now c.args.tyenv.now c.args.work.now.errors.items,
 )
 
 pub loop-def-preserved : goal.loop-def-preserved
@@ -54,6 +56,8 @@ loop-def-preserved c = (
       ),
   next_begins c.args.self.now c.args.tyenv.now c.loop-def.tyenv c.collect_definition.new.tyenv c.loop-def.invariant.0 c.args.work.now.errors.items c.loop-def.work.errors.items c.collect_definition.new.work.errors.items c.args.defs.now c.loop-def.def-index c.def-item.result c.loop-def-test.true c.def-item.is c.loop-def.rules.items c.collect_definition.new.rules.items
       c.loop-def.invariant.6 c.in_ok-collect_definition.ensures.reads c.in_ok-collect_definition.ensures.notes c.in_ok-collect_definition.ensures.places,
+  next_told c.args.self.now c.args.tyenv.now c.loop-def.tyenv c.collect_definition.new.tyenv c.loop-def.invariant.0 c.args.work.now.errors.items c.loop-def.work.errors.items c.collect_definition.new.work.errors.items c.args.defs.now c.loop-def.def-index c.def-item.result c.loop-def-test.true c.def-item.is
+      c.loop-def.invariant.7 c.in_ok-collect_definition.ensures.tells,
 )
 
 pub returns-clause-reads : goal.returns-clause-reads
@@ -76,3 +80,7 @@ returns-clause-stand c =
 pub returns-clause-breach : goal.returns-clause-breach
 returns-clause-breach c =
     last_begins c.args.self.now c.args.tyenv.now c.loop-def.tyenv (rule_trees (definition_views c.args.defs.now)) (rules_before c.args.defs.now c.loop-def.def-index) c.loop-def.rules.items c.args.work.now.errors.items c.loop-def.work.errors.items c.loop-def.invariant.6
+
+pub returns-clause-tells : goal.returns-clause-tells
+returns-clause-tells c =
+    all_told c.args.self.now c.args.tyenv.now c.loop-def.tyenv c.args.work.now.errors.items c.loop-def.work.errors.items c.args.defs.now c.loop-def.def-index c.loop-def-test.false c.loop-def.invariant.7

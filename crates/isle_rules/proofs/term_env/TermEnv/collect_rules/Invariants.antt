@@ -7,6 +7,7 @@ use Rattle.isle_reports.specs.RuleNaming.{rules_at}
 use Rattle.isle_rules.specs.RulePositions.{with_templates}
 use Rattle.isle_rules.specs.LimitsNamed.{NamesPastLimits}
 use Rattle.isle_rules.specs.RuleErrors.{NotesOfRules}
+use Rattle.isle_rules.specs.RulesTold.{TellsTyping}
 use Rattle.isle_rules.specs.Translating.{Keeps}
 use Rattle.isle_rules.proofs.NamedLimits.{rules_before}
 use Rattle.isle_rules.proofs.RuleListSteps.{ReadingAt}
@@ -22,3 +23,4 @@ invariant-loop-def l =
     × NotesAt (with_templates l.self (positions_of (definition_views l.defs))) l.fn.work.errors.items l.work.errors.items
     × OccurAmong (rules_at (rule_views l.rules.items)) (positions_of (definition_views l.defs))
     × TypedUpTo l.self l.fn.tyenv l.tyenv (rule_trees (definition_views l.defs)) (rules_before l.defs l.def-index) l.rules.items l.fn.work.errors.items l.work.errors.items
+    × TellsTyping l.self l.fn.tyenv l.tyenv (rules_before l.defs l.def-index) l.fn.work.errors.items l.work.errors.items

@@ -7,9 +7,10 @@ use Rattle.isle_types.specs.TypePositions.{types_positions}
 use Rattle.isle_base.specs.ErrorViews.{error_views}
 use Rattle.isle_rules.specs.RulesRead.{rules_of}
 use Rattle.isle_rules.proofs.FirstPastLimits.{first_named}
-use Rattle.isle_rules.proofs.RulesRefused.{passed_on, limits_named, named_by_none, past_limits_named, no_rule_to_name, no_first_to_name, refused_by_rules, refused_by_terms, first_broken, broken_by_terms}
+use Rattle.isle_rules.proofs.RulesRefused.{passed_on, limits_named, named_by_none, past_limits_named, no_rule_to_name, no_first_to_name, refused_by_rules, refused_by_terms, first_broken, broken_by_terms, all_said, nothing_said}
 use Rattle.isle_rules.proofs.EnvironmentsAtEnd.{left_in_the_end, all_read, could_be_read, whatever, is_nothing, is_something, wrong_in_the_end, right_in_the_end, read_by_terms}
 use Rattle.isle_rules.proofs.PlacesAtEnd.{stand_in_the_end}
+use Rattle.isle_laws_trees.proofs.NoReadLimits.{elaborated_lists_pass_no_limit_lem}
 use Rattle.isle_rules.proofs.term_env.TermEnv.from_ast.Goals as goal
 
 pub returns-in_err-errors-clause-left : goal.returns-in_err-errors-clause-left
@@ -93,3 +94,17 @@ returns-then-not-is_empty-clause-breach g c =
 pub returns-in_err-table-clause-breach : goal.returns-in_err-table-clause-breach
 returns-in_err-table-clause-breach g c =
     broken_by_terms g.read (definition_views c.args.defs.now) c.args.expand_internal_extractors c.from_residual.result c.in_err-table.field-0.0 c.from_residual.ensures c.in_err-table.ensures.breach
+
+pub returns-then-not-is_empty-clause-told : goal.returns-then-not-is_empty-clause-told
+returns-then-not-is_empty-clause-told g c =
+    all_said g.read c.requires.0 (definition_views c.args.defs.now) c.in_ok-table.table c.from_ast.new.tyenv c.in_ok-table.ensures.answers.1 c.with_terms-env.result c.with_terms-env.ensures.terms c.args.expand_internal_extractors c.with_terms-env.ensures.expand
+    c.in_ok-errors.errors.items c.in_ok-errors.ensures.tells
+
+pub returns-in_err-table-clause-told : goal.returns-in_err-table-clause-told
+returns-in_err-table-clause-told g c =
+    nothing_said g.read (definition_views c.args.defs.now) c.args.expand_internal_extractors c.from_residual.result c.in_err-table.field-0.0 c.from_residual.ensures c.in_err-table.ensures.refused
+
+pub returns-clause-within_limits : goal.returns-clause-within_limits
+returns-clause-within_limits g c =
+    let has = (returns-clause-answers g c).0 in
+    elaborated_lists_pass_no_limit_lem g.read (definition_views c.args.defs.now) c.args.expand_internal_extractors has.0 has.1

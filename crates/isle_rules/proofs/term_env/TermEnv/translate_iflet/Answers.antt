@@ -9,12 +9,13 @@ use Rattle.isle_rules.specs.PatternReadings.{pattern_reading}
 use Rattle.isle_typed.specs.PatternViews.{pattern_view}
 use Rattle.isle_rules.specs.RuleReadings.{iflet_reading}
 use Rattle.isle_rules.specs.Translating.{standing}
-use Rattle.isle_rules.proofs.Readings.{stop_is, first_stops, first_reported, then_stops, then_reported, then_done}
+use Rattle.isle_rules.proofs.Readings.{stop_is, stop_keeps, first_stops, first_reported, then_stops, then_reported, then_done}
 use Rattle.isle_base.specs.Positions.{OccurAmong, pattern_positions, expr_positions, iflet_positions}
 use Rattle.isle_base.proofs.Positioned.{notes_among}
 use Rattle.isle_rules.specs.RulePositions.{with_templates}
 use Rattle.isle_rules.proofs.Placed.{among_here, among_with, stop_among, stop_step, notes_step}
 use Rattle.isle_rules.proofs.PartPlaces.{given_inside, taken_inside}
+use Rattle.isle_rules.proofs.RuleLimits.{iflet_unread, iflet_first_ends, iflet_none, iflet_ends}
 use Rattle.isle_rules.proofs.term_env.TermEnv.translate_iflet.Goals as goal
 
 pub returns-in_err-value-clause-made : goal.returns-in_err-value-clause-made
@@ -109,3 +110,38 @@ returns-clause-places c =
     let second = with_templates env (pattern_positions tree.pattern) in
     let taken : OccurAmong second all = among_with env (pattern_positions tree.pattern) (iflet_positions tree) (taken_inside tree) in
     notes_step first second all c.args.work.now.errors.items c.translate_expr.new.work.errors.items c.translate_pattern.new.work.errors.items inside taken c.in_ok-value.ensures.places c.in_ok-taken.ensures.places
+
+pub returns-in_err-value-clause-limits : goal.returns-in_err-value-clause-limits
+returns-in_err-value-clause-limits c =
+    let flags : flags_view c.on_lhs.result ≡ on_lhs (flags_view c.args.flags) = ap flags_view c.on_lhs.ensures in
+    rw (stop_is c.from_residual.result c.in_err-value.field-0.0 c.from_residual.ensures)
+    (iflet_first_ends c.args.self.now (standing c.args.tyenv.now c.args.work.now) (standing c.translate_expr.new.tyenv c.translate_expr.new.work) (standing c.translate_expr.new.tyenv c.translate_expr.new.work) c.args.nesting (S.iflet_view c.args.iflet.now) (flags_view c.args.flags)
+    c.in_err-value.field-0.0 (rw flags at c.in_err-value.ensures.limits))
+
+pub returns-in_default-clause-limits : goal.returns-in_default-clause-limits
+returns-in_default-clause-limits c =
+    let flags : flags_view c.on_lhs.result ≡ on_lhs (flags_view c.args.flags) = ap flags_view c.on_lhs.ensures in
+    iflet_unread c.args.self.now (standing c.args.tyenv.now c.args.work.now) (standing c.translate_expr.new.tyenv c.translate_expr.new.work) (standing c.translate_expr.new.tyenv c.translate_expr.new.work) c.args.nesting (S.iflet_view c.args.iflet.now) (flags_view c.args.flags)
+    (rw (c.in_default.is, flags) at c.in_ok-value.ensures.made) (rw flags at c.in_ok-value.ensures.limits)
+
+pub returns-in_err-taken-clause-limits : goal.returns-in_err-taken-clause-limits
+returns-in_err-taken-clause-limits c =
+    let flags : flags_view c.on_lhs.result ≡ on_lhs (flags_view c.args.flags) = ap flags_view c.on_lhs.ensures in
+    rw (stop_is c.from_residual-in_err-taken.result c.in_err-taken.field-0.0 c.from_residual-in_err-taken.ensures)
+    (iflet_ends c.args.self.now (standing c.args.tyenv.now c.args.work.now) (standing c.translate_expr.new.tyenv c.translate_expr.new.work) (standing c.translate_pattern.new.tyenv c.translate_pattern.new.work) c.args.nesting (S.iflet_view c.args.iflet.now) (flags_view c.args.flags)
+    (expr_view c.in-Some.rhs) c.translate_expr.ensures.keeps (rw (c.in-Some.is, flags) at c.in_ok-value.ensures.made) (rw flags at c.in_ok-value.ensures.limits)
+    c.in_err-taken.field-0.0 (stop_keeps c.args.self.now (standing c.translate_expr.new.tyenv c.translate_expr.new.work) (standing c.translate_pattern.new.tyenv c.translate_pattern.new.work) c.args.nesting (pattern_reading c.args.flags.multi (S.pattern_view c.args.iflet.now.pattern) c.ty-ty.result.0) c.in_err-taken.field-0.0 c.in_err-taken.ensures.made) (rw c.ty-ty.ensures at c.in_err-taken.ensures.limits))
+
+pub returns-in_default-taken-clause-limits : goal.returns-in_default-taken-clause-limits
+returns-in_default-taken-clause-limits c =
+    let flags : flags_view c.on_lhs.result ≡ on_lhs (flags_view c.args.flags) = ap flags_view c.on_lhs.ensures in
+    iflet_none c.args.self.now (standing c.args.tyenv.now c.args.work.now) (standing c.translate_expr.new.tyenv c.translate_expr.new.work) (standing c.translate_pattern.new.tyenv c.translate_pattern.new.work) c.args.nesting (S.iflet_view c.args.iflet.now) (flags_view c.args.flags)
+    (expr_view c.in-Some.rhs) c.translate_expr.ensures.keeps (rw (c.in-Some.is, flags) at c.in_ok-value.ensures.made) (rw flags at c.in_ok-value.ensures.limits)
+    (rw c.ty-ty.ensures at c.in_ok-taken.ensures.limits)
+
+pub returns-clause-limits : goal.returns-clause-limits
+returns-clause-limits c =
+    let flags : flags_view c.on_lhs.result ≡ on_lhs (flags_view c.args.flags) = ap flags_view c.on_lhs.ensures in
+    iflet_none c.args.self.now (standing c.args.tyenv.now c.args.work.now) (standing c.translate_expr.new.tyenv c.translate_expr.new.work) (standing c.translate_pattern.new.tyenv c.translate_pattern.new.work) c.args.nesting (S.iflet_view c.args.iflet.now) (flags_view c.args.flags)
+    (expr_view c.in-Some.rhs) c.translate_expr.ensures.keeps (rw (c.in-Some.is, flags) at c.in_ok-value.ensures.made) (rw flags at c.in_ok-value.ensures.limits)
+    (rw c.ty-ty.ensures at c.in_ok-taken.ensures.limits)

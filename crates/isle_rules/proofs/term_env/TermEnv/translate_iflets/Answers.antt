@@ -2,7 +2,7 @@ use Rattle.isle_base.specs.SyntaxViews as S
 use Rattle.isle_terms.specs.TermViews.{flags_view}
 use Rattle.isle_rules.specs.Translating.{standing}
 use Rattle.isle_rules.proofs.IfLetLists.{no_iflet_yet, next_iflet, iflet_stops}
-use Rattle.isle_rules.proofs.Readings.{stop_is, keep_none, keep_on}
+use Rattle.isle_rules.proofs.Readings.{stop_is, stop_keeps, keep_none, keep_on}
 use Rattle.std.proofs.Common.{map, refl}
 use Rattle.std.specs.List.{flat_map}
 use Rattle.isle_base.specs.Positions.{OccurAmong, iflet_positions}
@@ -10,10 +10,12 @@ use Rattle.isle_base.proofs.Positioned.{among_same, notes_nothing}
 use Rattle.isle_rules.specs.RulePositions.{with_templates}
 use Rattle.isle_rules.proofs.Placed.{among_with, stop_step, notes_step}
 use Rattle.isle_rules.proofs.PartPlaces.{each_inside}
+use Rattle.isle_rules.specs.RuleReadings.{iflet_reading}
+use Rattle.isle_rules.proofs.RuleLimits.{next_iflet_none, next_iflet_ends, all_iflets_none}
 use Rattle.isle_rules.proofs.term_env.TermEnv.translate_iflets.Goals as goal
 
 pub loop-iflet-init : goal.loop-iflet-init
-loop-iflet-init c = (keep_none c.args.tyenv.now c.requires, no_iflet_yet c.args.self.now (standing c.args.tyenv.now c.args.work.now) c.args.nesting (flags_view c.args.flags) c.new-made.result.items c.new-made.ensures.items, notes_nothing _ _ _ refl)
+loop-iflet-init c = (keep_none c.args.tyenv.now c.requires, no_iflet_yet c.args.self.now (standing c.args.tyenv.now c.args.work.now) c.args.nesting (flags_view c.args.flags) c.new-made.result.items c.new-made.ensures.items, notes_nothing _ _ _ refl, λ e s is sh. refl)
 
 pub returns-in_err-one-clause-made : goal.returns-in_err-one-clause-made
 returns-in_err-one-clause-made c =
@@ -37,6 +39,8 @@ loop-iflet-preserved c =
           let inside : OccurAmong (with_templates env part) (with_templates env parts) = among_with env part parts (each_inside iflet_positions S.iflet_view c.args.iflets.now c.loop-iflet.iflet-index c.iflet-item.result c.loop-iflet-test.true c.iflet-item.is) in
           notes_step (with_templates env parts) (with_templates env part) (with_templates env parts) c.args.work.now.errors.items c.loop-iflet.work.errors.items c.translate_iflet.new.work.errors.items (among_same (with_templates env parts)) inside c.loop-iflet.invariant.2 c.in_ok-one.ensures.places
           ),
+      next_iflet_none c.args.self.now (standing c.args.tyenv.now c.args.work.now) (standing c.loop-iflet.tyenv c.loop-iflet.work) (standing c.translate_iflet.new.tyenv c.translate_iflet.new.work) c.args.nesting (flags_view c.args.flags)
+          c.args.iflets.now c.loop-iflet.iflet-index c.iflet-item.result c.loop-iflet-test.true c.iflet-item.is c.loop-iflet.invariant.0 c.loop-iflet.made.items c.loop-iflet.invariant.1 c.loop-iflet.invariant.3 c.in_ok-one.ensures.limits,
     )
 
 pub returns-in_err-one-clause-places : goal.returns-in_err-one-clause-places
@@ -51,3 +55,14 @@ returns-in_err-one-clause-places c =
 pub returns-clause-places : goal.returns-clause-places
 returns-clause-places c =
     c.loop-iflet.invariant.2
+
+pub returns-in_err-one-clause-limits : goal.returns-in_err-one-clause-limits
+returns-in_err-one-clause-limits c =
+    rw (stop_is c.from_residual.result c.in_err-one.field-0.0 c.from_residual.ensures)
+    (next_iflet_ends c.args.self.now (standing c.args.tyenv.now c.args.work.now) (standing c.loop-iflet.tyenv c.loop-iflet.work) (standing c.translate_iflet.new.tyenv c.translate_iflet.new.work) c.args.nesting (flags_view c.args.flags)
+    c.args.iflets.now c.loop-iflet.iflet-index c.iflet-item.result c.loop-iflet-test.true c.iflet-item.is c.loop-iflet.invariant.0 c.loop-iflet.made.items c.loop-iflet.invariant.1 c.loop-iflet.invariant.3
+    c.in_err-one.field-0.0 (stop_keeps c.args.self.now (standing c.loop-iflet.tyenv c.loop-iflet.work) (standing c.translate_iflet.new.tyenv c.translate_iflet.new.work) c.args.nesting (iflet_reading (S.iflet_view c.iflet-item.result) (flags_view c.args.flags)) c.in_err-one.field-0.0 c.in_err-one.ensures.made) c.in_err-one.ensures.limits)
+
+pub returns-clause-limits : goal.returns-clause-limits
+returns-clause-limits c =
+    all_iflets_none c.args.self.now (standing c.args.tyenv.now c.args.work.now) c.args.nesting (flags_view c.args.flags) c.args.iflets.now c.loop-iflet.iflet-index c.loop-iflet-test.false c.loop-iflet.invariant.3

@@ -6,6 +6,7 @@ use Rattle.isle_base.specs.Positions.{patterns_positions}
 use Rattle.isle_base.proofs.Positioned.{among_first, among_rest}
 use Rattle.isle_rules.specs.RulePositions.{with_templates}
 use Rattle.isle_rules.proofs.Placed.{among_here, among_with, stays_step}
+use Rattle.isle_rules.proofs.RuleLimits.{root_meets}
 use Rattle.isle_rules.proofs.term_env.TermEnv.translate_root.Goals as goal
 
 pub returns-clause-made : goal.returns-clause-made
@@ -20,3 +21,8 @@ returns-clause-places c =
     let args = patterns_positions (S.pattern_views c.args.args.now) in
     stays_step (at ∷ []) (with_templates env args) (with_templates env (at ∷ args)) c.args.work.now.errors.items c.check_count.new.errors.items c.translate_args.new.work.errors.items c.translate_args.result (among_here env (at ∷ []) (at ∷ args) (among_first at args)) (among_with env args (at ∷ args) (among_rest at args))
     c.in_ok-check_count.ensures.places c.translate_args.ensures.places
+
+pub returns-clause-limits : goal.returns-clause-limits
+returns-clause-limits c =
+    root_meets c.args.multi c.args.self.now (standing c.args.tyenv.now c.args.work.now) (standing c.args.tyenv.now _) (standing c.translate_args.new.tyenv c.translate_args.new.work) c.args.nesting c.args.args.now c.args.tys.now
+    refl (record { vars = refl; names = λ k. refl; expansions = refl }) c.in_ok-check_count.ensures.checks c.translate_args.result c.translate_args.ensures.errors c.translate_args.ensures.limits

@@ -11,6 +11,7 @@ use Rattle.isle_base.proofs.Positioned.{among_same, notes_among}
 use Rattle.isle_rules.specs.RulePositions.{with_templates}
 use Rattle.isle_rules.proofs.Placed.{among_here, notes_step}
 use Rattle.isle_rules.proofs.PartPlaces.{rule_at}
+use Rattle.isle_rules.proofs.RuleLimits.{no_root_comes, no_term_comes, not_declared_comes, rule_none, rule_ends}
 use Rattle.isle_rules.proofs.term_env.TermEnv.translate_rule.Goals as goal
 
 pub returns-in_default-clause-made : goal.returns-in_default-clause-made
@@ -86,3 +87,32 @@ returns-clause-places c =
 pub returns-clause-stands : goal.returns-clause-stands
 returns-clause-stands c =
     ap (λ r. r.at) c.in_ok-whole.ensures.view
+
+pub returns-in_default-clause-limits : goal.returns-in_default-clause-limits
+returns-in_default-clause-limits c =
+    no_root_comes c.args.self.now (standing c.args.tyenv.now c.args.work.now) c.requires (S.rule_view c.args.rule.now) c.args.id.0 c.args.nesting c.in_default.ensures
+
+pub returns-in_default-find_term-clause-limits : goal.returns-in_default-find_term-clause-limits
+returns-in_default-find_term-clause-limits c =
+    no_term_comes c.args.self.now (standing c.args.tyenv.now c.args.work.now) c.requires (S.rule_view c.args.rule.now) c.args.id.0 c.args.nesting (S.name_view c.in-Some.sym.now) c.in-Some.ensures c.in_default-find_term.ensures
+
+pub returns-in_default-flags_of-clause-limits : goal.returns-in_default-flags_of-clause-limits
+returns-in_default-flags_of-clause-limits c =
+    not_declared_comes c.args.self.now (standing c.args.tyenv.now c.args.work.now) c.requires (S.rule_view c.args.rule.now) c.args.id.0 c.args.nesting (S.name_view c.in-Some.sym.now) c.in-Some.ensures (term_view c.in-Some-find_term.term.now) c.in-Some-find_term.ensures c.in_default-flags_of.ensures
+
+pub returns-in_err-made-clause-limits : goal.returns-in_err-made-clause-limits
+returns-in_err-made-clause-limits c =
+    rw (stop_is c.from_residual-in_err-made.result c.in_err-made.field-0.0 c.from_residual-in_err-made.ensures)
+    (rule_ends c.args.self.now (standing c.args.tyenv.now c.args.work.now) c.requires (S.rule_view c.args.rule.now) c.args.id.0 c.args.nesting (S.name_view c.in-Some.sym.now) c.in-Some.ensures (term_view c.in-Some-find_term.term.now) c.in-Some-find_term.ensures
+    (flags_view c.in-Some-flags_of.flags) c.in-Some-flags_of.ensures
+    (standing c.translate_sides.new.tyenv c.translate_sides.new.work) c.in_err-made.field-0.0 c.in_err-made.ensures.limits)
+
+pub returns-in_default-made-clause-limits : goal.returns-in_default-made-clause-limits
+returns-in_default-made-clause-limits c =
+    rule_none c.args.self.now (standing c.args.tyenv.now c.args.work.now) c.requires (S.rule_view c.args.rule.now) c.args.id.0 c.args.nesting (S.name_view c.in-Some.sym.now) c.in-Some.ensures (term_view c.in-Some-find_term.term.now) c.in-Some-find_term.ensures
+    (flags_view c.in-Some-flags_of.flags) c.in-Some-flags_of.ensures c.in_ok-made.ensures.limits
+
+pub returns-clause-limits : goal.returns-clause-limits
+returns-clause-limits c =
+    rule_none c.args.self.now (standing c.args.tyenv.now c.args.work.now) c.requires (S.rule_view c.args.rule.now) c.args.id.0 c.args.nesting (S.name_view c.in-Some.sym.now) c.in-Some.ensures (term_view c.in-Some-find_term.term.now) c.in-Some-find_term.ensures
+    (flags_view c.in-Some-flags_of.flags) c.in-Some-flags_of.ensures c.in_ok-made.ensures.limits

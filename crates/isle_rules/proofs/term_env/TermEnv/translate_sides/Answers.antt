@@ -1,11 +1,11 @@
-use Rattle.std.proofs.Common.{map, List, ◌∷◌}
+use Rattle.std.proofs.Common.{map, List, ◌∷◌, Some}
 use Rattle.isle_base.specs.SyntaxViews as S
 use Rattle.isle_terms.specs.TermViews.{flags_view, term_view}
 use Rattle.isle_typed.specs.ExprViews.{expr_view}
 use Rattle.isle_typed.specs.PatternViews.{pattern_views, pattern_parts}
 use Rattle.isle_typed.specs.RuleViews.{iflet_view}
 use Rattle.isle_rules.specs.Translating.{standing}
-use Rattle.isle_rules.proofs.Readings.{stop_is}
+use Rattle.isle_rules.proofs.Readings.{stop_is, stop_keeps, stays_on, may_report}
 use Rattle.isle_rules.proofs.SidesForms.{sides_first_stops, sides_second_stops, sides_third_stops, sides_reported, sides_done}
 use Rattle.std.specs.List.{flat_map}
 use Rattle.isle_model.specs.lists.Syntax.{Position}
@@ -14,6 +14,9 @@ use Rattle.isle_base.proofs.Positioned.{among_same}
 use Rattle.isle_rules.specs.RulePositions.{with_templates}
 use Rattle.isle_rules.proofs.Placed.{among_here, among_with, stop_among, stop_step, notes_step}
 use Rattle.isle_rules.proofs.PartPlaces.{rule_root, rule_iflets, rule_value}
+use Rattle.isle_rules.specs.ExprReadings.{expr_reading}
+use Rattle.isle_rules.specs.RuleReadings.{iflets_reading}
+use Rattle.isle_rules.proofs.RuleLimits.{sides_first_ends, sides_second_ends, sides_third_ends, sides_none}
 use Rattle.isle_rules.proofs.term_env.TermEnv.translate_sides.Goals as goal
 
 pub returns-in_err-parts-clause-made : goal.returns-in_err-parts-clause-made
@@ -119,3 +122,53 @@ returns-clause-places c =
     let third : OccurAmong value all = among_here env value (rule_positions tree) (rule_value tree) in
     let before = notes_step (with_templates env args) (with_templates env iflets) all c.args.work.now.errors.items c.translate_root.new.work.errors.items c.translate_iflets.new.work.errors.items first second c.in_ok-parts.ensures.places (rw c.deref.ensures.value at c.in_ok-iflets.ensures.places) in
     notes_step all value all c.args.work.now.errors.items c.translate_iflets.new.work.errors.items c.translate_expr.new.work.errors.items (among_same all) third before c.in_ok-value.ensures.places
+
+pub returns-in_err-parts-clause-limits : goal.returns-in_err-parts-clause-limits
+returns-in_err-parts-clause-limits c =
+    rw (stop_is c.from_residual.result c.in_err-parts.field-0.0 c.from_residual.ensures)
+    (sides_first_ends c.args.self.now (standing c.args.tyenv.now c.args.work.now) (standing c.translate_root.new.tyenv c.translate_root.new.work) (standing c.translate_root.new.tyenv c.translate_root.new.work) (standing c.translate_root.new.tyenv c.translate_root.new.work) c.args.nesting
+    (S.rule_view c.args.rule.now) (S.pattern_views c.args.args.now) (flags_view c.args.flags) (term_view c.args.term.now) c.requires.root
+    c.in_err-parts.field-0.0 (rw c.as_slice-tys.ensures.value at c.in_err-parts.ensures.limits))
+
+pub returns-in_err-iflets-clause-limits : goal.returns-in_err-iflets-clause-limits
+returns-in_err-iflets-clause-limits c =
+    let first = rw c.as_slice-tys.ensures.value at c.in_ok-parts.ensures.made in
+    let before = rw c.as_slice-tys.ensures.value at c.in_ok-parts.ensures.limits in
+    rw (stop_is c.from_residual-in_err-iflets.result c.in_err-iflets.field-0.0 c.from_residual-in_err-iflets.ensures)
+    (sides_second_ends c.args.self.now (standing c.args.tyenv.now c.args.work.now) (standing c.translate_root.new.tyenv c.translate_root.new.work) (standing c.translate_iflets.new.tyenv c.translate_iflets.new.work) (standing c.translate_iflets.new.tyenv c.translate_iflets.new.work) c.args.nesting
+    (S.rule_view c.args.rule.now) (S.pattern_views c.args.args.now) (flags_view c.args.flags) (term_view c.args.term.now) c.requires.root (pattern_parts (pattern_views c.in_ok-parts.parts.items)) first c.translate_root.ensures.keeps before
+    c.in_err-iflets.field-0.0 (stop_keeps c.args.self.now (standing c.translate_root.new.tyenv c.translate_root.new.work) (standing c.translate_iflets.new.tyenv c.translate_iflets.new.work) c.args.nesting (iflets_reading (map S.iflet_view c.args.rule.now.iflets.items) (flags_view c.args.flags)) c.in_err-iflets.field-0.0 (rw c.deref.ensures.value at c.in_err-iflets.ensures.made)) (rw c.deref.ensures.value at c.in_err-iflets.ensures.limits))
+
+pub returns-in_err-value-clause-limits : goal.returns-in_err-value-clause-limits
+returns-in_err-value-clause-limits c =
+    let first = rw c.as_slice-tys.ensures.value at c.in_ok-parts.ensures.made in
+    let before = rw c.as_slice-tys.ensures.value at c.in_ok-parts.ensures.limits in
+    let second = rw c.deref.ensures.value at c.in_ok-iflets.ensures.made in
+    let between = rw c.deref.ensures.value at c.in_ok-iflets.ensures.limits in
+    let may = stop_keeps c.args.self.now (standing c.translate_iflets.new.tyenv c.translate_iflets.new.work) (standing c.translate_expr.new.tyenv c.translate_expr.new.work) c.args.nesting (expr_reading (S.expr_view c.args.rule.now.expr) (flags_view c.args.flags) (Some c.args.term.now.ret_ty.0)) c.in_err-value.field-0.0 c.in_err-value.ensures.made in
+    let both = stays_on (standing c.translate_root.new.tyenv c.translate_root.new.work) (standing c.translate_iflets.new.tyenv c.translate_iflets.new.work) (standing c.translate_expr.new.tyenv c.translate_expr.new.work) c.in_err-value.field-0.0 (may_report c.args.self.now (standing c.translate_root.new.tyenv c.translate_root.new.work) (standing c.translate_iflets.new.tyenv c.translate_iflets.new.work) c.args.nesting (iflets_reading (map S.iflet_view c.args.rule.now.iflets.items) (flags_view c.args.flags)) _ second) may in
+    rw (stop_is c.from_residual-in_err-value.result c.in_err-value.field-0.0 c.from_residual-in_err-value.ensures)
+    (sides_third_ends c.args.self.now (standing c.args.tyenv.now c.args.work.now) (standing c.translate_root.new.tyenv c.translate_root.new.work) (standing c.translate_iflets.new.tyenv c.translate_iflets.new.work) (standing c.translate_expr.new.tyenv c.translate_expr.new.work) c.args.nesting
+    (S.rule_view c.args.rule.now) (S.pattern_views c.args.args.now) (flags_view c.args.flags) (term_view c.args.term.now) c.requires.root (pattern_parts (pattern_views c.in_ok-parts.parts.items)) first c.translate_root.ensures.keeps before
+    (map iflet_view c.in_ok-iflets.iflets.items) second c.translate_iflets.ensures.keeps between
+    c.in_err-value.field-0.0 both may c.in_err-value.ensures.limits)
+
+pub returns-in_default-clause-limits : goal.returns-in_default-clause-limits
+returns-in_default-clause-limits c =
+    let first = rw c.as_slice-tys.ensures.value at c.in_ok-parts.ensures.made in
+    let before = rw c.as_slice-tys.ensures.value at c.in_ok-parts.ensures.limits in
+    let second = rw c.deref.ensures.value at c.in_ok-iflets.ensures.made in
+    let between = rw c.deref.ensures.value at c.in_ok-iflets.ensures.limits in
+    sides_none c.args.self.now (standing c.args.tyenv.now c.args.work.now) (standing c.translate_root.new.tyenv c.translate_root.new.work) (standing c.translate_iflets.new.tyenv c.translate_iflets.new.work) (standing c.translate_expr.new.tyenv c.translate_expr.new.work) c.args.nesting
+    (S.rule_view c.args.rule.now) (S.pattern_views c.args.args.now) (flags_view c.args.flags) (term_view c.args.term.now) c.requires.root (pattern_parts (pattern_views c.in_ok-parts.parts.items)) first c.translate_root.ensures.keeps before
+    (map iflet_view c.in_ok-iflets.iflets.items) second c.translate_iflets.ensures.keeps between c.in_ok-value.ensures.limits
+
+pub returns-clause-limits : goal.returns-clause-limits
+returns-clause-limits c =
+    let first = rw c.as_slice-tys.ensures.value at c.in_ok-parts.ensures.made in
+    let before = rw c.as_slice-tys.ensures.value at c.in_ok-parts.ensures.limits in
+    let second = rw c.deref.ensures.value at c.in_ok-iflets.ensures.made in
+    let between = rw c.deref.ensures.value at c.in_ok-iflets.ensures.limits in
+    sides_none c.args.self.now (standing c.args.tyenv.now c.args.work.now) (standing c.translate_root.new.tyenv c.translate_root.new.work) (standing c.translate_iflets.new.tyenv c.translate_iflets.new.work) (standing c.translate_expr.new.tyenv c.translate_expr.new.work) c.args.nesting
+    (S.rule_view c.args.rule.now) (S.pattern_views c.args.args.now) (flags_view c.args.flags) (term_view c.args.term.now) c.requires.root (pattern_parts (pattern_views c.in_ok-parts.parts.items)) first c.translate_root.ensures.keeps before
+    (map iflet_view c.in_ok-iflets.iflets.items) second c.translate_iflets.ensures.keeps between c.in_ok-value.ensures.limits

@@ -11,6 +11,8 @@ use Rattle.isle_model.proofs.Members.{in_head}
 use Rattle.isle_base.specs.Positions.{expr_positions, exprs_positions}
 use Rattle.isle_rules.proofs.Placed.{counted_stop}
 use Rattle.isle_rules.proofs.SubstitutedPlaces.{called_places}
+use Rattle.isle_rules.proofs.ExprLimits as limits
+use Rattle.isle_rules.proofs.ExprLimits.{call_unknown_comes, call_converts_comes, call_unmade_comes, args_lead, converted_leads}
 use Rattle.isle_rules.proofs.term_env.TermEnv.use_in_expr.Goals as goal
 
 pub returns-in_default-clause-uses : goal.returns-in_default-clause-uses
@@ -62,3 +64,38 @@ returns-in-Some-expr_converter-clause-among c =
     let at = position c.args.pos in
     let here : Contains (expr_positions (expr_view c.args.whole.now)) at = rw c.requires.whole (in_head at ((name_view c.args.sym.now).at ∷ exprs_positions (expr_views c.args.args.now))) in
     rw c.in_ok-inside.ensures (called_places c.args.tyenv.now (term_view c.in-Some-expr_converter.by.now) at (expr_view c.args.whole.now) here)
+
+pub returns-in_default-clause-limits : goal.returns-in_default-clause-limits
+returns-in_default-clause-limits c =
+    rw c.requires.whole
+    (call_unknown_comes c.args.self.now (standing c.args.tyenv.now c.args.work.now) c.requires.inverse (name_view c.args.sym.now) (expr_views c.args.args.now) (position c.args.pos) (flags_view c.args.flags) (expected c.args.expected_ty)
+    c.args.nesting c.in_default.ensures)
+
+pub returns-in_err-left-clause-limits : goal.returns-in_err-left-clause-limits
+returns-in_err-left-clause-limits c =
+    rw (stop_is c.from_residual-in_err-left.result c.in_err-left.field-0.0 c.from_residual-in_err-left.ensures, c.requires.whole)
+    (limits.conversion_ends c.args.self.now (standing c.args.tyenv.now c.args.work.now) (term_expr (name_view c.args.sym.now) (expr_views c.args.args.now) (position c.args.pos)) (position c.args.pos) (flags_view c.args.flags) (expected c.args.expected_ty) (term_view c.in-Some-expr_converter.by.now)
+    (call_converts_comes c.args.self.now (standing c.args.tyenv.now c.args.work.now) c.requires.inverse (name_view c.args.sym.now) (expr_views c.args.args.now) (position c.args.pos) (flags_view c.args.flags) (expected c.args.expected_ty)
+    (term_view c.in-Some.term.now) c.in-Some.ensures (term_view c.in-Some-expr_converter.by.now) c.in-Some-expr_converter.ensures)
+    (standing c.args.tyenv.now c.expand.new.self) c.args.nesting c.in_err-left.field-0.0 c.in_err-left.ensures)
+
+pub returns-in-Some-expr_converter-clause-limits : goal.returns-in-Some-expr_converter-clause-limits
+returns-in-Some-expr_converter-clause-limits c =
+    rw (c.in_ok-inside.ensures, c.requires.whole)
+    (converted_leads c.args.self.now (standing c.args.tyenv.now c.args.work.now) (term_expr (name_view c.args.sym.now) (expr_views c.args.args.now) (position c.args.pos)) (position c.args.pos) (flags_view c.args.flags) (expected c.args.expected_ty) (term_view c.in-Some-expr_converter.by.now)
+    (call_converts_comes c.args.self.now (standing c.args.tyenv.now c.args.work.now) c.requires.inverse (name_view c.args.sym.now) (expr_views c.args.args.now) (position c.args.pos) (flags_view c.args.flags) (expected c.args.expected_ty)
+    (term_view c.in-Some.term.now) c.in-Some.ensures (term_view c.in-Some-expr_converter.by.now) c.in-Some-expr_converter.ensures)
+    (standing c.args.tyenv.now c.expand.new.self) c.args.nesting c.in_ok-left.left c.in_ok-left.ensures.0 c.in_ok-left.ensures.1)
+
+pub returns-in-Some-declared_converter-clause-limits : goal.returns-in-Some-declared_converter-clause-limits
+returns-in-Some-declared_converter-clause-limits c =
+    rw c.requires.whole
+    (call_unmade_comes c.args.self.now (standing c.args.tyenv.now c.args.work.now) c.requires.inverse (name_view c.args.sym.now) (expr_views c.args.args.now) (position c.args.pos) (flags_view c.args.flags) (expected c.args.expected_ty)
+    (term_view c.in-Some.term.now) c.in-Some.ensures c.args.nesting (term_view c.in-Some-declared_converter.by.now) c.in_default-expr_converter.ensures c.in-Some-declared_converter.ensures)
+
+pub returns-clause-limits : goal.returns-clause-limits
+returns-clause-limits c =
+    rw c.requires.whole
+    (args_lead c.args.self.now (standing c.args.tyenv.now c.args.work.now) c.requires.inverse (name_view c.args.sym.now) (expr_views c.args.args.now) (position c.args.pos) (flags_view c.args.flags) (expected c.args.expected_ty)
+    (term_view c.in-Some.term.now) c.in-Some.ensures c.in_default-expr_converter.ensures _ (sym (list_length c.args.args.now))
+    _ _ c.args.nesting c.check_call.ensures.remains.expansions c.in_ok-check_call.ensures.checks)

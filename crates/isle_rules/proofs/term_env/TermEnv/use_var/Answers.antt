@@ -12,6 +12,8 @@ use Rattle.isle_base.proofs.Positioned.{notes_nothing}
 use Rattle.isle_model.proofs.Members.{in_head}
 use Rattle.isle_rules.proofs.Placed.{counted_stop}
 use Rattle.isle_rules.proofs.SubstitutedPlaces.{called_places}
+use Rattle.isle_rules.proofs.ExprLimits as limits
+use Rattle.isle_rules.proofs.ExprLimits.{var_unknown_comes, var_converts_comes, var_comes, converted_leads}
 use Rattle.isle_rules.proofs.term_env.TermEnv.use_var.Goals as goal
 
 pub returns-in_default-clause-uses : goal.returns-in_default-clause-uses
@@ -62,3 +64,37 @@ returns-in-Some-expr_converter-clause-among c =
     let at = position c.args.pos in
     let here : Contains (expr_positions (expr_view c.args.whole.now)) at = rw c.requires.whole (in_head at ((name_view c.args.name.now).at ∷ [])) in
     rw c.in_ok-inside.ensures (called_places c.args.tyenv.now (term_view c.in-Some-expr_converter.by.now) at (expr_view c.args.whole.now) here)
+
+pub returns-in_default-clause-limits : goal.returns-in_default-clause-limits
+returns-in_default-clause-limits c flags =
+    rw c.requires.whole
+    (var_unknown_comes c.args.self.now (standing c.args.tyenv.now c.args.work.now) c.requires.inverse (name_view c.args.name.now) (position c.args.pos) flags (expected c.args.expected_ty)
+    c.args.nesting c.in_default.ensures)
+
+pub returns-in_err-left-clause-limits : goal.returns-in_err-left-clause-limits
+returns-in_err-left-clause-limits c flags =
+    rw (stop_is c.from_residual-in_err-left.result c.in_err-left.field-0.0 c.from_residual-in_err-left.ensures, c.requires.whole)
+    (limits.conversion_ends c.args.self.now (standing c.args.tyenv.now c.args.work.now) (var_expr (name_view c.args.name.now) (position c.args.pos)) (position c.args.pos) flags (expected c.args.expected_ty) (term_view c.in-Some-expr_converter.by.now)
+    (var_converts_comes c.args.self.now (standing c.args.tyenv.now c.args.work.now) c.requires.inverse (name_view c.args.name.now) (position c.args.pos) flags (expected c.args.expected_ty)
+    (var_view c.in-Some.bound) c.in-Some.ensures (term_view c.in-Some-expr_converter.by.now) c.in-Some-expr_converter.ensures)
+    (standing c.args.tyenv.now c.expand.new.self) c.args.nesting c.in_err-left.field-0.0 c.in_err-left.ensures)
+
+pub returns-in-Some-expr_converter-clause-limits : goal.returns-in-Some-expr_converter-clause-limits
+returns-in-Some-expr_converter-clause-limits c flags =
+    rw (c.in_ok-inside.ensures, c.requires.whole)
+    (converted_leads c.args.self.now (standing c.args.tyenv.now c.args.work.now) (var_expr (name_view c.args.name.now) (position c.args.pos)) (position c.args.pos) flags (expected c.args.expected_ty) (term_view c.in-Some-expr_converter.by.now)
+    (var_converts_comes c.args.self.now (standing c.args.tyenv.now c.args.work.now) c.requires.inverse (name_view c.args.name.now) (position c.args.pos) flags (expected c.args.expected_ty)
+    (var_view c.in-Some.bound) c.in-Some.ensures (term_view c.in-Some-expr_converter.by.now) c.in-Some-expr_converter.ensures)
+    (standing c.args.tyenv.now c.expand.new.self) c.args.nesting c.in_ok-left.left c.in_ok-left.ensures.0 c.in_ok-left.ensures.1)
+
+pub returns-in-Some-declared_converter-clause-limits : goal.returns-in-Some-declared_converter-clause-limits
+returns-in-Some-declared_converter-clause-limits c flags =
+    rw c.requires.whole
+    (var_comes c.args.self.now (standing c.args.tyenv.now c.args.work.now) c.requires.inverse (name_view c.args.name.now) (position c.args.pos) flags (expected c.args.expected_ty)
+    (var_view c.in-Some.bound) c.in-Some.ensures c.args.nesting c.in_default-expr_converter.ensures)
+
+pub returns-clause-limits : goal.returns-clause-limits
+returns-clause-limits c flags =
+    rw c.requires.whole
+    (var_comes c.args.self.now (standing c.args.tyenv.now c.args.work.now) c.requires.inverse (name_view c.args.name.now) (position c.args.pos) flags (expected c.args.expected_ty)
+    (var_view c.in-Some.bound) c.in-Some.ensures c.args.nesting c.in_default-expr_converter.ensures)
