@@ -109,7 +109,8 @@ pub fn check_built(
 /// and shadows, as `check_overlaps` gives them. `Fault::Memory` where memory is refused.
 pub fn check(alloc: Global, termenv: &TermEnv) -> Result<Vec<(TermId, RuleSet)>, Fault>
     requires elaborated { IsOfElaborated termenv.now }
-    ensures checked { (e : TypesRead) (defs : List Definition) (expand : Bool) (rules : TypedRules) → IsElaborated e defs expand rules → ShowsElaborated e defs rules termenv.now
+    ensures checked { (e : TypesRead) (defs : List Definition) (expand : Bool) (rules : TypedRules) → IsElaborated e defs expand rules
+        → ShowsElaborated e defs rules termenv.now
         → IsChecked (program_of e defs rules.rules) result }
 
     // each rule that is left out has an error at its position, and each error that says so is of a rule that is left out; if no

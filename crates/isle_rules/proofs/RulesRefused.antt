@@ -19,6 +19,7 @@ use Rattle.isle_types.specs.Envs.{names_of, IsInterned}
 use Rattle.isle_types.specs.EnvViews.{environment_view}
 use Rattle.isle_terms.specs.declared.term_table.TermTable.{TermTable}
 use Rattle.isle_terms.specs.Whole.{shown_by}
+use Rattle.isle_terms.specs.TermErrors.{AreErrorsOfTerms}
 use Rattle.isle_rules.specs.declared.term_env.TermEnv.{TermEnv}
 use Rattle.isle_rules.specs.Constructors.{AreTermsNamed}
 use Rattle.isle_base.specs.ErrorViews.{error_views}
@@ -83,7 +84,10 @@ module _ (e : TypesRead) (r : AreReadable e) (defs : List Definition) (table : T
 
   -- what is said rule by rule
   pub all_said : TellsAll env old (rule_trees defs) errors → TellsReading e defs expand errors
-  all_said told valid = subst (λ ns. TellsStages (setting_of e defs expand) (rule_trees defs) ns errors) a.types.names (told (setting_of e defs expand) is)
+  all_said told = record {
+    terms = λ no. absurd (no a.valid);
+    rules = λ valid. subst (λ ns. TellsStages (setting_of e defs expand) (rule_trees defs) ns errors) a.types.names (told (setting_of e defs expand) is);
+  }
 
   pub past_limits_named : NamesPastLimits env old (rule_trees defs) errors → NamesTypedPastLimits e defs expand (error_views errors)
   past_limits_named named = each_named e defs expand r terms env old is a.types.names errors named
@@ -109,8 +113,16 @@ module _ {X : Type 0} (e : TypesRead) (defs : List Definition) (expand : Bool) (
   pub no_first_to_name : OnErrors r (λ es. NamesFirstPastLimits e defs expand (error_views es))
   no_first_to_name = passed_on (λ es. RefusesTerms e defs (error_views es)) (λ es. NamesFirstPastLimits e defs expand (error_views es)) (λ es t p. absurd (t.not_valid p.terms)) r f h n
 
-pub nothing_said : {X : Type 0} (e : TypesRead) (defs : List Definition) (expand : Bool) (r : Result X Fault) (f : Fault) → IsErr r × IsErrAnd r (λ y. y ≡ f) → OnErrors {A = TermTable} (Err f) (λ es. RefusesTerms e defs (error_views es)) → OnErrors r (TellsReading e defs expand)
-nothing_said e defs expand r f h n = passed_on (λ es. RefusesTerms e defs (error_views es)) (TellsReading e defs expand) (λ es t valid. absurd (t.not_valid valid)) r f h n
+both_said : {X : Type 0} (P Q : List Error → Type 0) (f : Fault) → OnErrors {A = X} (Err f) P → OnErrors {A = X} (Err f) Q → OnErrors {A = X} (Err f) (λ es. P es × Q es)
+both_said P Q (Errors es) p q = (p, q)
+both_said P Q (Memory e) p q = tt
+
+pub terms_said : {X : Type 0} (e : TypesRead) (defs : List Definition) (expand : Bool) (r : Result X Fault) (f : Fault) → IsErr r × IsErrAnd r (λ y. y ≡ f)
+    → OnErrors {A = TermTable} (Err f) (λ es. RefusesTerms e defs (error_views es)) → OnErrors {A = TermTable} (Err f) (AreErrorsOfTerms e defs) → OnErrors r (TellsReading e defs expand)
+terms_said e defs expand r f h refused told =
+    passed_on (λ es. RefusesTerms e defs (error_views es) × AreErrorsOfTerms e defs es) (TellsReading e defs expand)
+    (λ es t. record { terms = λ no. t.1; rules = λ valid. absurd (t.0.not_valid valid) }) r f h
+    (both_said (λ es. RefusesTerms e defs (error_views es)) (AreErrorsOfTerms e defs) f refused told)
 
 of_reading : (x : Refusal) → IsIllTyped x → IsOfReading x
 of_reading (ill_typed at) h = h

@@ -14,6 +14,7 @@ use Rattle.isle_model.specs.lists.Typings.{Typing}
 use Rattle.isle_model.specs.rules.Typed.{TypedRule}
 use Rattle.isle_model.specs.claims.Environments.{TypesRead, setting_of}
 use Rattle.isle_model.specs.claims.Refusals.{NamedLimit, past_limit}
+use Rattle.isle_terms.specs.TermErrors.{AreErrorsOfTerms}
 use Rattle.isle_types.specs.declared.type_env.TypeEnv.{TypeEnv}
 use Rattle.isle_types.specs.Envs.{names_of}
 use Rattle.isle_rules.specs.declared.term_env.TermEnv.{TermEnv}
@@ -58,6 +59,7 @@ pub record TellsStages (e : Setting) (trees : List RuleTree) (names : List (List
 abbrev pub TellsAll : TermEnv → TypeEnv → List RuleTree → List Error → Type 0
 TellsAll env old trees errors = (e : Setting) → IsSettingOf old env e → TellsStages e trees (names_of old) errors
 
--- where the terms of a list are valid
-abbrev pub TellsReading : TypesRead → List Definition → Bool → List Error → Type 0
-TellsReading e defs expand errors = IsValidTerms e.known defs → TellsStages (setting_of e defs expand) (rule_trees defs) (term_names_met e.known defs) errors
+-- what the errors of a whole list tell: of its terms, where these aren't valid, else of its rules
+pub record TellsReading (e : TypesRead) (defs : List Definition) (expand : Bool) (errors : List Error) : Type 0 where
+  pub terms : (IsValidTerms e.known defs → ⊥) → AreErrorsOfTerms e defs errors
+  pub rules : IsValidTerms e.known defs → TellsStages (setting_of e defs expand) (rule_trees defs) (term_names_met e.known defs) errors

@@ -80,7 +80,8 @@ impl TermEnv {
             (λ env. (rules : TypedRules) × AreRulesOf read (definition_views defs.now) expand_internal_extractors rules (environment_shown_by env) (environment_view tyenv.new)) }
         ensures within_limits { IfOk result (λ env. NonePassedInReading read (definition_views defs.now) expand_internal_extractors) }
         ensures left { OnErr result (IsLeftByRefusal read (environment_view tyenv.new)) }
-        ensures limits { OnErrors result (λ es. NamesOnlyPassed (PassedInReading read (definition_views defs.now) expand_internal_extractors) (error_views es)) }
+        ensures limits { OnErrors result (λ es. NamesOnlyPassed (PassedInReading read (definition_views defs.now) expand_internal_extractors)
+            (error_views es)) }
         ensures named { OnErrors result (λ es. NamesTypedPastLimits read (definition_views defs.now) expand_internal_extractors (error_views es)) }
         ensures first { OnErrors result (λ es. NamesFirstPastLimits read (definition_views defs.now) expand_internal_extractors (error_views es)) }
         ensures refused { OnErrors result (λ es. RefusesRules read (definition_views defs.now) expand_internal_extractors (error_views es)) }

@@ -79,7 +79,8 @@ impl TermEnv {
         errors: &mut Vec<Error>,
         iflets: &[IfLet],
     ) -> Result<(), AllocError>
-        ensures checks { OnOk result (Checks errors.old.items errors.new.items (AreFoundMade self.now tyenv.now (flat_map (λ i. terms_of_expr i.expr) (map iflet_view iflets.now)))) }
+        ensures checks { OnOk result (Checks errors.old.items errors.new.items (AreFoundMade self.now tyenv.now (flat_map
+            (λ i. terms_of_expr i.expr) (map iflet_view iflets.now)))) }
         ensures places { OnOk result (NotesAt (flat_map iflet_positions (map iflet_view iflets.now)) errors.old.items errors.new.items) }
     {
         for iflet in iflets {
@@ -110,7 +111,8 @@ impl TermEnv {
         errors: &mut Vec<Error>,
         def: &Def,
     ) -> Result<(), AllocError>
-        ensures checks { OnOk result (Checks errors.old.items errors.new.items (AreFoundMade self.now tyenv.now (uses_of_definition (definition_view def.now)))) }
+        ensures checks { OnOk result (Checks errors.old.items errors.new.items (AreFoundMade self.now tyenv.now (uses_of_definition
+            (definition_view def.now)))) }
         ensures places { OnOk result (NotesAt (definition_positions (definition_view def.now)) errors.old.items errors.new.items) }
     {
         let Def::Rule(rule) = def else {
@@ -131,9 +133,11 @@ impl TermEnv {
         errors: &mut Vec<Error>,
         defs: &[Def],
     ) -> Result<(), AllocError>
-        ensures checks { OnOk result (Checks errors.old.items errors.new.items (AreFoundMade self.now tyenv.now (flat_map uses_of_rule (rule_trees (definition_views defs.now))))) }
+        ensures checks { OnOk result (Checks errors.old.items errors.new.items (AreFoundMade self.now tyenv.now (flat_map uses_of_rule (rule_trees
+            (definition_views defs.now))))) }
         ensures places { OnOk result (NotesAt (positions_of (definition_views defs.now)) errors.old.items errors.new.items) }
-        ensures breach { OnOk result (MayBegin (UsesUnmade (AreFoundMade self.now tyenv.now) (rule_trees (definition_views defs.now))) errors.old.items errors.new.items) }
+        ensures breach { OnOk result (MayBegin (UsesUnmade (AreFoundMade self.now tyenv.now) (rule_trees
+            (definition_views defs.now))) errors.old.items errors.new.items) }
     {
         for def in defs {
             self.check_definition(tyenv, errors, def)?;

@@ -92,10 +92,12 @@ impl TermEnv {
     ) -> Result<VarUse, Stop>
         requires inverse { IsInterned tyenv.now }
         requires whole { expr_view whole.now ≡ var_expr (name_view name.now) (position pos) }
-        ensures uses { (flags : Flags) → UsesVar self.now (standing tyenv.now work.old) (standing tyenv.now work.new) nesting (expr_view whole.now) flags (expected expected_ty) result }
+        ensures uses { (flags : Flags) → UsesVar self.now (standing tyenv.now work.old) (standing tyenv.now work.new) nesting
+            (expr_view whole.now) flags (expected expected_ty) result }
         ensures places { StaysPlaced (position pos ∷ []) work.old.errors.items work.new.errors.items result }
         ensures among { ConvertsAmong (expr_positions (expr_view whole.now)) result }
-        ensures limits { (flags : Flags) → VarComes self.now (standing tyenv.now work.old) (standing tyenv.now work.new) nesting (expr_view whole.now) flags (expected expected_ty) result }
+        ensures limits { (flags : Flags) → VarComes self.now (standing tyenv.now work.old) (standing tyenv.now work.new) nesting
+            (expr_view whole.now) flags (expected expected_ty) result }
     {
         let Some(bound) = find_var(tyenv, work, name) else {
             report_variable(&mut work.errors, pos, name)?;
@@ -130,10 +132,12 @@ impl TermEnv {
     ) -> Result<CallUse<'_>, Stop>
         requires inverse { IsInterned tyenv.now }
         requires whole { expr_view whole.now ≡ term_expr (name_view sym.now) (expr_views args.now) (position pos) }
-        ensures uses { UsesCall self.now (standing tyenv.now work.old) (standing tyenv.now work.new) nesting (expr_view whole.now) (expr_views args.now) (flags_view flags) (expected expected_ty) result }
+        ensures uses { UsesCall self.now (standing tyenv.now work.old) (standing tyenv.now work.new) nesting (expr_view whole.now)
+            (expr_views args.now) (flags_view flags) (expected expected_ty) result }
         ensures places { StaysPlaced (position pos ∷ []) work.old.errors.items work.new.errors.items result }
         ensures among { CallsAmong (expr_positions (expr_view whole.now)) result }
-        ensures limits { CallComes self.now (standing tyenv.now work.old) (standing tyenv.now work.new) nesting (expr_view whole.now) (expr_views args.now) (flags_view flags) (expected expected_ty) result }
+        ensures limits { CallComes self.now (standing tyenv.now work.old) (standing tyenv.now work.new) nesting (expr_view whole.now)
+            (expr_views args.now) (flags_view flags) (expected expected_ty) result }
     {
         let Some(term) = self.find_term(tyenv, sym) else {
             report_unknown(tyenv, work, pos, sym)?;

@@ -156,7 +156,8 @@ impl TermEnv {
         ensures keeps { Keeps tyenv.old tyenv.new }
         ensures made { MayTranslate self.now (standing tyenv.old work.old) (standing tyenv.new work.new) nesting
             (expr_reading (let_expr (S.let_views defs.now) (S.expr_view body.now) (S.position pos)) (flags_view flags) (expected expected_ty)) expr_view result }
-        ensures places { StaysPlaced (expr_positions (let_expr (S.let_views defs.now) (S.expr_view body.now) (S.position pos))) work.old.errors.items work.new.errors.items result }
+        ensures places { StaysPlaced (expr_positions (let_expr (S.let_views defs.now) (S.expr_view body.now)
+            (S.position pos))) work.old.errors.items work.new.errors.items result }
         ensures limits { MeetsLimits self.now (standing tyenv.old work.old) (standing tyenv.new work.new) nesting
             (expr_reading (let_expr (S.let_views defs.now) (S.expr_view body.now) (S.position pos)) (flags_view flags) (expected expected_ty))
             (expr_limits (let_expr (S.let_views defs.now) (S.expr_view body.now) (S.position pos)) (flags_view flags) (expected expected_ty)) result }

@@ -91,10 +91,12 @@ impl TermEnv {
     ) -> Result<PatternUse<'_>, Stop>
         requires inverse { IsInterned tyenv.now }
         requires whole { pattern_view whole.now ≡ term_pattern (name_view sym.now) (pattern_views args.now) (position pos) }
-        ensures uses { UsesTerm self.now (standing tyenv.now work.old) (standing tyenv.now work.new) nesting multi (pattern_view whole.now) (pattern_views args.now) expected_ty.0 result }
+        ensures uses { UsesTerm self.now (standing tyenv.now work.old) (standing tyenv.now work.new) nesting multi (pattern_view whole.now)
+            (pattern_views args.now) expected_ty.0 result }
         ensures places { StaysPlaced (position pos ∷ []) work.old.errors.items work.new.errors.items result }
         ensures among { ExpandsAmong (with_templates self.now (pattern_positions (pattern_view whole.now))) result }
-        ensures limits { UseComes self.now (standing tyenv.now work.old) (standing tyenv.now work.new) nesting multi (pattern_view whole.now) (pattern_views args.now) expected_ty.0 result }
+        ensures limits { UseComes self.now (standing tyenv.now work.old) (standing tyenv.now work.new) nesting multi (pattern_view whole.now)
+            (pattern_views args.now) expected_ty.0 result }
     {
         let Some(term) = self.find_term(tyenv, sym) else {
             report_unknown(&mut work.errors, pos, sym)?;

@@ -128,7 +128,8 @@ impl TermEnv {
             → Translates self.now (standing tyenv.old work.old) (standing tyenv.new work.new) nesting
             (parts_reading multi (S.pattern_views args.now) (map (λ t. t.0) tys.now)) (λ v. pattern_parts (pattern_views v.items)) result }
         ensures errors { StaysNoted (standing tyenv.old work.old) (standing tyenv.new work.new) result }
-        ensures places { StaysPlaced (with_templates self.now (patterns_positions (S.pattern_views args.now))) work.old.errors.items work.new.errors.items result }
+        ensures places { StaysPlaced (with_templates self.now (patterns_positions
+            (S.pattern_views args.now))) work.old.errors.items work.new.errors.items result }
         ensures limits { length args.now ≡ length tys.now
             → MeetsLimits self.now (standing tyenv.old work.old) (standing tyenv.new work.new) nesting
             (parts_reading multi (S.pattern_views args.now) (map (λ t. t.0) tys.now)) (parts_limits multi (S.pattern_views args.now) (map (λ t. t.0) tys.now)) result }
@@ -157,7 +158,8 @@ impl TermEnv {
         ensures keeps { Keeps tyenv.old tyenv.new }
         ensures made { Translates self.now (standing tyenv.old work.old) (standing tyenv.new work.new) nesting
             (each_reading multi (S.pattern_views subpats.now) expected_ty.0) (λ v. pattern_parts (pattern_views v.items)) result }
-        ensures places { StaysPlaced (with_templates self.now (patterns_positions (S.pattern_views subpats.now))) work.old.errors.items work.new.errors.items result }
+        ensures places { StaysPlaced (with_templates self.now (patterns_positions
+            (S.pattern_views subpats.now))) work.old.errors.items work.new.errors.items result }
         ensures limits { MeetsLimits self.now (standing tyenv.old work.old) (standing tyenv.new work.new) nesting
             (each_reading multi (S.pattern_views subpats.now) expected_ty.0) (each_limits multi (S.pattern_views subpats.now) expected_ty.0) result }
     {

@@ -133,7 +133,8 @@ fn finish_rule(
     requires { IsInterned tyenv.old }
     ensures keeps { Keeps tyenv.old tyenv.new }
     ensures names { OnOk result (names_of tyenv.new ≡ (with_own_name (S.rule_view rule.now).name (scope_of (names_of tyenv.old) vars.now.items)).names) }
-    ensures view { IfOk result (λ q. rule_view q ≡ rule_of_sides id.0 (S.rule_view rule.now) (term_view term.now) (sides_view sides) (scope_of (names_of tyenv.old) vars.now.items)) }
+    ensures view { IfOk result (λ q. rule_view q ≡ rule_of_sides id.0 (S.rule_view rule.now) (term_view term.now) (sides_view sides) (scope_of
+        (names_of tyenv.old) vars.now.items)) }
 {
     let name = meet_name(tyenv, rule)?;
     let vars = vars.clone()?;

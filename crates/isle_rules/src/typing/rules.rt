@@ -27,8 +27,8 @@ use std::alloc::AllocError;
 const MOST_NESTED: usize = 256;
 
 impl TermEnv {
-    // A rule with this id, from the names met before it, where nothing was noted yet. A limit that it passes ends the work on it, and is noted at its
-    // place. Upstream has no such limit.
+    // A rule with this id, from the names met before it, where nothing was noted yet. A limit that it passes ends the work on
+    // it, and is noted at its place. Upstream has no such limit.
     fn type_rule(
         &self,
         tyenv: &mut TypeEnv,
@@ -39,7 +39,8 @@ impl TermEnv {
         requires inverse { IsInterned tyenv.old }
         requires nothing { work.old.errors.items ≡ [] }
         ensures keeps { Keeps tyenv.old tyenv.new }
-        ensures ends { IfOk result (λ o. CollectsRule self.now tyenv.old tyenv.new work.old.errors.items work.new.errors.items id.0 rule.now (option_map rule_view o)) }
+        ensures ends { IfOk result (λ o. CollectsRule self.now tyenv.old tyenv.new work.old.errors.items work.new.errors.items id.0 rule.now
+            (option_map rule_view o)) }
         ensures places { OnOk result (NotesAt (with_templates self.now (rule_positions (tree_view rule.now))) work.old.errors.items work.new.errors.items) }
         ensures tells { OnOk result (TellsTyping self.now tyenv.old tyenv.new (tree_view rule.now ∷ []) work.old.errors.items work.new.errors.items) }
         ensures stands { IfOk result (StandsIf (position rule.now.pos)) }
@@ -64,7 +65,8 @@ impl TermEnv {
     ) -> Result<Option<Rule>, AllocError>
         requires { IsInterned tyenv.old }
         ensures keeps { Keeps tyenv.old tyenv.new }
-        ensures ends { IfOk result (λ o. CollectsRule self.now tyenv.old tyenv.new work.old.errors.items work.new.errors.items id.0 rule.now (option_map rule_view o)) }
+        ensures ends { IfOk result (λ o. CollectsRule self.now tyenv.old tyenv.new work.old.errors.items work.new.errors.items id.0 rule.now
+            (option_map rule_view o)) }
         ensures places { OnOk result (NotesAt (with_templates self.now (rule_positions (tree_view rule.now))) work.old.errors.items work.new.errors.items) }
         ensures tells { OnOk result (TellsTyping self.now tyenv.old tyenv.new (tree_view rule.now ∷ []) work.old.errors.items work.new.errors.items) }
         ensures stands { IfOk result (StandsIf (position rule.now.pos)) }
@@ -87,12 +89,15 @@ impl TermEnv {
     ) -> Result<(), AllocError>
         requires { IsInterned tyenv.old }
         ensures keeps { Keeps tyenv.old tyenv.new }
-        ensures reads { OnOk result (CollectsNext self.now tyenv.old tyenv.new work.old.errors.items work.new.errors.items (definition_view def.now) rules.old.items rules.new.items) }
+        ensures reads { OnOk result (CollectsNext self.now tyenv.old tyenv.new work.old.errors.items work.new.errors.items
+            (definition_view def.now) rules.old.items rules.new.items) }
         ensures notes { OnOk result (NotesOfDefinition self.now tyenv.old (definition_view def.now) work.old.errors.items work.new.errors.items) }
         ensures named { OnOk result (NamesPastLimits self.now tyenv.old (rule_of (definition_view def.now)) work.new.errors.items) }
         ensures tells { OnOk result (TellsTyping self.now tyenv.old tyenv.new (rule_of (definition_view def.now)) work.old.errors.items work.new.errors.items) }
-        ensures places { OnOk result (NotesAt (with_templates self.now (definition_positions (definition_view def.now))) work.old.errors.items work.new.errors.items) }
-        ensures stand { OnOk result (OccurAmong (rules_at (rule_views rules.new.items)) (rules_at (rule_views rules.old.items) ++ definition_positions (definition_view def.now))) }
+        ensures places { OnOk result (NotesAt (with_templates self.now (definition_positions
+            (definition_view def.now))) work.old.errors.items work.new.errors.items) }
+        ensures stand { OnOk result (OccurAmong (rules_at (rule_views rules.new.items)) (rules_at
+            (rule_views rules.old.items) ++ definition_positions (definition_view def.now))) }
     {
         let Def::Rule(rule) = def else {
             return Ok(());
@@ -120,11 +125,14 @@ impl TermEnv {
     ) -> Result<Vec<Rule>, AllocError>
         requires { IsInterned tyenv.old }
         ensures keeps { Keeps tyenv.old tyenv.new }
-        ensures reads { IfOk result (λ v. CollectsRules self.now tyenv.old tyenv.new work.old.errors.items work.new.errors.items (rule_trees (definition_views defs.now)) (rule_views v.items)) }
+        ensures reads { IfOk result (λ v. CollectsRules self.now tyenv.old tyenv.new work.old.errors.items work.new.errors.items (rule_trees
+            (definition_views defs.now)) (rule_views v.items)) }
         ensures notes { OnOk result (NotesOfRules self.now tyenv.old (rule_trees (definition_views defs.now)) work.old.errors.items work.new.errors.items) }
         ensures named { OnOk result (NamesPastLimits self.now tyenv.old (rule_trees (definition_views defs.now)) work.new.errors.items) }
-        ensures tells { OnOk result (TellsTyping self.now tyenv.old tyenv.new (rule_trees (definition_views defs.now)) work.old.errors.items work.new.errors.items) }
-        ensures places { OnOk result (NotesAt (with_templates self.now (positions_of (definition_views defs.now))) work.old.errors.items work.new.errors.items) }
+        ensures tells { OnOk result (TellsTyping self.now tyenv.old tyenv.new (rule_trees
+            (definition_views defs.now)) work.old.errors.items work.new.errors.items) }
+        ensures places { OnOk result (NotesAt (with_templates self.now (positions_of
+            (definition_views defs.now))) work.old.errors.items work.new.errors.items) }
         ensures breach { OnOk result (BeginsUntyped self.now tyenv.old (rule_trees (definition_views defs.now)) work.old.errors.items work.new.errors.items) }
         ensures stand { IfOk result (λ v. OccurAmong (rules_at (rule_views v.items)) (positions_of (definition_views defs.now))) }
     {

@@ -87,7 +87,8 @@ impl TermEnv {
         ensures keeps { Keeps tyenv.old tyenv.new }
         ensures made { Translates self.now (standing tyenv.old work.old) (standing tyenv.new work.new) nesting
             (iflets_reading (map S.iflet_view iflets.now) (flags_view flags)) (λ v. map iflet_view v.items) result }
-        ensures places { StaysPlaced (with_templates self.now (flat_map iflet_positions (map S.iflet_view iflets.now))) work.old.errors.items work.new.errors.items result }
+        ensures places { StaysPlaced (with_templates self.now (flat_map iflet_positions
+            (map S.iflet_view iflets.now))) work.old.errors.items work.new.errors.items result }
         ensures limits { MeetsLimits self.now (standing tyenv.old work.old) (standing tyenv.new work.new) nesting
             (iflets_reading (map S.iflet_view iflets.now) (flags_view flags)) (iflets_limits (map S.iflet_view iflets.now) (flags_view flags)) result }
     {
@@ -115,7 +116,8 @@ impl TermEnv {
         ensures keeps { Keeps tyenv.old tyenv.new }
         ensures made { Translates self.now (standing tyenv.old work.old) (standing tyenv.new work.new) nesting
             (parts_reading multi (S.pattern_views args.now) (map (λ t. t.0) tys.now)) (λ v. pattern_parts (pattern_views v.items)) result }
-        ensures places { StaysPlaced (with_templates self.now (S.position pos ∷ patterns_positions (S.pattern_views args.now))) work.old.errors.items work.new.errors.items result }
+        ensures places { StaysPlaced (with_templates self.now (S.position pos ∷ patterns_positions
+            (S.pattern_views args.now))) work.old.errors.items work.new.errors.items result }
         ensures limits { MeetsLimits self.now (standing tyenv.old work.old) (standing tyenv.new work.new) nesting
             (parts_reading multi (S.pattern_views args.now) (map (λ t. t.0) tys.now)) (root_limits multi (S.pattern_views args.now) (map (λ t. t.0) tys.now)) result }
     {

@@ -7,7 +7,7 @@ use Rattle.isle_types.specs.TypePositions.{types_positions}
 use Rattle.isle_base.specs.ErrorViews.{error_views}
 use Rattle.isle_rules.specs.RulesRead.{rules_of}
 use Rattle.isle_rules.proofs.FirstPastLimits.{first_named}
-use Rattle.isle_rules.proofs.RulesRefused.{passed_on, limits_named, named_by_none, past_limits_named, no_rule_to_name, no_first_to_name, refused_by_rules, refused_by_terms, first_broken, broken_by_terms, all_said, nothing_said}
+use Rattle.isle_rules.proofs.RulesRefused.{passed_on, limits_named, named_by_none, past_limits_named, no_rule_to_name, no_first_to_name, refused_by_rules, refused_by_terms, first_broken, broken_by_terms, all_said, terms_said}
 use Rattle.isle_rules.proofs.EnvironmentsAtEnd.{left_in_the_end, all_read, could_be_read, whatever, is_nothing, is_something, wrong_in_the_end, right_in_the_end, read_by_terms}
 use Rattle.isle_rules.proofs.PlacesAtEnd.{stand_in_the_end}
 use Rattle.isle_laws_trees.proofs.NoReadLimits.{elaborated_lists_pass_no_limit_lem}
@@ -102,7 +102,7 @@ returns-then-not-is_empty-clause-told g c =
 
 pub returns-in_err-table-clause-told : goal.returns-in_err-table-clause-told
 returns-in_err-table-clause-told g c =
-    nothing_said g.read (definition_views c.args.defs.now) c.args.expand_internal_extractors c.from_residual.result c.in_err-table.field-0.0 c.from_residual.ensures c.in_err-table.ensures.refused
+    terms_said g.read (definition_views c.args.defs.now) c.args.expand_internal_extractors c.from_residual.result c.in_err-table.field-0.0 c.from_residual.ensures c.in_err-table.ensures.refused c.in_err-table.ensures.told
 
 pub returns-clause-within_limits : goal.returns-clause-within_limits
 returns-clause-within_limits g c =
