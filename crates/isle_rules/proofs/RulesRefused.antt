@@ -113,7 +113,7 @@ module _ {X : Type 0} (e : TypesRead) (defs : List Definition) (expand : Bool) (
   pub no_first_to_name : OnErrors r (λ es. NamesFirstPastLimits e defs expand (error_views es))
   no_first_to_name = passed_on (λ es. RefusesTerms e defs (error_views es)) (λ es. NamesFirstPastLimits e defs expand (error_views es)) (λ es t p. absurd (t.not_valid p.terms)) r f h n
 
-both_said : {X : Type 0} (P Q : List Error → Type 0) (f : Fault) → OnErrors {A = X} (Err f) P → OnErrors {A = X} (Err f) Q → OnErrors {A = X} (Err f) (λ es. P es × Q es)
+both_said : (P Q : List Error → Type 0) (f : Fault) → OnErrors {A = TermTable} (Err f) P → OnErrors {A = TermTable} (Err f) Q → OnErrors {A = TermTable} (Err f) (λ es. P es × Q es)
 both_said P Q (Errors es) p q = (p, q)
 both_said P Q (Memory e) p q = tt
 
