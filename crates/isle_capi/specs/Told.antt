@@ -74,7 +74,7 @@ IsNamesLine text = (why : List ℕ) × (text ≡ (codes "error[names]: " ++ why)
 
 -- what comes of wanting Rust code: where all is accepted the code, or why there is none
 abbrev pub IsCodedBy : (accepted : Type 0) → Coded → Type 0
-IsCodedBy accepted (Code code) = accepted
+IsCodedBy accepted (Code code) = accepted × (string_bytes code ≢ [])
 IsCodedBy accepted (Names why) = accepted × IsNamesLine (string_bytes why)
 IsCodedBy accepted Wrong = accepted → ⊥
 
@@ -95,7 +95,7 @@ IsTextOf A.Trees asked reading status text = IsSaid asked reading status text
 IsTextOf A.Check asked reading status text = IsSaid asked reading status text
 IsTextOf A.Code asked reading status text =
     ((IsAcceptedReading asked.expand reading → ⊥) × IsSaid asked reading status text)
-    ⊎ ((status ≡ DONE) ⊎ ((status ≡ NO_CODE) × IsNamesLine text))
+    ⊎ (((status ≡ DONE) × (text ≢ [])) ⊎ ((status ≡ NO_CODE) × IsNamesLine text))
 
 -- a status and a text are made of what was read
 abbrev pub IsMade : Asked → Reading → (status : ℕ) → (text : List ℕ) → Type 0

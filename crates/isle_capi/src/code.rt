@@ -1,6 +1,6 @@
 //! The Rust code of files.
 
-ghost use Rattle.std.specs.Prelude.{⊤, IfOk};
+ghost use Rattle.std.specs.Prelude.{◌≢◌, ⊤, [], string_bytes, IfOk};
 ghost use Rattle.isle_base.specs.SyntaxViews.{definition_views};
 ghost use Rattle.cranelift_isle.specs.Lowerings.{AreAccepted};
 ghost use Rattle.isle_capi.specs.Told.{IsCodeOf, IsCodedBy};
@@ -56,6 +56,7 @@ fn code_of_defs(
 
 // What comes of making code.
 fn coded_by(alloc: Global, code: Result<String, CodeError>) -> Result<Coded, AllocError>
+    requires { IfOk code (λ text. string_bytes text ≢ []) }
     ensures { IfOk result (IsCodedBy ⊤) }
 {
     match code {

@@ -46,19 +46,19 @@ status_of_answer asked (Defs defs) answer (inl accepted) =
     record {
       known = at_most_one answer.status _ status;
       done = λ _. (accepted.0, accepted.1);
-      refused = λ one not _. may_be_one answer.status _ status one not
+      refused = λ one not _. may_be_one answer.status _ status one not;
     }
 status_of_answer asked (Defs defs) answer (inr refused) =
     record {
       known = omega (arith, refused.1.0);
       done = λ none. absurd (omega (arith, refused.1.0, none));
-      refused = λ _ _. refused.0
+      refused = λ _ _. refused.0;
     }
 status_of_answer asked (Unread reports) answer refused =
     record {
       known = omega (arith, refused.0);
       done = λ none. absurd (omega (arith, refused.0, none));
-      refused = λ _ _ h. h
+      refused = λ _ _ h. h;
     }
 
 -- lowered definitions are accepted, and their terms with rules are those that were lowered

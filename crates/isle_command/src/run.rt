@@ -156,12 +156,7 @@ fn run_samples<O: Write, E: Write>(
 }
 
 // Writes what comes of the sample of this name.
-fn run_sample_named<O: Write, E: Write>(
-    alloc: Global,
-    name: &str,
-    out: &mut O,
-    err: &mut E,
-) -> u8
+fn run_sample_named<O: Write, E: Write>(alloc: Global, name: &str, out: &mut O, err: &mut E) -> u8
     ensures known { result ≤ 4 }
     // a name that is no sample's is wrong use, where memory isn't refused before
     ensures used { names_sample (name.now ∷ []) ≡ true → result ≢ 2 }

@@ -4,5 +4,5 @@ use Rattle.isle_command.proofs.answers.answer_to_texts.Goals as goal
 pub returns : goal.returns
 returns g c =
     IfOk-weaker c.answer_to_reading.result _ _
-        (λ answer h. (c.in_ok-reading.reading, c.in_ok-reading.ensures, h))
-        c.answer_to_reading.ensures.answer
+    (λ answer h. (c.in_ok-reading.reading, c.in_ok-reading.ensures, h))
+    c.answer_to_reading.ensures.answer
