@@ -1,5 +1,5 @@
 -- What a status and a text that are handed over say of what was read.
-use Rattle.std.proofs.Common.{◌≡◌, ◌≢◌, ◌≤◌, ◌<◌, ◌⊎◌, ℕ, Bool, true, false, List, [], Option, Some, None, inl, inr, refl, sym, subst, arith, length, take, string_bytes, is_none, is_some, nat_eq, if◌then◌else◌, Result, Ok, Err, IfOk}
+use Rattle.std.proofs.Common.{◌≡◌, ◌≢◌, ◌≤◌, ◌⊎◌, ℕ, Bool, true, false, List, [], Option, Some, None, inl, inr, refl, sym, subst, arith, is_none, is_some, nat_eq, if◌then◌else◌, Result, Ok, Err, IfOk}
 use Rattle.std.proofs.lemmas.Bool.{eqb-false, eqb-true}
 use Rattle.std.specs.declared.alloc.AllocError.{AllocError}
 use Rattle.isle_command.specs.declared.answers.Answer.{Answer}
@@ -11,8 +11,8 @@ use Rattle.isle_capi.specs.declared.options.Asked.{Asked}
 use Rattle.isle_capi.specs.declared.options.Task.{Task}
 use Rattle.isle_capi.specs.declared.options.Task.TheVariants as A
 use Rattle.isle_capi.specs.declared.output.Sizes.{Sizes}
-use Rattle.isle_capi.specs.declared.statuses.TheConstants.{DONE, ERRORS, NO_CODE, NO_MEMORY, NO_ROOM}
-use Rattle.isle_capi.specs.Told.{command_task, status_of, text_of, HandsOver, IsCommandAnswer, IsMade, IsNamesLine, IsRequestOf, IsSaidTo, IsTextOf, IsToldOf, Says}
+use Rattle.isle_capi.specs.declared.statuses.TheConstants.{DONE, ERRORS, NO_CODE}
+use Rattle.isle_capi.specs.Told.{command_task, status_of, text_of, HandsOver, IsCommandAnswer, IsNamesLine, IsRequestOf, IsSaidTo, IsTextOf, IsToldOf, Says}
 
 -- an answer of the command to a request for a call
 pub command_answer : (asked : Asked) (reading : Reading) (request : Request) (answer : Result Answer AllocError)

@@ -1,5 +1,5 @@
 -- Texts that aren't empty.
-use Rattle.std.proofs.Common.{◌≡◌, ◌≢◌, ℕ, List, [], ◌∷◌, ◌++◌, arith}
+use Rattle.std.proofs.Common.{◌≢◌, ℕ, List, [], ◌∷◌, ◌++◌, arith}
 
 -- a text with something behind it
 pub ended_text : (text : List ℕ) (last : ℕ) → text ++ last ∷ [] ≢ []

@@ -3,7 +3,8 @@
 ghost use Rattle.std.specs.Prelude.{◌≡◌, ◌≢◌, ◌⊎◌, ◌≤◌, ◌<◌, true, [], length, is_none, map, string_bytes, string_len, IfOk};
 ghost use Rattle.isle_base.specs.SyntaxViews.{definition_views};
 ghost use Rattle.isle_command.specs.declared.words.Task.TheVariants.{Lower};
-ghost use Rattle.isle_command.specs.TaskAnswers.{lowered_terms, AreReports, AreTrees, AsksForAll, IsAnswerBy, IsAnswerTo, IsAnswerToReading, IsAnswerToTexts, IsDoneWithText, IsDoneWithoutText, IsFailed, IsRefusal};
+ghost use Rattle.isle_command.specs.TaskAnswers.{lowered_terms, AsksForAll, IsAnswerBy, IsAnswerTo, IsAnswerToReading, IsAnswerToTexts};
+ghost use Rattle.isle_command.specs.TaskAnswers.{AreReports, AreTrees, IsDoneWithText, IsDoneWithoutText, IsFailed, IsRefusal};
 ghost use Rattle.isle_command.specs.Statuses.{IsStatusOf};
 
 use crate::comparison::difference;

@@ -66,7 +66,8 @@ fn read_text(
     reports: &mut Vec<Report>,
 ) -> Result<(), AllocError>
     // what is added lies in the text
-    ensures read { OnOk result ((added : List Definition) × (definition_views defs.new.items ≡ definition_views defs.old.items ++ added) × AreWithin number (length text.now) added) }
+    ensures read { OnOk result ((added : List Definition)
+        × (definition_views defs.new.items ≡ definition_views defs.old.items ++ added) × AreWithin number (length text.now) added) }
     ensures unread { OnOk result (reports.new.items ≢ [] → (reports.old.items ≢ []) ⊎ IsUnread number text.now) }
 {
     match read(alloc, number, text) {
