@@ -1,1 +1,3 @@
+mod Coded
+mod Telling
 mod Texts

@@ -28,6 +28,11 @@ text_in f bytes = take f.text_length (drop f.name_length bytes)
 abbrev pub bytes_behind : FileLengths → List ℕ → List ℕ
 bytes_behind f bytes = drop f.text_length (drop f.name_length bytes)
 
+-- the texts of the files whose names and texts stand one after the other in these bytes
+abbrev pub texts_in : List FileLengths → List ℕ → List (List ℕ)
+texts_in [] bytes = []
+texts_in (f ∷ fs) bytes = text_in f bytes ∷ texts_in fs (bytes_behind f bytes)
+
 -- whether all names and texts that stand one after the other in these bytes are UTF-8
 abbrev pub are_texts : List FileLengths → List ℕ → Bool
 are_texts [] bytes = true

@@ -1,6 +1,11 @@
 -- Which numbers of options mean something.
-use Rattle.std.specs.Prelude.{ℕ, ◌≡◌, Bool, true, nat_lt, nat_eq, ◌&&◌, ◌||◌, not}
+use Rattle.std.specs.Prelude.{ℕ, ◌≡◌, Bool, false, true, nat_lt, nat_eq, ◌&&◌, ◌||◌, not}
+use Rattle.isle_capi.specs.declared.options.Asked.{Asked}
+use Rattle.isle_capi.specs.declared.options.Format.{Format}
+use Rattle.isle_capi.specs.declared.options.Format.TheVariants as F
 use Rattle.isle_capi.specs.declared.options.Options.{Options}
+use Rattle.isle_capi.specs.declared.options.Task.{Task}
+use Rattle.isle_capi.specs.declared.options.Task.TheVariants as T
 
 abbrev pub is_task : ℕ → Bool
 is_task n = nat_lt n 3
@@ -20,3 +25,25 @@ are_options o = go_together o && (is_task o.task && (is_format o.format && is_tr
 
 abbrev pub AreOptions : Options → Type 0
 AreOptions o = are_options o ≡ true
+
+-- the numbers of tasks, formats and truth values
+abbrev pub task_number : Task → ℕ
+task_number T.Trees = 0
+task_number T.Check = 1
+task_number T.Code = 2
+
+abbrev pub format_number : Format → ℕ
+format_number F.Text = 0
+format_number F.Line = 1
+format_number F.Colored = 2
+format_number F.Json = 3
+
+abbrev pub truth_number : Bool → ℕ
+truth_number false = 0
+truth_number true = 1
+
+-- options have the numbers of what is asked
+pub record IsAskedBy (options : Options) (asked : Asked) : Type 0 where
+  pub task : options.task ≡ task_number asked.task
+  pub format : options.format ≡ format_number asked.format
+  pub expand : options.expand ≡ truth_number asked.expand

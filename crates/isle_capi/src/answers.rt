@@ -1,14 +1,19 @@
 //! What is answered to files: Rust code, or what the command answers.
 
-ghost use Rattle.std.specs.Prelude.{◌≡◌};
+ghost use Rattle.std.specs.Prelude.{◌≡◌, map, string_bytes, IfOk};
+ghost use Rattle.isle_command.specs.Readings.{IsReadingOf};
 ghost use Rattle.isle_capi.specs.Calls.{HasText, IsAnswered, LeavesBehind};
+ghost use Rattle.isle_capi.specs.declared.options.Task.TheVariants.{Code};
+ghost use Rattle.isle_capi.specs.Told.{command_format, command_task, status_of, text_of, IsCommandAnswer, IsRequestOf, IsSaidTo, IsToldOf, IsToldOfTexts};
 
 use crate::code::{Coded, code_of};
 use crate::options::{Asked, Format, Task};
 use crate::output::{Sizes, hand_over};
 use crate::statuses::{DONE, ERRORS, NO_CODE, NO_MEMORY};
 use isle_base::syntax::Files;
-use isle_command::answers::{Answer, answer_to};
+use isle_command::answers::{Answer, answer_to_reading};
+use isle_command::progress::Teller;
+use isle_command::reading::{Reading, reading_of};
 use isle_command::words;
 use isle_command::words::Request;
 use std::alloc::{AllocError, Global};
@@ -24,32 +29,68 @@ pub(crate) fn told(
 ) -> u32
     ensures known { IsAnswered result }
     ensures left { LeavesBehind out.old out.new sizes.new result }
+    ensures told { IsToldOfTexts asked (map string_bytes files.now.texts.items) out.old out.new sizes.new result }
 {
-    match asked.task {
-        Task::Code => coded(alloc, asked, files, out, sizes),
-        Task::Trees | Task::Check => said(alloc, asked, files, out, sizes),
-    }
-}
-
-// Writes the Rust code of these files, or what is wrong with them.
-fn coded(alloc: Global, asked: Asked, files: &Files, out: &mut [u8], sizes: &mut Sizes) -> u32
-    ensures known { IsAnswered result }
-    ensures left { LeavesBehind out.old out.new sizes.new result }
-{
-    match code_of(alloc, files) {
-        Ok(Coded::Code(code)) => hand_over(DONE, &code, out, sizes),
-        Ok(Coded::Names(why)) => hand_over(NO_CODE, &why, out, sizes),
-        Ok(Coded::Wrong) => said(alloc, asked, files, out, sizes),
+    match read_silently(alloc, asked, files) {
+        Ok(reading) => told_of(alloc, asked, files, &reading, out, sizes),
         Err(AllocError) => refused(sizes),
     }
 }
 
-// Writes what the command says of these files.
-fn said(alloc: Global, asked: Asked, files: &Files, out: &mut [u8], sizes: &mut Sizes) -> u32
+// Writes what is asked of what was read.
+fn told_of(
+    alloc: Global,
+    asked: Asked,
+    files: &Files,
+    reading: &Reading,
+    out: &mut [u8],
+    sizes: &mut Sizes,
+) -> u32
     ensures known { IsAnswered result }
     ensures left { LeavesBehind out.old out.new sizes.new result }
+    ensures told { IsToldOf asked reading.now out.old out.new sizes.new result }
 {
-    match answer_of_command(alloc, asked, files) {
+    match asked.task {
+        Task::Code => coded(alloc, asked, files, reading, out, sizes),
+        Task::Trees | Task::Check => said(alloc, asked, files, reading, out, sizes),
+    }
+}
+
+// Writes the Rust code of what was read, or what is wrong with it.
+fn coded(
+    alloc: Global,
+    asked: Asked,
+    files: &Files,
+    reading: &Reading,
+    out: &mut [u8],
+    sizes: &mut Sizes,
+) -> u32
+    ensures known { IsAnswered result }
+    ensures left { LeavesBehind out.old out.new sizes.new result }
+    ensures told { asked.task ≡ Code → IsToldOf asked reading.now out.old out.new sizes.new result }
+{
+    match code_of(alloc, asked, files, reading) {
+        Ok(Coded::Code(code)) => hand_over(DONE, &code, out, sizes),
+        Ok(Coded::Names(why)) => hand_over(NO_CODE, &why, out, sizes),
+        Ok(Coded::Wrong) => said(alloc, asked, files, reading, out, sizes),
+        Err(AllocError) => refused(sizes),
+    }
+}
+
+// Writes what the command says of what was read.
+fn said(
+    alloc: Global,
+    asked: Asked,
+    files: &Files,
+    reading: &Reading,
+    out: &mut [u8],
+    sizes: &mut Sizes,
+) -> u32
+    ensures known { IsAnswered result }
+    ensures left { LeavesBehind out.old out.new sizes.new result }
+    ensures said { IsSaidTo asked reading.now out.old out.new sizes.new result }
+{
+    match answer_of_command(alloc, asked, files, reading) {
         Ok(answer) => hand_over(status_of(&answer), text_of(&answer), out, sizes),
         Err(AllocError) => refused(sizes),
     }
@@ -65,19 +106,37 @@ fn refused(sizes: &mut Sizes) -> u32
     NO_MEMORY
 }
 
-// What the command answers to these files. It tells nobody what is being done.
-fn answer_of_command(alloc: Global, asked: Asked, files: &Files) -> Result<Answer, AllocError> {
+// What these files are read as. Nobody is told what is being done.
+fn read_silently(alloc: Global, asked: Asked, files: &Files) -> Result<Reading, AllocError>
+    ensures { IfOk result (IsReadingOf (map string_bytes files.now.texts.items)) }
+{
     let request = request_of(alloc, asked);
-    answer_to(alloc, &request, files, false, &mut sink())
+    let mut nobody = sink();
+    let mut teller = Teller::new(false, false, &mut nobody);
+    reading_of(alloc, &request, files, &mut teller)
+}
+
+// What the command answers to what was read. It tells nobody what is being done.
+fn answer_of_command(
+    alloc: Global,
+    asked: Asked,
+    files: &Files,
+    reading: &Reading,
+) -> Result<Answer, AllocError>
+    ensures { IfOk result (IsCommandAnswer asked reading.now) }
+{
+    let request = request_of(alloc, asked);
+    let mut nobody = sink();
+    let mut teller = Teller::new(false, false, &mut nobody);
+    answer_to_reading(alloc, &request, files, reading, &mut teller)
 }
 
 // What is asked, as the command is asked it. Where Rust code is wanted, the command says what is wrong.
-fn request_of<'a>(alloc: Global, asked: Asked) -> Request<'a> {
+fn request_of<'a>(alloc: Global, asked: Asked) -> Request<'a>
+    ensures { IsRequestOf asked result }
+{
     Request {
-        task: match asked.task {
-            Task::Trees => words::Task::Lower,
-            Task::Check | Task::Code => words::Task::Check,
-        },
+        task: task_of(asked.task),
         expand: asked.expand,
         deny: false,
         format: format_of(asked.format),
@@ -91,8 +150,20 @@ fn request_of<'a>(alloc: Global, asked: Asked) -> Request<'a> {
     }
 }
 
+// A task as the command has it.
+fn task_of(task: Task) -> words::Task
+    ensures { result ≡ command_task task }
+{
+    match task {
+        Task::Trees => words::Task::Lower,
+        Task::Check | Task::Code => words::Task::Check,
+    }
+}
+
 // A format as the command has it.
-fn format_of(format: Format) -> words::Format {
+fn format_of(format: Format) -> words::Format
+    ensures { result ≡ command_format format }
+{
     match format {
         Format::Text | Format::Colored => words::Format::Text,
         Format::Line => words::Format::Line,
@@ -102,13 +173,16 @@ fn format_of(format: Format) -> words::Format {
 
 // The status of what the command answers.
 fn status_of(answer: &Answer) -> u32
-    ensures { HasText result }
+    ensures text { HasText result }
+    ensures same { result ≡ status_of answer.now }
 {
     if answer.status == 0 { DONE } else { ERRORS }
 }
 
 // The text of what the command answers, of which it writes one side alone.
-fn text_of(answer: &Answer) -> &str {
+fn text_of(answer: &Answer) -> &str
+    ensures { result.now ≡ text_of answer.now }
+{
     if answer.out.is_empty() {
         &answer.err
     } else {

@@ -1,10 +1,15 @@
 //! The Rust code of files.
 
+ghost use Rattle.std.specs.Prelude.{◌≢◌, ⊤, [], string_bytes, IfOk};
+ghost use Rattle.isle_base.specs.SyntaxViews.{definition_views};
+ghost use Rattle.cranelift_isle.specs.Lowerings.{AreAccepted};
+ghost use Rattle.isle_capi.specs.Told.{IsCodeOf, IsCodedBy};
+
+use crate::options::Asked;
 use cranelift_isle::lower::lower;
 use isle_base::syntax::{Def, Fault, Files};
+use isle_command::reading::Reading;
 use isle_rust::code::{CodeError, rust_code};
-use isle_text::errors::ReadFault;
-use isle_text::read;
 use std::alloc::{AllocError, Global};
 
 /// What comes of files whose Rust code is wanted.
@@ -18,30 +23,31 @@ pub(crate) enum Coded {
     Wrong,
 }
 
-// The Rust code of the definitions in these files, with their internal extractors expanded.
-pub(crate) fn code_of(alloc: Global, files: &Files) -> Result<Coded, AllocError> {
-    match read_all(alloc, files)? {
-        Some(defs) => code_of_defs(alloc, files, &defs),
-        None => Ok(Coded::Wrong),
+// The Rust code of what was read. Where code is asked for, internal extractors are expanded.
+pub(crate) fn code_of(
+    alloc: Global,
+    asked: Asked,
+    files: &Files,
+    reading: &Reading,
+) -> Result<Coded, AllocError>
+    ensures { IfOk result (IsCodeOf asked reading.now) }
+{
+    match reading {
+        Reading::Defs(defs) => code_of_defs(alloc, asked, files, defs),
+        Reading::Unread(_) => Ok(Coded::Wrong),
     }
-}
-
-// The definitions in all files, or None where a text can't be read.
-fn read_all(alloc: Global, files: &Files) -> Result<Option<Vec<Def>>, AllocError> {
-    let mut defs = Vec::new(alloc);
-    for (number, text) in files.texts.iter().enumerate() {
-        match read(alloc, number, text) {
-            Ok(mut read) => defs.append(&mut read)?,
-            Err(ReadFault::Text(_)) => return Ok(None),
-            Err(ReadFault::Memory(error)) => return Err(error),
-        }
-    }
-    Ok(Some(defs))
 }
 
 // The Rust code of these definitions.
-fn code_of_defs(alloc: Global, files: &Files, defs: &[Def]) -> Result<Coded, AllocError> {
-    match lower(alloc, defs, true) {
+fn code_of_defs(
+    alloc: Global,
+    asked: Asked,
+    files: &Files,
+    defs: &[Def],
+) -> Result<Coded, AllocError>
+    ensures { IfOk result (IsCodedBy (AreAccepted (definition_views defs.now) asked.expand)) }
+{
+    match lower(alloc, defs, asked.expand) {
         Ok(lowered) => coded_by(alloc, rust_code(alloc, &lowered, files)),
         Err(Fault::Errors(_)) => Ok(Coded::Wrong),
         Err(Fault::Memory(error)) => Err(error),
@@ -49,7 +55,10 @@ fn code_of_defs(alloc: Global, files: &Files, defs: &[Def]) -> Result<Coded, All
 }
 
 // What comes of making code.
-fn coded_by(alloc: Global, code: Result<String, CodeError>) -> Result<Coded, AllocError> {
+fn coded_by(alloc: Global, code: Result<String, CodeError>) -> Result<Coded, AllocError>
+    requires { IfOk code (λ text. string_bytes text ≢ []) }
+    ensures { IfOk result (IsCodedBy ⊤) }
+{
     match code {
         Ok(code) => Ok(Coded::Code(code)),
         Err(CodeError::Names(why)) => Ok(Coded::Names(format!(in alloc; "error[names]: {why}\n")?)),

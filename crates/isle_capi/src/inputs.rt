@@ -1,8 +1,8 @@
 //! The files of a call.
 
-ghost use Rattle.std.specs.Prelude.{◌≡◌, ◌≤◌, ◌-◌, ◌↔◌, false, true, IfErr, IfOk, IsTrue, SomeIff};
+ghost use Rattle.std.specs.Prelude.{◌≡◌, ◌≤◌, ◌-◌, ◌↔◌, false, true, map, string_bytes, IfErr, IfOk, IsTrue, SomeIff};
 ghost use Rattle.std.specs.Str.{is_utf8};
-ghost use Rattle.isle_capi.specs.Calls.{are_texts, length_of, total_length, AddUp, AreOther};
+ghost use Rattle.isle_capi.specs.Calls.{are_texts, length_of, texts_in, total_length, AddUp, AreOther};
 ghost use Rattle.isle_capi.specs.declared.inputs.Unread.TheVariants.{Memory, Text};
 
 use isle_base::syntax::Files;
@@ -74,6 +74,7 @@ fn rest_of(length: usize, file: &FileLengths) -> Option<usize>
 pub fn files_of(alloc: Global, bytes: &[u8], lengths: &[FileLengths]) -> Result<Files, Unread>
     requires { AddUp lengths.now bytes.now }
     ensures texts { IfOk result (λ _. are_texts lengths.now bytes.now ≡ true) }
+    ensures same { IfOk result (λ files. map string_bytes files.texts.items ≡ texts_in lengths.now bytes.now) }
     ensures other { IfErr result (λ e. e ≡ Text → AreOther lengths.now bytes.now) }
 {
     let mut files = Files {
@@ -94,6 +95,7 @@ pub fn files_of(alloc: Global, bytes: &[u8], lengths: &[FileLengths]) -> Result<
 // Bytes as text.
 fn string_of(alloc: Global, bytes: &[u8]) -> Result<String, Unread>
     ensures text { IfOk result (λ _. is_utf8 bytes.now ≡ true) }
+    ensures same { IfOk result (λ text. string_bytes text ≡ bytes.now) }
     ensures other { IfErr result (λ e. e ≡ Text → is_utf8 bytes.now ≡ false) }
 {
     match std::str::from_utf8(bytes) {

@@ -2,9 +2,10 @@
 //! the caller's buffer. `bindings/c/isle.h` declares it.
 #![tactic(auto)]
 
-ghost use Rattle.std.specs.Prelude.{◌≡◌};
-ghost use Rattle.isle_capi.specs.Calls.{AddUp, AreOther, IsStatus, LeavesBehind, TellsOther};
+ghost use Rattle.std.specs.Prelude.{◌≡◌, true};
+ghost use Rattle.isle_capi.specs.Calls.{are_texts, texts_in, AddUp, AreOther, IsStatus, LeavesBehind, TellsOther};
 ghost use Rattle.isle_capi.specs.Known.{AreOptions};
+ghost use Rattle.isle_capi.specs.Told.{IsToldByCall};
 
 mod answers;
 mod code;
@@ -50,6 +51,9 @@ pub extern "C" fn isle_capi_lower(
     ensures other { result ≡ NOT_UTF8 → AreOther files.now bytes.now }
     // what is written is UTF-8 and no more than there is room for, and nothing behind it is touched
     ensures left { LeavesBehind out.old out.new sizes.new result }
+    // of what the texts are read as, the status says whether it is accepted, and what is written is made of it
+    ensures told { AreOptions options.now → AddUp files.now bytes.now → are_texts files.now bytes.now ≡ true
+        → IsToldByCall options.now (texts_in files.now bytes.now) out.old out.new sizes.new result }
 {
     *sizes = Sizes::none();
     let Some(asked) = asked_by(options) else {

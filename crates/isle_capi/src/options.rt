@@ -1,7 +1,7 @@
 //! What a call is asked.
 
-ghost use Rattle.std.specs.Prelude.{◌≡◌, is_some};
-ghost use Rattle.isle_capi.specs.Known.{are_options, go_together, is_format, is_task, is_truth};
+ghost use Rattle.std.specs.Prelude.{◌≡◌, is_some, IfSome};
+ghost use Rattle.isle_capi.specs.Known.{are_options, format_number, go_together, is_format, is_task, is_truth, task_number, truth_number, IsAskedBy};
 
 /// What is wanted, in numbers, as C hands them in.
 #[repr(C)]
@@ -53,7 +53,8 @@ pub struct Asked {
 
 /// What these options ask for, or None where a number means nothing or they don't go together.
 pub fn asked_by(options: &Options) -> Option<Asked>
-    ensures { is_some result ≡ are_options options.now }
+    ensures known { is_some result ≡ are_options options.now }
+    ensures asked { IfSome result (IsAskedBy options.now) }
 {
     if !go_together(options) {
         return None;
@@ -77,7 +78,8 @@ fn go_together(options: &Options) -> bool
 
 // The task of a number.
 fn task_of(number: u32) -> Option<Task>
-    ensures { is_some result ≡ is_task number }
+    ensures known { is_some result ≡ is_task number }
+    ensures number { IfSome result (λ x. number ≡ task_number x) }
 {
     match number {
         0 => Some(Task::Trees),
@@ -89,7 +91,8 @@ fn task_of(number: u32) -> Option<Task>
 
 // The format of a number.
 fn format_of(number: u32) -> Option<Format>
-    ensures { is_some result ≡ is_format number }
+    ensures known { is_some result ≡ is_format number }
+    ensures number { IfSome result (λ x. number ≡ format_number x) }
 {
     match number {
         0 => Some(Format::Text),
@@ -102,7 +105,8 @@ fn format_of(number: u32) -> Option<Format>
 
 // The truth value of a number.
 fn truth_of(number: u32) -> Option<bool>
-    ensures { is_some result ≡ is_truth number }
+    ensures known { is_some result ≡ is_truth number }
+    ensures number { IfSome result (λ x. number ≡ truth_number x) }
 {
     match number {
         0 => Some(false),

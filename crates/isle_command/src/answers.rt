@@ -1,8 +1,16 @@
 //! What the command answers to texts.
 
+ghost use Rattle.std.specs.Prelude.{◌≡◌, ◌≢◌, ◌⊎◌, ◌≤◌, ◌<◌, true, [], length, is_none, map, string_bytes, string_len, IfOk};
+ghost use Rattle.isle_base.specs.SyntaxViews.{definition_views};
+ghost use Rattle.isle_command.specs.declared.words.Task.TheVariants.{Lower};
+ghost use Rattle.isle_command.specs.TaskAnswers.{lowered_terms, AsksForAll, IsAnswerBy, IsAnswerTo, IsAnswerToReading, IsAnswerToTexts};
+ghost use Rattle.isle_command.specs.TaskAnswers.{AreReports, AreTrees, IsDoneWithText, IsDoneWithoutText, IsFailed, IsRefusal};
+ghost use Rattle.isle_command.specs.Statuses.{IsStatusOf};
+
 use crate::comparison::difference;
 use crate::graphs::graph_of;
 use crate::progress::Teller;
+use crate::reading::{Reading, reading_of};
 use crate::words::{Format, Request, Task};
 use cranelift_isle::lower::{Lowered, LoweredTerm, lower};
 use isle_base::syntax::{Def, Fault, Files};
@@ -13,12 +21,9 @@ use isle_explaining::explanation::{explanation, with_rules};
 use isle_explaining::lints::warnings;
 use isle_explaining::stats::stats;
 use isle_json::documents::{document_of_reports, document_of_terms, document_of_warnings};
-use isle_printing::print::{Names, print_term};
+use isle_printing::print::{Names, print_bindings, print_block};
 use isle_rendering::layout::push_reports;
-use isle_rendering::lines::file_name;
-use isle_rendering::report::{Label, Level, Report};
-use isle_text::errors::{Problem, ReadFault, TextError};
-use isle_text::read;
+use isle_rendering::report::Report;
 use std::alloc::{AllocError, Global};
 use std::io::Write;
 
@@ -50,7 +55,9 @@ pub fn answer_to<E: Write>(
     files: &Files,
     terminal: bool,
     err: &mut E,
-) -> Result<Answer, AllocError> {
+) -> Result<Answer, AllocError>
+    ensures { IfOk result (IsAnswerToTexts asked.now (map string_bytes files.now.texts.items)) }
+{
     let mut teller = Teller::new(asked.progress, terminal, err);
     let answer = answer_to_texts(alloc, asked, files, &mut teller);
     teller.end();
@@ -63,62 +70,28 @@ fn answer_to_texts<E: Write>(
     asked: &Request<'_>,
     files: &Files,
     teller: &mut Teller<'_, E>,
-) -> Result<Answer, AllocError> {
-    let mut defs = Vec::new(alloc);
-    let mut reports = Vec::new(alloc);
-    for (number, text) in files.texts.iter().enumerate() {
-        if !asked.has_trees(number) {
-            teller.tell("reading", file_name(files, number));
-            read_text(alloc, number, text, &mut defs, &mut reports)?;
-        }
-    }
-    if !reports.is_empty() {
-        return refusal(alloc, asked, files, &reports);
-    }
-    answer_to_defs(alloc, asked, files, &defs, teller)
+) -> Result<Answer, AllocError>
+    ensures { IfOk result (IsAnswerToTexts asked.now (map string_bytes files.now.texts.items)) }
+{
+    let reading = reading_of(alloc, asked, files, teller)?;
+    answer_to_reading(alloc, asked, files, &reading, teller)
 }
 
-// Reads a text: its definitions are added, or what is wrong with it.
-fn read_text(
+/// What is answered to what the texts of files were read as.
+pub fn answer_to_reading<E: Write>(
     alloc: Global,
-    number: usize,
-    text: &str,
-    defs: &mut Vec<Def>,
-    reports: &mut Vec<Report>,
-) -> Result<(), AllocError> {
-    match read(alloc, number, text) {
-        Ok(mut read) => {
-            defs.append(&mut read)?;
-            Ok(())
-        }
-        Err(ReadFault::Text(error)) => {
-            reports.push(syntax_report(alloc, error)?)?;
-            Ok(())
-        }
-        Err(ReadFault::Memory(error)) => Err(error),
+    asked: &Request<'_>,
+    files: &Files,
+    reading: &Reading,
+    teller: &mut Teller<'_, E>,
+) -> Result<Answer, AllocError>
+    ensures answer { IfOk result (IsAnswerToReading asked.now reading.now) }
+    ensures status { IfOk result (λ a. IsStatusOf asked.now reading.now a.status) }
+{
+    match reading {
+        Reading::Defs(defs) => answer_to_defs(alloc, asked, files, defs, teller),
+        Reading::Unread(reports) => refusal(alloc, asked, files, reports),
     }
-}
-
-// The report of what is wrong with a text.
-fn syntax_report(alloc: Global, error: TextError) -> Result<Report, AllocError> {
-    let mut report = Report {
-        level: Level::Error,
-        kind: "syntax",
-        message: format!(in alloc; "{error}")?,
-        labels: Vec::new(alloc),
-        notes: Vec::new(alloc),
-    };
-    report.labels.push(Label {
-        pos: error.pos,
-        text: String::new(alloc),
-    })?;
-    if let Problem::Unclosed(open) = &error.problem {
-        report.labels.push(Label {
-            pos: *open,
-            text: String::from_str(alloc, "begins here")?,
-        })?;
-    }
-    Ok(report)
 }
 
 // The answer where something is wrong.
@@ -127,7 +100,9 @@ fn refusal(
     asked: &Request<'_>,
     files: &Files,
     reports: &[Report],
-) -> Result<Answer, AllocError> {
+) -> Result<Answer, AllocError>
+    ensures { IfOk result (IsRefusal asked.now) }
+{
     if asked.format == Format::Json {
         let parts = asked.task == Task::Lower;
         return Ok(Answer {
@@ -152,7 +127,9 @@ fn answer_to_defs<E: Write>(
     files: &Files,
     defs: &[Def],
     teller: &mut Teller<'_, E>,
-) -> Result<Answer, AllocError> {
+) -> Result<Answer, AllocError>
+    ensures { IfOk result (IsAnswerTo (definition_views defs.now) asked.now) }
+{
     teller.tell("lowering", "all terms");
     match lower(alloc, defs, asked.expand) {
         Ok(lowered) => answer_to_lowered(alloc, asked, files, defs, &lowered, teller),
@@ -173,7 +150,9 @@ fn answer_to_lowered<E: Write>(
     defs: &[Def],
     lowered: &Lowered,
     teller: &mut Teller<'_, E>,
-) -> Result<Answer, AllocError> {
+) -> Result<Answer, AllocError>
+    ensures { IfOk result (IsAnswerBy asked.now.task asked.now (lowered_terms lowered.now)) }
+{
     match asked.task {
         Task::Lower => trees(alloc, asked, files, lowered, teller),
         Task::Check => {
@@ -184,18 +163,33 @@ fn answer_to_lowered<E: Write>(
         Task::Stats => Ok(accepted(alloc, stats(alloc, lowered)?)),
         Task::Compare => compared(alloc, asked, files, lowered, teller),
         Task::Run => ran(alloc, asked, lowered),
-        Task::Explain => {
-            let text = explanation(alloc, files, lowered, asked.rule)?;
-            if text.is_empty() {
-                return missing(alloc, "rule", asked.rule);
-            }
-            Ok(accepted(alloc, text))
-        }
+        Task::Explain => explained(alloc, asked, files, lowered),
+    }
+}
+
+// What is said of the rules that are so called.
+fn explained(
+    alloc: Global,
+    asked: &Request<'_>,
+    files: &Files,
+    lowered: &Lowered,
+) -> Result<Answer, AllocError>
+    ensures { IfOk result (λ a. IsDoneWithText a ⊎ IsFailed a) }
+{
+    let text = explanation(alloc, files, lowered, asked.rule)?;
+    if text.is_empty() {
+        missing(alloc, "rule", asked.rule)
+    } else {
+        Ok(accepted(alloc, text))
     }
 }
 
 // The answer where nothing is wrong.
-fn accepted(alloc: Global, out: String) -> Answer {
+fn accepted(alloc: Global, out: String) -> Answer
+    ensures status { result.status ≡ 0 }
+    ensures out { string_bytes result.out ≡ string_bytes out }
+    ensures err { string_bytes result.err ≡ [] }
+{
     Answer {
         status: 0,
         out,
@@ -209,7 +203,13 @@ fn warned(
     asked: &Request<'_>,
     files: &Files,
     warnings: &[Report],
-) -> Result<Answer, AllocError> {
+) -> Result<Answer, AllocError>
+    ensures reports { IfOk result (AreReports asked.now.format) }
+    // warnings have the status 1 exactly where they are denied and there are some
+    ensures denied { asked.now.deny ≡ true → warnings.now ≢ [] → IfOk result (λ a. a.status ≡ 1) }
+    ensures none { warnings.now ≡ [] → IfOk result (λ a. a.status ≡ 0) }
+    ensures allowed { IfOk result (λ a. (a.status ≡ 0) ⊎ ((asked.now.deny ≡ true) × (a.status ≡ 1))) }
+{
     let status = if asked.deny && !warnings.is_empty() {
         1
     } else {
@@ -226,7 +226,9 @@ fn warned(
 }
 
 // The answer where there is nothing of a name.
-fn missing(alloc: Global, what: &str, name: &str) -> Result<Answer, AllocError> {
+fn missing(alloc: Global, what: &str, name: &str) -> Result<Answer, AllocError>
+    ensures { IfOk result IsFailed }
+{
     Ok(Answer {
         status: 1,
         out: String::new(alloc),
@@ -235,17 +237,26 @@ fn missing(alloc: Global, what: &str, name: &str) -> Result<Answer, AllocError> 
 }
 
 // The outcome of the call that is asked for, or what is wrong with it.
-fn ran(alloc: Global, asked: &Request<'_>, lowered: &Lowered) -> Result<Answer, AllocError> {
+fn ran(alloc: Global, asked: &Request<'_>, lowered: &Lowered) -> Result<Answer, AllocError>
+    ensures { IfOk result (λ a. IsDoneWithText a ⊎ IsFailed a) }
+{
     let call = call_text(alloc, &asked.call)?;
     match answer_to_call(alloc, lowered, &call) {
         Ok(outcome) => Ok(accepted(alloc, format!(in alloc; "{outcome}\n")?)),
-        Err(Unanswered::Call(why)) => Ok(Answer {
-            status: 1,
-            out: String::new(alloc),
-            err: format!(in alloc; "error: {why}\n")?,
-        }),
+        Err(Unanswered::Call(why)) => failed(alloc, &why),
         Err(Unanswered::Memory) => Err(AllocError),
     }
+}
+
+// The answer where definitions are accepted and a task fails, for this reason.
+fn failed(alloc: Global, why: &str) -> Result<Answer, AllocError>
+    ensures { IfOk result IsFailed }
+{
+    Ok(Answer {
+        status: 1,
+        out: String::new(alloc),
+        err: format!(in alloc; "error: {why}\n")?,
+    })
 }
 
 // The text of a call whose words are these, in parentheses where the words have none.
@@ -266,7 +277,9 @@ fn wanted<'a>(
     alloc: Global,
     asked: &Request<'_>,
     lowered: &'a Lowered,
-) -> Result<Vec<&'a LoweredTerm>, AllocError> {
+) -> Result<Vec<&'a LoweredTerm>, AllocError>
+    ensures { AsksForAll asked.now → IfOk result (λ ts. length ts.items ≡ length lowered.now.terms.items) }
+{
     let mut wanted = Vec::new(alloc);
     for term in &lowered.terms {
         if is_wanted(asked.terms, term_name(lowered, term)) {
@@ -283,16 +296,25 @@ fn compared<E: Write>(
     files: &Files,
     lowered: &Lowered,
     teller: &mut Teller<'_, E>,
-) -> Result<Answer, AllocError> {
+) -> Result<Answer, AllocError>
+    ensures { IfOk result (λ a. IsDoneWithoutText a ⊎ IsFailed a) }
+{
     if let Some(name) = missing_term(asked.terms, lowered) {
         return missing(alloc, "term with rules", name);
     }
     let wanted = wanted(alloc, asked, lowered)?;
     let trees = drawn(alloc, Format::Text, files, lowered, &wanted, teller)?;
+    compared_with(alloc, files, &trees)
+}
+
+// Where the trees of the last file depart from these.
+fn compared_with(alloc: Global, files: &Files, trees: &str) -> Result<Answer, AllocError>
+    ensures { IfOk result (λ a. IsDoneWithoutText a ⊎ IsFailed a) }
+{
     let (Some(name), Some(text)) = (files.names.last(), files.texts.last()) else {
         return Ok(accepted(alloc, String::new(alloc)));
     };
-    let err = difference(alloc, name, text, &trees)?;
+    let err = difference(alloc, name, text, trees)?;
     let status = if err.is_empty() { 0 } else { 1 };
     Ok(Answer {
         status,
@@ -308,21 +330,37 @@ fn trees<E: Write>(
     files: &Files,
     lowered: &Lowered,
     teller: &mut Teller<'_, E>,
-) -> Result<Answer, AllocError> {
+) -> Result<Answer, AllocError>
+    ensures { IfOk result (IsAnswerBy Lower asked.now (lowered_terms lowered.now)) }
+{
     if let Some(name) = missing_term(asked.terms, lowered) {
         return missing(alloc, "term with rules", name);
     }
     let wanted = wanted(alloc, asked, lowered)?;
-    let out = match asked.format {
+    let out = text_of_trees(alloc, asked.format, files, lowered, &wanted, teller)?;
+    Ok(accepted(alloc, out))
+}
+
+// The text of the trees of terms.
+fn text_of_trees<E: Write>(
+    alloc: Global,
+    format: Format,
+    files: &Files,
+    lowered: &Lowered,
+    terms: &[&LoweredTerm],
+    teller: &mut Teller<'_, E>,
+) -> Result<String, AllocError>
+    ensures { IfOk result (λ text. AreTrees format (length terms.now) (string_bytes text)) }
+{
+    match format {
         Format::Json => {
             teller.tell("printing", "all terms");
-            document_of_terms(alloc, files, lowered, &wanted)?
+            document_of_terms(alloc, files, lowered, terms)
         }
         Format::Dot | Format::Text | Format::Line => {
-            drawn(alloc, asked.format, files, lowered, &wanted, teller)?
+            drawn(alloc, format, files, lowered, terms, teller)
         }
-    };
-    Ok(accepted(alloc, out))
+    }
 }
 
 // The trees of terms, one after another: as graphs, or in words.
@@ -333,40 +371,55 @@ fn drawn<E: Write>(
     lowered: &Lowered,
     terms: &[&LoweredTerm],
     teller: &mut Teller<'_, E>,
-) -> Result<String, AllocError> {
+) -> Result<String, AllocError>
+    // each has a text
+    ensures { IfOk result (λ text. length terms.now ≤ string_len text) }
+{
     let mut out = String::new(alloc);
     for term in terms {
         teller.tell("printing", term_name(lowered, term));
-        let drawing = match format {
-            Format::Dot => graph_of(alloc, files, lowered, term)?,
-            Format::Json | Format::Text | Format::Line => tree(alloc, files, lowered, term)?,
-        };
+        let drawing = drawing_of(alloc, format, files, lowered, term)?;
         out.push_str(&drawing)?;
     }
     Ok(out)
 }
 
-// The tree of a term, with the rules that its returns take.
+// The tree of a term: as a graph, or in words.
+fn drawing_of(
+    alloc: Global,
+    format: Format,
+    files: &Files,
+    lowered: &Lowered,
+    term: &LoweredTerm,
+) -> Result<String, AllocError>
+    ensures { IfOk result (λ text. 0 < string_len text) }
+{
+    match format {
+        Format::Dot => graph_of(alloc, files, lowered, term),
+        Format::Json | Format::Text | Format::Line => tree(alloc, files, lowered, term),
+    }
+}
+
+// The tree of a term in words, with the rules that its returns take.
 fn tree(
     alloc: Global,
     files: &Files,
     lowered: &Lowered,
     term: &LoweredTerm,
-) -> Result<String, AllocError> {
+) -> Result<String, AllocError>
+    ensures { IfOk result (λ text. 0 < string_len text) }
+{
     let names = Names {
         syms: &lowered.tyenv.syms,
         types: &lowered.tyenv.types,
         terms: &lowered.termenv.terms,
     };
     let mut printed = String::new(alloc);
-    print_term(
-        &mut printed,
-        names,
-        term.id,
-        &term.rules.bindings,
-        &term.block,
-    )?;
-    with_rules(alloc, files, lowered, term, &printed)
+    print_bindings(&mut printed, names, &term.rules.bindings)?;
+    print_block(&mut printed, names, 2, &term.block)?;
+    let steps = with_rules(alloc, files, lowered, term, &printed)?;
+    let name = term_name(lowered, term);
+    format!(in alloc; "term {name}\n{steps}")
 }
 
 // The name of a term.
@@ -378,7 +431,9 @@ fn term_name<'a>(lowered: &'a Lowered, term: &LoweredTerm) -> &'a str {
 }
 
 // Whether a term is among those that are wanted, which are all where none are named.
-fn is_wanted(wanted: Option<&str>, name: &str) -> bool {
+fn is_wanted(wanted: Option<&str>, name: &str) -> bool
+    ensures { is_none wanted.entry ≡ true → result ≡ true }
+{
     match wanted {
         Some(names) => names.split(',').any(|other| other == name),
         None => true,
@@ -386,15 +441,21 @@ fn is_wanted(wanted: Option<&str>, name: &str) -> bool {
 }
 
 // The first name of a term that is wanted and has no rules.
-fn missing_term<'a>(wanted: Option<&'a str>, lowered: &Lowered) -> Option<&'a str> {
+fn missing_term<'a>(wanted: Option<&'a str>, lowered: &Lowered) -> Option<&'a str>
+    ensures { is_none wanted.entry ≡ true → is_none result ≡ true }
+{
     for name in wanted?.split(',') {
-        if !lowered
-            .terms
-            .iter()
-            .any(|term| term_name(lowered, term) == name)
-        {
+        if !has_term(lowered, name) {
             return Some(name);
         }
     }
     None
+}
+
+// Whether a term of this name has rules.
+fn has_term(lowered: &Lowered, name: &str) -> bool {
+    lowered
+        .terms
+        .iter()
+        .any(|term| term_name(lowered, term) == name)
 }

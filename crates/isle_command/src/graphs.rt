@@ -1,5 +1,7 @@
 //! Trees as graphs in Graphviz's notation.
 
+ghost use Rattle.std.specs.Prelude.{◌<◌, string_len, IfOk};
+
 use cranelift_isle::lower::{Lowered, LoweredTerm};
 use isle_base::syntax::{Files, Pos};
 use isle_explaining::demands::{push_head, site_texts, text_at};
@@ -18,7 +20,9 @@ pub(crate) fn graph_of(
     files: &Files,
     lowered: &Lowered,
     term: &LoweredTerm,
-) -> Result<String, AllocError> {
+) -> Result<String, AllocError>
+    ensures { IfOk result (λ text. 0 < string_len text) }
+{
     let names = Names {
         tyenv: &lowered.tyenv,
         terms: &lowered.termenv.terms,
@@ -87,7 +91,9 @@ impl Graph {
 
 impl<'a> Drawing<'a> {
     // The graph of the tree of a term of this name.
-    fn draw(&self, name: &str, block: &Block) -> Result<String, AllocError> {
+    fn draw(&self, name: &str, block: &Block) -> Result<String, AllocError>
+        ensures { IfOk result (λ text. 0 < string_len text) }
+    {
         let mut graph = Graph {
             out: String::from_str(self.alloc, "digraph ")?,
             next: 0,

@@ -1,10 +1,16 @@
 //! What the command does.
 
+ghost use Rattle.std.specs.Prelude.{◌≡◌, ◌≢◌, ◌⊎◌, ◌≤◌, [], ◌∷◌, false, map, string_bytes, true, IfOk, MatchResult};
+ghost use Rattle.isle_answers.specs.Samples.{names_sample};
+ghost use Rattle.isle_command.specs.declared.words.Task.TheVariants.{Samples};
+ghost use Rattle.isle_command.specs.Statuses.{IsStatusFor, IsStatusOfUnread, IsWritten};
+
 use crate::answers::{Answer, answer_to};
 use crate::inputs::{Unread, read_files};
 use crate::words::{Request, Task, asked_by};
 use isle_answers::answers::{end, no_memory, write_text};
 use isle_answers::sample_run::run_sample;
+use isle_base::syntax::Files;
 use std::alloc::{AllocError, Global};
 use std::io::{Read, Write};
 
@@ -30,7 +36,10 @@ pub fn run<R: std::rt::Files + AllocGlobal, I: Read + Drop, O: Write, E: Write>(
     terminal: bool,
     out: &mut O,
     err: &mut E,
-) -> u8 {
+) -> u8
+    // every status has its meaning
+    ensures { result ≤ 4 }
+{
     match asked_by(rt.alloc(), words) {
         Ok(Some(asked)) => run_request(rt, &asked, input, terminal, out, err),
         Ok(None) => end(err, USAGE, 2),
@@ -46,25 +55,45 @@ fn run_request<R: std::rt::Files + AllocGlobal, I: Read + Drop, O: Write, E: Wri
     terminal: bool,
     out: &mut O,
     err: &mut E,
-) -> u8 {
+) -> u8
+    ensures known { result ≤ 4 }
+    // only samples have names that may be wrong words
+    ensures used { asked.now.task ≢ Samples → result ≢ 2 }
+{
     if asked.task == Task::Samples {
         return run_samples(rt.alloc(), asked, out, err);
     }
     match read_files(rt, asked, input) {
-        Ok(files) => {
-            let answer = answer_to(rt.alloc(), asked, &files, terminal, err);
-            write_answer(answer, out, err)
-        }
+        Ok(files) => run_files(rt.alloc(), asked, &files, terminal, out, err),
         Err(why) => cannot_read(rt.alloc(), why, err),
     }
 }
 
-// Writes what is answered, and answers its status.
+// Writes what is answered to files, and answers its status.
+fn run_files<O: Write, E: Write>(
+    alloc: Global,
+    asked: &Request<'_>,
+    files: &Files,
+    terminal: bool,
+    out: &mut O,
+    err: &mut E,
+) -> u8
+    ensures status { IsStatusFor asked.now (map string_bytes files.now.texts.items) result }
+    ensures known { result ≤ 4 }
+    ensures used { result ≢ 2 }
+{
+    let answer = answer_to(alloc, asked, files, terminal, err);
+    write_answer(answer, out, err)
+}
+
+// Writes what is answered, and answers its status: 3 exactly where memory was refused.
 fn write_answer<O: Write, E: Write>(
     answer: Result<Answer, AllocError>,
     out: &mut O,
     err: &mut E,
-) -> u8 {
+) -> u8
+    ensures { MatchResult answer (λ a. IsWritten a result) (λ _. result ≡ 3) }
+{
     match answer {
         Ok(answer) => write_both(&answer, out, err),
         Err(AllocError) => no_memory(err),
@@ -72,7 +101,9 @@ fn write_answer<O: Write, E: Write>(
 }
 
 // Writes both texts of an answer, and answers its status, or 4 where `out` can't be written.
-fn write_both<O: Write, E: Write>(answer: &Answer, out: &mut O, err: &mut E) -> u8 {
+fn write_both<O: Write, E: Write>(answer: &Answer, out: &mut O, err: &mut E) -> u8
+    ensures { IsWritten answer.now result }
+{
     if !answer.out.is_empty() {
         let status = write_text(&answer.out, out, err);
         if status != 0 {
@@ -83,7 +114,9 @@ fn write_both<O: Write, E: Write>(answer: &Answer, out: &mut O, err: &mut E) -> 
 }
 
 // Says why files can't be read, and answers the status for it.
-fn cannot_read<E: Write>(alloc: Global, why: Unread, err: &mut E) -> u8 {
+fn cannot_read<E: Write>(alloc: Global, why: Unread, err: &mut E) -> u8
+    ensures { IsStatusOfUnread why result }
+{
     match why {
         Unread::Memory => no_memory(err),
         Unread::Text(name) => say(
@@ -97,8 +130,10 @@ fn cannot_read<E: Write>(alloc: Global, why: Unread, err: &mut E) -> u8 {
     }
 }
 
-// Says something of a file, and answers this status.
-fn say<E: Write>(alloc: Global, text: &str, name: &str, status: u8, err: &mut E) -> u8 {
+// Says something of a file, and answers this status, or 3 where memory is refused.
+fn say<E: Write>(alloc: Global, text: &str, name: &str, status: u8, err: &mut E) -> u8
+    ensures { (result ≡ status) ⊎ (result ≡ 3) }
+{
     match format!(in alloc; "{text}{name}\n") {
         Ok(line) => end(err, &line, status),
         Err(AllocError) => no_memory(err),
@@ -111,10 +146,22 @@ fn run_samples<O: Write, E: Write>(
     asked: &Request<'_>,
     out: &mut O,
     err: &mut E,
-) -> u8 {
-    let Some(name) = asked.files.first() else {
-        return write_text(SAMPLES, out, err);
-    };
+) -> u8
+    ensures { result ≤ 4 }
+{
+    match asked.files.first() {
+        Some(name) => run_sample_named(alloc, name, out, err),
+        None => write_text(SAMPLES, out, err),
+    }
+}
+
+// Writes what comes of the sample of this name.
+fn run_sample_named<O: Write, E: Write>(alloc: Global, name: &str, out: &mut O, err: &mut E) -> u8
+    ensures known { result ≤ 4 }
+    // a name that is no sample's is wrong use, where memory isn't refused before
+    ensures used { names_sample (name.now ∷ []) ≡ true → result ≢ 2 }
+    ensures misused { names_sample (name.now ∷ []) ≡ false → (result ≡ 2) ⊎ (result ≡ 3) }
+{
     match words_of(alloc, name) {
         Ok(words) => run_sample(alloc, &words, out, err),
         Err(AllocError) => no_memory(err),
@@ -122,7 +169,9 @@ fn run_samples<O: Write, E: Write>(
 }
 
 // A word as the words of a program.
-fn words_of(alloc: Global, name: &str) -> Result<Vec<String>, AllocError> {
+fn words_of(alloc: Global, name: &str) -> Result<Vec<String>, AllocError>
+    ensures { IfOk result (λ words. map string_bytes words.items ≡ name.now ∷ []) }
+{
     let mut words = Vec::new(alloc);
     words.push(String::from_str(alloc, name)?)?;
     Ok(words)

@@ -1,5 +1,7 @@
 //! Whole documents.
 
+ghost use Rattle.std.specs.Prelude.{◌≢◌, [], string_bytes, IfOk};
+
 use crate::reports::push_reports;
 use crate::sets::{push_rule, push_sites};
 use crate::tables::{push_head, push_types};
@@ -22,7 +24,9 @@ pub fn document_of_reports(
     files: &Files,
     reports: &[Report],
     parts: bool,
-) -> Result<String, AllocError> {
+) -> Result<String, AllocError>
+    ensures { IfOk result (λ text. string_bytes text ≢ []) }
+{
     let mut json = begun(alloc)?;
     if parts {
         push_empty(&mut json, "types")?;
@@ -37,7 +41,9 @@ pub fn document_of_warnings(
     alloc: Global,
     files: &Files,
     warnings: &[Report],
-) -> Result<String, AllocError> {
+) -> Result<String, AllocError>
+    ensures { IfOk result (λ text. string_bytes text ≢ []) }
+{
     let mut json = begun(alloc)?;
     push_empty(&mut json, "errors")?;
     push_reports(&mut json, files, "warnings", warnings)?;
@@ -51,7 +57,9 @@ pub fn document_of_terms(
     files: &Files,
     lowered: &Lowered,
     terms: &[&LoweredTerm],
-) -> Result<String, AllocError> {
+) -> Result<String, AllocError>
+    ensures { IfOk result (λ text. string_bytes text ≢ []) }
+{
     let names = Names {
         tyenv: &lowered.tyenv,
         terms: &lowered.termenv.terms,
@@ -76,7 +84,9 @@ fn begun(alloc: Global) -> Result<Json, AllocError> {
 }
 
 // The text of a document, with the line's end.
-fn ended(alloc: Global, json: Json) -> Result<String, AllocError> {
+fn ended(alloc: Global, json: Json) -> Result<String, AllocError>
+    ensures { IfOk result (λ text. string_bytes text ≢ []) }
+{
     let text = json.text();
     format!(in alloc; "{text}}}\n")
 }

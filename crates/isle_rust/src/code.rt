@@ -1,12 +1,14 @@
 //! The whole code of a program.
 
+ghost use Rattle.std.specs.Prelude.{◌≢◌, [], string_bytes, IfOk};
+
 use crate::body::push_function;
 use crate::context::push_context;
 use crate::lines::Lines;
 use crate::program::Program;
 use crate::taken::check_names;
 use crate::types::push_types;
-use cranelift_isle::lower::Lowered;
+use cranelift_isle::lower::{Lowered, LoweredTerm};
 use isle_base::syntax::Files;
 use std::alloc::{AllocError, AllocFailed, Global};
 
@@ -32,9 +34,8 @@ impl<T: Drop> From<AllocFailed<T>> for CodeError {
     }
 }
 
-// What the code begins with.
-const HEAD: &str = "// Made from ISLE rules. Do not edit.
-#[allow(unused_imports)]
+// What the code begins with, below its first line.
+const HEAD: &str = "#[allow(unused_imports)]
 use super::*;
 ";
 
@@ -49,7 +50,10 @@ use super::*;
 /// `CodeError::Names` where two types, variants of an enum, fields, functions from outside, constants or terms would have one
 /// name in Rust, where two functions from outside of one name have different signatures, or where a name is taken by the code
 /// itself. `CodeError::Memory` where memory is refused.
-pub fn rust_code(alloc: Global, lowered: &Lowered, files: &Files) -> Result<String, CodeError> {
+pub fn rust_code(alloc: Global, lowered: &Lowered, files: &Files) -> Result<String, CodeError>
+    // no code is the empty text
+    ensures { IfOk result (λ code. string_bytes code ≢ []) }
+{
     let lines = Lines::new(alloc, files)?;
     let program = Program {
         alloc,
@@ -58,11 +62,24 @@ pub fn rust_code(alloc: Global, lowered: &Lowered, files: &Files) -> Result<Stri
         lines: &lines,
     };
     check_names(program, &lowered.terms)?;
-    let mut out = String::from_str(alloc, HEAD)?;
+    let items = items_of(program, &lowered.terms)?;
+    headed(alloc, &items)
+}
+
+// The code of a program's items.
+fn items_of(program: Program<'_>, terms: &[LoweredTerm]) -> Result<String, CodeError> {
+    let mut out = String::new(program.alloc);
     push_context(&mut out, program)?;
     push_types(&mut out, program)?;
-    for term in &lowered.terms {
+    for term in terms {
         push_function(&mut out, program, term)?;
     }
     Ok(out)
+}
+
+// Code with what it begins with.
+fn headed(alloc: Global, items: &str) -> Result<String, CodeError>
+    ensures { IfOk result (λ code. string_bytes code ≢ []) }
+{
+    Ok(format!(in alloc; "// Made from ISLE rules. Do not edit.\n{HEAD}{items}")?)
 }

@@ -1,0 +1,131 @@
+-- What a call answers to what the texts of files were read as, and with which text.
+use Rattle.std.specs.Prelude.{ℕ, ◌+◌, ◌<◌, ◌≤◌, ◌≡◌, ◌≢◌, ◌⊎◌, ◌++◌, false, true, List, [], ◌∷◌, codes, is_none, length, nat_eq, string_bytes, take, if◌then◌else◌}
+use Rattle.isle_command.specs.declared.answers.Answer.{Answer}
+use Rattle.isle_command.specs.declared.reading.Reading.{Reading}
+use Rattle.isle_command.specs.declared.words.Format as CommandFormat
+use Rattle.isle_command.specs.declared.words.Format.TheVariants as C
+use Rattle.isle_command.specs.declared.words.Request.{Request}
+use Rattle.isle_command.specs.declared.words.Task as CommandTask
+use Rattle.isle_command.specs.declared.words.Task.TheVariants as T
+use Rattle.isle_command.specs.Readings.{IsReadingOf}
+use Rattle.isle_command.specs.Statuses.{IsAcceptedReading, IsStatusOf}
+use Rattle.isle_command.specs.TaskAnswers.{IsAnswerToReading}
+use Rattle.isle_capi.specs.declared.code.Coded.{Coded}
+use Rattle.isle_capi.specs.declared.code.Coded.TheVariants.{Code, Names, Wrong}
+use Rattle.isle_capi.specs.declared.options.Asked.{Asked}
+use Rattle.isle_capi.specs.declared.options.Format.{Format}
+use Rattle.isle_capi.specs.declared.options.Format.TheVariants as F
+use Rattle.isle_capi.specs.declared.options.Options.{Options}
+use Rattle.isle_capi.specs.declared.options.Task.{Task}
+use Rattle.isle_capi.specs.declared.options.Task.TheVariants as A
+use Rattle.isle_capi.specs.declared.output.Sizes.{Sizes}
+use Rattle.isle_capi.specs.declared.statuses.TheConstants.{DONE, ERRORS, NO_CODE, NO_MEMORY, NO_ROOM}
+use Rattle.isle_capi.specs.Known.{IsAskedBy}
+
+-- what the command is asked for a task of a call: where Rust code is wanted, it says what is wrong
+abbrev pub command_task : Task → CommandTask.Task
+command_task A.Trees = T.Lower
+command_task A.Check = T.Check
+command_task A.Code = T.Check
+
+-- and in which form
+abbrev pub command_format : Format → CommandFormat.Format
+command_format F.Text = C.Text
+command_format F.Line = C.Line
+command_format F.Colored = C.Text
+command_format F.Json = C.Json
+
+-- what the command is asked for a call: all terms, and warnings count as no errors
+pub record IsRequestOf (asked : Asked) (request : Request) : Type 0 where
+  pub task : request.task ≡ command_task asked.task
+  pub format : request.format ≡ command_format asked.format
+  pub expand : request.expand ≡ asked.expand
+  pub deny : request.deny ≡ false
+  pub terms : is_none request.terms ≡ true
+
+-- what the command answers to what was read, for a call
+pub record IsCommandAnswer (asked : Asked) (reading : Reading) (answer : Answer) : Type 0 where
+  pub request : Request
+  pub asks : IsRequestOf asked request
+  pub answers : IsAnswerToReading request reading answer
+  pub says : IsStatusOf request reading answer.status
+
+-- the status of a call for an answer of the command
+abbrev pub status_of : Answer → ℕ
+status_of answer = if nat_eq answer.status 0 then DONE else ERRORS
+
+-- one text, or where it is empty the other
+abbrev pub first_text : List ℕ → List ℕ → List ℕ
+first_text [] other = other
+first_text (byte ∷ text) other = byte ∷ text
+
+-- the text of an answer of the command, which stands on one side alone
+abbrev pub text_of : Answer → List ℕ
+text_of answer = first_text (string_bytes answer.out) (string_bytes answer.err)
+
+-- a status and a text are those of an answer of the command
+abbrev pub IsSaid : Asked → Reading → (status : ℕ) → (text : List ℕ) → Type 0
+IsSaid asked reading status text =
+    (answer : Answer) × IsCommandAnswer asked reading answer × (status ≡ status_of answer) × (text ≡ text_of answer)
+
+-- the line that says which names would be one in Rust
+abbrev pub IsNamesLine : List ℕ → Type 0
+IsNamesLine text = (why : List ℕ) × (text ≡ (codes "error[names]: " ++ why) ++ 10 ∷ [])
+
+-- what comes of wanting Rust code: where all is accepted the code, or why there is none
+abbrev pub IsCodedBy : (accepted : Type 0) → Coded → Type 0
+IsCodedBy accepted (Code code) = accepted × (string_bytes code ≢ [])
+IsCodedBy accepted (Names why) = accepted × IsNamesLine (string_bytes why)
+IsCodedBy accepted Wrong = accepted → ⊥
+
+-- of what was read
+abbrev pub IsCodeOf : Asked → Reading → Coded → Type 0
+IsCodeOf asked reading coded = IsCodedBy (IsAcceptedReading asked.expand reading) coded
+
+-- what a status that comes with a text says of what was read: DONE that all texts were read and their definitions are accepted,
+-- ERRORS that they weren't, NO_CODE that they are and that their code was wanted
+pub record Says (asked : Asked) (reading : Reading) (status : ℕ) : Type 0 where
+  pub done : status ≡ DONE → IsAcceptedReading asked.expand reading
+  pub errors : status ≡ ERRORS → IsAcceptedReading asked.expand reading → ⊥
+  pub no_code : status ≡ NO_CODE → IsAcceptedReading asked.expand reading × (asked.task ≡ A.Code)
+
+-- the text that comes with a status
+abbrev pub IsTextOf : Task → Asked → Reading → (status : ℕ) → (text : List ℕ) → Type 0
+IsTextOf A.Trees asked reading status text = IsSaid asked reading status text
+IsTextOf A.Check asked reading status text = IsSaid asked reading status text
+IsTextOf A.Code asked reading status text =
+    ((IsAcceptedReading asked.expand reading → ⊥) × IsSaid asked reading status text)
+    ⊎ (((status ≡ DONE) × (text ≢ [])) ⊎ ((status ≡ NO_CODE) × IsNamesLine text))
+
+-- a status and a text are made of what was read
+abbrev pub IsMade : Asked → Reading → (status : ℕ) → (text : List ℕ) → Type 0
+IsMade asked reading status text = Says asked reading status × IsTextOf asked.task asked reading status text
+
+-- a text is handed over with its status: it is written whole, or nothing is where the buffer is too small
+pub record HandsOver (out out' : List ℕ) (sizes : Sizes) (status : ℕ) (text : List ℕ) (result : ℕ) : Type 0 where
+  pub needed : sizes.needed ≡ length text
+  pub room : length text ≤ length out → result ≡ status
+  pub written : length text ≤ length out → take (length text) out' ≡ text
+  pub short : length out < length text → result ≡ NO_ROOM
+
+-- what the command says of what was read is answered
+abbrev pub IsSaidTo : Asked → Reading → (out out' : List ℕ) → Sizes → ℕ → Type 0
+IsSaidTo asked reading out out' sizes result =
+    (result ≡ NO_MEMORY)
+    ⊎ ((answer : Answer) × IsCommandAnswer asked reading answer × HandsOver out out' sizes (status_of answer) (text_of answer) result)
+
+-- what was read is answered: memory was refused, or a text that is made of it is handed over
+abbrev pub IsToldOf : Asked → Reading → (out out' : List ℕ) → Sizes → ℕ → Type 0
+IsToldOf asked reading out out' sizes result =
+    (result ≡ NO_MEMORY)
+    ⊎ ((status : ℕ) × (text : List ℕ) × IsMade asked reading status text × HandsOver out out' sizes status text result)
+
+-- texts are answered as something that they are read as
+abbrev pub IsToldOfTexts : Asked → List (List ℕ) → (out out' : List ℕ) → Sizes → ℕ → Type 0
+IsToldOfTexts asked texts out out' sizes result =
+    (result ≡ NO_MEMORY) ⊎ ((reading : Reading) × IsReadingOf texts reading × IsToldOf asked reading out out' sizes result)
+
+-- and a call, as its options ask
+abbrev pub IsToldByCall : Options → List (List ℕ) → (out out' : List ℕ) → Sizes → ℕ → Type 0
+IsToldByCall options texts out out' sizes result =
+    (asked : Asked) × IsAskedBy options asked × IsToldOfTexts asked texts out out' sizes result

@@ -1,0 +1,3 @@
+mod TaskStatuses
+mod Texts
+mod TextsRead

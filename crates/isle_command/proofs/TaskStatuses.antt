@@ -1,0 +1,74 @@
+-- What the status of an answer says, and what lowered definitions are answered.
+use Rattle.std.proofs.Common.{◌≡◌, ◌≤◌, ◌⊎◌, ℕ, Bool, true, false, List, inl, inr, refl, subst, arith, Result, Ok, Err, IfOk, MatchResult}
+use Rattle.std.specs.declared.alloc.AllocError.{AllocError}
+use Rattle.isle_model.specs.lists.Syntax.{Definition}
+use Rattle.cranelift_isle.specs.declared.lower.Lowered.{Lowered}
+use Rattle.cranelift_isle.specs.Lowerings.{IsLowered}
+use Rattle.isle_command.specs.declared.answers.Answer.{Answer}
+use Rattle.isle_command.specs.declared.reading.Reading.{Reading}
+use Rattle.isle_command.specs.declared.reading.Reading.TheVariants.{Defs, Unread}
+use Rattle.isle_command.specs.declared.words.Request.{Request}
+use Rattle.isle_command.specs.declared.words.Task.{Task}
+use Rattle.isle_command.specs.declared.words.Task.TheVariants as T
+use Rattle.isle_command.specs.TaskAnswers.{lowered_terms, IsAnswerBy, IsAnswerTo, IsAnswerToReading, IsAnswerToTexts}
+use Rattle.isle_command.specs.Statuses.{may_fail, IsStatusFor, IsStatusOf, IsWritten}
+
+-- what a task answers has the status 1 only where it may fail
+pub status_of_task : (task : Task) (asked : Request) (terms : List ℕ) (answer : Answer)
+    → IsAnswerBy task asked terms answer → (answer.status ≡ 0) ⊎ ((answer.status ≡ 1) × (may_fail task asked ≡ true))
+status_of_task T.Lower asked terms answer (inl done) = inl done.0.0
+status_of_task T.Lower asked terms answer (inr failed) = inr (failed.1.0, failed.0)
+status_of_task T.Check asked terms answer told = elim told.1 [ inl none ↦ inl none | inr denied ↦ inr (denied.1, denied.0) ]
+status_of_task T.Explain asked terms answer (inl done) = inl done.0.0
+status_of_task T.Explain asked terms answer (inr failed) = inr (failed.0, refl)
+status_of_task T.Stats asked terms answer done = inl done.0
+status_of_task T.Compare asked terms answer (inl done) = inl done.0.0
+status_of_task T.Compare asked terms answer (inr failed) = inr (failed.0, refl)
+status_of_task T.Samples asked terms answer done = inl done.0.0
+status_of_task T.Run asked terms answer (inl done) = inl done.0.0
+status_of_task T.Run asked terms answer (inr failed) = inr (failed.0, refl)
+
+-- a status that is 0 or 1 is at most 1
+at_most_one : (status : ℕ) (P : Type 0) → (status ≡ 0) ⊎ ((status ≡ 1) × P) → status ≤ 1
+at_most_one status P (inl e) = omega (arith, e)
+at_most_one status P (inr e) = omega (arith, e.0)
+
+-- and 1 only where it may be
+may_be_one : (status : ℕ) (b : Bool) → (status ≡ 0) ⊎ ((status ≡ 1) × (b ≡ true)) → status ≡ 1 → b ≡ false → ⊥
+may_be_one status b (inl e) one not = omega (arith, e, one)
+may_be_one status b (inr e) one not = cc
+
+-- the status says whether the definitions are accepted
+pub status_of_answer : (asked : Request) (reading : Reading) (answer : Answer)
+    → IsAnswerToReading asked reading answer → IsStatusOf asked reading answer.status
+status_of_answer asked (Defs defs) answer (inl accepted) =
+    let status = status_of_task asked.task asked _ answer accepted.2 in
+    record {
+      known = at_most_one answer.status _ status;
+      done = λ _. (accepted.0, accepted.1);
+      refused = λ one not _. may_be_one answer.status _ status one not;
+    }
+status_of_answer asked (Defs defs) answer (inr refused) =
+    record {
+      known = omega (arith, refused.1.0);
+      done = λ none. absurd (omega (arith, refused.1.0, none));
+      refused = λ _ _. refused.0;
+    }
+status_of_answer asked (Unread reports) answer refused =
+    record {
+      known = omega (arith, refused.0);
+      done = λ none. absurd (omega (arith, refused.0, none));
+      refused = λ _ _ h. h;
+    }
+
+-- lowered definitions are accepted, and their terms with rules are those that were lowered
+pub answer_of_lowered : (defs : List Definition) (asked : Request) (l : Lowered) (answer : Answer)
+    → IsLowered defs asked.expand l → IsAnswerBy asked.task asked (lowered_terms l) answer → IsAnswerTo defs asked answer
+answer_of_lowered defs asked l answer lowered by =
+    inl (lowered.0, lowered.1.accepted, subst (λ terms. IsAnswerBy asked.task asked terms answer) lowered.1.trees.each by)
+
+-- an answer that is written has its status, and one that isn't made the status of refused memory
+pub status_written : (asked : Request) (texts : List (List ℕ)) (answer : Result Answer AllocError) (status : ℕ)
+    → IfOk answer (IsAnswerToTexts asked texts) → MatchResult answer (λ a. IsWritten a status) (λ _. status ≡ 3) → IsStatusFor asked texts status
+status_written asked texts (Ok answer) status of written = inr (answer, of, written)
+status_written asked texts (Err e) status of refused = inl refused

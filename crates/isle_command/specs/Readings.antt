@@ -1,0 +1,28 @@
+-- What the texts of files are read as. It says no more than the reader does: that what it gives lies in the texts, and not that
+-- it is what they spell.
+use Rattle.std.specs.Prelude.{ℕ, ◌≡◌, ◌≢◌, List, [], All, length, slice_get, Some}
+use Rattle.isle_base.specs.SyntaxViews.{definition_views}
+use Rattle.isle_model.specs.lists.Syntax.{Definition}
+use Rattle.isle_text.specs.declared.errors.ReadFault.TheVariants.{Text}
+use Rattle.isle_text.specs.declared.errors.TextError.{TextError}
+use Rattle.isle_text.specs.Faults.{FaultIsWithin}
+use Rattle.isle_text.specs.Within.{DefinitionIsWithin}
+use Rattle.isle_command.specs.declared.reading.Reading.{Reading}
+use Rattle.isle_command.specs.declared.reading.Reading.TheVariants.{Defs, Unread}
+
+-- a text of this number can't be read, since something in it is wrong
+abbrev pub IsUnread : ℕ → List ℕ → Type 0
+IsUnread number text = (error : TextError) × FaultIsWithin number (length text) (Text error)
+
+-- one of these texts can't be read
+abbrev pub SomeIsUnread : List (List ℕ) → Type 0
+SomeIsUnread texts = (number : ℕ) × (text : List ℕ) × (slice_get texts number ≡ Some text) × IsUnread number text
+
+-- a definition lies in one of these texts
+abbrev pub LiesInSome : List (List ℕ) → Definition → Type 0
+LiesInSome texts def = (number : ℕ) × (text : List ℕ) × (slice_get texts number ≡ Some text) × DefinitionIsWithin number (length text) def
+
+-- the definitions lie in the texts; or some text can't be read, and there are reports
+abbrev pub IsReadingOf : List (List ℕ) → Reading → Type 0
+IsReadingOf texts (Defs defs) = All (LiesInSome texts) (definition_views defs.items)
+IsReadingOf texts (Unread reports) = (reports.items ≢ []) × SomeIsUnread texts

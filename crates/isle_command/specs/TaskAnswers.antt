@@ -1,0 +1,98 @@
+-- What the command answers to definitions, by what it is asked.
+use Rattle.std.specs.Prelude.{ℕ, ◌≡◌, ◌≢◌, ◌≤◌, ◌⊎◌, true, List, [], is_none, is_some, length, map, string_bytes}
+use Rattle.isle_base.specs.SyntaxViews.{definition_views}
+use Rattle.isle_model.specs.claims.Layers.{own_program, IsAccepted}
+use Rattle.isle_model.specs.lists.Elaborated.{TypedRules}
+use Rattle.isle_model.specs.lists.Syntax.{Definition}
+use Rattle.isle_model.specs.rules.Program.{terms_with_rules}
+use Rattle.cranelift_isle.specs.declared.lower.Lowered.{Lowered}
+use Rattle.cranelift_isle.specs.Lowerings.{lowered_views, AreAccepted}
+use Rattle.isle_command.specs.declared.answers.Answer.{Answer}
+use Rattle.isle_command.specs.declared.reading.Reading.{Reading}
+use Rattle.isle_command.specs.declared.reading.Reading.TheVariants.{Defs, Unread}
+use Rattle.isle_command.specs.declared.words.Format.{Format}
+use Rattle.isle_command.specs.declared.words.Format.TheVariants as F
+use Rattle.isle_command.specs.declared.words.Request.{Request}
+use Rattle.isle_command.specs.declared.words.Task.{Task}
+use Rattle.isle_command.specs.declared.words.Task.TheVariants as T
+use Rattle.isle_command.specs.Readings.{IsReadingOf}
+
+-- nothing stands on standard error
+abbrev pub IsOnOut : Answer → Type 0
+IsOnOut answer = string_bytes answer.err ≡ []
+
+-- nothing stands on standard output
+abbrev pub IsOnErr : Answer → Type 0
+IsOnErr answer = string_bytes answer.out ≡ []
+
+-- what is asked is done, and standard output alone says what comes of it
+abbrev pub IsDone : Answer → Type 0
+IsDone answer = (answer.status ≡ 0) × IsOnOut answer
+
+-- with a text
+abbrev pub IsDoneWithText : Answer → Type 0
+IsDoneWithText answer = IsDone answer × (string_bytes answer.out ≢ [])
+
+-- and without
+abbrev pub IsDoneWithoutText : Answer → Type 0
+IsDoneWithoutText answer = IsDone answer × IsOnErr answer
+
+-- it isn't done, and standard error alone says why
+abbrev pub IsFailed : Answer → Type 0
+IsFailed answer = (answer.status ≡ 1) × IsOnErr answer × (string_bytes answer.err ≢ [])
+
+-- reports stand on one side: as JSON, which is never empty, on standard output, else on standard error
+abbrev pub AreReports : Format → Answer → Type 0
+AreReports F.Json answer = IsOnOut answer × (string_bytes answer.out ≢ [])
+AreReports F.Text answer = IsOnErr answer
+AreReports F.Line answer = IsOnErr answer
+AreReports F.Dot answer = IsOnErr answer
+
+-- something is wrong with texts or definitions: there are reports
+abbrev pub IsRefusal : Request → Answer → Type 0
+IsRefusal asked answer = (answer.status ≡ 1) × AreReports asked.format answer
+
+-- the text of the trees of so many terms: no JSON is empty, and in every other form each term has a text of its own
+abbrev pub AreTrees : Format → (count : ℕ) → (text : List ℕ) → Type 0
+AreTrees F.Json count text = text ≢ []
+AreTrees F.Text count text = count ≤ length text
+AreTrees F.Line count text = count ≤ length text
+AreTrees F.Dot count text = count ≤ length text
+
+-- the numbers of the terms that were lowered
+abbrev pub lowered_terms : Lowered → List ℕ
+lowered_terms l = map (λ t. t.term) (lowered_views l.terms.items)
+
+-- all terms are asked for, and none by its name
+abbrev pub AsksForAll : Request → Type 0
+AsksForAll asked = is_none asked.terms ≡ true
+
+abbrev pub AsksByName : Request → Type 0
+AsksByName asked = is_some asked.terms ≡ true
+
+-- what accepted definitions with these terms with rules are answered, by the task. It fails only where there is nothing of a
+-- name that is asked for, where trees differ, or where a call is wrong; warnings have the status 1 only where they are denied
+abbrev pub IsAnswerBy : Task → Request → (terms : List ℕ) → Answer → Type 0
+IsAnswerBy T.Lower asked terms answer =
+    (IsDone answer × (AsksForAll asked → AreTrees asked.format (length terms) (string_bytes answer.out))) ⊎ (AsksByName asked × IsFailed answer)
+IsAnswerBy T.Check asked terms answer = AreReports asked.format answer × ((answer.status ≡ 0) ⊎ ((asked.deny ≡ true) × (answer.status ≡ 1)))
+IsAnswerBy T.Explain asked terms answer = IsDoneWithText answer ⊎ IsFailed answer
+IsAnswerBy T.Stats asked terms answer = IsDone answer
+IsAnswerBy T.Compare asked terms answer = IsDoneWithoutText answer ⊎ IsFailed answer
+IsAnswerBy T.Samples asked terms answer = IsDoneWithoutText answer
+IsAnswerBy T.Run asked terms answer = IsDoneWithText answer ⊎ IsFailed answer
+
+-- definitions are accepted and the task is done or fails, or they aren't and there are reports
+abbrev pub IsAnswerTo : List Definition → Request → Answer → Type 0
+IsAnswerTo defs asked answer =
+    ((rules : TypedRules) × IsAccepted defs asked.expand rules × IsAnswerBy asked.task asked (terms_with_rules (own_program defs rules)) answer)
+    ⊎ ((AreAccepted defs asked.expand → ⊥) × IsRefusal asked answer)
+
+-- what was read is answered: definitions, or reports of texts
+abbrev pub IsAnswerToReading : Request → Reading → Answer → Type 0
+IsAnswerToReading asked (Defs defs) answer = IsAnswerTo (definition_views defs.items) asked answer
+IsAnswerToReading asked (Unread reports) answer = IsRefusal asked answer
+
+-- texts are answered as something that they are read as
+abbrev pub IsAnswerToTexts : Request → List (List ℕ) → Answer → Type 0
+IsAnswerToTexts asked texts answer = (reading : Reading) × IsReadingOf texts reading × IsAnswerToReading asked reading answer
