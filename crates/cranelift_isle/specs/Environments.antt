@@ -12,7 +12,8 @@ use Rattle.isle_rules.specs.RulesTold.{TellsReading}
 use Rattle.isle_types.specs.TypeBreaches.{FirstBreaksTypes}
 use Rattle.isle_types.specs.TypeErrors.{AreErrorsOfTypes}
 
--- the types of definitions are valid, and each rule has a typed rule
+-- the types of definitions are valid, their terms are valid and defined, each rule has a typed rule within the limits on
+-- expansions, and no two have one name
 abbrev pub AreTyped : List Definition → Bool → Type 0
 AreTyped defs expand = IsValidTypes defs × HasTypedRules (types_read defs) defs expand
 
@@ -20,14 +21,15 @@ AreTyped defs expand = IsValidTypes defs × HasTypedRules (types_read defs) defs
 abbrev pub AreEnvironments : List Definition → Bool → TypeEnvironment → TermEnvironment → Type 0
 AreEnvironments defs expand types terms = (rules : TypedRules) × AreRulesOf (types_read defs) defs expand rules terms types
 
--- the first error stands at a definition that breaks a condition: on types, where these aren't valid; else on terms and rules,
--- where these can't be read
+-- the first error stands at what breaks a condition: on types, where these aren't valid; else on terms and rules, where these
+-- can't be read
 pub record BreaksWhereRefused (defs : List Definition) (expand : Bool) (errors : List Error) : Type 0 where
   pub types : (IsValidTypes defs → ⊥) → FirstBreaksTypes defs errors
   pub rules : IsValidTypes defs → (HasTypedRules (types_read defs) defs expand → ⊥) → FirstBreaksRules (types_read defs) defs expand errors
 
--- of what each definition and each rule is told: of types and constants exactly which errors there are, and in which order, where
--- the types aren't valid; else, where the terms are, which errors each rule has, one rule after another
+-- where the types aren't valid, which errors types and constants have, and in which order; else, where the terms aren't, of which
+-- group the first error is, and which errors converters have; else which errors the typing of each rule has, one rule after
+-- another, behind which others may stand
 pub record TellsOfEach (defs : List Definition) (expand : Bool) (errors : List Error) : Type 0 where
   pub types : (IsValidTypes defs → ⊥) → AreErrorsOfTypes defs errors
   pub rules : IsValidTypes defs → (HasTypedRules (types_read defs) defs expand → ⊥) → TellsReading (types_read defs) defs expand errors

@@ -27,7 +27,7 @@ pub struct Environments {
 }
 
 /// The environments of definitions: those of `lower`'s answer where it has one, and there too where `lower` answers that
-/// rules can't match, overlap or are shadowed. `expand` is `lower`'s.
+/// rules can't match, pass a limit on what they make, overlap or are shadowed. `expand` is `lower`'s.
 ///
 /// # Errors
 ///
@@ -43,7 +43,7 @@ pub fn environments_of(alloc: Global, defs: &[Def], expand: bool) -> Result<Envi
     // the first error stands where a condition is broken
     ensures breach { OnErrors result (λ es. BreaksWhereRefused (definition_views defs.now) expand es) }
 
-    // and each definition and each rule is told of: none that is right, and each that is wrong
+    // which errors types, constants, converters and the typing of rules have; of the others, of which group the first is
     ensures told { OnErrors result (λ es. TellsOfEach (definition_views defs.now) expand es) }
 
     // where the types are valid, a rule that lacks nothing but the limits on expansions is named

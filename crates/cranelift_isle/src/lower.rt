@@ -115,7 +115,7 @@ pub fn lower(alloc: Global, defs: &[Def], expand: bool) -> Result<Lowered, Fault
     // where definitions can't be read, the first error stands where a condition is broken
     ensures breach { OnErrors result (λ es. BreaksWhereRefused (definition_views defs.now) expand es) }
 
-    // and each definition and each rule is told of: none that is right, and each that is wrong
+    // which errors types, constants, converters and the typing of rules have; of the others, of which group the first is
     ensures told { OnErrors result (λ es. TellsOfEach (definition_views defs.now) expand es) }
 
     // where the types are valid, the errors are exactly those of the check, in order, if each rule has a typed rule

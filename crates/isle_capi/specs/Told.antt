@@ -83,7 +83,7 @@ abbrev pub IsCodeOf : Asked → Reading → Coded → Type 0
 IsCodeOf asked reading coded = IsCodedBy (IsAcceptedReading asked.expand reading) coded
 
 -- what a status that comes with a text says of what was read: DONE that all texts were read and their definitions are accepted,
--- ERRORS that they weren't, NO_CODE that they are and that their code was wanted
+-- ERRORS that not all were read, or that they aren't, NO_CODE that they are and that their code was wanted
 pub record Says (asked : Asked) (reading : Reading) (status : ℕ) : Type 0 where
   pub done : status ≡ DONE → IsAcceptedReading asked.expand reading
   pub errors : status ≡ ERRORS → IsAcceptedReading asked.expand reading → ⊥

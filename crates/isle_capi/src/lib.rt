@@ -51,7 +51,8 @@ pub extern "C" fn isle_capi_lower(
     ensures other { result ≡ NOT_UTF8 → AreOther files.now bytes.now }
     // what is written is UTF-8 and no more than there is room for, and nothing behind it is touched
     ensures left { LeavesBehind out.old out.new sizes.new result }
-    // of what the texts are read as, the status says whether it is accepted, and what is written is made of it
+    // of some definitions that lie in the texts, or as of texts that can't be read, the status says whether they are accepted,
+    // and what is written is made of them
     ensures told { AreOptions options.now → AddUp files.now bytes.now → are_texts files.now bytes.now ≡ true
         → IsToldByCall options.now (texts_in files.now bytes.now) out.old out.new sizes.new result }
 {

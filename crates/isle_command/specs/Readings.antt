@@ -10,11 +10,11 @@ use Rattle.isle_text.specs.Within.{DefinitionIsWithin}
 use Rattle.isle_command.specs.declared.reading.Reading.{Reading}
 use Rattle.isle_command.specs.declared.reading.Reading.TheVariants.{Defs, Unread}
 
--- a text of this number can't be read, since something in it is wrong
+-- an error of a text of this number lies in the text: whether the text has that error isn't said
 abbrev pub IsUnread : ℕ → List ℕ → Type 0
 IsUnread number text = (error : TextError) × FaultIsWithin number (length text) (Text error)
 
--- one of these texts can't be read
+-- an error lies in one of these texts
 abbrev pub SomeIsUnread : List (List ℕ) → Type 0
 SomeIsUnread texts = (number : ℕ) × (text : List ℕ) × (slice_get texts number ≡ Some text) × IsUnread number text
 
@@ -22,7 +22,7 @@ SomeIsUnread texts = (number : ℕ) × (text : List ℕ) × (slice_get texts num
 abbrev pub LiesInSome : List (List ℕ) → Definition → Type 0
 LiesInSome texts def = (number : ℕ) × (text : List ℕ) × (slice_get texts number ≡ Some text) × DefinitionIsWithin number (length text) def
 
--- the definitions lie in the texts; or some text can't be read, and there are reports
+-- the definitions lie in the texts; or there are reports, and an error lies in one of the texts
 abbrev pub IsReadingOf : List (List ℕ) → Reading → Type 0
 IsReadingOf texts (Defs defs) = All (LiesInSome texts) (definition_views defs.items)
 IsReadingOf texts (Unread reports) = (reports.items ≢ []) × SomeIsUnread texts

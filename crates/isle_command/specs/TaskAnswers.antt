@@ -41,18 +41,18 @@ IsDoneWithoutText answer = IsDone answer × IsOnErr answer
 abbrev pub IsFailed : Answer → Type 0
 IsFailed answer = (answer.status ≡ 1) × IsOnErr answer × (string_bytes answer.err ≢ [])
 
--- reports stand on one side: as JSON, which is never empty, on standard output, else on standard error
+-- reports may stand on one side: as JSON, which is never empty, on standard output, else on standard error
 abbrev pub AreReports : Format → Answer → Type 0
 AreReports F.Json answer = IsOnOut answer × (string_bytes answer.out ≢ [])
 AreReports F.Text answer = IsOnErr answer
 AreReports F.Line answer = IsOnErr answer
 AreReports F.Dot answer = IsOnErr answer
 
--- something is wrong with texts or definitions: there are reports
+-- something is wrong with texts or definitions: the status says so, and reports may
 abbrev pub IsRefusal : Request → Answer → Type 0
 IsRefusal asked answer = (answer.status ≡ 1) × AreReports asked.format answer
 
--- the text of the trees of so many terms: no JSON is empty, and in every other form each term has a text of its own
+-- the text of the trees of so many terms: no JSON is empty, and every other form has at least one byte for each term
 abbrev pub AreTrees : Format → (count : ℕ) → (text : List ℕ) → Type 0
 AreTrees F.Json count text = text ≢ []
 AreTrees F.Text count text = count ≤ length text
@@ -70,8 +70,8 @@ AsksForAll asked = is_none asked.terms ≡ true
 abbrev pub AsksByName : Request → Type 0
 AsksByName asked = is_some asked.terms ≡ true
 
--- what accepted definitions with these terms with rules are answered, by the task. It fails only where there is nothing of a
--- name that is asked for, where trees differ, or where a call is wrong; warnings have the status 1 only where they are denied
+-- what accepted definitions with these terms with rules are answered, by the task. A task that may fail may do so on all of
+-- them: when it does isn't said; warnings have the status 1 only where they are denied
 abbrev pub IsAnswerBy : Task → Request → (terms : List ℕ) → Answer → Type 0
 IsAnswerBy T.Lower asked terms answer =
     (IsDone answer × (AsksForAll asked → AreTrees asked.format (length terms) (string_bytes answer.out))) ⊎ (AsksByName asked × IsFailed answer)
@@ -82,7 +82,7 @@ IsAnswerBy T.Compare asked terms answer = IsDoneWithoutText answer ⊎ IsFailed 
 IsAnswerBy T.Samples asked terms answer = IsDoneWithoutText answer
 IsAnswerBy T.Run asked terms answer = IsDoneWithText answer ⊎ IsFailed answer
 
--- definitions are accepted and the task is done or fails, or they aren't and there are reports
+-- definitions are accepted and the task is done or fails, or they aren't and are refused
 abbrev pub IsAnswerTo : List Definition → Request → Answer → Type 0
 IsAnswerTo defs asked answer =
     ((rules : TypedRules) × IsAccepted defs asked.expand rules × IsAnswerBy asked.task asked (terms_with_rules (own_program defs rules)) answer)
