@@ -1,7 +1,7 @@
 // The compiler of ISLE definitions, called from C: one function.
 //
-// What definitions become is proved: their trees, or errors. Which definitions a text gives, and what is printed of trees
-// (Rust code too), is tested, and not proved.
+// The trees that definitions become are proved, and that there are errors exactly where definitions aren't accepted; which
+// errors, in part. Which definitions a text gives, and what is printed of trees (Rust code too), is tested, and not proved.
 //
 // Link libisle_capi.a (`rt lib` in crates/isle_capi makes it, in the folder out there) and the toolchain's liblibc_c.a (in its
 // folder c), which hands the library's requests for memory to malloc, realloc and free. Both are for x86-64 Linux.

@@ -1,7 +1,7 @@
 //! The compiler of ISLE definitions, for build scripts and tools.
 //!
-//! What definitions become is proved: their trees, or errors. Which definitions a text gives, and what is printed of trees
-//! (Rust code too), is tested, and not proved.
+//! The trees that definitions become are proved, and that there are errors exactly where definitions aren't accepted; which
+//! errors, in part. Which definitions a text gives, and what is printed of trees (Rust code too), is tested, and not proved.
 //!
 //! A build script of three lines compiles rules to Rust code:
 //!
