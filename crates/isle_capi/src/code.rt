@@ -9,7 +9,7 @@ use crate::options::Asked;
 use cranelift_isle::lower::lower;
 use isle_base::syntax::{Def, Fault, Files};
 use isle_command::reading::Reading;
-use isle_rust::code::{CodeError, rust_code};
+use isle_rust::code::{CodeError, CodegenOptions, rust_code};
 use std::alloc::{AllocError, Global};
 
 /// What comes of files whose Rust code is wanted.
@@ -48,7 +48,10 @@ fn code_of_defs(
     ensures { IfOk result (IsCodedBy (AreAccepted (definition_views defs.now) asked.expand)) }
 {
     match lower(alloc, defs, asked.expand) {
-        Ok(lowered) => coded_by(alloc, rust_code(alloc, &lowered, files)),
+        Ok(lowered) => {
+            let options = CodegenOptions::included(alloc);
+            coded_by(alloc, rust_code(alloc, &lowered, files, &options))
+        }
         Err(Fault::Errors(_)) => Ok(Coded::Wrong),
         Err(Fault::Memory(error)) => Err(error),
     }

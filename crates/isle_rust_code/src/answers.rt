@@ -5,7 +5,7 @@ use cranelift_isle::syntax::{Def, Fault, Files};
 use isle_answers::answers::Answer;
 use isle_answers::texts::syntax_error_line;
 use isle_reading::texts::{Places, error_lines};
-use isle_rust::code::{CodeError, rust_code};
+use isle_rust::code::{CodeError, CodegenOptions, rust_code};
 use isle_text::errors::ReadFault;
 use isle_text::read;
 use std::alloc::{AllocError, Global};
@@ -35,7 +35,7 @@ fn answer_to_defs(alloc: Global, text: String, defs: &[Def]) -> Result<Answer, A
 // The code of a program, or the line that says why it has none.
 fn answer_to_program(alloc: Global, text: String, lowered: &Lowered) -> Result<Answer, AllocError> {
     let files = files_of(alloc, text)?;
-    match rust_code(alloc, lowered, &files) {
+    match rust_code(alloc, lowered, &files, &CodegenOptions::included(alloc)) {
         Ok(code) => Ok(Answer::Trees(code)),
         Err(CodeError::Names(why)) => { Ok(Answer::Errors(format!(in alloc; "no code: {why}\n")?)) }
         Err(CodeError::Memory) => Err(AllocError),

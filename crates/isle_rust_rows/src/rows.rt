@@ -3,7 +3,8 @@
 use cranelift_isle::lower::{Lowered, lower};
 use cranelift_isle::syntax::{Def, Fault, Files};
 use isle_reading::texts::{Places, error_lines};
-use isle_rust::code::{CodeError, rust_code};
+use isle_rust::code::{CodeError, CodegenOptions, Prefix, rust_code};
+use isle_rust_items::beside::BESIDE;
 use isle_text::errors::ReadFault;
 use isle_text::read;
 use std::alloc::{AllocError, Global};
@@ -24,7 +25,8 @@ impl<'a> Drop for Row<'a> {
 ///
 /// A row is a line that begins with `# `, behind it the row's name, and the text of the file `a.isle` below it. A line that
 /// begins with `## ` and a name begins another file. The answer is the code of the files' definitions, or a line for each
-/// thing that is wrong.
+/// thing that is wrong. Words behind the row's name are options of the code: `--with-allows`, `--log` and `--prefix=FROM=TO`.
+/// A line of two points stands for what stands behind `Context` in all code.
 pub fn answers(alloc: Global, text: &str) -> Result<String, AllocError> {
     let mut out = String::new(alloc);
     let mut row = begun(alloc, "")?;
@@ -81,7 +83,7 @@ fn push_row(alloc: Global, row: &Row<'_>, out: &mut String) -> Result<(), AllocE
     }
     push_line(out, row.line)?;
     match read_files(alloc, &row.files)? {
-        Some(defs) => push_answer(alloc, &row.files, &defs, out),
+        Some(defs) => push_answer(alloc, row, &defs, out),
         None => out.push_str("not ISLE\n"),
     }
 }
@@ -102,12 +104,12 @@ fn read_files(alloc: Global, files: &Files) -> Result<Option<Vec<Def>>, AllocErr
 // Adds the code of definitions, or a line for each error.
 fn push_answer(
     alloc: Global,
-    files: &Files,
+    row: &Row<'_>,
     defs: &[Def],
     out: &mut String,
 ) -> Result<(), AllocError> {
     match lower(alloc, defs, true) {
-        Ok(lowered) => push_code(alloc, files, &lowered, out),
+        Ok(lowered) => push_code(alloc, row, &lowered, out),
         Err(Fault::Errors(errors)) => { out.push_str(&error_lines(alloc, &errors, Places::Files)?) }
         Err(Fault::Memory(error)) => Err(error),
     }
@@ -116,13 +118,53 @@ fn push_answer(
 // Adds the code of a program, or why it has none.
 fn push_code(
     alloc: Global,
-    files: &Files,
+    row: &Row<'_>,
     lowered: &Lowered,
     out: &mut String,
 ) -> Result<(), AllocError> {
-    match rust_code(alloc, lowered, files) {
-        Ok(code) => out.push_str(&code),
+    let options = options_by(alloc, row.line)?;
+    match rust_code(alloc, lowered, &row.files, &options) {
+        Ok(code) => push_shown(&code, out),
         Err(CodeError::Names(why)) => write!(out, "no code: {why}\n"),
         Err(CodeError::Memory) => Err(AllocError),
     }
+}
+
+// Adds code, in which two points stand for what all code has.
+fn push_shown(code: &str, out: &mut String) -> Result<(), AllocError> {
+    match code.split_once(BESIDE) {
+        Some((before, behind)) => {
+            out.push_str(before)?;
+            out.push_str("..\n")?;
+            out.push_str(behind)
+        }
+        None => out.push_str(code),
+    }
+}
+
+// The options by the words of a row's line.
+fn options_by(alloc: Global, line: &str) -> Result<CodegenOptions, AllocError> {
+    let mut options = CodegenOptions::included(alloc);
+    for word in line.split(' ') {
+        match word {
+            "--with-allows" => options.exclude_global_allow_pragmas = false,
+            "--log" => options.emit_logging = true,
+            _ => add_prefix(alloc, &mut options, word)?,
+        }
+    }
+    Ok(options)
+}
+
+// Adds the prefix of a word, where it has one.
+fn add_prefix(alloc: Global, options: &mut CodegenOptions, word: &str) -> Result<(), AllocError> {
+    let Some(both) = word.strip_prefix("--prefix=") else {
+        return Ok(());
+    };
+    let Some((prefix, name)) = both.split_once('=') else {
+        return Ok(());
+    };
+    let prefix = String::from_str(alloc, prefix)?;
+    let name = String::from_str(alloc, name)?;
+    options.prefixes.push(Prefix { prefix, name })?;
+    Ok(())
 }
