@@ -5,7 +5,7 @@ use Rattle.std.specs.declared.alloc.AllocError.{AllocError}
 use Rattle.isle_command.specs.declared.answers.Answer.{Answer}
 use Rattle.isle_command.specs.declared.reading.Reading.{Reading}
 use Rattle.isle_command.specs.declared.words.Request.{Request}
-use Rattle.isle_command.specs.Statuses.{may_fail, IsAcceptedReading, IsStatusOf}
+use Rattle.isle_command.specs.Statuses.{may_fail, IsAcceptedReading, IsStatusOfReading}
 use Rattle.isle_command.specs.TaskAnswers.{IsAnswerToReading}
 use Rattle.isle_capi.specs.declared.options.Asked.{Asked}
 use Rattle.isle_capi.specs.declared.options.Task.{Task}
@@ -17,7 +17,7 @@ use Rattle.isle_capi.specs.Told.{command_task, status_of, text_of, HandsOver, Is
 -- an answer of the command to a request for a call
 pub command_answer : (asked : Asked) (reading : Reading) (request : Request) (answer : Result Answer AllocError)
     → IsRequestOf asked request → IfOk answer (IsAnswerToReading request reading)
-    → IfOk answer (λ a. IsStatusOf request reading a.status) → IfOk answer (IsCommandAnswer asked reading)
+    → IfOk answer (λ a. IsStatusOfReading request reading a.status) → IfOk answer (IsCommandAnswer asked reading)
 command_answer asked reading request (Ok answer) asks answers says = record { request = request; asks = asks; answers = answers; says = says }
 command_answer asked reading request (Err e) asks answers says = tt
 

@@ -8,7 +8,7 @@ use Rattle.isle_command.specs.declared.words.Request.{Request}
 use Rattle.isle_command.specs.declared.words.Task as CommandTask
 use Rattle.isle_command.specs.declared.words.Task.TheVariants as T
 use Rattle.isle_command.specs.Readings.{IsReadingOf}
-use Rattle.isle_command.specs.Statuses.{IsAcceptedReading, IsStatusOf}
+use Rattle.isle_command.specs.Statuses.{IsAcceptedReading, IsStatusOfReading}
 use Rattle.isle_command.specs.TaskAnswers.{IsAnswerToReading}
 use Rattle.isle_capi.specs.declared.code.Coded.{Coded}
 use Rattle.isle_capi.specs.declared.code.Coded.TheVariants.{Code, Names, Wrong}
@@ -48,7 +48,7 @@ pub record IsCommandAnswer (asked : Asked) (reading : Reading) (answer : Answer)
   pub request : Request
   pub asks : IsRequestOf asked request
   pub answers : IsAnswerToReading request reading answer
-  pub says : IsStatusOf request reading answer.status
+  pub says : IsStatusOfReading request reading answer.status
 
 -- the status of a call for an answer of the command
 abbrev pub status_of : Answer → ℕ
@@ -98,8 +98,8 @@ IsTextOf A.Code asked reading status text =
     ⊎ (((status ≡ DONE) × (text ≢ [])) ⊎ ((status ≡ NO_CODE) × IsNamesLine text))
 
 -- a status and a text are made of what was read
-abbrev pub IsMade : Asked → Reading → (status : ℕ) → (text : List ℕ) → Type 0
-IsMade asked reading status text = Says asked reading status × IsTextOf asked.task asked reading status text
+abbrev pub IsMadeOfReading : Asked → Reading → (status : ℕ) → (text : List ℕ) → Type 0
+IsMadeOfReading asked reading status text = Says asked reading status × IsTextOf asked.task asked reading status text
 
 -- a text is handed over with its status: it is written whole, or nothing is where the buffer is too small
 pub record HandsOver (out out' : List ℕ) (sizes : Sizes) (status : ℕ) (text : List ℕ) (result : ℕ) : Type 0 where
@@ -118,7 +118,7 @@ IsSaidTo asked reading out out' sizes result =
 abbrev pub IsToldOf : Asked → Reading → (out out' : List ℕ) → Sizes → ℕ → Type 0
 IsToldOf asked reading out out' sizes result =
     (result ≡ NO_MEMORY)
-    ⊎ ((status : ℕ) × (text : List ℕ) × IsMade asked reading status text × HandsOver out out' sizes status text result)
+    ⊎ ((status : ℕ) × (text : List ℕ) × IsMadeOfReading asked reading status text × HandsOver out out' sizes status text result)
 
 -- texts are answered as something that they are read as
 abbrev pub IsToldOfTexts : Asked → List (List ℕ) → (out out' : List ℕ) → Sizes → ℕ → Type 0

@@ -10,8 +10,8 @@ use Rattle.isle_command.specs.declared.reading.Reading.TheVariants.{Defs, Unread
 use Rattle.isle_command.specs.declared.words.Request.{Request}
 use Rattle.isle_command.specs.declared.words.Task.{Task}
 use Rattle.isle_command.specs.declared.words.Task.TheVariants as T
-use Rattle.isle_command.specs.TaskAnswers.{lowered_terms, IsAnswerBy, IsAnswerTo, IsAnswerToReading, IsAnswerToTexts}
-use Rattle.isle_command.specs.Statuses.{may_fail, IsStatusFor, IsStatusOf, IsWritten}
+use Rattle.isle_command.specs.TaskAnswers.{lowered_terms, IsAnswerBy, IsAnswerToDefinitions, IsAnswerToReading, IsAnswerToTexts}
+use Rattle.isle_command.specs.Statuses.{may_fail, IsStatusFor, IsStatusOfReading, IsWritten}
 
 -- what a task answers has the status 1 only where it may fail
 pub status_of_task : (task : Task) (asked : Request) (terms : List ℕ) (answer : Answer)
@@ -40,7 +40,7 @@ may_be_one status b (inr e) one not = cc
 
 -- the status says whether the definitions are accepted
 pub status_of_answer : (asked : Request) (reading : Reading) (answer : Answer)
-    → IsAnswerToReading asked reading answer → IsStatusOf asked reading answer.status
+    → IsAnswerToReading asked reading answer → IsStatusOfReading asked reading answer.status
 status_of_answer asked (Defs defs) answer (inl accepted) =
     let status = status_of_task asked.task asked _ answer accepted.2 in
     record {
@@ -63,7 +63,7 @@ status_of_answer asked (Unread reports) answer refused =
 
 -- lowered definitions are accepted, and their terms with rules are those that were lowered
 pub answer_of_lowered : (defs : List Definition) (asked : Request) (l : Lowered) (answer : Answer)
-    → IsLowered defs asked.expand l → IsAnswerBy asked.task asked (lowered_terms l) answer → IsAnswerTo defs asked answer
+    → IsLowered defs asked.expand l → IsAnswerBy asked.task asked (lowered_terms l) answer → IsAnswerToDefinitions defs asked answer
 answer_of_lowered defs asked l answer lowered by =
     inl (lowered.0, lowered.1.accepted, subst (λ terms. IsAnswerBy asked.task asked terms answer) lowered.1.trees.each by)
 

@@ -28,7 +28,7 @@ IsAcceptedReading expand (Defs defs) = AreAccepted (definition_views defs.items)
 IsAcceptedReading expand (Unread reports) = ⊥
 
 -- an answer's status is 0 only for texts that are accepted, and 1 only for others, unless the task may fail by itself
-pub record IsStatusOf (asked : Request) (reading : Reading) (status : ℕ) : Type 0 where
+pub record IsStatusOfReading (asked : Request) (reading : Reading) (status : ℕ) : Type 0 where
   pub known : status ≤ 1
   pub done : status ≡ 0 → IsAcceptedReading asked.expand reading
   pub refused : status ≡ 1 → may_fail asked.task asked ≡ false → IsAcceptedReading asked.expand reading → ⊥

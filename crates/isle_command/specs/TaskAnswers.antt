@@ -83,14 +83,14 @@ IsAnswerBy T.Samples asked terms answer = IsDoneWithoutText answer
 IsAnswerBy T.Run asked terms answer = IsDoneWithText answer ⊎ IsFailed answer
 
 -- definitions are accepted and the task is done or fails, or they aren't and are refused
-abbrev pub IsAnswerTo : List Definition → Request → Answer → Type 0
-IsAnswerTo defs asked answer =
+abbrev pub IsAnswerToDefinitions : List Definition → Request → Answer → Type 0
+IsAnswerToDefinitions defs asked answer =
     ((rules : TypedRules) × IsAccepted defs asked.expand rules × IsAnswerBy asked.task asked (terms_with_rules (own_program defs rules)) answer)
     ⊎ ((AreAccepted defs asked.expand → ⊥) × IsRefusal asked answer)
 
 -- what was read is answered: definitions, or reports of texts
 abbrev pub IsAnswerToReading : Request → Reading → Answer → Type 0
-IsAnswerToReading asked (Defs defs) answer = IsAnswerTo (definition_views defs.items) asked answer
+IsAnswerToReading asked (Defs defs) answer = IsAnswerToDefinitions (definition_views defs.items) asked answer
 IsAnswerToReading asked (Unread reports) answer = IsRefusal asked answer
 
 -- texts are answered as something that they are read as

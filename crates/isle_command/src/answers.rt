@@ -3,9 +3,9 @@
 ghost use Rattle.std.specs.Prelude.{◌≡◌, ◌≢◌, ◌⊎◌, ◌≤◌, ◌<◌, true, [], length, is_none, map, string_bytes, string_len, IfOk};
 ghost use Rattle.isle_base.specs.SyntaxViews.{definition_views};
 ghost use Rattle.isle_command.specs.declared.words.Task.TheVariants.{Lower};
-ghost use Rattle.isle_command.specs.TaskAnswers.{lowered_terms, AsksForAll, IsAnswerBy, IsAnswerTo, IsAnswerToReading, IsAnswerToTexts};
+ghost use Rattle.isle_command.specs.TaskAnswers.{lowered_terms, AsksForAll, IsAnswerBy, IsAnswerToDefinitions, IsAnswerToReading, IsAnswerToTexts};
 ghost use Rattle.isle_command.specs.TaskAnswers.{AreReports, AreTrees, IsDoneWithText, IsDoneWithoutText, IsFailed, IsRefusal};
-ghost use Rattle.isle_command.specs.Statuses.{IsStatusOf};
+ghost use Rattle.isle_command.specs.Statuses.{IsStatusOfReading};
 
 use crate::comparison::difference;
 use crate::graphs::graph_of;
@@ -86,7 +86,7 @@ pub fn answer_to_reading<E: Write>(
     teller: &mut Teller<'_, E>,
 ) -> Result<Answer, AllocError>
     ensures answer { IfOk result (IsAnswerToReading asked.now reading.now) }
-    ensures status { IfOk result (λ a. IsStatusOf asked.now reading.now a.status) }
+    ensures status { IfOk result (λ a. IsStatusOfReading asked.now reading.now a.status) }
 {
     match reading {
         Reading::Defs(defs) => answer_to_defs(alloc, asked, files, defs, teller),
@@ -128,7 +128,7 @@ fn answer_to_defs<E: Write>(
     defs: &[Def],
     teller: &mut Teller<'_, E>,
 ) -> Result<Answer, AllocError>
-    ensures { IfOk result (IsAnswerTo (definition_views defs.now) asked.now) }
+    ensures { IfOk result (IsAnswerToDefinitions (definition_views defs.now) asked.now) }
 {
     teller.tell("lowering", "all terms");
     match lower(alloc, defs, asked.expand) {
