@@ -13,6 +13,7 @@ use crate::outcomes::outcome_text;
 use crate::values::{Unanswered, term_of, values_of, wrong};
 use cranelift_isle::lower::{Lowered, LoweredTerm};
 use cranelift_isle::syntax::{Def, Expr, Ident};
+use isle_choose::choose::choose;
 use isle_reading::premises::is_multi;
 use isle_reading::rules::lowered_term;
 use isle_run::run::run;
@@ -55,7 +56,8 @@ pub fn read_call<'a>(
     }
 }
 
-/// The outcome of a call, as `(f 1 (T.A 2))`, in words: the tree of its term is run by echoes.
+/// The outcome of a call, as `(f 1 (T.A 2))`, in words: the tree of its term is run by echoes. If the term isn't multi and the
+/// source rules give another outcome, that follows.
 ///
 /// # Errors
 ///
@@ -64,7 +66,47 @@ pub fn answer_to_call(alloc: Global, lowered: &Lowered, call: &str) -> Result<St
     let called = read_call(alloc, lowered, call)?;
     let multi = is_multi(&lowered.termenv, called.entry.id);
     let outcome = outcome_of(alloc, lowered, called.entry, multi, &called.args)?;
-    Ok(outcome_text(alloc, lowered, multi, &outcome)?)
+    let mut told = outcome_text(alloc, lowered, multi, &outcome)?;
+    if !multi {
+        push_choice(alloc, &mut told, lowered, &called)?;
+    }
+    Ok(told)
+}
+
+// Adds the outcome by the source rules of a term that isn't multi, if it differs from the text so far.
+fn push_choice(
+    alloc: Global,
+    told: &mut String,
+    lowered: &Lowered,
+    called: &ReadCall<'_>,
+) -> Result<(), AllocError> {
+    let outcome = choice_of(alloc, lowered, called)?;
+    let chosen = outcome_text(alloc, lowered, false, &outcome)?;
+    if chosen.as_str() == told.as_str() {
+        return Ok(());
+    }
+    write!(told, "; by the source rules {chosen}")
+}
+
+// The outcome of a call of a term that isn't multi by its source rules, by echoes.
+fn choice_of(
+    alloc: Global,
+    lowered: &Lowered,
+    called: &ReadCall<'_>,
+) -> Result<Outcome, AllocError> {
+    let env = &lowered.termenv;
+    let echo = Echo {
+        tyenv: &lowered.tyenv,
+        terms: &env.terms,
+    };
+    choose(
+        alloc,
+        &echo,
+        &env.terms,
+        &env.rules,
+        called.entry.id,
+        &called.args,
+    )
 }
 
 // That a call can't be read.
