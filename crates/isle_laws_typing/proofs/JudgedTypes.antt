@@ -2,9 +2,8 @@
 use Rattle.std.proofs.Common.{◌≡◌, Bool, true, false, not, ◌&&◌, ◌||◌, List, All, Decides, IsTrue, refl, ℕ, ◌<◌, nat_lt}
 use Rattle.std.specs.List.{list_all}
 use Rattle.std.proofs.lemmas.Bool.{false≢true, not-true, not_from_false}
-use Rattle.std.proofs.lemmas.Bool.Decides.{Decides-like, Decides-and, Decides-by_and, not_from_Decides, Decides-ltb}
-use Rattle.isle_model.specs.lists.Syntax.{Definition}
-use Rattle.isle_model.specs.lists.TypeTable.{type_trees, constant_trees, all_type_names, field_lists, field_names, field_type_names, is_primitive, variants_of, IsKnownType, IsUnmarkedIfPrimitive, HasAtMostOneMark, HasDistinctVariants, HasDistinctFields, HasKnownTypes, IsOfKnownType, IsValidTypes}
+use Rattle.std.proofs.lemmas.Bool.Decides.{Decides-like, Decides-and, Decides-by_and, Decides-ltb}
+use Rattle.isle_model.specs.lists.TypeTable.{type_trees, constant_trees, all_type_names, field_lists, field_names, field_type_names, is_primitive, variants_of, IsKnownType, IsUnmarkedIfPrimitive, HasAtMostOneMark, HasDistinctVariants, HasDistinctFields, HasKnownTypes, IsOfKnownType}
 use Rattle.isle_model.specs.lists.ListJudge.{is_known_type, is_unmarked_if_primitive, has_at_most_one_mark, has_distinct_variants, has_distinct_fields, has_known_types, has_valid_types}
 use Rattle.isle_laws_typing.specs.JudgeLaws.{TypesAreJudged}
 use Rattle.isle_laws_typing.proofs.Twice.{names_differ}
@@ -53,7 +52,3 @@ types_are_judged_lem defs =
     (λ f. each (is_known_type (all_type_names defs)) (IsKnownType (all_type_names defs)) (λ n. itself (is_known_type (all_type_names defs) n)) (field_type_names f))
     (field_lists defs)))
     (each (λ c. is_known_type (all_type_names defs) c.ty) (IsOfKnownType defs) (λ c. itself (is_known_type (all_type_names defs) c.ty)) (constant_trees defs)))
-
--- so a list that the judge refuses has no type table
-pub no_types : (defs : List Definition) → has_valid_types defs ≡ false → IsValidTypes defs → ⊥
-no_types defs h = not_from_Decides (has_valid_types defs) (types_are_judged_lem defs) h

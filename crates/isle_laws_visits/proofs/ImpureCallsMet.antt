@@ -42,9 +42,6 @@ module _ (p : Program) where
     opened = λ t s args w k. then_keeps_calls v w (open_term (kind p t) t s args w).visit k (open_keeps (kind p t) t s args w);
   }
 
-  pub pattern_keeps : (q : TypedPattern) (s : SiteTerm) (v : Visit) → KeepsCalls v (visit_pattern p q s v)
-  pattern_keeps q s v = pattern_kept p (KeepsCalls v) (tests_keep v) q s v (keeps_all v)
-
   call_keeps : (pure multi partial rec : Bool) (t : ℕ) (args : SiteTerms) (v : Visit) → pure ≡ true → KeepsCalls v (visit_call (record { pure = pure; multi = multi; partial = partial; rec = rec }) t args v).visit
   call_keeps true true partial rec t args v h = record { count = refl; impure = refl }
   call_keeps true false partial rec t args v h = record { count = refl; impure = refl }

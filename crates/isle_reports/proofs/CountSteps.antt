@@ -1,9 +1,9 @@
 -- Counting the rules of each term, one rule after another.
-use Rattle.std.proofs.Common.{◌≡◌, ◌⊎◌, ◌≢◌, ℕ, ◌+◌, ◌<◌, ◌≤◌, true, false, eqb, List, [], length, take, set, get_or, replicate, Some, None, slice_get, sym, ap, subst, ◌∙◌, inl, inr, arith}
+use Rattle.std.proofs.Common.{◌≡◌, ◌⊎◌, ◌≢◌, ℕ, ◌+◌, ◌<◌, ◌≤◌, true, false, eqb, List, length, take, set, get_or, Some, None, slice_get, sym, ap, subst, ◌∙◌, inl, inr, arith}
 use Rattle.std.specs.Bool.{◌==◌}
 use Rattle.std.specs.List.{count_by}
 use Rattle.std.proofs.lemmas.Bool.Decides.{eqb_tells}
-use Rattle.std.proofs.lemmas.List.{length-replicate, get_or-replicate, length-set, get_or-set_same, get_or-set_other, length-map, length-take-le, take-map}
+use Rattle.std.proofs.lemmas.List.{length-set, get_or-set_same, get_or-set_other, length-map, length-take-le, take-map}
 use Rattle.std.proofs.lemmas.List.Sums.{count_by-le-length, count_by_more_yes, count_by_more_no}
 use Rattle.std.proofs.lemmas.Option.{none-some, same_Some, slice_get-get_or, get_or_from_slice_get, slice_get_within}
 use Rattle.isle_model.specs.rules.Typed.{TypedRule}
@@ -11,13 +11,6 @@ use Rattle.isle_typed.specs.declared.rules.Rule.{Rule}
 use Rattle.isle_reports.specs.RuleNaming.{AreCounts}
 use Rattle.isle_typed.specs.RuleViews.{rule_view, rule_views}
 use Rattle.isle_reports.proofs.NameSteps.{view_at}
-
--- before the first rule
-pub none_counted : (n : ℕ) → AreCounts n [] (replicate n 0)
-none_counted n = record {
-  len = length-replicate n 0;
-  each = λ t h. slice_get-get_or (replicate n 0) t 0 (subst (λ k. t < k) (sym (length-replicate n 0)) h) ∙ ap (λ k. Some k) (get_or-replicate n t 0 0 h);
-}
 
 module _ (n : ℕ) (rules : List TypedRule) (i : ℕ) (q : TypedRule) (h : i < length rules) (at : q ≡ get_or rules i q) (counts : List ℕ) (k : AreCounts n (take i rules) counts) where
   of_this : (t : ℕ) → eqb q.root_term t ≡ true → count_by (λ r. r.root_term == t) (take (i + 1) rules) ≡ count_by (λ r. r.root_term == t) (take i rules) + 1

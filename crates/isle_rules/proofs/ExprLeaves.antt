@@ -1,6 +1,6 @@
 -- What expressions without parts become, but for variables.
 use Rattle.std.proofs.Common.{◌≡◌, ℕ, ℤ, ◌&&◌, Bool, true, false, cond, List, Option, Some, None, slice_get, refl, sym, ap, ◌∙◌, inl, inr, ◌⊎◌}
-use Rattle.std.proofs.lemmas.Bool.{eq-eqb, eqb-true, false≢true}
+use Rattle.std.proofs.lemmas.Bool.{false≢true}
 use Rattle.isle_base.specs.declared.syntax.Error.{Error}
 use Rattle.isle_model.specs.lists.Syntax.{Position, Name, bool_expr, int_expr, prim_expr}
 use Rattle.isle_model.specs.lists.Names.{number, with_name}
@@ -28,10 +28,6 @@ use Rattle.isle_rules.proofs.PatternUsing.{checks_both}
 pub checks_same : (a b : List Error) (P Q : Type 0) → (P → Q) → (Q → P) → Checks a b P → Checks a b Q
 checks_same a b P Q to from (inl x) = inl (x.0, to x.1)
 checks_same a b P Q to from (inr x) = inr (x.0, λ q. x.1 (from q))
-
--- a type that is expected
-pub wanted : (a b : List Error) (want has : ℕ) → Checks a b (want ≡ has) → Checks a b (is_expected (Some want) has ≡ true)
-wanted a b want has c = checks_same a b (want ≡ has) (is_expected (Some want) has ≡ true) (λ same. eq-eqb has want (sym same)) (λ t. sym (eqb-true has want t)) c
 
 pub is_false : (b : Bool) → (b ≡ true → ⊥) → b ≡ false
 is_false true h = absurd (h refl)

@@ -1,7 +1,7 @@
 -- The scopes of lets.
-use Rattle.std.proofs.Common.{◌≡◌, ℕ, ◌+◌, ◌-◌, ◌<◌, ◌≤◌, take, get_or, cond, nat_eq, List, [], ◌∷◌, ◌++◌, length, Option, Some, option_map, refl, sym, ap, ◌∙◌, inl, inr, arith}
+use Rattle.std.proofs.Common.{◌≡◌, ℕ, ◌+◌, ◌-◌, ◌<◌, take, get_or, cond, nat_eq, List, [], ◌∷◌, ◌++◌, length, Option, Some, option_map, refl, sym, ap, ◌∙◌, inl, inr, arith}
 use Rattle.std.proofs.lemmas.Bool.{cases_Bool, eqb-true}
-use Rattle.std.proofs.lemmas.List.{take_more, take_all}
+use Rattle.std.proofs.lemmas.List.{take_more}
 use Rattle.isle_model.specs.lists.Syntax.{ExprTree, ExprTrees}
 use Rattle.isle_model.specs.lists.Tables.{Flags}
 use Rattle.isle_model.specs.rules.Typed.{TypedVar, TypedExpr, TypedExprs}
@@ -12,7 +12,7 @@ use Rattle.isle_types.specs.declared.ids.Sym.{Sym}
 use Rattle.isle_typed.specs.declared.rules.BoundVar.{BoundVar}
 use Rattle.isle_rules.specs.declared.term_env.TermEnv.{TermEnv}
 use Rattle.isle_rules.specs.ExprReadings.{all_made, expr_reading}
-use Rattle.isle_rules.specs.Lets.{before_all, Closes}
+use Rattle.isle_rules.specs.Lets.{before_all}
 use Rattle.isle_rules.specs.declared.typing.progress.Progress.{Progress}
 use Rattle.isle_rules.specs.Progress.{newest, vars_of, PutsBack}
 use Rattle.isle_typed.specs.RuleViews.{var_view}
@@ -64,9 +64,6 @@ pub record Closing (hidden : List (Sym × Option BoundVar)) (i : ℕ) (old new :
   pub expansions : new.expansions ≡ old.expansions
   pub errors : new.errors.items ≡ old.errors.items
 
-pub none_closed : (hidden : List (Sym × Option BoundVar)) (old : Progress) → Closing hidden 0 old old
-none_closed hidden old = record { vars = refl; names = λ k. let z : length hidden ≤ length hidden - 0 = omega arith in ap (λ hs. before_all hs k (newest old k)) (take_all (length hidden - 0) hidden z); expansions = refl; errors = refl }
-
 pub one_closed : (hidden : List (Sym × Option BoundVar)) (i : ℕ) (old mid new : Progress) (g h : Sym × Option BoundVar) → i < length hidden
     → g ≡ get_or hidden (length hidden - 1 - i) h → PutsBack g.0.0 (option_map var_view g.1) mid new → Closing hidden i old mid → Closing hidden (i + 1) old new
 one_closed hidden i old mid new g h lt is put c =
@@ -85,14 +82,4 @@ one_closed hidden i old mid new g h lt is put c =
           ∙ c.names k;
       expansions = put.expansions ∙ c.expansions;
       errors = put.errors ∙ c.errors;
-    }
-
-pub all_closed : (hidden : List (Sym × Option BoundVar)) (i : ℕ) (old new : Progress) → length hidden ≤ i → Closing hidden i old new → Closes hidden old new
-all_closed hidden i old new end c =
-    let none : length hidden - i ≡ 0 = omega (arith, end) in
-    record {
-      vars = c.vars;
-      names = λ k. sym (ap (λ (n : ℕ). before_all (take n hidden) k (newest new k)) none) ∙ c.names k;
-      expansions = c.expansions;
-      errors = c.errors;
     }

@@ -67,21 +67,6 @@ module _ (e : Setting) where
       ∙ ap (with_typed b.0.made) (within_push (suc id) at rs r b.0.scope.names m.0 m.1 (omega (arith, is)) a (ap (λ ns. rule_within e at r ns) same ∙ g))
       ∙ ap (λ (x : TypedRules). Some (record { rules = x.rules ++ a.made ∷ []; names = a.scope.names })) (sym m.2)
 
-  -- where one can't be typed not all are
-  pub within_none : (id at : ℕ) (rs : List RuleTree) (r : RuleTree) (after : List RuleTree) (names : List (List ℕ)) (l : TypedRules) → rules_within e id rs names ≡ Some l → at ≡ id + length rs → rule_within e at r l.names ≡ None
-      → rules_within e id (rs ++ r ∷ after) names ≡ None
-  within_none id at [] r after names l h is g =
-      let here : at ≡ id = omega (arith, is) in
-      let none : record { rules = []; names = names } ≡ l = same_Some _ _ h in
-      ap (λ (o : Option (Typing TypedRule)). then_option o (λ b. with_typed b.made (rules_within e (suc id) after b.scope.names)))
-      (ap (λ (x : TypedRules). rule_within e id r x.names) none ∙ ap (λ k. rule_within e k r l.names) (sym here) ∙ g)
-  within_none id at (q ∷ rs) r after names l h is g =
-      let b = then_gives (rule_within e id q names) (λ b. with_typed b.made (rules_within e (suc id) rs b.scope.names)) h in
-      let m = with_some b.0.made (rules_within e (suc id) rs b.0.scope.names) l b.2 in
-      let same : m.0.names ≡ l.names = sym (ap (λ (x : TypedRules). x.names) m.2) in
-      ap (λ (o : Option (Typing TypedRule)). then_option o (λ b. with_typed b.made (rules_within e (suc id) (rs ++ r ∷ after) b.scope.names))) b.1
-      ∙ ap (with_typed b.0.made) (within_none (suc id) at rs r after b.0.scope.names m.0 m.1 (omega (arith, is)) (ap (λ ns. rule_within e at r ns) same ∙ g))
-
 -- 2. definitions in order
 -- the rules before a definition, that which it is, and those after it
 pub rules_parted : (defs : List Def) (i : ℕ) (d : Def) → i < length defs → d ≡ get_or defs i d

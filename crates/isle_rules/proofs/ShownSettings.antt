@@ -1,5 +1,5 @@
 -- The tables that the terms of a list were read into are those that its rules are typed by.
-use Rattle.std.proofs.Common.{◌≡◌, ◌==◌, ℕ, ◌+◌, ◌<◌, Bool, true, false, cond, List, [], ◌∷◌, ◌++◌, length, map, All, IsTrue, Contains, Option, Some, None, slice_get, refl, sym, ap, subst, ◌∙◌, inl, inr, eqb-true}
+use Rattle.std.proofs.Common.{◌≡◌, ◌==◌, ℕ, ◌+◌, ◌<◌, true, false, cond, List, [], ◌∷◌, ◌++◌, length, map, All, IsTrue, Contains, Option, Some, None, slice_get, refl, sym, ap, subst, ◌∙◌, inl, inr, eqb-true}
 use Rattle.std.specs.List.{cons_option, enumerate_from, filter_map, flat_map, position_from}
 use Rattle.std.proofs.lemmas.Bool.{cases_Bool, cond-false}
 use Rattle.std.proofs.lemmas.List.Elements.{All-nil, All-cons, All-head, All-tail, All-append, All-contains, All-weaker}
@@ -14,8 +14,8 @@ use Rattle.isle_model.specs.rules.Meaning.{look}
 use Rattle.isle_model.specs.rules.Outcome.{then_option}
 use Rattle.isle_model.specs.claims.Environments.{TypesRead, IsReadAs, AreReadable, setting_of, numbered, terms_by_name, environment_of, with_read_names, AreTermsOf}
 use Rattle.isle_model.proofs.Mapped.{get_mapped}
-use Rattle.isle_model.proofs.Members.{get_within, in_head, in_tail, in_map, get_from_member, member_from_get, all_members}
-use Rattle.isle_model.proofs.Names.{distinct_names, found, has_at, at_number, has_left, has_kept, has_met, get_kept, number_below}
+use Rattle.isle_model.proofs.Members.{get_within, in_head, in_tail, get_from_member, member_from_get, all_members}
+use Rattle.isle_model.proofs.Names.{found, has_at, at_number, has_left, has_kept, has_met, get_kept, number_below}
 use Rattle.isle_laws_typing.proofs.TermLaws.{terms_have_names_lem, terms_stand_at_ids_lem}
 use Rattle.isle_laws_typing.proofs.TypesStay.{types_are_shown_lem, types_stay_lem}
 use Rattle.isle_types.specs.declared.type_env.TypeEnv.{TypeEnv}
@@ -25,8 +25,6 @@ use Rattle.isle_terms.proofs.TypesStaying.{with_names_more}
 use Rattle.isle_rules.specs.declared.term_env.TermEnv.{TermEnv}
 use Rattle.isle_rules.specs.ShownEnvs.{terms_shown_by}
 use Rattle.isle_rules.specs.Translating.{IsSettingOf, IsWholeTemplate}
-use Rattle.isle_rules.specs.Constructors.{AreTermsNamed}
-use Rattle.isle_rules.proofs.NamedTerms.{found_at}
 use Rattle.isle_rules.proofs.TemplateUses.{templates_are_whole}
 
 -- 1. look-ups
@@ -114,14 +112,6 @@ module _ (e : TypesRead) (r : AreReadable e) (defs : List Definition) where
       let there = All-contains (λ z. has_name numbers_met z ≡ true) (term_names e.known defs) y.0 (terms_met e.known defs) (member_from_get (term_names e.known defs) l y.0 y.1) in
       let same : y.0 ≡ x.0 = at_number numbers_met x.0 y.0 (ap (slice_get numbers_met) (x.2 ∙ sym y.2) ∙ found numbers_met y.0 there) in
       valid.distinct j l x.0 x.1 (y.1 ∙ ap Some same))
-
-  -- so each is found by its own
-  pub table_named : (expand : Bool) → IsValidTerms e.known defs → AreTermsNamed (setting_of e defs expand) numbers_met
-  table_named expand valid = record {
-    met = λ k t h. All-contains (λ n. n < length numbers_met) (map (λ t. t.name) (term_table e.known defs)) t.name term_numbers (in_map (λ t. t.name) (term_table e.known defs) t (member_from_get (term_table e.known defs) k t h));
-    found = λ k t h. found_at (term_table e.known defs) k t (terms_once valid) h;
-    once = distinct_names e.known.names (decl_names defs ++ flat_map function_of defs) r.well_formed.names_distinct;
-  }
 
 -- 4. the tables
 module _ (e : TypesRead) (r : AreReadable e) (defs : List Definition) (env : TermEnv) (tyenv : TypeEnv) (a : AreTermsOf e defs (terms_shown_by env) (environment_view tyenv)) where

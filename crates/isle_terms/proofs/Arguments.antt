@@ -39,6 +39,3 @@ module _ (env : TypeEnv) (names : List Ident) (k : ℕ) (n : Ident) (within : k 
   unknown_type none v =
       let one : IsKnownInEnv env (name_view n) = All-head (IsKnownInEnv env) (name_view n) (map name_view (drop (k + 1) names)) (subst (λ l. All (IsKnownInEnv env) (map name_view l)) left (s.known v)) in
       false≢true (subst (λ o. is_some o ≡ true) (sym none) one)
-
-pub first_type : (env : TypeEnv) (names : List Ident) (tys : List TypeId) → tys ≡ [] → IsLookedUp env names names tys
-first_type env names tys none = record { types = ap (λ ts. found_types ts ++ named_types env names) none; known = λ v. v }

@@ -90,9 +90,6 @@ module _ (e : TypesRead) (r : AreReadable e) (env : TypeEnv) (left : IsLeftByRef
   abbrev k : KnownTypes
   k = e.known
 
-  is_known : (n : Name) → IsKnownInEnv env n → IsKnownType k.type_names n
-  is_known n h = subst (λ o. IsTrue (is_some o)) (type_is e r env left n.text) h
-
   was_known : (n : Name) → IsKnownType k.type_names n → IsKnownInEnv env n
   was_known n h = subst (λ o. IsTrue (is_some o)) (sym (type_is e r env left n.text)) h
 

@@ -38,10 +38,6 @@ module _ {T K : Type 0} (term_of : T → List ℕ) (before : List ℕ → Bool) 
       sym (ap (λ c. cond c (other (term_of t)) (option_map kind (first_of (ts ++ t ∷ []) (term_of t)))) b ∙ ap (option_map kind) (first_new ts t (term_of t) none (same_self (term_of t)))) in
       subst (λ y. Some (kind t) ≡ known_by (ts ++ t ∷ []) y) (sym same) here
 
-  none_mapped : (o : Option T) → option_map kind o ≡ None → o ≡ None
-  none_mapped None h = refl
-  none_mapped (Some t) h = absurd (cc)
-
   -- nothing decided so far
   pub not_known : (ts : List T) (x : List ℕ) → (before x ≡ true → is_some (other x) ≡ true) → not (is_some (known_by ts x)) ≡ true → (before x ≡ false) × (first_of ts x ≡ None)
   not_known ts x some h =

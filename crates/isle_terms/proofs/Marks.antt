@@ -34,11 +34,6 @@ written (z ∷ zs) (suc t) (suc u) x y h =
       | inr p ↦ inr (λ s. p.0 (omega (arith, s)), p.1)
     ]
 
-set_at : {X : Type 0} (xs : List X) (t : ℕ) (x : X) → t < length xs → slice_get (set xs t x) t ≡ Some x
-set_at [] t x h = absurd (omega (arith, h))
-set_at (y ∷ ys) zero x h = refl
-set_at (y ∷ ys) (suc t) x h = set_at ys t x (omega (arith, h))
-
 get_at : {X : Type 0} (xs : List X) (t : ℕ) (x : X) → t < length xs → x ≡ get_or xs t x → slice_get xs t ≡ Some x
 get_at xs t x within here = slice_get-get_or xs t x within ∙ ap Some (sym here)
 

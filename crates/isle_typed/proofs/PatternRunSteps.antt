@@ -1,8 +1,8 @@
 -- A pattern's run: what is bound after it, and how it is made of the runs of its parts.
-use Rattle.std.proofs.Common.{◌≡◌, true≢false, ℕ, suc, ◌+◌, ◌<◌, ◌≤◌, IsTrue, length, get_or, drop, inl, inr, ⊎_elim, List, [], ◌∷◌, Result, Ok, Err, is_ok, refl, sym, ap, ◌∙◌, subst}
+use Rattle.std.proofs.Common.{◌≡◌, true≢false, ℕ, suc, ◌+◌, ◌<◌, IsTrue, length, get_or, drop, inl, inr, ⊎_elim, List, [], ◌∷◌, Result, Ok, Err, is_ok, refl, sym, ap, ◌∙◌, subst}
 use Rattle.std.specs.Result.{IsErr, IsErrAnd}
 use Rattle.std.proofs.lemmas.Bool.{and_parts}
-use Rattle.std.proofs.lemmas.List.{drop_more, drop_all, length-map}
+use Rattle.std.proofs.lemmas.List.{drop_more, length-map}
 use Rattle.isle_types.specs.declared.ids.TypeId.{TypeId}
 use Rattle.isle_model.specs.lists.Tables.{TermEntry}
 use Rattle.isle_model.specs.rules.Typed.{TypedPattern, match_bind, match_var, match_bool, match_int, match_prim, match_term, match_any, match_and, TypedPatterns, no_typed_pattern, typed_pattern_and}
@@ -71,9 +71,6 @@ module _ {S P : Type 0} (v : PatternSteps VisitFault S P) (terms : List TermEntr
       i < length ps → i < length ids → PatternRun no_memory v terms (pattern_view (get_or ps i d)) (get_or ids i y) s (Err e) t →
       PartsRun no_memory v terms (pattern_parts (pattern_views (drop i ps))) (drop i ids) s (Err e) t
   parts_stop ps ids i d y s e t lt lt' first = rw (drop_more ps i d lt, drop_more ids i y lt') (inr (e, first, refl))
-
-  pub parts_end : (ps : List Pattern) (ids : List P) (i : ℕ) (s : S × BoundIds P) → length ps ≤ i → length ids ≤ i → PartsRun no_memory v terms (pattern_parts (pattern_views (drop i ps))) (drop i ids) s (Ok tt) s
-  parts_end ps ids i s h h' = rw (drop_all i ps h, drop_all i ids h') (refl, refl)
 
   pub each_step : (ps : List Pattern) (i : ℕ) (d : Pattern) (x : P) (s u : S × BoundIds P) (r : Result (Unit {0}) VisitFault) (t : S × BoundIds P) →
       i < length ps → PatternRun no_memory v terms (pattern_view (get_or ps i d)) x s (Ok tt) u → EachRun no_memory v terms (pattern_parts (pattern_views (drop (i + 1) ps))) x u r t →

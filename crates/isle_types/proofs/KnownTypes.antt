@@ -7,7 +7,7 @@ use Rattle.std.proofs.lemmas.List.{append_assoc, append-nil, map-append, map_pus
 use Rattle.std.proofs.lemmas.List.Elements.{All-weaker}
 use Rattle.isle_model.specs.lists.Syntax.{Name, FieldTrees, TypeTree, Definition, type_definition}
 use Rattle.isle_model.specs.lists.Names.{number, has_name}
-use Rattle.isle_model.specs.lists.TypeTable.{builtin_names, type_of, type_trees, type_names, all_type_names, field_lists_of, field_type_names, place_from, ConstantTree, IsKnownType, IsOfKnownType}
+use Rattle.isle_model.specs.lists.TypeTable.{builtin_names, type_of, type_trees, type_names, all_type_names, field_lists_of, field_type_names, place_from, IsKnownType}
 use Rattle.isle_model.proofs.Bytes.{same_bytes}
 use Rattle.isle_model.proofs.Members.{in_head, in_map, in_flat_map, get_from_member}
 use Rattle.isle_model.proofs.Names.{has_append, has_at, has_right}
@@ -90,9 +90,6 @@ module _ (kept defs : List Definition) (same : (x : List ℕ) → has_name (all_
     variants = r.variants;
     fields = All-weaker (AreRightFields kept) (AreRightFields defs) fields_same (field_lists_of t.value) r.fields;
   }
-
-  pub constant_same : (c : ConstantTree) → IsOfKnownType kept c → IsOfKnownType defs c
-  constant_same c h = known_same c.ty h
 
 -- the name of a definition's type is known, and was met
 pub type_named : (defs : List Definition) (t : TypeTree) → Contains defs (type_definition t) → has_name (all_type_names defs) t.name.text ≡ true

@@ -5,14 +5,10 @@ use Rattle.std.proofs.lemmas.Grind.{flat_map-append}
 use Rattle.std.proofs.lemmas.List.Elements.{Contains-append_left, Contains-append_right, Contains-append_cases}
 use Rattle.isle_model.specs.lists.Syntax.{Position, VariantTree, TypeTree, TypeValueTree, primitive_value, enum_value, struct_value, Definition, type_definition, declaration, extractor_definition, converter_definition, rule_definition, extern_definition, other_definition}
 use Rattle.isle_model.specs.lists.TypeTable.{builtin_names, type_trees, type_names_met, builtin_from, variant_entry, entry_at, type_entry, type_table}
-use Rattle.isle_model.specs.claims.Environments.{TypeEnvironment, AreTypesOf}
 use Rattle.isle_model.proofs.Members.{in_head, in_tail}
 use Rattle.isle_base.specs.Positions.{OccurAmong, fields_positions, variant_positions, value_positions, type_positions, definition_positions, positions_of}
 use Rattle.isle_base.proofs.Positioned.{among_same, among_first, among_both, among_right}
-use Rattle.isle_types.specs.declared.type_env.TypeEnv.{TypeEnv}
 use Rattle.isle_types.specs.TypePositions.{entry_positions, types_positions}
-use Rattle.isle_types.specs.TypeTables.{SeesTypes}
-use Rattle.isle_types.specs.TypeViews.{type_views}
 use Rattle.isle_types.proofs.PlacesNoted.{among_more}
 
 -- two lists, each among its own
@@ -64,10 +60,3 @@ table_among defs =
     let entries = map (λ p. type_entry defs (type_names_met defs) p.0 p.1) (enumerate_from 13 (type_trees defs)) in
     let same : types_positions (type_table defs) ≡ types_positions entries = flat_map-append entry_positions (builtin_from 0 builtin_names) entries ∙ ap (λ ps. ps ++ types_positions entries) (none_stands 0 builtin_names) in
     subst (λ ps. OccurAmong ps (positions_of defs)) (sym same) (among_both (types_positions entries) (flat_map type_positions (type_trees defs)) (positions_of defs) (entries_among defs (type_names_met defs) 13 (type_trees defs)) (trees_among defs))
-
--- and of each environment that shows that table
-pub shown_among : (defs : List Definition) (env : TypeEnvironment) → AreTypesOf defs env → OccurAmong (types_positions env.types) (positions_of defs)
-shown_among defs env s = subst (λ ts. OccurAmong (types_positions ts) (positions_of defs)) (sym s.shown.types) (table_among defs)
-
-pub seen_among : (env : TypeEnv) (defs : List Definition) (texts : List (List ℕ)) → SeesTypes env defs texts → OccurAmong (types_positions (type_views env.types.items)) (positions_of defs)
-seen_among env defs texts s = subst (λ ts. OccurAmong (types_positions ts) (positions_of defs)) (sym s.types) (table_among defs)
