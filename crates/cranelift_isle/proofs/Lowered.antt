@@ -22,7 +22,7 @@ use Rattle.isle_laws_trees.specs.NoLimits.{PassedInLowering, in_building}
 use Rattle.isle_laws_trees.specs.OneTree.{IsOnlyBest, LoweredTreesAreOnlyBest}
 use Rattle.isle_laws_trees.specs.OneAnswer.{AreCheckErrors}
 use Rattle.isle_laws_trees.specs.WholeDemands.{AcceptedDemandsAreWhole, AcceptedSetsAreWhole}
-use Rattle.isle_laws_trees.proofs.NoReadLimits.{elaborated_rules_are_within_limits_lem}
+use Rattle.isle_laws_typing.proofs.NoReadLimits.{elaborated_rules_are_within_limits_lem}
 use Rattle.isle_laws_closure.specs.ShadowLaws.{check_errors}
 use Rattle.isle_types.specs.declared.ids.TermId.{TermId}
 use Rattle.isle_base.specs.ErrorViews.{error_views}

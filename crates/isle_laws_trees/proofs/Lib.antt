@@ -16,7 +16,6 @@ pub mod SingleTests
 pub mod NoLimits
 pub mod NoLimitsLowered
 pub mod NoLoops
-pub mod NoReadLimits
 pub mod OneAnswer
 pub mod OneTree
 pub mod OnlyTrees

@@ -6,7 +6,7 @@ use Rattle.isle_model.specs.claims.Environments.{types_read}
 use Rattle.isle_model.specs.claims.Layers.{own_program, IsCheckable}
 use Rattle.isle_laws_trees.specs.NoLimits.{in_reading, in_building, AcceptedPassNoLimit}
 use Rattle.isle_laws_trees.proofs.NoLimits.{checkable_programs_pass_no_limit_lem}
-use Rattle.isle_laws_trees.proofs.NoReadLimits.{elaborated_lists_pass_no_limit_lem}
+use Rattle.isle_laws_typing.proofs.NoReadLimits.{elaborated_lists_pass_no_limit_lem}
 
 pub accepted_pass_no_limit_lem : AcceptedPassNoLimit
 accepted_pass_no_limit_lem defs expand rules accepted _ _ (in_reading l at valid passed) =

@@ -12,7 +12,7 @@ ghost use Rattle.isle_model.specs.claims.Layers.{BestTreesKeepTheHeadline};
 ghost use Rattle.isle_laws_trees.specs.TreeMeanings.{BestTreesMeanTheirSets};
 ghost use Rattle.isle_laws_trees.specs.OneTree.{BestTreesAreOne, BuiltSetsHaveOneBestTree, LoweredTreesAreOnlyBest};
 ghost use Rattle.isle_laws_trees.specs.OneAnswer.{BestTreesAreOfWhatIsShown, BuiltSetsShowSame, ReadingGivesOne, SerializingGivesOne, BuildingGivesOne, LoweringGivesOne, NoneIsAcceptedAndRefused, RefusingGivesOne};
-ghost use Rattle.isle_laws_trees.specs.NoLimits.{CheckableProgramsPassNoLimit, ElaboratedRulesAreWithinLimits, ElaboratedListsPassNoLimit, AcceptedPassNoLimit};
+ghost use Rattle.isle_laws_trees.specs.NoLimits.{CheckableProgramsPassNoLimit, AcceptedPassNoLimit};
 ghost use Rattle.isle_laws_trees.specs.WholeDemands.{AcceptedDemandsAreWhole, AcceptedSetsAreWhole};
 ghost use Rattle.isle_laws_trees.specs.NoLoops.{TreesWithoutCallsHaveNoLoop};
 
@@ -164,16 +164,6 @@ pub fn lowered_trees_are_only_best()
 /// No rule of a program whose rules can be told apart passes a limit on what rules make.
 pub fn checkable_programs_pass_no_limit()
     ensures { CheckableProgramsPassNoLimit }
-{}
-
-/// Each rule of a list that elaborates has a typed rule within the limits on expansions, from the names of the terms.
-pub fn elaborated_rules_are_within_limits()
-    ensures { ElaboratedRulesAreWithinLimits }
-{}
-
-/// No rule of a list that elaborates passes a limit on expansions.
-pub fn elaborated_lists_pass_no_limit()
-    ensures { ElaboratedListsPassNoLimit }
 {}
 
 /// Accepted definitions pass none of the six limits, while they are read and while they are built.

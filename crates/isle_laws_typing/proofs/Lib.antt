@@ -11,6 +11,7 @@ pub mod JudgedTerms
 pub mod JudgedTypes
 pub mod LooksByNumber
 pub mod NamesOfTables
+pub mod NoReadLimits
 pub mod OwnTypes
 pub mod Ranges
 pub mod RefusedTerms

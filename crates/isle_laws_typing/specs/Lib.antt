@@ -4,6 +4,7 @@ pub mod OwnTypes
 pub mod QuestionLaws
 pub mod RangeLaws
 pub mod ReadEnvironments
+pub mod ReadLimits
 pub mod RefusedTerms
 pub mod TableLaws
 pub mod TypingLaws

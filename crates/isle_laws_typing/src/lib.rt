@@ -14,6 +14,7 @@ ghost use Rattle.isle_laws_typing.specs.FurtherNames.{FurtherNamesDontMatter, Na
 ghost use Rattle.isle_laws_typing.specs.QuestionLaws.{VariantsHaveTerms, WellFormedEnvironmentsAreRead};
 ghost use Rattle.isle_laws_typing.specs.RangeLaws.{ReducedNumbersAreInRange, NumbersInRangeStay, ReducingTwiceIsReducing, ReducedAlikeByMultiples, ReducedNumbersDifferByMultiples, OneOfTheRangeDiffersByAMultiple};
 ghost use Rattle.isle_laws_typing.specs.ReadEnvironments.{TypesAreShown, TypesStay};
+ghost use Rattle.isle_laws_typing.specs.ReadLimits.{ElaboratedRulesAreWithinLimits, ElaboratedListsPassNoLimit};
 ghost use Rattle.isle_laws_typing.specs.RefusedTerms.{RefusedTermsRefuseRules};
 
 /// A pattern becomes by the rules of typing what the function gives, and nothing where it gives nothing.
@@ -298,4 +299,14 @@ pub fn reducing_twice_is_reducing()
 #[tactic(auto, using(crate::proofs::Ranges::reduced_alike_by_multiples_lem))]
 pub fn reduced_alike_by_multiples()
     ensures { ReducedAlikeByMultiples }
+{}
+
+/// Each rule of a list that elaborates has a typed rule within the limits on expansions, from the names of the terms.
+pub fn elaborated_rules_are_within_limits()
+    ensures { ElaboratedRulesAreWithinLimits }
+{}
+
+/// No rule of a list that elaborates passes a limit on expansions.
+pub fn elaborated_lists_pass_no_limit()
+    ensures { ElaboratedListsPassNoLimit }
 {}

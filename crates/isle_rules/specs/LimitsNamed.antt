@@ -12,7 +12,7 @@ use Rattle.isle_model.specs.lists.Elaborated.{elaborated_rule, typed_rule, typed
 use Rattle.isle_model.specs.rules.Outcome.{then_option}
 use Rattle.isle_model.specs.rules.Typed.{TypedRule}
 use Rattle.isle_model.specs.claims.Environments.{TypesRead, setting_of}
-use Rattle.isle_model.specs.claims.Refusals.{NamedLimit, of_nesting, of_expansions, Refusal, past_limit, PassedInReading}
+use Rattle.isle_model.specs.claims.Refusals.{of_nesting, of_expansions, Refusal, past_limit}
 use Rattle.isle_types.specs.declared.type_env.TypeEnv.{TypeEnv}
 use Rattle.isle_types.specs.Envs.{names_of}
 use Rattle.isle_rules.specs.declared.term_env.TermEnv.{TermEnv}
@@ -82,7 +82,3 @@ pub record NamesFirst (e : TypesRead) (defs : List Definition) (expand : Bool) (
 -- that is so of each list where only the limits are lacking
 abbrev pub NamesFirstPastLimits : TypesRead → List Definition → Bool → List Refusal → Type 0
 NamesFirstPastLimits e defs expand errors = LackOnlyLimits e defs expand → NamesFirst e defs expand errors
-
--- no rule of a list passes a limit on expansions
-abbrev pub NonePassedInReading : TypesRead → List Definition → Bool → Type 0
-NonePassedInReading e defs expand = (l : NamedLimit) (at : Position) → PassedInReading e defs expand l at → ⊥

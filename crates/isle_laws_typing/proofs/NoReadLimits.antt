@@ -16,7 +16,7 @@ use Rattle.isle_laws_typing.specs.FurtherNames.{AreThereAlike}
 use Rattle.isle_laws_typing.proofs.NamesOfTables.{names_of_rules_dont_matter_lem}
 use Rattle.isle_laws_typing.proofs.TypedResults as results
 use Rattle.isle_laws_typing.proofs.TypedRules as typed
-use Rattle.isle_laws_trees.specs.NoLimits.{ElaboratedRulesAreWithinLimits, ElaboratedListsPassNoLimit}
+use Rattle.isle_laws_typing.specs.ReadLimits.{ElaboratedRulesAreWithinLimits, ElaboratedListsPassNoLimit}
 
 -- a rule has a derivation within the limits, from these names and more
 pub record Derived (e : Setting) (names : List (List ℕ)) (id : ℕ) (r : RuleTree) : Type 0 where
