@@ -4,7 +4,7 @@ use Rattle.std.specs.List.{flat_map}
 use Rattle.std.specs.declared.alloc.Global.{Global}
 use Rattle.std.proofs.lemmas.List.Elements.{All-weaker, All-contains_itself, Contains-append_left, Contains-append_right, Contains-append_cases}
 use Rattle.isle_model.specs.lists.Syntax.{Position}
-use Rattle.isle_model.proofs.Members.{nothing_in, in_head, in_tail, in_alone, in_flat_map, all_members}
+use Rattle.isle_model.proofs.Members.{nothing_in, in_head, in_tail, in_alone, in_cases, in_flat_map, all_members}
 use Rattle.isle_base.specs.declared.syntax.Error.{Error}
 use Rattle.isle_base.specs.declared.syntax.Error.TheVariants.{TypeError, LimitError}
 use Rattle.isle_base.specs.declared.syntax.Limit.{Limit}
@@ -36,6 +36,22 @@ among_one q ps within p c = subst (Contains ps) (in_alone q p c) within
 
 pub among_first : (q : Position) (ps : List Position) → OccurAmong (q ∷ []) (q ∷ ps)
 among_first q ps = among_one q (q ∷ ps) (in_head q ps)
+
+-- positions among others
+pub among_none : (rs : List Position) → OccurAmong [] rs
+among_none rs p c = absurd (nothing_in p c)
+
+pub among_join : (ps qs rs : List Position) → OccurAmong ps rs → OccurAmong qs rs → OccurAmong (ps ++ qs) rs
+among_join ps qs rs a b p c = elim (Contains-append_cases ps qs p c) [ inl d ↦ a p d | inr d ↦ b p d ]
+
+pub among_next : (q : Position) (ps rs : List Position) → Contains rs q → OccurAmong ps rs → OccurAmong (q ∷ ps) rs
+among_next q ps rs here a p c = elim (in_cases q p ps c) [ inl e ↦ subst (Contains rs) e here | inr d ↦ a p d ]
+
+pub among_under : (q : Position) (ps rs : List Position) → OccurAmong ps rs → OccurAmong (q ∷ ps) (q ∷ rs)
+among_under q ps rs a = among_next q ps (q ∷ rs) (in_head q rs) (among_both ps rs (q ∷ rs) a (among_rest q rs))
+
+pub among_sides : (ps qs ps' qs' : List Position) → OccurAmong ps ps' → OccurAmong qs qs' → OccurAmong (ps ++ qs) (ps' ++ qs')
+among_sides ps qs ps' qs' a b = among_join ps qs (ps' ++ qs') (among_both ps ps' (ps' ++ qs') a (among_left ps' qs')) (among_both qs qs' (ps' ++ qs') b (among_right ps' qs'))
 
 pub among_each : {X : Type 0} (f : X → List Position) (xs : List X) (x : X) → Contains xs x → OccurAmong (f x) (flat_map f xs)
 among_each f xs x c p h = in_flat_map f xs x p c h
@@ -86,6 +102,10 @@ notes_among ps qs old new a n = record {
     | inr stands ↦ inr (stand_among ps qs e a stands)
   ];
 }
+
+-- errors at some positions, and at others
+pub notes_parts : (ps qs rs : List Position) (old mid new : List Error) → OccurAmong ps rs → OccurAmong qs rs → NotesAt ps old mid → NotesAt qs mid new → NotesAt rs old new
+notes_parts ps qs rs old mid new a b first second = notes_both rs old mid new (notes_among ps rs old mid a first) (notes_among qs rs mid new b second)
 
 -- all errors stand there where there were none before
 pub all_stand : (ps : List Position) (es : List Error) → NotesAt ps [] es → All (ErrorStandsAt ps) es

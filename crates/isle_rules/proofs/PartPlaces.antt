@@ -12,20 +12,15 @@ use Rattle.isle_model.specs.lists.Elaborated.{root_parts, named_rule, named_rule
 use Rattle.isle_model.proofs.Members.{in_head, in_map}
 use Rattle.isle_base.specs.Expressions.{terms_of_expr, terms_of_exprs, terms_of_lets}
 use Rattle.isle_base.specs.Positions.{OccurAmong, pattern_positions, patterns_positions, expr_positions, exprs_positions, lets_positions, iflet_positions, rule_name_positions, rule_positions}
-use Rattle.isle_base.proofs.Positioned.{among_both, among_left, among_right, among_rest, among_first, among_one, among_each}
+use Rattle.isle_base.proofs.Positioned.{among_both, among_left, among_right, among_rest, among_first, among_one, among_each, among_none, among_join, among_next, among_under}
 use Rattle.isle_typed.specs.declared.rules.Rule.{Rule}
 use Rattle.isle_typed.specs.RuleViews.{rule_views}
 use Rattle.isle_reports.specs.RuleNaming.{rules_at, terms_at}
 use Rattle.isle_terms.specs.TermPositions.{kind_positions, entry_positions, terms_positions}
 use Rattle.isle_rules.specs.Lets.{with_let}
-use Rattle.isle_rules.proofs.Placed.{among_joined}
-use Rattle.isle_rules.proofs.SubstitutedPlaces.{among_one_more, among_nothing}
 
 among_past : (x y : Position) (ps : List Position) → OccurAmong ps (x ∷ y ∷ ps)
 among_past x y ps = among_both ps (y ∷ ps) (x ∷ y ∷ ps) (among_rest y ps) (among_rest x (y ∷ ps))
-
-pub among_both_first : (x : Position) (ps qs : List Position) → OccurAmong ps qs → OccurAmong (x ∷ ps) (x ∷ qs)
-among_both_first x ps qs a = among_one_more x ps (x ∷ qs) (in_head x qs) (among_both ps qs (x ∷ qs) a (among_rest x qs))
 
 -- patterns
 pub bind_inside : (name : Name) (of : PatternTree) (at : Position) → OccurAmong (pattern_positions of) (pattern_positions (bind_pattern name of at))
@@ -48,14 +43,14 @@ part_inside (q ∷ ps) (suc i) p lt is =
 -- the arguments of a rule's root
 pub root_inside : (p : PatternTree) → OccurAmong (patterns_positions (root_parts p)) (pattern_positions p)
 root_inside (term_pattern name args at) = term_inside name args at
-root_inside (var_pattern name at) = among_nothing (pattern_positions (var_pattern name at))
-root_inside (bind_pattern name of at) = among_nothing (pattern_positions (bind_pattern name of at))
-root_inside (bool_pattern b at) = among_nothing (pattern_positions (bool_pattern b at))
-root_inside (int_pattern z at) = among_nothing (pattern_positions (int_pattern z at))
-root_inside (prim_pattern name at) = among_nothing (pattern_positions (prim_pattern name at))
-root_inside (wildcard_pattern at) = among_nothing (pattern_positions (wildcard_pattern at))
-root_inside (and_pattern parts at) = among_nothing (pattern_positions (and_pattern parts at))
-root_inside (macro_arg i at) = among_nothing (pattern_positions (macro_arg i at))
+root_inside (var_pattern name at) = among_none (pattern_positions (var_pattern name at))
+root_inside (bind_pattern name of at) = among_none (pattern_positions (bind_pattern name of at))
+root_inside (bool_pattern b at) = among_none (pattern_positions (bool_pattern b at))
+root_inside (int_pattern z at) = among_none (pattern_positions (int_pattern z at))
+root_inside (prim_pattern name at) = among_none (pattern_positions (prim_pattern name at))
+root_inside (wildcard_pattern at) = among_none (pattern_positions (wildcard_pattern at))
+root_inside (and_pattern parts at) = among_none (pattern_positions (and_pattern parts at))
+root_inside (macro_arg i at) = among_none (pattern_positions (macro_arg i at))
 
 -- expressions
 pub call_inside : (name : Name) (args : ExprTrees) (at : Position) → OccurAmong (exprs_positions args) (expr_positions (term_expr name args at))
@@ -80,7 +75,7 @@ abbrev own_positions : LetDef → List Position
 own_positions d = S.position d.pos ∷ (S.name_view d.var).at ∷ (S.name_view d.ty).at ∷ expr_positions (S.expr_view d.val.value)
 
 own_first : (d : LetDef) (rest : List Position) → OccurAmong (lets_positions (with_let d no_let)) (own_positions d ++ rest)
-own_first d rest = among_joined (own_positions d) [] (own_positions d ++ rest) (among_left (own_positions d) rest) (among_nothing (own_positions d ++ rest))
+own_first d rest = among_join (own_positions d) [] (own_positions d ++ rest) (among_left (own_positions d) rest) (among_none (own_positions d ++ rest))
 
 pub def_inside : (ds : List LetDef) (i : ℕ) (d : LetDef) → i < length ds → d ≡ get_or ds i d → OccurAmong (lets_positions (with_let d no_let)) (lets_positions (S.let_views ds))
 def_inside [] i d lt is = absurd (omega arith)
@@ -129,7 +124,7 @@ module _ (r : RuleTree) where
 
   pub rule_root : (args : PatternTrees) → root_parts r.pattern ≡ args → OccurAmong (r.at ∷ patterns_positions args) (rule_positions r)
   rule_root args is =
-      among_one_more r.at (patterns_positions args) (rule_positions r) (in_head r.at inside)
+      among_next r.at (patterns_positions args) (rule_positions r) (in_head r.at inside)
       (behind (patterns_positions args)
       (among_both (patterns_positions args) (pattern_positions r.pattern) inside (subst (λ ps. OccurAmong (patterns_positions ps) (pattern_positions r.pattern)) is (root_inside r.pattern))
       (among_both (pattern_positions r.pattern) before inside (among_right (rule_name_positions r.name) (pattern_positions r.pattern)) (among_both before (before ++ iflets) inside (among_left before iflets) (among_left (before ++ iflets) (expr_positions r.expr))))))
@@ -144,33 +139,33 @@ module _ (r : RuleTree) where
 two_placed : (xs ys : List (Position × Name)) (all : List Position) → OccurAmong (map (λ u. u.0) xs) all → OccurAmong (map (λ u. u.0) ys) all → OccurAmong (map (λ u. u.0) (xs ++ ys)) all
 two_placed [] ys all a b = b
 two_placed (x ∷ xs) ys all a b =
-    among_one_more x.0 (map (λ u. u.0) (xs ++ ys)) all (a x.0 (in_head x.0 (map (λ u. u.0) xs)))
+    among_next x.0 (map (λ u. u.0) (xs ++ ys)) all (a x.0 (in_head x.0 (map (λ u. u.0) xs)))
     (two_placed xs ys all (among_both (map (λ u. u.0) xs) (x.0 ∷ map (λ u. u.0) xs) all (among_rest x.0 (map (λ u. u.0) xs)) a) b)
 
 mutual
   uses_placed : (x : ExprTree) → OccurAmong (map (λ u. u.0) (terms_of_expr x)) (expr_positions x)
   uses_placed (term_expr name args at) =
-      among_one_more at (map (λ u. u.0) (terms_of_exprs args)) (expr_positions (term_expr name args at)) (in_head at (name.at ∷ exprs_positions args))
+      among_next at (map (λ u. u.0) (terms_of_exprs args)) (expr_positions (term_expr name args at)) (in_head at (name.at ∷ exprs_positions args))
       (among_both (map (λ u. u.0) (terms_of_exprs args)) (exprs_positions args) (expr_positions (term_expr name args at)) (all_placed args) (call_inside name args at))
   uses_placed (let_expr defs body at) =
       two_placed (terms_of_lets defs) (terms_of_expr body) (expr_positions (let_expr defs body at))
       (among_both (map (λ u. u.0) (terms_of_lets defs)) (at ∷ lets_positions defs) (expr_positions (let_expr defs body at))
       (among_both (map (λ u. u.0) (terms_of_lets defs)) (lets_positions defs) (at ∷ lets_positions defs) (lets_placed defs) (among_rest at (lets_positions defs))) (defs_inside defs body at))
       (among_both (map (λ u. u.0) (terms_of_expr body)) (expr_positions body) (expr_positions (let_expr defs body at)) (uses_placed body) (body_inside defs body at))
-  uses_placed (var_expr name at) = among_nothing (expr_positions (var_expr name at))
-  uses_placed (bool_expr b at) = among_nothing (expr_positions (bool_expr b at))
-  uses_placed (int_expr z at) = among_nothing (expr_positions (int_expr z at))
-  uses_placed (prim_expr name at) = among_nothing (expr_positions (prim_expr name at))
+  uses_placed (var_expr name at) = among_none (expr_positions (var_expr name at))
+  uses_placed (bool_expr b at) = among_none (expr_positions (bool_expr b at))
+  uses_placed (int_expr z at) = among_none (expr_positions (int_expr z at))
+  uses_placed (prim_expr name at) = among_none (expr_positions (prim_expr name at))
 
   all_placed : (xs : ExprTrees) → OccurAmong (map (λ u. u.0) (terms_of_exprs xs)) (exprs_positions xs)
-  all_placed no_expr = among_nothing []
+  all_placed no_expr = among_none []
   all_placed (expr_and x xs) =
       two_placed (terms_of_expr x) (terms_of_exprs xs) (expr_positions x ++ exprs_positions xs)
       (among_both (map (λ u. u.0) (terms_of_expr x)) (expr_positions x) (expr_positions x ++ exprs_positions xs) (uses_placed x) (among_left (expr_positions x) (exprs_positions xs)))
       (among_both (map (λ u. u.0) (terms_of_exprs xs)) (exprs_positions xs) (expr_positions x ++ exprs_positions xs) (all_placed xs) (among_right (expr_positions x) (exprs_positions xs)))
 
   lets_placed : (ds : LetTrees) → OccurAmong (map (λ u. u.0) (terms_of_lets ds)) (lets_positions ds)
-  lets_placed no_let = among_nothing []
+  lets_placed no_let = among_none []
   lets_placed (let_and name ty value at ds) =
       let own : List Position = at ∷ name.at ∷ ty.at ∷ expr_positions value in
       two_placed (terms_of_expr value) (terms_of_lets ds) (own ++ lets_positions ds)
@@ -194,7 +189,7 @@ one_inside f xs i x lt is = let here : Contains xs x = (i, lt, sym is) in among_
 -- where typed rules stand
 pub added_rule : (rs : List Rule) (made : Rule) (r : RuleTree) → S.position made.pos ≡ r.at → OccurAmong (rules_at (rule_views (rs ++ made ∷ []))) (rules_at (rule_views rs) ++ rule_positions r)
 added_rule [] made r is = subst (λ (p : Position). OccurAmong (p ∷ []) (rule_positions r)) (sym is) (rule_at r)
-added_rule (q ∷ rs) made r is = among_both_first (S.position q.pos) (rules_at (rule_views (rs ++ made ∷ []))) (rules_at (rule_views rs) ++ rule_positions r) (added_rule rs made r is)
+added_rule (q ∷ rs) made r is = among_under (S.position q.pos) (rules_at (rule_views (rs ++ made ∷ []))) (rules_at (rule_views rs) ++ rule_positions r) (added_rule rs made r is)
 
 same_places : (terms : List TermEntry) (all rs : List TypedRule) → rules_at (map (named_rule terms all) rs) ≡ rules_at rs
 same_places terms all [] = refl
@@ -205,7 +200,7 @@ named_places terms rs = same_places terms rs rs
 
 -- where terms were declared
 pub declared_inside : (ts : List TermEntry) → OccurAmong (terms_at ts) (terms_positions ts)
-declared_inside [] = among_nothing []
+declared_inside [] = among_none []
 declared_inside (t ∷ ts) =
-    among_one_more t.at (terms_at ts) (entry_positions t ++ terms_positions ts) (in_head t.at (kind_positions t.kind ++ terms_positions ts))
+    among_next t.at (terms_at ts) (entry_positions t ++ terms_positions ts) (in_head t.at (kind_positions t.kind ++ terms_positions ts))
     (among_both (terms_at ts) (terms_positions ts) (entry_positions t ++ terms_positions ts) (declared_inside ts) (among_right (entry_positions t) (terms_positions ts)))

@@ -1,11 +1,10 @@
 -- Errors that stand at positions of what is read, or of templates: from a part to the whole, and one step after another.
-use Rattle.std.proofs.Common.{ℕ, List, [], ◌∷◌, ◌++◌, Result, Ok, Err, ap, inl, inr}
-use Rattle.std.proofs.lemmas.List.Elements.{Contains-append_cases}
+use Rattle.std.proofs.Common.{ℕ, List, [], ◌∷◌, Result, Ok, Err, ap}
 use Rattle.isle_model.specs.lists.Syntax.{Position}
 use Rattle.isle_base.specs.declared.syntax.Error.{Error}
 use Rattle.isle_base.specs.declared.syntax.Pos.{Pos}
 use Rattle.isle_base.specs.Positions.{NotesAt, OccurAmong}
-use Rattle.isle_base.proofs.Positioned.{among_both, among_left, among_right, among_first, notes_nothing, notes_both, notes_among}
+use Rattle.isle_base.proofs.Positioned.{among_both, among_left, among_right, among_first, notes_nothing, notes_both, notes_among, among_join}
 use Rattle.isle_terms.specs.TermViews.{term_views}
 use Rattle.isle_rules.specs.declared.term_env.TermEnv.{TermEnv}
 use Rattle.isle_rules.specs.declared.typing.progress.Stop.{Stop}
@@ -15,14 +14,11 @@ use Rattle.isle_rules.specs.Progress.{Counts}
 use Rattle.isle_rules.specs.RuleLists.{NotesStop}
 use Rattle.isle_rules.specs.RulePositions.{templates_positions, with_templates, KeepsPlaced, StaysPlaced}
 
-pub among_joined : (ps qs rs : List Position) → OccurAmong ps rs → OccurAmong qs rs → OccurAmong (ps ++ qs) rs
-among_joined ps qs rs a b p c = elim (Contains-append_cases ps qs p c) [ inl l ↦ a p l | inr r ↦ b p r ]
-
 -- those of a part, and of the templates, are among those of the whole and of the templates
 pub among_with : (env : TermEnv) (ps qs : List Position) → OccurAmong ps qs → OccurAmong (with_templates env ps) (with_templates env qs)
 among_with env ps qs a =
     let templates = templates_positions env.expand_internal_extractors (term_views env.terms.items) in
-    among_joined ps templates (with_templates env qs) (among_both ps qs (with_templates env qs) a (among_left qs templates)) (among_right qs templates)
+    among_join ps templates (with_templates env qs) (among_both ps qs (with_templates env qs) a (among_left qs templates)) (among_right qs templates)
 
 pub among_here : (env : TermEnv) (ps qs : List Position) → OccurAmong ps qs → OccurAmong ps (with_templates env qs)
 among_here env ps qs a = among_both ps qs (with_templates env qs) a (among_left qs (templates_positions env.expand_internal_extractors (term_views env.terms.items)))
@@ -30,7 +26,7 @@ among_here env ps qs a = among_both ps qs (with_templates env qs) a (among_left 
 -- what is among those of the whole and of the templates already
 pub among_made : (env : TermEnv) (ps qs : List Position) → OccurAmong ps (with_templates env qs) → OccurAmong (with_templates env ps) (with_templates env qs)
 among_made env ps qs a =
-    among_joined ps (templates_positions env.expand_internal_extractors (term_views env.terms.items)) (with_templates env qs) a (among_right qs (templates_positions env.expand_internal_extractors (term_views env.terms.items)))
+    among_join ps (templates_positions env.expand_internal_extractors (term_views env.terms.items)) (with_templates env qs) a (among_right qs (templates_positions env.expand_internal_extractors (term_views env.terms.items)))
 
 keeps_among : (ps qs : List Position) (a b : List Error) (stop : Stop) → OccurAmong ps qs → KeepsPlaced ps a b stop → KeepsPlaced qs a b stop
 keeps_among ps qs a b (Memory e) h n = n
@@ -58,9 +54,6 @@ module _ {X : Type 0} where
   -- one step after another, each of a part
   pub stays_step : (ps qs all : List Position) (a b c : List Error) (r : Result X Stop) → OccurAmong ps all → OccurAmong qs all → NotesAt ps a b → StaysPlaced qs b c r → StaysPlaced all a c r
   stays_step ps qs all a b c r g h m n = stays_after all a b c r (notes_among ps all a b g m) (stays_among qs all b c r h n)
-
-pub notes_step : (ps qs all : List Position) (a b c : List Error) → OccurAmong ps all → OccurAmong qs all → NotesAt ps a b → NotesAt qs b c → NotesAt all a c
-notes_step ps qs all a b c g h m n = notes_both all a b c (notes_among ps all a b g m) (notes_among qs all b c h n)
 
 -- the same where the work ended
 pub stop_among : (ps qs : List Position) (a b : List Error) (stop : Stop) → OccurAmong ps qs → KeepsPlaced ps a b stop → KeepsPlaced qs a b stop

@@ -6,7 +6,7 @@ use Rattle.isle_model.specs.lists.TermTable.{term_table}
 use Rattle.isle_model.specs.claims.Environments.{TypesRead, TypeEnvironment, AreTermsOf}
 use Rattle.isle_base.specs.declared.syntax.Error.{Error}
 use Rattle.isle_base.specs.Positions.{ErrorStandsAt, NotesAt, OccurAmong, positions_of}
-use Rattle.isle_base.proofs.Positioned.{among_left, notes_among, all_stand}
+use Rattle.isle_base.proofs.Positioned.{among_left, notes_among, all_stand, among_join}
 use Rattle.isle_terms.specs.declared.term_table.TermTable.{TermTable}
 use Rattle.isle_terms.specs.TermViews.{term_views}
 use Rattle.isle_terms.specs.Whole.{shown_by}
@@ -14,7 +14,6 @@ use Rattle.isle_rules.specs.declared.term_env.TermEnv.{TermEnv}
 use Rattle.isle_rules.specs.ShownEnvs.{terms_shown_by}
 use Rattle.isle_terms.specs.TermPositions.{terms_positions}
 use Rattle.isle_types.specs.TypePositions.{types_positions}
-use Rattle.isle_rules.proofs.Placed.{among_joined}
 use Rattle.isle_rules.proofs.TermPlaces.{terms_inside}
 
 -- at positions of the definitions and of the types, since the terms are those of the list
@@ -26,4 +25,4 @@ stand_in_the_end read defs table names terms env shows types is es noted =
     let of_terms : OccurAmong (terms_positions (term_views env.terms.items)) all =
     subst (λ ts. OccurAmong (terms_positions ts) all) (sym same) (subst (λ ts. OccurAmong (terms_positions (term_table read.known defs)) (positions_of defs ++ types_positions ts)) (sym is) (terms_inside read.known defs)) in
     all_stand all es
-    (notes_among (positions_of defs ++ terms_positions (term_views env.terms.items)) all [] es (among_joined (positions_of defs) (terms_positions (term_views env.terms.items)) all (among_left (positions_of defs) (types_positions types)) of_terms) noted)
+    (notes_among (positions_of defs ++ terms_positions (term_views env.terms.items)) all [] es (among_join (positions_of defs) (terms_positions (term_views env.terms.items)) all (among_left (positions_of defs) (types_positions types)) of_terms) noted)

@@ -1,14 +1,14 @@
 -- Where what takes the place of a use stands: at positions of the use, or of templates.
-use Rattle.std.proofs.Common.{◌≡◌, ℕ, zero, suc, Bool, true, false, cond, List, [], ◌∷◌, ◌++◌, Option, Some, None, Contains, slice_get, option_and_then, refl, sym, subst, inl, inr}
+use Rattle.std.proofs.Common.{◌≡◌, ℕ, zero, suc, Bool, true, false, cond, List, [], ◌∷◌, ◌++◌, Option, Some, None, Contains, slice_get, option_and_then, refl, sym, subst}
 use Rattle.std.proofs.lemmas.Option.{none-some, same_Some}
 use Rattle.isle_model.specs.lists.Syntax.{Position, Name, PatternTree, var_pattern, bind_pattern, bool_pattern, int_pattern, prim_pattern, term_pattern, wildcard_pattern, and_pattern, macro_arg, PatternTrees, no_pattern, pattern_and, pattern_list, ExprTree}
 use Rattle.isle_model.specs.lists.Tables.{ExtractorEntry, internal_extractor, external_extractor, TermKindEntry, variant_term, struct_term, declared_term, TermEntry}
 use Rattle.isle_model.specs.lists.Expansions.{substituted, all_substituted}
 use Rattle.isle_model.specs.lists.Setting.{entry_template, kind_template}
-use Rattle.isle_model.proofs.Members.{nothing_in, in_head, in_tail, in_cases, member_from_get}
+use Rattle.isle_model.proofs.Members.{in_head, in_tail, member_from_get}
 use Rattle.isle_model.proofs.Options.{then_some}
 use Rattle.isle_base.specs.Positions.{OccurAmong, pattern_positions, patterns_positions, expr_positions}
-use Rattle.isle_base.proofs.Positioned.{among_same, among_both, among_left, among_right, among_rest, among_each}
+use Rattle.isle_base.proofs.Positioned.{among_same, among_both, among_left, among_right, among_rest, among_each, among_none, among_join, among_next}
 use Rattle.isle_types.specs.declared.type_env.TypeEnv.{TypeEnv}
 use Rattle.isle_types.specs.Envs.{symbol_of}
 use Rattle.isle_terms.specs.TermViews.{term_views}
@@ -19,13 +19,7 @@ use Rattle.isle_rules.specs.ExprUses.{inside_call}
 use Rattle.isle_rules.specs.RulePositions.{template_positions, templates_positions, with_templates}
 use Rattle.isle_terms.specs.TermPositions.{taken_positions, kind_positions, entry_positions, terms_positions}
 use Rattle.isle_rules.proofs.PatternSizes.{mapped_gives, with_gives}
-use Rattle.isle_rules.proofs.Placed.{among_joined, among_here}
-
-pub among_one_more : (x : Position) (ps all : List Position) → Contains all x → OccurAmong ps all → OccurAmong (x ∷ ps) all
-among_one_more x ps all h a p c = elim (in_cases x p ps c) [ inl e ↦ subst (Contains all) e h | inr d ↦ a p d ]
-
-pub among_nothing : (all : List Position) → OccurAmong [] all
-among_nothing all p c = absurd (nothing_in p c)
+use Rattle.isle_rules.proofs.Placed.{among_here}
 
 -- a template with patterns in the place of its arguments, where all of them have positions among these
 module _ (given : List PatternTree) (all : List Position) (each : (i : ℕ) (p : PatternTree) → slice_get given i ≡ Some p → OccurAmong (pattern_positions p) all) where
@@ -40,20 +34,20 @@ module _ (given : List PatternTree) (all : List Position) (each : (i : ℕ) (p :
         let rest : OccurAmong (pattern_positions of) all = λ p c. a p (in_tail at p (name.at ∷ pattern_positions of) (in_tail name.at p (pattern_positions of) c)) in
         let r = substituted_places of g.0 g.1 rest in
         subst (λ p. OccurAmong (pattern_positions p) all) g.2
-        (among_one_more at (name.at ∷ pattern_positions g.0) all (a at (in_head at (name.at ∷ pattern_positions of)))
-        (among_one_more name.at (pattern_positions g.0) all (a name.at (in_tail at name.at (name.at ∷ pattern_positions of) (in_head name.at (pattern_positions of)))) r))
+        (among_next at (name.at ∷ pattern_positions g.0) all (a at (in_head at (name.at ∷ pattern_positions of)))
+        (among_next name.at (pattern_positions g.0) all (a name.at (in_tail at name.at (name.at ∷ pattern_positions of) (in_head name.at (pattern_positions of)))) r))
     substituted_places (term_pattern name args at) q h a =
         let g = mapped_gives (λ ps. term_pattern name ps at) (all_substituted given args) q h in
         let rest : OccurAmong (patterns_positions args) all = λ p c. a p (in_tail at p (name.at ∷ patterns_positions args) (in_tail name.at p (patterns_positions args) c)) in
         let r = all_places args g.0 g.1 rest in
         subst (λ p. OccurAmong (pattern_positions p) all) g.2
-        (among_one_more at (name.at ∷ patterns_positions g.0) all (a at (in_head at (name.at ∷ patterns_positions args)))
-        (among_one_more name.at (patterns_positions g.0) all (a name.at (in_tail at name.at (name.at ∷ patterns_positions args) (in_head name.at (patterns_positions args)))) r))
+        (among_next at (name.at ∷ patterns_positions g.0) all (a at (in_head at (name.at ∷ patterns_positions args)))
+        (among_next name.at (patterns_positions g.0) all (a name.at (in_tail at name.at (name.at ∷ patterns_positions args) (in_head name.at (patterns_positions args)))) r))
     substituted_places (and_pattern parts at) q h a =
         let g = mapped_gives (λ ps. and_pattern ps at) (all_substituted given parts) q h in
         let rest : OccurAmong (patterns_positions parts) all = λ p c. a p (in_tail at p (patterns_positions parts) c) in
         let r = all_places parts g.0 g.1 rest in
-        subst (λ p. OccurAmong (pattern_positions p) all) g.2 (among_one_more at (patterns_positions g.0) all (a at (in_head at (patterns_positions parts))) r)
+        subst (λ p. OccurAmong (pattern_positions p) all) g.2 (among_next at (patterns_positions g.0) all (a at (in_head at (patterns_positions parts))) r)
     substituted_places (var_pattern name at) q h a = same_places (var_pattern name at) q h a
     substituted_places (bool_pattern b at) q h a = same_places (bool_pattern b at) q h a
     substituted_places (int_pattern z at) q h a = same_places (int_pattern z at) q h a
@@ -66,7 +60,7 @@ module _ (given : List PatternTree) (all : List Position) (each : (i : ℕ) (p :
         let g = with_gives (substituted given t) (all_substituted given ts) qs h in
         let r = substituted_places t g.0 g.2 (among_both (pattern_positions t) (pattern_positions t ++ patterns_positions ts) all (among_left (pattern_positions t) (patterns_positions ts)) a) in
         let u = all_places ts g.1 g.3 (among_both (patterns_positions ts) (pattern_positions t ++ patterns_positions ts) all (among_right (pattern_positions t) (patterns_positions ts)) a) in
-        subst (λ ps. OccurAmong (patterns_positions ps) all) g.4 (among_joined (pattern_positions g.0) (patterns_positions g.1) all r u)
+        subst (λ ps. OccurAmong (patterns_positions ps) all) g.4 (among_join (pattern_positions g.0) (patterns_positions g.1) all r u)
 
 part_places : (ps : PatternTrees) (i : ℕ) (p : PatternTree) → slice_get (pattern_list ps) i ≡ Some p → OccurAmong (pattern_positions p) (patterns_positions ps)
 part_places no_pattern i p h = absurd (cc)
@@ -87,19 +81,19 @@ of_kind (declared_term flags constructor_kind extractor_kind) p h = of_extractor
 
 -- and so those of all templates are among those of the terms
 of_template : (expand : Bool) (k : TermKindEntry) → OccurAmong (template_positions (cond expand (kind_template k) None)) (kind_positions k)
-of_template false k = among_nothing (kind_positions k)
+of_template false k = among_none (kind_positions k)
 of_template true k =
     elim (kind_template k) as (λ o. kind_template k ≡ o → OccurAmong (template_positions o) (kind_positions k)) [
-      | None ↦ λ _. among_nothing (kind_positions k)
+      | None ↦ λ _. among_none (kind_positions k)
       | Some p ↦ λ h. of_kind k p h
     ] refl
 
 pub templates_inside : (expand : Bool) (ts : List TermEntry) → OccurAmong (templates_positions expand ts) (terms_positions ts)
-templates_inside expand [] = among_nothing []
+templates_inside expand [] = among_none []
 templates_inside expand (t ∷ ts) =
     let own = template_positions (cond expand (kind_template t.kind) None) in
     let all = entry_positions t ++ terms_positions ts in
-    among_joined own (templates_positions expand ts) all
+    among_join own (templates_positions expand ts) all
     (among_both own (kind_positions t.kind) all (of_template expand t.kind) (among_both (kind_positions t.kind) (entry_positions t) all (among_rest t.at (kind_positions t.kind)) (among_left (entry_positions t) (terms_positions ts))))
     (among_both (templates_positions expand ts) (terms_positions ts) all (templates_inside expand ts) (among_right (entry_positions t) (terms_positions ts)))
 
@@ -127,10 +121,10 @@ pub converted_places : (env : TermEnv) (tyenv : TypeEnv) (by : TermEntry) (at : 
 converted_places env tyenv by at p here =
     let inside = pattern_positions p in
     among_here env (pattern_positions (inside_term tyenv by at p)) inside
-    (among_one_more at (at ∷ inside ++ []) inside here (among_one_more at (inside ++ []) inside here (among_joined inside [] inside (among_same inside) (among_nothing inside))))
+    (among_next at (at ∷ inside ++ []) inside here (among_next at (inside ++ []) inside here (among_join inside [] inside (among_same inside) (among_none inside))))
 
 -- an expression likewise
 pub called_places : (tyenv : TypeEnv) (by : TermEntry) (at : Position) (x : ExprTree) → Contains (expr_positions x) at → OccurAmong (expr_positions (inside_call tyenv by at x)) (expr_positions x)
 called_places tyenv by at x here =
     let inside = expr_positions x in
-    among_one_more at (at ∷ inside ++ []) inside here (among_one_more at (inside ++ []) inside here (among_joined inside [] inside (among_same inside) (among_nothing inside)))
+    among_next at (at ∷ inside ++ []) inside here (among_next at (inside ++ []) inside here (among_join inside [] inside (among_same inside) (among_none inside)))

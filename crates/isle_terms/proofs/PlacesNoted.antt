@@ -7,11 +7,11 @@ use Rattle.std.proofs.lemmas.Option.{same_Some}
 use Rattle.std.proofs.lemmas.Result.{on_ok_weaker}
 use Rattle.std.proofs.lemmas.Simd.{map-map}
 use Rattle.std.proofs.lemmas.List.Concat.{flat_map-append}
-use Rattle.std.proofs.lemmas.List.Elements.{Contains-append_left, Contains-append_right, Contains-append_cases, Contains-get_or}
+use Rattle.std.proofs.lemmas.List.Elements.{Contains-append_left, Contains-append_right, Contains-get_or}
 use Rattle.isle_model.specs.lists.Syntax.{Position, Name, PatternTree, PatternTrees, var_pattern, bind_pattern, bool_pattern, int_pattern, prim_pattern, term_pattern, wildcard_pattern, and_pattern, macro_arg, no_pattern, pattern_and, ConverterTree, DeclTree, ExtractorTree}
 use Rattle.isle_model.specs.lists.Tables.{VariantEntry, ConstructorEntry, ExtractorEntry, internal_extractor, external_extractor, TermKindEntry, variant_term, struct_term, declared_term, TermEntry}
 use Rattle.isle_model.specs.lists.TermTable.{variant_as_term, argument_or, binding_or, template, templates, extractor_template, terms_of, terms_of_all}
-use Rattle.isle_model.proofs.Members.{nothing_in, in_head, in_tail, in_cases, in_map, in_flat_map, from_map, from_flat_map, member_from_get}
+use Rattle.isle_model.proofs.Members.{in_head, in_tail, in_cases, in_map, in_flat_map, from_map, from_flat_map, member_from_get}
 use Rattle.isle_base.specs.declared.syntax.Def.{Def}
 use Rattle.isle_base.specs.declared.syntax.Error.{Error}
 use Rattle.isle_base.specs.declared.syntax.Ident.{Ident}
@@ -20,7 +20,7 @@ use Rattle.isle_base.specs.Patterns.{pattern_position}
 use Rattle.isle_base.specs.Places.{term_view as place_view}
 use Rattle.isle_base.specs.Positions.{NotesAt, OccurAmong, converter_positions, declaration_positions, name_positions, definition_positions, extractor_positions, pattern_positions, patterns_positions, positions_of}
 use Rattle.isle_base.specs.SyntaxViews.{definition_view, definition_views, name_view, position}
-use Rattle.isle_base.proofs.Positioned.{among_same, among_both, among_left, among_right, among_rest, among_one, among_first, among_each, notes_nothing, notes_both, notes_among}
+use Rattle.isle_base.proofs.Positioned.{among_same, among_both, among_left, among_right, among_rest, among_one, among_first, among_each, notes_nothing, notes_both, notes_among, among_none, among_join, among_next, among_under, among_sides, notes_parts}
 use Rattle.isle_types.specs.declared.types.Type as T
 use Rattle.isle_types.specs.declared.types.Variant.{Variant}
 use Rattle.isle_types.specs.TypeViews.{type_view, type_views, variant_view}
@@ -33,22 +33,6 @@ use Rattle.isle_terms.specs.TermPositions.{taken_positions, taker_template, temp
 use Rattle.isle_types.specs.TypePositions.{entry_positions as type_entry_positions, types_positions}
 use Rattle.isle_terms.specs.TermViews.{term_view, term_views}
 
--- positions among others
-pub among_none : (rs : List Position) → OccurAmong [] rs
-among_none rs p c = absurd (nothing_in p c)
-
-pub among_join : (ps qs rs : List Position) → OccurAmong ps rs → OccurAmong qs rs → OccurAmong (ps ++ qs) rs
-among_join ps qs rs a b p c = elim (Contains-append_cases ps qs p c) [ inl d ↦ a p d | inr d ↦ b p d ]
-
-pub among_next : (q : Position) (ps rs : List Position) → Contains rs q → OccurAmong ps rs → OccurAmong (q ∷ ps) rs
-among_next q ps rs here a p c = elim (in_cases q p ps c) [ inl e ↦ subst (Contains rs) e here | inr d ↦ a p d ]
-
-pub among_under : (q : Position) (ps rs : List Position) → OccurAmong ps rs → OccurAmong (q ∷ ps) (q ∷ rs)
-among_under q ps rs a = among_next q ps (q ∷ rs) (in_head q rs) (among_both ps rs (q ∷ rs) a (among_rest q rs))
-
-pub among_sides : (ps qs ps' qs' : List Position) → OccurAmong ps ps' → OccurAmong qs qs' → OccurAmong (ps ++ qs) (ps' ++ qs')
-among_sides ps qs ps' qs' a b = among_join ps qs (ps' ++ qs') (among_both ps ps' (ps' ++ qs') a (among_left ps' qs')) (among_both qs qs' (ps' ++ qs') b (among_right ps' qs'))
-
 pub among_as : (ps qs rs : List Position) → ps ≡ qs → OccurAmong ps rs → OccurAmong qs rs
 among_as ps qs rs e a = subst (λ l. OccurAmong l rs) e a
 
@@ -57,10 +41,6 @@ pub notes_earlier : (p q : Position) (ps : List Position) (old mid new : List Er
 notes_earlier p q ps old mid new there first second =
     notes_both (p ∷ ps) old mid new (notes_among (p ∷ []) (p ∷ ps) old mid (among_first p ps) first)
     (notes_among (q ∷ []) (p ∷ ps) mid new (among_one q (p ∷ ps) (in_tail p q ps there)) second)
-
--- errors at some positions, and at others
-pub notes_parts : (ps qs rs : List Position) (old mid new : List Error) → OccurAmong ps rs → OccurAmong qs rs → NotesAt ps old mid → NotesAt qs mid new → NotesAt rs old new
-notes_parts ps qs rs old mid new a b first second = notes_both rs old mid new (notes_among ps rs old mid a first) (notes_among qs rs mid new b second)
 
 -- tables
 pub placed_same : (old new : TermTable) (ps : List Position) → new.terms ≡ old.terms → IsPlacedAmong (ps ++ table_positions old) new

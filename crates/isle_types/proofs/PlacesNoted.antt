@@ -1,17 +1,13 @@
 -- What is noted at the positions of a part of a definition is noted at those of the whole.
-use Rattle.std.proofs.Common.{◌≡◌, ℕ, ◌<◌, List, [], ◌∷◌, length, get_or, map, Contains, inl, inr, sym, subst}
+use Rattle.std.proofs.Common.{◌≡◌, ℕ, ◌<◌, List, [], ◌∷◌, length, get_or, map, Contains, sym, subst}
 use Rattle.std.specs.List.{flat_map}
 use Rattle.isle_model.specs.lists.Syntax.{Position, FieldTree, TupleFieldTree, VariantTree, TypeTree}
-use Rattle.isle_model.proofs.Members.{in_head, in_tail, in_cases, in_map}
+use Rattle.isle_model.proofs.Members.{in_head, in_tail, in_map}
 use Rattle.isle_base.specs.declared.syntax.Error.{Error}
 use Rattle.isle_base.specs.Positions.{OccurAmong, field_positions, tuple_field_positions, fields_positions, variant_positions, value_positions, type_positions}
 use Rattle.isle_base.proofs.Positioned.{among_one, among_first, among_each}
 use Rattle.isle_types.specs.Telling.{Notes}
 use Rattle.isle_types.proofs.Telling.{noted_among}
-
--- a position more
-pub among_more : (q : Position) (ps qs : List Position) → Contains qs q → OccurAmong ps qs → OccurAmong (q ∷ ps) qs
-among_more q ps qs here rest p c = elim (in_cases q p ps c) [ inl e ↦ subst (Contains qs) e here | inr d ↦ rest p d ]
 
 -- the place of a field's type
 pub field_type_among : (f : FieldTree) → OccurAmong (f.ty.at ∷ []) (field_positions f)

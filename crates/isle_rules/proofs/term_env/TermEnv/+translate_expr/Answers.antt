@@ -18,10 +18,10 @@ use Rattle.isle_rules.proofs.ExprForms.{seen_call, seen_let, args_done, args_sto
 use Rattle.isle_rules.proofs.LetForms.{def_unknown, def_reported, def_stops, def_done, no_def_yet, next_def, next_stops, let_first_stops, let_reported, let_stops, let_done}
 use Rattle.isle_rules.proofs.Readings.{stop_is, stop_keeps, stays_on, may_report, keep_none, keep_on, expanded_done}
 use Rattle.isle_base.specs.Positions.{OccurAmong, expr_positions, exprs_positions, lets_positions}
-use Rattle.isle_base.proofs.Positioned.{among_same, among_first, notes_among, notes_nothing}
+use Rattle.isle_base.proofs.Positioned.{among_same, among_first, notes_among, notes_nothing, among_under, notes_parts}
 use Rattle.isle_rules.specs.Lets.{with_let}
-use Rattle.isle_rules.proofs.Placed.{stays_among, stays_step, stop_among, stop_step, notes_step}
-use Rattle.isle_rules.proofs.PartPlaces.{among_both_first, call_inside, defs_inside, body_inside, arg_inside, def_inside, value_inside}
+use Rattle.isle_rules.proofs.Placed.{stays_among, stays_step, stop_among, stop_step}
+use Rattle.isle_rules.proofs.PartPlaces.{call_inside, defs_inside, body_inside, arg_inside, def_inside, value_inside}
 use Rattle.isle_rules.specs.ReachedLimits.{expr_limits}
 use Rattle.isle_rules.proofs.LimitSteps.{not_limited}
 use Rattle.isle_rules.proofs.PatternLimits.{expanded_meets}
@@ -162,7 +162,7 @@ translate_exprs-loop-i-preserved t c =
       (
           let whole = exprs_positions (S.expr_views c.args.args.now) in
           let part = expr_positions (S.expr_view c.index-args-i.result) in
-          notes_step whole part whole c.args.work.now.errors.items c.loop-i.work.errors.items c.translate_expr.new.work.errors.items
+          notes_parts whole part whole c.args.work.now.errors.items c.loop-i.work.errors.items c.translate_expr.new.work.errors.items
           (among_same whole) (arg_inside c.args.args.now c.loop-i.i c.index-args-i.result w c.index-args-i.is) c.loop-i.invariant.2 c.in_ok-part.ensures.places
           ),
       next_arg_none c.args.self.now (standing c.args.tyenv.now c.args.work.now) (standing c.loop-i.tyenv c.loop-i.work) (standing c.translate_expr.new.tyenv c.translate_expr.new.work) c.args.nesting (flags_view c.args.flags)
@@ -243,8 +243,8 @@ translate_defs-loop-def-preserved t c =
           let at = S.position c.args.pos in
           let whole = at ∷ lets_positions (S.let_views c.args.defs.now) in
           let one = lets_positions (with_let c.def-item.result no_let) in
-          let inside : OccurAmong (at ∷ one) whole = among_both_first at one (lets_positions (S.let_views c.args.defs.now)) (def_inside c.args.defs.now c.loop-def.def-index c.def-item.result c.loop-def-test.true c.def-item.is) in
-          notes_step whole (at ∷ one) whole c.args.work.now.errors.items c.loop-def.work.errors.items c.translate_def.new.work.errors.items (among_same whole) inside c.loop-def.invariant.2 c.in_ok-made.ensures.places
+          let inside : OccurAmong (at ∷ one) whole = among_under at one (lets_positions (S.let_views c.args.defs.now)) (def_inside c.args.defs.now c.loop-def.def-index c.def-item.result c.loop-def-test.true c.def-item.is) in
+          notes_parts whole (at ∷ one) whole c.args.work.now.errors.items c.loop-def.work.errors.items c.translate_def.new.work.errors.items (among_same whole) inside c.loop-def.invariant.2 c.in_ok-made.ensures.places
           ),
       next_def_none c.args.self.now (standing c.args.tyenv.now c.args.work.now) (standing c.loop-def.tyenv c.loop-def.work) (standing c.translate_def.new.tyenv c.translate_def.new.work) c.args.nesting (flags_view c.args.flags)
           c.args.defs.now c.loop-def.def-index c.def-item.result c.loop-def-test.true c.def-item.is c.loop-def.invariant.0 c.loop-def.bindings.items c.args.hidden.now.items c.loop-def.hidden.items c.loop-def.invariant.1 c.loop-def.invariant.3 c.in_ok-made.ensures.limits,
@@ -304,7 +304,7 @@ translate_defs-returns-in_err-made-clause-places t c =
     let at = S.position c.args.pos in
     let whole = at ∷ lets_positions (S.let_views c.args.defs.now) in
     let one = lets_positions (with_let c.def-item.result no_let) in
-    let inside : OccurAmong (at ∷ one) whole = among_both_first at one (lets_positions (S.let_views c.args.defs.now)) (def_inside c.args.defs.now c.loop-def.def-index c.def-item.result c.loop-def-test.true c.def-item.is) in
+    let inside : OccurAmong (at ∷ one) whole = among_under at one (lets_positions (S.let_views c.args.defs.now)) (def_inside c.args.defs.now c.loop-def.def-index c.def-item.result c.loop-def-test.true c.def-item.is) in
     rw (stop_is c.from_residual-in_err-made.result c.in_err-made.field-0.0 c.from_residual-in_err-made.ensures)
     (stop_step whole (at ∷ one) whole c.args.work.now.errors.items c.loop-def.work.errors.items c.translate_def.new.work.errors.items c.in_err-made.field-0.0 (among_same whole) inside c.loop-def.invariant.2 c.in_err-made.ensures.places)
 
@@ -337,7 +337,7 @@ translate_def-returns-in_default-made-clause-places t c =
     let value = expr_positions (S.expr_view c.args.def.now.val.value) in
     let here : OccurAmong (at ∷ []) whole = among_first at (lets_positions (with_let c.args.def.now no_let)) in
     let placed = rw c.deref.ensures at c.in_ok-made.ensures.places in
-    notes_step (at ∷ []) value whole c.args.work.now.errors.items c.begin_def.new.errors.items c.translate_expr.new.work.errors.items here (value_inside at c.args.def.now) c.in_ok-name.ensures.places placed
+    notes_parts (at ∷ []) value whole c.args.work.now.errors.items c.begin_def.new.errors.items c.translate_expr.new.work.errors.items here (value_inside at c.args.def.now) c.in_ok-name.ensures.places placed
 
 pub translate_def-returns-clause-places : goal.translate_def-returns-clause-places
 translate_def-returns-clause-places t c =
@@ -347,7 +347,7 @@ translate_def-returns-clause-places t c =
     let here : OccurAmong (at ∷ []) whole = among_first at (lets_positions (with_let c.args.def.now no_let)) in
     let placed = rw c.deref.ensures at c.in_ok-made.ensures.places in
     rw c.in_ok-bound.ensures.binds.errors
-    (notes_step (at ∷ []) value whole c.args.work.now.errors.items c.begin_def.new.errors.items c.translate_expr.new.work.errors.items here (value_inside at c.args.def.now) c.in_ok-name.ensures.places placed)
+    (notes_parts (at ∷ []) value whole c.args.work.now.errors.items c.begin_def.new.errors.items c.translate_expr.new.work.errors.items here (value_inside at c.args.def.now) c.in_ok-name.ensures.places placed)
 
 pub translate_let-returns-in_err-bindings-clause-places : goal.translate_let-returns-in_err-bindings-clause-places
 translate_let-returns-in_err-bindings-clause-places t c =
@@ -376,7 +376,7 @@ translate_let-returns-in_default-clause-places t c =
     let body = S.expr_view c.args.body.now in
     let all = expr_positions (let_expr defs body at) in
     let first : List Position = at ∷ lets_positions defs in
-    notes_step first (expr_positions body) all c.args.work.now.errors.items c.translate_defs.new.work.errors.items c.translate_expr.new.work.errors.items (defs_inside defs body at) (body_inside defs body at) c.in_ok-bindings.ensures.places c.in_ok-made.ensures.places
+    notes_parts first (expr_positions body) all c.args.work.now.errors.items c.translate_defs.new.work.errors.items c.translate_expr.new.work.errors.items (defs_inside defs body at) (body_inside defs body at) c.in_ok-bindings.ensures.places c.in_ok-made.ensures.places
 
 pub translate_let-returns-clause-places : goal.translate_let-returns-clause-places
 translate_let-returns-clause-places t c =
@@ -386,7 +386,7 @@ translate_let-returns-clause-places t c =
     let all = expr_positions (let_expr defs body at) in
     let first : List Position = at ∷ lets_positions defs in
     rw c.in_ok-whole.ensures.closes.errors
-    (notes_step first (expr_positions body) all c.args.work.now.errors.items c.translate_defs.new.work.errors.items c.translate_expr.new.work.errors.items (defs_inside defs body at) (body_inside defs body at) c.in_ok-bindings.ensures.places c.in_ok-made.ensures.places)
+    (notes_parts first (expr_positions body) all c.args.work.now.errors.items c.translate_defs.new.work.errors.items c.translate_expr.new.work.errors.items (defs_inside defs body at) (body_inside defs body at) c.in_ok-bindings.ensures.places c.in_ok-made.ensures.places)
 
 pub translate_expr-returns-in-ConstBool-clause-places : goal.translate_expr-returns-in-ConstBool-clause-places
 translate_expr-returns-in-ConstBool-clause-places t c =
@@ -457,7 +457,7 @@ translate_expr-returns-in_ok-parts-in-Parts-clause-places t c =
     let same : c.deref-in-Parts.result.now ≡ c.deref.result.now = c.deref-in-Parts.ensures.value ∙ sym c.deref.ensures.value in
     let parts = exprs_positions args in
     let placed = rw same at c.in_ok-parts-in-Parts.ensures.places in
-    rw (seen_call c.args.expr.now c.in-Term.sym c.in-Term.args c.in-Term.pos c.deref.result.now c.in-Term.is c.deref.ensures.value) (notes_step (at ∷ []) parts all c.args.work.now.errors.items c.use_in_expr.new.work.errors.items c.translate_exprs.new.work.errors.items here (call_inside name args at) c.in_ok-use_in_expr-in-Term.ensures.places placed)
+    rw (seen_call c.args.expr.now c.in-Term.sym c.in-Term.args c.in-Term.pos c.deref.result.now c.in-Term.is c.deref.ensures.value) (notes_parts (at ∷ []) parts all c.args.work.now.errors.items c.use_in_expr.new.work.errors.items c.translate_exprs.new.work.errors.items here (call_inside name args at) c.in_ok-use_in_expr-in-Term.ensures.places placed)
 
 pub translate_expr-returns-in_err-use_var-in-Var-clause-places : goal.translate_expr-returns-in_err-use_var-in-Var-clause-places
 translate_expr-returns-in_err-use_var-in-Var-clause-places t c =

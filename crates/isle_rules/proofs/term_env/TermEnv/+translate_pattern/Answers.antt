@@ -18,9 +18,9 @@ use Rattle.isle_rules.proofs.PatternSizes.{tree_size, trees_size, growth, grown,
 use Rattle.isle_rules.proofs.PatternForms.{seen_bind, seen_term, seen_and, any_used, bind_done, bind_reported, bind_stops, parts_done, parts_stop}
 use Rattle.isle_rules.proofs.Readings.{stop_is, stop_keeps, stays_on, may_report, keep_none, keep_on, made_done, made_reported, made_stops, expanded_done}
 use Rattle.isle_base.specs.Positions.{OccurAmong, pattern_positions, patterns_positions}
-use Rattle.isle_base.proofs.Positioned.{among_same, among_first, notes_among, notes_nothing}
+use Rattle.isle_base.proofs.Positioned.{among_same, among_first, notes_among, notes_nothing, notes_parts}
 use Rattle.isle_rules.specs.RulePositions.{with_templates}
-use Rattle.isle_rules.proofs.Placed.{among_with, among_here, among_made, stays_head, stays_step, stop_among, stop_step, notes_step}
+use Rattle.isle_rules.proofs.Placed.{among_with, among_here, among_made, stays_head, stays_step, stop_among, stop_step}
 use Rattle.isle_rules.proofs.PartPlaces.{bind_inside, term_inside, and_inside, part_inside}
 use Rattle.isle_rules.specs.ReachedLimits.{pattern_limits, each_limits}
 use Rattle.isle_rules.proofs.LimitSteps.{not_limited, same_ends}
@@ -198,7 +198,7 @@ translate_args-loop-i-preserved t c =
       (
           let whole = patterns_positions (S.pattern_views c.args.args.now) in
           let part = pattern_positions (S.pattern_view c.index-args-i.result) in
-          notes_step (with_templates c.args.self.now whole) (with_templates c.args.self.now part) (with_templates c.args.self.now whole) c.args.work.now.errors.items c.loop-i.work.errors.items c.translate_pattern.new.work.errors.items
+          notes_parts (with_templates c.args.self.now whole) (with_templates c.args.self.now part) (with_templates c.args.self.now whole) c.args.work.now.errors.items c.loop-i.work.errors.items c.translate_pattern.new.work.errors.items
           (among_same (with_templates c.args.self.now whole)) (among_with c.args.self.now part whole (part_inside c.args.args.now c.loop-i.i c.index-args-i.result w c.index-args-i.is)) c.loop-i.invariant.2 c.in_ok-part.ensures.places
           ),
       next_part_none c.args.multi c.args.self.now (standing c.args.tyenv.now c.args.work.now) (standing c.loop-i.tyenv c.loop-i.work) (standing c.translate_pattern.new.tyenv c.translate_pattern.new.work) c.args.nesting
@@ -232,7 +232,7 @@ translate_each-loop-subpat-preserved t c =
       (
           let whole = patterns_positions (S.pattern_views c.args.subpats.now) in
           let part = pattern_positions (S.pattern_view c.subpat-item.result) in
-          notes_step (with_templates c.args.self.now whole) (with_templates c.args.self.now part) (with_templates c.args.self.now whole) c.args.work.now.errors.items c.loop-subpat.work.errors.items c.translate_pattern.new.work.errors.items
+          notes_parts (with_templates c.args.self.now whole) (with_templates c.args.self.now part) (with_templates c.args.self.now whole) c.args.work.now.errors.items c.loop-subpat.work.errors.items c.translate_pattern.new.work.errors.items
           (among_same (with_templates c.args.self.now whole)) (among_with c.args.self.now part whole (part_inside c.args.subpats.now c.loop-subpat.subpat-index c.subpat-item.result c.loop-subpat-test.true c.subpat-item.is)) c.loop-subpat.invariant.2 c.in_ok-part.ensures.places
           ),
       next_each_none c.args.multi c.args.self.now (standing c.args.tyenv.now c.args.work.now) (standing c.loop-subpat.tyenv c.loop-subpat.work) (standing c.translate_pattern.new.tyenv c.translate_pattern.new.work) c.args.nesting
@@ -377,7 +377,7 @@ translate_pattern-returns-in_ok-parts-in-Parts-clause-places t c =
     let inside : OccurAmong parts all = among_with c.args.self.now (patterns_positions args) whole (term_inside name args at) in
     let placed = rw same at c.in_ok-parts-in-Parts.ensures.places in
     rw (seen_term c.args.pat.now c.in-Term.sym c.in-Term.args c.in-Term.pos c.deref-in-Term.result.now c.in-Term.is c.deref-in-Term.ensures.value)
-    (notes_step (at ∷ []) parts all c.args.work.now.errors.items c.use_in_pattern.new.work.errors.items c.translate_args.new.work.errors.items here inside c.in_ok-use_in_pattern-in-Term.ensures.places placed)
+    (notes_parts (at ∷ []) parts all c.args.work.now.errors.items c.use_in_pattern.new.work.errors.items c.translate_args.new.work.errors.items here inside c.in_ok-use_in_pattern-in-Term.ensures.places placed)
 
 pub translate_pattern-returns-in_err-parts-in-And-clause-places : goal.translate_pattern-returns-in_err-parts-in-And-clause-places
 translate_pattern-returns-in_err-parts-in-And-clause-places t c =

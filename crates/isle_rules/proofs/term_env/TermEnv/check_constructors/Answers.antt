@@ -10,8 +10,7 @@ use Rattle.isle_rules.proofs.NamedLimits.{rules_before}
 use Rattle.isle_rules.proofs.RuleBreachSteps.{first_used, next_used, last_used}
 use Rattle.isle_rules.proofs.CheckedUses.{checked_first, checked_next, checked_last, left_at, uses_split}
 use Rattle.isle_base.specs.Positions.{definition_positions, positions_of}
-use Rattle.isle_base.proofs.Positioned.{among_same, notes_nothing}
-use Rattle.isle_rules.proofs.Placed.{notes_step}
+use Rattle.isle_base.proofs.Positioned.{among_same, notes_nothing, notes_parts}
 use Rattle.isle_rules.proofs.PartPlaces.{each_inside}
 use Rattle.isle_rules.proofs.term_env.TermEnv.check_constructors.Goals as goal
 
@@ -26,7 +25,7 @@ loop-def-preserved c = (
   (
       let all = positions_of (definition_views c.args.defs.now) in
       let one = definition_positions (definition_view c.def-item.result) in
-      notes_step all one all c.args.errors.now.items c.loop-def.errors.items c.check_definition.new.errors.items (among_same all)
+      notes_parts all one all c.args.errors.now.items c.loop-def.errors.items c.check_definition.new.errors.items (among_same all)
       (each_inside definition_positions definition_view c.args.defs.now c.loop-def.def-index c.def-item.result c.loop-def-test.true c.def-item.is) c.loop-def.invariant.1 c.in_ok-check_definition.ensures.places
       ),
   next_used c.args.self.now c.args.tyenv.now c.args.errors.now.items c.loop-def.errors.items c.check_definition.new.errors.items c.args.defs.now c.loop-def.def-index c.def-item.result c.loop-def-test.true c.def-item.is

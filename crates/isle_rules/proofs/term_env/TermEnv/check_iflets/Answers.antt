@@ -8,8 +8,7 @@ use Rattle.isle_rules.specs.Constructors.{is_made}
 use Rattle.isle_rules.specs.PatternUses.{found_term}
 use Rattle.isle_rules.proofs.CheckedUses.{checked_first, checked_next, checked_last, left_at}
 use Rattle.isle_base.specs.Positions.{expr_positions, iflet_positions}
-use Rattle.isle_base.proofs.Positioned.{among_same, among_both, notes_nothing}
-use Rattle.isle_rules.proofs.Placed.{notes_step}
+use Rattle.isle_base.proofs.Positioned.{among_same, among_both, notes_nothing, notes_parts}
 use Rattle.isle_rules.proofs.PartPlaces.{given_inside, each_inside}
 use Rattle.isle_rules.proofs.term_env.TermEnv.check_iflets.Goals as goal
 
@@ -24,7 +23,7 @@ loop-iflet-preserved c = (
   (
       let all = flat_map iflet_positions (map iflet_view c.args.iflets.now) in
       let one = iflet_view c.iflet-item.result in
-      notes_step all (expr_positions one.expr) all c.args.errors.now.items c.loop-iflet.errors.items c.check_expr.new.errors.items (among_same all)
+      notes_parts all (expr_positions one.expr) all c.args.errors.now.items c.loop-iflet.errors.items c.check_expr.new.errors.items (among_same all)
       (among_both (expr_positions one.expr) (iflet_positions one) all (given_inside one) (each_inside iflet_positions iflet_view c.args.iflets.now c.loop-iflet.iflet-index c.iflet-item.result c.loop-iflet-test.true c.iflet-item.is))
       c.loop-iflet.invariant.1 c.in_ok-check_expr.ensures.places
       ),

@@ -8,7 +8,7 @@ use Rattle.isle_reports.specs.Elaborating.{Checks}
 use Rattle.isle_rules.specs.PatternUses.{found_term}
 use Rattle.isle_rules.proofs.CheckedUses.{on_then, checks_all}
 use Rattle.isle_base.specs.Positions.{NotesAt, expr_positions, iflet_positions, rule_positions}
-use Rattle.isle_rules.proofs.Placed.{notes_step}
+use Rattle.isle_base.proofs.Positioned.{notes_parts}
 use Rattle.isle_rules.proofs.PartPlaces.{rule_iflets, rule_value}
 use Rattle.isle_rules.proofs.term_env.TermEnv.check_rule.Goals as goal
 
@@ -26,5 +26,5 @@ returns-clause-places c =
     let first = flat_map iflet_positions (map iflet_view c.args.rule.now.iflets.items) in
     let last = expr_positions (expr_view c.args.rule.now.expr) in
     on_then c.check_expr.result (NotesAt last c.check_iflets.new.errors.items c.check_expr.new.errors.items) (NotesAt (rule_positions tree) c.args.errors.now.items c.check_expr.new.errors.items)
-    (notes_step first last (rule_positions tree) c.args.errors.now.items c.check_iflets.new.errors.items c.check_expr.new.errors.items (rule_iflets tree) (rule_value tree) (rw c.deref.ensures.value at c.in_ok-check_iflets.ensures.places))
+    (notes_parts first last (rule_positions tree) c.args.errors.now.items c.check_iflets.new.errors.items c.check_expr.new.errors.items (rule_iflets tree) (rule_value tree) (rw c.deref.ensures.value at c.in_ok-check_iflets.ensures.places))
     c.check_expr.ensures.places

@@ -5,9 +5,8 @@ use Rattle.isle_model.specs.lists.Syntax.{Position, Name}
 use Rattle.isle_rules.specs.Constructors.{is_made}
 use Rattle.isle_rules.specs.PatternUses.{found_term}
 use Rattle.isle_rules.proofs.CheckedUses.{checked_first, checked_next, checked_last, checks_one, left_at}
-use Rattle.isle_base.proofs.Positioned.{among_same, notes_nothing}
+use Rattle.isle_base.proofs.Positioned.{among_same, notes_nothing, notes_parts}
 use Rattle.isle_base.specs.SyntaxViews.{position}
-use Rattle.isle_rules.proofs.Placed.{notes_step}
 use Rattle.isle_rules.proofs.PartPlaces.{one_inside}
 use Rattle.isle_rules.proofs.term_env.TermEnv.check_uses.Goals as goal
 
@@ -22,7 +21,7 @@ loop-used-preserved c = (
       (checks_one (λ (u : Position × Name). IsTrue (is_made (found_term c.args.self.now c.args.tyenv.now u.1.text))) (term_view c.used-item.result.0 c.used-item.result.1.now) _ _ c.in_ok-check_use.ensures.checks),
   (
       let all = map (λ t. position t.0) c.args.uses.now in
-      notes_step all (position c.used-item.result.0 ∷ []) all c.args.errors.now.items c.loop-used.errors.items c.check_use.new.errors.items (among_same all)
+      notes_parts all (position c.used-item.result.0 ∷ []) all c.args.errors.now.items c.loop-used.errors.items c.check_use.new.errors.items (among_same all)
       (one_inside (λ t. position t.0) c.args.uses.now c.loop-used.used-index c.used-item.result c.loop-used-test.true c.used-item.is) c.loop-used.invariant.1 c.in_ok-check_use.ensures.places
       ),
 )

@@ -8,13 +8,12 @@ use Rattle.isle_rules.proofs.RuleBreachSteps.{first_begins, next_begins, last_be
 use Rattle.isle_rules.proofs.RuleErrorSteps.{none_noted, next_noted}
 use Rattle.isle_rules.proofs.RuleListSteps.{first_reading, next_reading, last_reading}
 use Rattle.isle_base.specs.Positions.{OccurAmong, definition_positions, positions_of}
-use Rattle.isle_base.proofs.Positioned.{among_same, among_both, notes_nothing}
+use Rattle.isle_base.proofs.Positioned.{among_same, among_both, notes_nothing, among_none, among_join, notes_parts}
 use Rattle.isle_rules.specs.RulePositions.{with_templates}
 use Rattle.isle_typed.specs.RuleViews.{rule_views}
 use Rattle.isle_reports.specs.RuleNaming.{rules_at}
-use Rattle.isle_rules.proofs.Placed.{among_joined, among_with, notes_step}
+use Rattle.isle_rules.proofs.Placed.{among_with}
 use Rattle.isle_rules.proofs.PartPlaces.{each_inside}
-use Rattle.isle_rules.proofs.SubstitutedPlaces.{among_nothing}
 use Rattle.isle_rules.proofs.RulesTold.{nothing_told, next_told, all_told}
 use Rattle.isle_rules.proofs.term_env.TermEnv.collect_rules.Goals as goal
 
@@ -25,7 +24,7 @@ loop-def-init c = (
   none_noted c.args.self.now c.args.tyenv.now c.args.work.now.errors.items (rule_trees (definition_views c.args.defs.now)),
   none_named c.args.self.now c.args.tyenv.now c.args.work.now.errors.items,
   notes_nothing _ _ _ refl,
-  rw c.in_ok-rules.ensures.items (among_nothing (positions_of (definition_views c.args.defs.now))),
+  rw c.in_ok-rules.ensures.items (among_none (positions_of (definition_views c.args.defs.now))),
   first_begins c.args.self.now c.args.tyenv.now c.args.work.now.errors.items (rule_trees (definition_views c.args.defs.now)) c.in_ok-rules.rules.items c.in_ok-rules.ensures.items,
   nothing_told c.args.self.now c.args.tyenv.now c.args.work.now.errors.items,
 )
@@ -44,7 +43,7 @@ loop-def-preserved c = (
       let all = positions_of (definition_views c.args.defs.now) in
       let one = definition_positions (definition_view c.def-item.result) in
       let inside : OccurAmong one all = each_inside definition_positions definition_view c.args.defs.now c.loop-def.def-index c.def-item.result c.loop-def-test.true c.def-item.is in
-      notes_step (with_templates env all) (with_templates env one) (with_templates env all) c.args.work.now.errors.items c.loop-def.work.errors.items c.collect_definition.new.work.errors.items (among_same (with_templates env all)) (among_with env one all inside) c.loop-def.invariant.4 c.in_ok-collect_definition.ensures.places
+      notes_parts (with_templates env all) (with_templates env one) (with_templates env all) c.args.work.now.errors.items c.loop-def.work.errors.items c.collect_definition.new.work.errors.items (among_same (with_templates env all)) (among_with env one all inside) c.loop-def.invariant.4 c.in_ok-collect_definition.ensures.places
       ),
   (
       let env = c.args.self.now in
@@ -52,7 +51,7 @@ loop-def-preserved c = (
       let one = definition_positions (definition_view c.def-item.result) in
       let inside : OccurAmong one all = each_inside definition_positions definition_view c.args.defs.now c.loop-def.def-index c.def-item.result c.loop-def-test.true c.def-item.is in
       let before = rules_at (rule_views c.loop-def.rules.items) in
-      among_both (rules_at (rule_views c.collect_definition.new.rules.items)) (before ++ one) all c.in_ok-collect_definition.ensures.stand (among_joined before one all c.loop-def.invariant.5 inside)
+      among_both (rules_at (rule_views c.collect_definition.new.rules.items)) (before ++ one) all c.in_ok-collect_definition.ensures.stand (among_join before one all c.loop-def.invariant.5 inside)
       ),
   next_begins c.args.self.now c.args.tyenv.now c.loop-def.tyenv c.collect_definition.new.tyenv c.loop-def.invariant.0 c.args.work.now.errors.items c.loop-def.work.errors.items c.collect_definition.new.work.errors.items c.args.defs.now c.loop-def.def-index c.def-item.result c.loop-def-test.true c.def-item.is c.loop-def.rules.items c.collect_definition.new.rules.items
       c.loop-def.invariant.6 c.in_ok-collect_definition.ensures.reads c.in_ok-collect_definition.ensures.notes c.in_ok-collect_definition.ensures.places,

@@ -17,10 +17,9 @@ use Rattle.isle_rules.proofs.RulesRefused.{mapped_noted, noted_to_the_end}
 use Rattle.isle_rules.proofs.Noted.{may_both, may_check}
 use Rattle.isle_rules.proofs.RulesAtEnd.{rules_end}
 use Rattle.isle_base.specs.Positions.{NotesAt, OccurAmong, positions_of}
-use Rattle.isle_base.proofs.Positioned.{among_same, among_both, among_left, among_right}
+use Rattle.isle_base.proofs.Positioned.{among_same, among_both, among_left, among_right, among_join, notes_parts}
 use Rattle.isle_rules.specs.RulePositions.{templates_positions, with_templates}
 use Rattle.isle_terms.specs.TermPositions.{terms_positions}
-use Rattle.isle_rules.proofs.Placed.{among_joined, notes_step}
 use Rattle.isle_rules.proofs.SubstitutedPlaces.{templates_inside}
 use Rattle.isle_rules.proofs.PartPlaces.{named_places, declared_inside}
 use Rattle.isle_rules.specs.RulesTold.{TellsTyping}
@@ -118,7 +117,7 @@ returns-clause-places c =
     let defined = c.check_defined.new.errors.items in
     let last = c.check_constructors.new.errors.items in
     let inside : OccurAmong of_rules all =
-    among_joined defs (templates_positions env.expand_internal_extractors entries) all (among_left defs (terms_positions entries))
+    among_join defs (templates_positions env.expand_internal_extractors entries) all (among_left defs (terms_positions entries))
     (among_both (templates_positions env.expand_internal_extractors entries) (terms_positions entries) all (templates_inside env.expand_internal_extractors entries) (among_right defs (terms_positions entries))) in
     let read = subst (λ es. NotesAt of_rules es found) (c.new-work.ensures.errors ∙ c.new.ensures.items) c.in_ok-rules.ensures.places in
     let rules = rules_at (rule_views c.deref-2.result.now) in
@@ -130,9 +129,9 @@ returns-clause-places c =
     let at_terms : OccurAmong terms all =
     subst (λ ts. OccurAmong (terms_at (term_views ts)) all) (sym c.deref-3.ensures.value)
     (among_both (terms_at entries) (terms_positions entries) all (declared_inside entries) (among_right defs (terms_positions entries))) in
-    let by_name = notes_step of_rules rules all [] found named inside at_rules read mapped in
-    let by_terms = notes_step all terms all [] named defined (among_same all) at_terms by_name c.in_ok-check_defined.ensures.places in
-    notes_step all defs all [] defined last (among_same all) (among_left defs (terms_positions entries)) by_terms c.in_ok-check_constructors.ensures.places
+    let by_name = notes_parts of_rules rules all [] found named inside at_rules read mapped in
+    let by_terms = notes_parts all terms all [] named defined (among_same all) at_terms by_name c.in_ok-check_defined.ensures.places in
+    notes_parts all defs all [] defined last (among_same all) (among_left defs (terms_positions entries)) by_terms c.in_ok-check_constructors.ensures.places
 
 pub returns-clause-tells : goal.returns-clause-tells
 returns-clause-tells c =

@@ -11,9 +11,9 @@ use Rattle.isle_rules.specs.RuleReadings.{iflet_reading}
 use Rattle.isle_rules.specs.Translating.{standing}
 use Rattle.isle_rules.proofs.Readings.{stop_is, stop_keeps, first_stops, first_reported, then_stops, then_reported, then_done}
 use Rattle.isle_base.specs.Positions.{OccurAmong, pattern_positions, expr_positions, iflet_positions}
-use Rattle.isle_base.proofs.Positioned.{notes_among}
+use Rattle.isle_base.proofs.Positioned.{notes_among, notes_parts}
 use Rattle.isle_rules.specs.RulePositions.{with_templates}
-use Rattle.isle_rules.proofs.Placed.{among_here, among_with, stop_among, stop_step, notes_step}
+use Rattle.isle_rules.proofs.Placed.{among_here, among_with, stop_among, stop_step}
 use Rattle.isle_rules.proofs.PartPlaces.{given_inside, taken_inside}
 use Rattle.isle_rules.proofs.RuleLimits.{iflet_unread, iflet_first_ends, iflet_none, iflet_ends}
 use Rattle.isle_rules.proofs.term_env.TermEnv.translate_iflet.Goals as goal
@@ -98,7 +98,7 @@ returns-in_default-taken-clause-places c =
     let inside : OccurAmong first all = among_here env first (iflet_positions tree) (given_inside tree) in
     let second = with_templates env (pattern_positions tree.pattern) in
     let taken : OccurAmong second all = among_with env (pattern_positions tree.pattern) (iflet_positions tree) (taken_inside tree) in
-    notes_step first second all c.args.work.now.errors.items c.translate_expr.new.work.errors.items c.translate_pattern.new.work.errors.items inside taken c.in_ok-value.ensures.places c.in_ok-taken.ensures.places
+    notes_parts first second all c.args.work.now.errors.items c.translate_expr.new.work.errors.items c.translate_pattern.new.work.errors.items inside taken c.in_ok-value.ensures.places c.in_ok-taken.ensures.places
 
 pub returns-clause-places : goal.returns-clause-places
 returns-clause-places c =
@@ -109,7 +109,7 @@ returns-clause-places c =
     let inside : OccurAmong first all = among_here env first (iflet_positions tree) (given_inside tree) in
     let second = with_templates env (pattern_positions tree.pattern) in
     let taken : OccurAmong second all = among_with env (pattern_positions tree.pattern) (iflet_positions tree) (taken_inside tree) in
-    notes_step first second all c.args.work.now.errors.items c.translate_expr.new.work.errors.items c.translate_pattern.new.work.errors.items inside taken c.in_ok-value.ensures.places c.in_ok-taken.ensures.places
+    notes_parts first second all c.args.work.now.errors.items c.translate_expr.new.work.errors.items c.translate_pattern.new.work.errors.items inside taken c.in_ok-value.ensures.places c.in_ok-taken.ensures.places
 
 pub returns-in_err-value-clause-limits : goal.returns-in_err-value-clause-limits
 returns-in_err-value-clause-limits c =

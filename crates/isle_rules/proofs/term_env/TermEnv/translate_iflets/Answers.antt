@@ -6,9 +6,9 @@ use Rattle.isle_rules.proofs.Readings.{stop_is, stop_keeps, keep_none, keep_on}
 use Rattle.std.proofs.Common.{map, refl}
 use Rattle.std.specs.List.{flat_map}
 use Rattle.isle_base.specs.Positions.{OccurAmong, iflet_positions}
-use Rattle.isle_base.proofs.Positioned.{among_same, notes_nothing}
+use Rattle.isle_base.proofs.Positioned.{among_same, notes_nothing, notes_parts}
 use Rattle.isle_rules.specs.RulePositions.{with_templates}
-use Rattle.isle_rules.proofs.Placed.{among_with, stop_step, notes_step}
+use Rattle.isle_rules.proofs.Placed.{among_with, stop_step}
 use Rattle.isle_rules.proofs.PartPlaces.{each_inside}
 use Rattle.isle_rules.specs.RuleReadings.{iflet_reading}
 use Rattle.isle_rules.proofs.RuleLimits.{next_iflet_none, next_iflet_ends, all_iflets_none}
@@ -37,7 +37,7 @@ loop-iflet-preserved c =
           let part = iflet_positions (S.iflet_view c.iflet-item.result) in
           let parts = flat_map iflet_positions (map S.iflet_view c.args.iflets.now) in
           let inside : OccurAmong (with_templates env part) (with_templates env parts) = among_with env part parts (each_inside iflet_positions S.iflet_view c.args.iflets.now c.loop-iflet.iflet-index c.iflet-item.result c.loop-iflet-test.true c.iflet-item.is) in
-          notes_step (with_templates env parts) (with_templates env part) (with_templates env parts) c.args.work.now.errors.items c.loop-iflet.work.errors.items c.translate_iflet.new.work.errors.items (among_same (with_templates env parts)) inside c.loop-iflet.invariant.2 c.in_ok-one.ensures.places
+          notes_parts (with_templates env parts) (with_templates env part) (with_templates env parts) c.args.work.now.errors.items c.loop-iflet.work.errors.items c.translate_iflet.new.work.errors.items (among_same (with_templates env parts)) inside c.loop-iflet.invariant.2 c.in_ok-one.ensures.places
           ),
       next_iflet_none c.args.self.now (standing c.args.tyenv.now c.args.work.now) (standing c.loop-iflet.tyenv c.loop-iflet.work) (standing c.translate_iflet.new.tyenv c.translate_iflet.new.work) c.args.nesting (flags_view c.args.flags)
           c.args.iflets.now c.loop-iflet.iflet-index c.iflet-item.result c.loop-iflet-test.true c.iflet-item.is c.loop-iflet.invariant.0 c.loop-iflet.made.items c.loop-iflet.invariant.1 c.loop-iflet.invariant.3 c.in_ok-one.ensures.limits,

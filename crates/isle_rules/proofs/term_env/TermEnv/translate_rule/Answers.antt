@@ -7,9 +7,9 @@ use Rattle.isle_rules.specs.Translating.{standing}
 use Rattle.isle_rules.proofs.Readings.{stop_is}
 use Rattle.isle_rules.proofs.RuleForms.{no_root, no_term, not_declared, no_sides, rule_stops, rule_done}
 use Rattle.isle_base.specs.Positions.{OccurAmong, rule_positions}
-use Rattle.isle_base.proofs.Positioned.{among_same, notes_among}
+use Rattle.isle_base.proofs.Positioned.{among_same, notes_among, notes_parts}
 use Rattle.isle_rules.specs.RulePositions.{with_templates}
-use Rattle.isle_rules.proofs.Placed.{among_here, notes_step}
+use Rattle.isle_rules.proofs.Placed.{among_here}
 use Rattle.isle_rules.proofs.PartPlaces.{rule_at}
 use Rattle.isle_rules.proofs.RuleLimits.{no_root_comes, no_term_comes, not_declared_comes, rule_none, rule_ends}
 use Rattle.isle_rules.proofs.term_env.TermEnv.translate_rule.Goals as goal
@@ -82,7 +82,7 @@ returns-clause-places c =
     let tree = S.rule_view c.args.rule.now in
     let all = with_templates env (rule_positions tree) in
     let here : OccurAmong (tree.at ∷ []) all = among_here env (tree.at ∷ []) (rule_positions tree) (rule_at tree) in
-    notes_step all (tree.at ∷ []) all c.args.work.now.errors.items c.translate_sides.new.work.errors.items c.check_priority.new.errors.items (among_same all) here c.in_ok-made.ensures.places c.in_ok-check_priority.ensures.places
+    notes_parts all (tree.at ∷ []) all c.args.work.now.errors.items c.translate_sides.new.work.errors.items c.check_priority.new.errors.items (among_same all) here c.in_ok-made.ensures.places c.in_ok-check_priority.ensures.places
 
 pub returns-clause-stands : goal.returns-clause-stands
 returns-clause-stands c =

@@ -10,9 +10,9 @@ use Rattle.isle_rules.proofs.SidesForms.{sides_first_stops, sides_second_stops, 
 use Rattle.std.specs.List.{flat_map}
 use Rattle.isle_model.specs.lists.Syntax.{Position}
 use Rattle.isle_base.specs.Positions.{OccurAmong, patterns_positions, expr_positions, iflet_positions, rule_positions}
-use Rattle.isle_base.proofs.Positioned.{among_same}
+use Rattle.isle_base.proofs.Positioned.{among_same, notes_parts}
 use Rattle.isle_rules.specs.RulePositions.{with_templates}
-use Rattle.isle_rules.proofs.Placed.{among_here, among_with, stop_among, stop_step, notes_step}
+use Rattle.isle_rules.proofs.Placed.{among_here, among_with, stop_among, stop_step}
 use Rattle.isle_rules.proofs.PartPlaces.{rule_root, rule_iflets, rule_value}
 use Rattle.isle_rules.specs.ExprReadings.{expr_reading}
 use Rattle.isle_rules.specs.RuleReadings.{iflets_reading}
@@ -91,7 +91,7 @@ returns-in_err-value-clause-places c =
     let second : OccurAmong (with_templates env iflets) all = among_with env iflets (rule_positions tree) (rule_iflets tree) in
     let value = expr_positions tree.expr in
     let third : OccurAmong value all = among_here env value (rule_positions tree) (rule_value tree) in
-    let before = notes_step (with_templates env args) (with_templates env iflets) all c.args.work.now.errors.items c.translate_root.new.work.errors.items c.translate_iflets.new.work.errors.items first second c.in_ok-parts.ensures.places (rw c.deref.ensures.value at c.in_ok-iflets.ensures.places) in
+    let before = notes_parts (with_templates env args) (with_templates env iflets) all c.args.work.now.errors.items c.translate_root.new.work.errors.items c.translate_iflets.new.work.errors.items first second c.in_ok-parts.ensures.places (rw c.deref.ensures.value at c.in_ok-iflets.ensures.places) in
     rw (stop_is c.from_residual-in_err-value.result c.in_err-value.field-0.0 c.from_residual-in_err-value.ensures)
     (stop_step all value all c.args.work.now.errors.items c.translate_iflets.new.work.errors.items c.translate_expr.new.work.errors.items c.in_err-value.field-0.0 (among_same all) third before c.in_err-value.ensures.places)
 
@@ -106,8 +106,8 @@ returns-in_default-clause-places c =
     let second : OccurAmong (with_templates env iflets) all = among_with env iflets (rule_positions tree) (rule_iflets tree) in
     let value = expr_positions tree.expr in
     let third : OccurAmong value all = among_here env value (rule_positions tree) (rule_value tree) in
-    let before = notes_step (with_templates env args) (with_templates env iflets) all c.args.work.now.errors.items c.translate_root.new.work.errors.items c.translate_iflets.new.work.errors.items first second c.in_ok-parts.ensures.places (rw c.deref.ensures.value at c.in_ok-iflets.ensures.places) in
-    notes_step all value all c.args.work.now.errors.items c.translate_iflets.new.work.errors.items c.translate_expr.new.work.errors.items (among_same all) third before c.in_ok-value.ensures.places
+    let before = notes_parts (with_templates env args) (with_templates env iflets) all c.args.work.now.errors.items c.translate_root.new.work.errors.items c.translate_iflets.new.work.errors.items first second c.in_ok-parts.ensures.places (rw c.deref.ensures.value at c.in_ok-iflets.ensures.places) in
+    notes_parts all value all c.args.work.now.errors.items c.translate_iflets.new.work.errors.items c.translate_expr.new.work.errors.items (among_same all) third before c.in_ok-value.ensures.places
 
 pub returns-clause-places : goal.returns-clause-places
 returns-clause-places c =
@@ -120,8 +120,8 @@ returns-clause-places c =
     let second : OccurAmong (with_templates env iflets) all = among_with env iflets (rule_positions tree) (rule_iflets tree) in
     let value = expr_positions tree.expr in
     let third : OccurAmong value all = among_here env value (rule_positions tree) (rule_value tree) in
-    let before = notes_step (with_templates env args) (with_templates env iflets) all c.args.work.now.errors.items c.translate_root.new.work.errors.items c.translate_iflets.new.work.errors.items first second c.in_ok-parts.ensures.places (rw c.deref.ensures.value at c.in_ok-iflets.ensures.places) in
-    notes_step all value all c.args.work.now.errors.items c.translate_iflets.new.work.errors.items c.translate_expr.new.work.errors.items (among_same all) third before c.in_ok-value.ensures.places
+    let before = notes_parts (with_templates env args) (with_templates env iflets) all c.args.work.now.errors.items c.translate_root.new.work.errors.items c.translate_iflets.new.work.errors.items first second c.in_ok-parts.ensures.places (rw c.deref.ensures.value at c.in_ok-iflets.ensures.places) in
+    notes_parts all value all c.args.work.now.errors.items c.translate_iflets.new.work.errors.items c.translate_expr.new.work.errors.items (among_same all) third before c.in_ok-value.ensures.places
 
 pub returns-in_err-parts-clause-limits : goal.returns-in_err-parts-clause-limits
 returns-in_err-parts-clause-limits c =
