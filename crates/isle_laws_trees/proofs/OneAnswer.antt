@@ -14,12 +14,13 @@ use Rattle.isle_model.specs.claims.Environments.{types_read, TypesRead, TypeEnvi
 use Rattle.isle_model.specs.claims.Refusals.{Refusal}
 use Rattle.isle_model.specs.claims.Layers.{own_program, IsCheckable, LoweredTerm, IsLoweredTerm, AreLowered, RefusedBy, by_types, by_rules, by_check}
 use Rattle.isle_model.proofs.Elements.{In}
+use Rattle.isle_model.proofs.Options.{options_one}
 use Rattle.isle_laws_closure.proofs.built.SitesOnce.{sites_stand_once_lem}
 use Rattle.isle_laws_closure.specs.ShadowLaws.{check_errors}
 use Rattle.isle_laws_closure.proofs.overlaps.MaskErrors.{check_errors_are_answered_lem}
 use Rattle.isle_laws_trees.specs.OneAnswer.{EachTwo, BecameSame, SameTermsShowSame, ReadingGivesOne, SerializingGivesOne, BuildingGivesOne, LoweringGivesOne, NoneIsAcceptedAndRefused, RefusingGivesOne}
 use Rattle.isle_laws_trees.proofs.OneTree.{best_trees_are_one_lem}
-use Rattle.isle_laws_trees.proofs.SameSets.{options_one, head_or, rest_of, built_sets_show_same_lem}
+use Rattle.isle_laws_trees.proofs.SameSets.{head_or, rest_of, built_sets_show_same_lem}
 use Rattle.isle_laws_trees.proofs.SameTrees.{best_trees_are_of_what_is_shown_lem}
 
 -- 1. environments

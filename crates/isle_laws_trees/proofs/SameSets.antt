@@ -14,6 +14,7 @@ use Rattle.isle_model.specs.trees.Places.{is_in, joins_in, constraint_at}
 use Rattle.isle_model.proofs.Elements.{In, contains_from_in}
 use Rattle.isle_model.proofs.Members.{get_within, in_head, in_tail, member_found, member_is_in, constraint_in}
 use Rattle.isle_model.proofs.SameSites.{term_means, same_term}
+use Rattle.isle_model.proofs.Options.{options_one}
 use Rattle.isle_laws_closure.proofs.built.SitesOnce.{once_of_term, one_number}
 use Rattle.isle_laws_closure.proofs.built.Unfolding.{unfolds}
 use Rattle.isle_laws_trees.specs.OneAnswer.{EachTwo, ShowSame, BuiltSetsShowSame}
@@ -21,11 +22,6 @@ use Rattle.isle_laws_runs.proofs.runs.Contents.{StandApart}
 use Rattle.isle_laws_trees.proofs.TreeMeanings.{asked_once}
 
 -- 1. values that answer alike
-pub options_one : {X : Type 0} (o q : Option X) → ((x : X) → o ≡ Some x → q ≡ Some x) → ((x : X) → q ≡ Some x → o ≡ Some x) → o ≡ q
-options_one (Some x) q f g = sym (f x refl)
-options_one None (Some x) f g = g x refl
-options_one None None f g = refl
-
 lists_one : {X : Type 0} (xs ys : List X) → length xs ≡ length ys → ((i : ℕ) → i < length xs → slice_get xs i ≡ slice_get ys i) → xs ≡ ys
 lists_one [] [] e f = refl
 lists_one [] (y ∷ ys) e f = absurd (omega (arith, e))

@@ -148,7 +148,7 @@ record TermFound (ns ms : List (List ℕ)) (t : TermEntry) (o : Option TermEntry
   named : OfOneText ns ms t.name name
   kinds : KindAlike t.kind kind
 
-that_passes : (p : TermEntry → Bool) (o : Option TermEntry) (t : TermEntry) → that p o ≡ Some t → (o ≡ Some t) × (p t ≡ true)
+pub that_passes : (p : TermEntry → Bool) (o : Option TermEntry) (t : TermEntry) → that p o ≡ Some t → (o ≡ Some t) × (p t ≡ true)
 that_passes p None t h = absurd (none-some t h)
 that_passes p (Some u) t h =
     elim (cases_Bool (p u)) [

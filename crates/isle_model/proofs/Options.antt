@@ -1,5 +1,5 @@
 -- Optional values that are there, and one after another.
-use Rattle.std.proofs.Common.{◌≡◌, true, Option, Some, None, is_some, refl, ap, ◌∙◌}
+use Rattle.std.proofs.Common.{◌≡◌, true, Option, Some, None, is_some, refl, sym, ap, ◌∙◌}
 use Rattle.std.proofs.lemmas.Bool.{false≢true}
 use Rattle.std.proofs.lemmas.Option.{none-some}
 use Rattle.isle_model.specs.rules.Outcome.{then_option}
@@ -7,6 +7,12 @@ use Rattle.isle_model.specs.rules.Outcome.{then_option}
 pub is_there : {X : Type 0} (o : Option X) → is_some o ≡ true → (x : X) × (o ≡ Some x)
 is_there None h = absurd (false≢true h)
 is_there (Some x) h = (x, refl)
+
+-- two that hold the same values are one
+pub options_one : {X : Type 0} (o q : Option X) → ((x : X) → o ≡ Some x → q ≡ Some x) → ((x : X) → q ≡ Some x → o ≡ Some x) → o ≡ q
+options_one (Some x) q f g = sym (f x refl)
+options_one None (Some x) f g = g x refl
+options_one None None f g = refl
 
 module _ {X Y : Type 0} where
   -- where both give something

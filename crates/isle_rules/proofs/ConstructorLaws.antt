@@ -6,6 +6,9 @@ use Rattle.std.proofs.lemmas.Bool.{cases_Bool, false≢true}
 use Rattle.std.proofs.lemmas.List.Elements.{All-nil, All-cons, All-head, All-tail, All-append}
 use Rattle.std.proofs.lemmas.Option.{none-some, same_Some}
 use Rattle.isle_base.specs.Expressions.{terms_of_expr, terms_of_exprs, terms_of_lets}
+use Rattle.isle_rules.proofs.RuleBreachSteps.{with_some}
+use Rattle.isle_model.proofs.Options.{options_one}
+use Rattle.isle_laws_typing.proofs.TwoTables.{that_passes}
 use Rattle.isle_model.specs.lists.Syntax.{Position, Name, ExprTree, term_expr, var_expr, ExprTrees, LetTrees, IfLetTree, RuleTree}
 use Rattle.isle_model.specs.lists.Names.{number, has_name}
 use Rattle.isle_model.specs.lists.Tables.{Flags, TermKindEntry, variant_term, struct_term, declared_term, TermEntry}
@@ -13,15 +16,15 @@ use Rattle.isle_model.specs.lists.TermTable.{root_name}
 use Rattle.isle_model.specs.rules.Meaning.{look}
 use Rattle.isle_model.specs.rules.Outcome.{then_option}
 use Rattle.isle_model.specs.rules.Typed.{TypedExpr, make_term, TypedExprs, TypedLets, TypedIfLet, TypedRule}
-use Rattle.isle_model.specs.lists.Setting.{Setting, Scope, new_scope, entry_named, term_of, that, has_constructor, is_expected, is_callable, allow, converter, expr_converter, expr_type, on_lhs, declared_flags}
+use Rattle.isle_model.specs.lists.Setting.{Setting, Scope, new_scope, entry_named, term_of, has_constructor, is_expected, is_callable, allow, converter, expr_converter, expr_type, on_lhs, declared_flags}
 use Rattle.isle_model.specs.lists.Typings.{Typing, joined_typing, followed}
 use Rattle.isle_model.specs.lists.Expansions.{term_name_at, wrapped_expr}
 use Rattle.isle_model.specs.lists.Elaborated.{elaborated_pattern, elaborated_parts, elaborated_expr, elaborated_iflet, elaborated_iflets, elaborated_sides, elaborated_rule, typed_iflet, root_parts, sides_of, last_sides, finished_rule, may_have_priority, few_enough, most_nested, typed_rule, typed_rules, TypedRules, with_typed, with_own_name}
 use Rattle.isle_model.specs.lists.Elaborates.{ElaboratesExpr, ElaboratesArgs, ElaboratesLets, a_call, converted_call, a_variable, converted_variable, truth_expr, integer_expr, constant_expr, let_in, no_arg, an_arg, no_def, a_def, ElaboratesIfLets, no_iflet, an_iflet, ElaboratesRule, a_rule}
 use Rattle.isle_model.proofs.Members.{get_within}
 use Rattle.isle_model.proofs.Names.{found, absent, last, has_at, at_number}
-use Rattle.isle_laws_typing.proofs.FormedRules.{named_at}
-use Rattle.isle_laws_typing.proofs.Typings.{then_gives, followed_gives, if_gives}
+use Rattle.isle_laws_typing.proofs.FormedRules.{named_at, constructs}
+use Rattle.isle_laws_typing.proofs.Typings.{then_gives, followed_gives}
 use Rattle.isle_laws_typing.proofs.TypedRules.{rules_agree, typed_within_limits}
 use Rattle.isle_laws_typing.proofs.TypedPatterns as patterns
 use Rattle.isle_laws_typing.proofs.TypedExprs as exprs
@@ -32,12 +35,6 @@ use Rattle.isle_rules.specs.RuleLists.{rules_within}
 use Rattle.isle_rules.specs.RuleReadings.{iflets_reading, ends_reading, sides_reading, rule_reading}
 use Rattle.isle_rules.proofs.MadeSettings.{term_made, converter_made}
 use Rattle.isle_rules.proofs.NamesKept.{Kept, kept_here, kept_on, kept_with, pattern_keeps, parts_keep, expr_keeps, lets_keep}
-
--- 1. lists and options
-same_options : {X : Type 0} (o p : Option X) → ((a : X) → o ≡ Some a → p ≡ Some a) → ((a : X) → p ≡ Some a → o ≡ Some a) → o ≡ p
-same_options None None f g = refl
-same_options None (Some b) f g = g b refl
-same_options (Some a) p f g = sym (f a refl)
 
 then_same : {X Y : Type 0} (o : Option X) (f g : X → Option Y) → ((x : X) → o ≡ Some x → f x ≡ g x) → then_option o f ≡ then_option o g
 then_same None f g h = refl
@@ -60,18 +57,9 @@ both_true : (a b : Bool) → a ≡ true → b ≡ true → a && b ≡ true
 both_true true b p q = q
 both_true false b p q = absurd (false≢true p)
 
-first_true : (a b : Bool) → a && b ≡ true → a ≡ true
-first_true true b h = refl
-first_true false b h = absurd (false≢true h)
-
 second_true : (a b : Bool) → a && b ≡ true → b ≡ true
 second_true true b h = h
 second_true false b h = absurd (false≢true h)
-
-has_one : (flags : Flags) (k : TermKindEntry) → is_callable flags k ≡ true → has_constructor k ≡ true
-has_one flags (variant_term variant) h = refl
-has_one flags struct_term h = refl
-has_one flags (declared_term own constructor_kind extractor_kind) h = first_true _ (allow flags own) h
 
 callable_then : (flags : Flags) (k : TermKindEntry) → is_callable flags k ≡ true → is_callable flags (made_kind k) ≡ true
 callable_then flags (variant_term variant) h = refl
@@ -83,14 +71,10 @@ callable_before flags (variant_term variant) h c = refl
 callable_before flags struct_term h c = refl
 callable_before flags (declared_term own constructor_kind extractor_kind) h c = both_true _ (allow flags own) c h
 
-that_gives : (p : TermEntry → Bool) (o : Option TermEntry) (t : TermEntry) → that p o ≡ Some t → (o ≡ Some t) × (p t ≡ true)
-that_gives p None t h = absurd (none-some t h)
-that_gives p (Some u) t h = let c = if_gives (p u) (Some u) h in (c.1, subst (λ (v : TermEntry). p v ≡ true) (same_Some u t c.1) c.0)
-
 -- a converter of expressions is one of the terms, and has a constructor
 converter_is : (e : Setting) (i o : ℕ) (t : TermEntry) → expr_converter e i o ≡ Some t → (k : ℕ) × (slice_get e.terms k ≡ Some t) × (has_constructor t.kind ≡ true)
 converter_is e i o t h =
-    let a = that_gives (λ u. has_constructor u.kind) (converter e i o) t h in
+    let a = that_passes (λ u. has_constructor u.kind) (converter e i o) t h in
     let b = then_gives (look (λ k. (k.0 == i) && (k.1 == o)) e.converters) (slice_get e.terms) a.0 in
     (b.0, b.2, a.1)
 
@@ -159,7 +143,7 @@ module _ (e : Setting) (names : List (List ℕ)) (k : AreTermsNamed e names) whe
     mutual
       expr_uses : {d n : ℕ} {ty : Option ℕ} {x : ExprTree} {s t : Scope} {q : TypedExpr} → ElaboratesExpr e flags d x ty s q t n → Kept names s.names → AreMadeUses e names (terms_of_expr x)
       expr_uses (a_call {name = name} {args = args} {at = at} {s = s} {entry = entry} h i j g) w =
-          All-cons P (at, name) (terms_of_exprs args) (ap is_made (sym (same_entry s.names w name.text) ∙ h) ∙ has_one flags entry.kind j) (args_uses g w)
+          All-cons P (at, name) (terms_of_exprs args) (ap is_made (sym (same_entry s.names w name.text) ∙ h) ∙ constructs flags entry.kind j) (args_uses g w)
       expr_uses (converted_call {name = name} {args = args} {at = at} {s = s} {by = by} h i j g) w =
           all_left P (terms_of_expr (term_expr name args at)) [] (All-tail P (at, term_name_at s by at) (terms_of_expr (term_expr name args at) ++ []) (expr_uses g w))
       expr_uses (a_variable h i) w = All-nil P
@@ -234,7 +218,7 @@ module _ (e : Setting) (names : List (List ℕ)) (k : AreTermsNamed e names) whe
 
     pub expr_same : (d : ℕ) (x : ExprTree) (ty : Option ℕ) (s : Scope) → Kept names s.names → AreMadeUses e names (terms_of_expr x) → elaborated_expr (all_made e) flags d x ty s ≡ elaborated_expr e flags d x ty s
     expr_same d x ty s w m =
-        same_options (elaborated_expr (all_made e) flags d x ty s) (elaborated_expr e flags d x ty s)
+        options_one (elaborated_expr (all_made e) flags d x ty s) (elaborated_expr e flags d x ty s)
         (λ a h. exprs.complete e flags (expr_back (exprs.sound (all_made e) flags d x ty s a h) w m))
         (λ a h. exprs.complete (all_made e) flags (expr_made e flags (exprs.sound e flags d x ty s a h)))
 
@@ -323,10 +307,6 @@ module _ (e : Setting) (names : List (List ℕ)) (k : AreTermsNamed e names) whe
       ap (λ o. then_option (few_enough o) (λ a. with_typed a.made (rules_within e (suc id) rs a.scope.names))) (rule_same id most_nested r ms w (All-head (λ r. AreMadeUses e names (uses_of_rule r)) r rs m))
       ∙ then_same (typed_rule e id r ms) _ _ (λ a h.
       ap (with_typed a.made) (rules_same (suc id) rs a.scope.names (kept_on w (rule_keeps (rule_derived id r ms a h))) (All-tail (λ r. AreMadeUses e names (uses_of_rule r)) r rs m)))
-
-  with_some : (q : TypedRule) (o : Option TypedRules) (l : TypedRules) → with_typed q o ≡ Some l → (m : TypedRules) × (o ≡ Some m)
-  with_some q None l h = absurd (none-some l h)
-  with_some q (Some m) l h = (m, refl)
 
   pub rules_uses : (id : ℕ) (rs : List RuleTree) (ms : List (List ℕ)) (l : TypedRules) → Kept names ms → typed_rules e id rs ms ≡ Some l → AreMadeRules rs
   rules_uses id [] ms l w h = All-nil (λ r. AreMadeUses e names (uses_of_rule r))

@@ -14,6 +14,7 @@ use Rattle.isle_model.specs.rules.Typed.{TypedRule}
 use Rattle.isle_model.specs.claims.Environments.{TypesRead, AreReadable, setting_of}
 use Rattle.isle_model.specs.claims.Refusals.{Refusal}
 use Rattle.isle_model.proofs.Names.{distinct_names}
+use Rattle.isle_rules.proofs.RuleBreachSteps.{with_some}
 use Rattle.isle_laws_typing.specs.FurtherNames.{AreThereAlike}
 use Rattle.isle_laws_typing.proofs.NamesOfTables.{names_of_rules_dont_matter_lem}
 use Rattle.isle_laws_typing.proofs.TypedResults.{names_stay}
@@ -39,10 +40,6 @@ Stay names after = ((more : List (List ℕ)) × (after ≡ names ++ more)) × (I
 
 stay_on : (names mid after : List (List ℕ)) → Stay names mid → Stay mid after → Stay names after
 stay_on names mid after a b = ((a.0.0 ++ b.0.0, b.0.1 ∙ ap (λ ns. ns ++ b.0.0) a.0.1 ∙ append_assoc names a.0.0 b.0.0), λ d. b.1 (a.1 d))
-
-rest_some : (q : TypedRule) (o : Option TypedRules) (l : TypedRules) → with_typed q o ≡ Some l → (m : TypedRules) × (o ≡ Some m)
-rest_some q None l h = absurd (none-some l h)
-rest_some q (Some m) l h = (m, refl)
 
 rest_none : (q : TypedRule) (o : Option TypedRules) → with_typed q o ≡ None → o ≡ None
 rest_none q None h = refl
@@ -106,7 +103,7 @@ module _ (s : Setting) (d : ℕ) where
   first_from id [] names l reached none = absurd (none-some (record { rules = []; names = names }) (sym none))
   first_from id (r ∷ rs) names l reached none =
       let a = then_gives (elaborated_rule s d id r names) (λ a. with_typed a.made (rules_reached s d (suc id) rs a.scope.names)) reached in
-      let m = rest_some a.0.made (rules_reached s d (suc id) rs a.0.scope.names) l a.2 in
+      let m = with_some a.0.made (rules_reached s d (suc id) rs a.0.scope.names) l a.2 in
       elim (typed_rule s id r names) as (λ o. typed_rule s id r names ≡ o → FirstFrom s d id (r ∷ rs) names) [
         | None ↦ λ h. at_head id r rs names a.0 a.1 h
         | Some b ↦ λ h.

@@ -1,7 +1,6 @@
 -- Lets, from what their definitions and their body became.
-use Rattle.std.proofs.Common.{◌≡◌, ℕ, suc, ◌+◌, ◌<◌, ◌||◌, Bool, true, false, cond, nat_eq, List, [], ◌∷◌, ◌++◌, length, take, drop, get_or, Option, Some, None, option_and_then, Ok, Box, refl, sym, ap, subst, ◌∙◌, inl, inr, ◌⊎◌, ⊎_elim, arith}
+use Rattle.std.proofs.Common.{◌≡◌, ℕ, ◌+◌, ◌<◌, true, false, cond, nat_eq, List, [], ◌∷◌, ◌++◌, length, take, drop, get_or, Option, Some, None, option_and_then, Ok, Box, refl, sym, ap, subst, ◌∙◌, inl, inr, ◌⊎◌, ⊎_elim, arith}
 use Rattle.std.specs.Option.{option_to_list}
-use Rattle.std.specs.Str.{bytes_eq}
 use Rattle.std.specs.declared.alloc.Global.{Global}
 use Rattle.std.proofs.lemmas.List.{take_more, take-append-drop, length-append}
 use Rattle.std.specs.List.{position_from}
@@ -24,6 +23,7 @@ use Rattle.isle_types.specs.declared.ids.TypeId.{TypeId}
 use Rattle.isle_types.specs.declared.ids.VarId.{VarId}
 use Rattle.isle_types.specs.Envs.{names_of, symbol_of, type_at, type_of_name, IsInterned}
 use Rattle.isle_base.specs.Noting.{NotesMore, MayNoteMore}
+use Rattle.isle_laws_typing.proofs.TypesStay.{number_front}
 use Rattle.isle_typed.specs.declared.exprs.Expr.{Expr}
 use Rattle.isle_typed.specs.declared.rules.BoundVar.{BoundVar}
 use Rattle.isle_rules.specs.declared.term_env.TermEnv.{TermEnv}
@@ -57,15 +57,6 @@ defined_gives own x (Some a) r h = (a, refl, ap expansions_of h)
     expansions_of : Option (Typing TypedLets) → ℕ
     expansions_of None = 0
     expansions_of (Some v) = v.expansions
-
-number_left : (ns ys : List (List ℕ)) (x : List ℕ) → has_name ns x ≡ true → number (ns ++ ys) x ≡ number ns x
-number_left [] ys x h = absurd (cc)
-number_left (n ∷ ns) ys x h =
-    elim (bytes_eq n x) as (λ b. cond b true (has_name ns x) ≡ true → cond b 0 (suc (number (ns ++ ys) x)) ≡ cond b 0 (suc (number ns x))) [ true ↦ λ _. refl | false ↦ λ k. ap suc (number_left ns ys x k) ] (or_cond (bytes_eq n x) (has_name ns x) h)
-  where
-    or_cond : (p q : Bool) → p || q ≡ true → cond p true q ≡ true
-    or_cond true q h = refl
-    or_cond false q h = h
 
 -- one definition
 module _ (env : TermEnv) (old mid : Standing) (name ty : Name) (value : ExprTree) (at : Position) (flags : Flags) (inv : IsInterned old.tyenv) where
@@ -140,7 +131,7 @@ module _ (env : TermEnv) (old mid : Standing) (name ty : Name) (value : ExprTree
       numbered : id ≡ number (names_of next.tyenv) name.text
       numbered =
           named ∙ sym (number_new (names_of old.tyenv) name.text) ∙ ap (λ ns. number ns name.text) (sym names)
-          ∙ sym (number_left (names_of mid.tyenv) further.names.0 name.text (ap (λ ns. has_name ns name.text) names ∙ has_new (names_of old.tyenv) name.text))
+          ∙ sym (number_front (names_of mid.tyenv) further.names.0 name.text (ap (λ ns. has_name ns name.text) names ∙ has_new (names_of old.tyenv) name.text))
           ∙ ap (λ ns. number ns name.text) (sym further.names.1)
 
       abbrev kept : TypedLets

@@ -37,7 +37,7 @@ use Rattle.isle_rules.proofs.NamedLimits.{rules_before, one_more, errors_stay}
 use Rattle.isle_rules.proofs.Readings.{keep_setting}
 
 -- 1. rules in order, of which some come first
-with_some : (q : TypedRule) (o : Option TypedRules) (l : TypedRules) → with_typed q o ≡ Some l → (m : TypedRules) × (o ≡ Some m) × (l ≡ record { rules = q ∷ m.rules; names = m.names })
+pub with_some : (q : TypedRule) (o : Option TypedRules) (l : TypedRules) → with_typed q o ≡ Some l → (m : TypedRules) × (o ≡ Some m) × (l ≡ record { rules = q ∷ m.rules; names = m.names })
 with_some q None l h = absurd (none-some l h)
 with_some q (Some m) l h = (m, refl, sym (same_Some _ _ h))
 

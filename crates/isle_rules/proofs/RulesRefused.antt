@@ -10,7 +10,7 @@ use Rattle.isle_base.specs.Stable.{Entries}
 use Rattle.isle_model.specs.lists.Syntax.{Position, RuleTree, Definition}
 use Rattle.isle_model.specs.lists.TermTable.{rule_trees, term_names_met, term_table}
 use Rattle.isle_model.specs.claims.Environments.{TypesRead, AreReadable, HasTypedRules, setting_of, AreTermsOf}
-use Rattle.isle_model.specs.claims.Refusals.{NamedLimit, Refusal, ill_typed, unreachable, overlapping, shadowing, past_limit, NamesOnlyPassed, PassedInReading, IsIllTyped, IsOfReading, RefusesTerms, RefusesRules}
+use Rattle.isle_model.specs.claims.Refusals.{NamedLimit, Refusal, past_limit, NamesOnlyPassed, PassedInReading, IsIllTyped, IsOfReading, RefusesTerms, RefusesRules}
 use Rattle.isle_model.specs.rules.Typed.{TypedRule}
 use Rattle.isle_types.specs.declared.ids.RuleId.{RuleId}
 use Rattle.isle_types.specs.declared.ids.Sym.{Sym}
@@ -24,6 +24,7 @@ use Rattle.isle_rules.specs.declared.term_env.TermEnv.{TermEnv}
 use Rattle.isle_rules.specs.Constructors.{AreTermsNamed}
 use Rattle.isle_base.specs.ErrorViews.{error_views}
 use Rattle.isle_base.specs.Noting.{MayNoteMore}
+use Rattle.isle_laws_typing.proofs.RefusedTerms.{of_reading}
 use Rattle.isle_rules.specs.LimitsNamed.{NamesPastLimits, NamesTypedPastLimits, NamesFirstPastLimits}
 use Rattle.isle_rules.specs.RuleErrors.{NotesOfRules, IsOfRules}
 use Rattle.isle_reports.specs.RuleNaming.{MapsNames, AreDefined, IsLeftUndefined}
@@ -123,13 +124,6 @@ terms_said e defs expand r f h refused told =
     passed_on (λ es. RefusesTerms e defs (error_views es) × AreErrorsOfTerms e defs es) (TellsReading e defs expand)
     (λ es t. record { terms = λ no. t.1; rules = λ valid. absurd (t.0.not_valid valid) }) r f h
     (both_said (λ es. RefusesTerms e defs (error_views es)) (AreErrorsOfTerms e defs) f refused told)
-
-of_reading : (x : Refusal) → IsIllTyped x → IsOfReading x
-of_reading (ill_typed at) h = h
-of_reading (unreachable at) h = absurd h
-of_reading (overlapping rules) h = absurd h
-of_reading (shadowing shadowed mask) h = absurd h
-of_reading (past_limit l at) h = absurd h
 
 -- without terms there are no rules
 refused_without_terms : (e : TypesRead) (defs : List Definition) (expand : Bool) (errors : List Refusal) → RefusesTerms e defs errors → RefusesRules e defs expand errors

@@ -1,12 +1,13 @@
 -- Which scope is shown after a name was met or bound.
-use Rattle.std.proofs.Common.{◌≡◌, ℕ, ◌<◌, ◌≤◌, true, false, cond, nat_eq, List, [], ◌∷◌, ◌++◌, length, Option, Some, refl, sym, ap, subst, ◌∙◌, arith, inl, inr}
+use Rattle.std.proofs.Common.{◌≡◌, ℕ, ◌<◌, true, false, cond, nat_eq, List, [], ◌∷◌, ◌++◌, length, Option, Some, refl, sym, ap, subst, ◌∙◌, arith, inl, inr}
 use Rattle.std.proofs.lemmas.Bool.{cases_Bool, eqb-true}
-use Rattle.std.proofs.lemmas.List.{length-append, length-map}
+use Rattle.std.proofs.lemmas.List.{length-map}
 use Rattle.isle_model.specs.lists.Names.{number, has_name, with_name}
 use Rattle.isle_model.specs.rules.Typed.{TypedVar}
 use Rattle.isle_model.specs.lists.Setting.{Scope, new_var, var_named, met, bound, var_of}
 use Rattle.isle_model.specs.lists.Typings.{Typing, plain}
 use Rattle.isle_model.proofs.Names.{last, known_name, number_new, has_new, number_below}
+use Rattle.isle_types.proofs.WellFormedEnvs.{longer}
 use Rattle.isle_types.specs.Envs.{names_of}
 use Rattle.isle_typed.specs.RuleViews.{var_view}
 use Rattle.isle_rules.specs.Progress.{newest, vars_of, next_var, BindsNext, Remains}
@@ -16,10 +17,6 @@ use Rattle.isle_rules.proofs.Readings.{becomes_plain, becomes_same}
 -- a text whose number is that of a name that was met is this name
 pub is_met : (ns : List (List ℕ)) (x : List ℕ) → number ns x < length ns → has_name ns x ≡ true
 is_met ns x h = elim (cases_Bool (has_name ns x)) [ inl there ↦ there | inr none ↦ absurd (let e = last ns x none in omega (arith, e, h)) ]
-
-pub longer_names : (ns : List (List ℕ)) (x : List ℕ) → length ns ≤ length (with_name ns x)
-longer_names ns x =
-    elim (has_name ns x) as (λ b. length ns ≤ length (cond b ns (ns ++ x ∷ []))) [ true ↦ omega arith | false ↦ let e = length-append ns (x ∷ []) in omega (arith, e) ]
 
 -- where at most errors were noted the scope is that before
 pub still : (old new : Standing) (s : Scope) → names_of new.tyenv ≡ names_of old.tyenv → Remains old.work new.work → Shows old s → Shows new s
@@ -38,7 +35,7 @@ met_shows old new s x names r sh = record {
   visible = λ k. r.names k ∙ sh.visible k;
   met = λ k v h.
       let l = sh.met k v (sym (r.names k) ∙ h) in
-      let m = longer_names (names_of old.tyenv) x in
+      let m = longer (names_of old.tyenv) x in
       subst (λ (ns : List (List ℕ)). k < length ns) (sym names) (omega (arith, l, m));
 }
 
@@ -87,7 +84,7 @@ module _ (old new : Standing) (s : Scope) (x : List ℕ) (ty : ℕ) (sh : Shows 
               omega (arith, here, named, below)
           | false ↦ λ _ g.
               let l = sh.met k w g in
-              let m = longer_names (names_of old.tyenv) x in
+              let m = longer (names_of old.tyenv) x in
               omega (arith, l, m)
         ] refl (sym (b.names k) ∙ h));
   }
