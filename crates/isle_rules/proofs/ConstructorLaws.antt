@@ -6,7 +6,6 @@ use Rattle.std.proofs.lemmas.Bool.{cases_Bool, false≢true}
 use Rattle.std.proofs.lemmas.List.Elements.{All-nil, All-cons, All-head, All-tail, All-append}
 use Rattle.std.proofs.lemmas.Option.{none-some, same_Some}
 use Rattle.isle_base.specs.Expressions.{terms_of_expr, terms_of_exprs, terms_of_lets}
-use Rattle.isle_rules.proofs.RuleBreachSteps.{with_some}
 use Rattle.isle_model.proofs.Options.{options_one}
 use Rattle.isle_laws_typing.proofs.TwoTables.{that_passes}
 use Rattle.isle_model.specs.lists.Syntax.{Position, Name, ExprTree, term_expr, var_expr, ExprTrees, LetTrees, IfLetTree, RuleTree}
@@ -29,12 +28,17 @@ use Rattle.isle_laws_typing.proofs.TypedRules.{rules_agree, typed_within_limits}
 use Rattle.isle_laws_typing.proofs.TypedPatterns as patterns
 use Rattle.isle_laws_typing.proofs.TypedExprs as exprs
 use Rattle.isle_types.proofs.RightTypes.{all_left, all_right}
-use Rattle.isle_rules.specs.Constructors.{is_made, AreMadeUses, uses_of_rule, AreTermsNamed}
+use Rattle.isle_rules.specs.Constructors.{has_constructor_if_there, AreMadeUses, uses_of_rule, AreTermsNamed}
 use Rattle.isle_rules.specs.ExprReadings.{made_kind, made_entry, all_made}
 use Rattle.isle_rules.specs.RuleLists.{rules_within}
 use Rattle.isle_rules.specs.RuleReadings.{iflets_reading, ends_reading, sides_reading, rule_reading}
 use Rattle.isle_rules.proofs.MadeSettings.{term_made, converter_made}
 use Rattle.isle_rules.proofs.NamesKept.{Kept, kept_here, kept_on, kept_with, pattern_keeps, parts_keep, expr_keeps, lets_keep}
+
+-- 1. lists and options
+pub with_some : (q : TypedRule) (o : Option TypedRules) (l : TypedRules) → with_typed q o ≡ Some l → (m : TypedRules) × (o ≡ Some m) × (l ≡ record { rules = q ∷ m.rules; names = m.names })
+with_some q None l h = absurd (none-some l h)
+with_some q (Some m) l h = (m, refl, sym (same_Some _ _ h))
 
 then_same : {X Y : Type 0} (o : Option X) (f g : X → Option Y) → ((x : X) → o ≡ Some x → f x ≡ g x) → then_option o f ≡ then_option o g
 then_same None f g h = refl
@@ -111,7 +115,7 @@ module _ (e : Setting) (flags : Flags) where
 
 module _ (e : Setting) (names : List (List ℕ)) (k : AreTermsNamed e names) where
   abbrev P : Position × Name → Type 0
-  P u = IsTrue (is_made (entry_named (number names u.1.text) e.terms))
+  P u = IsTrue (has_constructor_if_there (entry_named (number names u.1.text) e.terms))
 
   -- 4. terms by their names
   term_below : (n : ℕ) (t : TermEntry) → entry_named n e.terms ≡ Some t → n < length names
@@ -143,7 +147,7 @@ module _ (e : Setting) (names : List (List ℕ)) (k : AreTermsNamed e names) whe
     mutual
       expr_uses : {d n : ℕ} {ty : Option ℕ} {x : ExprTree} {s t : Scope} {q : TypedExpr} → ElaboratesExpr e flags d x ty s q t n → Kept names s.names → AreMadeUses e names (terms_of_expr x)
       expr_uses (a_call {name = name} {args = args} {at = at} {s = s} {entry = entry} h i j g) w =
-          All-cons P (at, name) (terms_of_exprs args) (ap is_made (sym (same_entry s.names w name.text) ∙ h) ∙ constructs flags entry.kind j) (args_uses g w)
+          All-cons P (at, name) (terms_of_exprs args) (ap has_constructor_if_there (sym (same_entry s.names w name.text) ∙ h) ∙ constructs flags entry.kind j) (args_uses g w)
       expr_uses (converted_call {name = name} {args = args} {at = at} {s = s} {by = by} h i j g) w =
           all_left P (terms_of_expr (term_expr name args at)) [] (All-tail P (at, term_name_at s by at) (terms_of_expr (term_expr name args at) ++ []) (expr_uses g w))
       expr_uses (a_variable h i) w = All-nil P
@@ -165,11 +169,11 @@ module _ (e : Setting) (names : List (List ℕ)) (k : AreTermsNamed e names) whe
 
     -- 6. and back
     -- a converter's use names a term with a constructor
-    converter_head : (s : Scope) → Kept names s.names → (i o : ℕ) (by own : TermEntry) → made_entry own ≡ by → expr_converter e i o ≡ Some own → IsTrue (is_made (entry_named (number names (unwrap_or (slice_get s.names by.name) [])) e.terms))
+    converter_head : (s : Scope) → Kept names s.names → (i o : ℕ) (by own : TermEntry) → made_entry own ≡ by → expr_converter e i o ≡ Some own → IsTrue (has_constructor_if_there (entry_named (number names (unwrap_or (slice_get s.names by.name) [])) e.terms))
     converter_head s w i o by own same h =
         let c = converter_is e i o own h in
-        ap (λ (v : TermEntry). is_made (entry_named (number names (unwrap_or (slice_get s.names v.name) [])) e.terms)) (sym same)
-        ∙ ap is_made (same_term s.names w c.0 own c.1)
+        ap (λ (v : TermEntry). has_constructor_if_there (entry_named (number names (unwrap_or (slice_get s.names v.name) [])) e.terms)) (sym same)
+        ∙ ap has_constructor_if_there (same_term s.names w c.0 own c.1)
         ∙ c.2
 
     call_back : {d n : ℕ} {ty : Option ℕ} {name : Name} {args : ExprTrees} {at : Position} {s t : Scope} {qs : TypedExprs} (own entry : TermEntry) → made_entry own ≡ entry → term_of e s name.text ≡ Some own → has_constructor own.kind ≡ true
@@ -183,7 +187,7 @@ module _ (e : Setting) (names : List (List ℕ)) (k : AreTermsNamed e names) whe
       expr_back : {d n : ℕ} {ty : Option ℕ} {x : ExprTree} {s t : Scope} {q : TypedExpr} → ElaboratesExpr (all_made e) flags d x ty s q t n → Kept names s.names → AreMadeUses e names (terms_of_expr x) → ElaboratesExpr e flags d x ty s q t n
       expr_back (a_call {name = name} {args = args} {at = at} {s = s} {entry = entry} h i j g) w m =
           let f = mapped (term_of e s name.text) entry (sym (term_made e s name.text (term_of e s name.text) refl) ∙ h) in
-          let c = sym (ap is_made (sym (same_entry s.names w name.text) ∙ f.1)) ∙ All-head P (at, name) (terms_of_exprs args) m in
+          let c = sym (ap has_constructor_if_there (sym (same_entry s.names w name.text) ∙ f.1)) ∙ All-head P (at, name) (terms_of_exprs args) m in
           call_back f.0 entry f.2 f.1 c i j (args_back g w (All-tail P (at, name) (terms_of_exprs args) m))
       expr_back (converted_call {d = d} {ty = ty} {n = n} {name = name} {args = args} {at = at} {s = s} {t = t} {entry = entry} {by = by} {q = q} h i j g) w m =
           let f = mapped (term_of e s name.text) entry (sym (term_made e s name.text (term_of e s name.text) refl) ∙ h) in

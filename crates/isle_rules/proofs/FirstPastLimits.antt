@@ -14,7 +14,7 @@ use Rattle.isle_model.specs.rules.Typed.{TypedRule}
 use Rattle.isle_model.specs.claims.Environments.{TypesRead, AreReadable, setting_of}
 use Rattle.isle_model.specs.claims.Refusals.{Refusal}
 use Rattle.isle_model.proofs.Names.{distinct_names}
-use Rattle.isle_rules.proofs.RuleBreachSteps.{with_some}
+use Rattle.isle_rules.proofs.ConstructorLaws.{with_some}
 use Rattle.isle_laws_typing.specs.FurtherNames.{AreThereAlike}
 use Rattle.isle_laws_typing.proofs.NamesOfTables.{names_of_rules_dont_matter_lem}
 use Rattle.isle_laws_typing.proofs.TypedResults.{names_stay}

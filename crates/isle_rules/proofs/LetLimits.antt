@@ -26,7 +26,7 @@ use Rattle.isle_rules.specs.ExprReadings.{all_made, expr_reading, lets_reading}
 use Rattle.isle_rules.specs.Lets.{with_let, Defines}
 use Rattle.isle_rules.specs.Progress.{Remains}
 use Rattle.isle_rules.specs.ReachedLimits.{Limits, or_after, expr_limits, lets_limits}
-use Rattle.isle_rules.specs.LimitStops.{ComesTo, EndsAt, StopEnds}
+use Rattle.isle_rules.specs.LimitStops.{ComesTo, EndsByLimit, StopEnds}
 use Rattle.isle_rules.specs.Translating.{Standing, Keeps, IsSettingOf, Shows, Reading, IsTranslated, IsReported, KeepsNoted}
 use Rattle.isle_rules.proofs.LetForms.{lets_joined, lets_after, type_found, def_reported, further, so_far, inner, inner_reported, so_far_defs}
 use Rattle.isle_rules.proofs.LimitLists.{or_nothing, lets_further, lets_left}
@@ -58,7 +58,7 @@ module _ (env : TermEnv) (old mid : Standing) (name ty : Name) (value : ExprTree
         ∙ ap (λ k. expr_limits value flags (Some own) e d k (met s name.text)) (sym r.expansions)
         ∙ y e (met s name.text) (keep_setting env old.tyenv mid.tyenv e keeps is) (met_shows old mid s name.text names r sh)
 
-    at_value : (new : Standing) (l : NamedLimit) → EndsAt env mid new d (expr_reading value flags (Some own)) (expr_limits value flags (Some own)) l → EndsAt env old new d one ones l
+    at_value : (new : Standing) (l : NamedLimit) → EndsByLimit env mid new d (expr_reading value flags (Some own)) (expr_limits value flags (Some own)) l → EndsByLimit env old new d one ones l
     at_value new l (inl y) = inl (y.0 ∙ errors, def_comes (Some l) y.1)
     at_value new l (inr y) = inr (def_reported env old mid name ty value at flags inv keeps names r own there errors new y.0, def_comes None y.1)
 

@@ -11,7 +11,7 @@ use Rattle.isle_rules.specs.declared.term_env.TermEnv.{TermEnv}
 use Rattle.isle_rules.specs.declared.typing.progress.Stop.{Stop}
 use Rattle.isle_rules.specs.declared.typing.progress.Stop.TheVariants.{Memory, Nesting, Expansions}
 use Rattle.isle_rules.specs.ReachedLimits.{Limits, or_after}
-use Rattle.isle_rules.specs.LimitStops.{ComesTo, EndsAt, StopEnds, MeetsLimits, NotLimited, LeadsTo}
+use Rattle.isle_rules.specs.LimitStops.{ComesTo, EndsByLimit, StopEnds, MeetsLimits, NotLimited, LeadsTo}
 use Rattle.isle_rules.specs.Translating.{Standing, Keeps, IsSettingOf, Shows, Reading, Wherever, IsTranslated, IsReported, KeepsNoted, StaysNoted, Stops}
 use Rattle.isle_rules.proofs.Noted.{some_noted}
 use Rattle.isle_rules.proofs.Readings.{keep_setting, reported_then, then_reported, first_reported, stop_keeps}
@@ -59,7 +59,7 @@ module _ {P Q R : Type 0} (env : TermEnv) (old mid new : Standing) (d : ℕ) (fi
   then_none p keeps (inr x) h y = none_first mid x h
 
   at_limit : (l : NamedLimit) (p : P) → Keeps old.tyenv mid.tyenv → IsTranslated env old mid d first p ⊎ IsReported env old mid first → ComesTo env old d ones None
-      → MayNoteMore mid.work.errors.items new.work.errors.items → EndsAt env mid new d (second p) (twos p) l → EndsAt env old new d whole wholes l
+      → MayNoteMore mid.work.errors.items new.work.errors.items → EndsByLimit env mid new d (second p) (twos p) l → EndsByLimit env old new d whole wholes l
   at_limit l p keeps (inl x) h may (inl y) = inl (y.0 ∙ x.errors, then_comes p keeps x h (Some l) y.1)
   at_limit l p keeps (inl x) h may (inr y) = inr (then_reported env old mid new d first second whole f law p keeps (inl x) y.0, then_comes p keeps x h None y.1)
   at_limit l p keeps (inr x) h may y = inr (
@@ -73,7 +73,7 @@ module _ {P Q R : Type 0} (env : TermEnv) (old mid new : Standing) (d : ℕ) (fi
   then_ends p keeps x h Nesting may y = at_limit of_nesting p keeps x h may y
   then_ends p keeps x h Expansions may y = at_limit of_expansions p keeps x h may y
 
-  at_first : (l : NamedLimit) → EndsAt env old new d first ones l → EndsAt env old new d whole wholes l
+  at_first : (l : NamedLimit) → EndsByLimit env old new d first ones l → EndsByLimit env old new d whole wholes l
   at_first l (inl y) = inl (
     y.0,
     λ e s is sh.
@@ -92,7 +92,7 @@ module _ {P Q : Type 0} (env : TermEnv) (old new : Standing) (d : ℕ) (part : R
   pub same_comes : (o : Option NamedLimit) → ComesTo env old d ones o → ComesTo env old d wholes o
   same_comes o h e s is sh = same e s is sh ∙ h e s is sh
 
-  at_same : (l : NamedLimit) → EndsAt env old new d part ones l → EndsAt env old new d whole wholes l
+  at_same : (l : NamedLimit) → EndsByLimit env old new d part ones l → EndsByLimit env old new d whole wholes l
   at_same l (inl y) = inl (y.0, same_comes (Some l) y.1)
   at_same l (inr y) = inr (turn y.0, same_comes None y.1)
 
@@ -107,7 +107,7 @@ module _ {P Q : Type 0} (env : TermEnv) (old mid new : Standing) (same : mid.tye
   led_none : IsReported env old mid whole → ComesTo env old d wholes None
   led_none x e s is sh = ⊎_elim (λ k. not_same old.work.errors.items mid.work.errors.items k.0 (x.noted e s is sh).reports) (λ k. k.1) (leads e s is sh)
 
-  at_noted : (l : NamedLimit) → IsReported env old mid whole → MayNoteMore mid.work.errors.items new.work.errors.items → EndsAt env old new d whole wholes l
+  at_noted : (l : NamedLimit) → IsReported env old mid whole → MayNoteMore mid.work.errors.items new.work.errors.items → EndsByLimit env old new d whole wholes l
   at_noted l x may = inr (reported_then env old mid new d whole whole x (λ e c s h. h) may, led_none x)
 
   pub noted_meets : {X : Type 0} → IsReported env old mid whole → (r : Result X Stop) → StaysNoted mid new r → MeetsLimits env old new d whole wholes r
@@ -125,7 +125,7 @@ module _ {P Q : Type 0} (env : TermEnv) (old mid new : Standing) (same : mid.tye
         (λ k. not_same old.work.errors.items mid.work.errors.items errors k.0)
         (leads e s is sh)
 
-    at_led : (l : NamedLimit) → EndsAt env mid new left made mades l → EndsAt env old new d whole wholes l
+    at_led : (l : NamedLimit) → EndsByLimit env mid new left made mades l → EndsByLimit env old new d whole wholes l
     at_led l (inl y) = inl (y.0 ∙ errors, led_comes (Some l) y.1)
     at_led l (inr y) = inr (turn y.0, led_comes None y.1)
 

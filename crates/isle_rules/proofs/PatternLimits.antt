@@ -31,7 +31,7 @@ use Rattle.isle_rules.specs.Progress.{Remains, CountsOne, Counts}
 use Rattle.isle_rules.specs.PatternReadings.{pattern_reading, parts_reading, each_reading}
 use Rattle.isle_rules.specs.PatternUses.{found_term, found_converter, found_template, inside_term, TakesParts}
 use Rattle.isle_rules.specs.ReachedLimits.{Limits, or_after, deeper_pattern_limit, pattern_limits, parts_limits, each_limits}
-use Rattle.isle_rules.specs.LimitStops.{ComesTo, EndsAt, StopEnds, MeetsLimits, Leads, LeadsTo}
+use Rattle.isle_rules.specs.LimitStops.{ComesTo, EndsByLimit, StopEnds, MeetsLimits, Leads, LeadsTo}
 use Rattle.isle_rules.specs.Translating.{Standing, Keeps, Reading, IsSettingOf, Shows, IsTranslated, IsReported, KeepsNoted, StaysNoted, MayTranslate, ExpandsTo}
 use Rattle.isle_rules.proofs.PatternUsing.{found_so, list_length, found, converter_is, differs, no_template_in, template_is, unmatched}
 use Rattle.isle_rules.proofs.PatternLists.{appended, single, SoFar, parts_after, each_after, one_further, last_part, last_each}
@@ -212,7 +212,7 @@ module _ (multi : Bool) (env : TermEnv) (old : Standing) (inv : IsInterned old.t
                 (λ wrong. at_wrong wrong.0 wrong.1 stop x)
                 checks
               where
-                noted_so : NotesMore old.work.errors.items mid.work.errors.items → (Matches → ⊥) → new.work ≡ mid.work → (l : NamedLimit) → EndsAt env old new d (pattern_reading multi whole ty) limits l
+                noted_so : NotesMore old.work.errors.items mid.work.errors.items → (Matches → ⊥) → new.work ≡ mid.work → (l : NamedLimit) → EndsByLimit env old new d (pattern_reading multi whole ty) limits l
                 noted_so more wrong same l =
                     let now = subst (λ w. NotesMore old.work.errors.items w.errors.items) (sym same) more in
                     inr (

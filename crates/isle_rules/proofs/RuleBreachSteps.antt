@@ -1,15 +1,16 @@
 -- The first error while the rules of a list are read: one definition after another, and one stage after another.
-use Rattle.std.proofs.Common.{◌≡◌, ◌≢◌, ℕ, suc, ◌+◌, ◌<◌, IsTrue, List, [], ◌∷◌, ◌++◌, length, take, drop, get_or, Option, Some, None, refl, sym, ap, subst, ◌∙◌, inl, inr, ◌⊎◌, arith}
+use Rattle.std.proofs.Common.{◌≡◌, ◌≢◌, ℕ, suc, ◌+◌, ◌<◌, IsTrue, List, [], ◌∷◌, ◌++◌, length, take, drop, get_or, Option, Some, refl, sym, ap, subst, ◌∙◌, inl, inr, ◌⊎◌, arith}
 use Rattle.std.specs.List.{flat_map}
 use Rattle.std.proofs.lemmas.Grind.{flat_map-append}
 use Rattle.std.proofs.lemmas.List.{append-nil}
 use Rattle.std.proofs.lemmas.List.Elements.{All-nil, All-append}
-use Rattle.std.proofs.lemmas.Option.{none-some, same_Some}
+use Rattle.std.proofs.lemmas.Option.{same_Some}
 use Rattle.isle_base.specs.declared.syntax.Def.{Def}
 use Rattle.isle_base.specs.declared.syntax.Error.{Error}
 use Rattle.isle_base.specs.Positions.{NotesAt, definition_positions, rule_positions}
 use Rattle.isle_base.specs.SyntaxViews as S
 use Rattle.isle_base.proofs.Noted.{some_noted}
+use Rattle.isle_rules.proofs.ConstructorLaws.{with_some}
 use Rattle.isle_model.specs.lists.Syntax.{Position, Name, RuleTree, Definition, type_definition, declaration, extractor_definition, converter_definition, rule_definition, extern_definition, other_definition}
 use Rattle.isle_model.specs.lists.TermTable.{rule_of, rule_trees}
 use Rattle.isle_model.specs.lists.Setting.{Setting}
@@ -26,7 +27,7 @@ use Rattle.isle_reports.specs.Elaborating.{Checks}
 use Rattle.isle_reports.specs.FirstErrors.{MayBegin}
 use Rattle.isle_reports.proofs.FirstErrors.{IsNoted, BeginsUnless, begins_next, may_check, goes_on, parted}
 use Rattle.isle_rules.specs.declared.term_env.TermEnv.{TermEnv}
-use Rattle.isle_rules.specs.Constructors.{uses_of_rule, uses_of_definition, is_made, AreFoundMade}
+use Rattle.isle_rules.specs.Constructors.{uses_of_rule, uses_of_definition, has_constructor_if_there, AreFoundMade}
 use Rattle.isle_rules.specs.PatternUses.{found_term}
 use Rattle.isle_rules.specs.RuleBreaches.{IsUntyped, untyped, UsesUnmade, uses_unmade, BeginsUntyped}
 use Rattle.isle_rules.specs.RuleErrors.{NotesOfDefinition}
@@ -37,10 +38,6 @@ use Rattle.isle_rules.proofs.NamedLimits.{rules_before, one_more, errors_stay}
 use Rattle.isle_rules.proofs.Readings.{keep_setting}
 
 -- 1. rules in order, of which some come first
-pub with_some : (q : TypedRule) (o : Option TypedRules) (l : TypedRules) → with_typed q o ≡ Some l → (m : TypedRules) × (o ≡ Some m) × (l ≡ record { rules = q ∷ m.rules; names = m.names })
-with_some q None l h = absurd (none-some l h)
-with_some q (Some m) l h = (m, refl, sym (same_Some _ _ h))
-
 module _ (e : Setting) where
   -- as many as there are trees
   pub as_many : (id : ℕ) (rs : List RuleTree) (names : List (List ℕ)) (l : TypedRules) → rules_within e id rs names ≡ Some l → length l.rules ≡ length rs
@@ -147,7 +144,7 @@ last_begins env old now all done rules errors after a e is none = elim (a e is n
 -- 3. uses of terms in order
 module _ (env : TermEnv) (tyenv : TypeEnv) (old mid after : List Error) (all done rest : List RuleTree) where
   abbrev IsFound : Position × Name → Type 0
-  IsFound u = IsTrue (is_made (found_term env tyenv u.1.text))
+  IsFound u = IsTrue (has_constructor_if_there (found_term env tyenv u.1.text))
 
   abbrev Wrong : List Position → Type 0
   Wrong = UsesUnmade (AreFoundMade env tyenv) all
@@ -192,7 +189,7 @@ next_used env tyenv old mid after defs i d within at a c noted =
     (λ none right. definition_used env tyenv old mid after all (rules_before defs i) (rule_trees (S.definition_views (drop (i + 1) defs))) (S.definition_view d) (rules_parted defs i d within at) noted c none right))
 
 pub first_used : (env : TermEnv) (tyenv : TypeEnv) (all : List RuleTree) (es : List Error) → UsedUpTo env tyenv all [] es es
-first_used env tyenv all es none = inl (none, All-nil (λ u. IsTrue (is_made (found_term env tyenv u.1.text))))
+first_used env tyenv all es none = inl (none, All-nil (λ u. IsTrue (has_constructor_if_there (found_term env tyenv u.1.text))))
 
 pub last_used : (env : TermEnv) (tyenv : TypeEnv) (all done : List RuleTree) (old after : List Error) → UsedUpTo env tyenv all done old after → MayBegin (UsesUnmade (AreFoundMade env tyenv) all) old after
 last_used env tyenv all done old after a none = elim (a none) [ inl t ↦ inl t.0 | inr w ↦ inr w ]

@@ -32,7 +32,7 @@ use Rattle.isle_rules.specs.Constructors.{AreTermsNamed}
 use Rattle.isle_rules.specs.declared.term_env.TermEnv.{TermEnv}
 use Rattle.isle_base.specs.ErrorViews.{error_view, error_views}
 use Rattle.isle_base.specs.Noting.{NotesMore, MayNoteMore}
-use Rattle.isle_rules.specs.RuleErrors.{NotesEach, IsNestedDeeper, IsExpandedMore, PassesFrom, IsOfRules, NotesOfRules, NotesOfDefinition}
+use Rattle.isle_rules.specs.RuleErrors.{NotesOnly, IsNestedDeeper, IsExpandedMore, PassesFrom, IsOfRules, NotesOfRules, NotesOfDefinition}
 use Rattle.isle_rules.specs.RuleLists.{rule_from, rule_within, EndsRule, is_typed, is_reported, is_too_deep, is_too_long, CollectsRule}
 use Rattle.isle_rules.specs.RuleReadings.{rule_reading, sides_reading}
 use Rattle.isle_rules.specs.Translating.{Keeps, IsSettingOf}
@@ -42,28 +42,28 @@ use Rattle.isle_rules.proofs.Readings.{keep_setting}
 
 -- 1. errors after errors
 module _ (P : Refusal → Type 0) where
-  pub nothing_noted : (es : List Error) → NotesEach P es es
+  pub nothing_noted : (es : List Error) → NotesOnly P es es
   nothing_noted es = record { more = []; added = sym (append-nil es); each = All-nil (λ e. P (error_view e)) }
 
-  pub each_then : (a b c : List Error) → NotesEach P a b → NotesEach P b c → NotesEach P a c
+  pub each_then : (a b c : List Error) → NotesOnly P a b → NotesOnly P b c → NotesOnly P a c
   each_then a b c x y = record {
     more = x.more ++ y.more;
     added = y.added ∙ ap (λ es. es ++ y.more) x.added ∙ append_assoc a x.more y.more;
     each = All-append (λ e. P (error_view e)) x.more y.more x.each y.each;
   }
 
-  pub one_then : (a b c : List Error) (e : Error) → NotesEach P a b → c ≡ b ++ e ∷ [] → P (error_view e) → NotesEach P a c
+  pub one_then : (a b c : List Error) (e : Error) → NotesOnly P a b → c ≡ b ++ e ∷ [] → P (error_view e) → NotesOnly P a c
   one_then a b c e x last h = each_then a b c x (record { more = e ∷ []; added = last; each = All-cons (λ e. P (error_view e)) e [] h (All-nil (λ e. P (error_view e))) })
 
   module _ (wrong : (x : Refusal) → IsIllTyped x → P x) where
-    pub more_noted : (a b : List Error) → NotesMore a b → NotesEach P a b
+    pub more_noted : (a b : List Error) → NotesMore a b → NotesOnly P a b
     more_noted a b x = record { more = x.more; added = x.added; each = All-weaker (λ e. IsIllTyped (error_view e)) (λ e. P (error_view e)) (λ e h. wrong (error_view e) h) x.more x.forms }
 
-    pub may_noted : (a b : List Error) → MayNoteMore a b → NotesEach P a b
-    may_noted a b (inl same) = subst (NotesEach P a) (sym same) (nothing_noted a)
+    pub may_noted : (a b : List Error) → MayNoteMore a b → NotesOnly P a b
+    may_noted a b (inl same) = subst (NotesOnly P a) (sym same) (nothing_noted a)
     may_noted a b (inr more) = more_noted a b more
 
-pub each_weaker : (P Q : Refusal → Type 0) → ((x : Refusal) → P x → Q x) → (a b : List Error) → NotesEach P a b → NotesEach Q a b
+pub each_weaker : (P Q : Refusal → Type 0) → ((x : Refusal) → P x → Q x) → (a b : List Error) → NotesOnly P a b → NotesOnly Q a b
 each_weaker P Q f a b x = record { more = x.more; added = x.added; each = All-weaker (λ e. P (error_view e)) (λ e. Q (error_view e)) (λ e h. f (error_view e) h) x.more x.each }
 
 -- 2. a rule
@@ -89,8 +89,8 @@ module _ (e : Setting) (r : T.Rule) (id : ℕ) (names : List (List ℕ)) (once :
     passes = subst (λ ns. Passes (rule_from e id (S.rule_view r) ns)) (sym (append-nil names)) h;
   }
 
-  ends_noted : EndsRule (rule_from e id (S.rule_view r) names) r.pos errors after met made → NotesEach Of errors after
-  ends_noted (is_typed a same is q n) = subst (NotesEach Of errors) (sym same) (nothing_noted Of errors)
+  ends_noted : EndsRule (rule_from e id (S.rule_view r) names) r.pos errors after met made → NotesOnly Of errors after
+  ends_noted (is_typed a same is q n) = subst (NotesOnly Of errors) (sym same) (nothing_noted Of errors)
   ends_noted (is_reported more none) = more_noted Of (wrong_of_rules e (S.rule_view r ∷ []) names) errors after more
   ends_noted (is_too_deep before may last none) =
       one_then Of errors before after last.error (may_noted Of (wrong_of_rules e (S.rule_view r ∷ []) names) errors before may) last.last (subst Of (sym last.says) (passing IsNestedDeeper none))
@@ -128,7 +128,7 @@ module _ (e : Setting) (old now m : List (List ℕ)) (longer : now ≡ old ++ m)
 
 module _ (env : TermEnv) (old now : TypeEnv) (keeps : Keeps old now) (errors mid after : List Error) (all : List RuleTree) where
   other_noted : NotesOfRules env old all errors mid → after ≡ mid → NotesOfRules env old all errors after
-  other_noted a same e is = subst (NotesEach (IsOfRules e all (names_of old)) errors) (sym same) (a e is)
+  other_noted a same e is = subst (NotesOnly (IsOfRules e all (names_of old)) errors) (sym same) (a e is)
 
   definition_noted : (d : Definition) → ((r : RuleTree) → rule_definition r ≡ d → Contains all r) → NotesOfRules env old all errors mid → NotesOfDefinition env now d mid after → NotesOfRules env old all errors after
   definition_noted (rule_definition r) here a b e is =
@@ -286,7 +286,7 @@ module _ (e : TypesRead) (defs : List Definition) (expand : Bool) (readable : Ar
       (notes : NotesOfRules env old (rule_trees defs) [] read) (checks : MayNoteMore read after) where
     all_of_list : All (λ x. OfList (error_view x)) after
     all_of_list =
-        let n : NotesEach OfList [] read = subst (λ ns. NotesEach (IsOfRules (setting_of e defs expand) (rule_trees defs) ns) [] read) met (notes (setting_of e defs expand) is) in
+        let n : NotesOnly OfList [] read = subst (λ ns. NotesOnly (IsOfRules (setting_of e defs expand) (rule_trees defs) ns) [] read) met (notes (setting_of e defs expand) is) in
         let m = each_then OfList [] read after n (may_noted OfList (wrong_of_rules (setting_of e defs expand) (rule_trees defs) (term_names_met e.known defs)) read after checks) in
         subst (All (λ x. OfList (error_view x))) (sym m.added) m.each
 

@@ -30,7 +30,7 @@ use Rattle.isle_rules.specs.declared.term_env.TermEnv.{TermEnv}
 use Rattle.isle_rules.specs.declared.typing.progress.Progress.{Progress}
 use Rattle.isle_rules.specs.declared.typing.progress.Stop.{Stop}
 use Rattle.isle_rules.specs.declared.typing.progress.Stop.TheVariants as V
-use Rattle.isle_rules.specs.LimitStops.{ComesTo, EndsAt, StopEnds}
+use Rattle.isle_rules.specs.LimitStops.{ComesTo, EndsByLimit, StopEnds}
 use Rattle.isle_rules.specs.Progress.{IsFresh}
 use Rattle.isle_rules.specs.ReachedLimits.{rule_limits, reached_limit}
 use Rattle.isle_rules.specs.RuleLists.{rule_from, rule_within, NotesLimit, NotesStop, EndsRule, is_typed, is_reported, is_too_deep, is_too_long, CollectsRule}
@@ -135,7 +135,7 @@ module _ (env : TermEnv) (tyenv : TypeEnv) (fresh : Progress) (found : List Erro
   told_at_end placed (Some q) few y none = typed placed (rule_view q) few y none
   told_at_end placed None few y none = noted placed y none
 
-  at_limit : Placed → (after : List Error) (l : Limit) (n : NamedLimit) → EndsAt env old new most_nested whole (rule_limits tree) n → ((e : Setting) → IsSettingOf tyenv env e → rule_within e id tree (names_of tyenv) ≡ None)
+  at_limit : Placed → (after : List Error) (l : Limit) (n : NamedLimit) → EndsByLimit env old new most_nested whole (rule_limits tree) n → ((e : Setting) → IsSettingOf tyenv env e → rule_within e id tree (names_of tyenv) ≡ None)
       → (last : NotesLimit l r.pos new.work.errors.items after) → error_view last.error ≡ past_limit n tree.at → Told after
   at_limit placed after l n (inl y) none last says e is = (
     last.error ∷ [],

@@ -14,7 +14,7 @@ use Rattle.isle_types.specs.declared.type_env.TypeEnv.{TypeEnv}
 use Rattle.isle_types.specs.Envs.{names_of, IsInterned}
 use Rattle.isle_base.specs.Noting.{NotesMore}
 use Rattle.isle_rules.specs.declared.term_env.TermEnv.{TermEnv}
-use Rattle.isle_rules.specs.Constructors.{is_made, AreMadeUses, AreFoundMade, uses_of_rule, AreTermsNamed}
+use Rattle.isle_rules.specs.Constructors.{has_constructor_if_there, AreMadeUses, AreFoundMade, uses_of_rule, AreTermsNamed}
 use Rattle.isle_reports.specs.Elaborating.{Checks}
 use Rattle.isle_rules.specs.PatternUses.{found_term}
 use Rattle.isle_rules.specs.RuleLists.{rules_within, CollectsRules}
@@ -37,13 +37,13 @@ module _ (env : TermEnv) (old mid : TypeEnv) (inv : IsInterned mid) (keeps : Kee
   }
 
   abbrev IsMade : Position × Name → Type 0
-  IsMade u = IsTrue (is_made (entry_named (number (names_of old) u.1.text) e.terms))
+  IsMade u = IsTrue (has_constructor_if_there (entry_named (number (names_of old) u.1.text) e.terms))
 
   abbrev IsFoundMade : Position × Name → Type 0
-  IsFoundMade u = IsTrue (is_made (found_term env mid u.1.text))
+  IsFoundMade u = IsTrue (has_constructor_if_there (found_term env mid u.1.text))
 
-  same_use : (u : Position × Name) → is_made (entry_named (number (names_of old) u.1.text) e.terms) ≡ is_made (found_term env mid u.1.text)
-  same_use u = ap is_made (sym (same_entry e (names_of old) k (names_of mid) kept u.1.text) ∙ found_named env mid inv u.1.text e (keep_setting env old mid e keeps is))
+  same_use : (u : Position × Name) → has_constructor_if_there (entry_named (number (names_of old) u.1.text) e.terms) ≡ has_constructor_if_there (found_term env mid u.1.text)
+  same_use u = ap has_constructor_if_there (sym (same_entry e (names_of old) k (names_of mid) kept u.1.text) ∙ found_named env mid inv u.1.text e (keep_setting env old mid e keeps is))
 
   pub made_uses : (uses : List (Position × Name)) → AreFoundMade env mid uses → AreMadeUses e (names_of old) uses
   made_uses uses h = All-weaker IsFoundMade IsMade (λ u m. same_use u ∙ m) uses h

@@ -11,13 +11,13 @@ use Rattle.isle_rules.specs.declared.term_env.TermEnv.{TermEnv}
 use Rattle.isle_rules.specs.PatternUses.{found_term}
 
 -- whether a term, if it is there, has a constructor
-abbrev pub is_made : Option TermEntry → Bool
-is_made None = true
-is_made (Some t) = has_constructor t.kind
+abbrev pub has_constructor_if_there : Option TermEntry → Bool
+has_constructor_if_there None = true
+has_constructor_if_there (Some t) = has_constructor t.kind
 
 -- each of these uses is of a term with a constructor, or of no term
 abbrev pub AreMadeUses : Setting → List (List ℕ) → List (Position × Name) → Type 0
-AreMadeUses e names uses = All (λ u. IsTrue (is_made (entry_named (number names u.1.text) e.terms))) uses
+AreMadeUses e names uses = All (λ u. IsTrue (has_constructor_if_there (entry_named (number names u.1.text) e.terms))) uses
 
 -- what the expressions of a rule use, those of if-lets first
 abbrev pub uses_of_rule : RuleTree → List (Position × Name)
@@ -30,7 +30,7 @@ uses_of_definition _ = []
 
 -- by the tables, each of these uses is of a term with a constructor, or of no term
 abbrev pub AreFoundMade : TermEnv → TypeEnv → List (Position × Name) → Type 0
-AreFoundMade env tyenv uses = All (λ u. IsTrue (is_made (found_term env tyenv u.1.text))) uses
+AreFoundMade env tyenv uses = All (λ u. IsTrue (has_constructor_if_there (found_term env tyenv u.1.text))) uses
 
 -- the terms have names that were met, and each is found by its own
 pub record AreTermsNamed (e : Setting) (names : List (List ℕ)) : Type 0 where

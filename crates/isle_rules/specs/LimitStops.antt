@@ -15,14 +15,14 @@ abbrev pub ComesTo : TermEnv → Standing → ℕ → Limits → Option NamedLim
 ComesTo env old d limits o = Wherever env old (λ e s. limits e d old.work.expansions s ≡ o)
 
 -- at this limit the work ended: it comes to it, and nothing was noted; or something was, nothing can be made, and it comes to none
-abbrev pub EndsAt : {Q : Type 0} → TermEnv → Standing → Standing → ℕ → Reading Q → Limits → NamedLimit → Type 0
-EndsAt env old new d reading limits l = ((new.work.errors.items ≡ old.work.errors.items) × ComesTo env old d limits (Some l)) ⊎ (IsReported env old new reading × ComesTo env old d limits None)
+abbrev pub EndsByLimit : {Q : Type 0} → TermEnv → Standing → Standing → ℕ → Reading Q → Limits → NamedLimit → Type 0
+EndsByLimit env old new d reading limits l = ((new.work.errors.items ≡ old.work.errors.items) × ComesTo env old d limits (Some l)) ⊎ (IsReported env old new reading × ComesTo env old d limits None)
 
 -- why it ended
 abbrev pub StopEnds : {Q : Type 0} → TermEnv → Standing → Standing → ℕ → Reading Q → Limits → Stop → Type 0
 StopEnds env old new d reading limits (Memory e) = ⊤
-StopEnds env old new d reading limits Nesting = EndsAt env old new d reading limits of_nesting
-StopEnds env old new d reading limits Expansions = EndsAt env old new d reading limits of_expansions
+StopEnds env old new d reading limits Nesting = EndsByLimit env old new d reading limits of_nesting
+StopEnds env old new d reading limits Expansions = EndsByLimit env old new d reading limits of_expansions
 
 -- the work came to its end, and to no limit before anything was wrong; or a limit ended it
 abbrev pub MeetsLimits : {X Q : Type 0} → TermEnv → Standing → Standing → ℕ → Reading Q → Limits → Result X Stop → Type 0

@@ -17,7 +17,7 @@ use Rattle.isle_rules.specs.RuleLists.{rule_from}
 use Rattle.isle_rules.specs.Translating.{IsSettingOf}
 
 -- what was noted stays, and a fact holds of each further error
-pub record NotesEach (P : Refusal → Type 0) (old new : List Error) : Type 0 where
+pub record NotesOnly (P : Refusal → Type 0) (old new : List Error) : Type 0 where
   pub more : List Error
   pub added : new ≡ old ++ more
   pub each : All (λ e. P (error_view e)) more
@@ -50,7 +50,7 @@ IsOfRules e trees names _ = ⊥
 
 -- what is noted of these rules, by the tables
 abbrev pub NotesOfRules : TermEnv → TypeEnv → List RuleTree → List Error → List Error → Type 0
-NotesOfRules env old trees errors after = (e : Setting) → IsSettingOf old env e → NotesEach (IsOfRules e trees (names_of old)) errors after
+NotesOfRules env old trees errors after = (e : Setting) → IsSettingOf old env e → NotesOnly (IsOfRules e trees (names_of old)) errors after
 
 -- what is noted of the rule that a definition is, if it is one
 abbrev pub NotesOfDefinition : TermEnv → TypeEnv → Definition → List Error → List Error → Type 0

@@ -33,7 +33,7 @@ use Rattle.isle_terms.specs.TermViews.{term_views}
 use Rattle.isle_terms.specs.Reading.{IsWithin, term_of_name}
 use Rattle.isle_terms.specs.TermBreaches.{of_converters, FirstStandsAt, BreaksConverter, unknown_converter, second_converter, by_converter}
 use Rattle.isle_terms.specs.Stages.{constructor_after}
-use Rattle.isle_terms.specs.Signing.{Notes, ReadsTerms}
+use Rattle.isle_terms.specs.Signing.{NotesIfWrong, ReadsTerms}
 use Rattle.isle_terms.specs.TermErrors.{IsConvertedBefore, TellsOfConverter}
 use Rattle.isle_types.specs.Telling as T
 use Rattle.isle_types.specs.Telling.{NotesEach}
@@ -191,7 +191,7 @@ module _ (e : TypesRead) (readable : AreReadable e) (defs read : List Definition
       second_converter (converted_before found.1 (member_from_get (converter_trees read) found.0 found.1 found.2) m.inner m.outer is.0 is.1 m.inner_is m.outer_is)
 
 -- what is noted of a converter, where it doesn't matter how much
-as_noted : (c : ConverterTree) (env : TypeEnv) (table table' : TermTable) (es es' : List Error) → ReadsIfConverter (converter_definition c) env table es table' es' → Notes es es' (Converts c env table table') (IsWrongConverter c env table)
+as_noted : (c : ConverterTree) (env : TypeEnv) (table table' : TermTable) (es es' : List Error) → ReadsIfConverter (converter_definition c) env table es table' es' → NotesIfWrong es es' (Converts c env table table') (IsWrongConverter c env table)
 as_noted c env table table' es es' (inl a) = inl a
 as_noted c env table table' es es' (inr a) = inr (some_noted 0 (converter_positions c) es es' a.0, a.2)
 
@@ -289,7 +289,7 @@ module _ (e : TypesRead) (readable : AreReadable e) (defs before : List Definiti
         }
 
     -- one that is refused
-    refused : T.Notes 1 (converter_positions c) es es' → table' ≡ table → IsWrongConverter c env table → ConvertsUpTo e defs (before ++ here ∷ []) env start table' es'
+    refused : T.NotesIfWrong 1 (converter_positions c) es es' → table' ≡ table → IsWrongConverter c env table → ConvertsUpTo e defs (before ++ here ∷ []) env start table' es'
     refused n same wrong =
         let why = converter_wrong e readable defs u.kept c env table left u.reads wrong in
         record {

@@ -33,7 +33,7 @@ use Rattle.isle_terms.specs.TermTables.{term_at}
 use Rattle.isle_terms.specs.TermViews.{term_view, term_views}
 use Rattle.isle_terms.specs.Reading.{IsWithin, Interns, MayIntern, HaveTypes, HasUnknown, IsKnownInEnv, AddsTerm, IsTakenByTerm, IsFreeOrReported, AddsOrReports, signature_entry}
 use Rattle.isle_terms.specs.Stages.{place_among}
-use Rattle.isle_terms.specs.Signing.{ReadsTerms, with_ids, declared_alone, HoldsTerms, AreRightDeclarations, Declaring, Declares, IsWrongDeclaration, ReadsDeclaration, ReadsIfDeclared, Notes}
+use Rattle.isle_terms.specs.Signing.{ReadsTerms, with_ids, declared_alone, HoldsTerms, AreRightDeclarations, Declaring, Declares, IsWrongDeclaration, ReadsDeclaration, ReadsIfDeclared, NotesIfWrong}
 use Rattle.isle_terms.proofs.Finding.{at_number, finds_next}
 use Rattle.isle_terms.proofs.TypesStaying.{left_more, type_is, may_intern}
 use Rattle.isle_terms.proofs.Breaches.{begins_both}
@@ -175,8 +175,8 @@ declaration_read d old new table table' es one two es' n f m a =
     let T : Type 0 = IsTakenByTerm (number (names_of old) d.term.text) table in
     let b : Bool = d.multi && d.partial in
     let A : Type 0 = AddsTerm d new (number (names_of old) d.term.text) table table' in
-    let first : Notes es two (F × (b ≡ false)) (T ⊎ (b ≡ true)) = both_note F (b ≡ false) T (b ≡ true) es one two f (if_noted b one two m) in
-    let all : Notes es es' ((F × (b ≡ false)) × A) ((T ⊎ (b ≡ true)) ⊎ HasUnknown d new) = both_note (F × (b ≡ false)) A (T ⊎ (b ≡ true)) (HasUnknown d new) es two es' first a in
+    let first : NotesIfWrong es two (F × (b ≡ false)) (T ⊎ (b ≡ true)) = both_note F (b ≡ false) T (b ≡ true) es one two f (if_noted b one two m) in
+    let all : NotesIfWrong es es' ((F × (b ≡ false)) × A) ((T ⊎ (b ≡ true)) ⊎ HasUnknown d new) = both_note (F × (b ≡ false)) A (T ⊎ (b ≡ true)) (HasUnknown d new) es two es' first a in
     record {
       interns = n;
       reads = notes_as ((F × (b ≡ false)) × A) (Declares d old new table table') ((T ⊎ (b ≡ true)) ⊎ HasUnknown d new) (IsWrongDeclaration d old new table) es es'

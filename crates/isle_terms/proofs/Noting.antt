@@ -16,33 +16,33 @@ use Rattle.isle_base.proofs.Noted.{both, still_ill_typed}
 use Rattle.isle_terms.specs.declared.term_table.TermTable.{TermTable}
 use Rattle.isle_terms.specs.Reading.{IsWithin}
 use Rattle.isle_terms.specs.TermBreaches.{TermGroup, FirstBreaksGroup}
-use Rattle.isle_terms.specs.Signing.{Notes, ReadsTerms}
+use Rattle.isle_terms.specs.Signing.{NotesIfWrong, ReadsTerms}
 use Rattle.isle_terms.proofs.Breaches.{Breach, first_found, first_stays}
 
 -- one thing after another
-pub both_note : (A B W V : Type 0) (es mid es' : List Error) → Notes es mid A W → Notes mid es' B V → Notes es es' (A × B) (W ⊎ V)
+pub both_note : (A B W V : Type 0) (es mid es' : List Error) → NotesIfWrong es mid A W → NotesIfWrong mid es' B V → NotesIfWrong es es' (A × B) (W ⊎ V)
 both_note A B W V es mid es' (inl a) (inl b) = inl (b.0 ∙ a.0, (a.1, b.1))
 both_note A B W V es mid es' (inl a) (inr b) = inr (subst (λ xs. NotesMore xs es') a.0 b.0, inr b.1)
 both_note A B W V es mid es' (inr a) (inl b) = inr (subst (NotesMore es) (sym b.0) a.0, inl a.1)
 both_note A B W V es mid es' (inr a) (inr b) = inr (both es mid es' a.0 b.0, inl a.1)
 
 -- the same, said in other words
-pub notes_as : (A B W V : Type 0) (es es' : List Error) → (A → B) → (W → V) → Notes es es' A W → Notes es es' B V
+pub notes_as : (A B W V : Type 0) (es es' : List Error) → (A → B) → (W → V) → NotesIfWrong es es' A W → NotesIfWrong es es' B V
 notes_as A B W V es es' f g (inl a) = inl (a.0, f a.1)
 notes_as A B W V es es' f g (inr a) = inr (a.0, g a.1)
 
 -- something may have been noted
-pub may_note : (A W : Type 0) (es es' : List Error) → Notes es es' A W → MayNoteMore es es'
+pub may_note : (A W : Type 0) (es es' : List Error) → NotesIfWrong es es' A W → MayNoteMore es es'
 may_note A W es es' (inl a) = inl a.0
 may_note A W es es' (inr a) = inr a.0
 
-pub if_noted : (b : Bool) (es es' : List Error) → ReportsIf b es es' → Notes es es' (b ≡ false) (b ≡ true)
+pub if_noted : (b : Bool) (es es' : List Error) → ReportsIf b es es' → NotesIfWrong es es' (b ≡ false) (b ≡ true)
 if_noted true es es' h = inr (h, refl)
 if_noted false es es' h = inl (h, refl)
 
 -- what was right so far makes the next thing right, or the first error stands where a condition is broken
 pub step : (e : TypesRead) (group : TermGroup) (defs : List Definition) (A B : TypeEnv → TermTable → Type 0) (old new : TypeEnv) (table table' : TermTable) (es es' : List Error) (Right Wrong : Type 0)
-    → IsLeftByRefusal e (environment_view new) → IsWithin table' → Notes es es' Right Wrong
+    → IsLeftByRefusal e (environment_view new) → IsWithin table' → NotesIfWrong es es' Right Wrong
     → (A old table → Right → B new table') → (A old table → Wrong → Breach e.known group defs es es')
     → ReadsTerms e group defs A old table es → ReadsTerms e group defs B new table' es'
 step e group defs A B old new table table' es es' Right Wrong left within (inl a) right wrong s = record {
@@ -67,7 +67,7 @@ pub reads_next : (e : TypesRead) (group next : TermGroup) (defs : List Definitio
 reads_next e group next defs A B env table es none f s = record { left = s.left; within = s.within; ill_typed = s.ill_typed; so_far = inl (none, ⊎_elim (λ r. f r.1) (λ w. absurd (let some = sym none ∙ w.is in cc)) s.so_far) }
 
 -- something was noted, where so much was
-pub some_noted : (n : ℕ) (ps : List Position) (es es' : List Error) → T.Notes (suc n) ps es es' → NotesMore es es'
+pub some_noted : (n : ℕ) (ps : List Position) (es es' : List Error) → T.NotesIfWrong (suc n) ps es es' → NotesMore es es'
 some_noted n ps es es' r = record {
   more = r.more;
   added = r.added;

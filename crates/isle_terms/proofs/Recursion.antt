@@ -26,7 +26,7 @@ use Rattle.isle_terms.specs.TermBreaches.{of_definitions, FirstStandsAt, by_recu
 use Rattle.isle_terms.specs.TermPositions.{taker_template, template_place}
 use Rattle.isle_terms.specs.TermViews.{term_views}
 use Rattle.isle_terms.specs.Stages.{constructor_after}
-use Rattle.isle_terms.specs.Signing.{Notes, ReadsTerms}
+use Rattle.isle_terms.specs.Signing.{NotesIfWrong, ReadsTerms}
 use Rattle.isle_terms.specs.Converting.{template_after}
 use Rattle.isle_terms.specs.Templating.{callees_of, AreCallees, AreRightExtractors, CallsAreOf, TemplatesRead}
 use Rattle.isle_terms.specs.Recursion.{all_end, AreWithin, by_one, by_more, Comes, EndsBelow, ExtractorsRead, HasEnd, HaveTemplates, NotesReturn, has_template, is_template}
@@ -72,7 +72,7 @@ next_ends table cs n below here h t l =
     other_below : (t n : ℕ) → t < n + 1 → (t == n) ≡ false → t < n
     other_below t n l e = let d : (t ≡ n → ⊥) = λ s. false≢true (sym e ∙ (Decides-eqb t n).1 s) in omega (arith, l, d)
 
-pub next_root_ends : (table : TermTable) (cs : Callees) (n : ℕ) (first es es' : List Error) → Notes es es' (HaveTemplates table cs → HasEnd cs n) (NotesReturn table cs es es') → Notes first es (EndsBelow table cs n) (NotesReturn table cs first es) → Notes first es' (EndsBelow table cs (n + 1)) (NotesReturn table cs first es')
+pub next_root_ends : (table : TermTable) (cs : Callees) (n : ℕ) (first es es' : List Error) → NotesIfWrong es es' (HaveTemplates table cs → HasEnd cs n) (NotesReturn table cs es es') → NotesIfWrong first es (EndsBelow table cs n) (NotesReturn table cs first es) → NotesIfWrong first es' (EndsBelow table cs (n + 1)) (NotesReturn table cs first es')
 next_root_ends table cs n first es es' (inl a) (inl s) = inl (a.0 ∙ s.0, next_ends table cs n s.1 a.1)
 next_root_ends table cs n first es es' (inl a) (inr s) = inr (subst (NotesMore first) (sym a.0) s.0, subst (NotesReturn table cs first) (sym a.0) s.1)
 next_root_ends table cs n first es es' (inr a) (inl s) = inr (subst (λ l. NotesMore l es') s.0 a.0, subst (λ l. NotesReturn table cs l es') s.0 a.1)
@@ -239,7 +239,7 @@ return_broken e readable defs cs env table es es' left s r =
 
 -- the search after all extractors
 pub searched : (e : TypesRead) → AreReadable e → (defs : List Definition) (cs : Callees) (env : TypeEnv) (table : TermTable) (es es' : List Error) (b : Bool)
-    → Notes es es' (EndsBelow table cs (length cs)) (NotesReturn table cs es es')
+    → NotesIfWrong es es' (EndsBelow table cs (length cs)) (NotesReturn table cs es es')
     → ReadsTerms e of_definitions defs (λ env table. (b ≡ true) × TemplatesRead e defs defs cs env table) env table es
     → ReadsTerms e of_definitions defs (ExtractorsRead e defs) env table es'
 searched e readable defs cs env table es es' b a s =

@@ -17,15 +17,15 @@ use Rattle.isle_types.specs.declared.ids.TermId.{TermId}
 use Rattle.isle_types.specs.declared.type_env.TypeEnv.{TypeEnv}
 use Rattle.isle_terms.specs.declared.term_table.TermTable.{TermTable}
 use Rattle.isle_terms.specs.Reading.{term_of_name}
-use Rattle.isle_terms.specs.Signing.{Notes}
+use Rattle.isle_terms.specs.Signing.{NotesIfWrong}
 use Rattle.isle_terms.specs.Templating.{AddsFound, AreArguments, AreFound, HaveUnknown, IsFoundTerm}
 use Rattle.isle_terms.proofs.Noting.{both_note, notes_as}
 
 -- the term of one more name
 pub next_found : {X : Type 0} (f : X → Name) (env : TypeEnv) (table : TermTable) (xs : List X) (i : ℕ) (x : X) → i < length xs → x ≡ get_or xs i x → (first es es' : List Error) (found found' : List TermId)
-    → Notes es es' (AddsFound (term_of_name env table (f x)) found found') (term_of_name env table (f x) ≡ None)
-    → Notes first es (AreFound env table (map f (take i xs)) (map (λ t. t.0) found)) (HaveUnknown env table (map f xs))
-    → Notes first es' (AreFound env table (map f (take (i + 1) xs)) (map (λ t. t.0) found')) (HaveUnknown env table (map f xs))
+    → NotesIfWrong es es' (AddsFound (term_of_name env table (f x)) found found') (term_of_name env table (f x) ≡ None)
+    → NotesIfWrong first es (AreFound env table (map f (take i xs)) (map (λ t. t.0) found)) (HaveUnknown env table (map f xs))
+    → NotesIfWrong first es' (AreFound env table (map f (take (i + 1) xs)) (map (λ t. t.0) found')) (HaveUnknown env table (map f xs))
 next_found {X} f env table xs i x within here first es es' found found' a s =
     let Old : Type 0 = AreFound env table (map f (take i xs)) (map (λ t. t.0) found) in
     let New : Type 0 = AreFound env table (map f (take (i + 1) xs)) (map (λ t. t.0) found') in

@@ -7,15 +7,15 @@ use Rattle.isle_base.specs.declared.syntax.Error.{Error}
 use Rattle.isle_types.specs.declared.ids.TermId.{TermId}
 use Rattle.isle_types.specs.declared.type_env.TypeEnv.{TypeEnv}
 use Rattle.isle_terms.specs.declared.term_table.TermTable.{TermTable}
-use Rattle.isle_terms.specs.Signing.{Notes}
+use Rattle.isle_terms.specs.Signing.{NotesIfWrong}
 use Rattle.isle_terms.specs.Templating.{AreFound, CantTakeTemplate, HaveUnknown, IsTemplate, IsWrongTemplate, SetsCallees, TakesTemplate}
 use Rattle.isle_terms.proofs.Noting.{both_note, notes_as}
 
 pub parts_noted : (x : ExtractorTree) (id : ℕ) (env : TypeEnv) (old new : TermTable) (callees callees' : List (Vec TermId Global)) (named : List ℕ) (es mid es' : List Error)
     → HoldsNoMacroArg x → SetsCallees id named callees callees'
-    → Notes es mid (AreFound env old (terms_in x.template) named) (HaveUnknown env old (terms_in x.template))
-    → Notes mid es' (TakesTemplate x id old new) (CantTakeTemplate x id old)
-    → Notes es es' (IsTemplate x id env old new callees callees') (IsWrongTemplate x id env old)
+    → NotesIfWrong es mid (AreFound env old (terms_in x.template) named) (HaveUnknown env old (terms_in x.template))
+    → NotesIfWrong mid es' (TakesTemplate x id old new) (CantTakeTemplate x id old)
+    → NotesIfWrong es es' (IsTemplate x id env old new callees callees') (IsWrongTemplate x id env old)
 parts_noted x id env old new callees callees' named es mid es' no_macro_args sets a b =
     let Found : Type 0 = AreFound env old (terms_in x.template) named in
     let Takes : Type 0 = TakesTemplate x id old new in

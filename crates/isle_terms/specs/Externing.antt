@@ -7,7 +7,7 @@ use Rattle.isle_types.specs.declared.type_env.TypeEnv.{TypeEnv}
 use Rattle.isle_terms.specs.declared.term_table.TermTable.{TermTable}
 use Rattle.isle_terms.specs.TermViews.{term_views}
 use Rattle.isle_terms.specs.Reading.{term_of_name}
-use Rattle.isle_terms.specs.Signing.{Notes}
+use Rattle.isle_terms.specs.Signing.{NotesIfWrong}
 use Rattle.isle_terms.specs.Standing.{Changes}
 
 -- whether a term is a declared one that nothing makes yet
@@ -56,4 +56,4 @@ pub record HasOtherKind (p : TermKindEntry → Bool) (n : Name) (env : TypeEnv) 
 
 -- the kind of the term of a name is changed, or there is no such term, or its kind doesn't pass the test
 abbrev pub ReadsKind : (TermKindEntry → Bool) → (TermKindEntry → TermKindEntry) → Name → TypeEnv → TermTable → List Error → TermTable → List Error → Type 0
-ReadsKind p g n env old es new es' = Notes es es' (ChangesKind p g n env old new) ((term_of_name env old n ≡ None) ⊎ HasOtherKind p n env old)
+ReadsKind p g n env old es new es' = NotesIfWrong es es' (ChangesKind p g n env old new) ((term_of_name env old n ≡ None) ⊎ HasOtherKind p n env old)

@@ -23,8 +23,8 @@ use Rattle.isle_terms.specs.Reading.{IsWithin, Interns, AddsTerm, IsTakenByTerm,
 use Rattle.isle_terms.specs.Stages.{Finds, place_among, HasNoConverter}
 
 -- nothing was noted and this is right, or something was, and this is wrong
-abbrev pub Notes : List Error → List Error → Type 0 → Type 0 → Type 0
-Notes es es' Right Wrong = ((es' ≡ es) × Right) ⊎ (NotesMore es es' × Wrong)
+abbrev pub NotesIfWrong : List Error → List Error → Type 0 → Type 0 → Type 0
+NotesIfWrong es es' Right Wrong = ((es' ≡ es) × Right) ⊎ (NotesMore es es' × Wrong)
 
 -- there is no error so far, or the first one stands where a condition of the group is broken
 abbrev pub SoFarByTypes : KnownTypes → TermGroup → List Definition → List Error → Type 0 → Type 0
@@ -96,7 +96,7 @@ IsWrongDeclaration d old new table =
 -- a declaration is read: its name is met, and it becomes a term or something is wrong with it
 pub record ReadsDeclaration (d : DeclTree) (old : TypeEnv) (table : TermTable) (es : List Error) (new : TypeEnv) (table' : TermTable) (es' : List Error) : Type 0 where
   pub interns : Interns d.term.text old new
-  pub reads : Notes es es' (Declares d old new table table') (IsWrongDeclaration d old new table)
+  pub reads : NotesIfWrong es es' (Declares d old new table table') (IsWrongDeclaration d old new table)
 
 -- a definition is read, if it is a declaration
 abbrev pub ReadsIfDeclared : Definition → TypeEnv → TermTable → List Error → TypeEnv → TermTable → List Error → Type 0
@@ -141,7 +141,7 @@ AreTaken numbers old =
 
 -- the terms that a type makes are added, or one has a name that is taken
 abbrev pub AddsMade : List ℕ → List (ℕ → TermEntry) → TermTable → List Error → TermTable → List Error → Type 0
-AddsMade numbers gs old es new es' = Notes es es' (GrowsBy numbers gs old new) (AreTaken numbers old)
+AddsMade numbers gs old es new es' = NotesIfWrong es es' (GrowsBy numbers gs old new) (AreTaken numbers old)
 
 -- after the terms of some of these types are added, the next one makes a term whose name is taken, and the first error stands
 -- at that type
@@ -157,4 +157,4 @@ pub record TakesNames (types : List TypeEntry) (old : TermTable) (es es' : List 
 
 -- the terms that these types make are added, or one has a name that is taken
 abbrev pub AddsAllMade : List TypeEntry → TermTable → List Error → TermTable → List Error → Type 0
-AddsAllMade types old es new es' = Notes es es' (GrowsBy (flat_map made_by types) (flat_map terms_made types) old new) (TakesNames types old es es')
+AddsAllMade types old es new es' = NotesIfWrong es es' (GrowsBy (flat_map made_by types) (flat_map terms_made types) old new) (TakesNames types old es es')

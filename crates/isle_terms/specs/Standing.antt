@@ -15,7 +15,7 @@ use Rattle.isle_terms.specs.TermTables.{term_at}
 use Rattle.isle_terms.specs.TermViews.{term_views}
 use Rattle.isle_terms.specs.Reading.{internal_entry, root_term_id}
 use Rattle.isle_terms.specs.Stages.{Finds, place_among, HasNoConverter, constructor_after}
-use Rattle.isle_terms.specs.Signing.{with_ids, declared_so_far, AreRightDeclarations, Notes}
+use Rattle.isle_terms.specs.Signing.{with_ids, declared_so_far, AreRightDeclarations, NotesIfWrong}
 
 -- all terms stand, each found by its name, and these names were met; of the declared ones it is known so far what makes them
 -- and what takes them apart
@@ -69,7 +69,7 @@ pub record IsOfMade (r : RuleTree) (env : TypeEnv) (old : TermTable) : Type 0 wh
 
 -- a rule is of a declared term, or of no term or of one that a type makes
 abbrev pub ReadsRuleRoot : RuleTree → TypeEnv → TermTable → List Error → TermTable → List Error → Type 0
-ReadsRuleRoot r env old es new es' = Notes es es' (IsOfDeclared r env old new) ((root_term_id env old r ≡ None) ⊎ IsOfMade r env old)
+ReadsRuleRoot r env old es new es' = NotesIfWrong es es' (IsOfDeclared r env old new) ((root_term_id env old r ≡ None) ⊎ IsOfMade r env old)
 
 -- a definition is read, if it is a rule
 abbrev pub ReadsIfRule : Definition → TypeEnv → TermTable → List Error → TermTable → List Error → Type 0

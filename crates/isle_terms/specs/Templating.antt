@@ -14,7 +14,7 @@ use Rattle.isle_terms.specs.declared.term_table.TermTable.{TermTable}
 use Rattle.isle_terms.specs.TermViews.{term_views}
 use Rattle.isle_terms.specs.Reading.{term_of_name}
 use Rattle.isle_terms.specs.Stages.{HasNoConverter, constructor_after}
-use Rattle.isle_terms.specs.Signing.{Notes}
+use Rattle.isle_terms.specs.Signing.{NotesIfWrong}
 use Rattle.isle_terms.specs.Standing.{Stand, Changes}
 use Rattle.isle_terms.specs.Converting.{template_after}
 use Rattle.isle_terms.specs.Externing.{taken_by_this, with_kind}
@@ -140,7 +140,7 @@ pub record IsWrongOfTerm (x : ExtractorTree) (env : TypeEnv) (old : TermTable) :
 -- an internal extractor is read; the reading ends where it isn't that of a term
 abbrev pub ReadsExtractor : ExtractorTree → TypeEnv → TermTable → List (Vec TermId Global) → List Error → TermTable → List (Vec TermId Global) → List Error → Bool → Type 0
 ReadsExtractor x env old callees es new callees' es' goes_on =
-    Notes es es' ((goes_on ≡ true) × IsExtractor x env old new callees callees') ((term_of_name env old x.term ≡ None) ⊎ IsWrongOfTerm x env old)
+    NotesIfWrong es es' ((goes_on ≡ true) × IsExtractor x env old new callees callees') ((term_of_name env old x.term ≡ None) ⊎ IsWrongOfTerm x env old)
 
 -- a definition is read, if it is an internal extractor
 abbrev pub ReadsIfTemplate : Definition → TypeEnv → TermTable → List (Vec TermId Global) → List Error → TermTable → List (Vec TermId Global) → List Error → Bool → Type 0

@@ -6,7 +6,7 @@ ghost use Rattle.isle_base.specs.Expressions.{terms_of_expr};
 ghost use Rattle.isle_base.specs.Places.{term_view};
 ghost use Rattle.isle_base.specs.SyntaxViews.{position, definition_view, definition_views, expr_view, iflet_view, rule_view};
 ghost use Rattle.isle_model.specs.lists.TermTable.{rule_trees};
-ghost use Rattle.isle_rules.specs.Constructors.{is_made, uses_of_rule, uses_of_definition, AreFoundMade};
+ghost use Rattle.isle_rules.specs.Constructors.{has_constructor_if_there, uses_of_rule, uses_of_definition, AreFoundMade};
 ghost use Rattle.isle_rules.specs.RuleBreaches.{UsesUnmade};
 ghost use Rattle.isle_reports.specs.Elaborating.{Checks};
 ghost use Rattle.isle_reports.specs.FirstErrors.{MayBegin};
@@ -29,7 +29,7 @@ impl TermEnv {
         pos: Pos,
         name: &Ident,
     ) -> Result<(), AllocError>
-        ensures checks { OnOk result (Checks errors.old.items errors.new.items (IsTrue (is_made (found_term self.now tyenv.now (string_bytes name.now.0))))) }
+        ensures checks { OnOk result (Checks errors.old.items errors.new.items (IsTrue (has_constructor_if_there (found_term self.now tyenv.now (string_bytes name.now.0))))) }
         ensures places { OnOk result (NotesAt (position pos ∷ []) errors.old.items errors.new.items) }
     {
         let Some(term) = self.find_term(tyenv, name) else {

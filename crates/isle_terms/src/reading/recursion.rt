@@ -6,7 +6,7 @@ ghost use Rattle.std.specs.Prelude.{◌≡◌, [], ◌∷◌, ◌+◌, ◌-◌, 
 ghost use Rattle.isle_base.specs.Positions.{NotesAt};
 ghost use Rattle.isle_base.specs.SyntaxViews.{position};
 ghost use Rattle.isle_base.specs.Noting.{NotesMore};
-ghost use Rattle.isle_terms.specs.Signing.{Notes};
+ghost use Rattle.isle_terms.specs.Signing.{NotesIfWrong};
 ghost use Rattle.isle_terms.specs.TermViews.{term_view};
 ghost use Rattle.isle_terms.specs.Templating.{AreCallees, callees_of};
 ghost use Rattle.isle_terms.specs.Recursion.{AreFindings, AreWithin, EndsBelow, Enters, GoesOn, HasEnd, HaveTemplates, IsAtStart, IsSearched, IsOnWay, IsWayBack, NotesReturn, has_template, is_end, is_on};
@@ -51,7 +51,7 @@ impl TermTable {
         callees: &[Vec<TermId>],
     ) -> Result<(), AllocError>
         requires { AreCallees self.now callees.now }
-        ensures notes { OnOk result (Notes errors.old.items errors.new.items (EndsBelow self.now callees.now (length callees.now)) (NotesReturn self.now callees.now errors.old.items errors.new.items)) }
+        ensures notes { OnOk result (NotesIfWrong errors.old.items errors.new.items (EndsBelow self.now callees.now (length callees.now)) (NotesReturn self.now callees.now errors.old.items errors.new.items)) }
         ensures places { OnOk result (NotesAt (table_positions self.now) errors.old.items errors.new.items) }
     {
         let mut search = Search::new(*errors.allocator(), callees.len())?;
@@ -75,7 +75,7 @@ impl TermTable {
         requires root { root.0 < length callees.now }
         requires findings { AreFindings callees.now root.0 search.old }
         ensures findings { OnOk result (AreFindings callees.now (root.0 + 1) search.new) }
-        ensures notes { OnOk result (Notes errors.old.items errors.new.items (HaveTemplates self.now callees.now → HasEnd callees.now root.0) (NotesReturn self.now callees.now errors.old.items errors.new.items)) }
+        ensures notes { OnOk result (NotesIfWrong errors.old.items errors.new.items (HaveTemplates self.now callees.now → HasEnd callees.now root.0) (NotesReturn self.now callees.now errors.old.items errors.new.items)) }
         ensures places { OnOk result (NotesAt (table_positions self.now) errors.old.items errors.new.items) }
     {
         let Some(repeated) = search.walk(callees, root)? else {

@@ -8,7 +8,7 @@ ghost use Rattle.isle_base.specs.SyntaxViews.{definition_view, definition_views,
 ghost use Rattle.isle_base.specs.Noting.{NotesMore};
 ghost use Rattle.isle_types.specs.VariantReading.{ReportsIf};
 ghost use Rattle.isle_terms.specs.Reading.{IsWithin, term_of_name};
-ghost use Rattle.isle_terms.specs.Signing.{Notes, ReadsTerms};
+ghost use Rattle.isle_terms.specs.Signing.{NotesIfWrong, ReadsTerms};
 ghost use Rattle.isle_terms.specs.Recursion.{ExtractorsRead};
 ghost use Rattle.isle_terms.specs.Standing.{RootsRead};
 ghost use Rattle.isle_terms.specs.TermBreaches.{of_definitions, FirstStandsAt};
@@ -139,7 +139,7 @@ impl TermTable {
         requires there { id.0 < length self.old.terms.items }
         ensures within { OnOk result (IsWithin self.new) }
         ensures callees { OnOk result (AreCallees self.new callees.new.items) }
-        ensures notes { OnOk result (Notes errors.old.items errors.new.items
+        ensures notes { OnOk result (NotesIfWrong errors.old.items errors.new.items
             (IsTemplate (extractor_view extractor.now) id.0 tyenv.now self.old self.new callees.old.items callees.new.items)
             (IsWrongTemplate (extractor_view extractor.now) id.0 tyenv.now self.old)) }
         ensures places { OnOk result (NotesAt (extractor_positions (extractor_view extractor.now) ++ table_positions self.old) errors.old.items errors.new.items) }
@@ -165,7 +165,7 @@ impl TermTable {
     ) -> Result<Vec<TermId>, AllocError>
         requires { IsWithin self.now }
         ensures within { IfOk result (λ v. All (λ t. t.0 < length self.now.terms.items) v.items) }
-        ensures notes { IfOk result (λ v. Notes errors.old.items errors.new.items
+        ensures notes { IfOk result (λ v. NotesIfWrong errors.old.items errors.new.items
             (AreFound tyenv.now self.now (terms_in (pattern_view extractor.now.template)) (map (λ t. t.0) v.items))
             (HaveUnknown tyenv.now self.now (terms_in (pattern_view extractor.now.template)))) }
         ensures places { OnOk result (NotesAt (pattern_positions (pattern_view extractor.now.template)) errors.old.items errors.new.items) }
@@ -187,7 +187,7 @@ impl TermTable {
     ) -> Result<Vec<TermId>, AllocError>
         requires { IsWithin self.now }
         ensures within { IfOk result (λ v. All (λ t. t.0 < length self.now.terms.items) v.items) }
-        ensures notes { IfOk result (λ v. Notes errors.old.items errors.new.items
+        ensures notes { IfOk result (λ v. NotesIfWrong errors.old.items errors.new.items
             (AreFound tyenv.now self.now (map (λ n. name_view n.1.now) named.now) (map (λ t. t.0) v.items))
             (HaveUnknown tyenv.now self.now (map (λ n. name_view n.1.now) named.now))) }
         ensures places { OnOk result (NotesAt (map (λ n. position n.0) named.now) errors.old.items errors.new.items) }
@@ -214,7 +214,7 @@ impl TermTable {
         requires within { IsWithin self.now }
         requires found { All (λ t. t.0 < length self.now.terms.items) found.old.items }
         ensures within { OnOk result (All (λ t. t.0 < length self.now.terms.items) found.new.items) }
-        ensures notes { OnOk result (Notes errors.old.items errors.new.items
+        ensures notes { OnOk result (NotesIfWrong errors.old.items errors.new.items
             (AddsFound (term_of_name tyenv.now self.now (name_view name.now)) found.old.items found.new.items)
             (term_of_name tyenv.now self.now (name_view name.now) ≡ None)) }
         ensures places { OnOk result (NotesAt (position pos ∷ []) errors.old.items errors.new.items) }
@@ -238,7 +238,7 @@ impl TermTable {
         requires there { id.0 < length self.old.terms.items }
         ensures within { OnOk result (IsWithin self.new) }
         ensures count { length self.new.terms.items ≡ length self.old.terms.items }
-        ensures notes { OnOk result (Notes errors.old.items errors.new.items
+        ensures notes { OnOk result (NotesIfWrong errors.old.items errors.new.items
             (TakesTemplate (extractor_view extractor.now) id.0 self.old self.new)
             (CantTakeTemplate (extractor_view extractor.now) id.0 self.old)) }
         ensures places { OnOk result (NotesAt (position extractor.now.pos ∷ table_positions self.old) errors.old.items errors.new.items) }
@@ -367,7 +367,7 @@ fn check_arguments(
     template: &Pattern,
     count: usize,
 ) -> Result<(), AllocError>
-    ensures notes { OnOk result (Notes errors.old.items errors.new.items
+    ensures notes { OnOk result (NotesIfWrong errors.old.items errors.new.items
         (AreArguments count (arguments_in (pattern_view template.now)))
         (AreArguments count (arguments_in (pattern_view template.now)) → ⊥)) }
     ensures places { OnOk result (NotesAt (position pos ∷ []) errors.old.items errors.new.items) }

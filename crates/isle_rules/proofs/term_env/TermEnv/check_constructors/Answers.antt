@@ -4,7 +4,7 @@ use Rattle.std.proofs.lemmas.List.{drop_all}
 use Rattle.isle_base.specs.SyntaxViews.{definition_view, definition_views}
 use Rattle.isle_model.specs.lists.Syntax.{Position, Name}
 use Rattle.isle_model.specs.lists.TermTable.{rule_trees}
-use Rattle.isle_rules.specs.Constructors.{is_made, uses_of_rule, uses_of_definition}
+use Rattle.isle_rules.specs.Constructors.{has_constructor_if_there, uses_of_rule, uses_of_definition}
 use Rattle.isle_rules.specs.PatternUses.{found_term}
 use Rattle.isle_rules.proofs.NamedLimits.{rules_before}
 use Rattle.isle_rules.proofs.RuleBreachSteps.{first_used, next_used, last_used}
@@ -15,11 +15,11 @@ use Rattle.isle_rules.proofs.PartPlaces.{each_inside}
 use Rattle.isle_rules.proofs.term_env.TermEnv.check_constructors.Goals as goal
 
 pub loop-def-init : goal.loop-def-init
-loop-def-init c = (checked_first (λ (u : Position × Name). IsTrue (is_made (found_term c.args.self.now c.args.tyenv.now u.1.text))) _ _, notes_nothing _ _ _ refl, first_used c.args.self.now c.args.tyenv.now (rule_trees (definition_views c.args.defs.now)) c.args.errors.now.items)
+loop-def-init c = (checked_first (λ (u : Position × Name). IsTrue (has_constructor_if_there (found_term c.args.self.now c.args.tyenv.now u.1.text))) _ _, notes_nothing _ _ _ refl, first_used c.args.self.now c.args.tyenv.now (rule_trees (definition_views c.args.defs.now)) c.args.errors.now.items)
 
 pub loop-def-preserved : goal.loop-def-preserved
 loop-def-preserved c = (
-  checked_next (λ (u : Position × Name). IsTrue (is_made (found_term c.args.self.now c.args.tyenv.now u.1.text))) _ _ (uses_of_definition (definition_view c.def-item.result)) _ _ _ _
+  checked_next (λ (u : Position × Name). IsTrue (has_constructor_if_there (found_term c.args.self.now c.args.tyenv.now u.1.text))) _ _ (uses_of_definition (definition_view c.def-item.result)) _ _ _ _
       (left_at (λ d. uses_of_definition (definition_view d)) (λ ds. flat_map uses_of_rule (rule_trees (definition_views ds))) uses_split c.args.defs.now c.loop-def.def-index c.def-item.result c.loop-def-test.true c.def-item.is)
       c.loop-def.invariant.0 c.in_ok-check_definition.ensures.checks,
   (
@@ -34,7 +34,7 @@ loop-def-preserved c = (
 
 pub returns-clause-checks : goal.returns-clause-checks
 returns-clause-checks c =
-    checked_last (λ (u : Position × Name). IsTrue (is_made (found_term c.args.self.now c.args.tyenv.now u.1.text))) _ _ _ (rw (drop_all c.loop-def.def-index c.args.defs.now c.loop-def-test.false) at c.loop-def.invariant.0)
+    checked_last (λ (u : Position × Name). IsTrue (has_constructor_if_there (found_term c.args.self.now c.args.tyenv.now u.1.text))) _ _ _ (rw (drop_all c.loop-def.def-index c.args.defs.now c.loop-def-test.false) at c.loop-def.invariant.0)
 
 pub returns-clause-places : goal.returns-clause-places
 returns-clause-places c =

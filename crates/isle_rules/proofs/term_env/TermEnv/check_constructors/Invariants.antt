@@ -3,7 +3,7 @@ use Rattle.std.specs.List.{flat_map}
 use Rattle.isle_base.specs.SyntaxViews.{definition_views}
 use Rattle.isle_model.specs.lists.TermTable.{rule_trees}
 use Rattle.isle_base.specs.Positions.{NotesAt, positions_of}
-use Rattle.isle_rules.specs.Constructors.{is_made, uses_of_rule}
+use Rattle.isle_rules.specs.Constructors.{has_constructor_if_there, uses_of_rule}
 use Rattle.isle_rules.specs.PatternUses.{found_term}
 use Rattle.isle_rules.proofs.CheckedUses.{CheckedAt}
 use Rattle.isle_rules.proofs.NamedLimits.{rules_before}
@@ -12,6 +12,6 @@ use Rattle.isle_rules.proofs.term_env.TermEnv.check_constructors.Given as goal
 
 abbrev pub invariant-loop-def : goal.invariant-loop-def
 invariant-loop-def l =
-    CheckedAt (λ u. IsTrue (is_made (found_term l.self l.tyenv u.1.text))) (flat_map uses_of_rule (rule_trees (definition_views l.defs))) (flat_map uses_of_rule (rule_trees (definition_views (drop l.def-index l.defs)))) l.initial.errors.items l.errors.items
+    CheckedAt (λ u. IsTrue (has_constructor_if_there (found_term l.self l.tyenv u.1.text))) (flat_map uses_of_rule (rule_trees (definition_views l.defs))) (flat_map uses_of_rule (rule_trees (definition_views (drop l.def-index l.defs)))) l.initial.errors.items l.errors.items
     × NotesAt (positions_of (definition_views l.defs)) l.initial.errors.items l.errors.items
     × UsedUpTo l.self l.tyenv (rule_trees (definition_views l.defs)) (rules_before l.defs l.def-index) l.initial.errors.items l.errors.items

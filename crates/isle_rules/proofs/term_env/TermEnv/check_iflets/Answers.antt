@@ -4,7 +4,7 @@ use Rattle.std.proofs.lemmas.List.{drop_all}
 use Rattle.isle_base.specs.Expressions.{terms_of_expr}
 use Rattle.isle_base.specs.SyntaxViews.{expr_view, iflet_view}
 use Rattle.isle_model.specs.lists.Syntax.{Position, Name}
-use Rattle.isle_rules.specs.Constructors.{is_made}
+use Rattle.isle_rules.specs.Constructors.{has_constructor_if_there}
 use Rattle.isle_rules.specs.PatternUses.{found_term}
 use Rattle.isle_rules.proofs.CheckedUses.{checked_first, checked_next, checked_last, left_at}
 use Rattle.isle_base.specs.Positions.{expr_positions, iflet_positions}
@@ -13,11 +13,11 @@ use Rattle.isle_rules.proofs.PartPlaces.{given_inside, each_inside}
 use Rattle.isle_rules.proofs.term_env.TermEnv.check_iflets.Goals as goal
 
 pub loop-iflet-init : goal.loop-iflet-init
-loop-iflet-init c = (checked_first (λ (u : Position × Name). IsTrue (is_made (found_term c.args.self.now c.args.tyenv.now u.1.text))) _ _, notes_nothing _ _ _ refl)
+loop-iflet-init c = (checked_first (λ (u : Position × Name). IsTrue (has_constructor_if_there (found_term c.args.self.now c.args.tyenv.now u.1.text))) _ _, notes_nothing _ _ _ refl)
 
 pub loop-iflet-preserved : goal.loop-iflet-preserved
 loop-iflet-preserved c = (
-  checked_next (λ (u : Position × Name). IsTrue (is_made (found_term c.args.self.now c.args.tyenv.now u.1.text))) _ _ (terms_of_expr (expr_view c.iflet-item.result.expr)) _ _ _ _
+  checked_next (λ (u : Position × Name). IsTrue (has_constructor_if_there (found_term c.args.self.now c.args.tyenv.now u.1.text))) _ _ (terms_of_expr (expr_view c.iflet-item.result.expr)) _ _ _ _
       (left_at (λ i. terms_of_expr (expr_view i.expr)) (λ is. flat_map (λ i. terms_of_expr i.expr) (map iflet_view is)) (λ i rest. refl) c.args.iflets.now c.loop-iflet.iflet-index c.iflet-item.result c.loop-iflet-test.true c.iflet-item.is)
       c.loop-iflet.invariant.0 c.in_ok-check_expr.ensures.checks,
   (
@@ -31,7 +31,7 @@ loop-iflet-preserved c = (
 
 pub returns-clause-checks : goal.returns-clause-checks
 returns-clause-checks c =
-    checked_last (λ (u : Position × Name). IsTrue (is_made (found_term c.args.self.now c.args.tyenv.now u.1.text))) _ _ _ (rw (drop_all c.loop-iflet.iflet-index c.args.iflets.now c.loop-iflet-test.false) at c.loop-iflet.invariant.0)
+    checked_last (λ (u : Position × Name). IsTrue (has_constructor_if_there (found_term c.args.self.now c.args.tyenv.now u.1.text))) _ _ _ (rw (drop_all c.loop-iflet.iflet-index c.args.iflets.now c.loop-iflet-test.false) at c.loop-iflet.invariant.0)
 
 pub returns-clause-places : goal.returns-clause-places
 returns-clause-places c =

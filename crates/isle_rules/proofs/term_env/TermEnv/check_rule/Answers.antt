@@ -3,7 +3,7 @@ use Rattle.std.specs.List.{flat_map}
 use Rattle.isle_base.specs.Expressions.{terms_of_expr}
 use Rattle.isle_base.specs.SyntaxViews.{expr_view, iflet_view, rule_view}
 use Rattle.isle_model.specs.lists.Syntax.{Position, Name}
-use Rattle.isle_rules.specs.Constructors.{is_made, uses_of_rule, AreFoundMade}
+use Rattle.isle_rules.specs.Constructors.{has_constructor_if_there, uses_of_rule, AreFoundMade}
 use Rattle.isle_reports.specs.Elaborating.{Checks}
 use Rattle.isle_rules.specs.PatternUses.{found_term}
 use Rattle.isle_rules.proofs.CheckedUses.{on_then, checks_all}
@@ -16,7 +16,7 @@ pub returns-clause-checks : goal.returns-clause-checks
 returns-clause-checks c =
     on_then c.check_expr.result (Checks c.check_iflets.new.errors.items c.check_expr.new.errors.items (AreFoundMade c.args.self.now c.args.tyenv.now (terms_of_expr (expr_view c.args.rule.now.expr))))
     (Checks c.args.errors.now.items c.check_expr.new.errors.items (AreFoundMade c.args.self.now c.args.tyenv.now (uses_of_rule (rule_view c.args.rule.now))))
-    (checks_all (λ (u : Position × Name). IsTrue (is_made (found_term c.args.self.now c.args.tyenv.now u.1.text))) (flat_map (λ i. terms_of_expr i.expr) (map iflet_view c.args.rule.now.iflets.items)) (terms_of_expr (expr_view c.args.rule.now.expr))
+    (checks_all (λ (u : Position × Name). IsTrue (has_constructor_if_there (found_term c.args.self.now c.args.tyenv.now u.1.text))) (flat_map (λ i. terms_of_expr i.expr) (map iflet_view c.args.rule.now.iflets.items)) (terms_of_expr (expr_view c.args.rule.now.expr))
     c.args.errors.now.items c.check_iflets.new.errors.items c.check_expr.new.errors.items (rw c.deref.ensures.value at c.in_ok-check_iflets.ensures.checks))
     c.check_expr.ensures.checks
 

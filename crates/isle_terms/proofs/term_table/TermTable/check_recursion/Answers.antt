@@ -1,6 +1,6 @@
 use Rattle.std.proofs.Common.{◌≡◌, length, subst, arith}
 use Rattle.isle_base.proofs.Positioned.{notes_both}
-use Rattle.isle_terms.specs.Signing.{Notes}
+use Rattle.isle_terms.specs.Signing.{NotesIfWrong}
 use Rattle.isle_terms.specs.Recursion.{EndsBelow, NotesReturn}
 use Rattle.isle_terms.proofs.Recursion.{next_root_ends}
 use Rattle.isle_terms.proofs.term_table.TermTable.check_recursion.Goals as goal
@@ -17,4 +17,4 @@ pub returns-clause-notes : goal.returns-clause-notes
 returns-clause-notes c =
     let cs = c.args.callees.now in
     let all : c.loop-id.id ≡ length cs = omega (arith, c.loop-id-test.false, c.loop-id.auto.id-end) in
-    subst (λ n. Notes c.args.errors.now.items c.loop-id.errors.items (EndsBelow c.args.self.now cs n) (NotesReturn c.args.self.now cs c.args.errors.now.items c.loop-id.errors.items)) all c.loop-id.invariant.1
+    subst (λ n. NotesIfWrong c.args.errors.now.items c.loop-id.errors.items (EndsBelow c.args.self.now cs n) (NotesReturn c.args.self.now cs c.args.errors.now.items c.loop-id.errors.items)) all c.loop-id.invariant.1

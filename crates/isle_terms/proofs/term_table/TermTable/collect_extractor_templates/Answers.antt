@@ -1,7 +1,7 @@
 use Rattle.std.proofs.Common.{length, subst}
 use Rattle.std.proofs.lemmas.Result.{on_ok_weaker}
 use Rattle.isle_base.specs.SyntaxViews.{definition_views}
-use Rattle.isle_terms.specs.Signing.{Notes}
+use Rattle.isle_terms.specs.Signing.{NotesIfWrong}
 use Rattle.isle_terms.specs.Recursion.{EndsBelow, NotesReturn}
 use Rattle.isle_terms.proofs.PlacesNoted.{recursion_noted}
 use Rattle.isle_terms.proofs.Recursion.{searched}
@@ -14,7 +14,7 @@ returns-clause-reads g c =
     let es' = c.check_recursion.new.errors.items in
     on_ok_weaker c.check_recursion.result (λ n.
     searched g.read c.requires.0 (definition_views c.args.defs.now) c.read_templates.new.callees.items c.args.tyenv.now table es es' c.in_ok-read_templates.field-0
-    (subst (λ l. Notes es es' (EndsBelow table l (length l)) (NotesReturn table l es es')) c.deref.ensures.value n) c.in_ok-read_templates.ensures.reads) c.check_recursion.ensures.notes
+    (subst (λ l. NotesIfWrong es es' (EndsBelow table l (length l)) (NotesReturn table l es es')) c.deref.ensures.value n) c.in_ok-read_templates.ensures.reads) c.check_recursion.ensures.notes
 
 pub returns-clause-places : goal.returns-clause-places
 returns-clause-places g c =

@@ -1,12 +1,12 @@
 use Rattle.std.proofs.Common.{◌<◌, All, length, map, take}
 use Rattle.isle_base.specs.Positions.{NotesAt}
 use Rattle.isle_base.specs.SyntaxViews.{name_view, position}
-use Rattle.isle_terms.specs.Signing.{Notes}
+use Rattle.isle_terms.specs.Signing.{NotesIfWrong}
 use Rattle.isle_terms.specs.Templating.{AreFound, HaveUnknown}
 use Rattle.isle_terms.proofs.term_table.TermTable.find_terms.Given as goal
 
 abbrev pub invariant-loop-name : goal.invariant-loop-name
 invariant-loop-name l =
     All (λ t. t.0 < length l.self.terms.items) l.found.items
-    × Notes l.fn.errors.items l.errors.items (AreFound l.tyenv l.self (map (λ n. name_view n.1.now) (take l.name-index l.named)) (map (λ t. t.0) l.found.items)) (HaveUnknown l.tyenv l.self (map (λ n. name_view n.1.now) l.named))
+    × NotesIfWrong l.fn.errors.items l.errors.items (AreFound l.tyenv l.self (map (λ n. name_view n.1.now) (take l.name-index l.named)) (map (λ t. t.0) l.found.items)) (HaveUnknown l.tyenv l.self (map (λ n. name_view n.1.now) l.named))
     × NotesAt (map (λ n. position n.0) l.named) l.fn.errors.items l.errors.items

@@ -4,7 +4,7 @@ use Rattle.isle_base.specs.SyntaxViews.{name_view, pattern_view, position}
 use Rattle.isle_base.specs.Positions.{NotesAt, pattern_positions}
 use Rattle.isle_base.proofs.Positioned.{notes_among}
 use Rattle.isle_terms.proofs.PlacesNoted.{named_among}
-use Rattle.isle_terms.specs.Signing.{Notes}
+use Rattle.isle_terms.specs.Signing.{NotesIfWrong}
 use Rattle.isle_terms.specs.Templating.{AreFound, HaveUnknown}
 use Rattle.isle_terms.proofs.TemplateNames.{named_terms}
 use Rattle.isle_terms.proofs.term_table.TermTable.terms_named.Goals as goal
@@ -13,7 +13,7 @@ pub returns-clause-notes : goal.returns-clause-notes
 returns-clause-notes c =
     let names = ap (map (λ n. name_view n.1.now)) c.deref.ensures.value ∙ named_terms c.terms.new.out.items c.new-named.result.items (pattern_view c.args.extractor.now.template) c.in_ok-terms.ensures.all c.new-named.ensures.items in
     IfOk-weaker c.find_terms.result _ _ (λ v n.
-    subst (λ ns. Notes c.args.errors.now.items c.find_terms.new.errors.items (AreFound c.args.tyenv.now c.args.self.now ns (map (λ t. t.0) v.items)) (HaveUnknown c.args.tyenv.now c.args.self.now ns)) names n) c.find_terms.ensures.notes
+    subst (λ ns. NotesIfWrong c.args.errors.now.items c.find_terms.new.errors.items (AreFound c.args.tyenv.now c.args.self.now ns (map (λ t. t.0) v.items)) (HaveUnknown c.args.tyenv.now c.args.self.now ns)) names n) c.find_terms.ensures.notes
 
 pub returns-clause-places : goal.returns-clause-places
 returns-clause-places c =
