@@ -60,7 +60,9 @@ impl TypeEnv {
     /// at, and the first error ends the work on one type. A type whose name is another type's, a primitive
     /// type that is marked `extern` or `nodebug`, another type that is marked both, two variants of an enum or
     /// two fields of a list with one name, a field or a constant of an unknown type. The first error stands at
-    /// a definition that breaks one of these conditions. `Memory` where memory is refused.
+    /// a definition that breaks one of these conditions. The errors are those of the names of all types, then
+    /// those of what each type is, one at most for a type, and then those of constants; and there are no
+    /// others. `Memory` where memory is refused.
     ///
     /// The table that is answered is well formed: terms and rules can be read with it.
     pub fn from_ast(alloc: Global, defs: &[Def]) -> Result<TypeEnv, Fault>

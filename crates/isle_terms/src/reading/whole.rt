@@ -38,7 +38,7 @@ impl TermTable {
     /// where memory is refused. The first error stands at a definition that breaks a condition of validity, of two that
     /// have one name at the later one, or at a type that makes a term whose name is taken. Each error stands at
     /// positions that occur in the definitions or that the types of `tyenv` keep, and so do all positions that the table
-    /// keeps.
+    /// keeps. Of converters there is one error for each that isn't right, in order, and no other.
     pub fn from_ast(alloc: Global, tyenv: &mut TypeEnv, defs: &[Def]) -> Result<TermTable, Fault>
         ghost read: { TypesRead }
         requires readable { AreReadable read }
