@@ -3,6 +3,6 @@ pub mod ExprViews
 mod Files
 mod Copies
 mod Pairs
-pub mod Noted
+pub mod NotedErrors
 pub mod Positioned
 pub mod Beginnings

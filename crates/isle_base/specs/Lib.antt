@@ -5,5 +5,5 @@ pub mod Expressions
 pub mod Places
 pub mod Stable
 pub mod ErrorViews
-pub mod Noting
+pub mod NotedErrors
 pub mod Positions

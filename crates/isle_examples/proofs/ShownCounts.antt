@@ -7,7 +7,7 @@ use Rattle.isle_model.specs.rules.Typed.{TypedPattern, match_bind, match_var, ma
 use Rattle.isle_model.specs.sites.Sites.{fields_from, is_present, SiteTerm, SiteTerms, argument, constructor_call, extractor_call, some_part, pick_of, variant_field, struct_field}
 use Rattle.isle_model.specs.visits.Demands.{Count, argument_taken, fields_matched, outputs_taken, Visit, visit_start, making, asking, iterating, taking_argument, site_term_eq, pattern_count, output_sites, outputs_opened, open_call, open_term, visit_pattern, visit_each, visit_all, Valued, ValuedAll, call_sites, visit_call, visit_term, visit_expr, asking_all, unwraps, visit_args, visit_iflets, finished, var_site, value_of_rule}
 use Rattle.isle_model.proofs.Either.{either}
-use Rattle.isle_laws_visits.proofs.Kept.{KeptByValues, expr_kept}
+use Rattle.isle_laws_visits.proofs.VisitInvariants.{KeptByValues, expr_kept}
 use Rattle.isle_laws_visits.proofs.Patterns.{AsManySites, as_many_sites, output_count}
 use Rattle.isle_laws_visits.proofs.AskedSites.{equated}
 use Rattle.isle_examples.specs.ShownCounts.{shown, shown_in, shown_of_args, term_shown, VisitsCountWhatIsShown}

@@ -10,9 +10,9 @@ use Rattle.isle_model.specs.sites.Overlap.{is_built}
 use Rattle.isle_laws_closure.specs.ClosureLaws.{HasEnded, ClosingEnds}
 use Rattle.isle_laws_closure.specs.BuiltLaws.{ClosingsOfBuiltRulesAreWhole, ConstrainedSitesStandInNoClass}
 use Rattle.isle_model.proofs.Elements.{In, in_from_contains, any_in, in_map, from_flat_map, in_filter, passed_filter}
-use Rattle.isle_laws_closure.proofs.Ending.{few_made_end}
+use Rattle.isle_laws_closure.proofs.ClosingEnds.{few_made_end}
 use Rattle.isle_laws_closure.proofs.Settled.{verdict_is_exact_lem}
-use Rattle.isle_laws_closure.proofs.Whole.{none_constrained}
+use Rattle.isle_laws_closure.proofs.FollowingDemands.{none_constrained}
 use Rattle.isle_laws_closure.proofs.WholeClosing.{closing_is_whole_lem}
 use Rattle.isle_laws_closure.proofs.BuiltWithinLimits.{is_reached, few_made}
 

@@ -4,7 +4,7 @@ pub mod Classes
 pub mod Closing
 pub mod ClosingGates
 pub mod ConstrainedOnce
-pub mod Ending
+pub mod ClosingEnds
 pub mod GivenFields
 pub mod LimitsReported
 pub mod Names
@@ -12,7 +12,7 @@ pub mod Owners
 pub mod Reports
 pub mod Settled
 pub mod Verdict
-pub mod Whole
+pub mod FollowingDemands
 pub mod WholeClosing
 pub mod building
 pub mod built

@@ -11,7 +11,7 @@ use Rattle.isle_model.proofs.SameSites.{term_same}
 use Rattle.isle_model.proofs.SitesMade.{in_has, has_in}
 use Rattle.isle_laws_closure.proofs.Classes.{in_with_sites, fields_at, moved}
 use Rattle.isle_laws_closure.proofs.Closing.{closing_keeps, FollowsSoFar, in_class_joined, constraint_carried, next_asked, taken_follows, before_closing_follows, constraints_kept, one_each, keeps_all, one_demanded}
-use Rattle.isle_laws_closure.proofs.Whole.{IsApart, InOne, class_is, without_in, in_without, AllIn, each_apart, each_keeps_one, each_joins_one, each_all_in, Chain, one_class, one_take, alike, back, then_on, chain_carried, joined_chain_cases, FieldsChained, IsTaken, gets_constraint, pairs_of, members_chained, pair_members, equality_members, none_constrained}
+use Rattle.isle_laws_closure.proofs.FollowingDemands.{IsApart, InOne, class_is, without_in, in_without, AllIn, each_apart, each_keeps_one, each_joins_one, each_all_in, Chain, one_class, one_take, alike, back, then_on, chain_carried, joined_chain_cases, FieldsChained, IsTaken, gets_constraint, pairs_of, members_chained, pair_members, equality_members, none_constrained}
 
 module _ (d : Demands) (reachable : IsUnreachable d → ⊥) where
   -- where a closing stands: all that is asked follows, and all that follows is asked or joined

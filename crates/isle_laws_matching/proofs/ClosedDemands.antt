@@ -14,7 +14,7 @@ use Rattle.isle_model.proofs.Elements.{In, in_from_contains, contains_from_in, i
 use Rattle.isle_model.proofs.SameSites.{term_cases}
 use Rattle.isle_model.proofs.SitesMade.{has_in}
 use Rattle.isle_laws_closure.proofs.Closing.{FollowsSoFar, constraint_carried, in_class_joined, next_asked, taken_follows, before_closing_follows, in_order_follows, closing_keeps}
-use Rattle.isle_laws_closure.proofs.Whole.{AllIn, each_all_in, without_in, equality_members}
+use Rattle.isle_laws_closure.proofs.FollowingDemands.{AllIn, each_all_in, without_in, equality_members}
 use Rattle.isle_laws_matching.proofs.Contents.{Given, content_of}
 use Rattle.isle_laws_matching.proofs.Demanded.{one_not_just, AreMet, AskEnough, one_is, same_content}
 use Rattle.isle_laws_matching.proofs.FormedDemands.{IsFormed, AreFormed}

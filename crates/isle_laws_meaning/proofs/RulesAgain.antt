@@ -24,7 +24,7 @@ use Rattle.isle_laws_typing.specs.FurtherNames.{AreThereAlike}
 use Rattle.isle_laws_typing.proofs.TypesStay.{number_front}
 use Rattle.isle_laws_typing.proofs.TypedRules.{lists_agree}
 use Rattle.isle_laws_meaning.specs.ReadAgain.{RulesAreTypedAgain}
-use Rattle.isle_laws_typing.proofs.Twice.{has_name_decides}
+use Rattle.isle_laws_typing.proofs.DistinctLists.{has_name_decides}
 use Rattle.isle_laws_typing.proofs.TwoTables.{OfOneText, same_kind, declared_alike, EntryAlike, EntriesAlike, NumbersAlike, RuleAlike, RulesAlike, numbers_kept, TwoTables, other_setting, turned, Alike, names_alike, rules_found, typings_alike}
 use Rattle.isle_laws_meaning.proofs.ReadAgain.{TypesReadAgain, later, still_readable, made_below, names_stay, valid_alike, left_again}
 

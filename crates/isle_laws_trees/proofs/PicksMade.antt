@@ -23,7 +23,7 @@ use Rattle.isle_laws_closure.proofs.built.BuiltGates.{rule_at}
 use Rattle.isle_laws_typing.proofs.WellTypedRules.{elaborated_programs_are_well_typed_lem}
 use Rattle.isle_laws_closure.proofs.built.SitesOnce.{one_number}
 use Rattle.isle_laws_closure.proofs.built.Unfolding.{unfolds}
-use Rattle.isle_laws_visits.proofs.Kept.{rule_kept}
+use Rattle.isle_laws_visits.proofs.VisitInvariants.{rule_kept}
 
 -- 1. the visit of a rule makes a pick of each call that it goes over
 abbrev AllPicked : Visit → Type 0

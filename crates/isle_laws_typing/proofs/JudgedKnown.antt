@@ -12,7 +12,7 @@ use Rattle.isle_model.specs.lists.KnownJudge.{is_builtin, begin_with_builtins, s
 use Rattle.isle_model.specs.claims.Environments.{variants_in, HasVariantsAtIds}
 use Rattle.isle_model.specs.claims.ReadJudge.{variants_at_ids, are_readable}
 use Rattle.isle_laws_typing.specs.JudgeLaws.{KnownTypesAreJudged, ReadTypesAreJudged}
-use Rattle.isle_laws_typing.proofs.Twice.{names_differ}
+use Rattle.isle_laws_typing.proofs.DistinctLists.{names_differ}
 use Rattle.isle_laws_typing.proofs.JudgedTypes.{itself, both, each, below}
 
 -- the place of a built-in type

@@ -11,7 +11,7 @@ use Rattle.isle_model.specs.claims.Environments.{TypesRead, types_read, setting_
 use Rattle.isle_model.specs.claims.ReadJudge.{are_readable, named_apart, elaborated_list, read_list}
 use Rattle.isle_laws_typing.specs.JudgeLaws.{ListsAreElaborated, TypedRulesAreFound, ListsAreRead, ListsAreRefused}
 use Rattle.isle_laws_typing.proofs.Typings.{if_gives}
-use Rattle.isle_laws_typing.proofs.Twice.{numbers_differ}
+use Rattle.isle_laws_typing.proofs.DistinctLists.{numbers_differ}
 use Rattle.isle_laws_typing.proofs.JudgedKnown.{read_types_are_judged_lem}
 use Rattle.isle_laws_typing.proofs.JudgedTypes.{types_are_judged_lem}
 use Rattle.isle_laws_typing.proofs.JudgedTerms.{terms_are_judged_lem, defined_are_judged_lem}

@@ -8,7 +8,7 @@ use Rattle.isle_model.specs.lists.KnownTypes.{KnownTypes}
 use Rattle.isle_model.specs.lists.TermTable.{decl_trees, rule_trees, constructor_trees, external_trees, extractor_trees, converter_trees, root_name, is_declared, is_declared_multi, has_rules, term_names, terms_in, arguments_in, argument_count, extractor_template, internal_extractors, external_extractors, external_constructors, converted_pairs, is_defined, IsDeclaredTerm, IsKnownTerm, HasKnownArguments, HasKnownResult, IsNotBothMultiAndPartial, HasDeclaredRoot, IsWithoutRules, IsOfPlainTerm, NamesKnownTerms, HoldsNoMacroArg, UsesDeclaredArguments, IsKnownConverter, IsValidTerms, IsDefined}
 use Rattle.isle_model.specs.lists.ListJudge.{is_known_type, has_known_arguments, is_known_term, names_known_terms, uses_declared_arguments, is_known_converter, has_valid_terms}
 use Rattle.isle_laws_typing.specs.JudgeLaws.{TermsAreJudged, DefinedAreJudged}
-use Rattle.isle_laws_typing.proofs.Twice.{names_differ, pairs_differ}
+use Rattle.isle_laws_typing.proofs.DistinctLists.{names_differ, pairs_differ}
 use Rattle.isle_laws_typing.proofs.JudgedTypes.{itself, both, each, below}
 use Rattle.isle_laws_typing.proofs.UsesFound.{cycles_are_found_lem}
 

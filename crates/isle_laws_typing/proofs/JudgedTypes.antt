@@ -6,7 +6,7 @@ use Rattle.std.proofs.lemmas.Bool.Decides.{Decides-like, Decides-and, Decides-by
 use Rattle.isle_model.specs.lists.TypeTable.{type_trees, constant_trees, all_type_names, field_lists, field_names, field_type_names, is_primitive, variants_of, IsKnownType, IsUnmarkedIfPrimitive, HasAtMostOneMark, HasDistinctVariants, HasDistinctFields, HasKnownTypes, IsOfKnownType}
 use Rattle.isle_model.specs.lists.ListJudge.{is_known_type, is_unmarked_if_primitive, has_at_most_one_mark, has_distinct_variants, has_distinct_fields, has_known_types, has_valid_types}
 use Rattle.isle_laws_typing.specs.JudgeLaws.{TypesAreJudged}
-use Rattle.isle_laws_typing.proofs.Twice.{names_differ}
+use Rattle.isle_laws_typing.proofs.DistinctLists.{names_differ}
 
 -- a test, as a fact
 pub itself : (b : Bool) → Decides b (IsTrue b)

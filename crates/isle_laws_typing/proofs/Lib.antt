@@ -17,7 +17,7 @@ pub mod Ranges
 pub mod RefusedTerms
 pub mod TermLaws
 pub mod TermTypes
-pub mod Twice
+pub mod DistinctLists
 pub mod TwoTables
 pub mod TypeLaws
 pub mod TypedExprs

@@ -11,7 +11,7 @@ use Rattle.isle_model.specs.lists.TermTable.{extractor_trees, internal_extractor
 use Rattle.isle_model.specs.lists.ListJudge.{TermUses, direct_uses, uses_of, with_uses_of, through_term, through_terms, all_uses}
 use Rattle.isle_model.proofs.Members.{nothing_in, in_head, in_tail, in_cases, in_map, from_map, in_flat_map, from_flat_map, each_passes, all_pass}
 use Rattle.isle_laws_typing.specs.JudgeLaws.{CyclesAreFound}
-use Rattle.isle_laws_typing.proofs.Twice.{has_name_decides}
+use Rattle.isle_laws_typing.proofs.DistinctLists.{has_name_decides}
 
 -- names with further ones
 from_with_name : (ns : List (List ℕ)) (y x : List ℕ) → Contains (with_name ns y) x → Contains ns x ⊎ (y ≡ x)

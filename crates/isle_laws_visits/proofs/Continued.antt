@@ -14,7 +14,7 @@ use Rattle.isle_model.proofs.Elements.{none_some}
 use Rattle.isle_model.proofs.Either.{either}
 use Rattle.isle_laws_visits.specs.VisitLaws.{Continues, VisitsContinue}
 use Rattle.isle_laws_visits.specs.LimitLaws.{FirstCountsArePassed}
-use Rattle.isle_laws_visits.proofs.Kept.{KeptByTests, KeptByValues, pattern_kept, args_kept, expr_kept, iflets_kept}
+use Rattle.isle_laws_visits.proofs.VisitInvariants.{KeptByTests, KeptByValues, pattern_kept, args_kept, expr_kept, iflets_kept}
 use Rattle.isle_laws_visits.proofs.AskedSites.{equated}
 
 -- 1. steps

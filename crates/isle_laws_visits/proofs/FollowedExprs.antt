@@ -15,7 +15,7 @@ use Rattle.isle_model.proofs.Elements.{some_is}
 use Rattle.isle_laws_visits.specs.VisitLaws.{Continues}
 use Rattle.isle_laws_visits.proofs.SameExprs.{expr_keeps, from_let, from_term, from_args, from_body}
 use Rattle.isle_laws_visits.proofs.Continued.{continues_now, values_continue}
-use Rattle.isle_laws_visits.proofs.Kept.{expr_kept, exprs_kept, lets_kept}
+use Rattle.isle_laws_visits.proofs.VisitInvariants.{expr_kept, exprs_kept, lets_kept}
 use Rattle.isle_laws_visits.specs.Followers.{Follower, Goes, Gives, NameInputs, FollowsExprs, EndsOnTheWay}
 use Rattle.isle_laws_visits.proofs.KnownVars.{InScope, KnowsVars, by_and_then, goes_further, goes_nowhere, knows_more, knows_on, one_more_in_scope, refused_ends}
 

@@ -13,7 +13,7 @@ use Rattle.isle_model.specs.visits.SiteVisitor.{any_parts}
 use Rattle.isle_model.specs.visits.PatternRuns.{part_types, OpensKind, Opens, PatternRun, PartsRun, EachRun}
 use Rattle.isle_laws_visits.specs.VisitLaws.{Continues}
 use Rattle.isle_laws_visits.proofs.Continued.{continues_now, tests_continue}
-use Rattle.isle_laws_visits.proofs.Kept.{each_kept, all_kept}
+use Rattle.isle_laws_visits.proofs.VisitInvariants.{each_kept, all_kept}
 use Rattle.isle_laws_visits.proofs.AskedSites.{equating_binds}
 use Rattle.isle_laws_visits.proofs.WithSites.{open_binds}
 use Rattle.isle_laws_visits.specs.Followers.{Follower, Goes, GoesOn, GivesParts, FollowsPatterns, EndsOnTheWay}

@@ -17,7 +17,7 @@ use Rattle.isle_model.proofs.Options.{then_some}
 use Rattle.isle_laws_visits.specs.VisitLaws.{Continues}
 use Rattle.isle_laws_visits.proofs.SameExprs.{expr_keeps}
 use Rattle.isle_laws_visits.proofs.Continued.{continues_now, tests_continue, values_continue}
-use Rattle.isle_laws_visits.proofs.Kept.{args_kept, asking_kept, expr_kept, iflets_kept, pattern_kept}
+use Rattle.isle_laws_visits.proofs.VisitInvariants.{args_kept, asking_kept, expr_kept, iflets_kept, pattern_kept}
 use Rattle.isle_laws_visits.proofs.RuleParts.{rule_parts, iflet_parts}
 use Rattle.isle_laws_visits.proofs.AskedSites.{asked_binds}
 use Rattle.isle_laws_typing.proofs.FormedParts.{from_if}

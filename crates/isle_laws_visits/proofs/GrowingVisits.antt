@@ -7,7 +7,7 @@ use Rattle.isle_model.specs.rules.Typed.{TypedPattern, TypedPatterns, TypedExpr,
 use Rattle.isle_model.specs.visits.Demands.{fields_opened, Count, fields_matched, outputs_taken, Visit, counting, outputs_opened, site_term_eq, making, asking, equating, iterating, calling, binding, pattern_count, part_sites, open_call, open_term, visit_pattern, visit_each, visit_all, Valued, ValuedAll, call_result, call_sites, where_multi, visit_call, visit_term, visit_expr, visit_exprs, visit_lets, asking_all, visit_args, visit_iflets, finished}
 use Rattle.isle_model.proofs.Elements.{In, in_left}
 use Rattle.isle_model.proofs.Either.{either}
-use Rattle.isle_laws_visits.proofs.Kept.{KeptByTests, KeptByValues, pattern_kept, each_kept, all_kept, expr_kept, exprs_kept, lets_kept, iflets_kept, args_kept}
+use Rattle.isle_laws_visits.proofs.VisitInvariants.{KeptByTests, KeptByValues, pattern_kept, each_kept, all_kept, expr_kept, exprs_kept, lets_kept, iflets_kept, args_kept}
 
 -- a later visit
 pub record Grown (v w : Visit) : Type 0 where

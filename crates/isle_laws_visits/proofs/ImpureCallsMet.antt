@@ -8,7 +8,7 @@ use Rattle.isle_model.specs.visits.Demands.{Visit, site_term_eq, equating, bindi
 use Rattle.isle_model.specs.sites.DemandedGates.{IsPureExpr, ArePureExprs, ArePureLets, ArePureIfLets}
 use Rattle.isle_laws_visits.proofs.AskedSites.{equated}
 use Rattle.isle_model.proofs.Either.{either}
-use Rattle.isle_laws_visits.proofs.Kept.{KeptByTests, KeptByValues, pattern_kept, asking_kept, args_kept, expr_kept, exprs_kept, lets_kept}
+use Rattle.isle_laws_visits.proofs.VisitInvariants.{KeptByTests, KeptByValues, pattern_kept, asking_kept, args_kept, expr_kept, exprs_kept, lets_kept}
 
 -- 1. the impure calls met, and their number, stay
 pub record KeepsCalls (v w : Visit) : Type 0 where

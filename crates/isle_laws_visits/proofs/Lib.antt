@@ -12,7 +12,7 @@ pub mod Gates
 pub mod GoneOver
 pub mod GrowingVisits
 pub mod ImpureCallsMet
-pub mod Kept
+pub mod VisitInvariants
 pub mod KnownVars
 pub mod LentVisits
 pub mod Limits

@@ -7,7 +7,7 @@ use Rattle.isle_model.specs.visits.Demands.{demands_of, site_term_eq, Visit, equ
 use Rattle.isle_model.proofs.Elements.{In, in_either}
 use Rattle.isle_laws_visits.proofs.GrowingVisits.{equated}
 use Rattle.isle_model.proofs.Either.{either}
-use Rattle.isle_laws_visits.proofs.Kept.{rule_kept}
+use Rattle.isle_laws_visits.proofs.VisitInvariants.{rule_kept}
 use Rattle.isle_model.proofs.FewElements.{not_nothing}
 
 -- no site of an impure call

@@ -2,7 +2,7 @@
 
 ghost use Rattle.std.specs.Prelude.{◌≡◌, map, IfOk};
 ghost use Rattle.isle_base.specs.SyntaxViews.{name_view};
-ghost use Rattle.isle_making.specs.Made.{counted, name_at};
+ghost use Rattle.isle_making.specs.MakerPositions.{counted, name_at};
 
 use isle_base::syntax::{Ident, Pos, Span};
 use std::alloc::{AllocError, Global};

@@ -2,7 +2,7 @@
 
 ghost use Rattle.std.specs.Prelude.{◌≡◌, [], None};
 ghost use Rattle.isle_base.specs.SyntaxViews.{expr_view, iflet_view, pattern_view, position, rule_view};
-ghost use Rattle.isle_making.specs.Made.{counted};
+ghost use Rattle.isle_making.specs.MakerPositions.{counted};
 
 use crate::maker::Maker;
 use isle_base::syntax::{Expr, IfLet, Pattern, Rule};

@@ -6,9 +6,9 @@ use Rattle.isle_base.specs.declared.syntax.Error.{Error}
 use Rattle.isle_model.specs.lists.Tables.{TermEntry}
 use Rattle.isle_terms.specs.declared.term.Term.{Term}
 use Rattle.isle_terms.specs.TermViews.{term_view, term_views}
-use Rattle.isle_base.specs.Noting.{NotesMore}
+use Rattle.isle_base.specs.NotedErrors.{NotesMore}
 use Rattle.isle_base.specs.Positions.{NotesAt}
-use Rattle.isle_base.proofs.Noted.{both, some_noted}
+use Rattle.isle_base.proofs.NotedErrors.{both, some_noted}
 use Rattle.isle_reports.specs.Elaborating.{Checks}
 use Rattle.isle_reports.specs.RuleNaming.{is_defined_term, AreDefined, IsLeftUndefined, left_undefined}
 use Rattle.isle_reports.proofs.FirstErrors.{may_check, goes_on, IsNoted, BeginsUnless, begins_next, parted, before_next}

@@ -4,7 +4,7 @@ use Rattle.std.proofs.lemmas.List.{append-nil}
 use Rattle.isle_model.specs.lists.Syntax.{Position}
 use Rattle.isle_model.proofs.Members.{nothing_in, in_head}
 use Rattle.isle_base.specs.declared.syntax.Error.{Error}
-use Rattle.isle_base.specs.Noting.{MayNoteMore}
+use Rattle.isle_base.specs.NotedErrors.{MayNoteMore}
 use Rattle.isle_base.specs.Positions.{ErrorStandsAt, NotesAt}
 use Rattle.isle_reports.specs.Elaborating.{Checks}
 use Rattle.isle_reports.specs.FirstErrors.{BeginsAt, MayBegin}

@@ -17,10 +17,10 @@ use Rattle.isle_types.specs.declared.ids.RuleId.{RuleId}
 use Rattle.isle_types.specs.Envs.{same_symbol, symbol}
 use Rattle.isle_typed.specs.declared.rules.Rule.{Rule}
 use Rattle.isle_typed.specs.RuleViews.{rule_view, rule_views}
-use Rattle.isle_base.specs.Noting.{NotesMore, MayNoteMore}
+use Rattle.isle_base.specs.NotedErrors.{NotesMore, MayNoteMore}
 use Rattle.isle_base.specs.Positions.{NotesAt}
 use Rattle.isle_reports.specs.RuleNaming.{rule_in, NamesAs, NamesRule, MapsNames, TakesName, takes_name}
-use Rattle.isle_base.proofs.Noted.{both, some_noted}
+use Rattle.isle_base.proofs.NotedErrors.{both, some_noted}
 use Rattle.isle_reports.proofs.FirstErrors.{goes_on, IsNoted, BeginsUnless, begins_next}
 
 -- whether a rule has the name

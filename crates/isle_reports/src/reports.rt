@@ -4,7 +4,7 @@ ghost use Rattle.std.specs.Prelude.{◌≡◌, true, [], ◌∷◌, ◌++◌, On
 ghost use Rattle.isle_model.specs.claims.Refusals.{ill_typed};
 ghost use Rattle.isle_reports.specs.Elaborating.{Checks};
 ghost use Rattle.isle_base.specs.ErrorViews.{error_views};
-ghost use Rattle.isle_base.specs.Noting.{NotesMore};
+ghost use Rattle.isle_base.specs.NotedErrors.{NotesMore};
 ghost use Rattle.isle_base.specs.Positions.{NotesAt};
 ghost use Rattle.isle_base.specs.SyntaxViews.{position};
 

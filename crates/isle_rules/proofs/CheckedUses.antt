@@ -8,8 +8,8 @@ use Rattle.isle_base.specs.declared.syntax.Error.{Error}
 use Rattle.isle_base.specs.SyntaxViews.{definition_view, definition_views}
 use Rattle.isle_model.specs.lists.Syntax.{Definition, type_definition, declaration, extractor_definition, converter_definition, rule_definition, extern_definition, other_definition}
 use Rattle.isle_model.specs.lists.TermTable.{rule_trees}
-use Rattle.isle_base.specs.Noting.{NotesMore}
-use Rattle.isle_rules.proofs.Noted.{both}
+use Rattle.isle_base.specs.NotedErrors.{NotesMore}
+use Rattle.isle_rules.proofs.LimitErrors.{both}
 use Rattle.isle_rules.specs.Constructors.{uses_of_rule, uses_of_definition}
 use Rattle.isle_reports.specs.Elaborating.{Checks}
 use Rattle.isle_types.proofs.RightTypes.{all_left, all_right}

@@ -20,7 +20,7 @@ use Rattle.isle_types.specs.Envs.{names_of, same_symbol, symbol, IsInterned}
 use Rattle.isle_types.specs.EnvViews.{environment_view}
 use Rattle.isle_types.specs.TypeViews.{type_views}
 use Rattle.isle_terms.specs.declared.term_table.TermTable.{TermTable}
-use Rattle.isle_terms.specs.Whole.{shown_by}
+use Rattle.isle_terms.specs.ShownTables.{shown_by}
 use Rattle.isle_terms.proofs.TypesStaying.{with_names_more}
 use Rattle.isle_rules.specs.declared.term_env.TermEnv.{TermEnv}
 use Rattle.isle_typed.specs.RuleViews.{rule_views}

@@ -12,7 +12,7 @@ use Rattle.isle_model.specs.lists.Tables.{Flags, TermEntry}
 use Rattle.isle_model.specs.rules.Typed.{TypedExpr, make_term}
 use Rattle.isle_model.specs.lists.Typings.{Typing, made_into}
 use Rattle.isle_laws_typing.proofs.Typings.{made_gives}
-use Rattle.isle_base.specs.Noting.{NotesMore, MayNoteMore}
+use Rattle.isle_base.specs.NotedErrors.{NotesMore, MayNoteMore}
 use Rattle.isle_typed.specs.declared.exprs.Expr.{Expr}
 use Rattle.isle_rules.specs.declared.term_env.TermEnv.{TermEnv}
 use Rattle.isle_rules.specs.declared.typing.progress.Stop.{Stop}
@@ -21,7 +21,7 @@ use Rattle.isle_rules.specs.ExprReadings.{expr_reading, args_reading}
 use Rattle.isle_rules.specs.ExprUses.{TakesArgs}
 use Rattle.isle_typed.specs.ExprViews.{expr_views, expr_parts}
 use Rattle.isle_rules.specs.Translating.{Standing, IsSettingOf, IsTranslated, IsReported, KeepsNoted, Stops}
-use Rattle.isle_rules.proofs.Noted.{may_both}
+use Rattle.isle_rules.proofs.LimitErrors.{may_both}
 use Rattle.isle_rules.proofs.Readings.{made_as, becomes_same, becomes_made, reported_then, reported_stops}
 use Rattle.isle_rules.proofs.ExprUsing.{list_length}
 

@@ -16,7 +16,7 @@ use Rattle.isle_model.specs.rules.Typed.{TypedExprs, TypedVar, make_term}
 use Rattle.isle_model.specs.claims.Refusals.{NamedLimit, of_nesting, of_expansions}
 use Rattle.isle_laws_typing.proofs.Typings.{ne-eqb, expected_itself}
 use Rattle.isle_types.specs.Envs.{symbol_of, IsInterned}
-use Rattle.isle_base.specs.Noting.{NotesMore, MayNoteMore}
+use Rattle.isle_base.specs.NotedErrors.{NotesMore, MayNoteMore}
 use Rattle.isle_typed.specs.declared.exprs.Expr.{Expr}
 use Rattle.isle_typed.specs.ExprViews.{expr_views, expr_parts}
 use Rattle.isle_rules.specs.declared.term_env.TermEnv.{TermEnv}

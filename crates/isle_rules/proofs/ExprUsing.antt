@@ -17,7 +17,7 @@ use Rattle.isle_model.proofs.ByNumber.{looked_up}
 use Rattle.isle_model.proofs.Names.{last}
 use Rattle.isle_laws_typing.proofs.Typings.{expected_itself}
 use Rattle.isle_types.specs.Envs.{names_of, symbol_of, IsInterned}
-use Rattle.isle_base.specs.Noting.{NotesMore}
+use Rattle.isle_base.specs.NotedErrors.{NotesMore}
 use Rattle.isle_terms.specs.Terms.{has_constructor_kind}
 use Rattle.isle_rules.specs.declared.term_env.TermEnv.{TermEnv}
 use Rattle.isle_rules.specs.declared.typing.progress.Stop.{Stop}

@@ -1,6 +1,6 @@
 mod UsedTerms
-pub mod Noted
-pub mod Placed
+pub mod LimitErrors
+pub mod ErrorPositions
 pub mod SubstitutedPlaces
 pub mod PartPlaces
 pub mod TermPlaces

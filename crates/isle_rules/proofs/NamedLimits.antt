@@ -12,7 +12,7 @@ use Rattle.isle_base.specs.declared.syntax.Limit.TheVariants.{Nesting, Expansion
 use Rattle.isle_base.specs.declared.syntax.Pos.{Pos}
 use Rattle.isle_base.specs.declared.syntax.Rule as T
 use Rattle.isle_base.specs.ErrorViews.{limit_view, error_view, error_views}
-use Rattle.isle_base.specs.Noting.{MayNoteMore}
+use Rattle.isle_base.specs.NotedErrors.{MayNoteMore}
 use Rattle.isle_base.specs.SyntaxViews as S
 use Rattle.isle_model.specs.lists.Syntax.{Position, RuleTree, Definition, type_definition, declaration, extractor_definition, converter_definition, rule_definition, extern_definition, other_definition}
 use Rattle.isle_model.specs.lists.Names.{IsDistinct}

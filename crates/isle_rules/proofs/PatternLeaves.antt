@@ -13,7 +13,7 @@ use Rattle.isle_model.specs.lists.Elaborated.{var_pattern_at}
 use Rattle.isle_laws_typing.proofs.Typings.{ne-eqb}
 use Rattle.isle_types.specs.Envs.{names_of, constant_at}
 use Rattle.isle_types.specs.TypeViews.{type_views}
-use Rattle.isle_base.specs.Noting.{NotesMore}
+use Rattle.isle_base.specs.NotedErrors.{NotesMore}
 use Rattle.isle_rules.specs.declared.term_env.TermEnv.{TermEnv}
 use Rattle.isle_reports.specs.Elaborating.{Checks}
 use Rattle.isle_rules.specs.Progress.{newest, BindsNext, Remains}

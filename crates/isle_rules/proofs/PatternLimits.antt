@@ -17,7 +17,7 @@ use Rattle.isle_model.specs.rules.Typed.{TypedPatterns, match_term}
 use Rattle.isle_model.specs.claims.Refusals.{NamedLimit, of_nesting, of_expansions}
 use Rattle.isle_laws_typing.proofs.Typings.{ne-eqb}
 use Rattle.isle_types.specs.Envs.{names_of, IsInterned}
-use Rattle.isle_base.specs.Noting.{NotesMore, MayNoteMore}
+use Rattle.isle_base.specs.NotedErrors.{NotesMore, MayNoteMore}
 use Rattle.isle_terms.specs.Terms.{has_extractor_kind}
 use Rattle.isle_terms.specs.TermViews.{term_views}
 use Rattle.isle_typed.specs.declared.patterns.Pattern.{Pattern}

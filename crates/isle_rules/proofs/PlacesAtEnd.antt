@@ -9,7 +9,7 @@ use Rattle.isle_base.specs.Positions.{ErrorStandsAt, NotesAt, OccurAmong, positi
 use Rattle.isle_base.proofs.Positioned.{among_left, notes_among, all_stand, among_join}
 use Rattle.isle_terms.specs.declared.term_table.TermTable.{TermTable}
 use Rattle.isle_terms.specs.TermViews.{term_views}
-use Rattle.isle_terms.specs.Whole.{shown_by}
+use Rattle.isle_terms.specs.ShownTables.{shown_by}
 use Rattle.isle_rules.specs.declared.term_env.TermEnv.{TermEnv}
 use Rattle.isle_rules.specs.ShownEnvs.{terms_shown_by}
 use Rattle.isle_terms.specs.TermPositions.{terms_positions}

@@ -9,7 +9,7 @@ use Rattle.isle_base.specs.declared.syntax.Def.{Def}
 use Rattle.isle_base.specs.declared.syntax.Error.{Error}
 use Rattle.isle_base.specs.Positions.{NotesAt, definition_positions, rule_positions}
 use Rattle.isle_base.specs.SyntaxViews as S
-use Rattle.isle_base.proofs.Noted.{some_noted}
+use Rattle.isle_base.proofs.NotedErrors.{some_noted}
 use Rattle.isle_rules.proofs.ConstructorLaws.{with_some}
 use Rattle.isle_model.specs.lists.Syntax.{Position, Name, RuleTree, Definition, type_definition, declaration, extractor_definition, converter_definition, rule_definition, extern_definition, other_definition}
 use Rattle.isle_model.specs.lists.TermTable.{rule_of, rule_trees}

@@ -2,7 +2,7 @@
 use Rattle.std.proofs.Common.{◌≡◌, ◌≢◌, Bool, List, [], ◌∷◌, ◌++◌, Some, refl, sym, subst, ◌∙◌, inl, inr, ◌⊎◌}
 use Rattle.std.specs.List.{flat_map}
 use Rattle.isle_base.specs.declared.syntax.Error.{Error}
-use Rattle.isle_base.proofs.Noted.{some_noted}
+use Rattle.isle_base.proofs.NotedErrors.{some_noted}
 use Rattle.isle_model.specs.lists.Syntax.{Position, RuleTree, Definition}
 use Rattle.isle_model.specs.lists.Names.{IsDistinct}
 use Rattle.isle_model.specs.lists.Setting.{Setting}

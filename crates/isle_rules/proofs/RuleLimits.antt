@@ -15,7 +15,7 @@ use Rattle.isle_model.specs.lists.Elaborated.{typed_iflet, root_parts, Sides, si
 use Rattle.isle_laws_typing.proofs.Typings.{ne-eqb}
 use Rattle.isle_types.specs.declared.ids.TypeId.{TypeId}
 use Rattle.isle_types.specs.Envs.{names_of, IsInterned}
-use Rattle.isle_base.specs.Noting.{NotesMore, MayNoteMore}
+use Rattle.isle_base.specs.NotedErrors.{NotesMore, MayNoteMore}
 use Rattle.isle_reports.specs.Elaborating.{Checks}
 use Rattle.isle_typed.specs.declared.rules.IfLet as R
 use Rattle.isle_typed.specs.RuleViews.{iflet_view}

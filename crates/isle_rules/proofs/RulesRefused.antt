@@ -18,12 +18,12 @@ use Rattle.isle_types.specs.declared.type_env.TypeEnv.{TypeEnv}
 use Rattle.isle_types.specs.Envs.{names_of, IsInterned}
 use Rattle.isle_types.specs.EnvViews.{environment_view}
 use Rattle.isle_terms.specs.declared.term_table.TermTable.{TermTable}
-use Rattle.isle_terms.specs.Whole.{shown_by}
+use Rattle.isle_terms.specs.ShownTables.{shown_by}
 use Rattle.isle_terms.specs.TermErrors.{AreErrorsOfTerms}
 use Rattle.isle_rules.specs.declared.term_env.TermEnv.{TermEnv}
 use Rattle.isle_rules.specs.Constructors.{AreTermsNamed}
 use Rattle.isle_base.specs.ErrorViews.{error_views}
-use Rattle.isle_base.specs.Noting.{MayNoteMore}
+use Rattle.isle_base.specs.NotedErrors.{MayNoteMore}
 use Rattle.isle_laws_typing.proofs.RefusedTerms.{of_reading}
 use Rattle.isle_rules.specs.LimitsNamed.{NamesPastLimits, NamesTypedPastLimits, NamesFirstPastLimits}
 use Rattle.isle_rules.specs.RuleErrors.{NotesOfRules, IsOfRules}

@@ -12,7 +12,7 @@ use Rattle.isle_base.specs.declared.syntax.Limit.{Limit}
 use Rattle.isle_base.specs.declared.syntax.Limit.TheVariants.{Nesting, Expansions}
 use Rattle.isle_base.specs.declared.syntax.Rule as T
 use Rattle.isle_base.specs.ErrorViews.{error_view}
-use Rattle.isle_base.specs.Noting.{NotesMore, MayNoteMore, AreIllTyped}
+use Rattle.isle_base.specs.NotedErrors.{NotesMore, MayNoteMore, AreIllTyped}
 use Rattle.isle_base.specs.SyntaxViews as S
 use Rattle.isle_model.specs.lists.Syntax.{Position, RuleTree, Definition}
 use Rattle.isle_model.specs.lists.Names.{IsDistinct}

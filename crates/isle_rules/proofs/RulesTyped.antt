@@ -12,7 +12,7 @@ use Rattle.isle_model.specs.lists.Elaborated.{TypedRules, typed_rules}
 use Rattle.isle_model.proofs.Positions.{get_front}
 use Rattle.isle_types.specs.declared.type_env.TypeEnv.{TypeEnv}
 use Rattle.isle_types.specs.Envs.{names_of, IsInterned}
-use Rattle.isle_base.specs.Noting.{NotesMore}
+use Rattle.isle_base.specs.NotedErrors.{NotesMore}
 use Rattle.isle_rules.specs.declared.term_env.TermEnv.{TermEnv}
 use Rattle.isle_rules.specs.Constructors.{has_constructor_if_there, AreMadeUses, AreFoundMade, uses_of_rule, AreTermsNamed}
 use Rattle.isle_reports.specs.Elaborating.{Checks}

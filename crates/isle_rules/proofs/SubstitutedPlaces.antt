@@ -19,7 +19,7 @@ use Rattle.isle_rules.specs.ExprUses.{inside_call}
 use Rattle.isle_rules.specs.RulePositions.{template_positions, templates_positions, with_templates}
 use Rattle.isle_terms.specs.TermPositions.{taken_positions, kind_positions, entry_positions, terms_positions}
 use Rattle.isle_rules.proofs.PatternSizes.{mapped_gives, with_gives}
-use Rattle.isle_rules.proofs.Placed.{among_here}
+use Rattle.isle_rules.proofs.ErrorPositions.{among_here}
 
 -- a template with patterns in the place of its arguments, where all of them have positions among these
 module _ (given : List PatternTree) (all : List Position) (each : (i : ℕ) (p : PatternTree) → slice_get given i ≡ Some p → OccurAmong (pattern_positions p) all) where

@@ -16,7 +16,7 @@ use Rattle.isle_model.specs.lists.Elaborated.{few_enough, most_nested, TypedRule
 use Rattle.isle_model.specs.claims.Refusals.{past_limit}
 use Rattle.isle_types.specs.declared.type_env.TypeEnv.{TypeEnv}
 use Rattle.isle_types.specs.Envs.{names_of}
-use Rattle.isle_base.specs.Noting.{NotesMore, MayNoteMore}
+use Rattle.isle_base.specs.NotedErrors.{NotesMore, MayNoteMore}
 use Rattle.isle_base.specs.ErrorViews.{limit_view, error_view}
 use Rattle.isle_rules.specs.declared.term_env.TermEnv.{TermEnv}
 use Rattle.isle_typed.specs.declared.rules.Rule.{Rule}

@@ -4,7 +4,7 @@
 use Rattle.std.specs.Prelude.{◌≡◌, ◌≢◌, ◌⊎◌, ℕ, Bool, List, [], ◌∷◌, ◌++◌, All, Some, None}
 use Rattle.isle_base.specs.declared.syntax.Error.{Error}
 use Rattle.isle_base.specs.ErrorViews.{error_view}
-use Rattle.isle_base.specs.Noting.{AreIllTyped}
+use Rattle.isle_base.specs.NotedErrors.{AreIllTyped}
 use Rattle.isle_base.specs.Positions.{ErrorStandsAt, rule_positions}
 use Rattle.isle_model.specs.lists.Syntax.{Position, RuleTree, Definition}
 use Rattle.isle_model.specs.lists.Names.{IsDistinct}

@@ -16,7 +16,7 @@ use Rattle.isle_model.specs.lists.Elaborated.{most_expansions}
 use Rattle.isle_types.specs.declared.type_env.TypeEnv.{TypeEnv}
 use Rattle.isle_types.specs.Envs.{names_of, type_at, constant_at, IsInterned}
 use Rattle.isle_types.specs.TypeViews.{type_views}
-use Rattle.isle_base.specs.Noting.{NotesMore, MayNoteMore}
+use Rattle.isle_base.specs.NotedErrors.{NotesMore, MayNoteMore}
 use Rattle.isle_terms.specs.TermTables.{same_types}
 use Rattle.isle_terms.specs.TermViews.{term_views}
 use Rattle.isle_rules.specs.declared.term_env.TermEnv.{TermEnv}

@@ -10,7 +10,7 @@ ghost use Rattle.isle_model.specs.lists.Elaborated.{TypedRules};
 ghost use Rattle.isle_types.specs.Envs.{symbol_of};
 ghost use Rattle.isle_types.specs.EnvViews.{environment_view};
 ghost use Rattle.isle_types.specs.TypeViews.{type_views};
-ghost use Rattle.isle_terms.specs.Whole.{shown_by};
+ghost use Rattle.isle_terms.specs.ShownTables.{shown_by};
 ghost use Rattle.isle_base.specs.ErrorViews.{error_views};
 ghost use Rattle.isle_rules.specs.LimitsNamed.{NamesTypedPastLimits, NamesFirstPastLimits};
 ghost use Rattle.isle_laws_typing.specs.ReadLimits.{NonePassedInReading};

@@ -12,6 +12,6 @@ mod pattern_uses;
 mod patterns;
 mod progress;
 mod rule;
+mod rule_lists;
 mod rules;
 mod sides;
-mod whole;

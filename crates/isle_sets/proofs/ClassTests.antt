@@ -7,7 +7,7 @@ use Rattle.isle_model.specs.sites.Closure.{class_at, without_class_of, merged_cl
 use Rattle.isle_model.proofs.Elements.{In, any_in, in_any, in_either, in_left, in_right, or_split, or_left, or_right}
 use Rattle.isle_model.proofs.SameSites.{term_means, same_term}
 use Rattle.isle_model.proofs.SitesMade.{in_has, has_in}
-use Rattle.isle_laws_closure.proofs.Whole.{IsApart, InOne, own_class, class_cases, class_is, without_in, in_without, joint, others, each_apart, each_keeps_one}
+use Rattle.isle_laws_closure.proofs.FollowingDemands.{IsApart, InOne, own_class, class_cases, class_is, without_in, in_without, joint, others, each_apart, each_keeps_one}
 use Rattle.isle_laws_closure.proofs.overlaps.Overlaps.{bool_same}
 use Rattle.isle_sets.specs.Closings.{are_in_one_class}
 

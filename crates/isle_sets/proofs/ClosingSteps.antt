@@ -15,7 +15,7 @@ use Rattle.isle_model.specs.sites.RuleSets.{StandFor}
 use Rattle.isle_model.proofs.Elements.{In, in_from_contains, contains_from_in, slice_in, in_slice, in_map, in_zip}
 use Rattle.isle_model.proofs.SitesMade.{once_with}
 use Rattle.isle_laws_closure.proofs.Closing.{found_constraint, constraints_in}
-use Rattle.isle_laws_closure.proofs.Whole.{IsApart, without_in, each_apart, each_all_in}
+use Rattle.isle_laws_closure.proofs.FollowingDemands.{IsApart, without_in, each_apart, each_all_in}
 use Rattle.isle_sets.specs.DemandsHeld.{constraint_held, are_equated, equated_each}
 use Rattle.isle_sets.specs.SiteTables.{AddsFields}
 use Rattle.isle_sets.specs.SiteViews.{constraint_view}

@@ -4,7 +4,7 @@ use Rattle.std.proofs.lemmas.Bool.{cases_Bool, cond-true, cond-false}
 use Rattle.std.proofs.lemmas.List.{append_assoc, append-nil, map-append, take_all}
 use Rattle.std.proofs.lemmas.List.Elements.{Contains-append_left, Contains-append_right, Contains-append_cases}
 use Rattle.std.proofs.Math.Seq.{take-suc}
-use Rattle.isle_laws_closure.proofs.Whole.{constraint_there}
+use Rattle.isle_laws_closure.proofs.FollowingDemands.{constraint_there}
 use Rattle.isle_base.specs.Stable.{Members}
 use Rattle.isle_model.specs.sites.Sites.{Constraint, is_present, SiteTerm, unfold_site}
 use Rattle.isle_model.specs.visits.Demands.{site_term_eq, has_site, Visit, asking, asking_all, unwraps}

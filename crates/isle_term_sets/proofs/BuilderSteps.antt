@@ -17,7 +17,7 @@ use Rattle.isle_model.proofs.Elements.{In}
 use Rattle.isle_model.proofs.Members.{in_alone, in_head, nothing_in}
 use Rattle.isle_model.proofs.SameSites.{term_means}
 use Rattle.isle_model.proofs.SitesMade.{in_has}
-use Rattle.isle_laws_closure.proofs.Whole.{own_class}
+use Rattle.isle_laws_closure.proofs.FollowingDemands.{own_class}
 use Rattle.isle_laws_visits.proofs.Continued.{passed_after}
 use Rattle.isle_sets.specs.DemandsHeld.{constraint_held, are_equated, first_kept, IsConflict, equated_too}
 use Rattle.isle_sets.specs.SiteTables.{AreFirst, ForWantOfRoom, HasNoRoom, HasSources, IsTable, StandsFor, table_sites}

@@ -4,9 +4,9 @@ use Rattle.isle_model.specs.lists.Syntax.{Position, Definition}
 use Rattle.isle_model.specs.lists.KnownTypes.{KnownTypes}
 use Rattle.isle_model.proofs.Members.{in_head, nothing_in}
 use Rattle.isle_base.specs.declared.syntax.Error.{Error}
-use Rattle.isle_base.specs.Noting.{NotesMore, MayNoteMore}
+use Rattle.isle_base.specs.NotedErrors.{NotesMore, MayNoteMore}
 use Rattle.isle_base.specs.Positions.{NotesAt, OccurAmong}
-use Rattle.isle_base.proofs.Noted.{some_noted}
+use Rattle.isle_base.proofs.NotedErrors.{some_noted}
 use Rattle.isle_base.proofs.Positioned.{stand_among}
 use Rattle.isle_terms.specs.TermBreaches.{TermGroup, FirstStandsAt, BreaksGroup, FirstBreaksGroup}
 

@@ -35,12 +35,12 @@ use Rattle.isle_terms.specs.TermBreaches.{of_converters, FirstStandsAt, BreaksCo
 use Rattle.isle_terms.specs.Stages.{constructor_after}
 use Rattle.isle_terms.specs.Signing.{NotesIfWrong, ReadsTerms}
 use Rattle.isle_terms.specs.TermErrors.{IsConvertedBefore, TellsOfConverter}
-use Rattle.isle_types.specs.Telling as T
-use Rattle.isle_types.specs.Telling.{NotesEach}
-use Rattle.isle_types.proofs.Telling.{noted_none, noted_more}
+use Rattle.isle_types.specs.ToldErrors as T
+use Rattle.isle_types.specs.ToldErrors.{NotesEach}
+use Rattle.isle_types.proofs.ToldErrors.{noted_none, noted_more}
 use Rattle.isle_terms.specs.Converting.{type_by_id, converter_at, pair_of, converter_entry, template_after, ConvertersRead, Converts, IsWrongConverter, ReadsIfConverter}
 use Rattle.isle_terms.proofs.Declaring.{taken_next, around}
-use Rattle.isle_terms.proofs.Noting.{some_noted, step}
+use Rattle.isle_terms.proofs.ErrorSteps.{some_noted, step}
 use Rattle.isle_terms.proofs.Standing.{term_is}
 use Rattle.isle_terms.proofs.TemplateSteps.{one_name}
 use Rattle.isle_terms.proofs.TypesStaying.{left_interned, type_is}

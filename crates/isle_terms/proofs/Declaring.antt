@@ -19,10 +19,10 @@ use Rattle.isle_model.proofs.Names.{number_stays, with_names_append}
 use Rattle.isle_model.proofs.Positions.{get_middle}
 use Rattle.isle_base.specs.declared.syntax.Def.{Def}
 use Rattle.isle_base.specs.declared.syntax.Error.{Error}
-use Rattle.isle_base.specs.Noting.{MayNoteMore}
+use Rattle.isle_base.specs.NotedErrors.{MayNoteMore}
 use Rattle.isle_base.specs.Positions.{declaration_positions, definition_positions}
 use Rattle.isle_base.specs.SyntaxViews.{definition_view, definition_views}
-use Rattle.isle_base.proofs.Noted.{may_both}
+use Rattle.isle_base.proofs.NotedErrors.{may_both}
 use Rattle.isle_types.specs.declared.type_env.TypeEnv.{TypeEnv}
 use Rattle.isle_types.specs.Envs.{names_of, symbol_of, type_of_name, IsInterned}
 use Rattle.isle_types.specs.EnvViews.{environment_view}
@@ -37,7 +37,7 @@ use Rattle.isle_terms.specs.Signing.{ReadsTerms, with_ids, declared_alone, Holds
 use Rattle.isle_terms.proofs.Finding.{at_number, finds_next}
 use Rattle.isle_terms.proofs.TypesStaying.{left_more, type_is, may_intern}
 use Rattle.isle_terms.proofs.Breaches.{begins_both}
-use Rattle.isle_terms.proofs.Noting.{both_note, if_noted, may_note, notes_as, step}
+use Rattle.isle_terms.proofs.ErrorSteps.{both_note, if_noted, may_note, notes_as, step}
 
 -- one more term, with the next id
 pub one_more : (i n : ℕ) (fs : List (ℕ → TermEntry)) (f : ℕ → TermEntry) → i + length fs ≡ n → with_ids i (fs ++ f ∷ []) ≡ with_ids i fs ++ f n ∷ []

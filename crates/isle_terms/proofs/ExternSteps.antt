@@ -33,7 +33,7 @@ use Rattle.isle_terms.specs.Externing.{lacks_constructor, lacks_extractor, made_
 use Rattle.isle_terms.specs.ExternStages.{function_after, external_after, AreRightConstructors, AreRightExternals, ExternsRead, ReadsIfExtern}
 use Rattle.isle_terms.proofs.Declaring.{taken_next, around}
 use Rattle.isle_terms.proofs.FirstOfTerm.{known_other, known_new, not_known, was_known, none_stands}
-use Rattle.isle_terms.proofs.Noting.{step}
+use Rattle.isle_terms.proofs.ErrorSteps.{step}
 use Rattle.isle_terms.proofs.Standing.{entry_found, nothing_found, stands_on, stands_named}
 use Rattle.isle_terms.proofs.TypesStaying.{left_interned, left_more}
 

@@ -4,7 +4,7 @@ pub mod TermMaps
 pub mod Arguments
 pub mod TypesStaying
 pub mod Breaches
-pub mod Noting
+pub mod ErrorSteps
 pub mod Declaring
 pub mod Making
 pub mod Changing
@@ -20,6 +20,6 @@ pub mod TemplateSteps
 pub mod TemplateParts
 pub mod Marks
 pub mod Recursion
-pub mod Whole
+pub mod GroupSteps
 pub mod PlacesNoted
 pub mod Broken

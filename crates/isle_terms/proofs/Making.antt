@@ -18,12 +18,12 @@ use Rattle.isle_types.specs.declared.type_env.TypeEnv.{TypeEnv}
 use Rattle.isle_types.specs.declared.types.Type as T
 use Rattle.isle_types.specs.declared.types.Variant.{Variant}
 use Rattle.isle_types.specs.Envs.{names_of, symbol_of, IsInterned}
-use Rattle.isle_base.specs.Noting.{MayNoteMore, NotesMore}
+use Rattle.isle_base.specs.NotedErrors.{MayNoteMore, NotesMore}
 use Rattle.isle_types.specs.Types.{entry_field_types}
 use Rattle.isle_types.specs.TypePositions.{entry_positions}
 use Rattle.isle_types.specs.TypeViews.{type_view, type_views, variant_view}
 use Rattle.isle_types.proofs.Inverse.{inverse_distinct}
-use Rattle.isle_base.proofs.Noted.{both}
+use Rattle.isle_base.proofs.NotedErrors.{both}
 use Rattle.isle_terms.specs.declared.term_table.TermTable.{TermTable}
 use Rattle.isle_terms.specs.declared.term.Term.{Term}
 use Rattle.isle_terms.specs.Reading.{IsWithin}

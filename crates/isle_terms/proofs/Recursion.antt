@@ -14,7 +14,7 @@ use Rattle.isle_model.specs.claims.Environments.{TypesRead, AreReadable, IsLeftB
 use Rattle.isle_model.proofs.Bytes.{same_bytes, same_self}
 use Rattle.isle_model.proofs.Members.{in_cases, in_head, in_tail, in_map, from_map}
 use Rattle.isle_base.specs.declared.syntax.Error.{Error}
-use Rattle.isle_base.specs.Noting.{NotesMore}
+use Rattle.isle_base.specs.NotedErrors.{NotesMore}
 use Rattle.isle_base.specs.Patterns.{pattern_position}
 use Rattle.isle_types.specs.declared.ids.TermId.{TermId}
 use Rattle.isle_types.specs.declared.type_env.TypeEnv.{TypeEnv}
@@ -30,9 +30,9 @@ use Rattle.isle_terms.specs.Signing.{NotesIfWrong, ReadsTerms}
 use Rattle.isle_terms.specs.Converting.{template_after}
 use Rattle.isle_terms.specs.Templating.{callees_of, AreCallees, AreRightExtractors, CallsAreOf, TemplatesRead}
 use Rattle.isle_terms.specs.Recursion.{all_end, AreWithin, by_one, by_more, Comes, EndsBelow, ExtractorsRead, HasEnd, HaveTemplates, NotesReturn, has_template, is_template}
-use Rattle.isle_base.proofs.Noted.{both}
+use Rattle.isle_base.proofs.NotedErrors.{both}
 use Rattle.isle_terms.proofs.Breaches.{begins_before, Breach}
-use Rattle.isle_terms.proofs.Noting.{step}
+use Rattle.isle_terms.proofs.ErrorSteps.{step}
 use Rattle.isle_terms.proofs.Standing.{entry_found, no_place, term_is}
 use Rattle.isle_terms.proofs.TemplateSteps.{one_name}
 use Rattle.isle_terms.proofs.TypesStaying.{left_interned}

@@ -24,7 +24,7 @@ use Rattle.isle_terms.specs.Stages.{constructor_after}
 use Rattle.isle_terms.specs.Signing.{ReadsTerms, declared_so_far}
 use Rattle.isle_terms.specs.Standing.{Stand, RootsRead, IsOfDeclared, IsOfMade, ReadsIfRule}
 use Rattle.isle_terms.proofs.Declaring.{taken_next, around}
-use Rattle.isle_terms.proofs.Noting.{step}
+use Rattle.isle_terms.proofs.ErrorSteps.{step}
 use Rattle.isle_terms.proofs.Rooting.{same_constructor, new_constructor}
 use Rattle.isle_terms.proofs.Standing.{declared_found, made_found, nothing_found, stands_on}
 use Rattle.isle_terms.proofs.TypesStaying.{left_interned}

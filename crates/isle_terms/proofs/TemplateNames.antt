@@ -19,7 +19,7 @@ use Rattle.isle_terms.specs.declared.term_table.TermTable.{TermTable}
 use Rattle.isle_terms.specs.Reading.{term_of_name}
 use Rattle.isle_terms.specs.Signing.{NotesIfWrong}
 use Rattle.isle_terms.specs.Templating.{AddsFound, AreArguments, AreFound, HaveUnknown, IsFoundTerm}
-use Rattle.isle_terms.proofs.Noting.{both_note, notes_as}
+use Rattle.isle_terms.proofs.ErrorSteps.{both_note, notes_as}
 
 -- the term of one more name
 pub next_found : {X : Type 0} (f : X → Name) (env : TypeEnv) (table : TermTable) (xs : List X) (i : ℕ) (x : X) → i < length xs → x ≡ get_or xs i x → (first es es' : List Error) (found found' : List TermId)

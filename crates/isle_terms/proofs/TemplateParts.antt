@@ -9,7 +9,7 @@ use Rattle.isle_types.specs.declared.type_env.TypeEnv.{TypeEnv}
 use Rattle.isle_terms.specs.declared.term_table.TermTable.{TermTable}
 use Rattle.isle_terms.specs.Signing.{NotesIfWrong}
 use Rattle.isle_terms.specs.Templating.{AreFound, CantTakeTemplate, HaveUnknown, IsTemplate, IsWrongTemplate, SetsCallees, TakesTemplate}
-use Rattle.isle_terms.proofs.Noting.{both_note, notes_as}
+use Rattle.isle_terms.proofs.ErrorSteps.{both_note, notes_as}
 
 pub parts_noted : (x : ExtractorTree) (id : ℕ) (env : TypeEnv) (old new : TermTable) (callees callees' : List (Vec TermId Global)) (named : List ℕ) (es mid es' : List Error)
     → HoldsNoMacroArg x → SetsCallees id named callees callees'

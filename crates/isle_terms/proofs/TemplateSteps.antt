@@ -40,7 +40,7 @@ use Rattle.isle_terms.specs.Templating.{callees_of, may_have_template, AreArgume
 use Rattle.isle_terms.proofs.Changing.{place_at}
 use Rattle.isle_terms.proofs.Declaring.{taken_next, around}
 use Rattle.isle_terms.proofs.FirstOfTerm.{known_other, known_new, not_known, was_known, none_stands}
-use Rattle.isle_terms.proofs.Noting.{step}
+use Rattle.isle_terms.proofs.ErrorSteps.{step}
 use Rattle.isle_terms.proofs.Rooting.{one_before}
 use Rattle.isle_terms.proofs.Standing.{entry_found, nothing_found, stands_on, term_is}
 use Rattle.isle_terms.proofs.TemplateNames.{found_all, found_one, name_found}

@@ -14,7 +14,7 @@ use Rattle.isle_base.specs.declared.syntax.Error.{Error}
 use Rattle.isle_base.specs.Stable.{look_up}
 use Rattle.isle_types.specs.declared.ids.TypeId.{TypeId}
 use Rattle.isle_base.specs.Positions.{converter_positions}
-use Rattle.isle_types.specs.Telling.{Notes}
+use Rattle.isle_types.specs.ToldErrors.{Notes}
 use Rattle.isle_types.specs.declared.type_env.TypeEnv.{TypeEnv}
 use Rattle.isle_types.specs.Envs.{type_of_name}
 use Rattle.isle_terms.specs.declared.term_table.TermTable.{TermTable}

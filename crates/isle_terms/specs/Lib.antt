@@ -11,7 +11,7 @@ pub mod Externing
 pub mod ExternStages
 pub mod Templating
 pub mod Recursion
-pub mod Whole
+pub mod ShownTables
 pub mod TermPositions
 pub mod TermBreaches
 pub mod TermErrors

@@ -8,7 +8,7 @@ use Rattle.isle_model.specs.lists.TermTable.{decl_flags, root_name}
 use Rattle.isle_base.specs.declared.syntax.Error.{Error}
 use Rattle.isle_types.specs.declared.type_env.TypeEnv.{TypeEnv}
 use Rattle.isle_types.specs.Envs.{names_of, symbol_of, type_of_name, IsInterned}
-use Rattle.isle_base.specs.Noting.{NotesMore}
+use Rattle.isle_base.specs.NotedErrors.{NotesMore}
 use Rattle.isle_types.specs.Reading.{MeetsNames}
 use Rattle.isle_terms.specs.declared.term_table.TermTable.{TermTable}
 use Rattle.isle_terms.specs.TermTables.{term_at}

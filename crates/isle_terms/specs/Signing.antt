@@ -13,7 +13,7 @@ use Rattle.isle_base.specs.declared.syntax.Error.{Error}
 use Rattle.isle_types.specs.declared.type_env.TypeEnv.{TypeEnv}
 use Rattle.isle_types.specs.Envs.{names_of, IsInterned}
 use Rattle.isle_types.specs.EnvViews.{environment_view}
-use Rattle.isle_base.specs.Noting.{AreIllTyped, NotesMore}
+use Rattle.isle_base.specs.NotedErrors.{AreIllTyped, NotesMore}
 use Rattle.isle_terms.specs.declared.term_table.TermTable.{TermTable}
 use Rattle.isle_types.specs.TypePositions.{entry_positions}
 use Rattle.isle_terms.specs.TermBreaches.{TermGroup, FirstStandsAt, FirstBreaksGroup}

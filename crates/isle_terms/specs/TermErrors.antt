@@ -7,7 +7,7 @@ use Rattle.isle_model.specs.lists.TermTable.{decl_trees, rule_trees, extractor_t
 use Rattle.isle_model.specs.claims.Environments.{TypesRead}
 use Rattle.isle_base.specs.declared.syntax.Error.{Error}
 use Rattle.isle_base.specs.Positions.{converter_positions}
-use Rattle.isle_types.specs.Telling.{TellsUnless, Told}
+use Rattle.isle_types.specs.ToldErrors.{TellsUnless, Told}
 use Rattle.isle_terms.specs.Signing.{AreRightDeclarations}
 use Rattle.isle_terms.specs.Templating.{AreRightExtractors}
 use Rattle.isle_terms.specs.TermBreaches.{of_signatures, of_definitions, of_converters, of_externs, FirstBreaksGroup}

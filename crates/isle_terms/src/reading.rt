@@ -6,8 +6,8 @@ ghost use Rattle.isle_base.specs.Positions.{NotesAt, declaration_positions, name
 ghost use Rattle.isle_base.specs.SyntaxViews.{decl_view, name_view, position};
 ghost use Rattle.isle_types.specs.Envs.{names_of, IsInterned};
 ghost use Rattle.isle_model.specs.lists.Names.{number};
-ghost use Rattle.isle_base.specs.Noting.{NotesMore};
-ghost use Rattle.isle_types.specs.Telling.{Notes};
+ghost use Rattle.isle_base.specs.NotedErrors.{NotesMore};
+ghost use Rattle.isle_types.specs.ToldErrors.{Notes};
 ghost use Rattle.isle_terms.specs.TermBreaches.{FirstStandsAt};
 ghost use Rattle.isle_terms.specs.TermTables.{term_at};
 ghost use Rattle.isle_terms.specs.TermViews.{term_view, term_views};
@@ -17,11 +17,11 @@ ghost use Rattle.isle_terms.specs.TermPositions.{table_positions, IsPlacedAmong}
 mod converters;
 mod declarations;
 mod externs;
-mod made;
 mod recursion;
 mod roots;
+mod table;
 mod templates;
-mod whole;
+mod type_terms;
 
 use crate::term::{ConstructorKind, Term, TermFlags, TermKind};
 use crate::term_table::TermTable;

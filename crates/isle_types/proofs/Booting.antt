@@ -14,7 +14,7 @@ use Rattle.isle_types.specs.Reading.{AddsBuiltin}
 use Rattle.isle_types.specs.Stages.{Sees, Booting}
 use Rattle.isle_types.specs.TypeTables.{SeesTypes}
 use Rattle.isle_types.specs.TypeViews.{type_views}
-use Rattle.isle_types.proofs.Seen.{type_of_text, was_free, sees_type}
+use Rattle.isle_types.proofs.EnvironmentSteps.{type_of_text, was_free, sees_type}
 use Rattle.isle_model.proofs.Names.{distinct_if}
 use Rattle.isle_model.proofs.FirstPlaces.{place_missing, twice}
 

@@ -30,7 +30,7 @@ use Rattle.isle_model.proofs.FirstPlaces.{distinct_push, twice}
 use Rattle.isle_model.proofs.Names.{number_stays, with_names_append}
 use Rattle.isle_types.proofs.NamesMet.{meet_more}
 use Rattle.isle_types.proofs.PlacesNoted.{noted_first}
-use Rattle.isle_types.proofs.Seen.{sees_name}
+use Rattle.isle_types.proofs.EnvironmentSteps.{sees_name}
 use Rattle.isle_types.proofs.SeenNames.{none_seen, not_seen, seen_text, one_seen}
 
 -- a fact of all elements is one of an element between the others

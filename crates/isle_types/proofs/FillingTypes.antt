@@ -17,7 +17,7 @@ use Rattle.isle_base.specs.Positions.{type_positions}
 use Rattle.isle_types.specs.Reading.{MeetsNames, IsRightType}
 use Rattle.isle_types.specs.Promises.{DefinitionIsFilled}
 use Rattle.isle_types.specs.Stages.{Sees, KnowsTypes, Naming, NamesTypes, names_in_types, constant_names, entries_from, AreMet, Filling, FillsTypes}
-use Rattle.isle_types.specs.Telling.{NotesOf, NotesEach}
+use Rattle.isle_types.specs.ToldErrors.{NotesOf, NotesEach}
 use Rattle.isle_types.specs.TypeErrors.{TellsOfType}
 use Rattle.isle_types.specs.TypeViews.{type_view, type_views}
 use Rattle.isle_types.specs.VariantReading.{FillsType, FillsDefinition}
@@ -26,8 +26,8 @@ use Rattle.isle_types.proofs.NamesMet.{sees_after}
 use Rattle.isle_types.proofs.KnownTypes.{right_same, type_named, known_met, knows_met, one_more_read}
 use Rattle.isle_model.proofs.Members.{in_map}
 use Rattle.isle_model.proofs.Names.{with_names_append}
-use Rattle.isle_types.proofs.SoFar.{reads_on, reads_wrong, reads_same}
-use Rattle.isle_types.proofs.Telling.{some_told, not_same, noted_none, noted_more}
+use Rattle.isle_types.proofs.ReadingSteps.{reads_on, reads_wrong, reads_same}
+use Rattle.isle_types.proofs.ToldErrors.{some_told, not_same, noted_none, noted_more}
 
 -- one more entry, where what follows depends on how many there are
 push_entry : (es es' : List TypeEntry) (p q : TypeEntry) (G : ℕ → List TypeEntry) (whole : List TypeEntry) → es' ≡ es ++ p ∷ [] → p ≡ q → es ++ (q ∷ G (length es + 1)) ≡ whole → es' ++ G (length es') ≡ whole

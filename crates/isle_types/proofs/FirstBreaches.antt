@@ -10,12 +10,12 @@ use Rattle.isle_model.proofs.Positions.{twice}
 use Rattle.isle_base.specs.declared.syntax.Error.{Error}
 use Rattle.isle_base.specs.Positions.{type_positions, definition_positions}
 use Rattle.isle_types.specs.Reading.{IsRightType}
-use Rattle.isle_types.specs.Telling.{IsToldAt, TellsUnless, Told}
+use Rattle.isle_types.specs.ToldErrors.{IsToldAt, TellsUnless, Told}
 use Rattle.isle_types.specs.TypeBreaches.{BreaksTypes, takes_a_name, isnt_right, has_unknown_type, FirstBreaksTypes}
 use Rattle.isle_types.specs.TypeErrors.{times_taken, TellsOfName, TellsOfType, TellsOfConstant, AreErrorsOfTypes}
 use Rattle.isle_types.proofs.KnownTypes.{names_split}
 use Rattle.isle_types.proofs.RightTypes.{types_right}
-use Rattle.isle_types.proofs.Telling.{first_told}
+use Rattle.isle_types.proofs.ToldErrors.{first_told}
 use Rattle.isle_types.proofs.TypeErrors.{name_at, type_at, constant_at}
 
 module _ (defs : List Definition) where

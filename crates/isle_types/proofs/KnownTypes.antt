@@ -19,7 +19,7 @@ use Rattle.isle_types.specs.Envs.{names_of, type_at, IsInterned}
 use Rattle.isle_types.specs.Reading.{NamesType, MeetsNames, AreRightFields, IsRightType}
 use Rattle.isle_types.specs.Stages.{Sees, KnowsTypes}
 use Rattle.isle_types.proofs.NamesMet.{sees_met}
-use Rattle.isle_types.proofs.Seen.{type_of_text, sees_type}
+use Rattle.isle_types.proofs.EnvironmentSteps.{type_of_text, sees_type}
 
 -- the names of types up to a place, and from there on
 pub names_split : (before rest : List Definition) → all_type_names (before ++ rest) ≡ all_type_names before ++ type_names rest

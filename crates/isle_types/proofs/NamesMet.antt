@@ -11,8 +11,8 @@ use Rattle.isle_types.specs.declared.type_env.TypeEnv.{TypeEnv}
 use Rattle.isle_types.specs.Envs.{names_of, same_symbol, symbol}
 use Rattle.isle_types.specs.Reading.{MeetsNames, EndsAt}
 use Rattle.isle_types.specs.Stages.{Sees}
-use Rattle.isle_types.specs.Telling.{Notes}
-use Rattle.isle_types.proofs.Telling.{noted_among}
+use Rattle.isle_types.specs.ToldErrors.{Notes}
+use Rattle.isle_types.proofs.ToldErrors.{noted_among}
 use Rattle.isle_model.proofs.ByNumber.{then_withs}
 use Rattle.isle_model.proofs.Names.{known_name, missing_before, with_names_append}
 

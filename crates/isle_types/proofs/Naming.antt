@@ -14,16 +14,16 @@ use Rattle.isle_types.specs.declared.type_env.TypeEnv.{TypeEnv}
 use Rattle.isle_types.specs.Envs.{names_of, symbol_of, IsInterned}
 use Rattle.isle_types.specs.Reading.{NamesType, NotesTaken, RefusesName, NamesDefinition}
 use Rattle.isle_types.specs.Stages.{Sees, KnowsTypes, Naming, NamesTypes}
-use Rattle.isle_types.specs.Telling.{IsToldAt, Tells, NotesOf, NotesEach}
+use Rattle.isle_types.specs.ToldErrors.{IsToldAt, Tells, NotesOf, NotesEach}
 use Rattle.isle_types.specs.TypeErrors.{times_taken, TellsOfName}
 use Rattle.isle_types.specs.TypeTables.{SeesTypes}
 use Rattle.isle_types.specs.TypeViews.{type_views}
-use Rattle.isle_types.proofs.Seen.{was_free, sees_type}
+use Rattle.isle_types.proofs.EnvironmentSteps.{was_free, sees_type}
 use Rattle.isle_model.proofs.Names.{distinct_if, has_append}
 use Rattle.isle_model.proofs.FirstPlaces.{distinct_push, place_absent, place_missing}
 use Rattle.isle_types.proofs.KnownTypes.{place_within, knows_other, knows_more, knows_taken, taken_place, taken_has, one_more_read}
-use Rattle.isle_types.proofs.Telling.{some_told, noted_more}
-use Rattle.isle_types.proofs.SoFar.{reads_on, reads_wrong, reads_same}
+use Rattle.isle_types.proofs.ToldErrors.{some_told, noted_more}
+use Rattle.isle_types.proofs.ReadingSteps.{reads_on, reads_wrong, reads_same}
 
 module _ (defs rest : List Definition) (t : TypeTree) (old : TypeEnv) (n : Naming defs (type_definition t ∷ rest) old) where
   pub name_right : (new : TypeEnv) → IsInterned new → NamesType t.name.text old new → new.types ≡ old.types → Naming defs rest new

@@ -6,8 +6,8 @@ use Rattle.isle_model.proofs.Members.{in_head, in_tail, in_map}
 use Rattle.isle_base.specs.declared.syntax.Error.{Error}
 use Rattle.isle_base.specs.Positions.{OccurAmong, field_positions, tuple_field_positions, fields_positions, variant_positions, value_positions, type_positions}
 use Rattle.isle_base.proofs.Positioned.{among_one, among_first, among_each}
-use Rattle.isle_types.specs.Telling.{Notes}
-use Rattle.isle_types.proofs.Telling.{noted_among}
+use Rattle.isle_types.specs.ToldErrors.{Notes}
+use Rattle.isle_types.proofs.ToldErrors.{noted_among}
 
 -- the place of a field's type
 pub field_type_among : (f : FieldTree) → OccurAmong (f.ty.at ∷ []) (field_positions f)

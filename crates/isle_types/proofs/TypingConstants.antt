@@ -17,15 +17,15 @@ use Rattle.isle_types.specs.ConstantReading.{TypesConstant, ReadsConstant, Reads
 use Rattle.isle_types.specs.Envs.{names_of, symbol_of, type_at, same_symbol, symbol, type_of_name, IsInterned}
 use Rattle.isle_types.specs.Reading.{IsRightType}
 use Rattle.isle_types.specs.Stages.{constant_names, KnowsTypes, Filling, FillsTypes, last_type, LooksUpTypes, TypingConstants, ReadsConstants}
-use Rattle.isle_types.specs.Telling.{NotesOf, NotesEach}
+use Rattle.isle_types.specs.ToldErrors.{NotesOf, NotesEach}
 use Rattle.isle_types.specs.TypeErrors.{TellsOfConstant}
 use Rattle.isle_types.specs.TypeViews.{type_views}
 use Rattle.isle_types.proofs.LastTypes.{last_read}
 use Rattle.isle_model.proofs.ByNumber.{by_text, then_with}
 use Rattle.isle_model.proofs.Names.{with_missing, number_stays}
 use Rattle.isle_types.proofs.KnownTypes.{placed_has, one_more_read}
-use Rattle.isle_types.proofs.Telling.{some_told, noted_none, noted_more}
-use Rattle.isle_types.proofs.SoFar.{reads_on, reads_wrong, reads_same}
+use Rattle.isle_types.proofs.ToldErrors.{some_told, noted_none, noted_more}
+use Rattle.isle_types.proofs.ReadingSteps.{reads_on, reads_wrong, reads_same}
 
 -- the types that are found by their names stay, when a constant is read
 module _ (defs : List Definition) (name ty : Name) (old new : TypeEnv) (t : TypesConstant name.text ty.text old new) where

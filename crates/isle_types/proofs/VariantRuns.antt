@@ -19,14 +19,14 @@ use Rattle.isle_types.specs.declared.types.Variant.{Variant}
 use Rattle.isle_types.specs.Envs.{names_of, IsInterned}
 use Rattle.isle_base.specs.Positions.{variant_positions}
 use Rattle.isle_base.proofs.Positioned.{among_each}
-use Rattle.isle_types.specs.Telling.{Notes}
+use Rattle.isle_types.specs.ToldErrors.{Notes}
 use Rattle.isle_types.specs.Reading.{MeetsNames, AreRightFields}
 use Rattle.isle_types.specs.Stages.{Sees}
 use Rattle.isle_types.specs.TypeViews.{variant_view}
 use Rattle.isle_types.specs.VariantReading.{HasSeen, VariantRead, ReadsVariant, VariantsRead, ReadsVariants}
 use Rattle.isle_types.proofs.EntriesStay.{AllMet, met_self, variants_stay}
 use Rattle.isle_types.proofs.NamesMet.{meet_more, sees_met}
-use Rattle.isle_types.proofs.Telling.{noted_among}
+use Rattle.isle_types.proofs.ToldErrors.{noted_among}
 use Rattle.isle_types.proofs.RightTypes.{all_right}
 use Rattle.isle_model.proofs.Members.{in_head}
 use Rattle.isle_model.proofs.FirstPlaces.{distinct_push, twice}

@@ -5,7 +5,7 @@ use Rattle.isle_model.specs.lists.Names.{number, with_name}
 use Rattle.isle_base.specs.declared.syntax.Error.{Error}
 use Rattle.isle_types.specs.declared.type_env.TypeEnv.{TypeEnv}
 use Rattle.isle_types.specs.Envs.{names_of, constant_at, type_of_name}
-use Rattle.isle_types.specs.Telling.{Notes}
+use Rattle.isle_types.specs.ToldErrors.{Notes}
 
 -- a name is met, and is that of a constant of a type that is known
 pub record TypesConstant (name ty : List ℕ) (old new : TypeEnv) : Type 0 where

@@ -10,7 +10,7 @@ use Rattle.isle_types.specs.declared.type_env.TypeEnv.{TypeEnv}
 use Rattle.isle_types.specs.declared.types.StructField.{StructField}
 use Rattle.isle_types.specs.declared.types.TupleField.{TupleField}
 use Rattle.isle_types.specs.Envs.{names_of, same_symbol, symbol, type_of_name}
-use Rattle.isle_types.specs.Telling.{Notes}
+use Rattle.isle_types.specs.ToldErrors.{Notes}
 
 -- the number of a name is one of those that were seen
 abbrev pub was_seen : Members Sym → ℕ → Bool

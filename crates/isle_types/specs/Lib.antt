@@ -13,5 +13,5 @@ pub mod EnvViews
 pub mod IntRanges
 pub mod TypePositions
 pub mod TypeBreaches
-pub mod Telling
+pub mod ToldErrors
 pub mod TypeErrors

@@ -13,7 +13,7 @@ use Rattle.isle_types.specs.declared.type_env.TypeEnv.{TypeEnv}
 use Rattle.isle_types.specs.declared.types.Fields.{Fields}
 use Rattle.isle_types.specs.declared.types.Type as T
 use Rattle.isle_types.specs.Envs.{names_of, type_at}
-use Rattle.isle_types.specs.Telling.{Notes}
+use Rattle.isle_types.specs.ToldErrors.{Notes}
 use Rattle.isle_types.specs.TypeViews.{fields_view, type_view, type_views}
 
 -- a name that was no type's becomes that of the next type

@@ -6,7 +6,7 @@ use Rattle.isle_model.specs.lists.TypeTable.{builtin_names, type_names, IsOfKnow
 use Rattle.isle_base.specs.declared.syntax.Error.{Error}
 use Rattle.isle_base.specs.Positions.{type_positions}
 use Rattle.isle_types.specs.Reading.{IsRightType}
-use Rattle.isle_types.specs.Telling.{Tells, TellsUnless, Told}
+use Rattle.isle_types.specs.ToldErrors.{Tells, TellsUnless, Told}
 
 -- how many errors say that a type has the name of another one, after these definitions: two where the other one is built in
 abbrev pub times_taken : List Definition → List ℕ → ℕ

@@ -6,7 +6,7 @@ use Rattle.isle_model.specs.lists.Names.{number, has_name, with_names, IsDistinc
 use Rattle.isle_model.specs.rules.Outcome.{then_option}
 use Rattle.isle_model.specs.lists.TypeTable.{place_from, variant_names, names_inside, variant_entry, type_entry}
 use Rattle.isle_base.specs.declared.syntax.Error.{Error}
-use Rattle.isle_base.specs.Noting.{NotesMore}
+use Rattle.isle_base.specs.NotedErrors.{NotesMore}
 use Rattle.isle_base.specs.Positions.{variant_positions, type_positions}
 use Rattle.isle_base.specs.Stable.{Members, contains}
 use Rattle.isle_types.specs.declared.ids.Sym.{Sym}
@@ -14,7 +14,7 @@ use Rattle.isle_types.specs.declared.type_env.TypeEnv.{TypeEnv}
 use Rattle.isle_types.specs.declared.types.Variant.{Variant}
 use Rattle.isle_types.specs.Envs.{names_of, same_symbol, symbol}
 use Rattle.isle_types.specs.Reading.{MeetsNames, EndsAt, AreRightFields, IsRightType}
-use Rattle.isle_types.specs.Telling.{Notes}
+use Rattle.isle_types.specs.ToldErrors.{Notes}
 use Rattle.isle_types.specs.TypeViews.{variant_view, type_views}
 
 -- a type of which another value is read

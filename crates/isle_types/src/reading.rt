@@ -13,11 +13,11 @@ ghost use Rattle.isle_base.specs.Stable.{entry_count};
 ghost use Rattle.isle_base.specs.SyntaxViews.{position, definition_view, definition_views, type_view};
 ghost use Rattle.isle_types.specs.EnvViews.{environment_view};
 ghost use Rattle.isle_types.specs.Envs.{names_of, type_at, IsInterned};
-ghost use Rattle.isle_base.specs.Noting.{NotesMore};
+ghost use Rattle.isle_base.specs.NotedErrors.{NotesMore};
 ghost use Rattle.isle_base.specs.Positions.{ErrorStandsAt, NotesAt, positions_of};
 ghost use Rattle.isle_types.specs.Reading.{AddsBuiltin, NamesType, MeetsNames, NotesTaken, NamesDefinition};
 ghost use Rattle.isle_types.specs.Stages.{Booting, NamesTypes};
-ghost use Rattle.isle_types.specs.Telling.{Notes, NotesEach};
+ghost use Rattle.isle_types.specs.ToldErrors.{Notes, NotesEach};
 ghost use Rattle.isle_types.specs.TypeBreaches.{FirstBreaksTypes};
 ghost use Rattle.isle_types.specs.TypeErrors.{TellsOfName, AreErrorsOfTypes};
 ghost use Rattle.isle_types.specs.TypeTables.{SeesTypes};
@@ -177,7 +177,7 @@ impl TypeEnv {
 /// # Errors
 ///
 /// Where memory is refused.
-#[tactic(auto, using(isle_base::proofs::Positioned::notes_one, isle_base::proofs::Positioned::stands_there, crate::proofs::Telling::one_noted))]
+#[tactic(auto, using(isle_base::proofs::Positioned::notes_one, isle_base::proofs::Positioned::stands_there, crate::proofs::ToldErrors::one_noted))]
 pub fn report(errors: &mut Vec<Error>, pos: Pos, msg: &str) -> Result<(), AllocError>
     ensures noted { OnOk result (NotesMore errors.old.items errors.new.items) }
     ensures places { OnOk result (NotesAt (position pos ∷ []) errors.old.items errors.new.items) }

@@ -21,7 +21,7 @@ use Rattle.isle_model.proofs.SameSites.{term_means}
 use Rattle.isle_model.proofs.SitesMade.{in_has, has_in}
 use Rattle.isle_laws_closure.specs.SetOverlapLaws.{SetRulesConstrainAsTheirDemands}
 use Rattle.isle_laws_closure.proofs.Closing.{closing_keeps}
-use Rattle.isle_laws_closure.proofs.Whole.{IsApart, class_cases, class_found, class_shares, joint_apart}
+use Rattle.isle_laws_closure.proofs.FollowingDemands.{IsApart, class_cases, class_found, class_shares, joint_apart}
 use Rattle.isle_laws_closure.proofs.built.BuiltGates.{stands_for}
 use Rattle.isle_laws_closure.proofs.built.BuiltSets.{BuiltSet, RuleOfSet}
 use Rattle.isle_laws_closure.proofs.ConstrainedOnce.{StandOnce, closed_once}

@@ -6,7 +6,7 @@ ghost use Rattle.isle_model.specs.lists.Syntax.{bool_expr, int_expr, prim_expr};
 ghost use Rattle.isle_model.specs.lists.Tables.{Flags};
 ghost use Rattle.isle_model.specs.lists.Setting.{is_expected};
 ghost use Rattle.isle_types.specs.Envs.{IsInterned};
-ghost use Rattle.isle_base.specs.Noting.{NotesMore};
+ghost use Rattle.isle_base.specs.NotedErrors.{NotesMore};
 ghost use Rattle.isle_reports.specs.Elaborating.{Checks};
 ghost use Rattle.isle_typed.specs.ExprViews.{expr_view};
 ghost use Rattle.isle_rules.specs.ExprReadings.{expected, expr_reading};

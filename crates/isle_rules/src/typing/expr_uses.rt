@@ -7,7 +7,7 @@ ghost use Rattle.isle_model.specs.lists.Setting.{is_expected};
 ghost use Rattle.isle_model.specs.lists.Tables.{Flags};
 ghost use Rattle.isle_terms.specs.TermViews.{flags_view, term_view};
 ghost use Rattle.isle_types.specs.Envs.{symbol_of, IsInterned};
-ghost use Rattle.isle_base.specs.Noting.{NotesMore};
+ghost use Rattle.isle_base.specs.NotedErrors.{NotesMore};
 ghost use Rattle.isle_reports.specs.Elaborating.{Checks};
 ghost use Rattle.isle_rules.specs.ExprReadings.{expected};
 ghost use Rattle.isle_rules.specs.ExprUses.{found_expr_converter, declared_converter, inside_call, allowed, UsesVar, UsesCall};

@@ -7,7 +7,7 @@ ghost use Rattle.isle_model.specs.lists.Syntax.{term_pattern};
 ghost use Rattle.isle_terms.specs.Terms.{has_extractor_kind, has_extractor_term};
 ghost use Rattle.isle_terms.specs.TermViews.{term_view};
 ghost use Rattle.isle_types.specs.Envs.{IsInterned};
-ghost use Rattle.isle_base.specs.Noting.{NotesMore};
+ghost use Rattle.isle_base.specs.NotedErrors.{NotesMore};
 ghost use Rattle.isle_reports.specs.Elaborating.{Checks};
 ghost use Rattle.isle_rules.specs.Progress.{Remains};
 ghost use Rattle.isle_rules.specs.PatternUses.{found_term, found_converter, found_template, inside_term, UsesTerm};

@@ -8,7 +8,7 @@ ghost use Rattle.isle_base.specs.Positions.{NotesAt, definition_positions, exter
 ghost use Rattle.isle_base.specs.SyntaxViews.{definition_view, definition_views, extern_view, name_view, position};
 ghost use Rattle.isle_types.specs.Envs.{IsInterned};
 ghost use Rattle.isle_types.specs.EnvViews.{environment_view};
-ghost use Rattle.isle_base.specs.Noting.{NotesMore};
+ghost use Rattle.isle_base.specs.NotedErrors.{NotesMore};
 ghost use Rattle.isle_types.specs.VariantReading.{ReportsIf};
 ghost use Rattle.isle_terms.specs.Externing.{lacks_constructor, lacks_extractor, made_by_this, taken_by_this, ReadsKind};
 ghost use Rattle.isle_terms.specs.ExternStages.{ExternsRead, ReadsExtern, ReadsIfExtern};

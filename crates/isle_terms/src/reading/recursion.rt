@@ -5,7 +5,7 @@
 ghost use Rattle.std.specs.Prelude.{◌≡◌, [], ◌∷◌, ◌+◌, ◌-◌, ◌<◌, ◌^◌, All, IfOk, IfSome, OnOk, MatchOption, Some, get_or, is_some, length, option_map, slice_get};
 ghost use Rattle.isle_base.specs.Positions.{NotesAt};
 ghost use Rattle.isle_base.specs.SyntaxViews.{position};
-ghost use Rattle.isle_base.specs.Noting.{NotesMore};
+ghost use Rattle.isle_base.specs.NotedErrors.{NotesMore};
 ghost use Rattle.isle_terms.specs.Signing.{NotesIfWrong};
 ghost use Rattle.isle_terms.specs.TermViews.{term_view};
 ghost use Rattle.isle_terms.specs.Templating.{AreCallees, callees_of};

@@ -5,7 +5,7 @@ ghost use Rattle.isle_model.specs.claims.Environments.{TypesRead, AreReadable};
 ghost use Rattle.isle_model.specs.lists.TermTable.{arguments_in, extractor_template, terms_in};
 ghost use Rattle.isle_base.specs.Positions.{NotesAt, definition_positions, extractor_positions, pattern_positions, positions_of};
 ghost use Rattle.isle_base.specs.SyntaxViews.{definition_view, definition_views, extractor_view, name_view, pattern_view, position};
-ghost use Rattle.isle_base.specs.Noting.{NotesMore};
+ghost use Rattle.isle_base.specs.NotedErrors.{NotesMore};
 ghost use Rattle.isle_types.specs.VariantReading.{ReportsIf};
 ghost use Rattle.isle_terms.specs.Reading.{IsWithin, term_of_name};
 ghost use Rattle.isle_terms.specs.Signing.{NotesIfWrong, ReadsTerms};

@@ -5,7 +5,7 @@ ghost use Rattle.isle_base.specs.SyntaxViews.{position, definition_view, definit
 ghost use Rattle.isle_types.specs.ConstantReading.{ReadsConstant, ReadsDefinition};
 ghost use Rattle.isle_types.specs.Envs.{IsInterned};
 ghost use Rattle.isle_types.specs.Stages.{FillsTypes, ReadsConstants};
-ghost use Rattle.isle_types.specs.Telling.{NotesEach};
+ghost use Rattle.isle_types.specs.ToldErrors.{NotesEach};
 ghost use Rattle.isle_types.specs.TypeErrors.{TellsOfConstant};
 
 use crate::reading::report;

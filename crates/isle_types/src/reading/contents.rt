@@ -7,7 +7,7 @@ ghost use Rattle.isle_base.specs.SyntaxViews.{position, name_view, fields_view, 
 ghost use Rattle.isle_types.specs.Envs.{names_of, IsInterned};
 ghost use Rattle.isle_types.specs.Promises.{TypeIsRead, PrimitiveIsRead, ValueIsRead, VariantsAreRead, OneVariantIsRead, DefinitionIsFilled};
 ghost use Rattle.isle_types.specs.Stages.{NamesTypes, FillsTypes};
-ghost use Rattle.isle_types.specs.Telling.{Notes, NotesEach};
+ghost use Rattle.isle_types.specs.ToldErrors.{Notes, NotesEach};
 ghost use Rattle.isle_types.specs.TypeErrors.{TellsOfType};
 ghost use Rattle.isle_types.specs.VariantReading.{NotesIf, IsNumberOf};
 

@@ -8,7 +8,7 @@ ghost use Rattle.isle_types.specs.Envs.{IsInterned};
 ghost use Rattle.isle_types.specs.FieldReading.{ReadsField, ReadsTupleField};
 ghost use Rattle.isle_types.specs.Promises.{FieldsAreRead};
 ghost use Rattle.isle_types.specs.Reading.{MeetsNames};
-ghost use Rattle.isle_types.specs.Telling.{Notes};
+ghost use Rattle.isle_types.specs.ToldErrors.{Notes};
 
 use crate::ids::{FieldId, Sym};
 use crate::reading::report;

@@ -1,5 +1,5 @@
 use Rattle.std.proofs.Common.{map, rules, subst}
-use Rattle.isle_base.specs.Noting.{NotesMore}
+use Rattle.isle_base.specs.NotedErrors.{NotesMore}
 use Rattle.isle_base.specs.Positions.{NotesAt, name_positions}
 use Rattle.isle_base.specs.SyntaxViews.{name_view}
 use Rattle.isle_base.proofs.Positioned.{notes_among, notes_nothing}

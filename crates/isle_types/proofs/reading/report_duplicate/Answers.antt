@@ -1,6 +1,6 @@
 use Rattle.std.proofs.Common.{◌<◌, inl, rules}
 use Rattle.std.proofs.lemmas.Result.{on_ok_weaker}
-use Rattle.isle_types.proofs.Telling.{both_noted}
+use Rattle.isle_types.proofs.ToldErrors.{both_noted}
 use Rattle.isle_types.proofs.reading.report_duplicate.Goals as goal
 
 pub returns : goal.returns

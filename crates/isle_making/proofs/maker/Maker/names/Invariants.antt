@@ -1,6 +1,6 @@
 use Rattle.std.proofs.Common.{◌≡◌, map, take}
 use Rattle.isle_base.specs.SyntaxViews.{name_view}
-use Rattle.isle_making.specs.Made.{name_at}
+use Rattle.isle_making.specs.MakerPositions.{name_at}
 use Rattle.isle_making.proofs.maker.Maker.names.Given as goal
 
 abbrev pub invariant-loop-text : goal.invariant-loop-text

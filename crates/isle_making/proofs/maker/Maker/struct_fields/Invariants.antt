@@ -1,6 +1,6 @@
 use Rattle.std.proofs.Common.{◌≡◌, map, take}
 use Rattle.isle_base.specs.SyntaxViews.{field_view}
-use Rattle.isle_making.specs.Made.{field_at}
+use Rattle.isle_making.specs.MakerPositions.{field_at}
 use Rattle.isle_making.proofs.maker.Maker.struct_fields.Given as goal
 
 abbrev pub invariant-loop-name : goal.invariant-loop-name

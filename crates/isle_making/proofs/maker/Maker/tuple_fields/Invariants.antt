@@ -1,7 +1,7 @@
 use Rattle.std.proofs.Common.{◌≡◌, map, take}
 use Rattle.std.specs.List.{enumerate_from}
 use Rattle.isle_base.specs.SyntaxViews.{tuple_field_view}
-use Rattle.isle_making.specs.Made.{tuple_field_at}
+use Rattle.isle_making.specs.MakerPositions.{tuple_field_at}
 use Rattle.isle_making.proofs.maker.Maker.tuple_fields.Given as goal
 
 abbrev pub invariant-loop-index : goal.invariant-loop-index

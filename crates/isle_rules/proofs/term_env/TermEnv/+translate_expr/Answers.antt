@@ -20,7 +20,7 @@ use Rattle.isle_rules.proofs.Readings.{stop_is, stop_keeps, stays_on, may_report
 use Rattle.isle_base.specs.Positions.{OccurAmong, expr_positions, exprs_positions, lets_positions}
 use Rattle.isle_base.proofs.Positioned.{among_same, among_first, notes_among, notes_nothing, among_under, notes_parts}
 use Rattle.isle_rules.specs.Lets.{with_let}
-use Rattle.isle_rules.proofs.Placed.{stays_among, stays_step, stop_among, stop_step}
+use Rattle.isle_rules.proofs.ErrorPositions.{stays_among, stays_step, stop_among, stop_step}
 use Rattle.isle_rules.proofs.PartPlaces.{call_inside, defs_inside, body_inside, arg_inside, def_inside, value_inside}
 use Rattle.isle_rules.specs.ReachedLimits.{expr_limits}
 use Rattle.isle_rules.proofs.LimitSteps.{not_limited}

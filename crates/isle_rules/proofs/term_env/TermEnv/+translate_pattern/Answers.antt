@@ -20,7 +20,7 @@ use Rattle.isle_rules.proofs.Readings.{stop_is, stop_keeps, stays_on, may_report
 use Rattle.isle_base.specs.Positions.{OccurAmong, pattern_positions, patterns_positions}
 use Rattle.isle_base.proofs.Positioned.{among_same, among_first, notes_among, notes_nothing, notes_parts}
 use Rattle.isle_rules.specs.RulePositions.{with_templates}
-use Rattle.isle_rules.proofs.Placed.{among_with, among_here, among_made, stays_head, stays_step, stop_among, stop_step}
+use Rattle.isle_rules.proofs.ErrorPositions.{among_with, among_here, among_made, stays_head, stays_step, stop_among, stop_step}
 use Rattle.isle_rules.proofs.PartPlaces.{bind_inside, term_inside, and_inside, part_inside}
 use Rattle.isle_rules.specs.ReachedLimits.{pattern_limits, each_limits}
 use Rattle.isle_rules.proofs.LimitSteps.{not_limited, same_ends}

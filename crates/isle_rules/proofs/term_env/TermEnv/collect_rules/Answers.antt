@@ -12,7 +12,7 @@ use Rattle.isle_base.proofs.Positioned.{among_same, among_both, notes_nothing, a
 use Rattle.isle_rules.specs.RulePositions.{with_templates}
 use Rattle.isle_typed.specs.RuleViews.{rule_views}
 use Rattle.isle_reports.specs.RuleNaming.{rules_at}
-use Rattle.isle_rules.proofs.Placed.{among_with}
+use Rattle.isle_rules.proofs.ErrorPositions.{among_with}
 use Rattle.isle_rules.proofs.PartPlaces.{each_inside}
 use Rattle.isle_rules.proofs.RulesTold.{nothing_told, next_told, all_told}
 use Rattle.isle_rules.proofs.term_env.TermEnv.collect_rules.Goals as goal

@@ -14,7 +14,7 @@ use Rattle.isle_rules.proofs.RuleBreaches.{stages, once_mapped, right_checked}
 use Rattle.isle_rules.specs.RuleErrors.{NotesOfRules}
 use Rattle.isle_rules.proofs.NamedLimits.{named_to_the_end}
 use Rattle.isle_rules.proofs.RulesRefused.{mapped_noted, noted_to_the_end}
-use Rattle.isle_rules.proofs.Noted.{may_both, may_check}
+use Rattle.isle_rules.proofs.LimitErrors.{may_both, may_check}
 use Rattle.isle_rules.proofs.RulesAtEnd.{rules_end}
 use Rattle.isle_base.specs.Positions.{NotesAt, OccurAmong, positions_of}
 use Rattle.isle_base.proofs.Positioned.{among_same, among_both, among_left, among_right, among_join, notes_parts}

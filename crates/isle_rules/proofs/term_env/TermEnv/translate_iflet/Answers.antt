@@ -13,7 +13,7 @@ use Rattle.isle_rules.proofs.Readings.{stop_is, stop_keeps, first_stops, first_r
 use Rattle.isle_base.specs.Positions.{OccurAmong, pattern_positions, expr_positions, iflet_positions}
 use Rattle.isle_base.proofs.Positioned.{notes_among, notes_parts}
 use Rattle.isle_rules.specs.RulePositions.{with_templates}
-use Rattle.isle_rules.proofs.Placed.{among_here, among_with, stop_among, stop_step}
+use Rattle.isle_rules.proofs.ErrorPositions.{among_here, among_with, stop_among, stop_step}
 use Rattle.isle_rules.proofs.PartPlaces.{given_inside, taken_inside}
 use Rattle.isle_rules.proofs.RuleLimits.{iflet_unread, iflet_first_ends, iflet_none, iflet_ends}
 use Rattle.isle_rules.proofs.term_env.TermEnv.translate_iflet.Goals as goal

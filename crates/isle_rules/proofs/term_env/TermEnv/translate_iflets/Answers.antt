@@ -8,7 +8,7 @@ use Rattle.std.specs.List.{flat_map}
 use Rattle.isle_base.specs.Positions.{OccurAmong, iflet_positions}
 use Rattle.isle_base.proofs.Positioned.{among_same, notes_nothing, notes_parts}
 use Rattle.isle_rules.specs.RulePositions.{with_templates}
-use Rattle.isle_rules.proofs.Placed.{among_with, stop_step}
+use Rattle.isle_rules.proofs.ErrorPositions.{among_with, stop_step}
 use Rattle.isle_rules.proofs.PartPlaces.{each_inside}
 use Rattle.isle_rules.specs.RuleReadings.{iflet_reading}
 use Rattle.isle_rules.proofs.RuleLimits.{next_iflet_none, next_iflet_ends, all_iflets_none}

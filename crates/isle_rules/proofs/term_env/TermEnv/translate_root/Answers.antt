@@ -5,7 +5,7 @@ use Rattle.isle_rules.proofs.IfLetLists.{counted_args}
 use Rattle.isle_base.specs.Positions.{patterns_positions}
 use Rattle.isle_base.proofs.Positioned.{among_first, among_rest}
 use Rattle.isle_rules.specs.RulePositions.{with_templates}
-use Rattle.isle_rules.proofs.Placed.{among_here, among_with, stays_step}
+use Rattle.isle_rules.proofs.ErrorPositions.{among_here, among_with, stays_step}
 use Rattle.isle_rules.proofs.RuleLimits.{root_meets}
 use Rattle.isle_rules.proofs.term_env.TermEnv.translate_root.Goals as goal
 

@@ -9,7 +9,7 @@ use Rattle.isle_rules.proofs.RuleForms.{no_root, no_term, not_declared, no_sides
 use Rattle.isle_base.specs.Positions.{OccurAmong, rule_positions}
 use Rattle.isle_base.proofs.Positioned.{among_same, notes_among, notes_parts}
 use Rattle.isle_rules.specs.RulePositions.{with_templates}
-use Rattle.isle_rules.proofs.Placed.{among_here}
+use Rattle.isle_rules.proofs.ErrorPositions.{among_here}
 use Rattle.isle_rules.proofs.PartPlaces.{rule_at}
 use Rattle.isle_rules.proofs.RuleLimits.{no_root_comes, no_term_comes, not_declared_comes, rule_none, rule_ends}
 use Rattle.isle_rules.proofs.term_env.TermEnv.translate_rule.Goals as goal

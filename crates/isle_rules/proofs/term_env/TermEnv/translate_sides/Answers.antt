@@ -12,7 +12,7 @@ use Rattle.isle_model.specs.lists.Syntax.{Position}
 use Rattle.isle_base.specs.Positions.{OccurAmong, patterns_positions, expr_positions, iflet_positions, rule_positions}
 use Rattle.isle_base.proofs.Positioned.{among_same, notes_parts}
 use Rattle.isle_rules.specs.RulePositions.{with_templates}
-use Rattle.isle_rules.proofs.Placed.{among_here, among_with, stop_among, stop_step}
+use Rattle.isle_rules.proofs.ErrorPositions.{among_here, among_with, stop_among, stop_step}
 use Rattle.isle_rules.proofs.PartPlaces.{rule_root, rule_iflets, rule_value}
 use Rattle.isle_rules.specs.ExprReadings.{expr_reading}
 use Rattle.isle_rules.specs.RuleReadings.{iflets_reading}

@@ -4,7 +4,7 @@ use Rattle.std.proofs.Common.{[], ◌∷◌}
 use Rattle.isle_base.specs.SyntaxViews.{rule_view}
 use Rattle.isle_base.specs.Positions.{OccurAmong, rule_positions}
 use Rattle.isle_rules.specs.RulePositions.{with_templates}
-use Rattle.isle_rules.proofs.Placed.{among_here, stop_noted}
+use Rattle.isle_rules.proofs.ErrorPositions.{among_here, stop_noted}
 use Rattle.isle_rules.proofs.PartPlaces.{rule_at}
 use Rattle.isle_rules.proofs.RulesTold.{told_at_end, told_at_stop}
 use Rattle.isle_rules.proofs.term_env.TermEnv.type_rule.Goals as goal

@@ -9,7 +9,7 @@ use Rattle.isle_rules.proofs.ExprUsing.{list_length, call_unknown, call_converts
 use Rattle.isle_base.proofs.Positioned.{notes_nothing}
 use Rattle.isle_model.proofs.Members.{in_head}
 use Rattle.isle_base.specs.Positions.{expr_positions, exprs_positions}
-use Rattle.isle_rules.proofs.Placed.{counted_stop}
+use Rattle.isle_rules.proofs.ErrorPositions.{counted_stop}
 use Rattle.isle_rules.proofs.SubstitutedPlaces.{called_places}
 use Rattle.isle_rules.proofs.ExprLimits as limits
 use Rattle.isle_rules.proofs.ExprLimits.{call_unknown_comes, call_converts_comes, call_unmade_comes, args_lead, converted_leads}

@@ -10,7 +10,7 @@ use Rattle.isle_rules.proofs.PatternUsing.{checks_both, list_is, list_length, un
 use Rattle.isle_model.proofs.Members.{in_head}
 use Rattle.isle_base.specs.Positions.{pattern_positions, patterns_positions}
 use Rattle.isle_base.proofs.Positioned.{among_same, notes_nothing, notes_both}
-use Rattle.isle_rules.proofs.Placed.{stop_step, counted_stop}
+use Rattle.isle_rules.proofs.ErrorPositions.{stop_step, counted_stop}
 use Rattle.isle_rules.proofs.SubstitutedPlaces.{converted_places, expanded_places}
 use Rattle.isle_rules.proofs.PatternLimits.{unknown_comes, converted_leads, conversion_ends, parts_lead, nothing_comes, template_leads, template_ends}
 use Rattle.isle_rules.proofs.term_env.TermEnv.use_in_pattern.Goals as goal

@@ -10,7 +10,7 @@ use Rattle.isle_rules.proofs.ExprUsing.{var_unknown, var_converts, converted, co
 use Rattle.isle_base.specs.Positions.{expr_positions}
 use Rattle.isle_base.proofs.Positioned.{notes_nothing}
 use Rattle.isle_model.proofs.Members.{in_head}
-use Rattle.isle_rules.proofs.Placed.{counted_stop}
+use Rattle.isle_rules.proofs.ErrorPositions.{counted_stop}
 use Rattle.isle_rules.proofs.SubstitutedPlaces.{called_places}
 use Rattle.isle_rules.proofs.ExprLimits as limits
 use Rattle.isle_rules.proofs.ExprLimits.{var_unknown_comes, var_converts_comes, var_comes, converted_leads}

@@ -1,4 +1,4 @@
-use Rattle.isle_rules.proofs.Noted.{limit_noted}
+use Rattle.isle_rules.proofs.LimitErrors.{limit_noted}
 use Rattle.isle_rules.proofs.typing.limits.report_limit.Goals as goal
 
 pub returns-clause-noted : goal.returns-clause-noted

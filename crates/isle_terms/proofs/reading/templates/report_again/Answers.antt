@@ -1,7 +1,7 @@
 use Rattle.isle_terms.proofs.Breaches.{begins_before, begins_noted}
 use Rattle.std.proofs.Common.{inr}
 use Rattle.std.proofs.lemmas.Result.{on_ok_weaker}
-use Rattle.isle_base.proofs.Noted.{both}
+use Rattle.isle_base.proofs.NotedErrors.{both}
 use Rattle.isle_terms.specs.TermPositions.{taker_places}
 use Rattle.isle_terms.proofs.PlacesNoted.{notes_earlier}
 use Rattle.isle_terms.proofs.reading.templates.report_again.Goals as goal

@@ -8,7 +8,7 @@ use Rattle.isle_base.proofs.Positioned.{notes_nothing}
 use Rattle.isle_terms.proofs.PlacesNoted.{placed_same, variant_placed}
 use Rattle.isle_types.specs.TypeViews.{variant_view}
 use Rattle.isle_terms.specs.TermPositions.{variants_positions}
-use Rattle.isle_base.specs.Noting.{NotesMore}
+use Rattle.isle_base.specs.NotedErrors.{NotesMore}
 use Rattle.isle_terms.specs.Signing.{GrowsBy}
 use Rattle.isle_terms.proofs.Making.{grows_nothing, none_mapped, some_mapped, next_variant, taken_variant, variant_numbers_of, variant_entries_of}
 use Rattle.isle_terms.proofs.term_table.TermTable.add_variants.Goals as goal

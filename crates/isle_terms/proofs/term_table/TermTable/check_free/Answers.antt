@@ -1,6 +1,6 @@
 use Rattle.std.proofs.Common.{◌≡◌, ◌∙◌, get_or, Some, option_map, sym, ap, inr}
 use Rattle.std.proofs.lemmas.Result.{on_ok_weaker}
-use Rattle.isle_base.proofs.Noted.{both}
+use Rattle.isle_base.proofs.NotedErrors.{both}
 use Rattle.isle_base.proofs.Positioned.{among_one}
 use Rattle.isle_base.specs.Positions.{declaration_positions}
 use Rattle.isle_terms.proofs.Breaches.{begins_among, begins_before, begins_noted}

@@ -2,7 +2,7 @@ use Rattle.std.proofs.Common.{◌≡◌, ◌++◌, [], length, rules}
 use Rattle.std.proofs.lemmas.List.{nil_from_length}
 use Rattle.isle_base.specs.Positions.{positions_of}
 use Rattle.isle_base.specs.SyntaxViews.{definition_views}
-use Rattle.isle_base.proofs.Noted.{name_no_limit}
+use Rattle.isle_base.proofs.NotedErrors.{name_no_limit}
 use Rattle.isle_terms.specs.Converting.{ConvertersRead}
 use Rattle.isle_terms.specs.ExternStages.{ExternsRead}
 use Rattle.isle_terms.specs.TermErrors.{in_signatures, in_definitions, in_converters, in_externs}
@@ -11,7 +11,7 @@ use Rattle.isle_base.proofs.Positioned.{all_stand, among_left}
 use Rattle.isle_types.specs.TypePositions.{types_positions}
 use Rattle.isle_terms.proofs.PlacesNoted.{begun, converters_so_far, step_so_far}
 use Rattle.isle_terms.proofs.ConverterSteps.{all_new}
-use Rattle.isle_terms.proofs.Whole.{signatures_right, definitions_right, converters_right, first_of_group, first_definition, first_converter, first_declared, first_extern, first_broken, not_read, right_now, all_read, why_refused}
+use Rattle.isle_terms.proofs.GroupSteps.{signatures_right, definitions_right, converters_right, first_of_group, first_definition, first_converter, first_declared, first_extern, first_broken, not_read, right_now, all_read, why_refused}
 use Rattle.isle_terms.proofs.term_table.TermTable.from_ast.Goals as goal
 
 pub read_signatures-requires : goal.read_signatures-requires

@@ -2,7 +2,7 @@ use Rattle.std.proofs.Common.{subst}
 use Rattle.isle_base.specs.Positions.{declaration_positions}
 use Rattle.isle_base.proofs.Positioned.{among_one}
 use Rattle.isle_terms.proofs.Breaches.{begins_among, begins_noted}
-use Rattle.isle_terms.proofs.Noting.{both_ok}
+use Rattle.isle_terms.proofs.ErrorSteps.{both_ok}
 use Rattle.std.proofs.lemmas.Result.{on_ok_weaker}
 use Rattle.isle_base.specs.SyntaxViews.{decl_view}
 use Rattle.isle_terms.specs.Reading.{IsFreeOrReported, AddsOrReports}

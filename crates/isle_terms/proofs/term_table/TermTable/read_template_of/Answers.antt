@@ -1,4 +1,4 @@
-use Rattle.isle_terms.proofs.Noting.{both_ok, may_note}
+use Rattle.isle_terms.proofs.ErrorSteps.{both_ok, may_note}
 use Rattle.isle_terms.proofs.Breaches.{begins_among, begins_both, begins_noted}
 use Rattle.std.proofs.Common.{map, refl, sym, ap, ◌∙◌}
 use Rattle.isle_base.specs.SyntaxViews.{extractor_view, position}

@@ -1,8 +1,8 @@
 use Rattle.std.proofs.Common.{◌≡◌, [], ap, length, rules}
-use Rattle.isle_base.proofs.Noted.{name_no_limit}
+use Rattle.isle_base.proofs.NotedErrors.{name_no_limit}
 use Rattle.isle_types.proofs.Booting.{booted, booted_count}
 use Rattle.isle_types.proofs.Naming.{first_name}
-use Rattle.isle_types.proofs.Ending.{at_ok, at_err, why_refused}
+use Rattle.isle_types.proofs.TypesAtEnd.{at_ok, at_err, why_refused}
 use Rattle.isle_types.proofs.FirstBreaches.{first_breaks}
 use Rattle.isle_types.proofs.TypeErrors.{all_told, told_forms, told_places}
 use Rattle.isle_types.proofs.WellFormedEnvs.{types_shown, well_formed}

@@ -1,7 +1,7 @@
 use Rattle.std.proofs.Common.{rules}
 use Rattle.isle_types.specs.TypeErrors.{TellsOfName}
 use Rattle.isle_types.proofs.Naming.{next_name}
-use Rattle.isle_types.proofs.Telling.{noted_none}
+use Rattle.isle_types.proofs.ToldErrors.{noted_none}
 use Rattle.isle_types.proofs.type_env.TypeEnv.name_types.Goals as goal
 
 pub loop-def-init : goal.loop-def-init

@@ -5,7 +5,7 @@ ghost use Rattle.isle_model.specs.lists.TermTable.{made_by, terms_made, variant_
 ghost use Rattle.isle_base.specs.Positions.{NotesAt};
 ghost use Rattle.isle_base.specs.SyntaxViews.{position};
 ghost use Rattle.isle_types.specs.TypeViews.{fields_view, type_view, type_views, variant_view};
-ghost use Rattle.isle_base.specs.Noting.{NotesMore};
+ghost use Rattle.isle_base.specs.NotedErrors.{NotesMore};
 ghost use Rattle.isle_terms.specs.Reading.{IsWithin};
 ghost use Rattle.isle_terms.specs.TermViews.{kind_view};
 ghost use Rattle.isle_terms.specs.Signing.{AddsAllMade, AddsMade, PushesTerm, made_entry};

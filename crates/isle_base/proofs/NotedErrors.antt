@@ -6,7 +6,7 @@ use Rattle.isle_base.specs.Answers.{limit_of}
 use Rattle.isle_base.specs.declared.syntax.Error.{Error}
 use Rattle.isle_base.specs.declared.syntax.Error.TheVariants.{TypeError, UnreachableError, OverlapError, ShadowedError, LimitError}
 use Rattle.isle_base.specs.ErrorViews.{error_view, error_views}
-use Rattle.isle_base.specs.Noting.{AreIllTyped, NotesMore, MayNoteMore}
+use Rattle.isle_base.specs.NotedErrors.{AreIllTyped, NotesMore, MayNoteMore}
 
 -- more errors, and so there are some
 none_after : (xs ys : List Error) → ys ≢ [] → xs ++ ys ≢ []

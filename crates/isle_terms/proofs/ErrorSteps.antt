@@ -3,16 +3,16 @@ use Rattle.std.proofs.Common.{◌≡◌, Bool, true, false, OnOk, Result, Ok, Er
 use Rattle.isle_model.specs.lists.Syntax.{Position, Definition}
 use Rattle.isle_model.specs.claims.Refusals.{IsIllTyped}
 use Rattle.isle_base.specs.ErrorViews.{error_view}
-use Rattle.isle_types.specs.Telling as T
-use Rattle.isle_types.specs.Telling.{IsToldAt}
+use Rattle.isle_types.specs.ToldErrors as T
+use Rattle.isle_types.specs.ToldErrors.{IsToldAt}
 use Rattle.std.proofs.lemmas.List.Elements.{All-weaker}
 use Rattle.isle_model.specs.claims.Environments.{TypesRead, IsLeftByRefusal}
 use Rattle.isle_base.specs.declared.syntax.Error.{Error}
 use Rattle.isle_types.specs.declared.type_env.TypeEnv.{TypeEnv}
 use Rattle.isle_types.specs.EnvViews.{environment_view}
-use Rattle.isle_base.specs.Noting.{MayNoteMore, NotesMore}
+use Rattle.isle_base.specs.NotedErrors.{MayNoteMore, NotesMore}
 use Rattle.isle_types.specs.VariantReading.{ReportsIf}
-use Rattle.isle_base.proofs.Noted.{both, still_ill_typed}
+use Rattle.isle_base.proofs.NotedErrors.{both, still_ill_typed}
 use Rattle.isle_terms.specs.declared.term_table.TermTable.{TermTable}
 use Rattle.isle_terms.specs.Reading.{IsWithin}
 use Rattle.isle_terms.specs.TermBreaches.{TermGroup, FirstBreaksGroup}

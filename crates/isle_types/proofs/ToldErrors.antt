@@ -9,7 +9,7 @@ use Rattle.isle_base.specs.declared.syntax.Error.{Error}
 use Rattle.isle_base.specs.ErrorViews.{error_view}
 use Rattle.isle_base.specs.Positions.{ErrorStandsAt, OccurAmong, definition_positions, positions_of}
 use Rattle.isle_base.proofs.Positioned.{stand_among}
-use Rattle.isle_types.specs.Telling.{IsToldAt, Told, of_none, of_one_more, Notes, NotesOf, NotesEach}
+use Rattle.isle_types.specs.ToldErrors.{IsToldAt, Told, of_none, of_one_more, Notes, NotesOf, NotesEach}
 
 -- an error more
 pub one_noted : (ps : List Position) (old new : List Error) (e : Error) → new ≡ old ++ e ∷ [] → IsIllTyped (error_view e) → ErrorStandsAt ps e → Notes 1 ps old new

@@ -16,7 +16,7 @@ ghost use Rattle.isle_terms.specs.Standing.{RootsRead};
 ghost use Rattle.isle_terms.specs.TermBreaches.{of_signatures, of_definitions, FirstBreaksTerms};
 ghost use Rattle.isle_terms.specs.TermErrors.{AreErrorsOfTerms};
 ghost use Rattle.isle_terms.specs.TermTables.{term_at};
-ghost use Rattle.isle_terms.specs.Whole.{shown_by};
+ghost use Rattle.isle_terms.specs.ShownTables.{shown_by};
 ghost use Rattle.isle_terms.specs.TermPositions.{table_positions, IsPlacedAmong};
 ghost use Rattle.isle_types.specs.TypePositions.{types_positions};
 

@@ -20,8 +20,8 @@ use Rattle.isle_model.proofs.Members.{in_cases, nothing_in, get_from_member}
 use Rattle.isle_model.proofs.Names.{has_at, has_met, has_left, has_kept}
 use Rattle.isle_laws_typing.proofs.TermLaws.{all_made_only, terms_have_names_lem, terms_stand_at_ids_lem}
 use Rattle.isle_base.specs.ErrorViews.{error_views}
-use Rattle.isle_base.specs.Noting.{AreIllTyped}
-use Rattle.isle_base.proofs.Noted.{forms_of, some_views}
+use Rattle.isle_base.specs.NotedErrors.{AreIllTyped}
+use Rattle.isle_base.proofs.NotedErrors.{forms_of, some_views}
 use Rattle.isle_base.specs.declared.syntax.Error.{Error}
 use Rattle.isle_types.specs.declared.type_env.TypeEnv.{TypeEnv}
 use Rattle.isle_types.specs.Envs.{names_of, IsInterned}
@@ -40,11 +40,11 @@ use Rattle.isle_terms.specs.Standing.{RootsRead}
 use Rattle.isle_terms.specs.Converting.{type_by_id, ConvertersRead, template_after}
 use Rattle.isle_terms.specs.ExternStages.{external_after, function_after, ExternsRead}
 use Rattle.isle_terms.specs.Recursion.{ExtractorsRead}
-use Rattle.isle_terms.specs.Whole.{shown_by}
+use Rattle.isle_terms.specs.ShownTables.{shown_by}
 use Rattle.isle_terms.proofs.Breaches.{Breach}
 use Rattle.isle_terms.proofs.Broken.{breaks_invalid}
 use Rattle.isle_terms.proofs.Making.{met_left, met_right, texts_behind}
-use Rattle.isle_terms.proofs.Noting.{reads_next, step}
+use Rattle.isle_terms.proofs.ErrorSteps.{reads_next, step}
 use Rattle.isle_terms.proofs.TypesStaying.{left_distinct, left_interned}
 
 -- before the first definition

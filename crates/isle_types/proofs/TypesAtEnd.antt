@@ -10,7 +10,7 @@ use Rattle.isle_model.specs.lists.TypeTable.{builtin_names, type_names, Constant
 use Rattle.isle_model.specs.claims.Refusals.{RefusesTypes}
 use Rattle.isle_base.specs.declared.syntax.Error.{Error}
 use Rattle.isle_base.specs.ErrorViews.{error_views}
-use Rattle.isle_base.proofs.Noted.{forms_of, some_views}
+use Rattle.isle_base.proofs.NotedErrors.{forms_of, some_views}
 use Rattle.isle_model.proofs.Bytes.{same_self}
 use Rattle.isle_model.proofs.Names.{found, has_at, has_met, has_right}
 use Rattle.isle_laws_typing.proofs.TypeLaws.{names_later, type_names_distinct, last_definition_counts_lem}

@@ -10,7 +10,7 @@ use Rattle.isle_base.specs.declared.syntax.Pos.{Pos}
 use Rattle.isle_base.specs.declared.syntax.Span.{Span}
 use Rattle.isle_base.specs.ErrorViews.{limit_view}
 use Rattle.isle_rules.specs.RuleLists.{NotesLimit}
-pub use Rattle.isle_base.proofs.Noted.{some_noted, both, may_both, still_plain}
+pub use Rattle.isle_base.proofs.NotedErrors.{some_noted, both, may_both, still_plain}
 pub use Rattle.isle_reports.proofs.FirstErrors.{may_check}
 
 -- a limit that is noted

@@ -13,7 +13,7 @@ use Rattle.isle_model.proofs.SameSites.{term_means, term_same}
 use Rattle.isle_model.proofs.SitesMade.{in_has, has_in}
 use Rattle.isle_laws_closure.proofs.Classes.{in_with_sites}
 use Rattle.isle_laws_closure.proofs.Owners.{owner_of, by_owners, owner_of_field}
-use Rattle.isle_laws_closure.proofs.Whole.{IsApart, own_class, class_found, without_in, AllIn, each_apart, each_all_in, equality_members}
+use Rattle.isle_laws_closure.proofs.FollowingDemands.{IsApart, own_class, class_found, without_in, AllIn, each_apart, each_all_in, equality_members}
 
 -- 1. counting owners
 -- one for a test that passes
