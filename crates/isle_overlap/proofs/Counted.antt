@@ -1,12 +1,11 @@
 -- Counts of unreported overlaps by rule, and the reports that are made by them.
-use Rattle.std.proofs.Common.{◌≡◌, ◌==◌, ◌&&◌, ◌||◌, ℕ, suc, ◌+◌, ◌-◌, ◌<◌, ◌≤◌, Bool, true, false, not, cond, nat_lt, if◌then◌else◌, List, [], ◌∷◌, ◌++◌, length, map, take, get_or, filter, refl, sym, ap, ◌∙◌, subst, inl, inr, arith, append_assoc, eqb-true}
+use Rattle.std.proofs.Common.{◌≡◌, ◌==◌, ◌&&◌, ◌||◌, ℕ, suc, ◌+◌, ◌-◌, ◌<◌, ◌≤◌, Bool, true, false, not, nat_lt, if◌then◌else◌, List, [], ◌∷◌, ◌++◌, length, map, get_or, filter, refl, sym, ap, ◌∙◌, subst, inl, inr, arith, append_assoc, eqb-true}
 use Rattle.std.specs.BTreeMap.{BTreeMap}
 use Rattle.std.specs.Global.{Vec}
 use Rattle.std.proofs.lemmas.Bool.{cases_Bool}
 use Rattle.std.proofs.lemmas.Bool.Decides.{nat_tests}
 use Rattle.std.proofs.lemmas.List.{length-map, map-append, append-nil}
 use Rattle.std.proofs.lemmas.List.Elements.{filter_agree}
-use Rattle.std.proofs.lemmas.List.Filters.{length-filter_more}
 use Rattle.isle_model.specs.lists.Syntax.{Position}
 use Rattle.isle_model.specs.sites.Overlap.{position_eq, position_lt, has_end, other_end, degree, is_reported_before, overlap_reports, overlap_reports_in, rules_overlap, ascending_positions}
 use Rattle.isle_model.specs.claims.Refusals.{overlapping, refusal_of}
@@ -21,10 +20,6 @@ use Rattle.isle_overlap.specs.Graphs.{neighbours, ends_of, count_at, listed_at, 
 use Rattle.isle_overlap.proofs.Reporting.{kept_pairs, stands, filtered_map, kept_from, left_of, left_kept, degree_left, no_reports, one_report, none_left_over, ends_kept, no_more_than}
 
 -- 1. sums of counts
-pub times_more : (q : Pos) (ps : List Pos) (k : ℕ) (d : Pos) (was before now : ℕ) → k < length ps → before ≡ was - times q (take k ps) → now ≡ before - cond (same_pos (get_or ps k d) q) 1 0 → now ≡ was - times q (take (k + 1) ps)
-times_more q ps k d was before now l e f =
-    let more = length-filter_more (λ p. same_pos p q) ps k d l in
-    omega (arith, e, f, more)
 
 pub degree_few : (ps : List (Position × Position)) (a : Position) → degree ps a ≤ length ps
 degree_few ps a = no_longer (has_end a) ps

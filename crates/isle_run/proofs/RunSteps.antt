@@ -1,7 +1,7 @@
 -- A run's steps, by their views.
 use Rattle.std.proofs.Common.{◌≡◌, ℕ, Bool, true, false, ◌+◌, ◌<◌, ◌≤◌, if◌then◌else◌, List, [], ◌∷◌, ◌++◌, length, get_or, drop, Option, Some, None, slice_get, refl, sym, ap, ◌∙◌}
 use Rattle.std.proofs.lemmas.Bool.{false≢true}
-use Rattle.std.proofs.lemmas.List.{at_drop_more, at_drop_all, map-append}
+use Rattle.std.proofs.lemmas.List.{at_drop_more, at_drop_all}
 use Rattle.isle_model.specs.rules.Meaning as M
 use Rattle.isle_model.specs.rules.Values as Values
 use Rattle.isle_model.specs.rules.Outcome as O
@@ -18,7 +18,7 @@ use Rattle.isle_run.specs.declared.values.Content.{Content}
 use Rattle.isle_run.specs.declared.state.Ending as E
 use Rattle.isle_run.specs.declared.state.Ending.TheVariants.{Ended, Failed, RanThrough, Stuck}
 use Rattle.isle_run.specs.declared.state.Trace as T
-use Rattle.isle_run.specs.RunViews.{call_views, content_list, ending_view, is_through, outcome_at, trace_view, equality_by, many_by}
+use Rattle.isle_run.specs.RunViews.{content_list, ending_view, is_through, outcome_at, trace_view, equality_by, many_by}
 use Rattle.isle_run.specs.ValueViews.{content_view}
 
 -- 0. the steps of a block
@@ -134,18 +134,6 @@ module _ (w : World) where
 
   pub return_ran : (at : _) (result : ℕ) (env : Env) (t : Trace) (o : Outcome) → o ≡ with_content (used w env result) t (returned w.multi t) → o ≡ run_check (return_at at result) w env t
   return_ran at result env t o is = is
-
-  -- 5. results
-  returned_is : (multi : Bool) (t : Trace) (c : M.Content) → returned multi t c ≡ record { calls = t.calls; results = t.results ++ c ∷ []; ending = if multi then O.ran_through else O.ended }
-  returned_is true t c = refl
-  returned_is false t c = refl
-
-  pub gave : (site : ℕ) (env : Env) (old new : T.Trace) (multi : Bool) (c : Content) (e : E.Ending) → Some (content_view c) ≡ used w env site → call_views new.calls.items ≡ call_views old.calls.items
-      → new.results.items ≡ old.results.items ++ c ∷ [] → ending_view e ≡ (if multi then O.ran_through else O.ended)
-      → outcome_at e new ≡ with_content (used w env site) (trace_view old) (returned multi (trace_view old))
-  gave site env old new multi c e there calls results ending =
-      (λ i. record { calls = calls i; results = (ap content_list results ∙ map-append content_view old.results.items (c ∷ [])) i; ending = ending i })
-      ∙ sym (returned_is multi (trace_view old) (content_view c)) ∙ ap (λ o. with_content o (trace_view old) (returned multi (trace_view old))) there
 
   -- 6. loops
   abbrev on_answers : Option (List M.Content) → (M.Content → Trace → Outcome) → Trace → Outcome

@@ -8,7 +8,7 @@ use Rattle.std.proofs.lemmas.List.Elements.{Contains-append_left, Contains-appen
 use Rattle.isle_model.specs.sites.Sites.{iterator_site, SetRule, Site, SiteSet}
 use Rattle.isle_model.specs.trees.Places.{Around, is_in, joins_in, constraint_at}
 use Rattle.isle_model.specs.trees.Tests as Tests
-use Rattle.isle_model.specs.trees.Tests.{match_test, equal_test, loop_test, needs, is_needed, needs_at, cover, IsOpen}
+use Rattle.isle_model.specs.trees.Tests.{match_test, equal_test, loop_test, needs, is_needed, needs_at, cover}
 use Rattle.isle_model.proofs.Members.{nothing_in, in_head, in_tail, in_alone, from_map, one_passes, member_found, member_from_get}
 use Rattle.isle_sets.specs.Listings.{class_lists}
 use Rattle.isle_sets.specs.SiteViews.{constraint_views}
@@ -29,8 +29,6 @@ in_first i xs x c = subst (λ l. Contains l x) (take-append-drop i xs) (Contains
 module _ (set : SiteSet) (ar : Around) where
   -- 1. lists that grow
   -- nothing is added where each open test of the kind is listed
-  pub adds_none : (Kind : Tests.Test → Type 0) (xs : List Test) → ((u : Tests.Test) → IsOpen set ar u → Kind u → Lists xs u) → AddsOpen set ar Kind xs xs
-  adds_none Kind xs h = record { open_here = λ t c. inl c; kept = λ u l. l; added = h }
 
   pub adds_as : (Kind Other : Tests.Test → Type 0) (old new : List Test) → ((u : Tests.Test) → Other u → Kind u) → AddsOpen set ar Kind old new → AddsOpen set ar Other old new
   adds_as Kind Other old new f h = record { open_here = h.open_here; kept = h.kept; added = λ u o k. h.added u o (f u k) }
