@@ -21,7 +21,7 @@ use Rattle.isle_sets.specs.declared.trie_again.Rule.{Rule}
 use Rattle.isle_sets.specs.contracts.trie_again.ConstraintOrd.TheImpl.{ghosts}
 use Rattle.isle_sets.specs.declared.trie_again.Constraint as C
 use Rattle.isle_sets.specs.declared.trie_again.Constraint.TheVariants as T
-use Rattle.isle_overlap.specs.Keys.{AreApart, AreNumbered, IsNumbered, TellApart}
+use Rattle.isle_overlap.specs.Keys.{AreApart, AreNumbered, IsAskedNumber, TellApart}
 
 -- two constraints of one site
 told : (as' bs : List (ℕ × Constraint)) (s : ℕ) (c d : Constraint) → constraint_at as' s ≡ Some c → constraint_at bs s ≡ Some d → constraint_eq c d ≡ false → sites_differ as' bs ≡ true
@@ -103,14 +103,14 @@ apart_masked i a j b h =
 
 -- one more number
 pub numbered_more : (numbers : BTreeMap C.Constraint ℕ) (site : ℕ) (rules : List Rule) (i : ℕ) (d : Rule) (old new : List (Option ℕ)) (key : Option ℕ) → i < length rules
-    → AreNumbered numbers site (set_rule_views (take i rules)) old → new ≡ old ++ key ∷ [] → ((k : ℕ) → key ≡ Some k → IsNumbered numbers site (set_rule_view (get_or rules i d)) k)
+    → AreNumbered numbers site (set_rule_views (take i rules)) old → new ≡ old ++ key ∷ [] → ((k : ℕ) → key ≡ Some k → IsAskedNumber numbers site (set_rule_view (get_or rules i d)) k)
     → AreNumbered numbers site (set_rule_views (take (i + 1) rules)) new
 numbered_more numbers site rules i d old new key l h added this =
     let v = set_rule_view (get_or rules i d) in
     let upto = ap set_rule_views (take_more rules i d l) ∙ map-append set_rule_view (take i rules) (get_or rules i d ∷ []) in
     subst (λ vs. AreNumbered numbers site vs new) (sym upto) (subst (AreNumbered numbers site (set_rule_views (take i rules) ++ v ∷ [])) (sym added) (both (set_rule_views (take i rules)) v h this))
   where
-    both : (vs : List SetRule) (v : SetRule) → AreNumbered numbers site vs old → ((k : ℕ) → key ≡ Some k → IsNumbered numbers site v k) → AreNumbered numbers site (vs ++ v ∷ []) (old ++ key ∷ [])
+    both : (vs : List SetRule) (v : SetRule) → AreNumbered numbers site vs old → ((k : ℕ) → key ≡ Some k → IsAskedNumber numbers site v k) → AreNumbered numbers site (vs ++ v ∷ []) (old ++ key ∷ [])
     both vs v h this = record {
       each = length-append old (key ∷ []) ∙ ap (λ n. n + 1) h.each ∙ sym (length-append vs (v ∷ []));
       numbered = λ j r k rj kj. elim (get_push_cases vs v r j rj) [
@@ -120,7 +120,7 @@ numbered_more numbers site rules i d old new key l h added this =
         ]
         | inr here ↦ elim (get_push_cases old key (Some k) j kj) [
           | inl known ↦ absurd (let lt = slice_get_within old j (Some k) known in let at = here.0 in let e = h.each in omega (arith, lt, at, e))
-          | inr last ↦ subst (λ x. IsNumbered numbers site x k) here.1 (this k last.1)
+          | inr last ↦ subst (λ x. IsAskedNumber numbers site x k) here.1 (this k last.1)
         ]
       ];
     }

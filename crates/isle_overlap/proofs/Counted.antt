@@ -16,7 +16,7 @@ use Rattle.isle_base.specs.declared.syntax.Error.{Error}
 use Rattle.isle_base.specs.declared.syntax.Pos.{Pos}
 use Rattle.isle_overlap.specs.Comparisons.{positions}
 use Rattle.isle_base.specs.ErrorViews.{error_views}
-use Rattle.isle_overlap.specs.Graphs.{neighbours, ends_of, count_at, listed_at, same_pos, times, counts_before, unreported, count_left}
+use Rattle.isle_overlap.specs.Graphs.{neighbours, ends_of, unreported_at, neighbours_at, same_pos, position_count, counts_before, unreported, count_left}
 use Rattle.isle_overlap.proofs.Reporting.{kept_pairs, stands, filtered_map, kept_from, left_of, left_kept, degree_left, no_reports, one_report, none_left_over, ends_kept, no_more_than}
 
 -- 1. sums of counts
@@ -47,14 +47,14 @@ both_listed old mid new first second q apart e f =
 -- 3. reports so far
 pub record IsSoFar (pairs : List (Position × Position)) (counts : BTreeMap Pos ℕ) (errors : List Error) (n : ℕ) : Type 0 where
   pub kept : Position → Bool
-  pub counted : (q : Pos) → count_at counts q ≡ degree (kept_pairs kept pairs) (position q)
+  pub counted : (q : Pos) → unreported_at counts q ≡ degree (kept_pairs kept pairs) (position q)
   pub reported : error_views errors ++ map refusal_of (map rules_overlap (overlap_reports_in n (kept_pairs kept pairs))) ≡ map refusal_of (map rules_overlap (overlap_reports pairs))
 
 all_kept : (ps : List (Position × Position)) → kept_pairs (λ p. true) ps ≡ ps
 all_kept [] = refl
 all_kept (e ∷ ps) = ap (λ l. e ∷ l) (all_kept ps)
 
-pub so_far_none : (pairs : List (Position × Position)) (counts : BTreeMap Pos ℕ) (errors : List Error) (n : ℕ) → errors ≡ [] → n ≡ length pairs → ((q : Pos) → count_at counts q ≡ degree pairs (position q)) → IsSoFar pairs counts errors n
+pub so_far_none : (pairs : List (Position × Position)) (counts : BTreeMap Pos ℕ) (errors : List Error) (n : ℕ) → errors ≡ [] → n ≡ length pairs → ((q : Pos) → unreported_at counts q ≡ degree pairs (position q)) → IsSoFar pairs counts errors n
 so_far_none pairs counts errors n e l c = record {
   kept = λ p. true;
   counted = λ q. c q ∙ ap (λ ps. degree ps (position q)) (sym (all_kept pairs));
@@ -88,7 +88,7 @@ module _ (pairs : List (Position × Position)) (rules : List Pos) (counts : BTre
       ∙ sym (same_before (get_or rules r.0 at) at) ∙ first r.0 at r.1
 
   -- where the first rule has no overlap left, none has
-  pub so_far_all : count_at counts at ≡ 0 → error_views errors ≡ map refusal_of (map rules_overlap (overlap_reports pairs))
+  pub so_far_all : unreported_at counts at ≡ 0 → error_views errors ≡ map refusal_of (map rules_overlap (overlap_reports pairs))
   so_far_all z =
       let none = none_left_over (kept_pairs s.kept pairs) (λ y i.
       let most = no_more_than (degree (kept_pairs s.kept pairs) y) (degree (kept_pairs s.kept pairs) (position at)) (position_lt (position at) y) (none_before y i) in
@@ -99,9 +99,9 @@ module _ (pairs : List (Position × Position)) (rules : List Pos) (counts : BTre
       ∙ s.reported
 
   -- one more report
-  pub so_far_more : (others : BTreeMap Pos (Vec Pos)) (after : BTreeMap Pos ℕ) (more : List Error) (m : ℕ) → n ≡ suc m → (count_at counts at ≡ 0 → ⊥)
-      → ((q : Pos) → positions (listed_at others q) ≡ neighbours pairs (position q))
-      → ((q : Pos) → count_at after q ≡ count_left counts at (unreported others counts at) q)
+  pub so_far_more : (others : BTreeMap Pos (Vec Pos)) (after : BTreeMap Pos ℕ) (more : List Error) (m : ℕ) → n ≡ suc m → (unreported_at counts at ≡ 0 → ⊥)
+      → ((q : Pos) → positions (neighbours_at others q) ≡ neighbours pairs (position q))
+      → ((q : Pos) → unreported_at after q ≡ count_left counts at (unreported others counts at) q)
       → error_views more ≡ error_views errors ++ overlapping (position at ∷ ascending_positions (positions (unreported others counts at))) ∷ []
       → IsSoFar pairs after more m
   so_far_more others after more m is some listed counted added = record {
@@ -117,8 +117,8 @@ module _ (pairs : List (Position × Position)) (rules : List Pos) (counts : BTre
     where
       positive : 0 < degree (kept_pairs s.kept pairs) (position at)
       positive =
-          elim (cases_Bool (count_at counts at == 0)) [
-            | inl t ↦ absurd (some (eqb-true (count_at counts at) 0 t))
+          elim (cases_Bool (unreported_at counts at == 0)) [
+            | inl t ↦ absurd (some (eqb-true (unreported_at counts at) 0 t))
             | inr f ↦ (let c = s.counted at in let z = some in grind (arith, nat_tests))
           ]
 
@@ -127,12 +127,12 @@ module _ (pairs : List (Position × Position)) (rules : List Pos) (counts : BTre
 
       found : positions (unreported others counts at) ≡ neighbours (kept_pairs s.kept pairs) (position at)
       found =
-          ap positions (filter_agree (λ o. nat_lt 0 (count_at counts o)) (λ o. nat_lt 0 (degree (kept_pairs s.kept pairs) (position o))) (λ o. ap (nat_lt 0) (s.counted o)) (listed_at others at))
-          ∙ filtered_map position (λ o. nat_lt 0 (degree (kept_pairs s.kept pairs) o)) (listed_at others at)
+          ap positions (filter_agree (λ o. nat_lt 0 (unreported_at counts o)) (λ o. nat_lt 0 (degree (kept_pairs s.kept pairs) (position o))) (λ o. ap (nat_lt 0) (s.counted o)) (neighbours_at others at))
+          ∙ filtered_map position (λ o. nat_lt 0 (degree (kept_pairs s.kept pairs) o)) (neighbours_at others at)
           ∙ ap (filter (λ o. nat_lt 0 (degree (kept_pairs s.kept pairs) o))) (listed at)
           ∙ left_of s.kept pairs (position at) ka
 
-      times_is : (q : Pos) → times q (unreported others counts at) ≡ stands (position q) (neighbours (kept_pairs s.kept pairs) (position at))
+      times_is : (q : Pos) → position_count q (unreported others counts at) ≡ stands (position q) (neighbours (kept_pairs s.kept pairs) (position at))
       times_is q =
           sym (length-map (filter (λ p. same_pos p q) (unreported others counts at)) position)
           ∙ ap length (filtered_map position (λ p. position_eq p (position q)) (unreported others counts at))

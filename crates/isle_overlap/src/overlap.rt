@@ -11,7 +11,7 @@ ghost use Rattle.isle_overlap.specs.Comparisons.{AreGrouped, list_views, masked_
 ghost use Rattle.isle_overlap.specs.ErrorViews.{error_pos};
 ghost use Rattle.isle_overlap.specs.Found.{HaveSingleSpans, found_shadows, found_wrong};
 ghost use Rattle.isle_overlap.specs.Keys.{AreKeys, AreNext, IsAhead, IsFirst, nearer};
-ghost use Rattle.isle_overlap.specs.Graphs.{count_at, count_left, counts_before, ends_of, listed_at, neighbours, same_pos, times, unreported};
+ghost use Rattle.isle_overlap.specs.Graphs.{unreported_at, count_left, counts_before, ends_of, neighbours_at, neighbours, same_pos, position_count, unreported};
 
 use crate::keys::{Keys, first_without, keys_of};
 use isle_base::syntax::{Error, Pos, Span};
@@ -389,7 +389,7 @@ fn ascending(mut places: Vec<Pos>) -> Result<Vec<Pos>, AllocError>
 
 // How many overlaps of a rule aren't reported yet.
 fn count(counts: &BTreeMap<Pos, usize>, place: Pos) -> usize
-    ensures { result ≡ count_at counts.now place }
+    ensures { result ≡ unreported_at counts.now place }
 {
     match counts.get(&place) {
         Some(count) => *count,
@@ -399,8 +399,8 @@ fn count(counts: &BTreeMap<Pos, usize>, place: Pos) -> usize
 
 // Adds one overlap to those of a rule.
 fn add_one(counts: &mut BTreeMap<Pos, usize>, place: Pos) -> Result<(), AllocError>
-    requires { count_at counts.old place < 2 ^ 64 - 1 }
-    ensures { OnOk result ((q : Pos) → count_at counts.new q ≡ count_at counts.old q + (if same_pos place q then 1 else 0)) }
+    requires { unreported_at counts.old place < 2 ^ 64 - 1 }
+    ensures { OnOk result ((q : Pos) → unreported_at counts.new q ≡ unreported_at counts.old q + (if same_pos place q then 1 else 0)) }
 {
     let more = count(counts, place) + 1;
     counts.insert(place, more)?;
@@ -409,9 +409,9 @@ fn add_one(counts: &mut BTreeMap<Pos, usize>, place: Pos) -> Result<(), AllocErr
 
 // Adds an overlap to those of both its rules.
 fn add_to_both(counts: &mut BTreeMap<Pos, usize>, first: Pos, second: Pos) -> Result<(), AllocError>
-    requires { (q : Pos) → count_at counts.old q < 2 ^ 64 - 1 }
-    ensures { OnOk result ((q : Pos) → count_at counts.new q
-        ≡ count_at counts.old q + (if has_end (position q) (position first, position second) then 1 else 0)) }
+    requires { (q : Pos) → unreported_at counts.old q < 2 ^ 64 - 1 }
+    ensures { OnOk result ((q : Pos) → unreported_at counts.new q
+        ≡ unreported_at counts.old q + (if has_end (position q) (position first, position second) then 1 else 0)) }
 {
     add_one(counts, first)?;
     if first != second {
@@ -423,7 +423,7 @@ fn add_to_both(counts: &mut BTreeMap<Pos, usize>, first: Pos, second: Pos) -> Re
 // How many overlaps each rule has.
 fn counts_of(alloc: Global, wrong: &[(Pos, Pos)]) -> Result<BTreeMap<Pos, usize>, AllocError>
     requires { length wrong.now < 2 ^ 64 }
-    ensures { IfOk result (λ m. (q : Pos) → count_at m q ≡ degree (pair_views wrong.now) (position q)) }
+    ensures { IfOk result (λ m. (q : Pos) → unreported_at m q ≡ degree (pair_views wrong.now) (position q)) }
 {
     let mut counts = BTreeMap::new(alloc);
     for (first, second) in wrong {
@@ -434,7 +434,7 @@ fn counts_of(alloc: Global, wrong: &[(Pos, Pos)]) -> Result<BTreeMap<Pos, usize>
 
 // Adds a rule to those that another one overlaps.
 fn add_other(others: &mut BTreeMap<Pos, Vec<Pos>>, place: Pos, other: Pos) -> Result<(), AllocError>
-    ensures { OnOk result ((q : Pos) → listed_at others.new q ≡ listed_at others.old q ++ (if same_pos place q then other ∷ [] else [])) }
+    ensures { OnOk result ((q : Pos) → neighbours_at others.new q ≡ neighbours_at others.old q ++ (if same_pos place q then other ∷ [] else [])) }
 {
     others.entry(place)?.or_default().push(other)?;
     Ok(())
@@ -442,8 +442,8 @@ fn add_other(others: &mut BTreeMap<Pos, Vec<Pos>>, place: Pos, other: Pos) -> Re
 
 // Adds each of two rules to those that the other one overlaps.
 fn add_both(others: &mut BTreeMap<Pos, Vec<Pos>>, first: Pos, second: Pos) -> Result<(), AllocError>
-    ensures { OnOk result ((q : Pos) → positions (listed_at others.new q)
-        ≡ positions (listed_at others.old q)
+    ensures { OnOk result ((q : Pos) → positions (neighbours_at others.new q)
+        ≡ positions (neighbours_at others.old q)
         ++ (if has_end (position q) (position first, position second) then other_end (position q) (position first, position second) ∷ [] else [])) }
 {
     add_other(others, first, second)?;
@@ -455,7 +455,7 @@ fn add_both(others: &mut BTreeMap<Pos, Vec<Pos>>, first: Pos, second: Pos) -> Re
 
 // Which rules each rule overlaps.
 fn others_of(alloc: Global, wrong: &[(Pos, Pos)]) -> Result<BTreeMap<Pos, Vec<Pos>>, AllocError>
-    ensures { IfOk result (λ m. (q : Pos) → positions (listed_at m q) ≡ neighbours (pair_views wrong.now) (position q)) }
+    ensures { IfOk result (λ m. (q : Pos) → positions (neighbours_at m q) ≡ neighbours (pair_views wrong.now) (position q)) }
 {
     let mut others = BTreeMap::new(alloc);
     for (first, second) in wrong {
@@ -498,7 +498,7 @@ fn foremost(counts: &BTreeMap<Pos, usize>, rules: &[Pos]) -> Pos
 
 // The rules that a rule overlaps.
 fn listed(others: &BTreeMap<Pos, Vec<Pos>>, place: Pos) -> &[Pos]
-    ensures { result.now ≡ listed_at others.now place }
+    ensures { result.now ≡ neighbours_at others.now place }
 {
     match others.get(&place) {
         Some(all) => all,
@@ -512,7 +512,7 @@ fn add_left(
     place: Pos,
     left: &mut Vec<Pos>,
 ) -> Result<(), AllocError>
-    ensures { OnOk result (left.new.items ≡ left.old.items ++ cond (nat_lt 0 (count_at counts.now place)) (place ∷ []) []) }
+    ensures { OnOk result (left.new.items ≡ left.old.items ++ cond (nat_lt 0 (unreported_at counts.now place)) (place ∷ []) []) }
 {
     if count(counts, place) > 0 {
         left.push(place)?;
@@ -538,7 +538,7 @@ fn unreported(
 
 // Takes an overlap from those of a rule.
 fn take_one(counts: &mut BTreeMap<Pos, usize>, place: Pos) -> Result<(), AllocError>
-    ensures { OnOk result ((q : Pos) → count_at counts.new q ≡ count_at counts.old q - (if same_pos place q then 1 else 0)) }
+    ensures { OnOk result ((q : Pos) → unreported_at counts.new q ≡ unreported_at counts.old q - (if same_pos place q then 1 else 0)) }
 {
     let left = count(counts, place).saturating_sub(1);
     counts.insert(place, left)?;
@@ -547,7 +547,7 @@ fn take_one(counts: &mut BTreeMap<Pos, usize>, place: Pos) -> Result<(), AllocEr
 
 // Takes an overlap from those of each of these rules.
 fn take_away(counts: &mut BTreeMap<Pos, usize>, found: &[Pos]) -> Result<(), AllocError>
-    ensures { OnOk result ((q : Pos) → count_at counts.new q ≡ count_at counts.old q - times q found.now) }
+    ensures { OnOk result ((q : Pos) → unreported_at counts.new q ≡ unreported_at counts.old q - position_count q found.now) }
 {
     for other in found {
         take_one(counts, *other)?;
@@ -576,7 +576,7 @@ fn report(
     place: Pos,
     errors: &mut Vec<Error>,
 ) -> Result<(), AllocError>
-    ensures counts { OnOk result ((q : Pos) → count_at counts.new q ≡ count_left counts.old place (unreported others.now counts.old place) q) }
+    ensures counts { OnOk result ((q : Pos) → unreported_at counts.new q ≡ count_left counts.old place (unreported others.now counts.old place) q) }
     ensures error { OnOk result (error_views errors.new.items
         ≡ error_views errors.old.items ++ overlapping (position place ∷ ascending_positions (positions (unreported others.now counts.old place))) ∷ []) }
     ensures single { OnOk result (All HasSingleSpans errors.old.items → All HasSingleSpans errors.new.items) }

@@ -9,10 +9,9 @@ use Rattle.isle_model.specs.rules.Outcome.{Outcome, then_option}
 use Rattle.isle_model.specs.trees.Trees.{Tree, step, Check, match_at, equal_at, loop_at, return_at, Arms, arm}
 use Rattle.isle_model.specs.trees.Run.{Env, Trace, all_bound, unwrap_failed, no_content_there, ending_at, with_calls, on_bound, on_ending, or_next, with_env, with_content, on_met, on_equal, for_each, on_many, iterated, returned, bind_fields, World, used, used_value, bind_all, content_fields, run_tree, run_check, run_arms}
 use Rattle.isle_serialize.specs.declared.serialize.EvalStep.{EvalStep}
-use Rattle.isle_serialize.specs.declared.serialize.Block.{Block, out-Block, roll-out-Block}
 use Rattle.isle_serialize.specs.declared.serialize.MatchArm.{MatchArm, out-MatchArm, roll-out-MatchArm}
 use Rattle.isle_serialize.specs.TreeViews.{tree_view, check_view, arm_view, steps_view, arms_view}
-use Rattle.isle_serialize.proofs.TreeLaws.{arm_seen, block_seen}
+use Rattle.isle_serialize.proofs.TreeLaws.{arm_seen}
 use Rattle.isle_sets.specs.SiteViews.{constraint_view}
 use Rattle.isle_run.specs.declared.values.Content.{Content}
 use Rattle.isle_run.specs.declared.state.Ending as E
@@ -20,10 +19,6 @@ use Rattle.isle_run.specs.declared.state.Ending.TheVariants.{Ended, Failed, RanT
 use Rattle.isle_run.specs.declared.state.Trace as T
 use Rattle.isle_run.specs.RunViews.{content_list, ending_view, is_through, outcome_at, trace_view, equality_by, many_by}
 use Rattle.isle_run.specs.ValueViews.{content_view}
-
--- 0. the steps of a block
-pub block_is : (b : Block) → tree_view b ≡ steps_view (out-Block b).steps.items
-block_is b = ap tree_view (sym (roll-out-Block b)) ∙ block_seen (out-Block b).steps
 
 -- 1. how steps end
 pub through : (e : E.Ending) (t : Trace) (go : Trace → Outcome) → is_through e ≡ true → on_ending (ending_view e) t go ≡ go t
@@ -135,7 +130,7 @@ module _ (w : World) where
   pub return_ran : (at : _) (result : ℕ) (env : Env) (t : Trace) (o : Outcome) → o ≡ with_content (used w env result) t (returned w.multi t) → o ≡ run_check (return_at at result) w env t
   return_ran at result env t o is = is
 
-  -- 6. loops
+  -- 5. loops
   abbrev on_answers : Option (List M.Content) → (M.Content → Trace → Outcome) → Trace → Outcome
   on_answers None go t = ending_at O.stuck t
   on_answers (Some cs) go t = for_each cs go t

@@ -15,7 +15,7 @@ use Rattle.isle_sets.specs.SiteViews.{constraint_views}
 use Rattle.isle_sets.specs.declared.trie_again.Constraint.{Constraint as WrittenConstraint}
 use Rattle.isle_serialize.specs.declared.tests.Test.{Test}
 use Rattle.isle_serialize.specs.Bars.{reaches}
-use Rattle.isle_serialize.specs.FieldTests.{is_pick}
+use Rattle.isle_serialize.specs.FieldTests.{is_iterator_of}
 use Rattle.isle_serialize.specs.Growing.{CanGrow}
 use Rattle.isle_serialize.specs.Opened.{Lists, AddsOpen, OfSome, IsMatch, IsMatchOf, IsEqualOf, IsPairOf, IsWanted, IsLoopBy, IsLoopOf}
 use Rattle.isle_serialize.specs.TestViews.{AreUseful}
@@ -96,7 +96,7 @@ module _ (set : SiteSet) (ar : Around) where
   loop_at g numbers s i k None e n = absurd (false≢true (sym (ap (is_needed (loop_test s)) e) ∙ n))
   loop_at g numbers s i k (Some r) e n =
       let p = g.picks r s (member_from_get set.rules i r e) (member_found s r.iterators (sym (ap (is_needed (loop_test s)) e) ∙ n)) in
-      let q = one_passes (is_pick s) set.sites p in
+      let q = one_passes (is_iterator_of s) set.sites p in
       (q.0, q.1, (s, picks_call s q.0 q.2, refl, k))
 
   pub loops_of : CanGrow set → (numbers : List ℕ) (u : Tests.Test) → IsLoopOf set.rules numbers u → OfSome (IsLoopBy set.rules numbers) set.sites u

@@ -3,7 +3,7 @@
 ghost use Rattle.std.specs.Prelude.{◌≡◌, IfOk, IsTrue, option_map};
 ghost use Rattle.isle_model.specs.trees.Best.{descend};
 ghost use Rattle.isle_serialize.specs.AroundViews.{around_view, AreEmitted};
-ghost use Rattle.isle_serialize.specs.FieldTests.{HasPick, IsPick};
+ghost use Rattle.isle_serialize.specs.FieldTests.{HasIterator, IsIteratorOf};
 ghost use Rattle.isle_serialize.specs.Growing.{test_sites, AreEmittedBy, IsNext};
 ghost use Rattle.isle_serialize.specs.PlaceViews.{around_at, set_at, set_in};
 ghost use Rattle.isle_serialize.specs.TestViews.{test_view, AreUseful, IsChosen};
@@ -135,8 +135,8 @@ pub fn next_test(
 
 /// The site that stands for each answer of a call that a rule goes over: a built set has one.
 pub fn pick_of(indexed: &IndexedSet<'_>, call: BindingId) -> BindingId
-    requires { HasPick (set_in indexed.now).sites call }
-    ensures { IsPick (set_in indexed.now).sites call result }
+    requires { HasIterator (set_in indexed.now).sites call }
+    ensures { IsIteratorOf (set_in indexed.now).sites call result }
 {
     match iterator_of(indexed, call) {
         Some(each) => each,

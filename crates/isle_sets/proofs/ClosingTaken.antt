@@ -17,7 +17,7 @@ use Rattle.isle_laws_closure.proofs.Closing.{closing_ends}
 use Rattle.isle_sets.specs.DemandsHeld.{constraint_held, are_equated}
 use Rattle.isle_sets.specs.SiteTables.{AddsFields}
 use Rattle.isle_sets.specs.SiteViews.{constraint_view}
-use Rattle.isle_sets.specs.Closings.{AreDemandsOf, AreFieldsOf, GoOn, IsNextDue, is_due, asked_each, with_member, with_fields}
+use Rattle.isle_sets.specs.Closings.{AreDemandsOf, AreFieldsOf, GoOn, IsNextDue, is_due, asked_each, with_member, with_field_terms}
 use Rattle.isle_sets.specs.declared.trie_again.Constraint as C
 use Rattle.isle_sets.specs.declared.demanded.Demanded.{Demanded}
 use Rattle.isle_sets.proofs.ClassTests.{in_one, one_in, in_class_means, class_has}
@@ -74,7 +74,7 @@ members_at_once c least (m ∷ ms) k =
       made = sites_append (field_terms c m) (flat_map (field_terms c) ms) k.made i;
     })
 
-pub fields_at_once : (c : Constraint) (least : SiteTerm) (ms : List SiteTerm) (k : Closed) → with_members c least (with_made k (field_terms c least)) ms ≡ with_fields c k (least ∷ ms)
+pub fields_at_once : (c : Constraint) (least : SiteTerm) (ms : List SiteTerm) (k : Closed) → with_members c least (with_made k (field_terms c least)) ms ≡ with_field_terms c k (least ∷ ms)
 fields_at_once c least ms k =
     members_at_once c least ms (with_made k (field_terms c least))
     ∙ (λ i. record {
@@ -148,7 +148,7 @@ module _ (sites : List Site) (d : Demanded) (k : Closed) (h : AreDemandsOf sites
       asked_more sites less (without_class k (unfold_site sites s)) (removed sites d k h less s (due_within sites d k h s due) kept gone)
       more members c (members_below sites d k h s due members exact) same asked
 
-  pub class_taken : IsStrictlySortedBy nat_cmp members → (after : List Site) (last : Demanded) → GoOn sites after last (with_fields c Asked (map (unfold_site sites) members))
+  pub class_taken : IsStrictlySortedBy nat_cmp members → (after : List Site) (last : Demanded) → GoOn sites after last (with_field_terms c Asked (map (unfold_site sites) members))
       → GoOn sites after last (taken k (unfold_site sites s, c) (ascending k.made (class_at k.classes (unfold_site sites s))))
   class_taken sorted after last goes =
       let u = unfold_site sites s in
@@ -228,7 +228,7 @@ joined_next first now after d e c least k fields rest i m all l is within j next
     }
 
 pub joined_last : (first now : List Site) (d : Demanded) (c : Constraint) (least : SiteTerm) (k : Closed) (fields : List ℕ) (all left : List SiteTerm) → left ≡ []
-    → JoinedSoFar first now d c least k fields all left → GoOn first now d (with_fields c k (least ∷ all))
+    → JoinedSoFar first now d c least k fields all left → GoOn first now d (with_field_terms c k (least ∷ all))
 joined_last first now d c least k fields all left none j =
     subst (GoOn first now d) (ap (with_members c least j.so_far) (sym none) ∙ j.whole ∙ fields_at_once c least all k) j.goes
 

@@ -12,7 +12,7 @@ use Rattle.std.proofs.lemmas.List.Filters.{length-filter_both}
 use Rattle.std.proofs.lemmas.List.Elements.{filter-append}
 use Rattle.std.proofs.lemmas.List.Sums.{length-filter, count_by-le-length}
 use Rattle.isle_model.proofs.Elements.{In, contains_from_in, in_from_contains, in_left, in_right, in_either, in_filter, filter_from, passed_filter}
-use Rattle.isle_sets.specs.Endings.{class_ends, ClassEnds, ClassIsTaken, count_in, GoOnForEver, items_of, listed_at, PartsAreTaken, times, wholes_in}
+use Rattle.isle_sets.specs.Endings.{class_ends, ClassEnds, ClassIsTaken, count_in, GoOnForEver, items_of, listed_at, PartsAreTaken, number_count, wholes_in}
 use Rattle.isle_sets.specs.Verdicts.{class_head}
 use Rattle.isle_sets.specs.declared.closure_classes.Part.{Part}
 
@@ -170,11 +170,11 @@ taken_more before after next wholes ended now then' whole t e f = record {
     last_few true = omega arith
     last_few false = omega arith
 
-    times_more : (k : ℕ) → times k (wholes ++ whole ∷ []) ≡ times k wholes + cond (nat_eq whole k) 1 0
+    times_more : (k : ℕ) → number_count k (wholes ++ whole ∷ []) ≡ number_count k wholes + cond (nat_eq whole k) 1 0
     times_more k =
         ap length (filter-append (λ j. nat_eq j k) wholes (whole ∷ []))
         ∙ length-append (filter (λ j. nat_eq j k) wholes) (filter (λ j. nat_eq j k) (whole ∷ []))
-        ∙ ap (λ n. times k wholes + n) (one (nat_eq whole k))
+        ∙ ap (λ n. number_count k wholes + n) (one (nat_eq whole k))
       where
         one : (b : Bool) → length (cond b (whole ∷ []) []) ≡ cond b 1 0
         one true = refl
@@ -289,7 +289,7 @@ module _ (ks : List (List ℕ)) (parts : List Part) where
       counted = λ q.
           let was = a.counted q in
           let is = taken.parts.counts q in
-          let gone = ap (times q) (a.kept k) ∙ filter_images whole (λ j. nat_eq j q) (filter (λ p. nat_eq (class p) k) left) in
+          let gone = ap (number_count q) (a.kept k) ∙ filter_images whole (λ j. nat_eq j q) (filter (λ p. nat_eq (class p) k) left) in
           let two = split_filter (λ p. nat_eq (whole p) q) (λ p. nat_eq (class p) k) left in
           omega (arith, was, is, gone, two);
       all = λ p i none.

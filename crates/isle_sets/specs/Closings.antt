@@ -79,8 +79,8 @@ pub record AreFieldsOf (sites : List Site) (c : Sites.Constraint) (fields : List
   pub of_site : map (unfold_site sites) fields ≡ field_terms c u
 
 -- each member of a class does
-abbrev pub with_fields : Sites.Constraint → Closed → List SiteTerm → Closed
-with_fields c k members = record {
+abbrev pub with_field_terms : Sites.Constraint → Closed → List SiteTerm → Closed
+with_field_terms c k members = record {
   constraints = k.constraints;
   classes = merged_all k.classes (field_equalities c members);
   made = with_sites k.made (flat_map (field_terms c) members);

@@ -23,7 +23,7 @@ use Rattle.isle_sets.specs.DemandsHeld.{constraint_held, are_equated, first_kept
 use Rattle.isle_sets.specs.SiteTables.{AreFirst, ForWantOfRoom, HasNoRoom, HasSources, IsTable, StandsFor, table_sites}
 use Rattle.isle_sets.specs.SiteViews.{constraint_view}
 use Rattle.isle_sets.specs.Closings.{AreDemandsOf, KeepsDue}
-use Rattle.isle_term_sets.specs.VisitedSites.{AreAnswered, AreCallsNumbered, AsksUnwrapped, IsNextCall, built_sites, conflict_beside, conflict_view, StandsAt, GoesTo, Makes, EndsBefore}
+use Rattle.isle_term_sets.specs.VisitedSites.{AreAnswered, AreCallsNumbered, AsksUnwrapped, IsNextCall, built_sites, conflict_beside, conflict_view, StandsAt, GoesTo, MakesSite, EndsBefore}
 use Rattle.isle_base.specs.declared.visit_fault.VisitFault.{VisitFault}
 use Rattle.isle_sets.specs.declared.trie_again.Constraint as C
 use Rattle.isle_sets.specs.declared.demanded.Demanded.{Demanded}
@@ -134,7 +134,7 @@ module _ (before : List SiteTerm) (b : RuleSetBuilder) (t : SiteTable) (v : Visi
   st : StandsFor (built_sites b) (table_sites t) (before_closing before v.demands).made s n
   st = stand (before_closing before v.demands).made h.demands.once h.demands.stand
 
-  pub site_made : Makes before b (with_table b t) v u n
+  pub site_made : MakesSite before b (with_table b t) v u n
   site_made = record {
     goes = record {
       stands = record {
