@@ -9,7 +9,7 @@ ghost use Rattle.isle_base.specs.SyntaxViews.{position};
 ghost use Rattle.isle_sets.specs.SiteViews.{set_rule_view, set_rule_views};
 ghost use Rattle.isle_overlap.specs.Comparisons.{AreGrouped, list_views, masked_behind, masked_pair, masked_rows, masked_views, pair_views, positions, shadow_of, shadows_of, wrong_behind, wrong_pair, wrong_rows};
 ghost use Rattle.isle_overlap.specs.ErrorViews.{error_pos};
-ghost use Rattle.isle_overlap.specs.Found.{HaveSingleSpans, found_shadows, found_wrong};
+ghost use Rattle.isle_overlap.specs.ComparedRules.{HaveSingleSpans, found_shadows, found_wrong};
 ghost use Rattle.isle_overlap.specs.Keys.{AreKeys, AreNext, IsAhead, IsFirst, nearer};
 ghost use Rattle.isle_overlap.specs.Graphs.{unreported_at, count_left, counts_before, ends_of, neighbours_at, neighbours, same_pos, position_count, unreported};
 

@@ -28,7 +28,7 @@ use Rattle.isle_serialize.proofs.Descents.{descend_kept}
 use Rattle.isle_serialize.proofs.Growth as Growth
 use Rattle.isle_serialize.proofs.ArmRuns.{turns_behind, left_behind}
 use Rattle.isle_serialize.proofs.Growth.{no_arms, from_alike, all_kept}
-use Rattle.isle_serialize.proofs.InsideSteps.{arm_inside}
+use Rattle.isle_serialize.proofs.BodySteps.{arm_inside}
 use Rattle.isle_serialize.proofs.StepsJoined.{arms_before, arms_end, arm_joined}
 
 module _ (rules : List SetRule) (s : ℕ) where

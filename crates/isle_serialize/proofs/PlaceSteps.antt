@@ -22,10 +22,10 @@ use Rattle.isle_serialize.specs.TestViews.{test_view, IsChosen}
 use Rattle.isle_serialize.specs.TreeViews.{tree_view, check_view, steps_view}
 use Rattle.isle_serialize.proofs.Descents.{descend_kept}
 use Rattle.isle_serialize.proofs.Growth.{match_more, equal_more, loop_more, ends_close, from_alike}
-use Rattle.isle_serialize.proofs.InsideSteps.{inside_alike, loop_inside, loop_after}
+use Rattle.isle_serialize.proofs.BodySteps.{inside_alike, loop_inside, loop_after}
 use Rattle.isle_serialize.proofs.StepsJoined.{step_joined, steps_joined}
 use Rattle.isle_serialize.proofs.TreeLaws.{equal_seen, loop_seen}
-use Rattle.isle_serialize.proofs.Untried.{untried, untried_same, untried_source, untried_pair}
+use Rattle.isle_serialize.proofs.UntriedTests.{untried, untried_same, untried_source, untried_pair}
 
 -- the steps of a block so far, and what is left: with what may follow, they are best; and no test that stands around the
 -- steps to come is one more

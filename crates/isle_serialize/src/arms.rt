@@ -14,7 +14,7 @@ ghost use Rattle.isle_serialize.specs.Turns.{asked_numbers, asks_that, AreInTurn
 
 use crate::around::Around;
 use crate::fields::fields_of;
-use crate::inside::in_arm;
+use crate::bodies::in_arm;
 use crate::place::IndexedSet;
 use isle_sets::trie_again::{BindingId, Constraint, RuleSet};
 use std::alloc::{AllocError, Global};

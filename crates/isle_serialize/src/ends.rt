@@ -13,7 +13,7 @@ ghost use Rattle.isle_serialize.specs.TreeViews.{check_view, steps_view};
 
 use crate::around::{Around, set_of};
 use crate::binds::bind_order;
-use crate::inside::emitted_after;
+use crate::bodies::emitted_after;
 use crate::place::IndexedSet;
 use crate::serialize::{ControlFlow, EvalStep};
 use crate::small_set::SmallSet;

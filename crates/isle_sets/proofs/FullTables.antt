@@ -22,13 +22,13 @@ use Rattle.isle_laws_closure.proofs.Closing.{closing_keeps}
 use Rattle.isle_laws_closure.proofs.built.Unfolding.{SourcesFirst, layer_same}
 use Rattle.isle_sets.specs.SiteTables.{IsAbsent, AddsSites, HasSources, HasNoRoom, AreFirst, ForWantOfRoom, LacksRoom}
 use Rattle.isle_sets.specs.Closings.{AreDemandsOf, EndsFull, IsNextDue, is_due, with_member, with_field_terms}
-use Rattle.isle_sets.specs.DemandsHeld.{are_equated}
+use Rattle.isle_sets.specs.SiteDemands.{are_equated}
 use Rattle.isle_sets.specs.SiteViews.{constraint_view}
 use Rattle.isle_sets.specs.declared.trie_again.Constraint as C
 use Rattle.isle_sets.specs.declared.demanded.Demanded.{Demanded}
-use Rattle.isle_sets.proofs.Rests.{rest_is}
+use Rattle.isle_sets.proofs.ListTails.{rest_is}
 use Rattle.isle_sets.proofs.ClosingSteps.{with_made, with_asked, without_class}
-use Rattle.isle_sets.proofs.ClosingTaken.{ClosedSoFar, JoinedSoFar, with_members, members_at_once, members_ascend, fields_at_once, sites_append, same_demands, one_step, due_next}
+use Rattle.isle_sets.proofs.ClosingClasses.{ClosedSoFar, JoinedSoFar, with_members, members_at_once, members_ascend, fields_at_once, sites_append, same_demands, one_step, due_next}
 use Rattle.isle_sets.proofs.SitesGrown.{not_there}
 
 -- a fault that is passed on

@@ -16,7 +16,7 @@ use Rattle.isle_laws_closure.proofs.Classes.{in_with_sites}
 use Rattle.isle_laws_closure.proofs.Closing.{OneEach, found_constraint, constraints_kept, from_constraints}
 use Rattle.isle_laws_closure.proofs.built.Unfolding.{SourcesFirst, unfolds}
 use Rattle.isle_types.specs.declared.ids.VariantId.{VariantId}
-use Rattle.isle_sets.specs.DemandsHeld.{constraint_held}
+use Rattle.isle_sets.specs.SiteDemands.{constraint_held}
 use Rattle.isle_sets.specs.Listings.{ascends, is_below_first, sites_of}
 use Rattle.isle_sets.specs.SiteViews.{constraint_views, site_view}
 use Rattle.isle_sets.specs.declared.trie_again.Constraint.{Constraint as Code}

@@ -9,7 +9,7 @@ use Rattle.isle_model.specs.sites.Sites.{Site, SiteTerm, unfold_site, field_term
 use Rattle.isle_model.specs.visits.Demands.{has_site, with_sites}
 use Rattle.isle_model.specs.sites.Closure.{Closed, constraint_of, field_equalities, merged_all}
 use Rattle.isle_model.specs.sites.RuleSets.{StandFor}
-use Rattle.isle_sets.specs.DemandsHeld.{constraint_held, are_equated, first_kept}
+use Rattle.isle_sets.specs.SiteDemands.{constraint_held, are_equated, first_kept}
 use Rattle.isle_base.specs.declared.visit_fault.VisitFault.{VisitFault}
 use Rattle.isle_sets.specs.SiteTables.{AreFirst, ForWantOfRoom}
 use Rattle.isle_sets.specs.SiteViews.{constraint_view}

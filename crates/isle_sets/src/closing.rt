@@ -4,7 +4,7 @@ ghost use Rattle.std.specs.Prelude.{◌≡◌, ◌<◌, ℕ, IsTrue, Some, false
 ghost use Rattle.isle_model.specs.sites.Sites.{SiteTerm, unfold_site};
 ghost use Rattle.isle_model.specs.sites.Closure.{Closed, ascending, class_at, closing, most_closing_steps, taken};
 ghost use Rattle.isle_sets.specs.Closings.{AreDemandsOf, AreFieldsOf, EndsFull, GoOn, IsNextDue, KeepsDue, SpeakOf, asked_each, is_due, is_due_with, with_field_terms, with_member};
-ghost use Rattle.isle_sets.specs.DemandsHeld.{constraint_held};
+ghost use Rattle.isle_sets.specs.SiteDemands.{constraint_held};
 ghost use Rattle.isle_sets.specs.SiteTables.{ForWantOfRoom, IsTable, table_sites};
 ghost use Rattle.isle_sets.specs.SiteViews.{constraint_view};
 

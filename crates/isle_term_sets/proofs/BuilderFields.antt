@@ -21,7 +21,7 @@ use Rattle.isle_term_sets.specs.VisitedSites.{built_sites, part_of, part_site, I
 use Rattle.isle_term_sets.specs.declared.builder_patterns.Parts.{Parts}
 use Rattle.isle_term_sets.specs.declared.builder_patterns.Parts.TheVariants as AllParts
 use Rattle.isle_term_sets.specs.declared.ruleset_builder.RuleSetBuilder.{RuleSetBuilder}
-use Rattle.isle_sets.proofs.ClosingTaken.{sites_append}
+use Rattle.isle_sets.proofs.ClosingClasses.{sites_append}
 use Rattle.isle_sets.proofs.FullTables.{first_with, want_weaker}
 use Rattle.isle_sets.proofs.SitesAdded.{same_all, weaker_ok}
 

@@ -19,7 +19,7 @@ use Rattle.isle_model.proofs.SameSites.{term_means}
 use Rattle.isle_model.proofs.SitesMade.{in_has}
 use Rattle.isle_laws_closure.proofs.Whole.{own_class}
 use Rattle.isle_laws_visits.proofs.Continued.{passed_after}
-use Rattle.isle_sets.specs.DemandsHeld.{constraint_held, are_equated, first_kept, IsConflict, equated_too}
+use Rattle.isle_sets.specs.SiteDemands.{constraint_held, are_equated, first_kept, IsConflict, equated_too}
 use Rattle.isle_sets.specs.SiteTables.{AreFirst, ForWantOfRoom, HasNoRoom, HasSources, IsTable, StandsFor, table_sites}
 use Rattle.isle_sets.specs.SiteViews.{constraint_view}
 use Rattle.isle_sets.specs.Closings.{AreDemandsOf, KeepsDue}
@@ -31,7 +31,7 @@ use Rattle.isle_sets.specs.declared.site_table.SiteTable.{SiteTable}
 use Rattle.isle_term_sets.specs.declared.ruleset_builder.RuleSetBuilder.{RuleSetBuilder}
 use Rattle.isle_sets.proofs.ClosingNumbers.{constraint_with}
 use Rattle.isle_sets.proofs.ClosingSteps.{with_made, with_asked, with_equal, grown, asked_more, equated_more}
-use Rattle.isle_sets.proofs.ClosingTaken.{merged_append, sites_append}
+use Rattle.isle_sets.proofs.ClosingClasses.{merged_append, sites_append}
 use Rattle.isle_sets.proofs.FullTables.{both_want, want_weaker, site_lacks}
 use Rattle.isle_sets.proofs.SitesAdded.{same_all}
 use Rattle.isle_term_sets.proofs.CallNumbers.{calls_met, next_numbered, none_numbered}

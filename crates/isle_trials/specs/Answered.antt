@@ -6,7 +6,7 @@ use Rattle.isle_model.specs.lists.Ranges.{reduced}
 use Rattle.isle_model.specs.lists.Tables.{TermEntry, TypeEntry}
 use Rattle.isle_model.specs.rules.Values.{Value, truth, atom, of_variant, of_struct, Values, no_value, value_and}
 use Rattle.isle_model.specs.rules.Meaning.{Content, one, parts, nothing, just, many, no_content, content_and, TotalMeaning}
-use Rattle.isle_calls.specs.Echoes.{as_written, constant_number, counted, extracted, made}
+use Rattle.isle_calls.specs.Echoes.{as_written, constant_number, impure_echo, extracted_echo, pure_echo}
 
 -- a value is withheld
 abbrev pub is_withheld : Value → Bool
@@ -42,20 +42,20 @@ in_place_of (just c) = nothing
 in_place_of (many cs) = many no_content
 
 -- an answer, but nothing or no answer where it is withheld
-abbrev pub answered : Content → Content
-answered c = if is_answer_withheld c then in_place_of c else c
+abbrev pub answer_given : Content → Content
+answer_given c = if is_answer_withheld c then in_place_of c else c
 
 -- the value of a constant of this type
-abbrev pub constant_of : List TypeEntry → Option ℕ → ℕ → Value
-constant_of types None name = atom 0 (reduced (slice_get types 0) (constant_number name))
-constant_of types (Some ty) name = atom ty (reduced (slice_get types ty) (constant_number name))
+abbrev pub constant_answer : List TypeEntry → Option ℕ → ℕ → Value
+constant_answer types None name = atom 0 (reduced (slice_get types 0) (constant_number name))
+constant_answer types (Some ty) name = atom ty (reduced (slice_get types ty) (constant_number name))
 
 -- what trials answer, by the types, those of the named constants, and the terms
 abbrev pub answers_of : List TypeEntry → (ℕ → Option ℕ) → List TermEntry → TotalMeaning
 answers_of types constant_types terms = record {
   literals = as_written;
-  constants = λ name. constant_of types (constant_types name) name;
-  extractors = λ t v. answered (extracted (slice_get terms t) v);
-  pures = λ t vs. answered (made (slice_get terms t) vs);
-  impures = λ t before. answered (counted (slice_get terms t) before);
+  constants = λ name. constant_answer types (constant_types name) name;
+  extractors = λ t v. answer_given (extracted_echo (slice_get terms t) v);
+  pures = λ t vs. answer_given (pure_echo (slice_get terms t) vs);
+  impures = λ t before. answer_given (impure_echo (slice_get terms t) before);
 }

@@ -1,7 +1,7 @@
 use Rattle.std.proofs.Common.{not, sym, ap, ◌∙◌}
 use Rattle.std.proofs.lemmas.Bool.{false≢true}
 use Rattle.isle_overlap.specs.Graphs.{neighbours_at}
-use Rattle.isle_overlap.proofs.Counted.{both_listed}
+use Rattle.isle_overlap.proofs.OverlapCounts.{both_listed}
 use Rattle.isle_overlap.proofs.overlap.add_both.Goals as goal
 
 pub returns-in_ok-add_other-2 : goal.returns-in_ok-add_other-2

@@ -10,10 +10,10 @@ use Rattle.isle_serialize.specs.PlaceViews.{set_in}
 use Rattle.isle_serialize.proofs.ArmSteps.{ArmsGrow, arms_start, fewer_left, asking_ordered, arms_more, arms_whole}
 use Rattle.isle_model.specs.sites.Sites.{sources_at}
 use Rattle.isle_serialize.specs.declared.around.Around.{Around}
-use Rattle.isle_serialize.proofs.InsideSteps.{emitted_inside, brought_inside, joined_inside}
+use Rattle.isle_serialize.proofs.BodySteps.{emitted_inside, brought_inside, joined_inside}
 use Rattle.isle_serialize.proofs.PlaceSteps.{covered_ordered, covered_step, fewer_others, block_more, block_whole, equal_fewer, equal_body, loop_fewer, loop_body, arm_fewer, pick_made}
 use Rattle.isle_serialize.proofs.TreeLaws.{block_seen, match_seen, arm_seen}
-use Rattle.isle_serialize.proofs.Untried.{untried}
+use Rattle.isle_serialize.proofs.UntriedTests.{untried}
 use Rattle.isle_serialize.proofs.best.+grow.Goals as goal
 
 -- blocks

@@ -5,7 +5,7 @@ use Rattle.isle_model.specs.sites.Sites.{unfold_site, field_terms}
 use Rattle.isle_sets.specs.Closings.{AreFieldsOf, EndsFull, GoOn, with_field_terms, with_member}
 use Rattle.isle_sets.specs.SiteTables.{table_sites}
 use Rattle.isle_sets.specs.SiteViews.{constraint_view}
-use Rattle.isle_sets.proofs.ClosingTaken.{JoinedSoFar, joined_first, joined_next, joined_last, rest_below, same_first}
+use Rattle.isle_sets.proofs.ClosingClasses.{JoinedSoFar, joined_first, joined_next, joined_last, rest_below, same_first}
 use Rattle.isle_sets.proofs.FullTables.{passed_on, member_full, least_full, members_full}
 use Rattle.isle_sets.proofs.demanded.Demanded.join_fields.Goals as goal
 

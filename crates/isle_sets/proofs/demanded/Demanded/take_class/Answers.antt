@@ -3,14 +3,14 @@ use Rattle.std.proofs.lemmas.Bool.{and_parts}
 use Rattle.std.proofs.lemmas.Result.{on_ok_weaker, IfErr-weaker}
 use Rattle.isle_model.specs.sites.Sites.{unfold_site}
 use Rattle.isle_model.specs.sites.Closure.{ascending, class_at, taken}
-use Rattle.isle_sets.specs.DemandsHeld.{are_equated, constraint_held}
+use Rattle.isle_sets.specs.SiteDemands.{are_equated, constraint_held}
 use Rattle.isle_sets.specs.Closings.{EndsFull, GoOn, asked_each, with_field_terms}
 use Rattle.isle_sets.specs.SiteTables.{table_sites}
 use Rattle.isle_sets.specs.SiteViews.{constraint_view}
 use Rattle.isle_sets.specs.declared.demanded.Demanded.{Demanded}
 use Rattle.isle_sets.proofs.ClosingNumbers.{all_from_below}
-use Rattle.isle_sets.proofs.ClosingTaken.{members_below, Asked, class_asked, class_taken}
-use Rattle.isle_sets.proofs.DueKept.{due_removed}
+use Rattle.isle_sets.proofs.ClosingClasses.{members_below, Asked, class_asked, class_taken}
+use Rattle.isle_sets.proofs.DueSites.{due_removed}
 use Rattle.isle_sets.proofs.FullTables.{class_full}
 use Rattle.isle_sets.proofs.demanded.Demanded.take_class.Goals as goal
 
