@@ -36,7 +36,7 @@ use Rattle.isle_rules.specs.declared.term_env.TermEnv.{TermEnv}
 use Rattle.isle_sets.specs.declared.trie_again.RuleSet.{RuleSet}
 use Rattle.isle_term_sets.specs.AddedRules.{HasTable, MayAddRule, SetGoesOn, report_views, set_so_far}
 use Rattle.isle_builder.specs.SetsSoFar.{MayGoOn, StandAfter, term_set_at, sets_so_far}
-use Rattle.isle_builder.specs.Built.{ShowsElaborated, WereBuilt, term_set_views}
+use Rattle.isle_builder.specs.BuiltSets.{ShowsElaborated, WereBuilt, term_set_views}
 use Rattle.isle_term_sets.specs.declared.term_sets.TermSet.{TermSet}
 use Rattle.isle_builder.proofs.TermsAscending.{looked_up, terms_listed}
 

@@ -13,7 +13,7 @@ ghost use Rattle.isle_laws_closure.specs.RuleByRule.{or_nothing_built};
 ghost use Rattle.isle_typed.specs.RuleViews.{rule_view};
 ghost use Rattle.isle_term_sets.specs.AddedRules.{HasTable, set_so_far};
 ghost use Rattle.isle_builder.specs.SetsSoFar.{AreTables, MayGoOn, StandAfter, term_set_at, sets_so_far};
-ghost use Rattle.isle_builder.specs.Built.{IsOfElaborated, ShowsElaborated, WereBuilt, term_set_views};
+ghost use Rattle.isle_builder.specs.BuiltSets.{IsOfElaborated, ShowsElaborated, WereBuilt, term_set_views};
 
 use isle_base::syntax::Error;
 use isle_laws_matching::built_sets_are_answered;

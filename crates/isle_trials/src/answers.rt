@@ -7,7 +7,7 @@ ghost use Rattle.isle_run.specs.ValueViews.{content_view, content_views, value_v
 ghost use Rattle.isle_types.specs.Envs.{constant_at};
 ghost use Rattle.isle_types.specs.TypeViews.{type_views};
 ghost use Rattle.isle_terms.specs.TermViews.{term_views};
-ghost use Rattle.isle_trials.specs.Answered.{answer_given, answers_of, constant_answer, gives_withheld, in_place_of, is_answer_withheld, is_withheld};
+ghost use Rattle.isle_trials.specs.TrialAnswers.{answer_given, answers_of, constant_answer, gives_withheld, in_place_of, is_answer_withheld, is_withheld};
 
 use isle_calls::echo::{Echo, constant_number};
 use isle_reports::checks::literal_number;

@@ -2,7 +2,7 @@
 
 use crate::answers::Answers;
 use crate::calls::{Called, calls_of};
-use crate::shown::push_composed;
+use crate::value_texts::push_composed;
 use crate::trial::Trial;
 use cranelift_isle::lower::LoweredTerm;
 use isle_calls::outcomes::outcome_text;

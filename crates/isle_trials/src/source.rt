@@ -4,7 +4,7 @@ use crate::calls::{Called, calls_of};
 use crate::context::push_context;
 use crate::given::push_given;
 use crate::rust_names::{push_part, push_types, push_values};
-use crate::shown::push_showing;
+use crate::value_texts::push_showing;
 use crate::trial::Trial;
 use cranelift_isle::sema::Term;
 use cranelift_isle::syntax::Files;
