@@ -18,7 +18,6 @@ use isle_typed::Pattern;
 use isle_types::{TermId, TypeId, VarId, VariantId};
 use std::alloc::AllocError;
 
-// The fields of a value that is this variant.
 fn variant_parts(
     ty: TypeId,
     variant: VariantId,
@@ -38,7 +37,6 @@ fn variant_parts(
     }
 }
 
-// The fields of a value that is this struct.
 fn struct_parts(ty: TypeId, value: &Value) -> Result<Option<Vec<Value>>, AllocError>
     ensures { IfOk result (λ o. (f : _) (t : _) → option_map (λ v. value_views v.items) o ≡ parts_seen (a_struct ty.0) f t (value_view value.now)) }
 {

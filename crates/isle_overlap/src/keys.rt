@@ -50,7 +50,6 @@ impl Asked {
         Ok(())
     }
 
-    // Counts what a rule asks.
     fn count_rule(&mut self, rule: &Rule) -> Result<(), AllocError> {
         for (site, constraint) in rule.constraints() {
             self.count(*site, *constraint)?;
@@ -151,7 +150,6 @@ fn first_of(firsts: &BTreeMap<Option<usize>, usize>, key: Option<usize>, end: us
     }
 }
 
-// As many ends.
 fn ends(alloc: Global, count: usize) -> Result<Vec<usize>, AllocError>
     ensures { IfOk result (λ v. length v.items ≡ count) }
 {

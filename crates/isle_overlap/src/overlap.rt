@@ -114,7 +114,6 @@ fn masks(mask: &Rule, rule: &Rule) -> bool
         && mask.total_constraints() <= rule.total_constraints()
 }
 
-// Adds two rules where they overlap wrongly.
 fn add_wrong(left: &Rule, right: &Rule, wrong: &mut Vec<(Pos, Pos)>) -> Result<(), AllocError>
     ensures { OnOk result (pair_views wrong.new.items ≡ pair_views wrong.old.items ++ wrong_pair (set_rule_view left.now) (set_rule_view right.now)) }
 {
@@ -191,7 +190,6 @@ struct Ahead {
 }
 
 impl Ahead {
-    // The nearer one of the two.
     fn nearer(&self) -> usize
         ensures { result ≡ nearer self.now }
     {
@@ -289,7 +287,6 @@ fn check_pairs(
     Ok(())
 }
 
-// As many empty lists.
 fn empty_lists(alloc: Global, count: usize) -> Result<Vec<Vec<Pos>>, AllocError>
     ensures { IfOk result (λ v. (vec_len v ≡ count) × AreGrouped v.items []) }
 {
@@ -420,7 +417,6 @@ fn add_to_both(counts: &mut BTreeMap<Pos, usize>, first: Pos, second: Pos) -> Re
     Ok(())
 }
 
-// How many overlaps each rule has.
 fn counts_of(alloc: Global, wrong: &[(Pos, Pos)]) -> Result<BTreeMap<Pos, usize>, AllocError>
     requires { length wrong.now < 2 ^ 64 }
     ensures { IfOk result (λ m. (q : Pos) → unreported_at m q ≡ degree (pair_views wrong.now) (position q)) }
@@ -453,7 +449,6 @@ fn add_both(others: &mut BTreeMap<Pos, Vec<Pos>>, first: Pos, second: Pos) -> Re
     Ok(())
 }
 
-// Which rules each rule overlaps.
 fn others_of(alloc: Global, wrong: &[(Pos, Pos)]) -> Result<BTreeMap<Pos, Vec<Pos>>, AllocError>
     ensures { IfOk result (λ m. (q : Pos) → positions (neighbours_at m q) ≡ neighbours (pair_views wrong.now) (position q)) }
 {
@@ -473,7 +468,6 @@ fn is_reported_before(counts: &BTreeMap<Pos, usize>, first: Pos, second: Pos) ->
     other < mine || mine == other && second < first
 }
 
-// Of two rules the one that is reported first.
 fn first_of_two(counts: &BTreeMap<Pos, usize>, first: Pos, second: Pos) -> Pos
     ensures first { counts_before counts.now first result ≡ false }
     ensures others { (q : Pos) → counts_before counts.now q second ≡ false → counts_before counts.now q result ≡ false }
@@ -555,7 +549,6 @@ fn take_away(counts: &mut BTreeMap<Pos, usize>, found: &[Pos]) -> Result<(), All
     Ok(())
 }
 
-// The error of a rule that overlaps others.
 fn overlap_error(alloc: Global, place: Pos, others: &[Pos]) -> Result<Error, AllocError>
     ensures says { IfOk result (λ e. error_view e ≡ overlapping (position place ∷ positions others.now)) }
     ensures single { IfOk result HasSingleSpans }

@@ -77,7 +77,6 @@ pub fn rules_named(
     Ok(named)
 }
 
-// The rules at each of these positions.
 fn rules_at_each(
     alloc: Global,
     termenv: &TermEnv,
@@ -92,7 +91,6 @@ fn rules_at_each(
     Ok(named)
 }
 
-// Adds the rules at a position.
 fn push_rules_at(found: &mut Vec<RuleId>, termenv: &TermEnv, pos: Pos) -> Result<(), AllocError>
     ensures { OnOk result (map (λ r. r.0) found.new.items ≡ map (λ r. r.0) found.old.items ++ rule_numbers_at (rule_views termenv.now.rules.items) (position pos)) }
 {

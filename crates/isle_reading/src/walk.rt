@@ -64,7 +64,6 @@ pub fn steps<'a>(alloc: Global, block: &'a Block) -> Result<Vec<Visit<'a>>, Allo
     Ok(out)
 }
 
-// Adds the steps of a block.
 #[cycle(walk)]
 fn push_block<'a>(
     alloc: Global,
@@ -81,7 +80,6 @@ fn push_block<'a>(
     Ok(())
 }
 
-// Adds the steps inside a step.
 #[cycle(walk)]
 fn push_inside<'a>(
     alloc: Global,
@@ -110,7 +108,6 @@ fn push_inside<'a>(
     }
 }
 
-// Adds the steps of an arm.
 #[cycle(walk)]
 fn push_arm<'a>(
     alloc: Global,
@@ -129,7 +126,6 @@ fn push_arm<'a>(
     push_block(alloc, out, &inner, &arm.body)
 }
 
-// Adds a step.
 fn push_visit<'a>(
     alloc: Global,
     out: &mut Vec<Visit<'a>>,

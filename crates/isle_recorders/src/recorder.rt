@@ -44,7 +44,6 @@ pub struct Recorder {
     stops_at: usize,
 }
 
-// The numbers of types.
 fn numbers(alloc: Global, tys: &[TypeId]) -> Result<Vec<usize>, AllocError>
     ensures { IfOk result (λ v. v.items ≡ type_numbers tys.now) }
 {

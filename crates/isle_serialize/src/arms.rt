@@ -96,7 +96,6 @@ pub fn asked_in_turn(
     Ok(turns)
 }
 
-// Whether one asks that.
 fn asks(asked: &Asked, constraint: &Constraint) -> bool
     ensures { result ≡ asks_that (constraint_view constraint.now) asked.now }
 {

@@ -82,7 +82,6 @@ pub fn all_listed(
     Ok(listed)
 }
 
-// Whether a site is written in place.
 fn stands_in_place(binding: &Binding) -> bool
     ensures { result ≡ is_in_place (Some (site_view binding.now)) }
 {

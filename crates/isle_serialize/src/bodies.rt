@@ -14,7 +14,6 @@ use crate::small_set::SmallSet;
 use isle_sets::trie_again::BindingId;
 use std::alloc::{AllocError, Global};
 
-// One list after another.
 fn chained(
     alloc: Global,
     first: &[BindingId],
@@ -28,7 +27,6 @@ fn chained(
     Ok(sites)
 }
 
-// Those of these sites that aren't in a set.
 fn not_in(
     alloc: Global,
     sites: &[BindingId],
@@ -43,7 +41,6 @@ fn not_in(
     Ok(left)
 }
 
-// The sites of some fields.
 fn field_sites(alloc: Global, fields: &[Option<BindingId>]) -> Result<Vec<BindingId>, AllocError>
     ensures { IfOk result (λ v. v.items ≡ Places.field_sites fields.now) }
 {

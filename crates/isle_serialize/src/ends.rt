@@ -55,7 +55,6 @@ fn return_from_none() -> ControlFlow
     }
 }
 
-// The return of the rule of a number.
 #[tactic(auto, using(crate::proofs::TreeLaws::tree_steps))]
 fn return_of(set: &RuleSet, number: usize) -> ControlFlow
     ensures { check_view result ≡ Trees.return_of (slice_get (set_view set.now).rules number) }

@@ -58,7 +58,6 @@ fn brought_from(binding: &Binding) -> Option<BindingId>
     }
 }
 
-// As many empty lists.
 fn empty_lists(alloc: Global, count: usize) -> Result<Vec<Vec<BindingId>>, AllocError>
     ensures count { IfOk result (λ v. length v.items ≡ count) }
     ensures empty { IfOk result (λ v. (s : ℕ) → list_at v.items s ≡ []) }
@@ -146,7 +145,6 @@ fn is_field(binding: &Binding, of: BindingId, constraint: &Constraint, number: u
     }
 }
 
-// How many fields a constraint brings.
 fn field_count(constraint: &Constraint) -> usize
     ensures { result ≡ FieldTests.field_count (constraint_view constraint.now) }
 {

@@ -114,7 +114,6 @@ fn is_open_pair(
     is_at_hand(alloc, place, b)
 }
 
-// Whether a test is open.
 fn is_open(alloc: Global, place: &Place<'_>, test: &Test) -> Result<bool, AllocError>
     ensures { IfOk result (λ x. x ≡ Tests.is_open (set_at place.now) (around_at place.now) (test_view test.now)) }
 {
@@ -124,14 +123,12 @@ fn is_open(alloc: Global, place: &Place<'_>, test: &Test) -> Result<bool, AllocE
     }
 }
 
-// Whether a test is one of these.
 fn is_one_of(tests: &[Test], test: &Test) -> bool
     ensures { result ≡ true → Contains tests.now test.now }
 {
     tests.contains(test)
 }
 
-// Whether a test is among the earlier ones of these.
 #[tactic(auto, using(crate::proofs::OpenTestLists::in_first))]
 fn is_listed(tests: &[Test], earlier: usize, test: &Test) -> bool
     ensures { result ≡ true → Contains tests.now test.now }
@@ -178,7 +175,6 @@ fn add_matches(
     Ok(())
 }
 
-// Adds the equalities of a site and others.
 fn add_pairs_with(
     alloc: Global,
     place: &Place<'_>,
@@ -212,7 +208,6 @@ fn add_pairs(
     Ok(())
 }
 
-// Adds the equalities that a rule demands.
 fn add_equalities(
     alloc: Global,
     place: &Place<'_>,
@@ -269,7 +264,6 @@ fn some_goes_over(set: &RuleSet, numbers: &[usize]) -> bool
     false
 }
 
-// Whether one of these rules needs a test.
 fn some_needs(set: &RuleSet, numbers: &[usize], test: &Test) -> bool
     ensures { result ≡ list_any (Tests.needs_at (set_view set.now).rules (test_view test.now)) numbers.now }
 {
@@ -297,7 +291,6 @@ fn add_loop(
     Ok(())
 }
 
-// Adds the loops that some rules need.
 fn add_loops(
     alloc: Global,
     place: &Place<'_>,

@@ -33,7 +33,6 @@ pub struct NextTest {
     pub emitted: Vec<BindingId>,
 }
 
-// The sites that a step of a test uses.
 fn sites_of(alloc: Global, test: &Test) -> Result<Vec<BindingId>, AllocError>
     ensures { IfOk result (λ v. v.items ≡ test_sites (test_view test.now)) }
 {

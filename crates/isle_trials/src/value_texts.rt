@@ -65,7 +65,6 @@ fn push_constants(out: &mut String, lowered: &Lowered, ty: TypeId) -> Result<(),
     Ok(())
 }
 
-// Adds an arm for each variant.
 fn push_arms(
     alloc: Global,
     out: &mut String,
