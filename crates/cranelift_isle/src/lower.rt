@@ -152,6 +152,7 @@ pub fn lower(alloc: Global, defs: &[Def], expand: bool) -> Result<Lowered, Fault
     })
 }
 
+// The tree of each set.
 fn trees_of(alloc: Global, sets: Vec<(TermId, RuleSet)>) -> Result<Vec<LoweredTerm>, AllocError>
     requires built { All (λ b. IsBuiltForSome b.1) (term_set_views sets.items) }
     ensures same { IfOk result (λ ts. map set_of_term (lowered_views ts.items) ≡ term_set_views sets.items) }

@@ -13,8 +13,8 @@ ghost use Rattle.isle_serialize.specs.Turns as Turns;
 ghost use Rattle.isle_serialize.specs.Turns.{asked_numbers, asks_that, AreInTurn, AreTurns, IsNextArmOf};
 
 use crate::around::Around;
-use crate::fields::fields_of;
 use crate::bodies::in_arm;
+use crate::fields::fields_of;
 use crate::place::IndexedSet;
 use isle_sets::trie_again::{BindingId, Constraint, RuleSet};
 use std::alloc::{AllocError, Global};

@@ -10,8 +10,8 @@ ghost use Rattle.isle_serialize.specs.TestViews.{test_view, AreUseful, IsChosen}
 
 use crate::around::{Around, known_of};
 use crate::binds::{bind_order, sources_of};
-use crate::fields::iterator_of;
 use crate::bodies::emitted_after;
+use crate::fields::iterator_of;
 use crate::open_tests::useful_tests;
 use crate::place::{IndexedSet, Place};
 use crate::tests::{Test, greatest_of, parted};
