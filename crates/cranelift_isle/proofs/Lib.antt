@@ -1,7 +1,7 @@
 pub mod TreesSoFar
 pub mod SharedTrees
-pub mod Lowered
-pub mod Checked
+pub mod LoweredAnswers
+pub mod CheckedSets
 pub mod OneAnswer
 pub mod NamedErrors
 pub mod NamedPlaces

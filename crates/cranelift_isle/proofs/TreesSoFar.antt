@@ -1,6 +1,6 @@
 -- The trees of the first of several sets.
 use Rattle.std.proofs.Common.{◌≡◌, List, [], ◌∷◌, ◌++◌, map, refl, sym, ap, ◌∙◌}
-use Rattle.std.proofs.lemmas.List.{map-append, append-nil}
+use Rattle.std.proofs.lemmas.List.{map-append}
 
 append_one : {X : Type 0} (xs : List X) (x : X) (ys : List X) → (xs ++ x ∷ []) ++ ys ≡ xs ++ x ∷ ys
 append_one [] x ys = refl
@@ -17,6 +17,3 @@ module _ {X Y Z : Type 0} (f : X → Z) (g : Y → Z) where
       ∙ ap (λ z. map f done ++ z ∷ map g rest) s
       ∙ sym (ap (λ k. map f done ++ map g k) l)
       ∙ e
-
-pub nothing_left : {X Y Z : Type 0} (f : X → Z) (g : Y → Z) (done : List X) (left : List Y) (whole : List Z) → left ≡ [] → map f done ++ map g left ≡ whole → map f done ≡ whole
-nothing_left f g done left whole n e = sym (append-nil (map f done)) ∙ ap (λ k. map f done ++ map g k) (sym n) ∙ e

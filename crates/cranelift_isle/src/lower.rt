@@ -1,4 +1,4 @@
-//! From definitions to trees of tests, in one call.
+//! One call from definitions to trees of tests.
 
 ghost use Rattle.std.specs.Prelude.{◌≡◌, List, map, All, IfOk};
 ghost use Rattle.isle_base.specs.Answers.{Answers, OnErrors};
@@ -10,7 +10,7 @@ ghost use Rattle.isle_laws_trees.specs.NoLimits.{PassedInLowering, PassNoLimit};
 ghost use Rattle.isle_laws_trees.specs.OneAnswer.{AreCheckErrors};
 ghost use Rattle.isle_laws_trees.specs.OneTree.{IsOnlyBest};
 ghost use Rattle.isle_base.specs.ErrorViews.{error_views};
-ghost use Rattle.isle_builder.specs.Built.{term_set_views};
+ghost use Rattle.isle_builder.specs.BuiltSets.{term_set_views};
 ghost use Rattle.isle_sets.specs.SiteViews.{set_view};
 ghost use Rattle.isle_serialize.specs.TreeViews.{tree_view};
 ghost use Rattle.cranelift_isle.specs.Environments.{BreaksWhereRefused, NamesLackedLimits, TellsOfEach};
@@ -30,13 +30,13 @@ use isle_sets::trie_again::RuleSet;
 use isle_types::{TermId, TypeEnv};
 use std::alloc::{AllocError, Global};
 
-/// A term with rules: its rule set, and the tree of tests that takes one of the rules.
+/// A term with rules: its rule set, and the tree of tests that picks one of the rules.
 pub struct LoweredTerm {
-    /// The term, a place in `TermEnv::terms`.
+    /// The term: an index into `TermEnv::terms`.
     pub id: TermId,
-    /// Its rules by their demands.
+    /// Its rules, each with what it demands of the sites.
     pub rules: RuleSet,
-    /// The tree. Its sites are those of `rules`.
+    /// The tree. It uses the sites of `rules`.
     pub block: Block,
 }
 
@@ -50,13 +50,13 @@ impl Drop for LoweredTerm {
     }
 }
 
-/// What a list of definitions becomes.
+/// The result of lowering a list of definitions.
 pub struct Lowered {
     /// The names and types.
     pub tyenv: TypeEnv,
     /// The terms and the typed rules.
     pub termenv: TermEnv,
-    /// Each term with rules, once, ascending by its number.
+    /// One entry for each term with rules, sorted by `id`.
     pub terms: Vec<LoweredTerm>,
 }
 
@@ -70,28 +70,32 @@ impl Drop for Lowered {
     }
 }
 
-/// The trees of all terms with rules. The whole way: types and terms, typed rules, rule sets, trees.
+/// Makes the trees of all terms with rules. It reads types and terms, types the rules, builds rule sets and makes a tree of
+/// each set.
 ///
-/// `expand` says whether uses of internal extractors are replaced by their templates. The upstream crate leaves the
-/// chaining of these passes to its callers.
+/// `expand` says whether each use of an internal extractor is replaced by its template. The upstream crate has a function
+/// for each pass, and its callers chain them.
 ///
 /// # Errors
 ///
-/// `Fault::Errors` has those of the first pass that refuses the definitions: of `TypeEnv::from_ast` (type errors); of
-/// `TermEnv::from_ast` (type errors, and limits on expansions); or of `check` (rules that can't match, limits on what a
-/// rule makes, overlaps and shadows). Each rule that lacks nothing but the limits on expansions is named with one of these.
-/// `Fault::Memory` where memory is refused.
+/// `Fault::Errors` has the errors of the first pass that refuses the definitions:
+/// - `TypeEnv::from_ast`: type errors.
+/// - `TermEnv::from_ast`: type errors, and limits on expansions. If the types are valid, the errors name each rule that
+///   fails only by these limits.
+/// - `check`: rules that can't match, limits on what a rule makes, overlaps and shadows.
+///
+/// `Fault::Memory` says that an allocation failed.
 pub fn lower(alloc: Global, defs: &[Def], expand: bool) -> Result<Lowered, Fault>
-    // Ok exactly where the definitions are accepted, and then their environments, rule sets and trees
+    // Ok exactly if the definitions are accepted; it then has their environments, rule sets and trees
     ensures accepted { Answers result (AreAccepted (definition_views defs.now) expand) (IsLowered (definition_views defs.now) expand) }
 
-    // each tree chooses as a test of every source rule by priority would
+    // each tree picks the rule that trying every source rule by priority would pick
     ensures chosen { IfOk result (λ l. OfAccepted (definition_views defs.now) expand (ChooseAsSource (lowered_views l.terms.items))) }
 
-    // each tree is a best tree of its set: nowhere would an open test cover more rules than the test made
+    // each tree is a best tree of its set: at no place does an open test cover more rules than the test that is made
     ensures shared { IfOk result (λ l. All (λ t. SharesTests t.set t.tree) (lowered_views l.terms.items)) }
 
-    // in a multi term each tree collects the bag of the rules' results
+    // the tree of a multi term collects the bag of the rules' results
     ensures collected { IfOk result (λ l. OfAccepted (definition_views defs.now) expand (CollectBags (lowered_views l.terms.items))) }
 
     // each tree binds sites before it uses them
@@ -100,7 +104,7 @@ pub fn lower(alloc: Global, defs: &[Def], expand: bool) -> Result<Lowered, Fault
     // each tree is the only best tree of its set
     ensures unique { IfOk result (λ l. All (λ t. IsOnlyBest t.set t.tree) (lowered_views l.terms.items)) }
 
-    // what is accepted passes none of the six limits
+    // accepted definitions pass none of the six limits
     ensures within_limits { IfOk result (λ l. PassNoLimit (definition_views defs.now) expand) }
 
     // each rule of a set asks, at the set's sites, all that follows from what its source rule demands, and nothing else
@@ -109,25 +113,25 @@ pub fn lower(alloc: Global, defs: &[Def], expand: bool) -> Result<Lowered, Fault
     // so do the closed demands of each term's rules
     ensures demands { IfOk result (λ l. OfAccepted (definition_views defs.now) expand (DemandWhole (lowered_views l.terms.items))) }
 
-    // errors say by which pass the definitions are refused, and why
+    // the errors say which pass refuses the definitions, and why
     ensures refused { OnErrors result (λ es. RefusedBy (definition_views defs.now) expand (error_views es)) }
 
-    // where definitions can't be read, the first error stands where a condition is broken
+    // if definitions can't be read, the first error is at a place where a condition is broken
     ensures breach { OnErrors result (λ es. BreaksWhereRefused (definition_views defs.now) expand es) }
 
-    // which errors types, constants, converters and the typing of rules have; of the others, of which group the first is
+    // all errors of types, constants, converters and the typing of rules; of the other errors, the group of the first
     ensures told { OnErrors result (λ es. TellsOfEach (definition_views defs.now) expand es) }
 
-    // where the types are valid, the errors are exactly those of the check, in order, if each rule has a typed rule
+    // if the types are valid and each rule has a typed rule, the errors are exactly those of the check, in order
     ensures exact { OnErrors result (λ es. AreCheckErrors (definition_views defs.now) expand (error_views es)) }
 
-    // where the types are valid, a rule that lacks nothing but the limits on expansions is named
+    // if the types are valid, the errors name each rule that fails only by the limits on expansions
     ensures named { OnErrors result (λ es. NamesLackedLimits (definition_views defs.now) expand (error_views es)) }
 
-    // an error names a limit only where a rule passes it
+    // an error names a limit only if a rule passes it
     ensures limits { OnErrors result (λ es. NamesOnlyPassed (PassedInLowering (definition_views defs.now) expand) (error_views es)) }
 
-    // an error names only positions that occur in the definitions, and each of its spans is that of one position
+    // an error names only positions that occur in the definitions, and each of its spans is the span of one position
     ensures places { OnErrors result (λ es. All (ErrorStandsAt (positions_of (definition_views defs.now))) es) }
 {
     // laws, without code: the best trees of accepted definitions keep the headline, and no set has two; accepted definitions
@@ -163,7 +167,6 @@ fn trees_of(alloc: Global, sets: Vec<(TermId, RuleSet)>) -> Result<Vec<LoweredTe
     Ok(terms)
 }
 
-// The tree of a set.
 fn tree_of(alloc: Global, set: &RuleSet) -> Result<Block, AllocError>
     requires built { IsBuiltForSome (set_view set.now) }
     ensures shared { IfOk result (λ block. SharesTests (set_view set.now) (tree_view block)) }
@@ -175,12 +178,11 @@ fn tree_of(alloc: Global, set: &RuleSet) -> Result<Block, AllocError>
     serialize(alloc, set)
 }
 
-/// All that meets what `lower` promises of the same definitions and the same choice to expand is one answer: it shows
+/// Two answers that meet what `lower` promises of the same definitions, with the same `expand`, are one answer: they show
 /// equal environments, and each term has the same sites, rules that show the same and the same tree.
 ///
-/// A law, a function without code. A function that calls it may cite the clause in its proof, as
-/// `c.lowering_is_a_function.ensures`: of two answers that meet the clause `accepted` of `lower`, as `IsLowered`, it gives that
-/// they are one, `AreOneAnswer`.
+/// This function is a law and has no code. A caller may cite its clause in a proof, as `c.lowering_is_a_function.ensures`.
+/// If two answers meet the clause `accepted` of `lower`, which is `IsLowered`, it gives `AreOneAnswer` for them.
 pub fn lowering_is_a_function()
     ensures { LoweringIsAFunction }
 {}

@@ -124,7 +124,6 @@ fn push_answer(
     }
 }
 
-// Adds a line.
 fn push_line(out: &mut String, line: &str) -> Result<(), AllocError> {
     out.push_str(line)?;
     out.push('\n')

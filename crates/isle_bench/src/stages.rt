@@ -1,6 +1,6 @@
 //! Lists at the stages from definitions to trees. What a stage was made of is kept beside it.
 ghost use Rattle.isle_base.specs.SyntaxViews.{definition_views};
-ghost use Rattle.isle_builder.specs.Built.{IsOfElaborated};
+ghost use Rattle.isle_builder.specs.BuiltSets.{IsOfElaborated};
 ghost use Rattle.isle_model.specs.claims.Environments.{AreTypesOf};
 ghost use Rattle.isle_types.specs.EnvViews.{environment_view};
 
@@ -55,7 +55,7 @@ pub struct ListWithTrees {
 
 impl Model for ListWithRules {
     ghost use Rattle.std.specs.Prelude.{ℕ, length};
-    ghost use Rattle.isle_builder.specs.Built.{IsOfElaborated};
+    ghost use Rattle.isle_builder.specs.BuiltSets.{IsOfElaborated};
 
     ghost Value = { ℕ };
 

@@ -35,14 +35,14 @@ use Rattle.isle_typed.specs.declared.rules.Rule.{Rule}
 use Rattle.isle_rules.specs.declared.term_env.TermEnv.{TermEnv}
 use Rattle.isle_sets.specs.declared.trie_again.RuleSet.{RuleSet}
 use Rattle.isle_term_sets.specs.AddedRules.{HasTable, MayAddRule, SetGoesOn, report_views, set_so_far}
-use Rattle.isle_builder.specs.SetsSoFar.{MayGoOn, StandAfter, set_at, sets_so_far}
-use Rattle.isle_builder.specs.Built.{ShowsElaborated, WereBuilt, term_set_views}
+use Rattle.isle_builder.specs.SetsSoFar.{MayGoOn, StandAfter, term_set_at, sets_so_far}
+use Rattle.isle_builder.specs.BuiltSets.{ShowsElaborated, WereBuilt, term_set_views}
 use Rattle.isle_term_sets.specs.declared.term_sets.TermSet.{TermSet}
 use Rattle.isle_builder.proofs.TermsAscending.{looked_up, terms_listed}
 
 -- 1. one more rule
 module _ (known : List TermEntry) (p : Program) (done : List TypedRule) (r : TypedRule) (sets : BTreeMap ℕ TermSet) (errors : List Error) (h : MayGoOn known r p done sets errors)
-    (taken : TermSet) (start : set_so_far taken ≡ or_nothing_built (set_at sets r.root_term)) where
+    (taken : TermSet) (start : set_so_far taken ≡ or_nothing_built (term_set_at sets r.root_term)) where
   -- the set of its term may go past it
   pub may_add : HasTable taken → MayAddRule known r taken.builder p (sites_after_rules p [] (of_one_term r.root_term done))
   may_add table = record {
@@ -50,7 +50,7 @@ module _ (known : List TermEntry) (p : Program) (done : List TypedRule) (r : Typ
     formed = h.formed;
     table = table;
     once = once_after p [] (of_one_term r.root_term done) distinct_nil;
-    stand = subst (λ (s : SiteSet). StandFor s.sites (sites_after_rules p [] (of_one_term r.root_term done))) (sym start) (stands p done (set_at sets) h.stand.reports h.stand.built r.root_term).sites;
+    stand = subst (λ (s : SiteSet). StandFor s.sites (sites_after_rules p [] (of_one_term r.root_term done))) (sym start) (stands p done (term_set_at sets) h.stand.reports h.stand.built r.root_term).sites;
   }
 
   -- and then the sets stand after it
@@ -59,7 +59,7 @@ module _ (known : List TermEntry) (p : Program) (done : List TypedRule) (r : Typ
       → StandAfter p (done ++ r ∷ []) new more
   goes_on_next mid new set more left g at others = record {
     reports = h.stand.reports ++ g.said;
-    built = building_goes_on_lem p done r (set_at sets) (set_at new) h.stand.reports g.said h.stand.built (record {
+    built = building_goes_on_lem p done r (term_set_at sets) (term_set_at new) h.stand.reports g.said h.stand.built (record {
       set = set_so_far set;
       here = ap (option_map set_so_far) at;
       others = λ t n. ap (option_map set_so_far) (others t n ∙ left t n);
@@ -114,7 +114,7 @@ module _ (e : TypesRead) (defs : List Definition) (expand : Bool) (rules : Typed
   all_built typed answered sets errors listed ordered same s =
       let views = sets_so_far sets.entries in
       let known = well_typed_rules_have_terms_lem whole (typed e defs expand rules h) in
-      let built = building_ends_lem whole (set_at sets) views s.reports s.built (looked_up sets ordered) in
+      let built = building_ends_lem whole (term_set_at sets) views s.reports s.built (looked_up sets ordered) in
       record {
         terms = sym shown.terms;
         known = known;

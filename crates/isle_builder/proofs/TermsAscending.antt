@@ -16,7 +16,7 @@ use Rattle.isle_model.proofs.Members.{all_members, get_from_member}
 use Rattle.isle_laws_closure.specs.RuleByRule.{AreLookedUp}
 use Rattle.isle_laws_closure.specs.ReportLaws.{RulesHaveTerms}
 use Rattle.isle_term_sets.specs.AddedRules.{set_so_far}
-use Rattle.isle_builder.specs.SetsSoFar.{set_at}
+use Rattle.isle_builder.specs.SetsSoFar.{term_set_at}
 use Rattle.isle_term_sets.specs.declared.term_sets.TermSet.{TermSet}
 use Rattle.isle_model.proofs.Numbers.{tied}
 
@@ -74,16 +74,16 @@ module _ (sets : BTreeMap ℕ TermSet) (ordered : IsOrdered nat_cmp sets) where
   abbrev listed : List (ℕ × SiteSet)
   listed = map (λ e. (e.0, set_so_far e.1)) sets.entries
 
-  pub looked_up : AreLookedUp (set_at sets) listed
+  pub looked_up : AreLookedUp (term_set_at sets) listed
   looked_up =
-      all_members (λ (s : ℕ × SiteSet). set_at sets s.0 ≡ Some s.1) listed (λ s i.
+      all_members (λ (s : ℕ × SiteSet). term_set_at sets s.0 ≡ Some s.1) listed (λ s i.
       let g = get_from_member listed s i in found s g.0 g.1)
     where
-      found : (s : ℕ × SiteSet) (i : ℕ) → slice_get listed i ≡ Some s → set_at sets s.0 ≡ Some s.1
+      found : (s : ℕ × SiteSet) (i : ℕ) → slice_get listed i ≡ Some s → term_set_at sets s.0 ≡ Some s.1
       found s i e =
           let m = in_map (λ (x : ℕ × TermSet). (x.0, set_so_far x.1)) sets.entries s (in_slice listed i s e) in
           let p = slice_in sets.entries m.0 m.1 in
-          subst (λ (y : ℕ × SiteSet). set_at sets y.0 ≡ Some y.1) m.2 (ap (option_map set_so_far) (btree_map_get_place nat_cmp_total sets p.0 m.0.0 m.0.1 ordered p.1))
+          subst (λ (y : ℕ × SiteSet). term_set_at sets y.0 ≡ Some y.1) m.2 (ap (option_map set_so_far) (btree_map_get_place nat_cmp_total sets p.0 m.0.0 m.0.1 ordered p.1))
 
   key_of : (t : ℕ) → is_some (get nat_cmp sets t) ≡ true → In (keys sets) t
   key_of t h = by (get nat_cmp sets t) refl h
@@ -108,7 +108,7 @@ module _ (sets : BTreeMap ℕ TermSet) (ordered : IsOrdered nat_cmp sets) where
   same_keys [] = refl
   same_keys (e ∷ es) = ap (λ l. e.0 ∷ l) (same_keys es)
 
-  pub terms_listed : (p : Program) → RulesHaveTerms p → ((t : ℕ) → is_some (set_at sets t) ≡ list_any (λ r. r.root_term == t) p.rules) → map (λ (s : ℕ × SiteSet). s.0) listed ≡ terms_with_rules p
+  pub terms_listed : (p : Program) → RulesHaveTerms p → ((t : ℕ) → is_some (term_set_at sets t) ≡ list_any (λ r. r.root_term == t) p.rules) → map (λ (s : ℕ × SiteSet). s.0) listed ≡ terms_with_rules p
   terms_listed p known all =
       same_keys sets.entries
       ∙ ascending_are (λ t. list_any (λ r. r.root_term == t) p.rules) p.terms 0 (keys sets) ordered

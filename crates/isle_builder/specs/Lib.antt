@@ -1,2 +1,2 @@
 pub mod SetsSoFar
-pub mod Built
+pub mod BuiltSets

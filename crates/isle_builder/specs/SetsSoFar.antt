@@ -15,8 +15,8 @@ use Rattle.isle_term_sets.specs.AddedRules.{HasTable, report_views, set_so_far}
 use Rattle.isle_term_sets.specs.declared.term_sets.TermSet.{TermSet}
 
 -- the set so far of each term that has one, by its number
-abbrev pub set_at : BTreeMap ℕ TermSet → ℕ → Option SiteSet
-set_at sets t = option_map set_so_far (get nat_cmp sets t)
+abbrev pub term_set_at : BTreeMap ℕ TermSet → ℕ → Option SiteSet
+term_set_at sets t = option_map set_so_far (get nat_cmp sets t)
 
 -- the sets so far of a list, each with the number of its term
 abbrev pub sets_so_far : List (ℕ × TermSet) → List (ℕ × SiteSet)
@@ -29,7 +29,7 @@ AreTables sets = (t : ℕ) (s : TermSet) → get nat_cmp sets t ≡ Some s → H
 -- after some rules of a program: where its sets stand, and what was reported
 pub record StandAfter (p : Program) (done : List TypedRule) (sets : BTreeMap ℕ TermSet) (errors : List Error) : Type 0 where
   pub reports : List RuleReport
-  pub built : AreBuiltSoFar p done (set_at sets) reports
+  pub built : AreBuiltSoFar p done (term_set_at sets) reports
   pub tables : AreTables sets
   pub reported : error_views errors ≡ report_views reports
 

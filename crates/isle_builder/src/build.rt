@@ -12,8 +12,8 @@ ghost use Rattle.isle_base.specs.Positions.{HasSingleSpans};
 ghost use Rattle.isle_laws_closure.specs.RuleByRule.{or_nothing_built};
 ghost use Rattle.isle_typed.specs.RuleViews.{rule_view};
 ghost use Rattle.isle_term_sets.specs.AddedRules.{HasTable, set_so_far};
-ghost use Rattle.isle_builder.specs.SetsSoFar.{AreTables, MayGoOn, StandAfter, set_at, sets_so_far};
-ghost use Rattle.isle_builder.specs.Built.{IsOfElaborated, ShowsElaborated, WereBuilt, term_set_views};
+ghost use Rattle.isle_builder.specs.SetsSoFar.{AreTables, MayGoOn, StandAfter, term_set_at, sets_so_far};
+ghost use Rattle.isle_builder.specs.BuiltSets.{IsOfElaborated, ShowsElaborated, WereBuilt, term_set_views};
 
 use isle_base::syntax::Error;
 use isle_laws_matching::built_sets_are_answered;
@@ -59,7 +59,7 @@ pub fn build(
 
 // The set so far of a term, which leaves the others.
 fn take_set(alloc: Global, sets: &mut BTreeMap<usize, TermSet>, term: usize) -> TermSet
-    ensures set { set_so_far result ≡ or_nothing_built (set_at sets.old term) }
+    ensures set { set_so_far result ≡ or_nothing_built (term_set_at sets.old term) }
     ensures table { AreTables sets.old → HasTable result }
     ensures others { (t : ℕ) → t ≢ term → get nat_cmp sets.new t ≡ get nat_cmp sets.old t }
 {

@@ -8,7 +8,7 @@ use Rattle.isle_model.specs.rules.Meaning.{Content, one}
 use Rattle.isle_model.specs.rules.Program.{Program, Kind, a_variant, a_struct, a_call, unknown, kind, kind_of, always_answers}
 use Rattle.isle_model.specs.sites.Serves.{fits_one, fits_answer, fits_extractor, fits_constructor, term_args, term_results}
 use Rattle.isle_laws_matching.specs.TotalLaws.{can_be_matched, can_be_called}
-use Rattle.isle_calls.specs.Echoes.{constant_number, named_value, in_form, for_each_type, outputs_of, extracted_by, extracted, given_by, first_or_zero, made, counted}
+use Rattle.isle_calls.specs.Echoes.{constant_number, named_value, in_form, for_each_type, outputs_of, extracted_by, extracted_echo, given_by, first_or_zero, pure_echo, impure_echo}
 use Rattle.isle_calls.specs.EchoLaws.{CanGiveFirst, EchoesAreWellTyped}
 
 -- a number is of each type of numbers
@@ -78,14 +78,14 @@ known_kind : (p : Program) (t : ℕ) (e : TermEntry) → slice_get p.terms t ≡
 known_kind p t e h = ap (λ o. elim o as (λ _. Kind) [ None ↦ unknown | Some e ↦ kind_of e ]) h
 
 extracted_fits : (p : Program) (t : ℕ) (e : TermEntry) (v : Value) → slice_get p.terms t ≡ Some e → can_be_matched e.kind ≡ true → list_all (λ ty. ty == e.ret_ty) e.arg_tys ≡ true → well_typed p.types e.ret_ty v ≡ true
-    → fits_extractor p t (kind p t) (extracted (slice_get p.terms t) v) ≡ true
+    → fits_extractor p t (kind p t) (extracted_echo (slice_get p.terms t) v) ≡ true
 extracted_fits p t e v there can same h =
     let c = call_of e can_be_matched (λ i. refl) refl can in
     let fits = extracted_fits_by p t e.arg_tys v c.flags c.infallible (ap term_args there) (outputs_fit p e.arg_tys e.ret_ty v same h) in
     let of_kind : fits_extractor p t (kind_of e) (extracted_by (kind_of e) e.arg_tys v) ≡ true
     = subst (λ k. fits_extractor p t k (extracted_by k e.arg_tys v) ≡ true) (sym c.is) fits in
-    subst (λ k. fits_extractor p t k (extracted (slice_get p.terms t) v) ≡ true) (sym (known_kind p t e there))
-    (subst (λ o. fits_extractor p t (kind_of e) (extracted o v) ≡ true) (sym there) of_kind)
+    subst (λ k. fits_extractor p t k (extracted_echo (slice_get p.terms t) v) ≡ true) (sym (known_kind p t e there))
+    (subst (λ o. fits_extractor p t (kind_of e) (extracted_echo o v) ≡ true) (sym there) of_kind)
 
 given_fits : (p : Program) (t : ℕ) (e : TermEntry) (v : Value) (c : Content) → slice_get p.terms t ≡ Some e → can_be_called e.kind ≡ true → well_typed p.types e.ret_ty v ≡ true → c ≡ given_by (kind_of e) v
     → fits_constructor p t (kind p t) c ≡ true
@@ -109,7 +109,7 @@ echoes_are_well_typed_lem p types matched called same can = record {
   constants = λ name ty used is. constant_fits p name ty (types name) (same name ∙ is) (can.constants name ty used is);
   extractors = λ t e v among there may h. extracted_fits p t e v there may (can.extractors t e among there may) h;
   pures = λ t e vs among there may pure h.
-      given_fits p t e (first_or_zero e.ret_ty vs) (made (slice_get p.terms t) vs) there may (first_fits p e.ret_ty e.arg_tys vs (can.pures t e among there may pure) h) (ap (λ o. made o vs) there);
+      given_fits p t e (first_or_zero e.ret_ty vs) (pure_echo (slice_get p.terms t) vs) there may (first_fits p e.ret_ty e.arg_tys vs (can.pures t e among there may pure) h) (ap (λ o. pure_echo o vs) there);
   impures = λ t before e vs among there may impure h.
-      given_fits p t e (atom e.ret_ty (pos before)) (counted (slice_get p.terms t) before) there may (atom_fits p.types e.ret_ty (pos before) (can.impures t e among there may impure)) (ap (λ o. counted o before) there);
+      given_fits p t e (atom e.ret_ty (pos before)) (impure_echo (slice_get p.terms t) before) there may (atom_fits p.types e.ret_ty (pos before) (can.impures t e among there may impure)) (ap (λ o. impure_echo o before) there);
 }

@@ -40,9 +40,9 @@ abbrev pub extracted_by : Kind → List ℕ → Value → Content
 extracted_by (a_call flags infallible) tys v = in_form flags.multi (not infallible) (outputs_of tys v)
 extracted_by _ tys v = nothing
 
-abbrev pub extracted : Option TermEntry → Value → Content
-extracted None v = nothing
-extracted (Some e) v = extracted_by (kind_of e) e.arg_tys v
+abbrev pub extracted_echo : Option TermEntry → Value → Content
+extracted_echo None v = nothing
+extracted_echo (Some e) v = extracted_by (kind_of e) e.arg_tys v
 
 -- a constructor gives a value
 abbrev pub given_by : Kind → Value → Content
@@ -55,21 +55,21 @@ first_or_zero ty no_value = atom ty (pos 0)
 first_or_zero ty (value_and v vs) = v
 
 -- a pure constructor gives its first argument
-abbrev pub made : Option TermEntry → Values → Content
-made None vs = nothing
-made (Some e) vs = given_by (kind_of e) (first_or_zero e.ret_ty vs)
+abbrev pub pure_echo : Option TermEntry → Values → Content
+pure_echo None vs = nothing
+pure_echo (Some e) vs = given_by (kind_of e) (first_or_zero e.ret_ty vs)
 
 -- an impure constructor gives how many impure calls were made before
-abbrev pub counted : Option TermEntry → ℕ → Content
-counted None before = nothing
-counted (Some e) before = given_by (kind_of e) (atom e.ret_ty (pos before))
+abbrev pub impure_echo : Option TermEntry → ℕ → Content
+impure_echo None before = nothing
+impure_echo (Some e) before = given_by (kind_of e) (atom e.ret_ty (pos before))
 
 -- what echoes answer, by the types of the named constants and the terms
 abbrev pub echoes : (ℕ → Option ℕ) → List TermEntry → TotalMeaning
 echoes constant_types terms = record {
   literals = as_written;
   constants = λ name. named_value (constant_types name) name;
-  extractors = λ t v. extracted (slice_get terms t) v;
-  pures = λ t vs. made (slice_get terms t) vs;
-  impures = λ t before. counted (slice_get terms t) before;
+  extractors = λ t v. extracted_echo (slice_get terms t) v;
+  pures = λ t vs. pure_echo (slice_get terms t) vs;
+  impures = λ t before. impure_echo (slice_get terms t) before;
 }

@@ -7,7 +7,7 @@ ghost use Rattle.isle_model.specs.rules.Program.{always_answers, kind_of};
 ghost use Rattle.isle_terms.specs.TermViews.{extractor_view, flags_view, term_view, term_views};
 ghost use Rattle.isle_types.specs.Envs.{constant_at};
 ghost use Rattle.isle_run.specs.ValueViews.{content_view, value_view, value_views};
-ghost use Rattle.isle_calls.specs.Echoes.{constant_number, counted, echoes, extracted_by, first_or_zero, for_each_type, given_by, in_form, made, named_value, outputs_of};
+ghost use Rattle.isle_calls.specs.Echoes.{constant_number, impure_echo, echoes, extracted_by, first_or_zero, for_each_type, given_by, in_form, pure_echo, named_value, outputs_of};
 
 use isle_run::externs::Externs;
 use isle_run::values::{Content, Value};

@@ -38,7 +38,6 @@ fn ending_word(ending: Ending, multi: bool) -> &'static str {
     }
 }
 
-// Adds impure calls.
 fn push_calls(out: &mut String, lowered: &Lowered, calls: &[Call]) -> Result<(), AllocError> {
     out.push_str(", calls")?;
     for call in calls {
@@ -72,7 +71,6 @@ fn push_content(out: &mut String, lowered: &Lowered, content: &Content) -> Resul
     }
 }
 
-// Adds a value.
 #[cycle(values)]
 fn push_value(out: &mut String, lowered: &Lowered, value: &Value) -> Result<(), AllocError> {
     match value {

@@ -21,8 +21,8 @@ abbrev pub of_terms : List Term → Program
 of_terms ts = record { types = []; constants = []; terms = term_views ts; rules = [] }
 
 -- the program of a source's terms, and the meaning of what it calls
-abbrev pub program_in : {E : Type 0} → Source E → Program
-program_in source = of_terms source.terms.now
+abbrev pub source_program : {E : Type 0} → Source E → Program
+source_program source = of_terms source.terms.now
 
 abbrev pub meaning_in : {E : Type 0} → (E → TotalMeaning) → Source E → Meaning
 meaning_in functions source = total (functions source.externs.now)

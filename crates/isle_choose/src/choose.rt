@@ -13,7 +13,7 @@ ghost use Rattle.isle_typed.specs.RuleViews.{iflet_view, rule_view, rule_views};
 ghost use Rattle.isle_run.specs.RunViews.{arg_views, call_views, outcome_view};
 ghost use Rattle.isle_run.specs.ValueViews.{content_view, value_view};
 ghost use Rattle.isle_model.specs.rules.Meaning.{total};
-ghost use Rattle.isle_choose.specs.SourceViews.{of_terms, program_in, meaning_in, evaluated_view, if_held, vars_view};
+ghost use Rattle.isle_choose.specs.SourceViews.{of_terms, source_program, meaning_in, evaluated_view, if_held, vars_view};
 
 use crate::exprs::{Evaluated, eval, pure_value};
 use crate::patterns::{each_holds, holds};
@@ -33,7 +33,7 @@ fn iflets_hold<E: Externs>(
     vars: &mut Vec<(VarId, Option<Value>)>,
 ) -> Result<bool, AllocError>
     ensures { IfOk result (λ b. if_held b (vars_view vars.new.items)
-        ≡ iflets_hold (program_in source.now) (meaning_in E.functions source.now) (map iflet_view iflets.now) (vars_view vars.old.items)) }
+        ≡ iflets_hold (source_program source.now) (meaning_in E.functions source.now) (map iflet_view iflets.now) (vars_view vars.old.items)) }
 {
     for iflet in iflets {
         match pure_value(source, &iflet.rhs, vars)? {
@@ -82,7 +82,7 @@ fn is_taken<E: Externs>(
     args: &[Value],
 ) -> Result<bool, AllocError>
     ensures { IfOk result (λ b. b ≡ ((rule.now.root_term.0 == term.0)
-        && is_some (matches (program_in source.now) (meaning_in E.functions source.now) (rule_view rule.now) (arg_views args.now)))) }
+        && is_some (matches (source_program source.now) (meaning_in E.functions source.now) (rule_view rule.now) (arg_views args.now)))) }
 {
     if rule.root_term.index() == term.index() {
         Ok(matched(source, rule, args)?.is_some())
@@ -109,7 +109,7 @@ fn chosen<'a, E: Externs>(
     args: &[Value],
 ) -> Result<Option<&'a Rule>, AllocError>
     ensures { IfOk result (λ o. option_map (λ r. rule_view r.now) o
-        ≡ chosen (program_in source.now) (meaning_in E.functions source.now) (filter (λ r. r.root_term == term.0) (rule_views rules.now))
+        ≡ chosen (source_program source.now) (meaning_in E.functions source.now) (filter (λ r. r.root_term == term.0) (rule_views rules.now))
         (arg_views args.now)) }
 {
     let mut best = None;
@@ -181,7 +181,7 @@ fn right_side<E: Externs>(
     vars: &[(VarId, Option<Value>)],
 ) -> Result<Outcome, AllocError>
     ensures { IfOk result (λ o. outcome_view o
-        ≡ right_side (program_in source.now) (meaning_in E.functions source.now) (rule_view rule.now) (vars_view vars.now)) }
+        ≡ right_side (source_program source.now) (meaning_in E.functions source.now) (rule_view rule.now) (vars_view vars.now)) }
 {
     let mut calls = Vec::new(source.alloc);
     let evaluated = eval(source, &rule.rhs, vars, &mut calls)?;

@@ -10,7 +10,7 @@ ghost use Rattle.isle_typed.specs.ExprViews.{expr_parts, expr_view, expr_views, 
 ghost use Rattle.isle_run.specs.RunViews.{call_views};
 ghost use Rattle.isle_run.specs.ValueViews.{value_view, value_views};
 ghost use Rattle.isle_model.specs.rules.Meaning.{total};
-ghost use Rattle.isle_choose.specs.SourceViews.{of_terms, program_in, meaning_in, evaluated_all_view, evaluated_view, lets_view, purity, vars_view, with_value};
+ghost use Rattle.isle_choose.specs.SourceViews.{of_terms, source_program, meaning_in, evaluated_all_view, evaluated_view, lets_view, purity, vars_view, with_value};
 
 use crate::answers::single;
 use crate::source::Source;
@@ -30,7 +30,7 @@ fn pure_term<E: Externs>(
     args: Vec<Value>,
 ) -> Result<Option<Value>, AllocError>
     ensures { IfOk result (λ o. option_map value_view o
-        ≡ pure_term (kind (program_in source.now) term.0) (meaning_in E.functions source.now) term.0 (value_views args.items)) }
+        ≡ pure_term (kind (source_program source.now) term.0) (meaning_in E.functions source.now) term.0 (value_views args.items)) }
 {
     match source.terms.get(term.index()) {
         Some(entry) => match &entry.kind {
@@ -82,7 +82,7 @@ fn pure_values<E: Externs>(
     vars: &[(VarId, Option<Value>)],
 ) -> Result<Option<Vec<Value>>, AllocError>
     ensures { IfOk result (λ o. option_map (λ v. value_views v.items) o
-        ≡ pure_values (program_in source.now) (meaning_in E.functions source.now) (expr_parts (expr_views exprs.now)) (vars_view vars.now)) }
+        ≡ pure_values (source_program source.now) (meaning_in E.functions source.now) (expr_parts (expr_views exprs.now)) (vars_view vars.now)) }
 {
     let mut out = Vec::new(source.alloc);
     for expr in exprs {
@@ -102,7 +102,7 @@ fn pure_lets<E: Externs>(
     vars: &mut Vec<(VarId, Option<Value>)>,
 ) -> Result<(), AllocError>
     ensures { IfOk result (λ u. vars_view vars.new.items
-        ≡ pure_lets (program_in source.now) (meaning_in E.functions source.now) (let_parts (let_views bindings.now)) (vars_view vars.old.items)) }
+        ≡ pure_lets (source_program source.now) (meaning_in E.functions source.now) (let_parts (let_views bindings.now)) (vars_view vars.old.items)) }
 {
     for binding in bindings {
         let value = pure_value(source, &binding.2, vars)?;
@@ -171,7 +171,7 @@ fn pure_applied<E: Externs>(
 ) -> Result<Option<Value>, AllocError>
     ensures { IfOk result (λ o. option_map value_view o
         ≡ then_option (option_map (λ v. value_views v.items) args)
-        (λ vs. pure_term (kind (program_in source.now) term.0) (meaning_in E.functions source.now) term.0 vs)) }
+        (λ vs. pure_term (kind (source_program source.now) term.0) (meaning_in E.functions source.now) term.0 vs)) }
 {
     match args {
         Some(args) => pure_term(source, term, args),
@@ -203,7 +203,7 @@ fn applied<E: Externs>(
     calls: &mut Vec<Call>,
 ) -> Result<Evaluated, AllocError>
     ensures { IfOk result (λ r. evaluated_view r (call_views calls.new.items)
-        ≡ applied (kind (program_in source.now) term.0) (meaning_in E.functions source.now) term.0 (option_map (λ v. value_views v.items) args)
+        ≡ applied (kind (source_program source.now) term.0) (meaning_in E.functions source.now) term.0 (option_map (λ v. value_views v.items) args)
         (call_views calls.old.items)) }
 {
     match purity(source.terms, term) {
@@ -281,7 +281,7 @@ fn eval_all<E: Externs>(
     calls: &mut Vec<Call>,
 ) -> Result<EvaluatedAll, AllocError>
     ensures { IfOk result (λ r. evaluated_all_view r (call_views calls.new.items)
-        ≡ eval_all (program_in source.now) (meaning_in E.functions source.now) (expr_parts (expr_views exprs.now)) (vars_view vars.now)
+        ≡ eval_all (source_program source.now) (meaning_in E.functions source.now) (expr_parts (expr_views exprs.now)) (vars_view vars.now)
         (call_views calls.old.items)) }
 {
     let mut given = Some(Vec::new(source.alloc));
@@ -306,7 +306,7 @@ fn eval_lets<E: Externs>(
     calls: &mut Vec<Call>,
 ) -> Result<bool, AllocError>
     ensures { IfOk result (λ b. lets_view b (vars_view vars.new.items) (call_views calls.new.items)
-        ≡ eval_lets (program_in source.now) (meaning_in E.functions source.now) (let_parts (let_views bindings.now)) (vars_view vars.old.items)
+        ≡ eval_lets (source_program source.now) (meaning_in E.functions source.now) (let_parts (let_views bindings.now)) (vars_view vars.old.items)
         (call_views calls.old.items)) }
 {
     for binding in bindings {

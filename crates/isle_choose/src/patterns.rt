@@ -6,7 +6,7 @@ ghost use Rattle.isle_model.specs.rules.Matching.{all_hold, each_holds, holds, p
 ghost use Rattle.isle_typed.specs.PatternViews.{pattern_parts, pattern_view, pattern_views};
 ghost use Rattle.isle_run.specs.ValueViews.{value_view, value_views};
 ghost use Rattle.isle_model.specs.rules.Meaning.{total};
-ghost use Rattle.isle_choose.specs.SourceViews.{of_terms, program_in, meaning_in, if_held, vars_view};
+ghost use Rattle.isle_choose.specs.SourceViews.{of_terms, source_program, meaning_in, if_held, vars_view};
 
 use crate::answers::answered_outputs;
 use crate::source::Source;
@@ -18,7 +18,6 @@ use isle_typed::Pattern;
 use isle_types::{TermId, TypeId, VarId, VariantId};
 use std::alloc::AllocError;
 
-// The fields of a value that is this variant.
 fn variant_parts(
     ty: TypeId,
     variant: VariantId,
@@ -38,7 +37,6 @@ fn variant_parts(
     }
 }
 
-// The fields of a value that is this struct.
 fn struct_parts(ty: TypeId, value: &Value) -> Result<Option<Vec<Value>>, AllocError>
     ensures { IfOk result (λ o. (f : _) (t : _) → option_map (λ v. value_views v.items) o ≡ parts_seen (a_struct ty.0) f t (value_view value.now)) }
 {
@@ -61,7 +59,7 @@ fn parts_seen<E: Externs>(
     value: &Value,
 ) -> Result<Option<Vec<Value>>, AllocError>
     ensures { IfOk result (λ o. option_map (λ v. value_views v.items) o
-        ≡ parts_seen (kind (program_in source.now) term.0) (meaning_in E.functions source.now) term.0 (value_view value.now)) }
+        ≡ parts_seen (kind (source_program source.now) term.0) (meaning_in E.functions source.now) term.0 (value_view value.now)) }
 {
     match source.terms.get(term.index()) {
         Some(entry) => match &entry.kind {
@@ -157,7 +155,7 @@ fn all_hold<E: Externs>(
     vars: &mut Vec<(VarId, Option<Value>)>,
 ) -> Result<bool, AllocError>
     ensures { IfOk result (λ b. if_held b (vars_view vars.new.items)
-        ≡ all_hold (program_in source.now) (meaning_in E.functions source.now) (pattern_parts (pattern_views patterns.now)) (value_view value.now)
+        ≡ all_hold (source_program source.now) (meaning_in E.functions source.now) (pattern_parts (pattern_views patterns.now)) (value_view value.now)
         (vars_view vars.old.items)) }
 {
     for pattern in patterns {

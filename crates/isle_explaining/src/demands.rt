@@ -100,7 +100,6 @@ fn push_call(
     out.push(')')
 }
 
-// Adds two texts.
 fn push_two(out: &mut String, first: &str, second: &str) -> Result<(), AllocError> {
     out.push_str(first)?;
     out.push_str(second)
@@ -112,7 +111,6 @@ fn push_numbered(out: &mut String, first: &str, number: usize) -> Result<(), All
     write!(out, "{number}")
 }
 
-// Adds a truth value.
 fn push_bool(out: &mut String, val: bool) -> Result<(), AllocError> {
     out.push_str(if val { "true" } else { "false" })
 }

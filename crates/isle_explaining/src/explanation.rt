@@ -105,7 +105,6 @@ fn push_title(
     write!(out, " (priority {priority})")
 }
 
-// Adds two texts.
 fn push_two(out: &mut String, first: &str, second: &str) -> Result<(), AllocError> {
     out.push_str(first)?;
     out.push_str(second)
@@ -201,7 +200,6 @@ fn comes_first(rule: &Rule, other: &Rule) -> bool {
     other.prio > rule.prio && overlaps(rule, other)
 }
 
-// Whether two rules may both match.
 fn overlaps(rule: &Rule, other: &Rule) -> bool {
     match rule.may_overlap(other) {
         Overlap::No => false,

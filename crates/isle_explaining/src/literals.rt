@@ -26,12 +26,10 @@ pub(crate) fn add_outside(
     }
 }
 
-// The term of a name.
 fn term_of(lowered: &Lowered, name: &Ident) -> Option<TermId> {
     lowered.termenv.get_term_by_name(&lowered.tyenv, name)
 }
 
-// The type of a term's result.
 fn result_of(lowered: &Lowered, name: &Ident) -> Option<TypeId> {
     let term = lowered.termenv.terms.get(term_of(lowered, name)?.index())?;
     Some(term.ret_ty)

@@ -65,7 +65,6 @@ pub fn size_of_tree(block: &Block) -> TreeSize {
     size
 }
 
-// How large a step is.
 #[cycle(size)]
 fn size_of_step(step: &EvalStep) -> TreeSize {
     match &step.check {
@@ -80,7 +79,6 @@ fn size_of_step(step: &EvalStep) -> TreeSize {
     }
 }
 
-// How large arms are.
 #[cycle(size)]
 fn size_of_arms(arms: &[MatchArm]) -> TreeSize {
     let mut size = NOTHING;

@@ -78,7 +78,6 @@ fn note_iflet(names: &mut Names, iflet: &IfLet) -> Result<(), AllocError> {
     note_expr(names, &iflet.expr)
 }
 
-// The names in a pattern.
 #[cycle(patterns)]
 fn note_pattern(names: &mut Names, pattern: &Pattern) -> Result<(), AllocError> {
     match pattern {
@@ -97,7 +96,6 @@ fn note_pattern(names: &mut Names, pattern: &Pattern) -> Result<(), AllocError> 
     }
 }
 
-// The names in patterns.
 #[cycle(patterns)]
 fn note_patterns(names: &mut Names, patterns: &[Pattern]) -> Result<(), AllocError> {
     for pattern in patterns {
@@ -106,7 +104,6 @@ fn note_patterns(names: &mut Names, patterns: &[Pattern]) -> Result<(), AllocErr
     Ok(())
 }
 
-// The names in an expression.
 #[cycle(exprs)]
 fn note_expr(names: &mut Names, expr: &Expr) -> Result<(), AllocError> {
     match expr {

@@ -149,7 +149,6 @@ impl<'a> Both<'a> {
         }
     }
 
-    // Joins the classes of two sites.
     fn join_two(&mut self, to: BindingId, from: BindingId) {
         let to = self.class_of(to);
         let from = self.class_of(from);
@@ -163,7 +162,6 @@ impl<'a> Both<'a> {
         }
     }
 
-    // The class of a site.
     fn class_of(&self, site: BindingId) -> usize {
         match self.classes.get(site.index()) {
             Some(class) => *class,

@@ -15,7 +15,7 @@ use Rattle.isle_sets.specs.declared.trie_again.Rule.{Rule}
 use Rattle.isle_overlap.specs.Comparisons.{masked_behind, wrong_behind}
 use Rattle.isle_overlap.specs.Keys.{AreApart, AreNext, IsAhead, IsFirst, TellApart, nearer}
 use Rattle.isle_overlap.specs.declared.overlap.Ahead.{Ahead}
-use Rattle.isle_overlap.proofs.Apart.{apart_masked, apart_wrong}
+use Rattle.isle_overlap.proofs.DistinctKeys.{apart_masked, apart_wrong}
 
 -- 1. the first place of a key
 -- it stands later where the place before isn't of that key

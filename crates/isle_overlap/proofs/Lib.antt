@@ -1,9 +1,9 @@
-pub mod Apart
+pub mod DistinctKeys
 pub mod Chains
-pub mod Gone
+pub mod ListIteration
 pub mod Rows
 pub mod Ascents
 pub mod Orders
-pub mod Sorted
+pub mod SortedErrors
 pub mod Reporting
-pub mod Counted
+pub mod OverlapCounts

@@ -22,7 +22,7 @@ pub record TellApart (rules : List SetRule) (keys : List (Option ℕ)) : Type 0 
       → slice_get keys i ≡ Some (Some k) → slice_get keys j ≡ Some (Some l) → k ≢ l → AreApart a b
 
 -- a number is that of what a rule asks of a site
-pub record IsNumbered (numbers : BTreeMap Constraint ℕ) (site : ℕ) (r : SetRule) (k : ℕ) : Type 0 where
+pub record IsAskedNumber (numbers : BTreeMap Constraint ℕ) (site : ℕ) (r : SetRule) (k : ℕ) : Type 0 where
   pub asked : Constraint
   pub here : constraint_at r.constraints site ≡ Some (constraint_view asked)
   pub number : get ghosts.cmp numbers asked ≡ Some k
@@ -30,7 +30,7 @@ pub record IsNumbered (numbers : BTreeMap Constraint ℕ) (site : ℕ) (r : SetR
 -- the keys of rules are these numbers
 pub record AreNumbered (numbers : BTreeMap Constraint ℕ) (site : ℕ) (rules : List SetRule) (keys : List (Option ℕ)) : Type 0 where
   pub each : length keys ≡ length rules
-  pub numbered : (i : ℕ) (r : SetRule) (k : ℕ) → slice_get rules i ≡ Some r → slice_get keys i ≡ Some (Some k) → IsNumbered numbers site r k
+  pub numbered : (i : ℕ) (r : SetRule) (k : ℕ) → slice_get rules i ≡ Some r → slice_get keys i ≡ Some (Some k) → IsAskedNumber numbers site r k
 
 -- the first place, from one on, at which a key stands, or the end
 pub record IsFirst (keys : List (Option ℕ)) (from : ℕ) (key : Option ℕ) (at : ℕ) : Type 0 where

@@ -1,5 +1,5 @@
 pub mod ErrorViews
 pub mod Comparisons
 pub mod Graphs
-pub mod Found
+pub mod ComparedRules
 pub mod Keys

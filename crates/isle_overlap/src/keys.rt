@@ -5,7 +5,7 @@ ghost use Rattle.std.specs.Option.{option_cmp};
 ghost use Rattle.std.specs.Ordering.{nat_cmp};
 ghost use Rattle.std.specs.Prelude.{◌≡◌, ◌+◌, ℕ, List, Option, IfOk, None, Some, replicate, length, slice_get, unwrap_or};
 ghost use Rattle.isle_sets.specs.SiteViews.{set_rule_view, set_rule_views};
-ghost use Rattle.isle_overlap.specs.Keys.{AreKeys, AreNext, AreNumbered, IsFirst, IsNumbered, TellApart};
+ghost use Rattle.isle_overlap.specs.Keys.{AreKeys, AreNext, AreNumbered, IsFirst, IsAskedNumber, TellApart};
 
 use isle_sets::trie_again::{BindingId, Constraint, Rule};
 use std::alloc::{AllocError, Global};
@@ -50,7 +50,6 @@ impl Asked {
         Ok(())
     }
 
-    // Counts what a rule asks.
     fn count_rule(&mut self, rule: &Rule) -> Result<(), AllocError> {
         for (site, constraint) in rule.constraints() {
             self.count(*site, *constraint)?;
@@ -93,7 +92,7 @@ fn numbers_of(
 
 // The number of what a rule asks of a site.
 fn key_of(numbers: &BTreeMap<Constraint, usize>, rule: &Rule, site: BindingId) -> Option<usize>
-    ensures { (k : ℕ) → result ≡ Some k → IsNumbered numbers.now site (set_rule_view rule.now) k }
+    ensures { (k : ℕ) → result ≡ Some k → IsAskedNumber numbers.now site (set_rule_view rule.now) k }
 {
     match rule.get_constraint(site) {
         Some(asked) => numbers.get(&asked).copied(),
@@ -151,7 +150,6 @@ fn first_of(firsts: &BTreeMap<Option<usize>, usize>, key: Option<usize>, end: us
     }
 }
 
-// As many ends.
 fn ends(alloc: Global, count: usize) -> Result<Vec<usize>, AllocError>
     ensures { IfOk result (λ v. length v.items ≡ count) }
 {

@@ -9,9 +9,9 @@ ghost use Rattle.isle_base.specs.SyntaxViews.{position};
 ghost use Rattle.isle_sets.specs.SiteViews.{set_rule_view, set_rule_views};
 ghost use Rattle.isle_overlap.specs.Comparisons.{AreGrouped, list_views, masked_behind, masked_pair, masked_rows, masked_views, pair_views, positions, shadow_of, shadows_of, wrong_behind, wrong_pair, wrong_rows};
 ghost use Rattle.isle_overlap.specs.ErrorViews.{error_pos};
-ghost use Rattle.isle_overlap.specs.Found.{HaveSingleSpans, found_shadows, found_wrong};
+ghost use Rattle.isle_overlap.specs.ComparedRules.{HaveSingleSpans, found_shadows, found_wrong};
 ghost use Rattle.isle_overlap.specs.Keys.{AreKeys, AreNext, IsAhead, IsFirst, nearer};
-ghost use Rattle.isle_overlap.specs.Graphs.{count_at, count_left, counts_before, ends_of, listed_at, neighbours, same_pos, times, unreported};
+ghost use Rattle.isle_overlap.specs.Graphs.{unreported_at, count_left, counts_before, ends_of, neighbours_at, neighbours, same_pos, position_count, unreported};
 
 use crate::keys::{Keys, first_without, keys_of};
 use isle_base::syntax::{Error, Pos, Span};
@@ -114,7 +114,6 @@ fn masks(mask: &Rule, rule: &Rule) -> bool
         && mask.total_constraints() <= rule.total_constraints()
 }
 
-// Adds two rules where they overlap wrongly.
 fn add_wrong(left: &Rule, right: &Rule, wrong: &mut Vec<(Pos, Pos)>) -> Result<(), AllocError>
     ensures { OnOk result (pair_views wrong.new.items ≡ pair_views wrong.old.items ++ wrong_pair (set_rule_view left.now) (set_rule_view right.now)) }
 {
@@ -191,7 +190,6 @@ struct Ahead {
 }
 
 impl Ahead {
-    // The nearer one of the two.
     fn nearer(&self) -> usize
         ensures { result ≡ nearer self.now }
     {
@@ -289,7 +287,6 @@ fn check_pairs(
     Ok(())
 }
 
-// As many empty lists.
 fn empty_lists(alloc: Global, count: usize) -> Result<Vec<Vec<Pos>>, AllocError>
     ensures { IfOk result (λ v. (vec_len v ≡ count) × AreGrouped v.items []) }
 {
@@ -389,7 +386,7 @@ fn ascending(mut places: Vec<Pos>) -> Result<Vec<Pos>, AllocError>
 
 // How many overlaps of a rule aren't reported yet.
 fn count(counts: &BTreeMap<Pos, usize>, place: Pos) -> usize
-    ensures { result ≡ count_at counts.now place }
+    ensures { result ≡ unreported_at counts.now place }
 {
     match counts.get(&place) {
         Some(count) => *count,
@@ -399,8 +396,8 @@ fn count(counts: &BTreeMap<Pos, usize>, place: Pos) -> usize
 
 // Adds one overlap to those of a rule.
 fn add_one(counts: &mut BTreeMap<Pos, usize>, place: Pos) -> Result<(), AllocError>
-    requires { count_at counts.old place < 2 ^ 64 - 1 }
-    ensures { OnOk result ((q : Pos) → count_at counts.new q ≡ count_at counts.old q + (if same_pos place q then 1 else 0)) }
+    requires { unreported_at counts.old place < 2 ^ 64 - 1 }
+    ensures { OnOk result ((q : Pos) → unreported_at counts.new q ≡ unreported_at counts.old q + (if same_pos place q then 1 else 0)) }
 {
     let more = count(counts, place) + 1;
     counts.insert(place, more)?;
@@ -409,9 +406,9 @@ fn add_one(counts: &mut BTreeMap<Pos, usize>, place: Pos) -> Result<(), AllocErr
 
 // Adds an overlap to those of both its rules.
 fn add_to_both(counts: &mut BTreeMap<Pos, usize>, first: Pos, second: Pos) -> Result<(), AllocError>
-    requires { (q : Pos) → count_at counts.old q < 2 ^ 64 - 1 }
-    ensures { OnOk result ((q : Pos) → count_at counts.new q
-        ≡ count_at counts.old q + (if has_end (position q) (position first, position second) then 1 else 0)) }
+    requires { (q : Pos) → unreported_at counts.old q < 2 ^ 64 - 1 }
+    ensures { OnOk result ((q : Pos) → unreported_at counts.new q
+        ≡ unreported_at counts.old q + (if has_end (position q) (position first, position second) then 1 else 0)) }
 {
     add_one(counts, first)?;
     if first != second {
@@ -420,10 +417,9 @@ fn add_to_both(counts: &mut BTreeMap<Pos, usize>, first: Pos, second: Pos) -> Re
     Ok(())
 }
 
-// How many overlaps each rule has.
 fn counts_of(alloc: Global, wrong: &[(Pos, Pos)]) -> Result<BTreeMap<Pos, usize>, AllocError>
     requires { length wrong.now < 2 ^ 64 }
-    ensures { IfOk result (λ m. (q : Pos) → count_at m q ≡ degree (pair_views wrong.now) (position q)) }
+    ensures { IfOk result (λ m. (q : Pos) → unreported_at m q ≡ degree (pair_views wrong.now) (position q)) }
 {
     let mut counts = BTreeMap::new(alloc);
     for (first, second) in wrong {
@@ -434,7 +430,7 @@ fn counts_of(alloc: Global, wrong: &[(Pos, Pos)]) -> Result<BTreeMap<Pos, usize>
 
 // Adds a rule to those that another one overlaps.
 fn add_other(others: &mut BTreeMap<Pos, Vec<Pos>>, place: Pos, other: Pos) -> Result<(), AllocError>
-    ensures { OnOk result ((q : Pos) → listed_at others.new q ≡ listed_at others.old q ++ (if same_pos place q then other ∷ [] else [])) }
+    ensures { OnOk result ((q : Pos) → neighbours_at others.new q ≡ neighbours_at others.old q ++ (if same_pos place q then other ∷ [] else [])) }
 {
     others.entry(place)?.or_default().push(other)?;
     Ok(())
@@ -442,8 +438,8 @@ fn add_other(others: &mut BTreeMap<Pos, Vec<Pos>>, place: Pos, other: Pos) -> Re
 
 // Adds each of two rules to those that the other one overlaps.
 fn add_both(others: &mut BTreeMap<Pos, Vec<Pos>>, first: Pos, second: Pos) -> Result<(), AllocError>
-    ensures { OnOk result ((q : Pos) → positions (listed_at others.new q)
-        ≡ positions (listed_at others.old q)
+    ensures { OnOk result ((q : Pos) → positions (neighbours_at others.new q)
+        ≡ positions (neighbours_at others.old q)
         ++ (if has_end (position q) (position first, position second) then other_end (position q) (position first, position second) ∷ [] else [])) }
 {
     add_other(others, first, second)?;
@@ -453,9 +449,8 @@ fn add_both(others: &mut BTreeMap<Pos, Vec<Pos>>, first: Pos, second: Pos) -> Re
     Ok(())
 }
 
-// Which rules each rule overlaps.
 fn others_of(alloc: Global, wrong: &[(Pos, Pos)]) -> Result<BTreeMap<Pos, Vec<Pos>>, AllocError>
-    ensures { IfOk result (λ m. (q : Pos) → positions (listed_at m q) ≡ neighbours (pair_views wrong.now) (position q)) }
+    ensures { IfOk result (λ m. (q : Pos) → positions (neighbours_at m q) ≡ neighbours (pair_views wrong.now) (position q)) }
 {
     let mut others = BTreeMap::new(alloc);
     for (first, second) in wrong {
@@ -473,7 +468,6 @@ fn is_reported_before(counts: &BTreeMap<Pos, usize>, first: Pos, second: Pos) ->
     other < mine || mine == other && second < first
 }
 
-// Of two rules the one that is reported first.
 fn first_of_two(counts: &BTreeMap<Pos, usize>, first: Pos, second: Pos) -> Pos
     ensures first { counts_before counts.now first result ≡ false }
     ensures others { (q : Pos) → counts_before counts.now q second ≡ false → counts_before counts.now q result ≡ false }
@@ -498,7 +492,7 @@ fn foremost(counts: &BTreeMap<Pos, usize>, rules: &[Pos]) -> Pos
 
 // The rules that a rule overlaps.
 fn listed(others: &BTreeMap<Pos, Vec<Pos>>, place: Pos) -> &[Pos]
-    ensures { result.now ≡ listed_at others.now place }
+    ensures { result.now ≡ neighbours_at others.now place }
 {
     match others.get(&place) {
         Some(all) => all,
@@ -512,7 +506,7 @@ fn add_left(
     place: Pos,
     left: &mut Vec<Pos>,
 ) -> Result<(), AllocError>
-    ensures { OnOk result (left.new.items ≡ left.old.items ++ cond (nat_lt 0 (count_at counts.now place)) (place ∷ []) []) }
+    ensures { OnOk result (left.new.items ≡ left.old.items ++ cond (nat_lt 0 (unreported_at counts.now place)) (place ∷ []) []) }
 {
     if count(counts, place) > 0 {
         left.push(place)?;
@@ -538,7 +532,7 @@ fn unreported(
 
 // Takes an overlap from those of a rule.
 fn take_one(counts: &mut BTreeMap<Pos, usize>, place: Pos) -> Result<(), AllocError>
-    ensures { OnOk result ((q : Pos) → count_at counts.new q ≡ count_at counts.old q - (if same_pos place q then 1 else 0)) }
+    ensures { OnOk result ((q : Pos) → unreported_at counts.new q ≡ unreported_at counts.old q - (if same_pos place q then 1 else 0)) }
 {
     let left = count(counts, place).saturating_sub(1);
     counts.insert(place, left)?;
@@ -547,7 +541,7 @@ fn take_one(counts: &mut BTreeMap<Pos, usize>, place: Pos) -> Result<(), AllocEr
 
 // Takes an overlap from those of each of these rules.
 fn take_away(counts: &mut BTreeMap<Pos, usize>, found: &[Pos]) -> Result<(), AllocError>
-    ensures { OnOk result ((q : Pos) → count_at counts.new q ≡ count_at counts.old q - times q found.now) }
+    ensures { OnOk result ((q : Pos) → unreported_at counts.new q ≡ unreported_at counts.old q - position_count q found.now) }
 {
     for other in found {
         take_one(counts, *other)?;
@@ -555,7 +549,6 @@ fn take_away(counts: &mut BTreeMap<Pos, usize>, found: &[Pos]) -> Result<(), All
     Ok(())
 }
 
-// The error of a rule that overlaps others.
 fn overlap_error(alloc: Global, place: Pos, others: &[Pos]) -> Result<Error, AllocError>
     ensures says { IfOk result (λ e. error_view e ≡ overlapping (position place ∷ positions others.now)) }
     ensures single { IfOk result HasSingleSpans }
@@ -576,7 +569,7 @@ fn report(
     place: Pos,
     errors: &mut Vec<Error>,
 ) -> Result<(), AllocError>
-    ensures counts { OnOk result ((q : Pos) → count_at counts.new q ≡ count_left counts.old place (unreported others.now counts.old place) q) }
+    ensures counts { OnOk result ((q : Pos) → unreported_at counts.new q ≡ count_left counts.old place (unreported others.now counts.old place) q) }
     ensures error { OnOk result (error_views errors.new.items
         ≡ error_views errors.old.items ++ overlapping (position place ∷ ascending_positions (positions (unreported others.now counts.old place))) ∷ []) }
     ensures single { OnOk result (All HasSingleSpans errors.old.items → All HasSingleSpans errors.new.items) }

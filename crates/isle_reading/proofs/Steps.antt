@@ -4,10 +4,9 @@ use Rattle.std.specs.Prelude.{Result, OnOk}
 use Rattle.std.proofs.lemmas.List.{append-nil, append_assoc, at_drop_more}
 use Rattle.isle_model.specs.trees.Trees.{Arms, no_arm, arm}
 use Rattle.isle_sets.specs.SiteViews.{constraint_view}
-use Rattle.isle_serialize.specs.declared.serialize.Block.{Block, out-Block, roll-out-Block}
-use Rattle.isle_serialize.proofs.TreeLaws.{block_seen, arm_seen}
+use Rattle.isle_serialize.proofs.TreeLaws.{arm_seen}
 use Rattle.isle_serialize.specs.declared.serialize.MatchArm.{MatchArm, MatchArm', out-MatchArm, roll-out-MatchArm}
-use Rattle.isle_serialize.specs.TreeViews.{tree_view, arm_view, steps_view, arms_view}
+use Rattle.isle_serialize.specs.TreeViews.{tree_view, arm_view, arms_view}
 use Rattle.isle_reading.specs.Walks.{Passed, met, Place, steps_from, steps_of_arms}
 
 -- an arm before others
@@ -35,10 +34,6 @@ arm_alone path source a =
     ap (λ (y : MatchArm). steps_of_arms path source (arm_view y no_arm)) (sym (roll-out-MatchArm a))
     ∙ ap (steps_of_arms path source) (arm_seen (out-MatchArm a).constraint (out-MatchArm a).bindings (out-MatchArm a).body no_arm)
     ∙ append-nil (steps_from (path ++ met source (constraint_view (out-MatchArm a).constraint) ∷ []) (tree_view (out-MatchArm a).body))
-
--- the steps of a block
-pub block_steps : (b : Block) → tree_view b ≡ steps_view (out-Block b).steps.items
-block_steps b = ap tree_view (sym (roll-out-Block b)) ∙ block_seen (out-Block b).steps
 
 -- what was added is the same under another name
 pub added_so : {A E : Type 0} (r : Result A E) (now held xs ys : List Place) → xs ≡ ys → OnOk r (now ≡ held ++ xs) → OnOk r (now ≡ held ++ ys)

@@ -1,4 +1,4 @@
 pub mod Lookups
-pub mod Named
+pub mod NameTexts
 pub mod Premises
 pub mod Walks

@@ -21,22 +21,22 @@ abbrev pub is_behind : Position → ℕ → SetRule → Bool
 is_behind at result rule = is_at at rule.at && (rule.result == result)
 
 -- the rule that a step takes, if it is a return
-abbrev pub rule_returned : List SetRule → Check → Option SetRule
-rule_returned rules (return_at at result) = find (is_behind at result) rules
-rule_returned rules _ = None
+abbrev pub returned_rule : List SetRule → Check → Option SetRule
+returned_rule rules (return_at at result) = find (is_behind at result) rules
+returned_rule rules _ = None
 
 -- the positions that an error names, in the order of its text; a mask comes last
-abbrev pub positions_of : Refusal → List Position
-positions_of (ill_typed at) = at ∷ []
-positions_of (unreachable at) = at ∷ []
-positions_of (overlapping rules) = rules
-positions_of (shadowing shadowed mask) = shadowed ++ mask ∷ []
-positions_of (past_limit limit at) = at ∷ []
+abbrev pub refusal_positions : Refusal → List Position
+refusal_positions (ill_typed at) = at ∷ []
+refusal_positions (unreachable at) = at ∷ []
+refusal_positions (overlapping rules) = rules
+refusal_positions (shadowing shadowed mask) = shadowed ++ mask ∷ []
+refusal_positions (past_limit limit at) = at ∷ []
 
 -- the ids of the rules at a position, in rule order
-abbrev pub rules_at : List TypedRule → Position → List ℕ
-rules_at rules at = map (λ r. r.id) (filter (λ r. is_at at r.at) rules)
+abbrev pub rule_numbers_at : List TypedRule → Position → List ℕ
+rule_numbers_at rules at = map (λ r. r.id) (filter (λ r. is_at at r.at) rules)
 
 -- the rules at each of these positions
-abbrev pub rules_at_each : List TypedRule → List Position → List ℕ
-rules_at_each rules places = flat_map (rules_at rules) places
+abbrev pub rule_numbers_at_each : List TypedRule → List Position → List ℕ
+rule_numbers_at_each rules places = flat_map (rule_numbers_at rules) places

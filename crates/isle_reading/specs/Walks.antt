@@ -41,8 +41,8 @@ abbrev mutual
       steps_from (path ++ met source constraint ∷ []) body ++ steps_of_arms path source rest
 
 -- the steps of a whole tree
-abbrev pub steps_of : Tree → List Place
-steps_of tree = steps_from [] tree
+abbrev pub steps_from_root : Tree → List Place
+steps_from_root tree = steps_from [] tree
 
 abbrev pub turn_view : Turn → Passed
 turn_view (T.Arm source constraint) = met source (constraint_view constraint)
@@ -52,11 +52,11 @@ turn_view (T.Loop result) = one_of result
 abbrev pub turn_views : List Turn → List Passed
 turn_views ts = map turn_view ts
 
-abbrev pub place_of : List Turn → EvalStep → Place
-place_of path s = record { path = turn_views path; binds = s.bind_order.items; check = check_view s.check }
+abbrev pub step_place : List Turn → EvalStep → Place
+step_place path s = record { path = turn_views path; binds = s.bind_order.items; check = check_view s.check }
 
 abbrev pub visit_view : Visit → Place
-visit_view v = place_of v.path.items v.step.now
+visit_view v = step_place v.path.items v.step.now
 
 abbrev pub visit_views : List Visit → List Place
 visit_views vs = map visit_view vs

@@ -6,7 +6,7 @@ ghost use Rattle.isle_model.specs.claims.Questions.{variant_by_id};
 ghost use Rattle.isle_types.specs.TypeViews.{type_views, variant_view};
 ghost use Rattle.isle_terms.specs.TermViews.{term_views};
 ghost use Rattle.isle_typed.specs.RuleViews.{rule_views};
-ghost use Rattle.isle_reading.specs.Named.{full_name_of_variant, name_of_rule, name_of_term, name_of_type, name_of_variant};
+ghost use Rattle.isle_reading.specs.NameTexts.{full_name_of_variant, name_of_rule, name_of_term, name_of_type, name_of_variant};
 
 use cranelift_isle::sema::{
     RuleId, Sym, TermEnv, TermId, Type, TypeEnv, TypeId, Variant, VariantId,

@@ -4,7 +4,7 @@ ghost use Rattle.std.specs.Prelude.{◌≡◌, ◌++◌, map, IfOk, OnOk};
 ghost use Rattle.isle_base.specs.ErrorViews.{error_view, span_starts};
 ghost use Rattle.isle_base.specs.SyntaxViews.{position};
 ghost use Rattle.isle_typed.specs.RuleViews.{rule_views};
-ghost use Rattle.isle_reading.specs.Lookups.{positions_of, rules_at, rules_at_each};
+ghost use Rattle.isle_reading.specs.Lookups.{refusal_positions, rule_numbers_at, rule_numbers_at_each};
 
 use cranelift_isle::sema::{RuleId, TermEnv};
 use cranelift_isle::syntax::{Error, Pos, Span};
@@ -17,7 +17,7 @@ use std::alloc::{AllocError, Global};
 ///
 /// Where memory is refused.
 pub fn positions(alloc: Global, error: &Error) -> Result<Vec<Pos>, AllocError>
-    ensures { IfOk result (λ v. map position v.items ≡ positions_of (error_view error.now)) }
+    ensures { IfOk result (λ v. map position v.items ≡ refusal_positions (error_view error.now)) }
 {
     match error {
         Error::TypeError { span, .. }
@@ -49,7 +49,7 @@ fn starts(alloc: Global, spans: &[Span]) -> Result<Vec<Pos>, AllocError>
 ///
 /// Where memory is refused.
 pub fn rules_at(alloc: Global, termenv: &TermEnv, pos: Pos) -> Result<Vec<RuleId>, AllocError>
-    ensures { IfOk result (λ v. map (λ r. r.0) v.items ≡ rules_at (rule_views termenv.now.rules.items) (position pos)) }
+    ensures { IfOk result (λ v. map (λ r. r.0) v.items ≡ rule_numbers_at (rule_views termenv.now.rules.items) (position pos)) }
 {
     let mut found = Vec::new(alloc);
     for rule in &termenv.rules {
@@ -70,20 +70,19 @@ pub fn rules_named(
     termenv: &TermEnv,
     error: &Error,
 ) -> Result<Vec<RuleId>, AllocError>
-    ensures { IfOk result (λ v. map (λ r. r.0) v.items ≡ rules_at_each (rule_views termenv.now.rules.items) (positions_of (error_view error.now))) }
+    ensures { IfOk result (λ v. map (λ r. r.0) v.items ≡ rule_numbers_at_each (rule_views termenv.now.rules.items) (refusal_positions (error_view error.now))) }
 {
     let places = positions(alloc, error)?;
     let named = rules_at_each(alloc, termenv, &places)?;
     Ok(named)
 }
 
-// The rules at each of these positions.
 fn rules_at_each(
     alloc: Global,
     termenv: &TermEnv,
     places: &[Pos],
 ) -> Result<Vec<RuleId>, AllocError>
-    ensures { IfOk result (λ v. map (λ r. r.0) v.items ≡ rules_at_each (rule_views termenv.now.rules.items) (map position places.now)) }
+    ensures { IfOk result (λ v. map (λ r. r.0) v.items ≡ rule_numbers_at_each (rule_views termenv.now.rules.items) (map position places.now)) }
 {
     let mut named = Vec::new(alloc);
     for pos in places {
@@ -92,9 +91,8 @@ fn rules_at_each(
     Ok(named)
 }
 
-// Adds the rules at a position.
 fn push_rules_at(found: &mut Vec<RuleId>, termenv: &TermEnv, pos: Pos) -> Result<(), AllocError>
-    ensures { OnOk result (map (λ r. r.0) found.new.items ≡ map (λ r. r.0) found.old.items ++ rules_at (rule_views termenv.now.rules.items) (position pos)) }
+    ensures { OnOk result (map (λ r. r.0) found.new.items ≡ map (λ r. r.0) found.old.items ++ rule_numbers_at (rule_views termenv.now.rules.items) (position pos)) }
 {
     for rule in &termenv.rules {
         if rule.pos == pos {

@@ -6,7 +6,7 @@ ghost use Rattle.cranelift_isle.specs.Lowerings.{lowered_view, lowered_views};
 ghost use Rattle.isle_base.specs.SyntaxViews.{position};
 ghost use Rattle.isle_sets.specs.SiteViews.{set_rule_view, set_view};
 ghost use Rattle.isle_serialize.specs.TreeViews.{check_view};
-ghost use Rattle.isle_reading.specs.Lookups.{entry_of, is_behind, rule_returned};
+ghost use Rattle.isle_reading.specs.Lookups.{entry_of, is_behind, returned_rule};
 
 use cranelift_isle::lower::{Lowered, LoweredTerm};
 use cranelift_isle::sema::{Rule, RuleId, TermEnv, TermId};
@@ -48,7 +48,7 @@ pub fn rule_behind(set: &RuleSet, pos: Pos, result_site: BindingId) -> Option<&t
 
 /// The rule of a set that a step takes: the one behind a return (`rule_behind`). None where the step is no return.
 pub fn rule_returned<'a>(set: &'a RuleSet, step: &EvalStep) -> Option<&'a trie_again::Rule>
-    ensures { option_map (λ r. set_rule_view r.now) result ≡ rule_returned (set_view set.now).rules (check_view step.now.check) }
+    ensures { option_map (λ r. set_rule_view r.now) result ≡ returned_rule (set_view set.now).rules (check_view step.now.check) }
 {
     match &step.check {
         ControlFlow::Return { pos, result } => rule_behind(set, *pos, *result),

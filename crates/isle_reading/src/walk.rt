@@ -3,7 +3,7 @@
 ghost use Rattle.std.specs.Prelude.{◌≡◌, ◌++◌, ◌∷◌, [], length, IfOk, OnOk};
 ghost use Rattle.isle_model.specs.trees.Trees.{no_arm};
 ghost use Rattle.isle_serialize.specs.TreeViews.{arm_view, check_view, tree_view};
-ghost use Rattle.isle_reading.specs.Walks.{place_of, steps_from, steps_inside, steps_of, steps_of_arms, turn_view, turn_views, visit_view, visit_views};
+ghost use Rattle.isle_reading.specs.Walks.{step_place, steps_from, steps_inside, steps_from_root, steps_of_arms, turn_view, turn_views, visit_view, visit_views};
 
 use cranelift_isle::serialize::{Block, ControlFlow, EvalStep, MatchArm};
 use cranelift_isle::trie_again::{BindingId, Constraint};
@@ -57,14 +57,13 @@ impl<'a> Visit<'a> {
 ///
 /// Where memory is refused.
 pub fn steps<'a>(alloc: Global, block: &'a Block) -> Result<Vec<Visit<'a>>, AllocError>
-    ensures { IfOk result (λ v. visit_views v.items ≡ steps_of (tree_view block.now)) }
+    ensures { IfOk result (λ v. visit_views v.items ≡ steps_from_root (tree_view block.now)) }
 {
     let mut out = Vec::new(alloc);
     push_block(alloc, &mut out, &[], block)?;
     Ok(out)
 }
 
-// Adds the steps of a block.
 #[cycle(walk)]
 fn push_block<'a>(
     alloc: Global,
@@ -81,7 +80,6 @@ fn push_block<'a>(
     Ok(())
 }
 
-// Adds the steps inside a step.
 #[cycle(walk)]
 fn push_inside<'a>(
     alloc: Global,
@@ -110,7 +108,6 @@ fn push_inside<'a>(
     }
 }
 
-// Adds the steps of an arm.
 #[cycle(walk)]
 fn push_arm<'a>(
     alloc: Global,
@@ -129,14 +126,13 @@ fn push_arm<'a>(
     push_block(alloc, out, &inner, &arm.body)
 }
 
-// Adds a step.
 fn push_visit<'a>(
     alloc: Global,
     out: &mut Vec<Visit<'a>>,
     path: &[Turn],
     step: &'a EvalStep,
 ) -> Result<(), AllocError>
-    ensures { OnOk result (visit_views out.new.items ≡ visit_views out.old.items ++ place_of path.now step.now ∷ []) }
+    ensures { OnOk result (visit_views out.new.items ≡ visit_views out.old.items ++ step_place path.now step.now ∷ []) }
 {
     let path = path_of(alloc, path)?;
     out.push(Visit { path, step })?;

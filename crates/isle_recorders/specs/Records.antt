@@ -27,29 +27,29 @@ pub data SeenCall : Type 0 where
   seen_expr_as_pattern : (expr : ℕ) → SeenCall
   seen_pattern_as_expr : (pattern : ℕ) → SeenCall
 
-abbrev pub call_view : Call → SeenCall
-call_view (AddArg index ty) = seen_arg index ty
-call_view AddPattern = seen_pattern
-call_view (AddMatchEqual a b ty) = seen_match_equal a b ty
-call_view (AddMatchBool input ty b) = seen_match_bool input ty b
-call_view (AddMatchInt input ty z) = seen_match_int input ty z
-call_view (AddMatchPrim input ty name) = seen_match_prim input ty name
-call_view (AddMatchVariant input ty tys variant) = seen_match_variant input ty tys.items variant
-call_view (AddExtractStruct input ty tys) = seen_extract_struct input ty tys.items
-call_view (AddExtract input ty tys term infallible multi) = seen_extract input ty tys.items term infallible multi
-call_view AddExpr = seen_expr
-call_view (AddConstBool ty b) = seen_const_bool ty b
-call_view (AddConstInt ty z) = seen_const_int ty z
-call_view (AddConstPrim ty name) = seen_const_prim ty name
-call_view (AddCreateVariant inputs ty variant) = seen_create_variant inputs.items ty variant
-call_view (AddCreateStruct inputs ty) = seen_create_struct inputs.items ty
-call_view (AddConstruct inputs ty term pure infallible multi recursive) = seen_construct inputs.items ty term pure infallible multi recursive
-call_view (ExprAsPattern expr) = seen_expr_as_pattern expr
-call_view (PatternAsExpr pattern) = seen_pattern_as_expr pattern
+abbrev pub noted_call : Call → SeenCall
+noted_call (AddArg index ty) = seen_arg index ty
+noted_call AddPattern = seen_pattern
+noted_call (AddMatchEqual a b ty) = seen_match_equal a b ty
+noted_call (AddMatchBool input ty b) = seen_match_bool input ty b
+noted_call (AddMatchInt input ty z) = seen_match_int input ty z
+noted_call (AddMatchPrim input ty name) = seen_match_prim input ty name
+noted_call (AddMatchVariant input ty tys variant) = seen_match_variant input ty tys.items variant
+noted_call (AddExtractStruct input ty tys) = seen_extract_struct input ty tys.items
+noted_call (AddExtract input ty tys term infallible multi) = seen_extract input ty tys.items term infallible multi
+noted_call AddExpr = seen_expr
+noted_call (AddConstBool ty b) = seen_const_bool ty b
+noted_call (AddConstInt ty z) = seen_const_int ty z
+noted_call (AddConstPrim ty name) = seen_const_prim ty name
+noted_call (AddCreateVariant inputs ty variant) = seen_create_variant inputs.items ty variant
+noted_call (AddCreateStruct inputs ty) = seen_create_struct inputs.items ty
+noted_call (AddConstruct inputs ty term pure infallible multi recursive) = seen_construct inputs.items ty term pure infallible multi recursive
+noted_call (ExprAsPattern expr) = seen_expr_as_pattern expr
+noted_call (PatternAsExpr pattern) = seen_pattern_as_expr pattern
 
 -- a call more is noted, and so many ids more are given
 abbrev pub HasNoted : SeenCall → ℕ → Recorder → Recorder → Type 0
-HasNoted call given s t = (map call_view t.calls.items ≡ map call_view s.calls.items ++ (call ∷ [])) × (t.next ≡ s.next + given) × (t.stops_at ≡ s.stops_at)
+HasNoted call given s t = (map noted_call t.calls.items ≡ map noted_call s.calls.items ++ (call ∷ [])) × (t.next ≡ s.next + given) × (t.stops_at ≡ s.stops_at)
 
 abbrev pub IsAsBefore : Recorder → Recorder → Type 0
 IsAsBefore s t = (t.calls.items ≡ s.calls.items) × (t.next ≡ s.next) × (t.stops_at ≡ s.stops_at)

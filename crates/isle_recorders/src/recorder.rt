@@ -3,7 +3,7 @@
 ghost use Rattle.std.specs.Prelude.{◌≡◌, ◌-◌, IfOk, Ok, length, vec_len};
 ghost use Rattle.std.specs.List.{range_with_len};
 ghost use Rattle.isle_typed.specs.VisitAnswers.{listed, type_numbers, typed_inputs};
-ghost use Rattle.isle_recorders.specs.Records.{call_view, seen_arg, seen_pattern, seen_match_equal, seen_match_bool, seen_match_int, seen_match_prim, seen_match_variant, seen_extract_struct, seen_extract, seen_expr, seen_const_bool, seen_const_int, seen_const_prim, seen_create_variant, seen_create_struct, seen_construct, seen_expr_as_pattern, seen_pattern_as_expr, Records};
+ghost use Rattle.isle_recorders.specs.Records.{noted_call, seen_arg, seen_pattern, seen_match_equal, seen_match_bool, seen_match_int, seen_match_prim, seen_match_variant, seen_extract_struct, seen_extract, seen_expr, seen_const_bool, seen_const_int, seen_const_prim, seen_create_variant, seen_create_struct, seen_construct, seen_expr_as_pattern, seen_pattern_as_expr, Records};
 
 use isle_typed::{Body, ExprVisitor, PatternVisitor, RuleVisitor, VisitFault, VisitedExpr};
 use isle_types::{Sym, TermId, TypeId, VariantId};
@@ -44,7 +44,6 @@ pub struct Recorder {
     stops_at: usize,
 }
 
-// The numbers of types.
 fn numbers(alloc: Global, tys: &[TypeId]) -> Result<Vec<usize>, AllocError>
     ensures { IfOk result (λ v. v.items ≡ type_numbers tys.now) }
 {
@@ -81,7 +80,7 @@ impl Recorder {
     }
 
     fn note(&mut self, call: Call) -> Result<(), VisitFault>
-        ensures { Records (call_view call) 0 tt self.old result self.new }
+        ensures { Records (noted_call call) 0 tt self.old result self.new }
     {
         self.calls.push(call)?;
         if self.calls.len() < self.stops_at {
@@ -93,7 +92,7 @@ impl Recorder {
 
     // Notes a call that is answered by so many new ids. Ids run out as memory does.
     fn give(&mut self, call: Call, count: usize) -> Result<Vec<usize>, VisitFault>
-        ensures noted { Records (call_view call) count (range_with_len self.old.next count) self.old (listed result) self.new }
+        ensures noted { Records (noted_call call) count (range_with_len self.old.next count) self.old (listed result) self.new }
         ensures count { IfOk result (λ ids. vec_len ids ≡ count) }
     {
         let first = self.next;
@@ -108,7 +107,7 @@ impl Recorder {
 
     // Notes a call that is answered by one new id.
     fn give_one(&mut self, call: Call) -> Result<usize, VisitFault>
-        ensures { Records (call_view call) 1 self.old.next self.old result self.new }
+        ensures { Records (noted_call call) 1 self.old.next self.old result self.new }
     {
         let id = self.next;
         let Some(next) = id.checked_add(1) else {

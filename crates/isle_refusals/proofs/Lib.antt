@@ -1,1 +1,1 @@
-mod Left
+mod TypesAfterRefusal

@@ -4,7 +4,7 @@ ghost use Rattle.std.specs.Prelude.{OnErr};
 ghost use Rattle.isle_base.specs.SyntaxViews.{definition_views};
 ghost use Rattle.isle_model.specs.claims.Environments.{AreTypesOf};
 ghost use Rattle.isle_types.specs.EnvViews.{environment_view};
-ghost use Rattle.isle_refusals.specs.Left.{IsLeftOf};
+ghost use Rattle.isle_refusals.specs.TypesAfterRefusal.{IsLeftOf};
 
 use isle_base::stablemapset::StableMap;
 use isle_base::syntax::{Def, Error, Fault};

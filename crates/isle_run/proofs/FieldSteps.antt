@@ -1,5 +1,5 @@
 -- Fields, one after another.
-use Rattle.std.proofs.Common.{◌≡◌, ℕ, zero, suc, ◌+◌, ◌<◌, ◌≤◌, List, [], ◌∷◌, ◌++◌, length, get_or, drop, Option, Some, None, is_none, slice_get, if◌then◌else◌, ◌==◌, ◌&&◌, true, arith, Vec, refl, sym, ap, ◌∙◌, append_assoc}
+use Rattle.std.proofs.Common.{◌≡◌, ℕ, zero, suc, ◌+◌, ◌<◌, ◌≤◌, List, [], ◌∷◌, ◌++◌, length, get_or, drop, Option, Some, None, slice_get, if◌then◌else◌, ◌==◌, ◌&&◌, true, arith, Vec, refl, sym, ap, ◌∙◌, append_assoc}
 use Rattle.std.proofs.lemmas.List.{at_drop_more, at_drop_all, append-nil, map-append, drop_more}
 use Rattle.isle_model.specs.rules.Values as Values
 use Rattle.isle_model.specs.rules.Values.{listed}
@@ -15,7 +15,7 @@ use Rattle.isle_types.specs.declared.ids.VariantId.{VariantId}
 use Rattle.isle_run.specs.declared.values.Value as V
 use Rattle.isle_run.specs.declared.values.Value.{Value}
 use Rattle.isle_run.proofs.ValueSteps.{view-Struct, view-Variant}
-use Rattle.isle_run.specs.RunViews.{content_list, if_bound, with_field}
+use Rattle.isle_run.specs.RunViews.{content_list, with_field}
 use Rattle.isle_run.specs.ValueViews.{value_view, value_views, content_view, content_views}
 
 -- 1. each value as a content
@@ -75,15 +75,6 @@ pub field_missing : (fs : List (Option ℕ)) (cs : List Content) (f : Option ℕ
 field_missing fs cs f i env whole h none inv =
     sym (none_left (get_or fs i f) (drop (i + 1) fs) env)
     ∙ ap (λ l. bind_fields l [] env) (sym (drop_more fs i f h)) ∙ ap (λ l. bind_fields (drop i fs) l env) (sym (past cs i none)) ∙ inv
-
-last : (cs : List Content) (i : ℕ) (env : Env) → if_bound (is_none (slice_get cs i)) env ≡ bind_fields [] (content_list (drop i cs)) env
-last [] zero env = refl
-last [] (suc i) env = refl
-last (c ∷ cs) zero env = refl
-last (c ∷ cs) (suc i) env = last cs i env
-
-pub fields_done : (fs : List (Option ℕ)) (cs : List Content) (i : ℕ) (env : Env) (whole : Option Env) → length fs ≤ i → bind_fields (drop i fs) (content_list (drop i cs)) env ≡ whole → if_bound (is_none (slice_get cs i)) env ≡ whole
-fields_done fs cs i env whole h inv = last cs i env ∙ sym (at_drop_all (λ l. bind_fields l (content_list (drop i cs)) env) fs i h) ∙ inv
 
 -- 4. what a content brings, by its form
 pub one_brings : (m : Meaning) (constraint : Constraint) (v : Values.Value) → content_fields m constraint (M.one v) ≡ value_fields m constraint v

@@ -1,7 +1,7 @@
 -- A run's steps, by their views.
 use Rattle.std.proofs.Common.{◌≡◌, ℕ, Bool, true, false, ◌+◌, ◌<◌, ◌≤◌, if◌then◌else◌, List, [], ◌∷◌, ◌++◌, length, get_or, drop, Option, Some, None, slice_get, refl, sym, ap, ◌∙◌}
 use Rattle.std.proofs.lemmas.Bool.{false≢true}
-use Rattle.std.proofs.lemmas.List.{at_drop_more, at_drop_all, map-append}
+use Rattle.std.proofs.lemmas.List.{at_drop_more, at_drop_all}
 use Rattle.isle_model.specs.rules.Meaning as M
 use Rattle.isle_model.specs.rules.Values as Values
 use Rattle.isle_model.specs.rules.Outcome as O
@@ -9,21 +9,16 @@ use Rattle.isle_model.specs.rules.Outcome.{Outcome, then_option}
 use Rattle.isle_model.specs.trees.Trees.{Tree, step, Check, match_at, equal_at, loop_at, return_at, Arms, arm}
 use Rattle.isle_model.specs.trees.Run.{Env, Trace, all_bound, unwrap_failed, no_content_there, ending_at, with_calls, on_bound, on_ending, or_next, with_env, with_content, on_met, on_equal, for_each, on_many, iterated, returned, bind_fields, World, used, used_value, bind_all, content_fields, run_tree, run_check, run_arms}
 use Rattle.isle_serialize.specs.declared.serialize.EvalStep.{EvalStep}
-use Rattle.isle_serialize.specs.declared.serialize.Block.{Block, out-Block, roll-out-Block}
 use Rattle.isle_serialize.specs.declared.serialize.MatchArm.{MatchArm, out-MatchArm, roll-out-MatchArm}
 use Rattle.isle_serialize.specs.TreeViews.{tree_view, check_view, arm_view, steps_view, arms_view}
-use Rattle.isle_serialize.proofs.TreeLaws.{arm_seen, block_seen}
+use Rattle.isle_serialize.proofs.TreeLaws.{arm_seen}
 use Rattle.isle_sets.specs.SiteViews.{constraint_view}
 use Rattle.isle_run.specs.declared.values.Content.{Content}
 use Rattle.isle_run.specs.declared.state.Ending as E
 use Rattle.isle_run.specs.declared.state.Ending.TheVariants.{Ended, Failed, RanThrough, Stuck}
 use Rattle.isle_run.specs.declared.state.Trace as T
-use Rattle.isle_run.specs.RunViews.{call_views, content_list, ending_view, is_through, outcome_at, trace_view, equality_by, many_by}
+use Rattle.isle_run.specs.RunViews.{content_list, ending_view, is_through, outcome_at, trace_view, equality_by, many_by}
 use Rattle.isle_run.specs.ValueViews.{content_view}
-
--- 0. the steps of a block
-pub block_is : (b : Block) → tree_view b ≡ steps_view (out-Block b).steps.items
-block_is b = ap tree_view (sym (roll-out-Block b)) ∙ block_seen (out-Block b).steps
 
 -- 1. how steps end
 pub through : (e : E.Ending) (t : Trace) (go : Trace → Outcome) → is_through e ≡ true → on_ending (ending_view e) t go ≡ go t
@@ -135,19 +130,7 @@ module _ (w : World) where
   pub return_ran : (at : _) (result : ℕ) (env : Env) (t : Trace) (o : Outcome) → o ≡ with_content (used w env result) t (returned w.multi t) → o ≡ run_check (return_at at result) w env t
   return_ran at result env t o is = is
 
-  -- 5. results
-  returned_is : (multi : Bool) (t : Trace) (c : M.Content) → returned multi t c ≡ record { calls = t.calls; results = t.results ++ c ∷ []; ending = if multi then O.ran_through else O.ended }
-  returned_is true t c = refl
-  returned_is false t c = refl
-
-  pub gave : (site : ℕ) (env : Env) (old new : T.Trace) (multi : Bool) (c : Content) (e : E.Ending) → Some (content_view c) ≡ used w env site → call_views new.calls.items ≡ call_views old.calls.items
-      → new.results.items ≡ old.results.items ++ c ∷ [] → ending_view e ≡ (if multi then O.ran_through else O.ended)
-      → outcome_at e new ≡ with_content (used w env site) (trace_view old) (returned multi (trace_view old))
-  gave site env old new multi c e there calls results ending =
-      (λ i. record { calls = calls i; results = (ap content_list results ∙ map-append content_view old.results.items (c ∷ [])) i; ending = ending i })
-      ∙ sym (returned_is multi (trace_view old) (content_view c)) ∙ ap (λ o. with_content o (trace_view old) (returned multi (trace_view old))) there
-
-  -- 6. loops
+  -- 5. loops
   abbrev on_answers : Option (List M.Content) → (M.Content → Trace → Outcome) → Trace → Outcome
   on_answers None go t = ending_at O.stuck t
   on_answers (Some cs) go t = for_each cs go t

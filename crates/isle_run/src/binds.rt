@@ -91,7 +91,6 @@ fn extracted<E: Externs>(
     }
 }
 
-// A variant of the values of sites.
 fn variant_made<E: Externs>(
     stage: &Stage<'_, E>,
     env: &[(BindingId, Content)],
@@ -108,7 +107,6 @@ fn variant_made<E: Externs>(
     }
 }
 
-// A struct of the values of sites.
 fn struct_made<E: Externs>(
     stage: &Stage<'_, E>,
     env: &[(BindingId, Content)],

@@ -28,7 +28,6 @@ fn each_one(alloc: Global, values: &[Value]) -> Result<Vec<Content>, AllocError>
     Ok(out)
 }
 
-// The fields of a value of this variant.
 fn variant_fields(
     alloc: Global,
     ty: TypeId,
@@ -50,7 +49,6 @@ fn variant_fields(
     }
 }
 
-// The fields of a value that is this struct.
 fn struct_fields(
     alloc: Global,
     ty: TypeId,

@@ -109,7 +109,6 @@ pub fn same_value(a: &Value, b: &Value) -> bool
     }
 }
 
-// Whether the values of two lists are equal, in order.
 #[cycle(same)]
 fn same_values(a: &[Value], b: &[Value]) -> bool
     ensures { result ≡ values_eq (value_views a.now) (value_views b.now) }
@@ -220,7 +219,6 @@ impl Clone for Content {
     }
 }
 
-// The clones of several contents.
 #[cycle(content_clone)]
 fn content_clones(alloc: Global, parts: &[Content]) -> Result<Vec<Content>, AllocError>
     ensures { IfOk result (λ v. content_views v.items ≡ content_views parts.now) }

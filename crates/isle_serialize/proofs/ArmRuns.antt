@@ -19,7 +19,7 @@ use Rattle.isle_laws_runs.proofs.runs.Order.{before_chain, before_itself}
 use Rattle.isle_laws_trees.proofs.Constraints.{that_exact}
 use Rattle.isle_laws_trees.proofs.ConstraintsTotal.{before_total}
 use Rattle.isle_serialize.specs.declared.arms.Asked.{Asked}
-use Rattle.isle_serialize.specs.Turns.{asked_at, asks, asks_some, asked_view, asks_that, numbers, AreAsked, is_ahead, Ascend, AreTurns, AreInTurn, IsLeastAsked}
+use Rattle.isle_serialize.specs.Turns.{asked_at, asks, asks_some, asked_constraint, asks_that, asked_numbers, AreAsked, is_ahead, Ascend, AreTurns, AreInTurn, IsLeastAsked}
 use Rattle.isle_serialize.proofs.Descents.{none_kept}
 use Rattle.isle_serialize.proofs.Growth.{all_kept}
 
@@ -27,11 +27,11 @@ use Rattle.isle_serialize.proofs.Growth.{all_kept}
 not_itself : (c : Constraint) → comes_before c c ≡ false
 not_itself c = false_from_ne_true (comes_before c c) (before_itself c)
 
-same_as : (c : Constraint) (a : Asked) → asks_that c a ≡ true → asked_view a ≡ c
-same_as c a h = same_Some (asked_view a) c ((that_exact (Some (asked_view a)) c).0 h)
+same_as : (c : Constraint) (a : Asked) → asks_that c a ≡ true → asked_constraint a ≡ c
+same_as c a h = same_Some (asked_constraint a) c ((that_exact (Some (asked_constraint a)) c).0 h)
 
-from_same : (c : Constraint) (a : Asked) → asked_view a ≡ c → asks_that c a ≡ true
-from_same c a e = (that_exact (Some (asked_view a)) c).1 (ap Some e)
+from_same : (c : Constraint) (a : Asked) → asked_constraint a ≡ c → asks_that c a ≡ true
+from_same c a e = (that_exact (Some (asked_constraint a)) c).1 (ap Some e)
 
 not_before_chain : (x y z : Constraint) → comes_before x y ≡ false → comes_before y z ≡ false → comes_before x z ≡ false
 not_before_chain x y z h k =
@@ -46,20 +46,20 @@ not_before_chain x y z h k =
 
 pub order : IsStrictWeakOrder is_ahead
 order = record {
-  one_way = λ a b h. false_from_ne_true (is_ahead b a) (λ t. before_itself (asked_view a) (before_chain (asked_view a) (asked_view b) (asked_view a) h t));
-  chain = λ a b c. not_before_chain (asked_view a) (asked_view b) (asked_view c);
+  one_way = λ a b h. false_from_ne_true (is_ahead b a) (λ t. before_itself (asked_constraint a) (before_chain (asked_constraint a) (asked_constraint b) (asked_constraint a) h t));
+  chain = λ a b c. not_before_chain (asked_constraint a) (asked_constraint b) (asked_constraint c);
 }
 
 -- those that tie with one ask the same
-ask_alike : (a b : Asked) → asks_that (asked_view a) b ≡ ties is_ahead a b
+ask_alike : (a b : Asked) → asks_that (asked_constraint a) b ≡ ties is_ahead a b
 ask_alike a b =
-    bool_same (asks_that (asked_view a) b) (ties is_ahead a b)
-    (λ h. let e = same_as (asked_view a) b h in
-    and_from (not (is_ahead a b)) (not (is_ahead b a)) (ap not (ap (comes_before (asked_view a)) e ∙ not_itself (asked_view a)))
-    (ap not (ap (λ c. comes_before c (asked_view a)) e ∙ not_itself (asked_view a))))
+    bool_same (asks_that (asked_constraint a) b) (ties is_ahead a b)
+    (λ h. let e = same_as (asked_constraint a) b h in
+    and_from (not (is_ahead a b)) (not (is_ahead b a)) (ap not (ap (comes_before (asked_constraint a)) e ∙ not_itself (asked_constraint a)))
+    (ap not (ap (λ c. comes_before c (asked_constraint a)) e ∙ not_itself (asked_constraint a))))
     (λ h. let both = and_parts (not (is_ahead a b)) (not (is_ahead b a)) h in
-    elim (before_total (asked_view b) (asked_view a) (of (is_ahead a b) both.0)) [
-      | inl e ↦ from_same (asked_view a) b e
+    elim (before_total (asked_constraint b) (asked_constraint a) (of (is_ahead a b) both.0)) [
+      | inl e ↦ from_same (asked_constraint a) b e
       | inr t ↦ absurd (false≢true (ap not (sym t) ∙ both.1))
     ])
   where
@@ -87,7 +87,7 @@ in_drop (suc k) (x ∷ xs) a c = in_tail x a xs (in_drop k xs a c)
 
 -- none asks what comes before c
 abbrev NoneBefore : Constraint → List Asked → Type 0
-NoneBefore c xs = (a : Asked) → Contains xs a → comes_before (asked_view a) c ≡ false
+NoneBefore c xs = (a : Asked) → Contains xs a → comes_before (asked_constraint a) c ≡ false
 
 none_before_rest : (c : Constraint) (x : Asked) (xs : List Asked) → NoneBefore c (x ∷ xs) → NoneBefore c xs
 none_before_rest c x xs f a k = f a (in_tail x a xs k)
@@ -97,12 +97,12 @@ module _ (c : Constraint) where
   is_c = asks_that c
 
   -- behind one that asks another constraint no one asks c
-  no_more : (b : Asked) (xs : List Asked) → is_c b ≡ false → comes_before (asked_view b) c ≡ false → ((a : Asked) → Contains xs a → is_ahead a b ≡ false) → (a : Asked) → Contains xs a → is_c a ≡ false
+  no_more : (b : Asked) (xs : List Asked) → is_c b ≡ false → comes_before (asked_constraint b) c ≡ false → ((a : Asked) → Contains xs a → is_ahead a b ≡ false) → (a : Asked) → Contains xs a → is_c a ≡ false
   no_more b xs f n later a k =
       false_from_ne_true (is_c a) (λ t.
-      elim (before_total c (asked_view b) n) [
+      elim (before_total c (asked_constraint b) n) [
         | inl e ↦ false≢true (sym f ∙ from_same c b (sym e))
-        | inr d ↦ false≢true (sym (later a k) ∙ ap (λ w. comes_before w (asked_view b)) (same_as c a t) ∙ d)
+        | inr d ↦ false≢true (sym (later a k) ∙ ap (λ w. comes_before w (asked_constraint b)) (same_as c a t) ∙ d)
       ])
 
   -- those that ask c stand at the head
@@ -135,14 +135,14 @@ module _ (c : Constraint) where
       others ys = filter (λ a. not (is_c a)) ys
 
 -- 3. the rules that ask
-numbers_kept : (f : ℕ → Bool) (p : Asked → Bool) (xs : List Asked) → ((a : Asked) → Contains xs a → f a.number ≡ p a) → filter f (numbers xs) ≡ numbers (filter p xs)
+numbers_kept : (f : ℕ → Bool) (p : Asked → Bool) (xs : List Asked) → ((a : Asked) → Contains xs a → f a.number ≡ p a) → filter f (asked_numbers xs) ≡ asked_numbers (filter p xs)
 numbers_kept f p [] h = refl
 numbers_kept f p (a ∷ xs) h =
     let rest = numbers_kept f p xs (λ b c. h b (in_tail a b xs c)) in
     let this = h a (in_head a xs) in
     (λ i. cond (this i) (a.number ∷ rest i) (rest i)) ∙ of (p a)
   where
-    of : (b : Bool) → cond b (a.number ∷ numbers (filter p xs)) (numbers (filter p xs)) ≡ numbers (cond b (a ∷ filter p xs) (filter p xs))
+    of : (b : Bool) → cond b (a.number ∷ asked_numbers (filter p xs)) (asked_numbers (filter p xs)) ≡ asked_numbers (cond b (a ∷ filter p xs) (filter p xs))
     of true = refl
     of false = refl
 
@@ -156,10 +156,10 @@ kept_within p q (x ∷ xs) h =
     ]
 
 module _ (rules : List SetRule) (s : ℕ) where
-  asks_told : (c : Constraint) (xs : List Asked) → AreAsked rules s xs → filter (asks rules s c) (numbers xs) ≡ numbers (filter (asks_that c) xs)
+  asks_told : (c : Constraint) (xs : List Asked) → AreAsked rules s xs → filter (asks rules s c) (asked_numbers xs) ≡ asked_numbers (filter (asks_that c) xs)
   asks_told c xs each = numbers_kept (asks rules s c) (asks_that c) xs (λ a k. ap (λ o. is_that o c) (each a k))
 
-  others_told : (c : Constraint) (xs : List Asked) → AreAsked rules s xs → filter (λ i. not (asks rules s c i)) (numbers xs) ≡ numbers (filter (λ a. not (asks_that c a)) xs)
+  others_told : (c : Constraint) (xs : List Asked) → AreAsked rules s xs → filter (λ i. not (asks rules s c i)) (asked_numbers xs) ≡ asked_numbers (filter (λ a. not (asks_that c a)) xs)
   others_told c xs each = numbers_kept (λ i. not (asks rules s c i)) (λ a. not (asks_that c a)) xs (λ a k. ap (λ o. not (is_that o c)) (each a k))
 
   some_asked : (c : Constraint) (i : ℕ) → asks_some rules s i ≡ false → asks rules s c i ≡ false
@@ -170,16 +170,16 @@ module _ (rules : List SetRule) (s : ℕ) where
       of (Some d) e = absurd (false≢true (sym e))
 
   -- one rule more
-  pub asked_more : (here : List ℕ) (k : ℕ) (xs ys : List Asked) (a : Asked) → k < length here → a.number ≡ get_or here k 0 → asked_at rules s (get_or here k 0) ≡ Some (asked_view a) → ys ≡ xs ++ a ∷ []
-      → AreAsked rules s xs → numbers xs ≡ filter (asks_some rules s) (take k here) → AreAsked rules s ys × (numbers ys ≡ filter (asks_some rules s) (take (k + 1) here))
+  pub asked_more : (here : List ℕ) (k : ℕ) (xs ys : List Asked) (a : Asked) → k < length here → a.number ≡ get_or here k 0 → asked_at rules s (get_or here k 0) ≡ Some (asked_constraint a) → ys ≡ xs ++ a ∷ []
+      → AreAsked rules s xs → asked_numbers xs ≡ filter (asks_some rules s) (take k here) → AreAsked rules s ys × (asked_numbers ys ≡ filter (asks_some rules s) (take (k + 1) here))
   asked_more here k xs ys a l n e is each h = (
     subst (AreAsked rules s) (sym is) (λ b m. elim (Contains-append_cases xs (a ∷ []) b m) [
       | inl q ↦ each b q
-      | inr q ↦ subst (λ x. asked_at rules s x.number ≡ Some (asked_view x)) (in_alone a b q) (ap (asked_at rules s) n ∙ e)
+      | inr q ↦ subst (λ x. asked_at rules s x.number ≡ Some (asked_constraint x)) (in_alone a b q) (ap (asked_at rules s) n ∙ e)
     ]),
     (
         let this : asks_some rules s (get_or here k 0) ≡ true = ap is_some e in
-        ap numbers is ∙ map_push (λ x. x.number) xs a ∙ (λ i. h i ++ n i ∷ [])
+        ap asked_numbers is ∙ map_push (λ x. x.number) xs a ∙ (λ i. h i ++ n i ∷ [])
         ∙ ap (λ m. filter (asks_some rules s) (take k here) ++ m) (sym (cond-true (asks_some rules s (get_or here k 0)) (get_or here k 0 ∷ []) [] this))
         ∙ sym (filter_more (asks_some rules s) here k 0 l)),
   )
@@ -192,13 +192,13 @@ module _ (rules : List SetRule) (s : ℕ) where
       ∙ sym (filter_more (asks_some rules s) here k 0 l)
 
   -- a stable sort puts them in turn
-  pub in_turn : (here : List ℕ) (xs ys : List Asked) → AreAsked rules s xs → numbers xs ≡ filter (asks_some rules s) here → IsPermutation xs ys → IsSortedBy is_ahead ys → IsStableBy is_ahead xs ys → AreInTurn rules s here ys
+  pub in_turn : (here : List ℕ) (xs ys : List Asked) → AreAsked rules s xs → asked_numbers xs ≡ filter (asks_some rules s) here → IsPermutation xs ys → IsSortedBy is_ahead ys → IsStableBy is_ahead xs ys → AreInTurn rules s here ys
   in_turn here xs ys each e moved sorted stable = record {
     told = record { each = each_sorted; ascend = ascends ys (sorted_far is_ahead order ys sorted) };
-    same = subst (λ l. IsPermutation l (numbers ys)) e (IsPermutation-map (λ a. a.number) xs ys moved);
-    kept = λ a. let c = asked_view a in
+    same = subst (λ l. IsPermutation l (asked_numbers ys)) e (IsPermutation-map (λ a. a.number) xs ys moved);
+    kept = λ a. let c = asked_constraint a in
         asks_told c ys each_sorted
-        ∙ ap numbers (tied a ys ∙ stable a ∙ sym (tied a xs))
+        ∙ ap asked_numbers (tied a ys ∙ stable a ∙ sym (tied a xs))
         ∙ sym (asks_told c xs each)
         ∙ ap (filter (asks rules s c)) e
         ∙ kept_within (asks rules s c) (asks_some rules s) here (some_asked c);
@@ -207,43 +207,43 @@ module _ (rules : List SetRule) (s : ℕ) where
       each_sorted : AreAsked rules s ys
       each_sorted a k = each a (Contains-permutation ys xs a (IsPermutation-sym xs ys moved) k)
 
-      tied : (a : Asked) (zs : List Asked) → filter (asks_that (asked_view a)) zs ≡ filter (ties is_ahead a) zs
-      tied a zs = filter_agree (asks_that (asked_view a)) (ties is_ahead a) (ask_alike a) zs
+      tied : (a : Asked) (zs : List Asked) → filter (asks_that (asked_constraint a)) zs ≡ filter (ties is_ahead a) zs
+      tied a zs = filter_agree (asks_that (asked_constraint a)) (ties is_ahead a) (ask_alike a) zs
 
   pub turns_behind : (k : ℕ) (xs : List Asked) → AreTurns rules s xs → AreTurns rules s (drop k xs)
   turns_behind k xs t = record { each = λ a c. t.each a (in_drop k xs a c); ascend = ascend_drop k xs t.ascend }
 
   -- 4. the arm at the head
-  least_first : (a : Asked) (xs : List Asked) → AreTurns rules s (a ∷ xs) → IsLeastAsked rules s (numbers (a ∷ xs)) (asked_view a)
+  least_first : (a : Asked) (xs : List Asked) → AreTurns rules s (a ∷ xs) → IsLeastAsked rules s (asked_numbers (a ∷ xs)) (asked_constraint a)
   least_first a xs t = (
-    (a.number, in_head a.number (numbers xs), t.each a (in_head a xs)),
+    (a.number, in_head a.number (asked_numbers xs), t.each a (in_head a xs)),
     λ i d k e. (
         let m = from_map (λ b. b.number) (a ∷ xs) i k in
-        let asked : asked_view m.0 ≡ d = same_Some (asked_view m.0) d (sym (t.each m.0 m.1) ∙ ap (asked_at rules s) m.2 ∙ e) in
-        subst (λ w. comes_before w (asked_view a) ≡ false) asked (none m.0 m.1)),
+        let asked : asked_constraint m.0 ≡ d = same_Some (asked_constraint m.0) d (sym (t.each m.0 m.1) ∙ ap (asked_at rules s) m.2 ∙ e) in
+        subst (λ w. comes_before w (asked_constraint a) ≡ false) asked (none m.0 m.1)),
   )
     where
       none : (b : Asked) → Contains (a ∷ xs) b → is_ahead b a ≡ false
       none b k = elim (in_cases a b xs k) [
-        | inl e ↦ subst (λ w. is_ahead w a ≡ false) e (not_itself (asked_view a))
+        | inl e ↦ subst (λ w. is_ahead w a ≡ false) e (not_itself (asked_constraint a))
         | inr m ↦ t.ascend.0 b m
       ]
 
-  pub least_of : (xs : List Asked) (a : Asked) → slice_get xs 0 ≡ Some a → AreTurns rules s xs → IsLeastAsked rules s (numbers xs) (asked_view a)
+  pub least_of : (xs : List Asked) (a : Asked) → slice_get xs 0 ≡ Some a → AreTurns rules s xs → IsLeastAsked rules s (asked_numbers xs) (asked_constraint a)
   least_of [] a e t = absurd (none-some a e)
-  least_of (x ∷ xs) a e t = subst (λ b. IsLeastAsked rules s (numbers (x ∷ xs)) (asked_view b)) (same_Some x a e) (least_first x xs t)
+  least_of (x ∷ xs) a e t = subst (λ b. IsLeastAsked rules s (asked_numbers (x ∷ xs)) (asked_constraint b)) (same_Some x a e) (least_first x xs t)
 
-  module _ (c : Constraint) (xs : List Asked) (t : AreTurns rules s xs) (least : IsLeastAsked rules s (numbers xs) c) where
+  module _ (c : Constraint) (xs : List Asked) (t : AreTurns rules s xs) (least : IsLeastAsked rules s (asked_numbers xs) c) where
     none_before : NoneBefore c xs
-    none_before a k = least.1 a.number (asked_view a) (in_numbers xs a k) (t.each a k)
+    none_before a k = least.1 a.number (asked_constraint a) (in_numbers xs a k) (t.each a k)
       where
-        in_numbers : (ys : List Asked) (b : Asked) → Contains ys b → Contains (numbers ys) b.number
+        in_numbers : (ys : List Asked) (b : Asked) → Contains ys b → Contains (asked_numbers ys) b.number
         in_numbers ys b m = in_map (λ x. x.number) ys b m
 
-    pub asking_first : (n : ℕ) → n ≡ prefix_len (asks_that c) xs → numbers (take n xs) ≡ filter (asks rules s c) (numbers xs)
-    asking_first n e = ap (λ m. numbers (take m xs)) e ∙ ap numbers (run_first c xs t.ascend none_before) ∙ sym (asks_told c xs t.each)
+    pub asking_first : (n : ℕ) → n ≡ prefix_len (asks_that c) xs → asked_numbers (take n xs) ≡ filter (asks rules s c) (asked_numbers xs)
+    asking_first n e = ap (λ m. asked_numbers (take m xs)) e ∙ ap asked_numbers (run_first c xs t.ascend none_before) ∙ sym (asks_told c xs t.each)
 
-    pub left_behind : numbers (drop (length (filter (asks rules s c) (numbers xs))) xs) ≡ filter (λ i. not (asks rules s c i)) (numbers xs)
+    pub left_behind : asked_numbers (drop (length (filter (asks rules s c) (asked_numbers xs))) xs) ≡ filter (λ i. not (asks rules s c i)) (asked_numbers xs)
     left_behind =
         let same = ap length (asks_told c xs t.each) ∙ length-map (filter (asks_that c) xs) (λ a. a.number) in
-        ap (λ m. numbers (drop m xs)) same ∙ ap numbers (run_rest c xs t.ascend none_before) ∙ sym (others_told c xs t.each)
+        ap (λ m. asked_numbers (drop m xs)) same ∙ ap asked_numbers (run_rest c xs t.ascend none_before) ∙ sym (others_told c xs t.each)

@@ -22,13 +22,13 @@ use Rattle.isle_serialize.specs.declared.serialize.MatchArm.{MatchArm}
 use Rattle.isle_serialize.specs.AroundViews.{around_view}
 use Rattle.isle_serialize.specs.declared.arms.Asked.{Asked}
 use Rattle.isle_serialize.specs.Growing.{IsBestFrom, AreBestArms, IsStepOf}
-use Rattle.isle_serialize.specs.Turns.{asked, asked_at, asks, asks_some, asked_view, numbers, AreTurns, AreInTurn, IsNextArm}
+use Rattle.isle_serialize.specs.Turns.{constraint_asked, asked_at, asks, asks_some, asked_constraint, asked_numbers, AreTurns, AreInTurn, IsNextArm}
 use Rattle.isle_serialize.specs.TreeViews.{arm_view, arms_view}
 use Rattle.isle_serialize.proofs.Descents.{descend_kept}
 use Rattle.isle_serialize.proofs.Growth as Growth
 use Rattle.isle_serialize.proofs.ArmRuns.{turns_behind, left_behind}
 use Rattle.isle_serialize.proofs.Growth.{no_arms, from_alike, all_kept}
-use Rattle.isle_serialize.proofs.InsideSteps.{arm_inside}
+use Rattle.isle_serialize.proofs.BodySteps.{arm_inside}
 use Rattle.isle_serialize.proofs.StepsJoined.{arms_before, arms_end, arm_joined}
 
 module _ (rules : List SetRule) (s : ℕ) where
@@ -43,26 +43,26 @@ module _ (rules : List SetRule) (s : ℕ) where
   from_asks c i h = (that_exact (at i) c).0 h
 
   asks_of : (c : Constraint) (i : ℕ) (r : SetRule) → asks rules s c i ≡ true → slice_get rules i ≡ Some r → constraint_at r.constraints s ≡ Some c
-  asks_of c i r h e = ap (asked s) (sym e) ∙ from_asks c i h
+  asks_of c i r h e = ap (constraint_asked s) (sym e) ∙ from_asks c i h
 
 -- 2. the arms so far
 -- the rules that are left stand in turn, those of one constraint in order, and each asks a constraint behind that of the
 -- last arm; and with what may follow, the arms so far are best
 pub record ArmsGrow (set : SiteSet) (ar : Places.Around) (s : ℕ) (here : List ℕ) (left : List Asked) (arms : List MatchArm) : Type 0 where
   pub turns : AreTurns set.rules s left
-  pub ordered : (a : Asked) → descend set.rules (filter (asks set.rules s (asked_view a)) (numbers left)) ≡ true
+  pub ordered : (a : Asked) → descend set.rules (filter (asks set.rules s (asked_constraint a)) (asked_numbers left)) ≡ true
   pub last : Option Constraint
-  pub later : (i : ℕ) (c : Constraint) → Contains (numbers left) i → asked_at set.rules s i ≡ Some c → IsAfter last c
-  pub far : (t : Arms) → AreBestArms set ar s last (numbers left) t → AreBestArms set ar s None here (arms_before arms t)
+  pub later : (i : ℕ) (c : Constraint) → Contains (asked_numbers left) i → asked_at set.rules s i ≡ Some c → IsAfter last c
+  pub far : (t : Arms) → AreBestArms set ar s last (asked_numbers left) t → AreBestArms set ar s None here (arms_before arms t)
 
 -- rules of one constraint that stand in order do so behind some
-ordered_behind : (rules : List SetRule) (p : ℕ → Bool) (k : ℕ) (xs : List Asked) → descend rules (filter p (numbers xs)) ≡ true → descend rules (filter p (numbers (drop k xs))) ≡ true
+ordered_behind : (rules : List SetRule) (p : ℕ → Bool) (k : ℕ) (xs : List Asked) → descend rules (filter p (asked_numbers xs)) ≡ true → descend rules (filter p (asked_numbers (drop k xs))) ≡ true
 ordered_behind rules p zero xs h = h
 ordered_behind rules p (suc k) [] h = refl
 ordered_behind rules p (suc k) (a ∷ xs) h = ordered_behind rules p k xs (of (p a.number) h)
   where
-    of : (b : Bool) → descend rules (cond b (a.number ∷ filter p (numbers xs)) (filter p (numbers xs))) ≡ true → descend rules (filter p (numbers xs)) ≡ true
-    of true e = descend_rest rules a.number (filter p (numbers xs)) e
+    of : (b : Bool) → descend rules (cond b (a.number ∷ filter p (asked_numbers xs)) (filter p (asked_numbers xs))) ≡ true → descend rules (filter p (asked_numbers xs)) ≡ true
+    of true e = descend_rest rules a.number (filter p (asked_numbers xs)) e
     of false e = e
 
 module _ (set : SiteSet) (around : Around) (s : ℕ) (here : List ℕ) where
@@ -73,25 +73,25 @@ module _ (set : SiteSet) (around : Around) (s : ℕ) (here : List ℕ) where
   all_ask : IsStepOf set ar (match_test s) here → filter (asks_some set.rules s) here ≡ here
   all_ask step = all_kept (asks_some set.rules s) here (λ i k. of (slice_get set.rules i) (step.need i k))
     where
-      of : (o : Option SetRule) → is_needed (match_test s) o ≡ true → is_some (asked s o) ≡ true
+      of : (o : Option SetRule) → is_needed (match_test s) o ≡ true → is_some (constraint_asked s o) ≡ true
       of None n = n
       of (Some r) n = n
 
   pub arms_start : (turns : List Asked) → descend set.rules here ≡ true → IsStepOf set ar (match_test s) here → AreInTurn set.rules s here turns → ArmsGrow set ar s here turns []
   arms_start turns o step t = record {
     turns = t.told;
-    ordered = λ a. ap (descend set.rules) (t.kept a) ∙ descend_kept set.rules (asks set.rules s (asked_view a)) here o;
+    ordered = λ a. ap (descend set.rules) (t.kept a) ∙ descend_kept set.rules (asks set.rules s (asked_constraint a)) here o;
     last = None;
     later = λ i c k e. tt;
     far = λ rest a. record {
       marked = a.marked;
       same = a.same;
-      rules = IsPermutation-trans here (numbers turns) (marks_arms a.marked) (subst (λ l. IsPermutation l (numbers turns)) (all_ask step) t.same) a.rules;
+      rules = IsPermutation-trans here (asked_numbers turns) (marks_arms a.marked) (subst (λ l. IsPermutation l (asked_numbers turns)) (all_ask step) t.same) a.rules;
       best = a.best;
     };
   }
 
-  module _ (left : List Asked) (next : NextArm) (h : IsNextArm set ar s (numbers left) next) where
+  module _ (left : List Asked) (next : NextArm) (h : IsNextArm set ar s (asked_numbers left) next) where
     abbrev c : Constraint
     c = constraint_view next.constraint
 
@@ -103,7 +103,7 @@ module _ (set : SiteSet) (around : Around) (s : ℕ) (here : List ℕ) where
 
     pub some_asking : next.asking.items ≢ []
     some_asking e =
-        let k = subst (λ l. Contains l h.least.0.0) (sym h.asking ∙ e) (in_filter mine (numbers left) h.least.0.0 h.least.0.1 (asks_from set.rules s c h.least.0.0 h.least.0.2)) in
+        let k = subst (λ l. Contains l h.least.0.0) (sym h.asking ∙ e) (in_filter mine (asked_numbers left) h.least.0.0 h.least.0.1 (asks_from set.rules s c h.least.0.0 h.least.0.2)) in
         nothing_in h.least.0.0 k
 
     pub fewer_left : length rest_of < length left
@@ -125,7 +125,7 @@ module _ (set : SiteSet) (around : Around) (s : ℕ) (here : List ℕ) where
         → IsBestFrom set (around_view next.inside) next.asking.items body → ArmsGrow set ar s here left arms → ArmsGrow set ar s here rest_of more
     arms_more arms more a body e seen best g = record {
       turns = turns_behind set.rules s (length next.asking.items) left g.turns;
-      ordered = λ x. ordered_behind set.rules (asks set.rules s (asked_view x)) (length next.asking.items) left (g.ordered x);
+      ordered = λ x. ordered_behind set.rules (asks set.rules s (asked_constraint x)) (length next.asking.items) left (g.ordered x);
       last = Some c;
       later = λ i d k q. elim (before_total c d (h.least.1 i d (other i k).0 q)) [
         | inl same ↦ absurd (false≢true (ap not (sym (asks_from set.rules s c i (q ∙ ap Some (sym same)))) ∙ (other i k).1))
@@ -133,19 +133,19 @@ module _ (set : SiteSet) (around : Around) (s : ℕ) (here : List ℕ) where
       ];
       far = λ t rest. subst (AreBestArms set ar s None here) (sym (ap (λ xs. arms_before xs t) e ∙ arm_joined arms a t ∙ ap (arms_before arms) (seen t)))
           (g.far (arm c next.fields.items body t)
-          (Growth.arm_more set ar s g.last c mine (numbers left) next.fields.items body t (g.later h.least.0.0 c h.least.0.1 h.least.0.2) (λ z. some_asking (h.asking ∙ z))
+          (Growth.arm_more set ar s g.last c mine (asked_numbers left) next.fields.items body t (g.later h.least.0.0 c h.least.0.1 h.least.0.2) (λ z. some_asking (h.asking ∙ z))
           (λ i r p. asks_of set.rules s c i r p) h.fields
-          (from_alike set (around_view next.inside) (in_arm set ar s c next.fields.items) (filter mine (numbers left)) body (arm_inside set around next.inside s c next.fields.items h.inside)
+          (from_alike set (around_view next.inside) (in_arm set ar s c next.fields.items) (filter mine (asked_numbers left)) body (arm_inside set around next.inside s c next.fields.items h.inside)
           (subst (λ l. IsBestFrom set (around_view next.inside) l body) h.asking best))
           (subst (λ l. AreBestArms set ar s (Some c) l t) others rest)));
     }
       where
-        others : numbers rest_of ≡ filter (λ i. not (mine i)) (numbers left)
-        others = ap (λ l. numbers (drop (length l) left)) h.asking ∙ left_behind set.rules s c left g.turns h.least
+        others : asked_numbers rest_of ≡ filter (λ i. not (mine i)) (asked_numbers left)
+        others = ap (λ l. asked_numbers (drop (length l) left)) h.asking ∙ left_behind set.rules s c left g.turns h.least
 
-        other : (i : ℕ) → Contains (numbers rest_of) i → Contains (numbers left) i × (not (mine i) ≡ true)
-        other i k = from_filter (λ i. not (mine i)) (numbers left) i (subst (λ l. Contains l i) others k)
+        other : (i : ℕ) → Contains (asked_numbers rest_of) i → Contains (asked_numbers left) i × (not (mine i) ≡ true)
+        other i k = from_filter (λ i. not (mine i)) (asked_numbers left) i (subst (λ l. Contains l i) others k)
 
   -- where no rule is left, all arms are made
-  pub arms_whole : (left : List Asked) (arms : List MatchArm) → numbers left ≡ [] → ArmsGrow set ar s here left arms → AreBestArms set ar s None here (arms_view arms)
+  pub arms_whole : (left : List Asked) (arms : List MatchArm) → asked_numbers left ≡ [] → ArmsGrow set ar s here left arms → AreBestArms set ar s None here (arms_view arms)
   arms_whole left arms none g = subst (AreBestArms set ar s None here) (arms_end arms) (g.far no_arm (subst (λ l. AreBestArms set ar s g.last l no_arm) (sym none) (no_arms set ar s g.last)))

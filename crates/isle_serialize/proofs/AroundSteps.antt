@@ -3,26 +3,26 @@ use Rattle.std.proofs.Common.{◌≡◌, ℕ, suc, ◌≤◌, ◌==◌, Bool, tr
 use Rattle.std.proofs.lemmas.Bool.{cases_Bool, cond-true, cond-false, or_left, or_right, false≢true}
 use Rattle.isle_model.specs.trees.Places.{class, is_in}
 use Rattle.isle_model.proofs.Members.{in_head, in_tail, in_flat_map, member_is_in}
-use Rattle.isle_serialize.specs.AroundViews.{sites_of_pairs, name_in, IsNaming}
+use Rattle.isle_serialize.specs.AroundViews.{sites_of_pairs, class_name_in, IsNaming}
 
 -- 1. look-ups
 abbrev named : (ℕ → ℕ) → List ℕ → List (ℕ × ℕ)
 named f sites = map (λ s. (s, f s)) sites
 
-name_there : (f : ℕ → ℕ) (sites : List ℕ) (s : ℕ) → is_in s sites ≡ true → name_in (named f sites) s ≡ f s
+name_there : (f : ℕ → ℕ) (sites : List ℕ) (s : ℕ) → is_in s sites ≡ true → class_name_in (named f sites) s ≡ f s
 name_there f [] s h = absurd (false≢true h)
 name_there f (x ∷ xs) s h =
     elim (cases_Bool (x == s)) [
-      | inl t ↦ cond-true (x == s) (f x) (name_in (named f xs) s) t ∙ ap f (eqb-true x s t)
-      | inr n ↦ cond-false (x == s) (f x) (name_in (named f xs) s) n ∙ name_there f xs s (sym (ap (λ b. b || is_in s xs) n) ∙ h)
+      | inl t ↦ cond-true (x == s) (f x) (class_name_in (named f xs) s) t ∙ ap f (eqb-true x s t)
+      | inr n ↦ cond-false (x == s) (f x) (class_name_in (named f xs) s) n ∙ name_there f xs s (sym (ap (λ b. b || is_in s xs) n) ∙ h)
     ]
 
-own_name : (f : ℕ → ℕ) (sites : List ℕ) (s : ℕ) → is_in s sites ≡ false → name_in (named f sites) s ≡ s
+own_name : (f : ℕ → ℕ) (sites : List ℕ) (s : ℕ) → is_in s sites ≡ false → class_name_in (named f sites) s ≡ s
 own_name f [] s h = refl
 own_name f (x ∷ xs) s h =
     elim (cases_Bool (x == s)) [
       | inl t ↦ absurd (false≢true (sym h ∙ or_left (x == s) (is_in s xs) t))
-      | inr n ↦ cond-false (x == s) (f x) (name_in (named f xs) s) n ∙ own_name f xs s (sym (ap (λ b. b || is_in s xs) n) ∙ h)
+      | inr n ↦ cond-false (x == s) (f x) (class_name_in (named f xs) s) n ∙ own_name f xs s (sym (ap (λ b. b || is_in s xs) n) ∙ h)
     ]
 
 -- a class goes by its only site, or by one of the pairs'
@@ -76,7 +76,7 @@ own_class (p ∷ ps) s h =
 -- 2. pair by pair
 pub named_all : (pairs names : List (ℕ × ℕ)) → names ≡ map (λ s. (s, class pairs s)) (sites_of_pairs pairs) → IsNaming pairs names
 named_all pairs names e s =
-    ap (λ l. name_in l s) e
+    ap (λ l. class_name_in l s) e
     ∙ elim (cases_Bool (is_in s (sites_of_pairs pairs))) [
       | inl t ↦ name_there (class pairs) (sites_of_pairs pairs) s t
       | inr f ↦ own_name (class pairs) (sites_of_pairs pairs) s f ∙ sym (own_class pairs s f)
@@ -89,10 +89,10 @@ abbrev both : ℕ × ℕ → List ℕ
 both q = q.0 ∷ (q.1 ∷ [])
 
 named_more : (sites : List ℕ) (p : ℕ × ℕ) (ps names : List (ℕ × ℕ)) → names ≡ named (class ps) sites → is_in p.0 sites ≡ true → is_in p.1 sites ≡ true
-    → map (λ e. (e.0, if e.1 == name_in names p.0 then name_in names p.1 else e.1)) names ≡ named (class (p ∷ ps)) sites
+    → map (λ e. (e.0, if e.1 == class_name_in names p.0 then class_name_in names p.1 else e.1)) names ≡ named (class (p ∷ ps)) sites
 named_more sites p ps names e k l =
-    ap (λ t. map (λ q. (q.0, if q.1 == name_in t p.0 then name_in t p.1 else q.1)) t) e
-    ∙ ap (λ y. map (λ q. (q.0, if q.1 == y then name_in (named (class ps) sites) p.1 else q.1)) (named (class ps) sites)) (name_there (class ps) sites p.0 k)
+    ap (λ t. map (λ q. (q.0, if q.1 == class_name_in t p.0 then class_name_in t p.1 else q.1)) t) e
+    ∙ ap (λ y. map (λ q. (q.0, if q.1 == y then class_name_in (named (class ps) sites) p.1 else q.1)) (named (class ps) sites)) (name_there (class ps) sites p.0 k)
     ∙ ap (λ y. map (λ q. (q.0, if q.1 == class ps p.0 then y else q.1)) (named (class ps) sites)) (name_there (class ps) sites p.1 l)
     ∙ twice sites
   where
@@ -105,7 +105,7 @@ joined_start pairs left names l e = e ∙ ap (λ ps. map (λ s. (s, class ps s))
 
 pub joined_step : (pairs : List (ℕ × ℕ)) (left k : ℕ) (p : ℕ × ℕ) (names seen next : List (ℕ × ℕ)) → left ≡ suc k → left ≤ length pairs → p ≡ get_or pairs k p
     → names ≡ map (λ s. (s, class (drop left pairs) s)) (sites_of_pairs pairs) → seen ≡ names
-    → next ≡ map (λ e. (e.0, if e.1 == name_in seen p.0 then name_in seen p.1 else e.1)) seen
+    → next ≡ map (λ e. (e.0, if e.1 == class_name_in seen p.0 then class_name_in seen p.1 else e.1)) seen
     → next ≡ map (λ s. (s, class (drop k pairs) s)) (sites_of_pairs pairs)
 joined_step pairs left k p names seen next z l e f g h =
     let there : Contains pairs p = (k, omega arith, sym e) in

@@ -24,7 +24,7 @@ use Rattle.isle_serialize.specs.Growing.{AreEnds}
 use Rattle.isle_serialize.specs.TreeViews.{check_view, steps_view}
 use Rattle.isle_serialize.proofs.Ascents.{ascends_head, ascends_kept, ascends_tail}
 use Rattle.isle_serialize.proofs.Growth.{no_ends, end_more, ends_alike}
-use Rattle.isle_serialize.proofs.InsideSteps.{inside_alike}
+use Rattle.isle_serialize.proofs.BodySteps.{inside_alike}
 use Rattle.isle_serialize.proofs.StepsJoined.{step_joined, steps_joined}
 
 -- 1. a stable sort by descending priority of rules that ascend

@@ -15,7 +15,7 @@ use Rattle.isle_model.specs.trees.Tests.{up_to}
 use Rattle.isle_model.proofs.Members.{in_head}
 use Rattle.isle_sets.specs.declared.trie_again.Binding.{Binding}
 use Rattle.isle_sets.specs.SiteViews.{site_view, site_views}
-use Rattle.isle_serialize.specs.FieldTests.{is_field, is_pick, passes_at, brought_from, is_brought_from, brought_by, list_at}
+use Rattle.isle_serialize.specs.FieldTests.{is_field, is_iterator_of, passes_at, brought_from, is_brought_from, brought_by, list_at}
 
 -- 1. a search of a part that all hits are in
 find_kept : {X : Type 0} (q r : X → Bool) → ((x : X) → q x ≡ true → r x ≡ true) → (xs : List X) → find q (filter r xs) ≡ find q xs
@@ -83,7 +83,7 @@ field_brought s is_present i (match_some_site source) t = t
 field_brought s is_present i _ t = absurd (false≢true t)
 field_brought s _ i b t = absurd (false≢true t)
 
-pub pick_brought : (s : ℕ) (b : Site) → is_pick s b ≡ true → is_brought_from s b ≡ true
+pub pick_brought : (s : ℕ) (b : Site) → is_iterator_of s b ≡ true → is_brought_from s b ≡ true
 pick_brought s (iterator_site source) t = t
 pick_brought s _ t = absurd (false≢true t)
 

@@ -7,7 +7,7 @@ use Rattle.isle_model.specs.sites.Sites.{Site, iterator_site, Constraint, is_var
 use Rattle.isle_model.specs.trees.Places.{site_from, each_field, fields_of, is_variant_field, is_struct_field}
 use Rattle.isle_model.specs.trees.Tests.{up_to}
 use Rattle.isle_model.proofs.Members.{member_from_get, passes_any}
-use Rattle.isle_serialize.specs.FieldTests.{is_field, field_count, is_pick, HasPick, IsPick}
+use Rattle.isle_serialize.specs.FieldTests.{is_field, field_count, is_iterator_of, HasIterator, IsIteratorOf}
 use Rattle.isle_serialize.proofs.Tables.{table_more}
 
 each_last : (p : ℕ → Site → Bool) (sites : List Site) (i n : ℕ) → each_field p sites i (suc n) ≡ each_field p sites i n ++ site_from 0 (p (i + n)) sites ∷ []
@@ -56,18 +56,18 @@ none_passes p n (a ∷ rest) e =
       | inr f ↦ ap (λ b. b || list_any p rest) f ∙ none_passes p (suc n) rest (sym (cond-false (p a) (Some n) (site_from (suc n) p rest) f) ∙ e)
     ]
 
-pub picks_call : (call : ℕ) (b : Site) → is_pick call b ≡ true → b ≡ iterator_site call
+pub picks_call : (call : ℕ) (b : Site) → is_iterator_of call b ≡ true → b ≡ iterator_site call
 picks_call call (iterator_site source) h = ap iterator_site (eqb-true source call h)
 picks_call call _ h = absurd (false≢true h)
 
-pub pick_found : (sites : List Site) (call x : ℕ) → site_from 0 (is_pick call) sites ≡ Some x → IsPick sites call x
+pub pick_found : (sites : List Site) (call x : ℕ) → site_from 0 (is_iterator_of call) sites ≡ Some x → IsIteratorOf sites call x
 pick_found sites call x e =
-    let r = site_found (is_pick call) 0 sites x e in
+    let r = site_found (is_iterator_of call) 0 sites x e in
     let same : x ≡ r.0 = (let s = r.2 in omega (arith, s)) in
     ap (slice_get sites) same ∙ r.3 ∙ ap Some (picks_call call r.1 r.4)
 
-pub pick_not_missed : (sites : List Site) (call : ℕ) → HasPick sites call → site_from 0 (is_pick call) sites ≡ None → ⊥
-pick_not_missed sites call h e = false≢true (sym (none_passes (is_pick call) 0 sites e) ∙ h)
+pub pick_not_missed : (sites : List Site) (call : ℕ) → HasIterator sites call → site_from 0 (is_iterator_of call) sites ≡ None → ⊥
+pick_not_missed sites call h e = false≢true (sym (none_passes (is_iterator_of call) 0 sites e) ∙ h)
 
-pub pick_there : (sites : List Site) (call k : ℕ) → IsPick sites call k → HasPick sites call
-pick_there sites call k e = passes_any (is_pick call) sites (iterator_site call) (member_from_get sites k (iterator_site call) e) (eq-eqb call call refl)
+pub pick_there : (sites : List Site) (call k : ℕ) → IsIteratorOf sites call k → HasIterator sites call
+pick_there sites call k e = passes_any (is_iterator_of call) sites (iterator_site call) (member_from_get sites k (iterator_site call) e) (eq-eqb call call refl)

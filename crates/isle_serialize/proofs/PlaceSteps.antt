@@ -16,16 +16,16 @@ use Rattle.isle_serialize.specs.declared.serialize.Block.{Block}
 use Rattle.isle_serialize.specs.declared.serialize.ControlFlow.{Equal, Loop}
 use Rattle.isle_serialize.specs.declared.serialize.EvalStep.{EvalStep}
 use Rattle.isle_serialize.specs.AroundViews.{around_view, IsInside, after_uses, arm_around, loop_around}
-use Rattle.isle_serialize.specs.FieldTests.{HasPick}
+use Rattle.isle_serialize.specs.FieldTests.{HasIterator}
 use Rattle.isle_serialize.specs.Growing.{IsBestFrom, AreEnds, IsBestBody, CanGrow, IsStepOf, test_sites, test_emits, IsNextTest}
 use Rattle.isle_serialize.specs.TestViews.{test_view, IsChosen}
 use Rattle.isle_serialize.specs.TreeViews.{tree_view, check_view, steps_view}
 use Rattle.isle_serialize.proofs.Descents.{descend_kept}
 use Rattle.isle_serialize.proofs.Growth.{match_more, equal_more, loop_more, ends_close, from_alike}
-use Rattle.isle_serialize.proofs.InsideSteps.{inside_alike, loop_inside, loop_after}
+use Rattle.isle_serialize.proofs.BodySteps.{inside_alike, loop_inside, loop_after}
 use Rattle.isle_serialize.proofs.StepsJoined.{step_joined, steps_joined}
 use Rattle.isle_serialize.proofs.TreeLaws.{equal_seen, loop_seen}
-use Rattle.isle_serialize.proofs.Untried.{untried, untried_same, untried_source, untried_pair}
+use Rattle.isle_serialize.proofs.UntriedTests.{untried, untried_same, untried_source, untried_pair}
 
 -- the steps of a block so far, and what is left: with what may follow, they are best; and no test that stands around the
 -- steps to come is one more
@@ -180,9 +180,9 @@ module _ (set : SiteSet) where
         untried_source n s out (around_view inside) k.0 k.1 (λ x. ap (is_in x) i.sources) i.joined
 
   -- 6. rules that need a loop go over its call, which has a pick
-  pub pick_made : CanGrow set → (ar : Places.Around) (call : ℕ) (here : List ℕ) → IsStepOf set ar (loop_test call) here → HasPick set.sites call
+  pub pick_made : CanGrow set → (ar : Places.Around) (call : ℕ) (here : List ℕ) → IsStepOf set ar (loop_test call) here → HasIterator set.sites call
   pick_made g ar call here h = let i = some_member here h.some_rule in of (slice_get set.rules i.0) refl (h.need i.0 i.1)
     where
-      of : (o : Option SetRule) → slice_get set.rules (some_member here h.some_rule).0 ≡ o → is_needed (loop_test call) o ≡ true → HasPick set.sites call
+      of : (o : Option SetRule) → slice_get set.rules (some_member here h.some_rule).0 ≡ o → is_needed (loop_test call) o ≡ true → HasIterator set.sites call
       of None e t = absurd (false≢true t)
       of (Some r) e t = g.picks r call (member_from_get set.rules (some_member here h.some_rule).0 r e) (member_found call r.iterators t)

@@ -1,18 +1,18 @@
 -- The greatest of some tests of a place, and the one that is made.
-use Rattle.std.proofs.Common.{◌≡◌, ℕ, Bool, true, false, cond, List, [], ◌∷◌, ◌++◌, length, Option, Some, None, MatchOption, option_map, Contains, refl, sym, ap, ◌∙◌, subst, inl, inr}
+use Rattle.std.proofs.Common.{◌≡◌, ℕ, Bool, true, false, cond, List, [], ◌∷◌, ◌++◌, Option, Some, None, MatchOption, option_map, Contains, refl, sym, ◌∙◌, subst, inl, inr}
 use Rattle.std.specs.List.{filter}
 use Rattle.std.proofs.lemmas.Bool.{cases_Bool, cond-true, cond-false, false≢true}
 use Rattle.std.proofs.lemmas.List.Elements.{Contains-append_left, Contains-append_right, Contains-append_cases}
 use Rattle.isle_model.specs.sites.Sites.{SiteSet}
 use Rattle.isle_model.specs.trees.Places.{Around}
 use Rattle.isle_model.specs.trees.Tests as Tests
-use Rattle.isle_model.specs.trees.Tests.{match_test, equal_test, loop_test, cover, score, is_greater}
+use Rattle.isle_model.specs.trees.Tests.{score, is_greater}
 use Rattle.isle_model.proofs.Members.{in_head, in_tail, in_alone}
 use Rattle.isle_laws_trees.proofs.Scores.{scores_are_ordered_lem}
 use Rattle.isle_serialize.specs.declared.tests.Test.{Test}
 use Rattle.isle_serialize.specs.declared.tests.Score.{Score}
 use Rattle.isle_serialize.specs.declared.tests.Scored.{Scored}
-use Rattle.isle_serialize.specs.TestViews.{test_view, score_view, greater_test, IsGreatestOf, AreUseful, IsGreatestScored, IsScored}
+use Rattle.isle_serialize.specs.TestViews.{test_view, greater_test, IsGreatestOf, IsGreatestScored, IsScored}
 
 -- 1. filters
 module _ {X : Type 0} where
@@ -69,16 +69,3 @@ module _ (set : SiteSet) (ar : Around) (here : List ℕ) where
       → next.test ≡ greater_test set ar here (option_map (λ s. s.test) best) t → IsScored set ar here next → IsGreatestScored set ar here (xs ++ t ∷ []) (Some next)
   scored_more xs None t next e same s = (subst (λ v. IsGreatestOf set ar here (xs ++ t ∷ []) (Some v)) (sym same) (greatest_more xs None t e), s)
   scored_more xs (Some b) t next g same s = (subst (λ v. IsGreatestOf set ar here (xs ++ t ∷ []) (Some v)) (sym same) (greatest_more xs (Some b.test) t g.0), s)
-
-  compared : (b : Scored) (t : Test) (s : Score) → score_view s ≡ of t → IsScored set ar here b → is_greater (score_view s) (score_view b.score) ≡ is_greater (of t) (of b.test)
-  compared b t s e f = λ i. is_greater (e i) (f i)
-
--- 3. the test that is made
-count_is : (set : SiteSet) (ar : Around) (here : List ℕ) (u : Tests.Test) → (score set ar here u).count ≡ length (cover set.rules here u)
-count_is set ar here (match_test s) = refl
-count_is set ar here (equal_test a b) = refl
-count_is set ar here (loop_test s) = refl
-
-module _ (set : SiteSet) (ar : Around) (here : List ℕ) (tests : List Test) (useful : AreUseful set ar here tests) where
-  pub count_of : (b : Scored) → IsScored set ar here b → b.score.count ≡ length (cover set.rules here (test_view b.test))
-  count_of b s = ap (λ z. z.count) s ∙ count_is set ar here (test_view b.test)

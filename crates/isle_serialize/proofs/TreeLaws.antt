@@ -1,11 +1,11 @@
 -- The tree that a block is, by its vectors.
-use Rattle.std.proofs.Common.{◌≡◌, refl, ap, ◌∙◌, ℕ, Option, Vec}
+use Rattle.std.proofs.Common.{◌≡◌, refl, sym, ap, ◌∙◌, ℕ, Option, Vec}
 use Rattle.std.specs.declared.alloc.Global.{Global}
 use denote.Hole.Carrier
 use Rattle.isle_base.specs.declared.syntax.Pos.{Pos}
 use Rattle.isle_base.specs.SyntaxViews.{position}
 use Rattle.isle_sets.specs.declared.trie_again.Constraint.{Constraint}
-use Rattle.isle_serialize.specs.declared.serialize.Block.{Block, roll-Block, Row_of-EvalStep, end_of-EvalStep, more_of-EvalStep, items-the_row-EvalStep, items_hidden-the_row-EvalStep-1}
+use Rattle.isle_serialize.specs.declared.serialize.Block.{Block, out-Block, roll-Block, roll-out-Block, Row_of-EvalStep, end_of-EvalStep, more_of-EvalStep, items-the_row-EvalStep, items_hidden-the_row-EvalStep-1}
 use Rattle.isle_serialize.specs.declared.serialize.EvalStep.{EvalStep}
 use Rattle.isle_serialize.specs.declared.serialize.MatchArm.{MatchArm, roll-MatchArm}
 use Rattle.isle_serialize.specs.declared.serialize.ControlFlow.{Match, Equal, Loop, Return, Row_of-MatchArm, end_of-MatchArm, more_of-MatchArm, items-the_row-MatchArm, items_hidden-the_row-MatchArm-0}
@@ -27,6 +27,10 @@ row_arms-items (more_of-MatchArm a rest) = ap (arm_view a) (row_arms-items rest)
 pub block_seen : (v : Vec EvalStep Global) → tree_view (roll-Block record { steps = v }) ≡ steps_view v.items
 unfolding tree_view roll-Block Carrier.roll
 block_seen v = row_steps-items (hidden-the_row-EvalStep-1 v) ∙ ap steps_view (items_hidden-the_row-EvalStep-1 v)
+
+-- the steps of any block
+pub block_steps : (b : Block) → tree_view b ≡ steps_view (out-Block b).steps.items
+block_steps b = ap tree_view (sym (roll-out-Block b)) ∙ block_seen (out-Block b).steps
 
 pub match_seen : (source : ℕ) (v : Vec MatchArm Global) → check_view (Match source v) ≡ match_at source (arms_view v.items)
 unfolding check_view

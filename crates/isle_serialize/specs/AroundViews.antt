@@ -19,13 +19,13 @@ abbrev pub sites_of_pairs : List (ℕ × ℕ) → List ℕ
 sites_of_pairs pairs = flat_map (λ p. p.0 ∷ (p.1 ∷ [])) pairs
 
 -- the name of a site by a table of names: a site that isn't in it is its own
-abbrev pub name_in : List (ℕ × ℕ) → ℕ → ℕ
-name_in [] s = s
-name_in (e ∷ es) s = if e.0 == s then e.1 else name_in es s
+abbrev pub class_name_in : List (ℕ × ℕ) → ℕ → ℕ
+class_name_in [] s = s
+class_name_in (e ∷ es) s = if e.0 == s then e.1 else class_name_in es s
 
 -- a table of the classes of sites under pairs that are joined
 abbrev pub IsNaming : List (ℕ × ℕ) → List (ℕ × ℕ) → Type 0
-IsNaming pairs names = (s : ℕ) → name_in names s ≡ class pairs s
+IsNaming pairs names = (s : ℕ) → class_name_in names s ≡ class pairs s
 
 -- whether a set has a site
 abbrev pub has : SmallSet → ℕ → Bool

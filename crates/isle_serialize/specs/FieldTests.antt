@@ -23,17 +23,17 @@ field_count is_present = 1
 field_count _ = 0
 
 -- whether a site stands for each answer of the call s
-abbrev pub is_pick : ℕ → Site → Bool
-is_pick s (iterator_site source) = source == s
-is_pick s _ = false
+abbrev pub is_iterator_of : ℕ → Site → Bool
+is_iterator_of s (iterator_site source) = source == s
+is_iterator_of s _ = false
 
 -- the site of that number stands for each answer of a call
-abbrev pub IsPick : List Site → ℕ → ℕ → Type 0
-IsPick sites call each = slice_get sites each ≡ Some (iterator_site call)
+abbrev pub IsIteratorOf : List Site → ℕ → ℕ → Type 0
+IsIteratorOf sites call each = slice_get sites each ≡ Some (iterator_site call)
 
 -- some site does
-abbrev pub HasPick : List Site → ℕ → Type 0
-HasPick sites call = IsTrue (list_any (is_pick call) sites)
+abbrev pub HasIterator : List Site → ℕ → Type 0
+HasIterator sites call = IsTrue (list_any (is_iterator_of call) sites)
 
 -- whether the site of a number passes a test
 abbrev pub passes_at : (Site → Bool) → List Site → ℕ → Bool

@@ -7,7 +7,7 @@ use Rattle.isle_model.specs.trees.Places.{Around, bind_order, in_equal, in_loop}
 use Rattle.isle_model.specs.trees.Tests.{Test, match_test, equal_test, loop_test, needs_at, is_covered, cover, IsOpen}
 use Rattle.isle_model.specs.trees.Best.{descend, BestSteps, BestArms}
 use Rattle.isle_serialize.specs.AroundViews.{AreEmitted}
-use Rattle.isle_serialize.specs.FieldTests.{HasPick, IsPick}
+use Rattle.isle_serialize.specs.FieldTests.{HasIterator, IsIteratorOf}
 use Rattle.isle_serialize.specs.TestViews.{test_view, IsChosen}
 use Rattle.isle_serialize.specs.declared.steps.NextTest.{NextTest}
 
@@ -38,7 +38,7 @@ abbrev pub IsBestBody : SiteSet → Around → Test → List ℕ → Check → T
 IsBestBody set ar (match_test s) here check = (arms : Arms) × (check ≡ match_at s arms) × AreBestArms set ar s None here arms
 IsBestBody set ar (equal_test a b) here check = (body : Tree) × (check ≡ equal_at a b body) × IsBestFrom set (in_equal set ar a b) here body
 IsBestBody set ar (loop_test s) here check =
-    (result : ℕ) × (body : Tree) × (check ≡ loop_at result body) × IsPick set.sites s result × IsBestFrom set (in_loop set ar result) here body
+    (result : ℕ) × (body : Tree) × (check ≡ loop_at result body) × IsIteratorOf set.sites s result × IsBestFrom set (in_loop set ar result) here body
 
 -- each site stands behind its sources
 abbrev pub SourcesFirst : List Site → Type 0
@@ -49,7 +49,7 @@ SourcesFirst sites = (s a : ℕ) → Contains (sources_at sites s) a → a < s
 pub record CanGrow (set : SiteSet) : Type 0 where
   pub few : length set.sites ≤ 65536
   pub sources : SourcesFirst set.sites
-  pub picks : (r : SetRule) (s : ℕ) → Contains set.rules r → Contains r.iterators s → HasPick set.sites s
+  pub picks : (r : SetRule) (s : ℕ) → Contains set.rules r → Contains r.iterators s → HasIterator set.sites s
 
 -- the test is open, and these are some rules, which all need it
 pub record IsStepOf (set : SiteSet) (ar : Around) (t : Test) (here : List ℕ) : Type 0 where

@@ -3,7 +3,7 @@ pub mod AroundViews
 pub mod PlaceViews
 pub mod TestViews
 pub mod Bars
-pub mod Opened
+pub mod NeededTests
 pub mod Growing
 pub mod FieldTests
 pub mod Turns

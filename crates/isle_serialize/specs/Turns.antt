@@ -11,12 +11,12 @@ use Rattle.isle_serialize.specs.declared.arms.Asked.{Asked}
 use Rattle.isle_serialize.specs.declared.arms.NextArm.{NextArm}
 
 -- what the rule, if there is one, asks of a site
-abbrev pub asked : ℕ → Option SetRule → Option Constraint
-asked s None = None
-asked s (Some r) = constraint_at r.constraints s
+abbrev pub constraint_asked : ℕ → Option SetRule → Option Constraint
+constraint_asked s None = None
+constraint_asked s (Some r) = constraint_at r.constraints s
 
 abbrev pub asked_at : List SetRule → ℕ → ℕ → Option Constraint
-asked_at rules s i = asked s (slice_get rules i)
+asked_at rules s i = constraint_asked s (slice_get rules i)
 
 -- whether the rule at a place of the set asks that of a site
 abbrev pub asks : List SetRule → ℕ → Constraint → ℕ → Bool
@@ -27,24 +27,24 @@ abbrev pub asks_some : List SetRule → ℕ → ℕ → Bool
 asks_some rules s i = is_some (asked_at rules s i)
 
 -- what is asked
-abbrev pub asked_view : Asked → Constraint
-asked_view a = constraint_view a.constraint
+abbrev pub asked_constraint : Asked → Constraint
+asked_constraint a = constraint_view a.constraint
 
 -- whether one asks that
 abbrev pub asks_that : Constraint → Asked → Bool
-asks_that c a = is_that (Some (asked_view a)) c
+asks_that c a = is_that (Some (asked_constraint a)) c
 
 -- the rules that ask
-abbrev pub numbers : List Asked → List ℕ
-numbers turns = map (λ a. a.number) turns
+abbrev pub asked_numbers : List Asked → List ℕ
+asked_numbers turns = map (λ a. a.number) turns
 
 -- each is what its rule asks of the site
 abbrev pub AreAsked : List SetRule → ℕ → List Asked → Type 0
-AreAsked rules s turns = (a : Asked) → Contains turns a → asked_at rules s a.number ≡ Some (asked_view a)
+AreAsked rules s turns = (a : Asked) → Contains turns a → asked_at rules s a.number ≡ Some (asked_constraint a)
 
 -- whether one's constraint comes before another's
 abbrev pub is_ahead : Asked → Asked → Bool
-is_ahead a b = comes_before (asked_view a) (asked_view b)
+is_ahead a b = comes_before (asked_constraint a) (asked_constraint b)
 
 -- no constraint comes before one that stands ahead of it
 abbrev pub Ascend : List Asked → Type 0
@@ -59,8 +59,8 @@ pub record AreTurns (rules : List SetRule) (s : ℕ) (turns : List Asked) : Type
 -- what the rules here ask of a site, each once, those of one constraint in the order in which they stand here
 pub record AreInTurn (rules : List SetRule) (s : ℕ) (here : List ℕ) (turns : List Asked) : Type 0 where
   pub told : AreTurns rules s turns
-  pub same : IsPermutation (filter (asks_some rules s) here) (numbers turns)
-  pub kept : (a : Asked) → filter (asks rules s (asked_view a)) (numbers turns) ≡ filter (asks rules s (asked_view a)) here
+  pub same : IsPermutation (filter (asks_some rules s) here) (asked_numbers turns)
+  pub kept : (a : Asked) → filter (asks rules s (asked_constraint a)) (asked_numbers turns) ≡ filter (asks rules s (asked_constraint a)) here
 
 -- the least constraint that some of these rules ask of a site
 abbrev pub IsLeastAsked : List SetRule → ℕ → List ℕ → Constraint → Type 0

@@ -10,11 +10,11 @@ ghost use Rattle.isle_serialize.specs.AroundViews.{around_view};
 ghost use Rattle.isle_serialize.specs.Growing.{AreEmittedBy};
 ghost use Rattle.isle_serialize.specs.PlaceViews.{set_in};
 ghost use Rattle.isle_serialize.specs.Turns as Turns;
-ghost use Rattle.isle_serialize.specs.Turns.{numbers, asks_that, AreInTurn, AreTurns, IsNextArmOf};
+ghost use Rattle.isle_serialize.specs.Turns.{asked_numbers, asks_that, AreInTurn, AreTurns, IsNextArmOf};
 
 use crate::around::Around;
+use crate::bodies::in_arm;
 use crate::fields::fields_of;
-use crate::inside::in_arm;
 use crate::place::IndexedSet;
 use isle_sets::trie_again::{BindingId, Constraint, RuleSet};
 use std::alloc::{AllocError, Global};
@@ -60,7 +60,7 @@ fn all_asked(
     here: &[usize],
 ) -> Result<Vec<Asked>, AllocError>
     ensures each { IfOk result (λ v. Turns.AreAsked (set_view set.now).rules source v.items) }
-    ensures numbers { IfOk result (λ v. numbers v.items ≡ filter (Turns.asks_some (set_view set.now).rules source) here.now) }
+    ensures numbers { IfOk result (λ v. asked_numbers v.items ≡ filter (Turns.asks_some (set_view set.now).rules source) here.now) }
 {
     let mut turns = Vec::with_capacity(alloc, here.len())?;
     for number in here {
@@ -96,7 +96,6 @@ pub fn asked_in_turn(
     Ok(turns)
 }
 
-// Whether one asks that.
 fn asks(asked: &Asked, constraint: &Constraint) -> bool
     ensures { result ≡ asks_that (constraint_view constraint.now) asked.now }
 {
@@ -116,7 +115,7 @@ fn run_len(turns: &[Asked], constraint: &Constraint) -> usize
 
 // The rules of these.
 fn numbers_of(alloc: Global, turns: &[Asked]) -> Result<Vec<usize>, AllocError>
-    ensures { IfOk result (λ v. v.items ≡ numbers turns.now) }
+    ensures { IfOk result (λ v. v.items ≡ asked_numbers turns.now) }
 {
     let mut rules = Vec::with_capacity(alloc, turns.len())?;
     for asked in turns {
@@ -146,7 +145,7 @@ pub fn next_arm(
 ) -> Result<Option<NextArm>, AllocError>
     requires turns { AreTurns (set_in indexed.now).rules source left.now }
     requires emitted { AreEmittedBy (set_in indexed.now) (around_view around.now) (match_test source) emitted.now }
-    ensures { IfOk result (λ o. IsNextArmOf (set_in indexed.now) (around_view around.now) source (numbers left.now) o) }
+    ensures { IfOk result (λ o. IsNextArmOf (set_in indexed.now) (around_view around.now) source (asked_numbers left.now) o) }
 {
     let Some(first) = left.first() else {
         return Ok(None);

@@ -3,7 +3,7 @@
 ghost use Rattle.std.specs.Prelude.{◌≡◌, ◌<◌, ◌==◌, if◌then◌else◌, Some, IfOk, map};
 ghost use Rattle.isle_model.specs.trees.Places.{nothing_around, class, is_in, joins, waits};
 ghost use Rattle.isle_sets.specs.SiteViews.{site_view};
-ghost use Rattle.isle_serialize.specs.AroundViews.{around_view, sites_of_pairs, name_in, IsKnown, IsNaming, IsSetOf};
+ghost use Rattle.isle_serialize.specs.AroundViews.{around_view, sites_of_pairs, class_name_in, IsKnown, IsNaming, IsSetOf};
 ghost use Rattle.isle_serialize.specs.PlaceViews.{around_at};
 
 use crate::place::Place;
@@ -141,7 +141,7 @@ pub fn must_wait(binding: &Binding) -> bool
 
 // The name of a site's class, by the names of all sites that are joined: any other site is its own class.
 fn name_of(site: BindingId, names: &[(BindingId, BindingId)]) -> BindingId
-    ensures { result ≡ name_in names.now site }
+    ensures { result ≡ class_name_in names.now site }
 {
     for (named, name) in names {
         if *named == site {
@@ -180,7 +180,7 @@ fn joining(
     a: BindingId,
     b: BindingId,
 ) -> Result<Vec<(BindingId, BindingId)>, AllocError>
-    ensures { IfOk result (λ v. v.items ≡ map (λ e. (e.0, if e.1 == name_in names.now a then name_in names.now b else e.1)) names.now) }
+    ensures { IfOk result (λ v. v.items ≡ map (λ e. (e.0, if e.1 == class_name_in names.now a then class_name_in names.now b else e.1)) names.now) }
 {
     let from = name_of(a, names);
     let to = name_of(b, names);

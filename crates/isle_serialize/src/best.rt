@@ -11,8 +11,8 @@ ghost use Rattle.isle_serialize.specs.TreeViews.{arms_view, check_view, tree_vie
 
 use crate::arms::{asked_in_turn, behind, next_arm};
 use crate::around::Around;
+use crate::bodies::{in_equal, in_loop};
 use crate::ends::returns_of;
-use crate::inside::{in_equal, in_loop};
 use crate::place::IndexedSet;
 use crate::serialize::{Block, ControlFlow, EvalStep, MatchArm};
 use crate::steps::{next_test, pick_of};

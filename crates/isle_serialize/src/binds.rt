@@ -82,7 +82,6 @@ pub fn all_listed(
     Ok(listed)
 }
 
-// Whether a site is written in place.
 fn stands_in_place(binding: &Binding) -> bool
     ensures { result ≡ is_in_place (Some (site_view binding.now)) }
 {
@@ -135,7 +134,7 @@ pub fn bind_order(
 }
 
 /// The sites that are emitted once these are used: these, and all that they are made of, each once.
-#[tactic(auto, using(crate::proofs::Listed::listed_are_below))]
+#[tactic(auto, using(crate::proofs::ListedSites::listed_are_below))]
 pub fn all_below(
     alloc: Global,
     indexed: &IndexedSet<'_>,

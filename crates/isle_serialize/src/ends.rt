@@ -13,7 +13,7 @@ ghost use Rattle.isle_serialize.specs.TreeViews.{check_view, steps_view};
 
 use crate::around::{Around, set_of};
 use crate::binds::bind_order;
-use crate::inside::emitted_after;
+use crate::bodies::emitted_after;
 use crate::place::IndexedSet;
 use crate::serialize::{ControlFlow, EvalStep};
 use crate::small_set::SmallSet;
@@ -55,7 +55,6 @@ fn return_from_none() -> ControlFlow
     }
 }
 
-// The return of the rule of a number.
 #[tactic(auto, using(crate::proofs::TreeLaws::tree_steps))]
 fn return_of(set: &RuleSet, number: usize) -> ControlFlow
     ensures { check_view result ≡ Trees.return_of (slice_get (set_view set.now).rules number) }

@@ -58,7 +58,6 @@ fn brought_from(binding: &Binding) -> Option<BindingId>
     }
 }
 
-// As many empty lists.
 fn empty_lists(alloc: Global, count: usize) -> Result<Vec<Vec<BindingId>>, AllocError>
     ensures count { IfOk result (λ v. length v.items ≡ count) }
     ensures empty { IfOk result (λ v. (s : ℕ) → list_at v.items s ≡ []) }
@@ -146,7 +145,6 @@ fn is_field(binding: &Binding, of: BindingId, constraint: &Constraint, number: u
     }
 }
 
-// How many fields a constraint brings.
 fn field_count(constraint: &Constraint) -> usize
     ensures { result ≡ FieldTests.field_count (constraint_view constraint.now) }
 {
@@ -226,7 +224,7 @@ pub fn fields_of(
 
 // Whether a site stands for each value that a call answered.
 fn is_pick(binding: &Binding, call: BindingId) -> bool
-    ensures { result ≡ FieldTests.is_pick call (site_view binding.now) }
+    ensures { result ≡ FieldTests.is_iterator_of call (site_view binding.now) }
 {
     match binding {
         Binding::Iterator { source } => *source == call,
@@ -236,7 +234,7 @@ fn is_pick(binding: &Binding, call: BindingId) -> bool
 
 // Whether the site of a number stands for each value that a call answered.
 fn is_pick_at(set: &RuleSet, call: BindingId, site: BindingId) -> bool
-    ensures { result ≡ passes_at (FieldTests.is_pick call) (set_view set.now).sites site }
+    ensures { result ≡ passes_at (FieldTests.is_iterator_of call) (set_view set.now).sites site }
 {
     match set.bindings.get(site.index()) {
         Some(binding) => is_pick(binding, call),
@@ -246,7 +244,7 @@ fn is_pick_at(set: &RuleSet, call: BindingId, site: BindingId) -> bool
 
 // The first of some sites that stands for each value that a call answered.
 fn first_pick(set: &RuleSet, sites: &[BindingId], call: BindingId) -> Option<BindingId>
-    ensures { result ≡ find (passes_at (FieldTests.is_pick call) (set_view set.now).sites) sites.now }
+    ensures { result ≡ find (passes_at (FieldTests.is_iterator_of call) (set_view set.now).sites) sites.now }
 {
     sites
         .iter()
@@ -256,7 +254,7 @@ fn first_pick(set: &RuleSet, sites: &[BindingId], call: BindingId) -> Option<Bin
 
 /// The site that stands for each value that a call answered, if the set has one.
 pub fn iterator_of(indexed: &IndexedSet<'_>, call: BindingId) -> Option<BindingId>
-    ensures { result ≡ site_from 0 (FieldTests.is_pick call) (set_in indexed.now).sites }
+    ensures { result ≡ site_from 0 (FieldTests.is_iterator_of call) (set_in indexed.now).sites }
 {
     first_pick(indexed.set, indexed.fields.under(call), call)
 }

@@ -1,5 +1,5 @@
-//! The tree of tests that says which of a term's rules is taken: the one that trying them all by descending priority
-//! would take. A tree may make a test once for several rules.
+//! The tree of tests of a rule set. It picks the rule that trying all rules by descending priority would pick. One test
+//! may serve several rules.
 
 ghost use Rattle.std.specs.Prelude.{◌≡◌, IfOk, IsPermutation, IsTrue, length};
 ghost use Rattle.isle_model.specs.claims.Layers.{IsBuiltForSome, IsSerialized};
@@ -22,8 +22,8 @@ use isle_sets::trie_again::{BindingId, Constraint, RuleSet};
 use std::alloc::{AllocError, Global};
 use std::cmp::Reverse;
 
-/// Steps, tried in order. Where one's test fails or its body runs through, the next one follows, and may rest on no
-/// earlier one having ended the run.
+/// Steps, tried in order. If the test of a step fails, or its body runs through, the next step follows. A step may not
+/// assume that an earlier one would have ended the run.
 #[cycle(tree)]
 #[derive(Clone, Debug, PartialEq)]
 pub struct Block {
@@ -50,12 +50,12 @@ impl Block {
     }
 }
 
-/// Sites to bind, and then a test or an end. Calls and made values are bound ahead, since nothing can be computed while
+/// Sites to bind, and then a test or an end. Calls and made values are bound first, because nothing can be computed while
 /// a value is matched.
 #[cycle(tree)]
 #[derive(Clone, Debug, PartialEq)]
 pub struct EvalStep {
-    /// The sites that are bound first, in this order.
+    /// The sites to bind, in this order.
     pub bind_order: Vec<BindingId>,
     /// The test or the end.
     pub check: ControlFlow,
@@ -75,34 +75,34 @@ impl Drop for EvalStep {
 #[cycle(tree)]
 #[derive(Clone, Debug, PartialEq)]
 pub enum ControlFlow {
-    /// Goes on in the arm whose constraint the value meets. No value meets those of two arms.
+    /// Goes on in the arm whose constraint the value meets. No value meets the constraints of two arms.
     Match {
         /// The value.
         source: BindingId,
         /// The arms, with distinct constraints.
         arms: Vec<MatchArm>,
     },
-    /// Goes on where two values are equal.
+    /// Goes on if two values are equal.
     Equal {
         /// One value.
         a: BindingId,
-        /// The other one, of a greater number, so that the pair is written in one way alone.
+        /// The other value. It has the greater number, so each pair is written in one way.
         b: BindingId,
         /// What follows.
         body: Block,
     },
     /// Goes on once for each value that a call answered.
     Loop {
-        /// The site that stands for each of them in turn, a `Binding::Iterator`.
+        /// The site of the current value, a `Binding::Iterator`.
         result: BindingId,
-        /// What follows for each.
+        /// What follows for each value.
         body: Block,
     },
-    /// Takes a rule, and ends the run. In a term that is multi it adds a result instead, and goes on with the next step.
+    /// Picks a rule and ends the run. In a multi term it adds a result instead, and the next step follows.
     Return {
-        /// Where the rule was defined, by which a reader of the tree finds it.
+        /// Where the rule was defined. A reader of the tree finds the rule by it.
         pos: Pos,
-        /// What the term is.
+        /// The value of the term.
         result: BindingId,
     },
 }
@@ -123,13 +123,13 @@ impl Drop for ControlFlow {
     }
 }
 
-/// What follows where a value meets a constraint.
+/// What follows if a value meets a constraint.
 #[cycle(tree)]
 #[derive(Clone, Debug, PartialEq)]
 pub struct MatchArm {
     /// The constraint.
     pub constraint: Constraint,
-    /// The site of each field that the constraint brings, in order; None where no rule of the set speaks of the field.
+    /// The site of each field that the constraint brings, in order; `None` if no rule of the set uses the field.
     pub bindings: Vec<Option<BindingId>>,
     /// What follows.
     pub body: Block,
@@ -146,12 +146,13 @@ impl Drop for MatchArm {
     }
 }
 
-/// The best tree of a built set: at each place the test that covers most rules is made, for exactly the rules that it
-/// covers, and it means what the set does. A set has no other best tree. A set without rules gives a block without steps.
+/// Makes the best tree of a built set. At each place the tree makes the test that covers the most rules, for exactly the
+/// rules that it covers. The tree means what the set means, and the set has no other best tree. A set without rules gives a
+/// block without steps.
 ///
 /// # Errors
 ///
-/// Where memory is refused, and only there.
+/// Only if an allocation fails.
 pub fn serialize(alloc: Global, set: &RuleSet) -> Result<Block, AllocError>
     requires { IsBuiltForSome (set_view set.now) }
     ensures serialized { IfOk result (λ block. IsSerialized (set_view set.now) (tree_view block)) }

@@ -64,7 +64,6 @@ impl SmallSet {
     }
 }
 
-// Whether a site is one of these.
 fn is_among(site: BindingId, sites: &[BindingId]) -> bool
     ensures { result ≡ is_in site sites.now }
 {

@@ -3,16 +3,16 @@
 ghost use Rattle.std.specs.Prelude.{◌≡◌, IfOk, IsTrue, option_map};
 ghost use Rattle.isle_model.specs.trees.Best.{descend};
 ghost use Rattle.isle_serialize.specs.AroundViews.{around_view, AreEmitted};
-ghost use Rattle.isle_serialize.specs.FieldTests.{HasPick, IsPick};
+ghost use Rattle.isle_serialize.specs.FieldTests.{HasIterator, IsIteratorOf};
 ghost use Rattle.isle_serialize.specs.Growing.{test_sites, AreEmittedBy, IsNext};
 ghost use Rattle.isle_serialize.specs.PlaceViews.{around_at, set_at, set_in};
 ghost use Rattle.isle_serialize.specs.TestViews.{test_view, AreUseful, IsChosen};
 
 use crate::around::{Around, known_of};
 use crate::binds::{bind_order, sources_of};
+use crate::bodies::emitted_after;
 use crate::fields::iterator_of;
-use crate::inside::emitted_after;
-use crate::open::useful_tests;
+use crate::open_tests::useful_tests;
 use crate::place::{IndexedSet, Place};
 use crate::tests::{Test, greatest_of, parted};
 use isle_sets::trie_again::BindingId;
@@ -33,7 +33,6 @@ pub struct NextTest {
     pub emitted: Vec<BindingId>,
 }
 
-// The sites that a step of a test uses.
 fn sites_of(alloc: Global, test: &Test) -> Result<Vec<BindingId>, AllocError>
     ensures { IfOk result (λ v. v.items ≡ test_sites (test_view test.now)) }
 {
@@ -135,8 +134,8 @@ pub fn next_test(
 
 /// The site that stands for each answer of a call that a rule goes over: a built set has one.
 pub fn pick_of(indexed: &IndexedSet<'_>, call: BindingId) -> BindingId
-    requires { HasPick (set_in indexed.now).sites call }
-    ensures { IsPick (set_in indexed.now).sites call result }
+    requires { HasIterator (set_in indexed.now).sites call }
+    ensures { IsIteratorOf (set_in indexed.now).sites call result }
 {
     match iterator_of(indexed, call) {
         Some(each) => each,

@@ -64,7 +64,6 @@ pub struct Scored {
     pub score: Score,
 }
 
-// Whether a rule demands that two sites are equal.
 fn is_equated(rule: &Rule, a: BindingId, b: BindingId) -> bool
     ensures { result ≡ joins_in (set_rule_view rule.now).classes a b }
 {
@@ -78,7 +77,6 @@ fn goes_over(rule: &Rule, call: BindingId) -> bool
     call.index() < 65536 && rule.iterators.contains(&call)
 }
 
-// Whether a rule needs a test.
 fn needs(rule: &Rule, test: &Test) -> bool
     ensures { result ≡ Tests.needs (test_view test.now) (set_rule_view rule.now) }
 {
@@ -188,7 +186,6 @@ pub fn parted(
     parted_at(alloc, set, here, test, bar)
 }
 
-// How many of these rules need a test.
 fn needing_count(set: &RuleSet, numbers: &[usize], test: &Test) -> usize
     ensures { result ≡ length (filter (Tests.needs_at (set_view set.now).rules (test_view test.now)) numbers.now) }
 {
@@ -198,7 +195,6 @@ fn needing_count(set: &RuleSet, numbers: &[usize], test: &Test) -> usize
         .count()
 }
 
-// How many rules of a place a test covers.
 fn cover_count(set: &RuleSet, here: &[usize], test: &Test) -> usize
     requires { IsTrue (descend (set_view set.now).rules here.now) }
     ensures { result ≡ length (Tests.cover (set_view set.now).rules here.now (test_view test.now)) }
@@ -269,7 +265,6 @@ pub fn greatest_of(place: &Place<'_>, here: &[usize], tests: &[Test]) -> Option<
     best
 }
 
-// A test with its score.
 fn with_score(place: &Place<'_>, here: &[usize], test: &Test) -> Scored
     requires { IsTrue (descend (set_at place.now).rules here.now) }
     ensures test { result.test ≡ test.now }

@@ -15,9 +15,9 @@ use Rattle.isle_model.specs.sites.Closure.{constraint_of, with_constraint, with_
 use Rattle.isle_model.proofs.Elements.{In, any_in, in_any, some_is, none_some}
 use Rattle.isle_model.proofs.SameSites.{term_means, same_term}
 use Rattle.isle_laws_closure.proofs.overlaps.Overlaps.{bool_same}
-use Rattle.isle_sets.specs.DemandsHeld.{first_kept, is_or_equals, equated_too, equated_each}
+use Rattle.isle_sets.specs.SiteDemands.{first_kept, is_or_equals, equated_too, equated_each}
 use Rattle.isle_sets.specs.Closings.{are_in_one_class, asked_too, asked_each}
-use Rattle.isle_sets.proofs.Rests.{rest_is}
+use Rattle.isle_sets.proofs.ListTails.{rest_is}
 use Rattle.isle_sets.proofs.ClassTests.{is_or_joins, joined_too, joined_each}
 
 abbrev pub AreBelow : ℕ → List ℕ → Type 0

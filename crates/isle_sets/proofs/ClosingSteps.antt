@@ -16,7 +16,7 @@ use Rattle.isle_model.proofs.Elements.{In, in_from_contains, contains_from_in, s
 use Rattle.isle_model.proofs.SitesMade.{once_with}
 use Rattle.isle_laws_closure.proofs.Closing.{found_constraint, constraints_in}
 use Rattle.isle_laws_closure.proofs.FollowingDemands.{IsApart, without_in, each_apart, each_all_in}
-use Rattle.isle_sets.specs.DemandsHeld.{constraint_held, are_equated, equated_each}
+use Rattle.isle_sets.specs.SiteDemands.{constraint_held, are_equated, equated_each}
 use Rattle.isle_sets.specs.SiteTables.{AddsFields}
 use Rattle.isle_sets.specs.SiteViews.{constraint_view}
 use Rattle.isle_sets.specs.Closings.{are_in_one_class, AreDemandsOf, AreFieldsOf, GoOn, asked_each, with_member}

@@ -12,7 +12,7 @@ use Rattle.isle_laws_closure.proofs.Names.{same_name, name_same}
 use Rattle.isle_laws_closure.proofs.Classes.{asked_spoken}
 use Rattle.isle_laws_closure.proofs.Closing.{found_constraint, constraints_kept, from_constraints}
 use Rattle.isle_laws_closure.proofs.overlaps.Overlaps.{bool_same}
-use Rattle.isle_sets.specs.DemandsHeld.{constraint_held}
+use Rattle.isle_sets.specs.SiteDemands.{constraint_held}
 use Rattle.isle_sets.specs.Listings.{ascends, is_below_first, sites_of}
 use Rattle.isle_sets.specs.Verdicts.{AreClassesOf, AreVisited, class_head, conflict_in, differ_in, first_other}
 use Rattle.isle_sets.specs.declared.demanded.Demanded.{Demanded}

@@ -7,7 +7,7 @@ use Rattle.isle_model.specs.sites.Closure.{Unreachability, cycle, class_name, cl
 use Rattle.isle_model.proofs.Elements.{contains_from_in}
 use Rattle.isle_laws_closure.proofs.Names.{name_same}
 use Rattle.isle_laws_closure.proofs.Classes.{HasNoConflict, asked_spoken}
-use Rattle.isle_sets.specs.DemandsHeld.{constraint_held}
+use Rattle.isle_sets.specs.SiteDemands.{constraint_held}
 use Rattle.isle_sets.specs.Endings.{ClassEnds, GoOnForEver}
 use Rattle.isle_sets.specs.FieldParts.{AreClosed, ArePartsOf, IsPartOfAny}
 use Rattle.isle_sets.specs.Listings.{ascends, sites_of}

@@ -17,7 +17,7 @@ use Rattle.isle_model.proofs.DistinctJoined.{distinct_cons, distinct_append}
 use Rattle.isle_model.proofs.Elements.{In, in_from_contains, any_in, from_flat_map, slice_in}
 use Rattle.isle_model.proofs.Members.{nothing_in, member_from_get}
 use Rattle.isle_sets.specs.Closings.{AreDemandsOf}
-use Rattle.isle_sets.specs.DemandsHeld.{constraint_held}
+use Rattle.isle_sets.specs.SiteDemands.{constraint_held}
 use Rattle.isle_sets.specs.Listings.{ascends, is_below_first, sites_of}
 use Rattle.isle_sets.specs.SiteViews.{constraint_views}
 use Rattle.isle_sets.specs.declared.demanded.Demanded.{Demanded}

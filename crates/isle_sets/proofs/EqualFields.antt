@@ -28,6 +28,7 @@ use Rattle.isle_sets.specs.declared.closure_classes.Part.{Part}
 use Rattle.isle_sets.proofs.ClassHeads.{one_head, same_head}
 use Rattle.isle_sets.proofs.ClassTests.{in_one, is_or_joins, joined_too, joined_each, each_merged}
 use Rattle.isle_sets.proofs.FieldJoins.{same_parts}
+use Rattle.isle_sets.proofs.ListedParts.{one_number}
 use Rattle.isle_sets.proofs.SameBindings.{one_binding}
 
 -- 1. fields of two sites, place by place
@@ -161,9 +162,6 @@ module _ (sites : List Site) (before : List SiteTerm) (d : Demands) (h : Demande
   equal_each : (a b : SiteTerm) → equal_in a b ≡ joined_each (are_in_one_class []) d.equalities a b
   equal_each a b = each_merged d.equalities [] (λ l m s i j x y. absurd i) a b
 
-  one_number : (a b : ℕ) → a < length sites → b < length sites → term a ≡ term b → a ≡ b
-  one_number a b l m e = v.held.once a b (term a) (v.held.stand.exact a l) (v.held.stand.exact b m ∙ ap Some (sym e))
-
   -- 3a. equal numbers have one name
   name_equal : HaveOneName h.equals name
   name_equal a b e =
@@ -243,7 +241,7 @@ module _ (sites : List Site) (before : List SiteTerm) (d : Demands) (h : Demande
   unfolding head_or
   base_known u a l e =
       let r = number_found (length sites) u a l e in
-      ap head_or r.1 ∙ ap (class_head ks) (one_number r.0 a r.2 l (r.3 ∙ sym e))
+      ap head_or r.1 ∙ ap (class_head ks) (one_number sites before d h v r.0 a r.2 l (r.3 ∙ sym e))
 
   -- a field is of a site that the demands speak of
   pub given_spoken : (w x : SiteTerm) → GivesField d w x → Contains (spoken_of d) w
@@ -278,7 +276,7 @@ module _ (sites : List Site) (before : List SiteTerm) (d : Demands) (h : Demande
       let each = all.each p r.1 in
       let i = in_from_contains parts p r.1 in
       ap (first_part parts) (ap q (owner p.source each.source r.2) ∙ is p (class_head ks p.source) r.2 (sym r.3 ∙ each.is))
-      ∙ part_found parts (λ x k. k) p i i ∙ ap (class_head ks) (one_number p.field a each.field l (r.3 ∙ sym e))
+      ∙ part_found parts (λ x k. k) p i i ∙ ap (class_head ks) (one_number sites before d h v p.field a each.field l (r.3 ∙ sym e))
 
   pub known_class : (u : SiteTerm) (a : ℕ) → a < length sites → term a ≡ u → IsMentioned d u → class_of_term u ≡ class_head ks a
   unfolding class_of_term

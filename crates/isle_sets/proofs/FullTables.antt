@@ -21,14 +21,14 @@ use Rattle.isle_model.proofs.SitesMade.{once_with}
 use Rattle.isle_laws_closure.proofs.Closing.{closing_keeps}
 use Rattle.isle_laws_closure.proofs.built.Unfolding.{SourcesFirst, layer_same}
 use Rattle.isle_sets.specs.SiteTables.{IsAbsent, AddsSites, HasSources, HasNoRoom, AreFirst, ForWantOfRoom, LacksRoom}
-use Rattle.isle_sets.specs.Closings.{AreDemandsOf, EndsFull, IsNextDue, is_due, with_member, with_fields}
-use Rattle.isle_sets.specs.DemandsHeld.{are_equated}
+use Rattle.isle_sets.specs.Closings.{AreDemandsOf, EndsFull, IsNextDue, is_due, with_member, with_field_terms}
+use Rattle.isle_sets.specs.SiteDemands.{are_equated}
 use Rattle.isle_sets.specs.SiteViews.{constraint_view}
 use Rattle.isle_sets.specs.declared.trie_again.Constraint as C
 use Rattle.isle_sets.specs.declared.demanded.Demanded.{Demanded}
-use Rattle.isle_sets.proofs.Rests.{rest_is}
+use Rattle.isle_sets.proofs.ListTails.{rest_is}
 use Rattle.isle_sets.proofs.ClosingSteps.{with_made, with_asked, without_class}
-use Rattle.isle_sets.proofs.ClosingTaken.{ClosedSoFar, JoinedSoFar, with_members, members_at_once, members_ascend, fields_at_once, sites_append, same_demands, one_step, due_next}
+use Rattle.isle_sets.proofs.ClosingClasses.{ClosedSoFar, JoinedSoFar, with_members, members_at_once, members_ascend, fields_at_once, sites_append, same_demands, one_step, due_next}
 use Rattle.isle_sets.proofs.SitesGrown.{not_there}
 
 -- a fault that is passed on
@@ -154,21 +154,21 @@ member_full before after k us e once stand lacks =
     (λ h. h k.made once stand) lacks
 
 pub least_full : (before after : List Site) (k : Closed) (c : Constraint) (least : SiteTerm) (rest : List SiteTerm) (e : VisitFault) → EndsFull after (with_made k (field_terms c least)) e
-    → EndsFull after (with_fields c k (least ∷ rest)) e
+    → EndsFull after (with_field_terms c k (least ∷ rest)) e
 least_full before after k c least rest e full =
-    want_weaker (AreFirst after (with_sites k.made (field_terms c least))) (AreFirst after (with_fields c k (least ∷ rest)).made) e
+    want_weaker (AreFirst after (with_sites k.made (field_terms c least))) (AreFirst after (with_field_terms c k (least ∷ rest)).made) e
     (λ h. subst (AreFirst after) (sites_append (field_terms c least) (flat_map (field_terms c) rest) k.made)
     (first_with after (with_sites k.made (field_terms c least)) (flat_map (field_terms c) rest) h)) full
 
 pub members_full : (first now after : List Site) (d : Demanded) (c : Constraint) (least : SiteTerm) (k : Closed) (fields rest : List ℕ) (i m : ℕ) (all : List SiteTerm) (e : VisitFault) → i < length rest
     → m ≡ get_or rest i m → (j : JoinedSoFar first now d c least k fields all (map (unfold_site first) (drop i rest)))
-    → EndsFull after (with_member c least j.so_far (unfold_site first m)) e → EndsFull after (with_fields c k (least ∷ all)) e
+    → EndsFull after (with_member c least j.so_far (unfold_site first m)) e → EndsFull after (with_field_terms c k (least ∷ all)) e
 members_full first now after d c least k fields rest i m all e l is j full =
     let next = with_member c least j.so_far (unfold_site first m) in
     let others = map (unfold_site first) (drop (i + 1) rest) in
-    let whole : with_members c least next others ≡ with_fields c k (least ∷ all) =
+    let whole : with_members c least next others ≡ with_field_terms c k (least ∷ all) =
     ap (λ left. with_members c least j.so_far (map (unfold_site first) left)) (sym (rest_is rest i m l is)) ∙ j.whole ∙ fields_at_once c least all k in
-    want_weaker (AreFirst after next.made) (AreFirst after (with_fields c k (least ∷ all)).made) e
+    want_weaker (AreFirst after next.made) (AreFirst after (with_field_terms c k (least ∷ all)).made) e
     (λ h. subst (AreFirst after) (ap (λ (q : Closed). q.made) (sym (members_at_once c least others next) ∙ whole))
     (first_with after next.made (flat_map (field_terms c) others) h)) full
 
@@ -188,7 +188,7 @@ closing_full after n k e full =
 -- 6. steps of the closing
 pub class_full : (sites after : List Site) (d : Demanded) (k : Closed) (h : AreDemandsOf sites d k) (s : ℕ) (due : is_due d s ≡ true) (c : Constraint) (members : List ℕ)
     → ((y : ℕ) → in_set nat_eq members y ≡ are_equated d s y) → IsStrictlySortedBy nat_cmp members → (e : VisitFault)
-    → EndsFull after (with_fields c (with_asked (without_class k (unfold_site sites s)) (map (unfold_site sites) members) c) (map (unfold_site sites) members)) e
+    → EndsFull after (with_field_terms c (with_asked (without_class k (unfold_site sites s)) (map (unfold_site sites) members) c) (map (unfold_site sites) members)) e
     → EndsFull after (taken k (unfold_site sites s, c) (ascending k.made (class_at k.classes (unfold_site sites s)))) e
 class_full sites after d k h s due c members exact sorted e full =
     subst (λ ms. EndsFull after (taken k (unfold_site sites s, c) ms) e) (sym (members_ascend sites d k h s due members exact sorted)) full

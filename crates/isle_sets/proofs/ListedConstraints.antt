@@ -14,7 +14,7 @@ use Rattle.isle_model.proofs.Numbers.{tied}
 use Rattle.isle_model.specs.trees.Places.{constraint_at}
 use Rattle.isle_sets.specs.Listings.{ascends, is_below_first, sites_of}
 use Rattle.isle_sets.specs.SiteViews.{constraint_view, constraint_views}
-use Rattle.isle_sets.specs.DemandsHeld.{constraint_held}
+use Rattle.isle_sets.specs.SiteDemands.{constraint_held}
 use Rattle.isle_sets.specs.declared.trie_again.Constraint.{Constraint}
 use Rattle.isle_sets.specs.declared.demanded.Demanded.{Demanded}
 

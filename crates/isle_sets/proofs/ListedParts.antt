@@ -16,7 +16,7 @@ use Rattle.isle_laws_closure.proofs.Classes.{in_with_sites}
 use Rattle.isle_laws_closure.proofs.Closing.{OneEach, found_constraint, constraints_kept, from_constraints}
 use Rattle.isle_laws_closure.proofs.built.Unfolding.{SourcesFirst, unfolds}
 use Rattle.isle_types.specs.declared.ids.VariantId.{VariantId}
-use Rattle.isle_sets.specs.DemandsHeld.{constraint_held}
+use Rattle.isle_sets.specs.SiteDemands.{constraint_held}
 use Rattle.isle_sets.specs.Listings.{ascends, is_below_first, sites_of}
 use Rattle.isle_sets.specs.SiteViews.{constraint_views, site_view}
 use Rattle.isle_sets.specs.declared.trie_again.Constraint.{Constraint as Code}
@@ -197,6 +197,11 @@ no_field : (v : Option VariantId) (u : SiteTerm) (i : ℕ) → no_site ≡ field
 no_field (Some v) u i e = absurd (cc)
 no_field None u i e = absurd (cc)
 
+-- the sites of a visit that stand for one term are one
+pub one_number : (sites : List Site) (before : List SiteTerm) (d : Demands) (h : Demanded) → AreVisited sites before d h
+    → (a b : ℕ) → a < length sites → b < length sites → unfold_site sites a ≡ unfold_site sites b → a ≡ b
+one_number sites before d h v a b l m e = v.held.once a b (unfold_site sites a) (v.held.stand.exact a l) (v.held.stand.exact b m ∙ ap Some (sym e))
+
 -- 4. the parts that are listed
 module _ (sites : List Site) (first : SourcesFirst sites) (before : List SiteTerm) (d : Demands) (h : Demanded) (v : AreVisited sites before d h)
     (cs : List (ℕ × Constraint)) (ascend : ascends (sites_of cs) ≡ true) (asked : (s : ℕ) → constraint_at cs s ≡ constraint_held h s)
@@ -206,9 +211,6 @@ module _ (sites : List Site) (first : SourcesFirst sites) (before : List SiteTer
 
   once : OneEach d.constraints
   once = each_once [] d.constraints (λ s a b i j. absurd i) v.agreed
-
-  one_number : (a b : ℕ) → a < length sites → b < length sites → term a ≡ term b → a ≡ b
-  one_number a b l m e = v.held.once a b (term a) (v.held.stand.exact a l) (v.held.stand.exact b m ∙ ap Some (sym e))
 
   number_of : (u : SiteTerm) → In (before_closing before d).made u → (n : ℕ) × (n < length sites) × (term n ≡ u)
   number_of u i =
@@ -268,7 +270,7 @@ module _ (sites : List Site) (first : SourcesFirst sites) (before : List SiteTer
       by (Some b) at =
           let r = field_site (unfold_site sites) o u i b (sym (ap (layer_at (unfold_site sites)) at) ∙ layered) in
           let less : r.0 < m = first m r.0 (contains_from_in (sources_at sites m) r.0 (subst (λ q. In (elim q as (λ _. List ℕ) [ None ↦ [] | Some x ↦ sources_of x ]) r.0) (sym at) r.3)) in
-          let same = one_number r.0 n (omega (arith, less, k)) l (r.2 ∙ sym e) in
+          let same = one_number sites before d h v r.0 n (omega (arith, less, k)) l (r.2 ∙ sym e) in
           at ∙ ap Some r.1 ∙ ap (λ s. Some (site_view (field_binding o s i))) same
 
   abbrev Found : SiteTerm → SiteTerm → Type 0

@@ -7,7 +7,7 @@ use Rattle.std.proofs.lemmas.Bool.{and_parts}
 use Rattle.isle_disjointsets.specs.Partition.{joined, merged, set_of, together, together_after}
 use Rattle.isle_model.proofs.Elements.{or_split}
 use Rattle.isle_sets.specs.SetLists.{AreNoted}
-use Rattle.isle_sets.proofs.DueKept.{still_open}
+use Rattle.isle_sets.proofs.DueSites.{still_open}
 
 -- no sets have nothing in one
 pub none_together : (a b : ℕ) → together nat_eq [] a b ≡ false

@@ -18,9 +18,6 @@ module _ (sites : List Site) (s : ℕ) (form : Option VariantId) (old : List Par
   abbrev pub HasParts : ℕ → List Part → Type 0
   HasParts n now = (p : Part) → Contains now p ↔ (Contains old p ⊎ IsFieldPart sites s form n p)
 
-  pub no_parts : HasParts 0 old
-  no_parts p = (inl, λ h. elim h [ inl c ↦ c | inr a ↦ let l : p.place < 0 = a.place in absurd (omega (arith, l)) ])
-
   pub part_more : (n : ℕ) (now next : List Part) → HasParts n now → Adds sites s form n now next → HasParts (n + 1) next
   part_more n now next had adds p = (
     λ c.

@@ -93,19 +93,6 @@ module _ (whole rest after listed : List (List ℕ)) (s : ℕ) (later set : List
   later_ascend : ascends later ≡ true
   later_ascend = (and_parts (is_below_first s later) (ascends later) h.ascending).1
 
-  pub none_listed : set ≡ [] → IsListedBefore whole after listed later
-  none_listed e = record {
-    partition = partition;
-    parts = λ a b.
-        let none : R s a ≡ false = sym (members a) ∙ ap (λ l. in_set nat_eq l a) e in
-        let same : together nat_eq after a b ≡ R a b = rests a b ∙ ap (λ t. R a b && not t) none ∙ and-true (R a b) in
-        h.parts a b ∙ ap (λ t. joins_in listed a b || t) (sym same);
-    in_order = h.in_order;
-    ascending = later_ascend;
-    left = still_left;
-    above = λ a t. h.above a (stayed a t).0;
-  }
-
   module _ (x : ℕ) (xs : List ℕ) (e : set ≡ x ∷ xs) (sorted : IsStrictlySortedBy nat_cmp set) where
     first_in : R s x ≡ true
     first_in = sym (members x) ∙ in_set_in set x ∙ ap (is_in x) e ∙ or_left (x == x) (is_in x xs) (eq-eqb x x refl)

@@ -12,7 +12,7 @@ use Rattle.isle_sets.specs.Listings.{is_below_first, ascends, sites_of}
 use Rattle.isle_sets.specs.Overlaps.{IsComparedAs}
 use Rattle.isle_sets.specs.SiteViews.{constraint_view, constraint_views}
 use Rattle.isle_sets.specs.declared.trie_again.Constraint.{Constraint}
-use Rattle.isle_sets.proofs.Rests.{rest_is}
+use Rattle.isle_sets.proofs.ListTails.{rest_is}
 
 abbrev Demand : Type 0
 Demand = ℕ × Sites.Constraint

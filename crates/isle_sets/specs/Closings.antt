@@ -9,7 +9,7 @@ use Rattle.isle_model.specs.sites.Sites.{Site, SiteTerm, unfold_site, field_term
 use Rattle.isle_model.specs.visits.Demands.{has_site, with_sites}
 use Rattle.isle_model.specs.sites.Closure.{Closed, constraint_of, field_equalities, merged_all}
 use Rattle.isle_model.specs.sites.RuleSets.{StandFor}
-use Rattle.isle_sets.specs.DemandsHeld.{constraint_held, are_equated, first_kept}
+use Rattle.isle_sets.specs.SiteDemands.{constraint_held, are_equated, first_kept}
 use Rattle.isle_base.specs.declared.visit_fault.VisitFault.{VisitFault}
 use Rattle.isle_sets.specs.SiteTables.{AreFirst, ForWantOfRoom}
 use Rattle.isle_sets.specs.SiteViews.{constraint_view}
@@ -79,8 +79,8 @@ pub record AreFieldsOf (sites : List Site) (c : Sites.Constraint) (fields : List
   pub of_site : map (unfold_site sites) fields ≡ field_terms c u
 
 -- each member of a class does
-abbrev pub with_fields : Sites.Constraint → Closed → List SiteTerm → Closed
-with_fields c k members = record {
+abbrev pub with_field_terms : Sites.Constraint → Closed → List SiteTerm → Closed
+with_field_terms c k members = record {
   constraints = k.constraints;
   classes = merged_all k.classes (field_equalities c members);
   made = with_sites k.made (flat_map (field_terms c) members);

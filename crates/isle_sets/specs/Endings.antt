@@ -39,12 +39,12 @@ abbrev pub listed_at : {X : Type 0} → BTreeMap ℕ (Vec X) → ℕ → List X
 listed_at m class = items_of (get nat_cmp m class)
 
 -- how often a class stands in a list
-abbrev pub times : ℕ → List ℕ → ℕ
-times class ks = length (filter (λ k. nat_eq k class) ks)
+abbrev pub number_count : ℕ → List ℕ → ℕ
+number_count class ks = length (filter (λ k. nat_eq k class) ks)
 
 -- one part of each of some classes is left out, and classes of which none is left are now among those that end
 pub record PartsAreTaken (before after : ℕ → ℕ) (wholes ended now : List ℕ) : Type 0 where
-  pub counts : (k : ℕ) → after k ≡ before k - times k wholes
+  pub counts : (k : ℕ) → after k ≡ before k - number_count k wholes
   pub kept : (k : ℕ) → Contains ended k → Contains now k
   pub met : (k : ℕ) → 0 < before k → after k ≡ 0 → Contains now k
   pub only : (k : ℕ) → Contains now k → Contains ended k ⊎ (after k ≡ 0)

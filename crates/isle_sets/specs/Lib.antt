@@ -3,7 +3,7 @@ pub mod Listings
 pub mod SetLists
 pub mod Overlaps
 pub mod SiteTables
-pub mod DemandsHeld
+pub mod SiteDemands
 pub mod Closings
 pub mod Verdicts
 pub mod FieldParts

@@ -14,13 +14,13 @@ use Rattle.isle_sets.specs.declared.verdict.Unreachable.{Unreachable}
 use Rattle.isle_sets.specs.declared.verdict.Unreachable.TheVariants as U
 
 -- what is reported
-abbrev pub report_view : Unreachable → Unreachability
-report_view (U.Conflict first second) = conflict (constraint_view first) (constraint_view second)
-report_view U.Cycle = cycle
+abbrev pub unreachability_view : Unreachable → Unreachability
+unreachability_view (U.Conflict first second) = conflict (constraint_view first) (constraint_view second)
+unreachability_view U.Cycle = cycle
 
-abbrev pub report_views : Option Unreachable → List Unreachability
-report_views None = []
-report_views (Some u) = report_view u ∷ []
+abbrev pub unreachability_views : Option Unreachable → List Unreachability
+unreachability_views None = []
+unreachability_views (Some u) = unreachability_view u ∷ []
 
 -- the demands of a visit that met no conflict, before their closing: the fields that they speak of are asked for, and
 -- all fields that they ask for are made

@@ -3,8 +3,8 @@
 ghost use Rattle.std.specs.Prelude.{◌≡◌, ◌<◌, ℕ, IsTrue, Some, false, length, map, All, IfErr, OnOk, MatchOption};
 ghost use Rattle.isle_model.specs.sites.Sites.{SiteTerm, unfold_site};
 ghost use Rattle.isle_model.specs.sites.Closure.{Closed, ascending, class_at, closing, most_closing_steps, taken};
-ghost use Rattle.isle_sets.specs.Closings.{AreDemandsOf, AreFieldsOf, EndsFull, GoOn, IsNextDue, KeepsDue, SpeakOf, asked_each, is_due, is_due_with, with_fields, with_member};
-ghost use Rattle.isle_sets.specs.DemandsHeld.{constraint_held};
+ghost use Rattle.isle_sets.specs.Closings.{AreDemandsOf, AreFieldsOf, EndsFull, GoOn, IsNextDue, KeepsDue, SpeakOf, asked_each, is_due, is_due_with, with_field_terms, with_member};
+ghost use Rattle.isle_sets.specs.SiteDemands.{constraint_held};
 ghost use Rattle.isle_sets.specs.SiteTables.{ForWantOfRoom, IsTable, table_sites};
 ghost use Rattle.isle_sets.specs.SiteViews.{constraint_view};
 
@@ -136,11 +136,11 @@ impl Demanded {
         ensures due { OnOk result (KeepsDue self.new) }
         ensures joined { (k : Closed) → AreDemandsOf (table_sites table.old) self.old k
             → OnOk result (GoOn (table_sites table.old) (table_sites table.new) self.new
-            (with_fields (constraint_view constraint.now) k (map (unfold_site (table_sites table.old)) members.now))) }
+            (with_field_terms (constraint_view constraint.now) k (map (unfold_site (table_sites table.old)) members.now))) }
         ensures kept { IfErr result (ForWantOfRoom (IsTable table.new)) }
         ensures full { (k : Closed) → AreDemandsOf (table_sites table.old) self.old k
             → IfErr result (EndsFull (table_sites table.new)
-            (with_fields (constraint_view constraint.now) k (map (unfold_site (table_sites table.old)) members.now))) }
+            (with_field_terms (constraint_view constraint.now) k (map (unfold_site (table_sites table.old)) members.now))) }
     {
         let Some((least, rest)) = members.split_first() else {
             return Ok(());

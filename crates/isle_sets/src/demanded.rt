@@ -2,7 +2,7 @@
 ghost use Rattle.std.specs.Prelude.{◌≡◌, ℕ, false, None, Some, length, if◌then◌else◌, IfOk, OnOk, nat_eq};
 ghost use Rattle.std.specs.List.{zip};
 ghost use Rattle.isle_sets.specs.Closings.{KeepsDue};
-ghost use Rattle.isle_sets.specs.DemandsHeld.{constraint_held, first_kept, IsConflict, are_equated, equated_too, equated_each};
+ghost use Rattle.isle_sets.specs.SiteDemands.{constraint_held, first_kept, IsConflict, are_equated, equated_too, equated_each};
 ghost use Rattle.isle_sets.specs.SiteViews.{constraint_view};
 
 use crate::equal_sites::EqualSites;

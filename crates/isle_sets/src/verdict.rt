@@ -7,7 +7,7 @@ ghost use Rattle.isle_model.specs.visits.Demands.{Demands, constraint_eq, with_s
 ghost use Rattle.isle_model.specs.sites.Sites.{SiteTerm};
 ghost use Rattle.isle_sets.specs.SiteTables.{IsTable, table_sites};
 ghost use Rattle.isle_sets.specs.SiteViews.{constraint_view, constraint_views};
-ghost use Rattle.isle_sets.specs.Verdicts.{AreVisited, asked_in, asked_view, class_head, conflict_asked, conflict_in, report_views, with_asked};
+ghost use Rattle.isle_sets.specs.Verdicts.{AreVisited, asked_in, asked_view, class_head, conflict_asked, conflict_in, unreachability_views, with_asked};
 
 use crate::closure_classes::{class_of, close_classes, list_parts};
 use crate::cycles::has_cycle;
@@ -91,7 +91,7 @@ fn asked_by_class(
 
 // The conflict of a class, where it is asked two things.
 fn conflict_of(asked: Option<Asked>) -> Option<Unreachable>
-    ensures { report_views result ≡ conflict_asked (option_map asked_view asked) }
+    ensures { unreachability_views result ≡ conflict_asked (option_map asked_view asked) }
 {
     let (first, other) = asked?;
     let second = other?;
@@ -104,7 +104,7 @@ fn conflict_at(
     by_class: &BTreeMap<BindingId, Asked>,
     site: BindingId,
 ) -> Option<Unreachable>
-    ensures { report_views result ≡ conflict_asked (option_map asked_view (get nat_cmp by_class.now (class_head classes.now site))) }
+    ensures { unreachability_views result ≡ conflict_asked (option_map asked_view (get nat_cmp by_class.now (class_head classes.now site))) }
 {
     let class = class_of(classes, site);
     conflict_of(by_class.get(&class).copied())
@@ -116,7 +116,7 @@ fn find_conflict(
     classes: &DisjointSets<BindingId>,
     constraints: &[(BindingId, Constraint)],
 ) -> Result<Option<Unreachable>, AllocError>
-    ensures { IfOk result (λ o. report_views o ≡ conflict_in (class_head classes.now) (constraint_views constraints.now) (constraint_views constraints.now)) }
+    ensures { IfOk result (λ o. unreachability_views o ≡ conflict_in (class_head classes.now) (constraint_views constraints.now) (constraint_views constraints.now)) }
 {
     let by_class = asked_by_class(alloc, classes, constraints)?;
     for (site, _) in constraints {
@@ -129,7 +129,7 @@ fn find_conflict(
 
 // The conflict, if there is one, else a cycle, if there is one.
 fn first_reason(conflict: Option<Unreachable>, cyclic: bool) -> Option<Unreachable>
-    ensures { report_views result ≡ first_filled (report_views conflict) (if cyclic then cycle ∷ [] else []) }
+    ensures { unreachability_views result ≡ first_filled (unreachability_views conflict) (if cyclic then cycle ∷ [] else []) }
 {
     match conflict {
         Some(conflict) => Some(conflict),
@@ -151,7 +151,7 @@ pub fn why_unreachable(
 ) -> Result<Option<Unreachable>, AllocError>
     requires { IsTable table.now }
     ensures { IfOk result (λ o. (before : List SiteTerm) (d : Demands) → AreVisited (table_sites table.now) before d demanded.now
-        → report_views o ≡ reported (with_sites before d.made) d) }
+        → unreachability_views o ≡ reported (with_sites before d.made) d) }
 {
     let constraints = demanded.list_constraints(alloc)?;
     let parts = list_parts(alloc, table, &constraints)?;

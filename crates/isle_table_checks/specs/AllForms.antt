@@ -14,19 +14,19 @@ abbrev pub two_exprs : TypedExpr → TypedExpr → TypedExprs
 two_exprs d e = typed_expr_and d (typed_expr_and e no_typed_expr)
 
 -- a variable of type u8 that is bound
-abbrev pub binding : ℕ → TypedPattern
-binding x = match_bind 1 x (match_any 1)
+abbrev pub variable_binding : ℕ → TypedPattern
+variable_binding x = match_bind 1 x (match_any 1)
 
 abbrev pub forms_args : List TypedPattern
 forms_args =
-    match_term 13 1 (two_patterns (binding 0) (match_any 1))
+    match_term 13 1 (two_patterns (variable_binding 0) (match_any 1))
     ∷ match_term 14 2 (two_patterns (match_int 1 (pos 7)) (match_bool 0 true))
-    ∷ match_and 1 (two_patterns (match_term 1 3 (two_patterns (match_var 1 0) (match_prim 15 20))) (binding 1))
+    ∷ match_and 1 (two_patterns (match_term 1 3 (two_patterns (match_var 1 0) (match_prim 15 20))) (variable_binding 1))
     ∷ []
 
 abbrev pub forms_iflets : List TypedIfLet
 forms_iflets =
-    record { lhs = match_term 13 1 (two_patterns (binding 2) (match_any 1)); rhs = make_term 13 4 (two_exprs (make_var 1 0) (make_prim 15 20)) }
+    record { lhs = match_term 13 1 (two_patterns (variable_binding 2) (match_any 1)); rhs = make_term 13 4 (two_exprs (make_var 1 0) (make_prim 15 20)) }
     ∷ record { lhs = match_var 1 1; rhs = make_var 1 0 }
     ∷ []
 

@@ -11,7 +11,7 @@ use Rattle.isle_model.specs.lists.Tables.{Flags}
 use Rattle.isle_model.specs.sites.Sites.{SiteTerm, SiteTerms, constructor_call, each_term, pick_of, some_part, unfold_site}
 use Rattle.isle_model.specs.visits.Demands.{Visit, Valued, valued, call_result, call_sites, calling, iterating, making, visit_call, where_multi, value_made as value_made_of}
 use Rattle.isle_base.specs.declared.visit_fault.VisitFault.{VisitFault}
-use Rattle.isle_term_sets.specs.VisitedSites.{EndsBefore, GoesTo, HaveSites, IsNextCall, IsSiteOf, StandsAt, Makes, MakesValue, ValuesTo, GivesValue, built_sites, call_number, input_ids, input_terms, value_sites}
+use Rattle.isle_term_sets.specs.VisitedSites.{EndsBefore, GoesTo, HaveSites, IsNextCall, IsSiteOf, StandsAt, MakesSite, MakesValue, ValuesTo, GivesValue, built_sites, call_number, input_ids, input_terms, value_sites}
 use Rattle.isle_term_sets.specs.declared.ruleset_builder.RuleSetBuilder.{RuleSetBuilder}
 use Rattle.isle_term_sets.proofs.CallNumbers.{result_number}
 use Rattle.isle_term_sets.proofs.BuilderFields.{making_twice, goes_further, site_stays, ends_later}
@@ -93,7 +93,7 @@ module _ (before : List SiteTerm) (old : RuleSetBuilder) (v : Visit) (flags : Fl
   pub call_ends : (b : RuleSetBuilder) (e : VisitFault) → EndsBefore before b Begun e → EndsBefore before b (visit_call flags t args v).visit e
   call_ends b e k = value_ends b e (ends_later before b Begun (WithValue flags Call v) (value_sites flags Call) e refl k)
 
-  module _ (a : RuleSetBuilder) (s : ℕ) (m : Makes before old a v Call s) where
+  module _ (a : RuleSetBuilder) (s : ℕ) (m : MakesSite before old a v Call s) where
     pub making_ends : (b : RuleSetBuilder) (e : VisitFault)
         → ((w : Visit) → StandsAt before a w → s < length (built_sites a) → EndsBefore before b (making (value_sites flags (unfold_site (built_sites a) s)) w) e)
         → EndsBefore before b (visit_call flags t args v).visit e
@@ -127,7 +127,7 @@ ids_typed (x ∷ xs) = ap (λ l. x.0 ∷ l) (ids_typed xs)
 -- a value is made of those that are handed over
 pub gives_made : (old new : RuleSetBuilder) (r : Result ℕ VisitFault) (whole : SiteTerms → SiteTerm) (ids : List ℕ) (xs : List (ℕ × TypeId)) → ids ≡ map (λ x. x.0) xs → HaveSites old (typed_inputs xs)
     → (((a : ℕ) → Contains ids a → a < length (built_sites old)) → (before : List SiteTerm) (v : Visit) → StandsAt before old v
-    → IfOk r (Makes before old new v (whole (each_term (unfold_site (built_sites old)) ids))) × IfErr r (EndsBefore before new (making (whole (each_term (unfold_site (built_sites old)) ids) ∷ []) v)))
+    → IfOk r (MakesSite before old new v (whole (each_term (unfold_site (built_sites old)) ids))) × IfErr r (EndsBefore before new (making (whole (each_term (unfold_site (built_sites old)) ids) ∷ []) v)))
     → GivesValue old new r (value_made_of (whole (input_terms old (typed_inputs xs))))
 gives_made old new r whole ids xs same known makes =
     let all = same ∙ ids_typed xs in
@@ -136,4 +136,4 @@ gives_made old new r whole ids xs same known makes =
     subst (λ ns. GivesValue old new r (value_made_of (whole (each_term (unfold_site (built_sites old)) ns)))) all
     (λ before v h. let m = makes below before v h in
     MatchResult-from_both r (ValuesTo before old new (value_made_of u v)) (EndsBefore before new (making (u ∷ []) v))
-    (weaker_ok (Makes before old new v u) (ValuesTo before old new (value_made_of u v)) r (λ n k. record { goes = k.goes; site = k.site }) m.0) m.1)
+    (weaker_ok (MakesSite before old new v u) (ValuesTo before old new (value_made_of u v)) r (λ n k. record { goes = k.goes; site = k.site }) m.0) m.1)

@@ -17,11 +17,11 @@ use Rattle.isle_base.specs.declared.syntax.Limit.TheVariants as Limits
 use Rattle.isle_base.specs.declared.visit_fault.VisitFault.{VisitFault}
 use Rattle.isle_model.proofs.Members.{in_alone}
 use Rattle.isle_sets.specs.SiteTables.{AreFirst, HasSources, IsTable}
-use Rattle.isle_term_sets.specs.VisitedSites.{built_sites, part_of, part_site, IsSiteOf, AreSitesOf, StandsAt, GoesTo, Makes, MakesAll, OpensTo, EndsBefore, EndsOpening, AnswersTo, answer_of, answered}
+use Rattle.isle_term_sets.specs.VisitedSites.{built_sites, part_of, part_site, IsSiteOf, AreSitesOf, StandsAt, GoesTo, MakesSite, MakesAll, OpensTo, EndsBefore, EndsOpening, AnswersTo, answer_of, answered}
 use Rattle.isle_term_sets.specs.declared.builder_patterns.Parts.{Parts}
 use Rattle.isle_term_sets.specs.declared.builder_patterns.Parts.TheVariants as AllParts
 use Rattle.isle_term_sets.specs.declared.ruleset_builder.RuleSetBuilder.{RuleSetBuilder}
-use Rattle.isle_sets.proofs.ClosingTaken.{sites_append}
+use Rattle.isle_sets.proofs.ClosingClasses.{sites_append}
 use Rattle.isle_sets.proofs.FullTables.{first_with, want_weaker}
 use Rattle.isle_sets.proofs.SitesAdded.{same_all, weaker_ok}
 
@@ -61,7 +61,7 @@ none_made before b v h = record {
 }
 
 pub one_made : (before : List SiteTerm) (old now new : RuleSetBuilder) (v : Visit) (us : List SiteTerm) (ns ns' : List ℕ) (u t : SiteTerm) (n : ℕ) → MakesAll before old now v us ns
-    → Makes before now new (making us v) u n → u ≡ t → ns' ≡ ns ++ n ∷ [] → MakesAll before old new v (us ++ t ∷ []) ns'
+    → MakesSite before now new (making us v) u n → u ≡ t → ns' ≡ ns ++ n ∷ [] → MakesAll before old new v (us ++ t ∷ []) ns'
 one_made before old now new v us ns ns' u t n m one is pushed =
     let stay = sites_stay before now new (making (u ∷ []) (making us v)) us ns one.goes m.sites in
     let all : AreSitesOf new (us ++ u ∷ []) (ns ++ n ∷ []) = record {
@@ -141,7 +141,7 @@ module _ (before : List SiteTerm) (old now : RuleSetBuilder) (v : Visit) (parts 
   part_is : layer (unfold_site (built_sites now)) binding ≡ Part i
   part_is = ap (layer (unfold_site (built_sites now))) is ∙ part_layer (unfold_site (built_sites now)) parts s place ∙ ap₂ (part_of parts) (m.goes.kept s there) at
 
-  pub part_made : (new : RuleSetBuilder) (n : ℕ) (ns' : List ℕ) → Makes before now new (making (fields_from Part 0 i) v) (layer (unfold_site (built_sites now)) binding) n → ns' ≡ ns ++ n ∷ []
+  pub part_made : (new : RuleSetBuilder) (n : ℕ) (ns' : List ℕ) → MakesSite before now new (making (fields_from Part 0 i) v) (layer (unfold_site (built_sites now)) binding) n → ns' ≡ ns ++ n ∷ []
       → MakesAll before old new v (fields_from Part 0 (i + 1)) ns'
   part_made new n ns' one pushed =
       subst (λ us. MakesAll before old new v us ns') (field_more_of Part i) (one_made before old now new v (fields_from Part 0 i) ns ns' _ (Part i) n m one part_is pushed)
@@ -214,7 +214,7 @@ module _ (before : List SiteTerm) (old new : RuleSetBuilder) (v : Visit) (u : Si
 
 -- 8. answers of a call
 pub many_answered : (before : List SiteTerm) (old mid new : RuleSetBuilder) (v : Visit) (s n : ℕ) (u : SiteTerm) → s < length (built_sites old) → u ≡ unfold_site (built_sites old) s
-    → Makes before old mid v (pick_of u) n
+    → MakesSite before old mid v (pick_of u) n
     → ((w : Visit) → StandsAt before mid w → s < length (built_sites mid) → GoesTo before mid new (iterating (unfold_site (built_sites mid) s) w))
     → GoesTo before old new (iterating u (making (pick_of u ∷ []) v)) × IsSiteOf new (pick_of u) n
 many_answered before old mid new v s n u l is m next =
@@ -226,7 +226,7 @@ many_answered before old mid new v s n u l is m next =
     (goes_further before old mid new w (iterating u w) m.goes g, record { within = omega (arith, more, k); number = g.kept n k ∙ m.site.number })
 
 pub some_answered : (before : List SiteTerm) (old mid new : RuleSetBuilder) (v : Visit) (s n : ℕ) (u : SiteTerm) → s < length (built_sites old) → u ≡ unfold_site (built_sites old) s
-    → Makes before old mid v (some_part u) n
+    → MakesSite before old mid v (some_part u) n
     → ((w : Visit) → StandsAt before mid w → s < length (built_sites mid) → GoesTo before mid new (asking (unfold_site (built_sites mid) s) is_present w))
     → GoesTo before old new (asking u is_present (making (some_part u ∷ []) v)) × IsSiteOf new (some_part u) n
 some_answered before old mid new v s n u l is m next =
@@ -289,7 +289,7 @@ module _ (before : List SiteTerm) (v : Visit) (flags : Flags) (multi infallible 
       let a = answered_makes multi infallible call Call in
       opening_ends before b (Wanted args).visit Answered Limits.Outputs most_outputs count e (ends_later before b Call (Wanted args).visit m.0 e m.1 h) (ends_later before b Call Answered a.0 e a.1 h)
 
-  module _ (old mid : RuleSetBuilder) (s : ℕ) (m : Makes before old mid v call s) where
+  module _ (old mid : RuleSetBuilder) (s : ℕ) (m : MakesSite before old mid v call s) where
     pub answer_ends : (args : TypedPatterns) (count : ℕ) (b : RuleSetBuilder) (e : VisitFault)
         → ((w : Visit) → StandsAt before mid w → s < length (built_sites mid) → EndsBefore before b (answered multi infallible (unfold_site (built_sites mid) s) w) e) → EndsCall b count args e
     answer_ends args count b e full =

@@ -19,11 +19,11 @@ use Rattle.isle_model.proofs.SameSites.{term_means}
 use Rattle.isle_model.proofs.SitesMade.{in_has}
 use Rattle.isle_laws_closure.proofs.FollowingDemands.{own_class}
 use Rattle.isle_laws_visits.proofs.Continued.{passed_after}
-use Rattle.isle_sets.specs.DemandsHeld.{constraint_held, are_equated, first_kept, IsConflict, equated_too}
+use Rattle.isle_sets.specs.SiteDemands.{constraint_held, are_equated, first_kept, IsConflict, equated_too}
 use Rattle.isle_sets.specs.SiteTables.{AreFirst, ForWantOfRoom, HasNoRoom, HasSources, IsTable, StandsFor, table_sites}
 use Rattle.isle_sets.specs.SiteViews.{constraint_view}
 use Rattle.isle_sets.specs.Closings.{AreDemandsOf, KeepsDue}
-use Rattle.isle_term_sets.specs.VisitedSites.{AreAnswered, AreCallsNumbered, AsksUnwrapped, IsNextCall, built_sites, conflict_beside, conflict_view, StandsAt, GoesTo, Makes, EndsBefore}
+use Rattle.isle_term_sets.specs.VisitedSites.{AreAnswered, AreCallsNumbered, AsksUnwrapped, IsNextCall, built_sites, conflict_beside, conflict_view, StandsAt, GoesTo, MakesSite, EndsBefore}
 use Rattle.isle_base.specs.declared.visit_fault.VisitFault.{VisitFault}
 use Rattle.isle_sets.specs.declared.trie_again.Constraint as C
 use Rattle.isle_sets.specs.declared.demanded.Demanded.{Demanded}
@@ -31,7 +31,7 @@ use Rattle.isle_sets.specs.declared.site_table.SiteTable.{SiteTable}
 use Rattle.isle_term_sets.specs.declared.ruleset_builder.RuleSetBuilder.{RuleSetBuilder}
 use Rattle.isle_sets.proofs.ClosingNumbers.{constraint_with}
 use Rattle.isle_sets.proofs.ClosingSteps.{with_made, with_asked, with_equal, grown, asked_more, equated_more}
-use Rattle.isle_sets.proofs.ClosingTaken.{merged_append, sites_append}
+use Rattle.isle_sets.proofs.ClosingClasses.{merged_append, sites_append}
 use Rattle.isle_sets.proofs.FullTables.{both_want, want_weaker, site_lacks}
 use Rattle.isle_sets.proofs.SitesAdded.{same_all}
 use Rattle.isle_term_sets.proofs.CallNumbers.{calls_met, next_numbered, none_numbered}
@@ -134,7 +134,7 @@ module _ (before : List SiteTerm) (b : RuleSetBuilder) (t : SiteTable) (v : Visi
   st : StandsFor (built_sites b) (table_sites t) (before_closing before v.demands).made s n
   st = stand (before_closing before v.demands).made h.demands.once h.demands.stand
 
-  pub site_made : Makes before b (with_table b t) v u n
+  pub site_made : MakesSite before b (with_table b t) v u n
   site_made = record {
     goes = record {
       stands = record {

@@ -21,7 +21,7 @@ use Rattle.isle_model.proofs.Elements.{none_some, some_is}
 use Rattle.isle_laws_visits.specs.VisitLaws.{Continues}
 use Rattle.isle_laws_visits.proofs.Continued.{passed_after}
 use Rattle.isle_sets.specs.SiteTables.{AreFirst}
-use Rattle.isle_sets.proofs.ClosingTaken.{sites_append}
+use Rattle.isle_sets.proofs.ClosingClasses.{sites_append}
 use Rattle.isle_sets.proofs.FullTables.{first_with}
 use Rattle.isle_term_sets.specs.VisitedSites.{EndsBefore, EndsOpening, EndsVisit, HasSites, MeetsCount, answer_of, answered, built_sites, sites_made, with_made_until}
 use Rattle.isle_term_sets.specs.declared.ruleset_builder.RuleSetBuilder.{RuleSetBuilder}

@@ -8,7 +8,7 @@ pub mod EndedRules
 pub mod FollowedRule
 pub mod AskedAnswers
 pub mod UnwrappedSites
-pub mod Lent
+pub mod LendingVisitors
 pub mod GrownSites
 pub mod PassingSites
 pub mod PassedRules

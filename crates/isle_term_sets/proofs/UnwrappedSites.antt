@@ -15,7 +15,7 @@ use Rattle.isle_model.proofs.Elements.{In, in_from_contains, contains_from_in, i
 use Rattle.isle_model.proofs.Members.{all_members}
 use Rattle.isle_laws_closure.proofs.built.Unfolding.{SourcesFirst, unfolds}
 use Rattle.isle_base.specs.Stable.{Members, contains}
-use Rattle.isle_sets.proofs.Rests.{rest_is}
+use Rattle.isle_sets.proofs.ListTails.{rest_is}
 use Rattle.isle_term_sets.specs.VisitedSites.{AreUnwrapped, IsWalked, unwrapped_at, unwrapped_source, with_keys}
 
 -- 1. keys

@@ -97,7 +97,7 @@ pub record GoesTo (before : List SiteTerm) (old new : RuleSetBuilder) (v : Visit
   pub longer : length (built_sites old) ≤ length (built_sites new)
 
 -- a builder has gone on by making a site, which has this number
-pub record Makes (before : List SiteTerm) (old new : RuleSetBuilder) (v : Visit) (u : SiteTerm) (n : ℕ) : Type 0 where
+pub record MakesSite (before : List SiteTerm) (old new : RuleSetBuilder) (v : Visit) (u : SiteTerm) (n : ℕ) : Type 0 where
   pub goes : GoesTo before old new (making (u ∷ []) v)
   pub site : IsSiteOf new u n
 

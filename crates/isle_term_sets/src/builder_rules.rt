@@ -49,7 +49,6 @@ impl RuleSetBuilder {
         self.finish(value, partial)
     }
 
-    // The site of an argument.
     fn make_argument(&mut self, index: usize) -> Result<BindingId, VisitFault>
         ensures made { (before : List SiteTerm) (v : Visit) → StandsAt before self.old v → IfOk result (λ n. (index < most_arguments) × ValuesTo before self.old self.new (valued (argument index) (taking_argument index v)) n) }
         ensures full { (before : List SiteTerm) (v : Visit) → StandsAt before self.old v → IfErr result (EndsOpening before self.new (taking_argument index v) Limits.Arguments most_arguments (suc index) v) }
@@ -120,7 +119,6 @@ impl RuleSetBuilder {
         Ok(())
     }
 
-    // Asks each of these calls to answer.
     fn ask_answers(&mut self, calls: &[BindingId]) -> Result<(), AllocError>
         ensures { (before : List SiteTerm) (v : Visit) → StandsAt before self.old v → All (λ n. n < length (built_sites self.old)) calls.now
             → OnOk result (GoesTo before self.old self.new (asking_all (map (unfold_site (built_sites self.old)) calls.now) v)) }
@@ -140,7 +138,6 @@ fn may_give_nothing<E: UsedTerms>(termenv: &E, term: TermId) -> bool
     termenv.used_term(term).is_partial()
 }
 
-// Adds each of these to a set.
 fn insert_each(due: &mut BTreeSet<BindingId>, sites: &[BindingId]) -> Result<(), AllocError>
     ensures { OnOk result (due.new.keys ≡ with_keys due.old.keys sites.now) }
 {

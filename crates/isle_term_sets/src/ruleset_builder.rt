@@ -8,7 +8,7 @@ ghost use Rattle.isle_sets.specs.SiteTables.{ForWantOfRoom, HasSources, IsTable}
 ghost use Rattle.isle_model.specs.sites.Closure.{before_closing, closing, most_closing_steps};
 ghost use Rattle.isle_sets.specs.Closings.{EndsFull, GoOn};
 ghost use Rattle.isle_sets.specs.SiteViews.{constraint_view, site_view, site_views};
-ghost use Rattle.isle_term_sets.specs.VisitedSites.{EndsBefore, GoesTo, IsNextCall, Makes, StandsAt, built_sites, conflict_beside, conflict_view};
+ghost use Rattle.isle_term_sets.specs.VisitedSites.{EndsBefore, GoesTo, IsNextCall, MakesSite, StandsAt, built_sites, conflict_beside, conflict_view};
 
 use isle_base::stablemapset::StableSet;
 use isle_base::visit_fault::VisitFault;
@@ -108,7 +108,7 @@ impl RuleSetBuilder {
     // The site of a binding, a new one where it has none.
     pub(crate) fn make(&mut self, binding: Binding) -> Result<BindingId, VisitFault>
         ensures made { (before : List SiteTerm) (v : Visit) → StandsAt before self.old v → HasSources (built_sites self.old) (site_view binding)
-            → IfOk result (Makes before self.old self.new v (layer (unfold_site (built_sites self.old)) (site_view binding))) }
+            → IfOk result (MakesSite before self.old self.new v (layer (unfold_site (built_sites self.old)) (site_view binding))) }
         ensures full { (before : List SiteTerm) (v : Visit) → StandsAt before self.old v → HasSources (built_sites self.old) (site_view binding)
             → IfErr result (EndsBefore before self.new (making (layer (unfold_site (built_sites self.old)) (site_view binding) ∷ []) v)) }
     {

@@ -7,7 +7,7 @@ ghost use Rattle.isle_run.specs.ValueViews.{content_view, content_views, value_v
 ghost use Rattle.isle_types.specs.Envs.{constant_at};
 ghost use Rattle.isle_types.specs.TypeViews.{type_views};
 ghost use Rattle.isle_terms.specs.TermViews.{term_views};
-ghost use Rattle.isle_trials.specs.Answered.{answered, answers_of, constant_of, gives_withheld, in_place_of, is_answer_withheld, is_withheld};
+ghost use Rattle.isle_trials.specs.TrialAnswers.{answer_given, answers_of, constant_answer, gives_withheld, in_place_of, is_answer_withheld, is_withheld};
 
 use isle_calls::echo::{Echo, constant_number};
 use isle_reports::checks::literal_number;
@@ -38,7 +38,7 @@ impl<'a> Drop for Answers<'a> {
 
 // The value of a named constant.
 fn constant_value(tyenv: &TypeEnv, name: Sym) -> Value
-    ensures { value_view result ≡ constant_of (type_views tyenv.now.types.items) (constant_at tyenv.now name.0) name.0 }
+    ensures { value_view result ≡ constant_answer (type_views tyenv.now.types.items) (constant_at tyenv.now name.0) name.0 }
 {
     let ty = match tyenv.const_types.get(&name) {
         Some(ty) => *ty,
@@ -113,7 +113,7 @@ fn in_place_of(alloc: Global, content: &Content) -> Content
 
 // An answer, but nothing or no answer where it is withheld.
 fn answered(alloc: Global, content: Content) -> Content
-    ensures { content_view result ≡ answered (content_view content) }
+    ensures { content_view result ≡ answer_given (content_view content) }
 {
     if is_answer_withheld(&content) {
         in_place_of(alloc, &content)

@@ -1,8 +1,8 @@
 //! The calls that are made of a term.
 
 use crate::fitting::why_left_out;
-use crate::sized::has_endless;
 use crate::trial::Trial;
+use crate::type_sizes::has_endless;
 use crate::values::Makings;
 use cranelift_isle::lower::LoweredTerm;
 use cranelift_isle::sema::TypeId;

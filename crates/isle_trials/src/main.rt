@@ -11,10 +11,10 @@ mod fitting;
 mod given;
 mod outcomes;
 mod rust_names;
-mod shown;
-mod sized;
 mod source;
 mod trial;
+mod type_sizes;
+mod value_texts;
 mod values;
 mod words;
 

@@ -2,8 +2,8 @@
 
 use crate::answers::Answers;
 use crate::calls::{Called, calls_of};
-use crate::shown::push_composed;
 use crate::trial::Trial;
+use crate::value_texts::push_composed;
 use cranelift_isle::lower::LoweredTerm;
 use isle_calls::outcomes::outcome_text;
 use isle_choose::choose::choose;

@@ -110,7 +110,6 @@ pub fn push_values(
     Ok(())
 }
 
-// Adds a value.
 #[cycle(values)]
 fn push_value(
     alloc: Global,

@@ -127,7 +127,6 @@ impl<'a> Makings<'a> {
         Ok(None)
     }
 
-    // A number of a primitive type.
     fn number(&self, chance: &mut Chance, ty: TypeId) -> i128 {
         match chance.below(3) {
             0 => small(chance),
@@ -142,7 +141,6 @@ impl<'a> Makings<'a> {
         }
     }
 
-    // A number of a built-in integer type.
     fn integer(&self, chance: &mut Chance, ty: TypeId, int: IntType) -> i128 {
         match chance.below(8) {
             0..=2 => int.reduce(small(chance)),
@@ -182,7 +180,6 @@ impl<'a> Makings<'a> {
     }
 }
 
-// A small number.
 fn small(chance: &mut Chance) -> i128 {
     match chance.below(7) {
         0 => 0,

@@ -120,7 +120,6 @@ pub fn answer(alloc: Global, text: &str, wanted: Trials) -> Result<Answer, Alloc
     }
 }
 
-// What is wrong with definitions.
 fn wrong(alloc: Global, text: &str, errors: &[Error]) -> Result<Answer, AllocError> {
     let lines = error_lines(alloc, errors, Places::Lines(text))?;
     Ok(Answer::Errors(lines))
@@ -142,7 +141,6 @@ fn answer_to_defs(
     Ok(program(alloc, text, &trials, wanted)?)
 }
 
-// The program that makes the calls.
 fn program(
     alloc: Global,
     text: &str,

@@ -1,6 +1,6 @@
 // What a recorder is shown of a rule with each form of pattern and of expression, with if-lets and a let.
 ghost use Rattle.std.specs.Prelude.{◌≡◌, IfOk, IsTrue, map};
-ghost use Rattle.isle_table_checks.specs.AllForms.{two_exprs, two_patterns, binding, forms_args, forms_iflets, forms_value};
+ghost use Rattle.isle_table_checks.specs.AllForms.{two_exprs, two_patterns, variable_binding, forms_args, forms_iflets, forms_value};
 ghost use Rattle.isle_model.specs.lists.Setting.{has_constructor, has_extractor};
 ghost use Rattle.isle_model.specs.rules.Typed.{match_and, match_prim, match_term, match_var, make_term};
 ghost use Rattle.isle_typed.specs.ExprViews.{expr_view};
@@ -70,7 +70,7 @@ fn made(
 }
 
 fn bind(alloc: Global, var: VarId) -> Result<Pattern, AllocError>
-    ensures { IfOk result (λ p. pattern_view p ≡ binding var.0) }
+    ensures { IfOk result (λ p. pattern_view p ≡ variable_binding var.0) }
 {
     let any = Box::new(alloc, Pattern::Wildcard(U8))?;
     Ok(Pattern::BindPattern(U8, var, any))
@@ -79,7 +79,7 @@ fn bind(alloc: Global, var: VarId) -> Result<Pattern, AllocError>
 // (and (e x $K) y)
 #[tactic(auto, using(isle_typed::proofs::PatternBridges::pattern_steps))]
 fn both(alloc: Global) -> Result<Pattern, AllocError>
-    ensures { IfOk result (λ p. pattern_view p ≡ match_and 1 (two_patterns (match_term 1 3 (two_patterns (match_var 1 0) (match_prim 15 20))) (binding 1))) }
+    ensures { IfOk result (λ p. pattern_view p ≡ match_and 1 (two_patterns (match_term 1 3 (two_patterns (match_var 1 0) (match_prim 15 20))) (variable_binding 1))) }
 {
     let found = opened(alloc, U8, 3, Pattern::Var(U8, X), Pattern::ConstPrim(P, K))?;
     let parts = Vec::from_array(alloc, [found, bind(alloc, Y)?])?;

@@ -1,6 +1,6 @@
 // The sets that are built of typed rules, and what is asked of them.
 ghost use Rattle.std.specs.Prelude.{IsSome, IsTrue};
-ghost use Rattle.isle_builder.specs.Built.{IsOfElaborated};
+ghost use Rattle.isle_builder.specs.BuiltSets.{IsOfElaborated};
 ghost use Rattle.isle_model.specs.claims.Questions.{variant_by_id};
 ghost use Rattle.isle_rules.specs.TermEnvs.{term_in_env, variant_term_in};
 ghost use Rattle.isle_sets.specs.SiteViews.{site_view};

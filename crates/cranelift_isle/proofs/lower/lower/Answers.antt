@@ -14,7 +14,7 @@ use Rattle.cranelift_isle.specs.declared.lower.Lowered.{Lowered}
 use Rattle.cranelift_isle.specs.Environments.{AreEnvironments, BreaksWhereRefused, NamesLackedLimits, TellsOfEach}
 use Rattle.cranelift_isle.specs.Lowerings.{lowered_views}
 use Rattle.cranelift_isle.proofs.ErrorsOfReading.{handed_over, unread}
-use Rattle.cranelift_isle.proofs.Lowered.{were_read, of_elaborated, accepted, built_for_some, answers, chosen, unique, whole, demands, collected, refused_by_check, why_refused, breach_of_check, told_of_check, exact_of_check, named_of_check, limits_of_check, stand_of_check}
+use Rattle.cranelift_isle.proofs.LoweredAnswers.{were_read, of_elaborated, accepted, built_for_some, answers, chosen, unique, whole, demands, collected, refused_by_check, why_refused, breach_of_check, told_of_check, exact_of_check, named_of_check, limits_of_check, stand_of_check}
 use Rattle.cranelift_isle.proofs.lower.lower.Goals as goal
 
 -- the environment is that of the definitions

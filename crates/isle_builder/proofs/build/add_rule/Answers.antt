@@ -4,7 +4,7 @@ use Rattle.std.specs.Ordering.{nat_cmp}
 use Rattle.isle_laws_closure.specs.RuleByRule.{of_one_term, or_nothing_built}
 use Rattle.isle_model.specs.sites.Limits.{sites_after_rules}
 use Rattle.isle_typed.specs.RuleViews.{rule_view}
-use Rattle.isle_builder.specs.SetsSoFar.{set_at}
+use Rattle.isle_builder.specs.SetsSoFar.{term_set_at}
 use Rattle.isle_builder.proofs.BuildingLists.{goes_on_next, may_add}
 use Rattle.isle_builder.proofs.TermsAscending.{not_at}
 use Rattle.isle_builder.proofs.build.add_rule.Goals as goal
@@ -16,7 +16,7 @@ add_rule-requires g c =
     let m = c.requires.may.2 in
     let r = rule_view c.args.rule.now in
     let same : c.index-term.result ≡ r.root_term = search (rules, c.index-term.ensures) in
-    let start = c.take_set-set.ensures.set ∙ ap (λ t. or_nothing_built (set_at c.args.sets.now t)) same in
+    let start = c.take_set-set.ensures.set ∙ ap (λ t. or_nothing_built (term_set_at c.args.sets.now t)) same in
     record { may = (p, sites_after_rules p [] (of_one_term r.root_term done), may_add (g.E.UsedTerms.term_entries c.args.termenv.now) p done r c.args.sets.now c.args.errors.now.items m c.take_set-set.result start (c.take_set-set.ensures.table m.stand.tables)) }
 
 pub returns-clause-goes : goal.returns-clause-goes
@@ -26,7 +26,7 @@ returns-clause-goes g c p done m =
     let sets = c.args.sets.now in
     let errors = c.args.errors.now.items in
     let same : c.index-term.result ≡ r.root_term = search (rules, c.index-term.ensures) in
-    let start = c.take_set-set.ensures.set ∙ ap (λ t. or_nothing_built (set_at sets t)) same in
+    let start = c.take_set-set.ensures.set ∙ ap (λ t. or_nothing_built (term_set_at sets t)) same in
     let may = may_add known p done r sets errors m c.take_set-set.result start (c.take_set-set.ensures.table m.stand.tables) in
     let goes = c.in_ok-add_rule.ensures.goes p (sites_after_rules p [] (of_one_term r.root_term done)) may in
     let u = c.in_ok-insert.ensures.updates in

@@ -4,7 +4,7 @@ use Rattle.isle_model.specs.claims.Environments.{IsElaborated, TypesRead, progra
 use Rattle.isle_model.specs.lists.Elaborated.{TypedRules}
 use Rattle.isle_model.specs.lists.Syntax.{Definition}
 use Rattle.isle_builder.specs.SetsSoFar.{StandAfter}
-use Rattle.isle_builder.specs.Built.{ShowsElaborated}
+use Rattle.isle_builder.specs.BuiltSets.{ShowsElaborated}
 use Rattle.isle_builder.proofs.build.build.Given as goal
 
 abbrev pub invariant-loop-rule : goal.invariant-loop-rule

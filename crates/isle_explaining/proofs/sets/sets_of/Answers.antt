@@ -1,6 +1,6 @@
 use Rattle.isle_base.specs.SyntaxViews.{definition_views}
 use Rattle.isle_laws_typing.proofs.OwnTypes.{own_types_read}
-use Rattle.cranelift_isle.proofs.Lowered.{were_read, of_elaborated}
+use Rattle.cranelift_isle.proofs.LoweredAnswers.{were_read, of_elaborated}
 use Rattle.isle_explaining.proofs.sets.sets_of.Goals as goal
 
 -- valid types can be read, and the type table is read as them

@@ -3,7 +3,7 @@ use Rattle.std.proofs.lemmas.Result.{IfOk-weaker}
 use Rattle.std.proofs.lemmas.List.{length-map}
 use Rattle.isle_sets.specs.SiteViews.{set_rule_view, set_rule_views}
 use Rattle.isle_overlap.specs.Keys.{AreNumbered, TellApart}
-use Rattle.isle_overlap.proofs.Apart.{none_tell_apart, numbered_tell_apart}
+use Rattle.isle_overlap.proofs.DistinctKeys.{none_tell_apart, numbered_tell_apart}
 use Rattle.isle_overlap.proofs.keys.keys_by_site.Goals as goal
 
 pub returns-then-rules-lt-FEW : goal.returns-then-rules-lt-FEW

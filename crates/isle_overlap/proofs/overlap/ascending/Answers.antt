@@ -1,5 +1,5 @@
 use Rattle.std.proofs.lemmas.List.Filters.{dedup_is}
-use Rattle.isle_overlap.proofs.Sorted.{sorted_places}
+use Rattle.isle_overlap.proofs.SortedErrors.{sorted_places}
 use Rattle.isle_overlap.proofs.overlap.ascending.Goals as goal
 
 pub returns : goal.returns

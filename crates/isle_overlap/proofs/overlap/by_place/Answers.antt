@@ -1,7 +1,7 @@
 use Rattle.std.proofs.Common.{rules}
 use Rattle.std.proofs.lemmas.Fn.{always_returns_same}
 use Rattle.isle_overlap.specs.ErrorViews.{error_pos}
-use Rattle.isle_overlap.proofs.Sorted.{errors_in_order}
+use Rattle.isle_overlap.proofs.SortedErrors.{errors_in_order}
 use Rattle.isle_overlap.proofs.overlap.by_place.Goals as goal
 
 pub returns-clause-reports : goal.returns-clause-reports

@@ -1,10 +1,10 @@
 use Rattle.std.proofs.Common.{◌+◌, ◌<◌, ◌++◌, ap, drop, length, refl, subst, sym, ◌∙◌, arith}
 use Rattle.isle_sets.specs.SiteViews.{set_rule_view, set_rule_views}
-use Rattle.isle_sets.proofs.Rests.{rest_is}
+use Rattle.isle_sets.proofs.ListTails.{rest_is}
 use Rattle.isle_overlap.specs.Comparisons.{masked_behind, masked_pair, masked_views, pair_views, wrong_behind, wrong_pair}
 use Rattle.isle_overlap.specs.Keys.{AreNext, IsAhead, nearer}
 use Rattle.isle_overlap.proofs.Chains.{from_nearer, nearer_behind, passed_over, same_key}
-use Rattle.isle_overlap.proofs.Gone.{more, no_more}
+use Rattle.isle_overlap.proofs.ListIteration.{more, no_more}
 use Rattle.isle_overlap.proofs.overlap.check_alike.Goals as goal
 
 pub loop-ahead-init : goal.loop-ahead-init

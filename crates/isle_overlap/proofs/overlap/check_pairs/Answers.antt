@@ -2,7 +2,7 @@ use Rattle.std.proofs.Common.{refl, subst, None, ◌∙◌}
 use Rattle.isle_sets.specs.SiteViews.{set_rule_views}
 use Rattle.isle_overlap.specs.Comparisons.{masked_rows, wrong_rows}
 use Rattle.isle_overlap.specs.Keys.{IsFirst}
-use Rattle.isle_overlap.proofs.Gone.{no_more}
+use Rattle.isle_overlap.proofs.ListIteration.{no_more}
 use Rattle.isle_overlap.proofs.overlap.check_pairs.Goals as goal
 
 pub loop-i-init : goal.loop-i-init

@@ -2,7 +2,7 @@ use Rattle.std.proofs.Common.{take, arith}
 use Rattle.std.proofs.lemmas.List.{length-map, length-take}
 use Rattle.isle_base.specs.SyntaxViews.{position}
 use Rattle.isle_overlap.specs.Comparisons.{pair_view, pair_views}
-use Rattle.isle_overlap.proofs.Counted.{degree_few}
+use Rattle.isle_overlap.proofs.OverlapCounts.{degree_few}
 use Rattle.isle_overlap.proofs.overlap.counts_of.Goals as goal
 
 pub add_to_both-requires : goal.add_to_both-requires

@@ -1,7 +1,7 @@
 use Rattle.std.proofs.Common.{◌-◌, All}
 use Rattle.isle_base.specs.Positions.{HasSingleSpans}
 use Rattle.isle_overlap.specs.Comparisons.{pair_views}
-use Rattle.isle_overlap.proofs.Counted.{IsSoFar}
+use Rattle.isle_overlap.proofs.OverlapCounts.{IsSoFar}
 use Rattle.isle_overlap.proofs.overlap.overlap_errors.Given as goal
 
 abbrev pub invariant-loop : goal.invariant-loop

@@ -2,9 +2,9 @@ use Rattle.std.proofs.Common.{◌≡◌, List, [], ◌∷◌, ◌++◌, rules, r
 use Rattle.isle_model.specs.trees.Trees.{equal_at, loop_at}
 use Rattle.isle_serialize.specs.TreeViews.{check_view, tree_view}
 use Rattle.std.proofs.lemmas.List.{append-nil}
-use Rattle.isle_serialize.proofs.TreeLaws.{match_seen, equal_seen, loop_seen, return_seen}
+use Rattle.isle_serialize.proofs.TreeLaws.{block_steps, match_seen, equal_seen, loop_seen, return_seen}
 use Rattle.isle_reading.specs.Walks.{Passed, equal, one_of, steps_from, steps_inside, turn_views, visit_views}
-use Rattle.isle_reading.proofs.Steps.{added_so, arm_more, arm_alone, block_steps}
+use Rattle.isle_reading.proofs.Steps.{added_so, arm_more, arm_alone}
 use Rattle.isle_reading.proofs.walk.+walk.Goals as goal
 
 pub push_block-loop-step-init : goal.push_block-loop-step-init

@@ -1,4 +1,4 @@
-use Rattle.isle_refusals.proofs.Left.{read_again}
+use Rattle.isle_refusals.proofs.TypesAfterRefusal.{read_again}
 use Rattle.isle_refusals.proofs.environments.read_again.Goals as goal
 
 pub from_ast-requires : goal.from_ast-requires

@@ -1,5 +1,5 @@
 use Rattle.isle_laws_typing.proofs.OwnTypes.{own_types_read}
-use Rattle.isle_refusals.proofs.Left.{beside}
+use Rattle.isle_refusals.proofs.TypesAfterRefusal.{beside}
 use Rattle.isle_refusals.proofs.environments.read_rules.Goals as goal
 
 -- valid types can be read, and the type table is read as them

@@ -5,18 +5,18 @@ use Rattle.isle_model.specs.trees.Run.{bind_fields, ending_at, for_each, iterate
 use Rattle.isle_model.specs.trees.Trees.{equal_at, loop_at, match_at, return_at}
 use Rattle.isle_serialize.specs.declared.serialize.MatchArm.{out-MatchArm}
 use Rattle.isle_serialize.specs.TreeViews.{arms_view, check_view, steps_view, tree_view}
-use Rattle.isle_serialize.proofs.TreeLaws.{equal_seen, loop_seen, match_seen, return_seen}
+use Rattle.isle_serialize.proofs.TreeLaws.{block_steps, equal_seen, loop_seen, match_seen, return_seen}
 use Rattle.isle_run.specs.RunViews.{IsBeginningOf, bound_view, call_views, content_list, ending_view, env_view, equality_by, many_by, outcome_at, stage_view, trace_view}
 use Rattle.isle_run.specs.ValueViews.{content_view}
 use Rattle.isle_run.proofs.BindSteps.{begins_here, begins_then, cut_back, env_pushed}
-use Rattle.isle_run.proofs.RunSteps.{arms_done, arms_met, arms_more, block_done, block_is, block_more, block_over, each_done, each_more, each_over, equal_ran, loop_ran, match_ran, match_stuck, return_ran, step_failed, step_stuck, step_through}
+use Rattle.isle_run.proofs.RunSteps.{arms_done, arms_met, arms_more, block_done, block_more, block_over, each_done, each_more, each_over, equal_ran, loop_ran, match_ran, match_stuck, return_ran, step_failed, step_stuck, step_through}
 use Rattle.isle_run.proofs.run.+run.Goals as goal
 
 -- blocks
 pub run_block-loop-step-init : goal.run_block-loop-step-init
 run_block-loop-step-init g t c =
     let w = stage_view g.E.Externs.functions c.args.stage.now in
-    record { ran = ap (λ b. run_tree b w (env_view c.args.env.now.items) (trace_view c.args.trace.now)) (ap steps_view c.deref-step-items.ensures.value ∙ sym (block_is c.args.block.now)); kept = begins_here c.args.env.now.items }
+    record { ran = ap (λ b. run_tree b w (env_view c.args.env.now.items) (trace_view c.args.trace.now)) (ap steps_view c.deref-step-items.ensures.value ∙ sym (block_steps c.args.block.now)); kept = begins_here c.args.env.now.items }
 
 pub run_block-loop-step-preserved : goal.run_block-loop-step-preserved
 run_block-loop-step-preserved g t c =

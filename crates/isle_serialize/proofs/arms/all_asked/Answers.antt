@@ -1,7 +1,7 @@
 use Rattle.std.proofs.Common.{◌≡◌, ◌+◌, ◌∙◌, ap, get_or, option_map, sym, subst, take}
 use Rattle.std.specs.List.{filter}
 use Rattle.isle_sets.specs.SiteViews.{constraint_view, set_view}
-use Rattle.isle_serialize.specs.Turns.{asks_some, numbers, AreAsked}
+use Rattle.isle_serialize.specs.Turns.{asks_some, asked_numbers, AreAsked}
 use Rattle.isle_serialize.proofs.ArmRuns.{asked_more, asked_none}
 use Rattle.isle_serialize.proofs.arms.all_asked.Goals.{in-Some+in_ok-push, in_default}
 use Rattle.isle_serialize.proofs.arms.all_asked.Goals as goal
@@ -20,13 +20,13 @@ loop-number-preserved c =
           let same = sym w.turns-is in
           record {
             each = subst (λ v. AreAsked rules s v.items) same both.0;
-            numbers = subst (λ v. numbers v.items ≡ filter (asks_some rules s) (take (k + 1) here)) same both.1;
+            numbers = subst (λ v. asked_numbers v.items ≡ filter (asks_some rules s) (take (k + 1) here)) same both.1;
           }
       | in_default w ↦
           let same = sym w.turns-is in
           let none = asked_none rules s here k c.loop-number-test.true (sym c.asked_at.ensures ∙ ap (option_map constraint_view) w.in_default.is) in
           record {
             each = subst (λ v. AreAsked rules s v.items) same old.each;
-            numbers = subst (λ v. numbers v.items ≡ filter (asks_some rules s) (take (k + 1) here)) same (old.numbers ∙ none);
+            numbers = subst (λ v. asked_numbers v.items ≡ filter (asks_some rules s) (take (k + 1) here)) same (old.numbers ∙ none);
           }
     ]

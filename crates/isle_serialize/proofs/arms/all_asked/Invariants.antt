@@ -1,11 +1,11 @@
 use Rattle.std.proofs.Common.{◌≡◌, take}
 use Rattle.std.specs.List.{filter}
 use Rattle.isle_sets.specs.SiteViews.{set_view}
-use Rattle.isle_serialize.specs.Turns.{asks_some, numbers, AreAsked}
+use Rattle.isle_serialize.specs.Turns.{asks_some, asked_numbers, AreAsked}
 use Rattle.isle_serialize.proofs.arms.all_asked.Given as goal
 
 abbrev pub invariant-loop-number : goal.invariant-loop-number
 invariant-loop-number l = record {
   each : AreAsked (set_view l.set).rules l.source l.turns.items;
-  numbers : numbers l.turns.items ≡ filter (asks_some (set_view l.set).rules l.source) (take l.number-index l.here);
+  numbers : asked_numbers l.turns.items ≡ filter (asks_some (set_view l.set).rules l.source) (take l.number-index l.here);
 }

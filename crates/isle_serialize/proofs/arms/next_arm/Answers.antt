@@ -3,7 +3,7 @@ use Rattle.isle_sets.specs.SiteViews.{constraint_view}
 use Rattle.isle_serialize.specs.AroundViews.{around_view, brings, where_emitted}
 use Rattle.isle_model.specs.trees.Places.{field_sites}
 use Rattle.isle_serialize.specs.PlaceViews.{set_in}
-use Rattle.isle_serialize.proofs.InsideSteps.{brought_inside}
+use Rattle.isle_serialize.proofs.BodySteps.{brought_inside}
 use Rattle.isle_serialize.proofs.ArmRuns.{asking_first, least_of}
 use Rattle.isle_serialize.proofs.arms.next_arm.Goals as goal
 

@@ -4,16 +4,16 @@ use Rattle.isle_serialize.specs.declared.serialize.MatchArm.{roll-MatchArm}
 use Rattle.isle_serialize.specs.AroundViews.{around_view, AreEmitted}
 use Rattle.isle_serialize.specs.Growing.{IsBestFrom, IsBestBody, IsStepOf, test_emits, IsNextTest, IsNext}
 use Rattle.isle_serialize.specs.TestViews.{test_view, IsChosen}
-use Rattle.isle_serialize.specs.Turns.{numbers, AreInTurn, IsNextArmOf}
+use Rattle.isle_serialize.specs.Turns.{asked_numbers, AreInTurn, IsNextArmOf}
 use Rattle.isle_serialize.specs.TreeViews.{tree_view, arms_view, check_view}
 use Rattle.isle_serialize.specs.PlaceViews.{set_in}
 use Rattle.isle_serialize.proofs.ArmSteps.{ArmsGrow, arms_start, fewer_left, asking_ordered, arms_more, arms_whole}
 use Rattle.isle_model.specs.sites.Sites.{sources_at}
 use Rattle.isle_serialize.specs.declared.around.Around.{Around}
-use Rattle.isle_serialize.proofs.InsideSteps.{emitted_inside, brought_inside, joined_inside}
+use Rattle.isle_serialize.proofs.BodySteps.{emitted_inside, brought_inside, joined_inside}
 use Rattle.isle_serialize.proofs.PlaceSteps.{covered_ordered, covered_step, fewer_others, block_more, block_whole, equal_fewer, equal_body, loop_fewer, loop_body, arm_fewer, pick_made}
 use Rattle.isle_serialize.proofs.TreeLaws.{block_seen, match_seen, arm_seen}
-use Rattle.isle_serialize.proofs.Untried.{untried}
+use Rattle.isle_serialize.proofs.UntriedTests.{untried}
 use Rattle.isle_serialize.proofs.best.+grow.Goals as goal
 
 -- blocks
@@ -141,7 +141,7 @@ arms_of-block_of-requires t c =
     let around = c.args.around.now in
     let left = c.loop-arms.left.now in
     let next = c.in-Some.next in
-    let h = subst (IsNextArmOf set (around_view around) c.args.source (numbers left)) c.in-Some.is c.in_ok-next.ensures in
+    let h = subst (IsNextArmOf set (around_view around) c.args.source (asked_numbers left)) c.in-Some.is c.in_ok-next.ensures in
     let smaller : untried (length set.sites) (around_view next.inside) < untried (length set.sites) (around_view around) = arm_fewer set around next.inside c.args.here.items c.args.source next.fields.items c.requires.step.open_here h.inside in (
       search (rules, arith, smaller),
       asking_ordered set around c.args.source c.args.here.items left next h c.loop-arms.invariant,
@@ -153,7 +153,7 @@ arms_of-loop-arms-smaller t c =
     let around = c.args.around.now in
     let next = c.in-Some.next in
     let left = c.loop-arms.left.now in
-    let h = subst (IsNextArmOf set (around_view around) c.args.source (numbers left)) c.in-Some.is c.in_ok-next.ensures in
+    let h = subst (IsNextArmOf set (around_view around) c.args.source (asked_numbers left)) c.in-Some.is c.in_ok-next.ensures in
     let many : c.len-asking.result ≡ length next.asking.items = omega (arith, c.len-asking.ensures, next.asking.ok.0) in
     subst (λ l. length l < length left) (sym (c.behind-left-in-Some.ensures ∙ ap (λ n. drop n left) many)) (fewer_left set around c.args.source c.args.here.items left next h)
 
@@ -165,7 +165,7 @@ arms_of-loop-arms-preserved t c =
     let body = c.in_ok-block_of.field-0 in
     let here = c.args.here.items in
     let left = c.loop-arms.left.now in
-    let h = subst (IsNextArmOf set (around_view around) c.args.source (numbers left)) c.in-Some.is c.in_ok-next.ensures in
+    let h = subst (IsNextArmOf set (around_view around) c.args.source (asked_numbers left)) c.in-Some.is c.in_ok-next.ensures in
     let many : c.len-asking.result ≡ length next.asking.items = omega (arith, c.len-asking.ensures, next.asking.ok.0) in
     subst (λ l. ArmsGrow set (around_view around) c.args.source here l c.push.new.self.items) (sym (c.behind-left-in-Some.ensures ∙ ap (λ n. drop n left) many))
     (arms_more set around c.args.source here left next h c.loop-arms.arms.items c.push.new.self.items
@@ -177,5 +177,5 @@ arms_of-returns t c =
     let set = set_in c.args.indexed.now in
     let around = c.args.around.now in
     let left = c.loop-arms.left.now in
-    let none = subst (IsNextArmOf set (around_view around) c.args.source (numbers left)) c.in_default.is c.in_ok-next.ensures in
+    let none = subst (IsNextArmOf set (around_view around) c.args.source (asked_numbers left)) c.in_default.is c.in_ok-next.ensures in
     arms_whole set around c.args.source c.args.here.items left c.loop-arms.arms.items none c.loop-arms.invariant

@@ -3,7 +3,7 @@ use Rattle.isle_serialize.specs.AroundViews.{around_view}
 use Rattle.isle_serialize.specs.PlaceViews.{set_in}
 use Rattle.isle_serialize.proofs.ArmSteps.{ArmsGrow}
 use Rattle.isle_serialize.proofs.PlaceSteps.{BlockGrows}
-use Rattle.isle_serialize.proofs.Untried.{untried}
+use Rattle.isle_serialize.proofs.UntriedTests.{untried}
 use Rattle.isle_serialize.proofs.best.+grow.Given as goal
 
 abbrev pub decreases-block_of : goal.decreases-block_of

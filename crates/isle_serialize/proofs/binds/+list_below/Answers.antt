@@ -2,7 +2,7 @@ use Rattle.std.proofs.Common.{◌<◌, ◌∙◌, sym, ap, subst, rules, arith, 
 use Rattle.isle_model.specs.trees.Places.{is_in, each_after, listed_below}
 use Rattle.std.proofs.Common.{List, ℕ, ◌||◌}
 use Rattle.isle_serialize.specs.PlaceViews.{set_in}
-use Rattle.isle_serialize.proofs.Listed.{each_more, listed_whole}
+use Rattle.isle_serialize.proofs.ListedSites.{each_more, listed_whole}
 use Rattle.isle_serialize.proofs.SiteSets.{settled_more}
 use Rattle.std.proofs.lemmas.List.{take_all}
 use Rattle.isle_serialize.proofs.binds.+list_below.Goals as goal

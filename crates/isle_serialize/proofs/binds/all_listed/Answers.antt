@@ -3,7 +3,7 @@ use Rattle.std.proofs.lemmas.List.{take_all}
 use Rattle.isle_model.specs.trees.Places.{each_after, listed_below}
 use Rattle.isle_serialize.specs.AroundViews.{AreSettled}
 use Rattle.isle_serialize.specs.PlaceViews.{set_in}
-use Rattle.isle_serialize.proofs.Listed.{each_more}
+use Rattle.isle_serialize.proofs.ListedSites.{each_more}
 use Rattle.isle_serialize.proofs.SiteSets.{settled_first}
 use Rattle.isle_serialize.proofs.binds.all_listed.Goals as goal
 

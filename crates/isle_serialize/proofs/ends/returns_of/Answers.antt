@@ -10,7 +10,7 @@ use Rattle.isle_serialize.specs.TreeViews.{steps_view}
 use Rattle.isle_serialize.specs.PlaceViews.{set_in}
 use Rattle.isle_serialize.proofs.EndSteps.{return_more, return_last}
 use Rattle.isle_serialize.proofs.Growth.{no_ends}
-use Rattle.isle_serialize.proofs.InsideSteps.{emitted_inside}
+use Rattle.isle_serialize.proofs.BodySteps.{emitted_inside}
 use Rattle.isle_serialize.proofs.ends.returns_of.Goals as goal
 
 pub returns-in_default : goal.returns-in_default

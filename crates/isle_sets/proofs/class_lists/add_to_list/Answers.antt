@@ -1,5 +1,5 @@
 use Rattle.std.proofs.Common.{◌++◌, [], ◌∷◌, ap, ◌∙◌}
-use Rattle.isle_sets.proofs.PartsLeft.{listed_more}
+use Rattle.isle_sets.proofs.ClassEndings.{listed_more}
 use Rattle.isle_sets.proofs.class_lists.add_to_list.Goals as goal
 
 pub returns : goal.returns

@@ -1,5 +1,5 @@
 use Rattle.std.proofs.Common.{arith}
-use Rattle.isle_sets.proofs.PartsLeft.{few_counted}
+use Rattle.isle_sets.proofs.ClassEndings.{few_counted}
 use Rattle.isle_sets.proofs.cycles.counts_of.Goals as goal
 
 pub add_one-requires : goal.add_one-requires

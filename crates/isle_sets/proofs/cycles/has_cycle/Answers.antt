@@ -4,7 +4,7 @@ use Rattle.std.specs.Prelude.{nat_eq}
 use Rattle.std.proofs.lemmas.Bool.{false≢true, ltb-true, ltb-false}
 use Rattle.isle_sets.specs.Endings.{count_at, listed_at}
 use Rattle.isle_sets.specs.Verdicts.{class_head}
-use Rattle.isle_sets.proofs.PartsLeft.{AreCounted, counting_starts, few_kept, fewer_left, one_taken, none_left, go_on, no_items}
+use Rattle.isle_sets.proofs.ClassEndings.{AreCounted, counting_starts, few_kept, fewer_left, one_taken, none_left, go_on, no_items}
 use Rattle.isle_sets.proofs.cycles.has_cycle.Goals as goal
 
 pub loop-class-init : goal.loop-class-init

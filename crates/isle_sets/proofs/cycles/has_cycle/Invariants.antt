@@ -1,7 +1,7 @@
 use Rattle.std.proofs.Common.{List, ◌+◌, length}
 use Rattle.isle_sets.specs.Endings.{count_at, listed_at}
 use Rattle.isle_sets.specs.declared.closure_classes.Part.{Part}
-use Rattle.isle_sets.proofs.PartsLeft.{AreCounted}
+use Rattle.isle_sets.proofs.ClassEndings.{AreCounted}
 use Rattle.isle_sets.proofs.cycles.has_cycle.Given as goal
 
 abbrev pub invariant-loop-class : goal.invariant-loop-class

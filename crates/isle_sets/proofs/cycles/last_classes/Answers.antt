@@ -3,7 +3,7 @@ use Rattle.std.specs.Prelude.{nat_eq}
 use Rattle.std.proofs.lemmas.Bool.{cond-true, cond-false, ne_eqb}
 use Rattle.std.proofs.lemmas.List.{append-nil, take_more, take_all}
 use Rattle.isle_sets.specs.Endings.{count_at}
-use Rattle.isle_sets.proofs.PartsLeft.{AreLast, last_none, last_more}
+use Rattle.isle_sets.proofs.ClassEndings.{AreLast, last_none, last_more}
 use Rattle.isle_sets.proofs.cycles.last_classes.Goals.{then-count-eq0+in_ok-push, else-count-eq0}
 use Rattle.isle_sets.proofs.cycles.last_classes.Goals as goal
 

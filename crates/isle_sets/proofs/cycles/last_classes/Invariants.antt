@@ -1,6 +1,6 @@
 use Rattle.std.proofs.Common.{take}
 use Rattle.isle_sets.specs.Endings.{count_at}
-use Rattle.isle_sets.proofs.PartsLeft.{AreLast}
+use Rattle.isle_sets.proofs.ClassEndings.{AreLast}
 use Rattle.isle_sets.proofs.cycles.last_classes.Given as goal
 
 abbrev pub invariant-loop-part : goal.invariant-loop-part

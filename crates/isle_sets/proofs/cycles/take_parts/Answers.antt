@@ -1,7 +1,7 @@
 use Rattle.std.proofs.Common.{◌≡◌, ◌+◌, ◌++◌, [], ◌∷◌, take, sym, ap, ◌∙◌, subst, arith}
 use Rattle.std.proofs.lemmas.List.{take_more}
 use Rattle.isle_sets.specs.Endings.{count_at, PartsAreTaken}
-use Rattle.isle_sets.proofs.PartsLeft.{taken_more}
+use Rattle.isle_sets.proofs.ClassEndings.{taken_more}
 use Rattle.isle_sets.proofs.cycles.take_parts.Goals as goal
 
 pub loop-whole-preserved : goal.loop-whole-preserved

@@ -2,7 +2,7 @@ use Rattle.std.proofs.Common.{◌≡◌, ◌+◌, [], ◌∷◌, drop, sym, ap, 
 use Rattle.std.proofs.lemmas.List.{drop_all, at_drop_more}
 use Rattle.isle_model.specs.sites.Closure.{first_filled}
 use Rattle.isle_sets.specs.SiteViews.{constraint_views}
-use Rattle.isle_sets.specs.Verdicts.{class_head, conflict_asked, report_views}
+use Rattle.isle_sets.specs.Verdicts.{class_head, conflict_asked, unreachability_views}
 use Rattle.isle_sets.proofs.FirstConflicts.{conflict_from, conflict_is_first}
 use Rattle.isle_sets.proofs.verdict.find_conflict.Goals as goal
 
@@ -16,7 +16,7 @@ returns-in-Some c =
     let all = constraint_views xs in
     let i = c.loop-site.site-index in
     let x = c.loop-site-item.result in
-    let found = sym (ap report_views c.in-Some.is) ∙ c.conflict_at.ensures ∙ ap conflict_asked (c.in_ok-by_class.ensures (class x.0)) in
+    let found = sym (ap unreachability_views c.in-Some.is) ∙ c.conflict_at.ensures ∙ ap conflict_asked (c.in_ok-by_class.ensures (class x.0)) in
     ap (λ u. first_filled u (conflict_from class all (constraint_views (drop (i + 1) xs)))) found
     ∙ ap (λ y. conflict_from class all (constraint_views (y ∷ drop (i + 1) xs))) c.loop-site-item.is
     ∙ sym (at_drop_more (λ l. conflict_from class all (constraint_views l)) xs i x (omega arith))
@@ -29,7 +29,7 @@ loop-site-preserved c =
     let all = constraint_views xs in
     let i = c.loop-site.site-index in
     let x = c.loop-site-item.result in
-    let none = sym (ap report_views c.in_default.is) ∙ c.conflict_at.ensures ∙ ap conflict_asked (c.in_ok-by_class.ensures (class x.0)) in
+    let none = sym (ap unreachability_views c.in_default.is) ∙ c.conflict_at.ensures ∙ ap conflict_asked (c.in_ok-by_class.ensures (class x.0)) in
     ap (λ u. first_filled u (conflict_from class all (constraint_views (drop (i + 1) xs)))) none
     ∙ ap (λ y. conflict_from class all (constraint_views (y ∷ drop (i + 1) xs))) c.loop-site-item.is
     ∙ sym (at_drop_more (λ l. conflict_from class all (constraint_views l)) xs i x (omega arith))

@@ -6,7 +6,7 @@ use Rattle.isle_sets.specs.FieldParts.{AreClosed, IsPartOfAny}
 use Rattle.isle_sets.specs.Listings.{ascends}
 use Rattle.isle_sets.specs.SiteTables.{table_sites}
 use Rattle.isle_sets.specs.SiteViews.{constraint_views}
-use Rattle.isle_sets.specs.Verdicts.{class_head, conflict_in, report_views}
+use Rattle.isle_sets.specs.Verdicts.{class_head, conflict_in, unreachability_views}
 use Rattle.isle_sets.specs.declared.closure_classes.Part.{Part}
 use Rattle.isle_sets.proofs.ClosureVerdicts.{verdict_is}
 use Rattle.isle_sets.proofs.ListedParts.{views_sites}
@@ -23,7 +23,7 @@ returns c before d v =
     let ks = c.in_ok-classes.classes in
     let all = subst (λ l. (p : Part) → Contains parts p ↔ IsPartOfAny sites (constraint_views l) p) c.deref.ensures.value c.in_ok-parts.ensures in
     let closed = subst (λ l. AreClosed l h.equals ks) c.deref-2.ensures.value (subst (λ e. AreClosed c.deref-2.result.now e ks) c.sets-2.ensures c.in_ok-classes.ensures) in
-    let reported = report_views c.in_ok-conflict.conflict in
+    let reported = unreachability_views c.in_ok-conflict.conflict in
     let conflict = subst (λ l. reported ≡ conflict_in (class_head ks) (constraint_views l) (constraint_views l)) c.deref-3.ensures.value c.in_ok-conflict.ensures in
     let cyclic = c.in_ok-cyclic.cyclic in
     let cycle = subst (λ l. cyclic ≡ true → (left : List Part) × GoOnForEver ks l left) c.deref-4.ensures.value c.in_ok-cyclic.ensures.cycle in

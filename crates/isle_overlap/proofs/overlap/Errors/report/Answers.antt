@@ -2,7 +2,7 @@ use Rattle.std.proofs.Common.{All, sym, subst}
 use Rattle.std.proofs.lemmas.Result.{IfOk-weaker}
 use Rattle.std.proofs.lemmas.List.Elements.{All-append}
 use Rattle.isle_base.specs.Positions.{HasSingleSpans}
-use Rattle.isle_overlap.specs.Found.{HaveSingleSpans}
+use Rattle.isle_overlap.specs.ComparedRules.{HaveSingleSpans}
 use Rattle.isle_overlap.proofs.overlap.Errors.report.Goals as goal
 
 pub returns-clause-single : goal.returns-clause-single

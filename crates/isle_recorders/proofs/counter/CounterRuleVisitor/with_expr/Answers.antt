@@ -1,5 +1,5 @@
 use Rattle.std.proofs.Common.{inr, refl}
-use Rattle.isle_recorders.proofs.Taken.{taken_expr}
+use Rattle.isle_recorders.proofs.LentVisitors.{taken_expr}
 use Rattle.isle_recorders.proofs.counter.CounterRuleVisitor.with_expr.Goals as goal
 
 pub returns : goal.returns

@@ -1,5 +1,5 @@
 use Rattle.std.proofs.Common.{inr, refl}
-use Rattle.isle_recorders.proofs.Taken.{taken}
+use Rattle.isle_recorders.proofs.LentVisitors.{taken}
 use Rattle.isle_recorders.proofs.recorder.RecorderRuleVisitor.with_pattern.Goals as goal
 
 pub returns : goal.returns

@@ -1,9 +1,9 @@
 use Rattle.std.proofs.Common.{◌≡◌, ℕ, if◌then◌else◌, refl, rules}
 use Rattle.std.specs.Prelude.{Some, nat_eq}
 use Rattle.isle_sets.specs.declared.demanded.Demanded.{Demanded}
-use Rattle.isle_sets.specs.DemandsHeld.{constraint_held, first_kept}
+use Rattle.isle_sets.specs.SiteDemands.{constraint_held, first_kept}
 use Rattle.isle_sets.specs.SiteViews.{constraint_view}
-use Rattle.isle_sets.proofs.DueKept.{due_asked}
+use Rattle.isle_sets.proofs.DueSites.{due_asked}
 use Rattle.isle_sets.proofs.demanded.Demanded.ask.Goals as goal
 
 pub returns-in_ok-insert-in-None-2-clause-due : goal.returns-in_ok-insert-in-None-2-clause-due

@@ -1,5 +1,5 @@
 use Rattle.std.proofs.Common.{◌∙◌}
-use Rattle.isle_sets.specs.DemandsHeld.{constraint_held}
+use Rattle.isle_sets.specs.SiteDemands.{constraint_held}
 use Rattle.isle_sets.specs.SiteViews.{constraint_view}
 use Rattle.isle_sets.proofs.ClosingNumbers.{one_more_asked}
 use Rattle.isle_sets.proofs.demanded.Demanded.ask_each.Goals as goal

@@ -5,7 +5,7 @@ use Rattle.isle_model.specs.sites.Sites.{unfold_site}
 use Rattle.isle_sets.specs.SiteViews.{constraint_view}
 use Rattle.isle_sets.specs.Closings.{EndsFull, GoOn, is_due}
 use Rattle.isle_sets.specs.SiteTables.{table_sites}
-use Rattle.isle_sets.proofs.ClosingTaken.{ClosedSoFar, one_closed, all_closed}
+use Rattle.isle_sets.proofs.ClosingClasses.{ClosedSoFar, one_closed, all_closed}
 use Rattle.isle_sets.proofs.FullTables.{passed_on, one_full}
 use Rattle.isle_sets.proofs.demanded.Demanded.close.Goals as goal
 

@@ -2,7 +2,7 @@ use Rattle.std.proofs.Common.{◌-◌}
 use Rattle.isle_model.specs.sites.Closure.{Closed, most_closing_steps}
 use Rattle.isle_sets.specs.Closings.{AreDemandsOf, KeepsDue}
 use Rattle.isle_sets.specs.SiteTables.{IsTable, table_sites}
-use Rattle.isle_sets.proofs.ClosingTaken.{ClosedSoFar}
+use Rattle.isle_sets.proofs.ClosingClasses.{ClosedSoFar}
 use Rattle.isle_sets.proofs.demanded.Demanded.close.Given as goal
 
 abbrev pub invariant-loop : goal.invariant-loop

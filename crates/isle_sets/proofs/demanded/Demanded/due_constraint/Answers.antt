@@ -2,8 +2,8 @@ use Rattle.std.proofs.Common.{◌≡◌, false, sym, ◌∙◌}
 use Rattle.std.specs.Prelude.{is_some, nat_eq}
 use Rattle.std.proofs.lemmas.Bool.{and_right}
 use Rattle.isle_disjointsets.specs.Partition.{together}
-use Rattle.isle_sets.specs.DemandsHeld.{constraint_held, are_equated}
-use Rattle.isle_sets.proofs.DueKept.{not_in_class}
+use Rattle.isle_sets.specs.SiteDemands.{constraint_held, are_equated}
+use Rattle.isle_sets.proofs.DueSites.{not_in_class}
 use Rattle.isle_sets.proofs.demanded.Demanded.due_constraint.Goals as goal
 
 pub returns-else-contains : goal.returns-else-contains

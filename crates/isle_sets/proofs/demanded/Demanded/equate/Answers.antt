@@ -1,7 +1,7 @@
 use Rattle.std.proofs.Common.{◌≡◌, false, refl, rules}
 use Rattle.std.specs.Prelude.{nat_eq}
 use Rattle.isle_sets.specs.declared.demanded.Demanded.{Demanded}
-use Rattle.isle_sets.proofs.DueKept.{due_equated}
+use Rattle.isle_sets.proofs.DueSites.{due_equated}
 use Rattle.isle_sets.proofs.demanded.Demanded.equate.Goals as goal
 
 pub returns-in_ok-merge-clause-equated : goal.returns-in_ok-merge-clause-equated

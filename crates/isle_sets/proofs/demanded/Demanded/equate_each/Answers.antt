@@ -1,6 +1,6 @@
 use Rattle.std.proofs.Common.{◌<◌, length, ◌∙◌, arith}
-use Rattle.isle_sets.specs.DemandsHeld.{are_equated}
-use Rattle.isle_sets.proofs.Equated.{one_pair_more}
+use Rattle.isle_sets.specs.SiteDemands.{are_equated}
+use Rattle.isle_sets.proofs.EqualityPairs.{one_pair_more}
 use Rattle.isle_sets.proofs.demanded.Demanded.equate_each.Goals as goal
 
 pub loop-i-preserved : goal.loop-i-preserved

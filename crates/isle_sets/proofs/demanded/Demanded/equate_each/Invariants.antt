@@ -1,7 +1,7 @@
 use Rattle.std.proofs.Common.{◌≡◌, ℕ, drop}
 use Rattle.std.specs.List.{zip}
 use Rattle.isle_sets.specs.Closings.{KeepsDue}
-use Rattle.isle_sets.specs.DemandsHeld.{are_equated, equated_each}
+use Rattle.isle_sets.specs.SiteDemands.{are_equated, equated_each}
 use Rattle.isle_sets.proofs.demanded.Demanded.equate_each.Given as goal
 
 abbrev pub invariant-loop-i : goal.invariant-loop-i

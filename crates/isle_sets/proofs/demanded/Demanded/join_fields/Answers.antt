@@ -2,10 +2,10 @@ use Rattle.std.proofs.Common.{◌≡◌, [], ◌∷◌, length, map, drop, sym, 
 use Rattle.std.specs.Prelude.{IfErr}
 use Rattle.std.proofs.lemmas.List.{drop_all}
 use Rattle.isle_model.specs.sites.Sites.{unfold_site, field_terms}
-use Rattle.isle_sets.specs.Closings.{AreFieldsOf, EndsFull, GoOn, with_fields, with_member}
+use Rattle.isle_sets.specs.Closings.{AreFieldsOf, EndsFull, GoOn, with_field_terms, with_member}
 use Rattle.isle_sets.specs.SiteTables.{table_sites}
 use Rattle.isle_sets.specs.SiteViews.{constraint_view}
-use Rattle.isle_sets.proofs.ClosingTaken.{JoinedSoFar, joined_first, joined_next, joined_last, rest_below, same_first}
+use Rattle.isle_sets.proofs.ClosingClasses.{JoinedSoFar, joined_first, joined_next, joined_last, rest_below, same_first}
 use Rattle.isle_sets.proofs.FullTables.{passed_on, member_full, least_full, members_full}
 use Rattle.isle_sets.proofs.demanded.Demanded.join_fields.Goals as goal
 
@@ -67,7 +67,7 @@ returns-clause-joined c k h =
     let ask = constraint_view c.args.constraint.now in
     let j = c.loop-member.invariant.joined k c.in-Some.least.now c.in-Some.ensures.cases.0 h in
     let none : drop c.loop-member.member-index c.in-Some.rest.now ≡ [] = drop_all c.loop-member.member-index c.in-Some.rest.now c.loop-member-test.false in
-    subst (λ l. GoOn first now c.loop-member.self (with_fields ask k (map (unfold_site first) l))) (sym c.in-Some.ensures.cases.0)
+    subst (λ l. GoOn first now c.loop-member.self (with_field_terms ask k (map (unfold_site first) l))) (sym c.in-Some.ensures.cases.0)
     (joined_last first now c.loop-member.self ask (unfold_site first c.in-Some.least.now) k c.in_ok-fields.fields.items (map (unfold_site first) c.in-Some.rest.now)
     (map (unfold_site first) (drop c.loop-member.member-index c.in-Some.rest.now)) (ap (map (unfold_site first)) none) j)
 
@@ -79,8 +79,8 @@ returns-in_err-fields-clause-full c k h =
     let least = unfold_site first c.in-Some.least.now in
     let rest = map (unfold_site first) c.in-Some.rest.now in
     let e = c.in_err-fields.field-0.0 in
-    subst (λ l. IfErr c.from_residual.result (EndsFull after (with_fields ask k (map (unfold_site first) l)))) (sym c.in-Some.ensures.cases.0)
-    (passed_on c.from_residual.result e (EndsFull after (with_fields ask k (map (unfold_site first) (c.in-Some.least.now ∷ c.in-Some.rest.now)))) c.from_residual.ensures
+    subst (λ l. IfErr c.from_residual.result (EndsFull after (with_field_terms ask k (map (unfold_site first) l)))) (sym c.in-Some.ensures.cases.0)
+    (passed_on c.from_residual.result e (EndsFull after (with_field_terms ask k (map (unfold_site first) (c.in-Some.least.now ∷ c.in-Some.rest.now)))) c.from_residual.ensures
     (least_full first after k ask least rest e (member_full first after k (field_terms ask least) e h.once h.stand c.in_err-fields.ensures.full)))
 
 pub returns-in_err-join_member-clause-full : goal.returns-in_err-join_member-clause-full
@@ -96,7 +96,7 @@ returns-in_err-join_member-clause-full c k h =
     let j = c.loop-member.invariant.joined k least c.in-Some.ensures.cases.0 h in
     let below = rest_below (length first) c.args.members.now least rest c.in-Some.ensures.cases.0 c.requires.within c.loop-member.member-index m c.loop-member-test.true c.member-item.is in
     let full = c.in_err-join_member.ensures.full j.so_far (unfold_site first least) j.goes.demands (subst (λ l. AreFieldsOf now ask l (unfold_site first least)) (sym c.deref.ensures.value) j.of_least) in
-    subst (λ l. IfErr c.from_residual-in_err-join_member.result (EndsFull after (with_fields ask k (map (unfold_site first) l)))) (sym c.in-Some.ensures.cases.0)
-    (passed_on c.from_residual-in_err-join_member.result e (EndsFull after (with_fields ask k (map (unfold_site first) (least ∷ rest)))) c.from_residual-in_err-join_member.ensures
+    subst (λ l. IfErr c.from_residual-in_err-join_member.result (EndsFull after (with_field_terms ask k (map (unfold_site first) l)))) (sym c.in-Some.ensures.cases.0)
+    (passed_on c.from_residual-in_err-join_member.result e (EndsFull after (with_field_terms ask k (map (unfold_site first) (least ∷ rest)))) c.from_residual-in_err-join_member.ensures
     (members_full first now after c.loop-member.self ask (unfold_site first least) k c.in_ok-fields.fields.items rest c.loop-member.member-index m (map (unfold_site first) rest) e c.loop-member-test.true
     c.member-item.is j (subst (λ u. EndsFull after (with_member ask (unfold_site first least) j.so_far u) e) (j.goes.kept m below) full)))

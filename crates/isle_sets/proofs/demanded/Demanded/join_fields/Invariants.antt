@@ -4,7 +4,7 @@ use Rattle.isle_model.specs.sites.Closure.{Closed}
 use Rattle.isle_sets.specs.Closings.{AreDemandsOf, KeepsDue}
 use Rattle.isle_sets.specs.SiteTables.{IsTable, table_sites}
 use Rattle.isle_sets.specs.SiteViews.{constraint_view}
-use Rattle.isle_sets.proofs.ClosingTaken.{JoinedSoFar}
+use Rattle.isle_sets.proofs.ClosingClasses.{JoinedSoFar}
 use Rattle.isle_sets.proofs.demanded.Demanded.join_fields.Given as goal
 
 abbrev pub invariant-loop-member : goal.invariant-loop-member

@@ -1,7 +1,7 @@
 use Rattle.std.proofs.Common.{ap, sym, ◌∙◌}
 use Rattle.std.specs.List.{zip}
 use Rattle.std.specs.Prelude.{length}
-use Rattle.isle_sets.specs.DemandsHeld.{are_equated, equated_each}
+use Rattle.isle_sets.specs.SiteDemands.{are_equated, equated_each}
 use Rattle.isle_sets.specs.SiteTables.{table_sites}
 use Rattle.isle_sets.specs.SiteViews.{constraint_view}
 use Rattle.isle_sets.proofs.ClosingSteps.{as_many, member_joined}

@@ -2,7 +2,7 @@ use Rattle.std.proofs.Common.{◌∙◌, sym}
 use Rattle.std.specs.Ordering.{nat_cmp}
 use Rattle.std.specs.BTreeSet.{IsLowerBound}
 use Rattle.isle_sets.proofs.ClosingSteps.{held_same}
-use Rattle.isle_sets.proofs.DueKept.{least_due, due_again, of_copied}
+use Rattle.isle_sets.proofs.DueSites.{least_due, due_again, of_copied}
 use Rattle.isle_sets.proofs.demanded.Demanded.next_due.Goals as goal
 
 pub returns-in-Some-due_constraint-clause-next : goal.returns-in-Some-due_constraint-clause-next

@@ -3,14 +3,14 @@ use Rattle.std.proofs.lemmas.Bool.{and_parts}
 use Rattle.std.proofs.lemmas.Result.{on_ok_weaker, IfErr-weaker}
 use Rattle.isle_model.specs.sites.Sites.{unfold_site}
 use Rattle.isle_model.specs.sites.Closure.{ascending, class_at, taken}
-use Rattle.isle_sets.specs.DemandsHeld.{are_equated, constraint_held}
-use Rattle.isle_sets.specs.Closings.{EndsFull, GoOn, asked_each, with_fields}
+use Rattle.isle_sets.specs.SiteDemands.{are_equated, constraint_held}
+use Rattle.isle_sets.specs.Closings.{EndsFull, GoOn, asked_each, with_field_terms}
 use Rattle.isle_sets.specs.SiteTables.{table_sites}
 use Rattle.isle_sets.specs.SiteViews.{constraint_view}
 use Rattle.isle_sets.specs.declared.demanded.Demanded.{Demanded}
 use Rattle.isle_sets.proofs.ClosingNumbers.{all_from_below}
-use Rattle.isle_sets.proofs.ClosingTaken.{members_below, Asked, class_asked, class_taken}
-use Rattle.isle_sets.proofs.DueKept.{due_removed}
+use Rattle.isle_sets.proofs.ClosingClasses.{members_below, Asked, class_asked, class_taken}
+use Rattle.isle_sets.proofs.DueSites.{due_removed}
 use Rattle.isle_sets.proofs.FullTables.{class_full}
 use Rattle.isle_sets.proofs.demanded.Demanded.take_class.Goals as goal
 
@@ -63,7 +63,7 @@ returns-clause-taken c k h =
     (λ goes.
     class_taken sites d k h c.args.site c.requires.next ask members c.in_ok-members.ensures.members less c.ask_each.new.self refl c.in_ok-members.ensures.rest c.ask_each.ensures.equated asked
     c.in_ok-members.ensures.ascending after c.join_fields.new.self
-    (subst (λ l. GoOn sites after c.join_fields.new.self (with_fields ask j (map (unfold_site sites) l))) c.deref-2.ensures.value goes))
+    (subst (λ l. GoOn sites after c.join_fields.new.self (with_field_terms ask j (map (unfold_site sites) l))) c.deref-2.ensures.value goes))
     (c.join_fields.ensures.joined j demands)
 
 pub returns-clause-full : goal.returns-clause-full
@@ -80,9 +80,9 @@ returns-clause-full c k h =
     let j = Asked sites d k h c.args.site c.requires.next ask members c.in_ok-members.ensures.members less c.ask_each.new.self refl c.in_ok-members.ensures.rest c.ask_each.ensures.equated asked in
     let demands =
     class_asked sites d k h c.args.site c.requires.next ask members c.in_ok-members.ensures.members less c.ask_each.new.self refl c.in_ok-members.ensures.rest c.ask_each.ensures.equated asked in
-    IfErr-weaker c.join_fields.result (EndsFull after (with_fields ask j (map (unfold_site sites) c.deref-2.result.now)))
+    IfErr-weaker c.join_fields.result (EndsFull after (with_field_terms ask j (map (unfold_site sites) c.deref-2.result.now)))
     (EndsFull after (taken k (u, ask) (ascending k.made (class_at k.classes u))))
     (λ e full.
     class_full sites after d k h c.args.site c.requires.next ask members c.in_ok-members.ensures.members c.in_ok-members.ensures.ascending e
-    (subst (λ l. EndsFull after (with_fields ask j (map (unfold_site sites) l)) e) c.deref-2.ensures.value full))
+    (subst (λ l. EndsFull after (with_field_terms ask j (map (unfold_site sites) l)) e) c.deref-2.ensures.value full))
     (c.join_fields.ensures.full j demands)

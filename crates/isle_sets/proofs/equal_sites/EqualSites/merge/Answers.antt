@@ -1,6 +1,6 @@
 use Rattle.std.proofs.Common.{sym, subst}
 use Rattle.isle_sets.specs.SetLists.{AreNoted}
-use Rattle.isle_sets.proofs.DueKept.{still_open}
+use Rattle.isle_sets.proofs.DueSites.{still_open}
 use Rattle.isle_sets.proofs.NotedSites.{noted_still, noted_unchanged, noted_merged}
 use Rattle.isle_sets.proofs.equal_sites.EqualSites.merge.Goals as goal
 

@@ -1,6 +1,6 @@
 use Rattle.std.proofs.Common.{rules, arith}
 use Rattle.std.proofs.lemmas.List.Sorted.{answers_always}
-use Rattle.isle_sets.proofs.AskedAt.{asked_here, asked_nowhere}
+use Rattle.isle_sets.proofs.ConstraintSearch.{asked_here, asked_nowhere}
 use Rattle.isle_sets.proofs.trie_again.Rule.get_constraint.Goals as goal
 
 -- the closure gives a constraint's site, and the slice is the rule's constraints

@@ -1,5 +1,5 @@
 use Rattle.std.proofs.Common.{inr, refl}
-use Rattle.isle_term_sets.proofs.Lent.{taken_back}
+use Rattle.isle_term_sets.proofs.LendingVisitors.{taken_back}
 use Rattle.isle_term_sets.proofs.builder_rules.RuleSetBuilderRuleVisitor.with_pattern.Goals as goal
 
 pub returns : goal.returns

@@ -1,6 +1,6 @@
 use Rattle.std.proofs.Common.{◌++◌, map, ap, ◌∙◌}
 use Rattle.std.proofs.lemmas.Result.{on_ok_weaker}
-use Rattle.isle_sets.specs.DemandsHeld.{constraint_held}
+use Rattle.isle_sets.specs.SiteDemands.{constraint_held}
 use Rattle.isle_sets.specs.SiteViews.{constraint_view}
 use Rattle.isle_term_sets.specs.VisitedSites.{conflict_view}
 use Rattle.isle_term_sets.proofs.BuilderSteps.{noted, site_asked}

@@ -4,7 +4,7 @@ use Rattle.isle_model.specs.sites.Sites.{layer, unfold_site}
 use Rattle.isle_model.specs.visits.Demands.{making}
 use Rattle.isle_sets.specs.SiteViews.{site_view}
 use Rattle.isle_sets.specs.SiteTables.{table_sites, AddsSite, ForWantOfRoom, HasNoRoom, IsTable}
-use Rattle.isle_term_sets.specs.VisitedSites.{EndsBefore, Makes}
+use Rattle.isle_term_sets.specs.VisitedSites.{EndsBefore, MakesSite}
 use Rattle.isle_term_sets.proofs.BuilderSteps.{with_table, site_made, site_ends}
 use Rattle.isle_sets.proofs.SitesAdded.{no_shorter_by, weaker_ok}
 use Rattle.isle_sets.proofs.SitesGrown.{added_stands}
@@ -16,7 +16,7 @@ returns-clause-made c before v h below =
     let old = table_sites b.table in
     let t = c.add.new.self in
     let s = site_view c.args.binding in
-    weaker_ok (λ n. AddsSite old (table_sites t) s n × IsTable t) (Makes before b (with_table b t) v (layer (unfold_site old) s)) c.add.result
+    weaker_ok (λ n. AddsSite old (table_sites t) s n × IsTable t) (MakesSite before b (with_table b t) v (layer (unfold_site old) s)) c.add.result
     (λ n a. site_made before b t v s n h a.1 (no_shorter_by old (table_sites t) s n a.0)
     (λ terms once stand. added_stands old terms h.table.sources once stand s below (table_sites t) n a.0))
     (c.add.ensures.added (record { table = h.table; sources = below }))

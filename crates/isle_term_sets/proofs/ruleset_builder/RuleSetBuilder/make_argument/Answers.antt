@@ -4,7 +4,7 @@ use Rattle.isle_model.specs.sites.Sites.{argument}
 use Rattle.isle_model.specs.visits.Demands.{argument_taken, counting, taking_argument, valued}
 use Rattle.isle_model.proofs.Members.{nothing_in}
 use Rattle.isle_sets.proofs.SitesAdded.{weaker_ok}
-use Rattle.isle_term_sets.specs.VisitedSites.{Makes, ValuesTo}
+use Rattle.isle_term_sets.specs.VisitedSites.{MakesSite, ValuesTo}
 use Rattle.isle_term_sets.proofs.BuilderSteps.{argument_passes, counted_stands}
 use Rattle.isle_term_sets.proofs.ruleset_builder.RuleSetBuilder.make_argument.Goals as goal
 
@@ -16,6 +16,6 @@ returns-clause-made c before v h =
     let same : c.in-Ok.index ≡ i = omega (arith, c.in-Ok.ensures) in
     let few : i < most_arguments = omega (arith, c.in-Ok.ensures) in
     let w = counting (argument_taken i) v in
-    weaker_ok (Makes before old new w (argument c.in-Ok.index)) (λ n. (i < most_arguments) × ValuesTo before old new (valued (argument i) (taking_argument i v)) n) c.make.result
-    (λ n m. (few, let k = subst (λ j. Makes before old new w (argument j) n) same m in record { goes = k.goes; site = k.site }))
+    weaker_ok (MakesSite before old new w (argument c.in-Ok.index)) (λ n. (i < most_arguments) × ValuesTo before old new (valued (argument i) (taking_argument i v)) n) c.make.result
+    (λ n m. (few, let k = subst (λ j. MakesSite before old new w (argument j) n) same m in record { goes = k.goes; site = k.site }))
     (c.make.ensures.made before w (counted_stands before old v (argument_taken i) h (argument_passes i few)) (λ a k. absurd (nothing_in a k)))

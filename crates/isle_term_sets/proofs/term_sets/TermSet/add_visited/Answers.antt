@@ -2,7 +2,7 @@ use Rattle.std.proofs.Common.{◌≡◌, ap, ◌∙◌, sym, refl, rules}
 use Rattle.isle_model.specs.visits.Demands.{demands_of}
 use Rattle.isle_typed.specs.RuleViews.{rule_view}
 use Rattle.isle_sets.specs.SiteViews.{set_rule_views}
-use Rattle.isle_sets.specs.Verdicts.{report_view, report_views}
+use Rattle.isle_sets.specs.Verdicts.{unreachability_view, unreachability_views}
 use Rattle.isle_term_sets.proofs.PassedRules.{reachable_if}
 use Rattle.isle_term_sets.proofs.RulesReported.{goes_on_conflicting, goes_on_refused, none_listed, on_ok_then, some_listed, visited_fields}
 use Rattle.isle_term_sets.proofs.term_sets.TermSet.add_visited.Goals as goal
@@ -22,7 +22,7 @@ returns-in-Some-clause-goes c p before w =
     let met = none_listed c.args.self.now.builder.conflicts c.is_empty.result c.is_empty.ensures c.if-not-is_empty.false in
     let found = c.in_ok-why.ensures before (demands_of p r) (visited_fields p before r c.args.self.now.builder w.stands met) in
     on_ok_then _ _ c.report_unreachable.result
-    (goes_on_refused p before r c.args.self.now w.stands c.args.errors.now.items c.report_unreachable.new.errors.items c.args.rule.now.pos refl (report_view c.in-Some.why) (sym found ∙ ap report_views c.in-Some.is))
+    (goes_on_refused p before r c.args.self.now w.stands c.args.errors.now.items c.report_unreachable.new.errors.items c.args.rule.now.pos refl (unreachability_view c.in-Some.why) (sym found ∙ ap unreachability_views c.in-Some.is))
     c.report_unreachable.ensures.says
 
 pub returns-in-None-clause-goes : goal.returns-in-None-clause-goes
@@ -30,4 +30,4 @@ returns-in-None-clause-goes c p before w =
     let r = rule_view c.args.rule.now in
     let met = none_listed c.args.self.now.builder.conflicts c.is_empty.result c.is_empty.ensures c.if-not-is_empty.false in
     let found = c.in_ok-why.ensures before (demands_of p r) (visited_fields p before r c.args.self.now.builder w.stands met) in
-    c.add_reachable.ensures.goes p before w (reachable_if p before r (set_rule_views c.args.self.now.rules.items) c.args.self.now.builder w.stands (sym found ∙ ap report_views c.in-None.is))
+    c.add_reachable.ensures.goes p before w (reachable_if p before r (set_rule_views c.args.self.now.rules.items) c.args.self.now.builder w.stands (sym found ∙ ap unreachability_views c.in-None.is))

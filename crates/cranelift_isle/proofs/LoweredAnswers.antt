@@ -1,0 +1,242 @@
+-- The trees of checked sets, and the errors that there are in place of them, as answers to definitions.
+use Rattle.std.proofs.Common.{◌≡◌, Bool, List, [], ◌∷◌, map, Some, option_map, Ok, Err, refl, sym, ap, ◌∙◌, subst}
+use Rattle.std.specs.Prelude.{All, Result, slice_index_or}
+use Rattle.std.specs.Global.{Vec}
+use Rattle.std.proofs.lemmas.List.Elements.{All-nil, All-cons, All-head, All-tail}
+use Rattle.isle_base.specs.Answers.{Answers, OnErrors}
+use Rattle.isle_base.specs.Positions.{HasSingleSpans, ErrorStandsAt, positions_of}
+use Rattle.isle_base.specs.declared.syntax.Error.{Error}
+use Rattle.isle_base.specs.declared.syntax.Fault.{Fault}
+use Rattle.isle_base.specs.declared.syntax.Fault.TheVariants.{Memory, Errors}
+use Rattle.isle_model.specs.lists.Syntax.{Definition}
+use Rattle.isle_model.specs.lists.TypeTable.{IsValidTypes}
+use Rattle.isle_model.specs.lists.Elaborated.{TypedRules, named}
+use Rattle.isle_model.specs.rules.Program.{Program}
+use Rattle.isle_model.specs.sites.RuleSets.{IsBuilt}
+use Rattle.isle_model.specs.claims.Environments.{TypesRead, types_read, setting_of, IsElaborated, IsRead, TypeEnvironment, AreRulesOf, program_of}
+use Rattle.isle_model.specs.claims.Layers.{own_program, IsAccepted, IsBuiltForSome, CheckAnswers, LoweredTerm, AreLowered, LoweringAnswers, RefusedBy, by_check, BestTreesKeepTheHeadline}
+use Rattle.isle_model.specs.claims.Refusals.{Refusal, refusal_of, NamesOnlyPassed, PassedInBuilding}
+use Rattle.isle_model.proofs.Elements.{none_some}
+use Rattle.isle_model.proofs.Mapped.{nothing_mapped}
+use Rattle.isle_laws_trees.specs.NoLimits.{PassedInLowering, in_building}
+use Rattle.isle_laws_trees.specs.OneTree.{IsOnlyBest, LoweredTreesAreOnlyBest}
+use Rattle.isle_laws_trees.specs.OneAnswer.{AreCheckErrors}
+use Rattle.isle_laws_trees.specs.WholeDemands.{AcceptedDemandsAreWhole, AcceptedSetsAreWhole}
+use Rattle.isle_laws_typing.proofs.NoReadLimits.{elaborated_rules_are_within_limits_lem}
+use Rattle.isle_laws_closure.specs.ShadowLaws.{check_errors}
+use Rattle.isle_types.specs.declared.ids.TermId.{TermId}
+use Rattle.isle_base.specs.ErrorViews.{error_views}
+use Rattle.isle_rules.specs.ShownEnvs.{environment_shown_by}
+use Rattle.isle_rules.specs.declared.term_env.TermEnv.{TermEnv}
+use Rattle.isle_sets.specs.declared.trie_again.RuleSet.{RuleSet}
+use Rattle.isle_builder.specs.BuiltSets.{IsOfElaborated, ShowsElaborated, term_set_views}
+use Rattle.cranelift_isle.specs.Checks.{IsChecked, NamesRules, OfErrors, ReportsAreErrors}
+use Rattle.cranelift_isle.proofs.NamedPlaces.{rules_stand}
+use Rattle.cranelift_isle.specs.declared.lower.Lowered.{Lowered}
+use Rattle.cranelift_isle.specs.Lowerings.{set_of_term, AreAccepted, IsLowered, OfAccepted, ChooseAsSource, CollectBags, SharesTests, DemandWhole, SetsAreWhole}
+use Rattle.cranelift_isle.specs.Environments.{BreaksWhereRefused, NamesLackedLimits, TellsOfEach}
+
+same_rules : (a b : TypedRules) → Some a ≡ Some b → a ≡ b
+same_rules a b e = cc
+
+-- a list has one list of typed rules at most
+one_typing : (e : TypesRead) (defs : List Definition) (expand : Bool) (a b : TypedRules) → IsElaborated e defs expand a → IsElaborated e defs expand b → a ≡ b
+one_typing e defs expand a b x y = same_rules a b (sym x.elaborate.typed ∙ y.elaborate.typed)
+
+all_unmap : {X Y : Type 0} (P : Y → Type 0) (f : X → Y) (xs : List X) → All P (map f xs) → All (λ x. P (f x)) xs
+all_unmap P f [] a = All-nil (λ x. P (f x))
+all_unmap P f (x ∷ xs) a = All-cons (λ x. P (f x)) x xs (All-head P (f x) (map f xs) a) (all_unmap P f xs (All-tail P (f x) (map f xs) a))
+
+terms_are : (ts : List LoweredTerm) → map (λ t. t.term) ts ≡ map (λ b. b.0) (map set_of_term ts)
+terms_are [] = refl
+terms_are (t ∷ ts) = ap (λ l. t.term ∷ l) (terms_are ts)
+
+-- definitions were read: their types are valid, and an environment has their terms and their typed rules
+pub record WereRead (defs : List Definition) (expand : Bool) (env : TermEnv) (types : TypeEnvironment) : Type 0 where
+  pub valid : IsValidTypes defs
+  pub rules : (rules : TypedRules) × AreRulesOf (types_read defs) defs expand rules (environment_shown_by env) types
+
+pub were_read : (defs : List Definition) (expand : Bool) (env : TermEnv) (types : TypeEnvironment) → IsValidTypes defs
+    → (rules : TypedRules) × AreRulesOf (types_read defs) defs expand rules (environment_shown_by env) types → WereRead defs expand env types
+were_read defs expand env types v r = record { valid = v; rules = r }
+
+-- what checking an environment answers of each list that the environment is of
+abbrev pub AnswersCheck : TermEnv → Result (Vec (TermId × RuleSet)) Fault → Type 0
+AnswersCheck env result =
+    (e : TypesRead) (defs : List Definition) (expand : Bool) (rules : TypedRules) → IsElaborated e defs expand rules → ShowsElaborated e defs rules env → IsChecked (program_of e defs rules.rules) result
+
+module _ {defs : List Definition} {expand : Bool} {env : TermEnv} {types : TypeEnvironment} (read : WereRead defs expand env types) where
+  abbrev rules : TypedRules
+  rules = read.rules.0
+
+  abbrev p : Program
+  p = own_program defs rules
+
+  elaborated : IsElaborated (types_read defs) defs expand rules
+  elaborated = read.rules.1.elaborated
+
+  is_read : IsRead defs expand rules
+  is_read = record { types = read.valid; elaborated = elaborated }
+
+  shown : ShowsElaborated (types_read defs) defs rules env
+  shown = record { terms = read.rules.1.rows.table; rules = read.rules.1.typed }
+
+  pub of_elaborated : IsOfElaborated env
+  of_elaborated = record {
+    types = types_read defs;
+    defs = defs;
+    expand = expand;
+    rules = rules;
+    elaborated = elaborated;
+    shown = shown;
+  }
+
+  checked_as : (result : Result (Vec (TermId × RuleSet)) Fault) → AnswersCheck env result → IsChecked p result
+  checked_as result check = check (types_read defs) defs expand rules elaborated shown
+
+  -- 1. with whatever typed rules the definitions are accepted, they are these
+  same_typing : (other : TypedRules) → IsAccepted defs expand other → other ≡ rules
+  same_typing other is = one_typing (types_read defs) defs expand other rules is.read.elaborated elaborated
+
+  -- 2. sets that were checked
+  module _ (sets : Vec (TermId × RuleSet)) (check : AnswersCheck env (Ok sets)) where
+    checked : CheckAnswers p (term_set_views sets.items)
+    checked = checked_as (Ok sets) check
+
+    is_accepted : IsAccepted defs expand rules
+    is_accepted = record { read = is_read; checkable = checked.checkable }
+
+    pub accepted : AreAccepted defs expand
+    accepted = (rules, is_accepted)
+
+    pub built_for_some : All (λ b. IsBuiltForSome b.1) (term_set_views sets.items)
+    built_for_some k d h = record {
+      types = types_read defs;
+      defs = defs;
+      expand = expand;
+      rules = rules;
+      term = (slice_index_or (term_set_views sets.items) k d).0;
+      elaborated = elaborated;
+      built = checked.given.built k d h;
+    }
+
+    -- 3. their best trees
+    module _ (law : BestTreesKeepTheHeadline) (ts : List LoweredTerm) (same : map set_of_term ts ≡ term_set_views sets.items) (shared : All (λ t. SharesTests t.set t.tree) ts) where
+      built : All (λ t. IsBuilt p t.term t.set) ts
+      built = all_unmap (λ b. IsBuilt p b.0 b.1) set_of_term ts (subst (All (λ b. IsBuilt p b.0 b.1)) (sym same) checked.given.built)
+
+      lowered : AreLowered p ts
+      lowered = record {
+        each = terms_are ts ∙ ap (map (λ b. b.0)) same ∙ checked.given.terms;
+        lowered = λ k d h. law defs expand rules (slice_index_or ts k d) is_accepted (built k d h) (shared k d h).best;
+      }
+
+      pub answers : (rules : TypedRules) × LoweringAnswers defs expand types (environment_shown_by env) rules ts
+      answers = (rules, record { accepted = is_accepted; environments = read.rules.1; trees = lowered })
+
+      pub chosen : OfAccepted defs expand (ChooseAsSource ts)
+      chosen other is = subst (λ r. ChooseAsSource ts (own_program defs r)) (sym (same_typing other is)) (λ k d h. (lowered.lowered k d h).headline.runs)
+
+      pub unique : LoweredTreesAreOnlyBest → All (λ t. IsOnlyBest t.set t.tree) ts
+      unique one k d h = one p (slice_index_or ts k d) (lowered.lowered k d h)
+
+      pub whole : AcceptedSetsAreWhole → OfAccepted defs expand (SetsAreWhole ts)
+      whole all other is =
+          subst (λ r. SetsAreWhole ts (own_program defs r)) (sym (same_typing other is))
+          (λ k d h. all defs expand rules is_accepted (slice_index_or ts k d).term (slice_index_or ts k d).set (built k d h))
+
+      pub demands : AcceptedDemandsAreWhole → OfAccepted defs expand (DemandWhole ts)
+      demands all other is k d h = all defs expand other is (slice_index_or ts k d).term
+
+      pub collected : OfAccepted defs expand (CollectBags ts)
+      collected other is = subst (λ r. CollectBags ts (own_program defs r)) (sym (same_typing other is)) (λ k d h. (lowered.lowered k d h).collects)
+
+  -- 4. errors of the check
+  module _ (es : List Error) (wrong : ReportsAreErrors p es) where
+    some_error : es ≡ [] → ⊥
+    some_error e = wrong.reported.some_report (nothing_mapped refusal_of wrong.reports (sym wrong.are ∙ ap error_views e))
+
+    not_accepted : AreAccepted defs expand → ⊥
+    not_accepted a = wrong.reported.refused (subst (λ r. IsAccepted defs expand r) (same_typing a.0 a.1) a.1).checkable
+
+    passed_in_building : NamesOnlyPassed (PassedInLowering defs expand) (error_views es)
+    passed_in_building l at is = in_building l at rules is_read (subst (NamesOnlyPassed (PassedInBuilding p)) (sym wrong.are) wrong.reported.limits l at is)
+
+  -- with whatever typed rules the definitions are read, they are these
+  exactly : (es : List Error) → ReportsAreErrors p es → AreCheckErrors defs expand (error_views es)
+  exactly es wrong other also =
+      subst (λ (r : TypedRules). error_views es ≡ check_errors (own_program defs r)) (one_typing (types_read defs) defs expand rules other elaborated also.elaborated) wrong.exact
+
+  -- no rule lacks the limits alone
+  none_lacked : (errors : List Refusal) → NamesLackedLimits defs expand errors
+  none_lacked errors = record {
+    each_rule = λ valid id lacks. absurd (elaborated_rules_are_within_limits_lem (types_read defs) defs expand rules elaborated id lacks.rule lacks.here lacks.none);
+    first_rule = λ valid lack. absurd (none_some rules (sym (ap (option_map (named (setting_of (types_read defs) defs expand))) lack.none) ∙ elaborated.elaborate.typed));
+  }
+
+  refused_as : (f : Fault) → IsChecked p (Err f) → Answers {A = Lowered} (Err f) (AreAccepted defs expand) (IsLowered defs expand)
+  refused_as (Errors es) c = (some_error es.items c, not_accepted es.items c)
+  refused_as (Memory m) c = tt
+
+  refused_why : (f : Fault) → IsChecked p (Err f) → OnErrors {A = Lowered} (Err f) (λ es. RefusedBy defs expand (error_views es))
+  refused_why (Errors es) c = subst (RefusedBy defs expand) (sym c.are) (by_check rules c.reports is_read c.reported)
+  refused_why (Memory m) c = tt
+
+  exact_as : (f : Fault) → IsChecked p (Err f) → OnErrors {A = Lowered} (Err f) (λ es. AreCheckErrors defs expand (error_views es))
+  exact_as (Errors es) c = exactly es.items c
+  exact_as (Memory m) c = tt
+
+  lacked_as : (f : Fault) → OnErrors {A = Lowered} (Err f) (λ es. NamesLackedLimits defs expand (error_views es))
+  lacked_as (Errors es) = none_lacked (error_views es.items)
+  lacked_as (Memory m) = tt
+
+  -- and nothing lacks a type or a typed rule
+  none_broken : (es : List Error) → BreaksWhereRefused defs expand es
+  none_broken es = record { types = λ no. absurd (no read.valid); rules = λ valid no. absurd (no (rules, elaborated)) }
+
+  breach_as : (f : Fault) → OnErrors {A = Lowered} (Err f) (λ es. BreaksWhereRefused defs expand es)
+  breach_as (Errors es) = none_broken es.items
+  breach_as (Memory m) = tt
+
+  none_told : (es : List Error) → TellsOfEach defs expand es
+  none_told es = record { types = λ no. absurd (no read.valid); rules = λ valid no. absurd (no (rules, elaborated)) }
+
+  told_as : (f : Fault) → OnErrors {A = Lowered} (Err f) (λ es. TellsOfEach defs expand es)
+  told_as (Errors es) = none_told es.items
+  told_as (Memory m) = tt
+
+  limits_as : (f : Fault) → IsChecked p (Err f) → OnErrors {A = Lowered} (Err f) (λ es. NamesOnlyPassed (PassedInLowering defs expand) (error_views es))
+  limits_as (Errors es) c = passed_in_building es.items c
+  limits_as (Memory m) c = tt
+
+  stand_as : (f : Fault) → OnErrors {A = Vec (TermId × RuleSet)} (Err f) (λ es. NamesRules p (error_views es)) → OnErrors {A = Vec (TermId × RuleSet)} (Err f) (λ es. All HasSingleSpans es)
+      → OnErrors {A = Lowered} (Err f) (λ es. All (ErrorStandsAt (positions_of defs)) es)
+  stand_as (Errors es) names single = rules_stand (types_read defs) defs expand rules elaborated es.items single names
+  stand_as (Memory m) names single = tt
+
+  pub stand_of_check : (r : Result Lowered Fault) (f : Fault) → r ≡ Err f → OfErrors env (Err f) NamesRules → OnErrors {A = Vec (TermId × RuleSet)} (Err f) (λ es. All HasSingleSpans es)
+      → OnErrors r (λ es. All (ErrorStandsAt (positions_of defs)) es)
+  stand_of_check r f is names single =
+      subst (λ x. OnErrors x (λ es. All (ErrorStandsAt (positions_of defs)) es)) (sym is) (stand_as f (names (types_read defs) defs expand rules elaborated shown) single)
+
+  module _ (r : Result Lowered Fault) (f : Fault) (is : r ≡ Err f) (check : AnswersCheck env (Err f)) where
+    pub refused_by_check : Answers r (AreAccepted defs expand) (IsLowered defs expand)
+    refused_by_check = subst (λ x. Answers x (AreAccepted defs expand) (IsLowered defs expand)) (sym is) (refused_as f (checked_as (Err f) check))
+
+    pub why_refused : OnErrors r (λ es. RefusedBy defs expand (error_views es))
+    why_refused = subst (λ x. OnErrors x (λ es. RefusedBy defs expand (error_views es))) (sym is) (refused_why f (checked_as (Err f) check))
+
+    pub exact_of_check : OnErrors r (λ es. AreCheckErrors defs expand (error_views es))
+    exact_of_check = subst (λ x. OnErrors x (λ es. AreCheckErrors defs expand (error_views es))) (sym is) (exact_as f (checked_as (Err f) check))
+
+    pub named_of_check : OnErrors r (λ es. NamesLackedLimits defs expand (error_views es))
+    named_of_check = subst (λ x. OnErrors x (λ es. NamesLackedLimits defs expand (error_views es))) (sym is) (lacked_as f)
+
+    pub breach_of_check : OnErrors r (λ es. BreaksWhereRefused defs expand es)
+    breach_of_check = subst (λ x. OnErrors x (λ es. BreaksWhereRefused defs expand es)) (sym is) (breach_as f)
+
+    pub told_of_check : OnErrors r (λ es. TellsOfEach defs expand es)
+    told_of_check = subst (λ x. OnErrors x (λ es. TellsOfEach defs expand es)) (sym is) (told_as f)
+
+    pub limits_of_check : OnErrors r (λ es. NamesOnlyPassed (PassedInLowering defs expand) (error_views es))
+    limits_of_check = subst (λ x. OnErrors x (λ es. NamesOnlyPassed (PassedInLowering defs expand) (error_views es))) (sym is) (limits_as f (checked_as (Err f) check))

@@ -1,0 +1,141 @@
+-- Rules that ask different things of one site overlap nowhere, and keys by what is asked there tell them apart.
+use Rattle.std.proofs.Common.{take, ◌≡◌, ◌≢◌, ℕ, zero, suc, ◌+◌, ◌<◌, ◌==◌, get_or, inl, inr, replicate, true, false, not, ◌&&◌, List, [], ◌∷◌, ◌++◌, length, Option, Some, None, slice_get, int_lt, nat_le, if◌then◌else◌, refl, sym, ap, ◌∙◌, subst, eq-eqb, arith}
+use Rattle.std.specs.BTreeMap.{BTreeMap, get}
+use Rattle.std.specs.List.{list_any}
+use Rattle.std.specs.Ordering.{int_eq}
+use Rattle.std.proofs.lemmas.Bool.{cases_Bool, and_from}
+use Rattle.std.proofs.Math.Bool.{and-false}
+use Rattle.std.proofs.lemmas.List.{length-append, length-replicate, map-append, take_more}
+use Rattle.std.proofs.lemmas.Option.{same_Some, slice_get_within}
+use Rattle.isle_model.specs.sites.Sites.{Constraint, is_variant, is_struct, is_bool, is_int, is_prim, is_present, SetRule}
+use Rattle.isle_model.specs.visits.Demands.{constraint_eq}
+use Rattle.isle_model.specs.sites.SetRules.{sites_differ, differs_at, overlap_between, overlap_wrongly, is_mask_of, may_both_match, is_subset, no_overlap, some_overlap, is_subset_of_sites}
+use Rattle.isle_model.specs.trees.Places.{constraint_at}
+use Rattle.isle_model.specs.trees.Best.{total_constraints}
+use Rattle.isle_model.proofs.Members.{constraint_in, passes_any}
+use Rattle.isle_model.proofs.SameSites.{constraint_means, same_constraint}
+use Rattle.isle_overlap.specs.Comparisons.{wrong_pair, masked_pair}
+use Rattle.isle_model.proofs.Positions.{get_push_cases}
+use Rattle.isle_sets.specs.SiteViews.{constraint_view, set_rule_view, set_rule_views}
+use Rattle.isle_sets.specs.declared.trie_again.Rule.{Rule}
+use Rattle.isle_sets.specs.contracts.trie_again.ConstraintOrd.TheImpl.{ghosts}
+use Rattle.isle_sets.specs.declared.trie_again.Constraint as C
+use Rattle.isle_sets.specs.declared.trie_again.Constraint.TheVariants as T
+use Rattle.isle_overlap.specs.Keys.{AreApart, AreNumbered, IsAskedNumber, TellApart}
+
+-- two constraints of one site
+told : (as' bs : List (ℕ × Constraint)) (s : ℕ) (c d : Constraint) → constraint_at as' s ≡ Some c → constraint_at bs s ≡ Some d → constraint_eq c d ≡ false → sites_differ as' bs ≡ true
+told as' bs s c d e f n =
+    passes_any (λ a. list_any (differs_at a) bs) as' (s, c) (constraint_in as' s c e)
+    (passes_any (differs_at (s, c)) bs (s, d) (constraint_in bs s d f)
+    (and_from (s == s) (not (constraint_eq c d)) (eq-eqb s s refl) (ap not n)))
+
+-- which differ, differ either way
+either_way : (c d : Constraint) → constraint_eq c d ≡ false → constraint_eq d c ≡ false
+either_way c d n =
+    elim (cases_Bool (constraint_eq d c)) [
+      | inl t ↦ absurd (cc (same_constraint c d (sym (constraint_means d c t)), n))
+      | inr f ↦ f
+    ]
+
+-- a constraint by what it says
+abbrev of_view : Constraint → C.Constraint
+of_view (is_variant ty v fields) = T.Variant (record { 0 = ty }) (record { 0 = v }) fields
+of_view (is_struct ty fields) = T.Struct (record { 0 = ty }) fields
+of_view (is_bool b ty) = T.ConstBool b (record { 0 = ty })
+of_view (is_int z ty) = T.ConstInt z (record { 0 = ty })
+of_view (is_prim name) = T.ConstPrim (record { 0 = name })
+of_view is_present = T.Some
+
+back : (c : C.Constraint) → of_view (constraint_view c) ≡ c
+back (T.Variant ty v fields) = refl
+back (T.Struct ty fields) = refl
+back (T.ConstBool b ty) = refl
+back (T.ConstInt z ty) = refl
+back (T.ConstPrim name) = refl
+back T.Some = refl
+
+-- which says all of it
+says_all : (c d : C.Constraint) → constraint_view c ≡ constraint_view d → c ≡ d
+says_all c d e = sym (back c) ∙ ap of_view e ∙ back d
+
+-- two different numbers are of different constraints
+other_number : (numbers : BTreeMap C.Constraint ℕ) (c d : C.Constraint) (k l : ℕ) → get ghosts.cmp numbers c ≡ Some k → get ghosts.cmp numbers d ≡ Some l → k ≢ l
+    → constraint_eq (constraint_view c) (constraint_view d) ≡ false
+other_number numbers c d k l e f n =
+    elim (cases_Bool (constraint_eq (constraint_view c) (constraint_view d))) [
+      | inl t ↦
+          let same = says_all c d (constraint_means (constraint_view c) (constraint_view d) t) in
+          absurd (n (same_Some k l (sym e ∙ ap (get ghosts.cmp numbers) same ∙ f)))
+      | inr f ↦ f
+    ]
+
+-- rules whose numbers differ
+pub numbered_tell_apart : (numbers : BTreeMap C.Constraint ℕ) (site : ℕ) (rules : List SetRule) (keys : List (Option ℕ)) → AreNumbered numbers site rules keys → TellApart rules keys
+numbered_tell_apart numbers site rules keys h = record {
+  each = h.each;
+  apart = λ i j a b k l ai bj ki lj n.
+      let x = h.numbered i a k ai ki in
+      let y = h.numbered j b l bj lj in
+      let f = other_number numbers x.asked y.asked k l x.number y.number n in
+      record {
+        first = told a.constraints b.constraints site (constraint_view x.asked) (constraint_view y.asked) x.here y.here f;
+        second = told b.constraints a.constraints site (constraint_view y.asked) (constraint_view x.asked) y.here x.here (either_way (constraint_view x.asked) (constraint_view y.asked) f);
+      };
+}
+
+no_match : (a b : SetRule) → sites_differ a.constraints b.constraints ≡ true → overlap_between a b ≡ no_overlap
+no_match a b h = ap (λ t. if t then no_overlap else some_overlap (is_subset_of_sites a b)) h
+
+not_wrong : (a b : SetRule) → AreApart a b → overlap_wrongly a b ≡ false
+not_wrong a b h = ap (λ o. int_eq a.prio b.prio && may_both_match o) (no_match a b h.first) ∙ and-false (int_eq a.prio b.prio)
+
+no_mask : (a b : SetRule) → sites_differ a.constraints b.constraints ≡ true → is_mask_of a b ≡ false
+no_mask a b h = ap (λ o. (int_lt b.prio a.prio && is_subset o) && nat_le (total_constraints a) (total_constraints b)) (no_match a b h) ∙ ap (λ t. t && nat_le (total_constraints a) (total_constraints b)) (and-false (int_lt b.prio a.prio))
+
+pub apart_wrong : (a b : SetRule) → AreApart a b → wrong_pair a b ≡ []
+apart_wrong a b h = ap (λ t. if t then (a.at, b.at) ∷ [] else []) (not_wrong a b h)
+
+pub apart_masked : (i : ℕ) (a : SetRule) (j : ℕ) (b : SetRule) → AreApart a b → masked_pair i a j b ≡ []
+apart_masked i a j b h =
+    ap (λ t. (if t then (i, b.at) ∷ [] else []) ++ (if is_mask_of b a then (j, a.at) ∷ [] else [])) (no_mask a b h.first)
+    ∙ ap (λ t. if t then (j, a.at) ∷ [] else []) (no_mask b a h.second)
+
+-- one more number
+pub numbered_more : (numbers : BTreeMap C.Constraint ℕ) (site : ℕ) (rules : List Rule) (i : ℕ) (d : Rule) (old new : List (Option ℕ)) (key : Option ℕ) → i < length rules
+    → AreNumbered numbers site (set_rule_views (take i rules)) old → new ≡ old ++ key ∷ [] → ((k : ℕ) → key ≡ Some k → IsAskedNumber numbers site (set_rule_view (get_or rules i d)) k)
+    → AreNumbered numbers site (set_rule_views (take (i + 1) rules)) new
+numbered_more numbers site rules i d old new key l h added this =
+    let v = set_rule_view (get_or rules i d) in
+    let upto = ap set_rule_views (take_more rules i d l) ∙ map-append set_rule_view (take i rules) (get_or rules i d ∷ []) in
+    subst (λ vs. AreNumbered numbers site vs new) (sym upto) (subst (AreNumbered numbers site (set_rule_views (take i rules) ++ v ∷ [])) (sym added) (both (set_rule_views (take i rules)) v h this))
+  where
+    both : (vs : List SetRule) (v : SetRule) → AreNumbered numbers site vs old → ((k : ℕ) → key ≡ Some k → IsAskedNumber numbers site v k) → AreNumbered numbers site (vs ++ v ∷ []) (old ++ key ∷ [])
+    both vs v h this = record {
+      each = length-append old (key ∷ []) ∙ ap (λ n. n + 1) h.each ∙ sym (length-append vs (v ∷ []));
+      numbered = λ j r k rj kj. elim (get_push_cases vs v r j rj) [
+        | inl before ↦ elim (get_push_cases old key (Some k) j kj) [
+          | inl known ↦ h.numbered j r k before known
+          | inr last ↦ absurd (let lt = slice_get_within vs j r before in let at = last.0 in let e = h.each in omega (arith, lt, at, e))
+        ]
+        | inr here ↦ elim (get_push_cases old key (Some k) j kj) [
+          | inl known ↦ absurd (let lt = slice_get_within old j (Some k) known in let at = here.0 in let e = h.each in omega (arith, lt, at, e))
+          | inr last ↦ subst (λ x. IsAskedNumber numbers site x k) here.1 (this k last.1)
+        ]
+      ];
+    }
+
+abbrev nothing : Option ℕ
+nothing = None
+
+says_nothing : (n i k : ℕ) → slice_get (replicate n nothing) i ≡ Some (Some k) → ⊥
+says_nothing zero i k e = absurd (cc)
+says_nothing (suc n) zero k e = absurd (cc)
+says_nothing (suc n) (suc i) k e = says_nothing n i k e
+
+-- no key says anything
+pub none_tell_apart : (rules : List SetRule) (keys : List (Option ℕ)) → keys ≡ replicate (length rules) nothing → TellApart rules keys
+none_tell_apart rules keys same = record {
+  each = ap length same ∙ length-replicate (length rules) nothing;
+  apart = λ i j a b k l ai bj ki lj n. absurd (says_nothing (length rules) i k (sym (ap (λ ks. slice_get ks i) same) ∙ ki));
+}

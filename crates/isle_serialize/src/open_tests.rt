@@ -1,0 +1,340 @@
+//! The open tests of a place that its highest rules need: all other open tests cover no rule.
+
+ghost use Rattle.std.specs.Prelude.{◌≡◌, ◌<◌, ◌||◌, false, true, ℕ, IsTrue, Contains, IfOk, OnOk, slice_get};
+ghost use Rattle.std.specs.List.{list_any};
+ghost use Rattle.isle_model.specs.trees.Best.{descend};
+ghost use Rattle.isle_model.specs.trees.Places.{available, is_in, waits};
+ghost use Rattle.isle_model.specs.trees.Tests as Tests;
+ghost use Rattle.isle_sets.specs.SiteViews.{set_rule_view, set_view, site_view};
+ghost use Rattle.isle_serialize.specs.AroundViews.{has, AreAtHand};
+ghost use Rattle.isle_serialize.specs.PlaceViews.{around_at, set_at};
+ghost use Rattle.isle_serialize.specs.NeededTests.{AddsAt, IsEqualOf, IsLoopBy, IsLoopOf, IsMatchOf, IsPairOf, IsPairWith, IsTest, IsWanted, OfSome};
+ghost use Rattle.isle_serialize.specs.TestViews.{test_view, AreUseful};
+
+use crate::around::{are_joined, is_brought, is_source, must_wait};
+use crate::binds::sources_of;
+use crate::place::Place;
+use crate::small_set::SmallSet;
+use crate::tests::{Test, needs_at, reach_count};
+use isle_sets::trie_again::{Binding, BindingId, Rule, RuleSet};
+use std::alloc::{AllocError, Global};
+
+// Whether only an arm or a loop brings the site of a number, or there is none.
+fn waits_at(set: &RuleSet, site: BindingId) -> bool
+    ensures { result ≡ waits (slice_get (set_view set.now).sites site) }
+{
+    match set.bindings.get(site.index()) {
+        Some(binding) => must_wait(binding),
+        None => true,
+    }
+}
+
+// Whether a site is known to be available: it was brought, or was found to be.
+fn is_found(place: &Place<'_>, site: BindingId, found: &SmallSet) -> bool
+    ensures { result ≡ (is_in site (around_at place.now).brought || has found.now site) }
+{
+    is_brought(place, site) || found.contains(site)
+}
+
+// Notes that a site is available, where it is made of others: else that is found again as fast.
+fn note(place: &Place<'_>, site: BindingId, found: &mut SmallSet) -> Result<(), AllocError>
+    requires at_hand { available (set_at place.now).sites (around_at place.now) site ≡ true }
+    requires found { AreAtHand (set_at place.now).sites (around_at place.now) found.old }
+    ensures { OnOk result (AreAtHand (set_at place.now).sites (around_at place.now) found.new) }
+{
+    if sources_of(place.indexed.set, site).is_empty() {
+        return Ok(());
+    }
+    found.insert(site)?;
+    Ok(())
+}
+
+// Whether a site is available: it was brought, or none has to bring it, and its sources are available. What is found to
+// be is noted, so that no site is asked twice.
+fn comes_to_hand(
+    place: &Place<'_>,
+    site: BindingId,
+    found: &mut SmallSet,
+) -> Result<bool, AllocError>
+    requires { AreAtHand (set_at place.now).sites (around_at place.now) found.old }
+    ensures at_hand { IfOk result (λ b. b ≡ available (set_at place.now).sites (around_at place.now) site) }
+    ensures found { OnOk result (AreAtHand (set_at place.now).sites (around_at place.now) found.new) }
+{
+    if is_found(place, site, found) {
+        return Ok(true);
+    }
+    if waits_at(place.indexed.set, site) {
+        return Ok(false);
+    }
+    for source in sources_of(place.indexed.set, site) {
+        if !comes_to_hand(place, *source, found)? {
+            return Ok(false);
+        }
+    }
+    note(place, site, found)?;
+    Ok(true)
+}
+
+// Whether a site of the set is available.
+fn is_at_hand(alloc: Global, place: &Place<'_>, site: BindingId) -> Result<bool, AllocError>
+    ensures { IfOk result (λ b. b ≡ Tests.is_at_hand (set_at place.now) (around_at place.now) site) }
+{
+    if site.index() >= place.indexed.set.bindings.len() {
+        return Ok(false);
+    }
+    let mut found = SmallSet::new(alloc);
+    comes_to_hand(place, site, &mut found)
+}
+
+// Whether a site is available, and no arm or loop around has it as its source.
+fn is_open_site(alloc: Global, place: &Place<'_>, site: BindingId) -> Result<bool, AllocError>
+    ensures { IfOk result (λ b. b ≡ Tests.is_open_site (set_at place.now) (around_at place.now) site) }
+{
+    if is_source(place, site) {
+        return Ok(false);
+    }
+    is_at_hand(alloc, place, site)
+}
+
+// Whether two sites, the lesser first, are available, and the equalities around don't join them.
+fn is_open_pair(
+    alloc: Global,
+    place: &Place<'_>,
+    a: BindingId,
+    b: BindingId,
+) -> Result<bool, AllocError>
+    ensures { IfOk result (λ x. x ≡ Tests.is_open_pair (set_at place.now) (around_at place.now) a b) }
+{
+    if b.index() <= a.index() || are_joined(place, a, b) {
+        return Ok(false);
+    }
+    if !is_at_hand(alloc, place, a)? {
+        return Ok(false);
+    }
+    is_at_hand(alloc, place, b)
+}
+
+fn is_open(alloc: Global, place: &Place<'_>, test: &Test) -> Result<bool, AllocError>
+    ensures { IfOk result (λ x. x ≡ Tests.is_open (set_at place.now) (around_at place.now) (test_view test.now)) }
+{
+    match test {
+        Test::Match { source } | Test::Loop { source } => is_open_site(alloc, place, *source),
+        Test::Equal { a, b } => is_open_pair(alloc, place, *a, *b),
+    }
+}
+
+fn is_one_of(tests: &[Test], test: &Test) -> bool
+    ensures { result ≡ true → Contains tests.now test.now }
+{
+    tests.contains(test)
+}
+
+#[tactic(auto, using(crate::proofs::OpenTestLists::in_first))]
+fn is_listed(tests: &[Test], earlier: usize, test: &Test) -> bool
+    ensures { result ≡ true → Contains tests.now test.now }
+{
+    if earlier < tests.len() {
+        return is_one_of(&tests[..earlier], test);
+    }
+    is_one_of(tests, test)
+}
+
+// Adds a test, where it is open and isn't among the earlier ones.
+fn add_open(
+    alloc: Global,
+    place: &Place<'_>,
+    earlier: usize,
+    test: Test,
+    tests: &mut Vec<Test>,
+) -> Result<(), AllocError>
+    ensures { OnOk result (AddsAt place.now (IsTest test) tests.old.items tests.new.items) }
+{
+    if is_listed(tests, earlier, &test) {
+        return Ok(());
+    }
+    if is_open(alloc, place, &test)? {
+        tests.push(test)?;
+    }
+    Ok(())
+}
+
+// Adds the matches of the sites of which a rule asks something.
+fn add_matches(
+    alloc: Global,
+    place: &Place<'_>,
+    rule: &Rule,
+    earlier: usize,
+    tests: &mut Vec<Test>,
+) -> Result<(), AllocError>
+    ensures { OnOk result (AddsAt place.now (IsMatchOf (set_rule_view rule.now)) tests.old.items tests.new.items) }
+{
+    for asked in rule.constraints() {
+        let test = Test::Match { source: asked.0 };
+        add_open(alloc, place, earlier, test, tests)?;
+    }
+    Ok(())
+}
+
+fn add_pairs_with(
+    alloc: Global,
+    place: &Place<'_>,
+    a: BindingId,
+    others: &[BindingId],
+    earlier: usize,
+    tests: &mut Vec<Test>,
+) -> Result<(), AllocError>
+    ensures { OnOk result (AddsAt place.now (IsPairWith others.now a) tests.old.items tests.new.items) }
+{
+    for b in others {
+        let test = Test::Equal { a, b: *b };
+        add_open(alloc, place, earlier, test, tests)?;
+    }
+    Ok(())
+}
+
+// Adds the equalities of two sites of a class.
+fn add_pairs(
+    alloc: Global,
+    place: &Place<'_>,
+    class: &[BindingId],
+    earlier: usize,
+    tests: &mut Vec<Test>,
+) -> Result<(), AllocError>
+    ensures { OnOk result (AddsAt place.now (IsPairOf class.now) tests.old.items tests.new.items) }
+{
+    for a in class {
+        add_pairs_with(alloc, place, *a, class, earlier, tests)?;
+    }
+    Ok(())
+}
+
+fn add_equalities(
+    alloc: Global,
+    place: &Place<'_>,
+    rule: &Rule,
+    earlier: usize,
+    tests: &mut Vec<Test>,
+) -> Result<(), AllocError>
+    ensures { OnOk result (AddsAt place.now (IsEqualOf (set_rule_view rule.now)) tests.old.items tests.new.items) }
+{
+    for class in rule.classes() {
+        add_pairs(alloc, place, class, earlier, tests)?;
+    }
+    Ok(())
+}
+
+// Adds the matches and equalities that the rule of a number needs. No test is one rule's twice, so each is looked for among
+// those of earlier rules alone.
+fn add_wanted(
+    alloc: Global,
+    place: &Place<'_>,
+    number: usize,
+    tests: &mut Vec<Test>,
+) -> Result<(), AllocError>
+    ensures { OnOk result (AddsAt place.now (IsWanted (set_at place.now).rules number) tests.old.items tests.new.items) }
+{
+    let Some(rule) = place.indexed.set.rules.get(number) else {
+        return Ok(());
+    };
+    let earlier = tests.len();
+    add_matches(alloc, place, rule, earlier, tests)?;
+    add_equalities(alloc, place, rule, earlier, tests)?;
+    Ok(())
+}
+
+// Whether a rule goes over the answers of some call: else it needs no loop.
+fn goes_over_some(set: &RuleSet, number: usize) -> bool
+    ensures { result ≡ false → (s : ℕ) → Tests.needs_at (set_view set.now).rules (Tests.loop_test s) number ≡ false }
+{
+    match set.rules.get(number) {
+        Some(rule) => rule.iterators.len() > 0,
+        None => false,
+    }
+}
+
+// Whether one of these rules goes over the answers of some call: else none of them needs a loop.
+fn some_goes_over(set: &RuleSet, numbers: &[usize]) -> bool
+    ensures { result ≡ false → (s : ℕ) → list_any (Tests.needs_at (set_view set.now).rules (Tests.loop_test s)) numbers.now ≡ false }
+{
+    for number in numbers {
+        if goes_over_some(set, *number) {
+            return true;
+        }
+    }
+    false
+}
+
+fn some_needs(set: &RuleSet, numbers: &[usize], test: &Test) -> bool
+    ensures { result ≡ list_any (Tests.needs_at (set_view set.now).rules (test_view test.now)) numbers.now }
+{
+    numbers.iter().any(|number| needs_at(set, test, *number))
+}
+
+// Adds the loop over a call's answers, where a site stands for these and one of some rules needs it.
+fn add_loop(
+    alloc: Global,
+    place: &Place<'_>,
+    highest: &[usize],
+    binding: &Binding,
+    tests: &mut Vec<Test>,
+) -> Result<(), AllocError>
+    ensures { OnOk result (AddsAt place.now (IsLoopBy (set_at place.now).rules highest.now (site_view binding.now)) tests.old.items tests.new.items) }
+{
+    let Binding::Iterator { source } = binding else {
+        return Ok(());
+    };
+    let test = Test::Loop { source: *source };
+    if some_needs(place.indexed.set, highest, &test) {
+        let earlier = tests.len();
+        add_open(alloc, place, earlier, test, tests)?;
+    }
+    Ok(())
+}
+
+fn add_loops(
+    alloc: Global,
+    place: &Place<'_>,
+    highest: &[usize],
+    tests: &mut Vec<Test>,
+) -> Result<(), AllocError>
+    ensures { OnOk result (AddsAt place.now (IsLoopOf (set_at place.now).rules highest.now) tests.old.items tests.new.items) }
+{
+    if !some_goes_over(place.indexed.set, highest) {
+        return Ok(());
+    }
+    for binding in &place.indexed.set.bindings {
+        add_loop(alloc, place, highest, binding, tests)?;
+    }
+    Ok(())
+}
+
+// Adds the matches and equalities that some rules need.
+fn add_all_wanted(
+    alloc: Global,
+    place: &Place<'_>,
+    highest: &[usize],
+    tests: &mut Vec<Test>,
+) -> Result<(), AllocError>
+    ensures { OnOk result (AddsAt place.now (OfSome (IsWanted (set_at place.now).rules) highest.now) tests.old.items tests.new.items) }
+{
+    for number in highest {
+        add_wanted(alloc, place, *number, tests)?;
+    }
+    Ok(())
+}
+
+/// The open tests of a place that some of its highest rules needs: an open test that none of these needs covers no rule.
+pub fn useful_tests(
+    alloc: Global,
+    place: &Place<'_>,
+    here: &[usize],
+) -> Result<Vec<Test>, AllocError>
+    requires { IsTrue (descend (set_at place.now).rules here.now) }
+    ensures { IfOk result (λ v. AreUseful (set_at place.now) (around_at place.now) here.now v.items) }
+{
+    let highest = &here[..reach_count(place.indexed.set, here, here.first().copied())];
+    let mut tests = Vec::new(alloc);
+    add_all_wanted(alloc, place, highest, &mut tests)?;
+    add_loops(alloc, place, highest, &mut tests)?;
+    Ok(tests)
+}
