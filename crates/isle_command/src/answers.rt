@@ -9,6 +9,7 @@ ghost use Rattle.isle_command.specs.Statuses.{IsStatusOfReading};
 
 use crate::comparison::difference;
 use crate::graphs::graph_of;
+use crate::json::documents::{document_of_reports, document_of_terms, document_of_warnings};
 use crate::progress::Teller;
 use crate::reading::{Reading, reading_of};
 use crate::words::{Format, Request, Task};
@@ -20,7 +21,6 @@ use isle_explaining::diagnosis::reports_of;
 use isle_explaining::explanation::{explanation, with_rules};
 use isle_explaining::lints::warnings;
 use isle_explaining::stats::stats;
-use isle_json::documents::{document_of_reports, document_of_terms, document_of_warnings};
 use isle_printing::print::{Names, print_bindings, print_block};
 use isle_rendering::layout::push_reports;
 use isle_rendering::report::Report;

@@ -5,6 +5,7 @@ pub mod answers;
 mod comparison;
 mod graphs;
 mod inputs;
+mod json;
 pub mod progress;
 pub mod reading;
 pub mod run;
