@@ -4,6 +4,7 @@
 pub mod answers;
 mod comparison;
 mod graphs;
+mod help;
 mod inputs;
 mod json;
 pub mod progress;
