@@ -6,6 +6,7 @@ pub(crate) const HELP: &str = "usage: isle TASK [OPTIONS] FILE..
 Reads ISLE text (docs/NOTATION.md) from files. The file - is standard input. All files together are one list of
 definitions. Tasks:
   lower FILE..           prints the tree of each term. Each return names its rule.
+  rust FILE..            prints the Rust code of the terms (docs/RUST-CODE.md)
   check FILE..           prints errors and warnings, and nothing else
   explain RULE FILE..    says what a rule demands and when it is taken. RULE is a name, a line, or FILE:LINE.
   stats FILE..           counts the rules, sites, tests, arms and returns of each term, and how deep its tests nest
@@ -17,7 +18,7 @@ definitions. Tasks:
   samples [NAME]         lists the built-in samples, or prints the tree of one
 Options:
   --terms NAME,..        lower, compare: only these terms
-  --no-expand            does not expand internal extractors.
+  --no-expand            does not expand internal extractors. The task rust always expands them.
   --deny                 check: warnings are errors
   --format text          shows each error with its source lines. This is the default.
   --format line          shows each error on one line

@@ -2,6 +2,7 @@
 #![tactic(auto)]
 
 pub mod answers;
+pub mod code;
 mod comparison;
 mod graphs;
 mod help;

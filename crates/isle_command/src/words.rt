@@ -9,6 +9,8 @@ use std::alloc::{AllocError, AllocFailed, Global};
 pub enum Task {
     /// The trees of the files' terms.
     Lower,
+    /// The Rust code of the files' terms.
+    Rust,
     /// Nothing but what is wrong.
     Check,
     /// What a rule demands and when it is taken.
@@ -24,8 +26,9 @@ pub enum Task {
 }
 
 // All tasks.
-const TASKS: [Task; 7] = [
+const TASKS: [Task; 8] = [
     Task::Lower,
+    Task::Rust,
     Task::Check,
     Task::Explain,
     Task::Stats,
@@ -39,6 +42,7 @@ impl Task {
     fn word(self) -> &'static str {
         match self {
             Task::Lower => "lower",
+            Task::Rust => "rust",
             Task::Check => "check",
             Task::Explain => "explain",
             Task::Stats => "stats",
@@ -404,10 +408,7 @@ impl<'a> Request<'a> {
     // Reads an option or a file.
     fn read_any(&mut self, alloc: Global, word: &'a str) -> Result<Awaited, Unasked> {
         match word {
-            "--no-expand" => {
-                self.expand = false;
-                Ok(Awaited::Any)
-            }
+            "--no-expand" => self.read_no_expand(alloc),
             "--deny" => self.read_deny(alloc),
             "--progress" => {
                 self.progress = true;
@@ -420,6 +421,15 @@ impl<'a> Request<'a> {
             "-C" => Ok(Awaited::Folder),
             _ => self.read_file(alloc, word),
         }
+    }
+
+    // Rust code has no form for internal extractors.
+    fn read_no_expand(&mut self, alloc: Global) -> Result<Awaited, Unasked> {
+        if self.task == Task::Rust {
+            return Err(wrong_as(alloc, "rust always expands internal extractors"));
+        }
+        self.expand = false;
+        Ok(Awaited::Any)
     }
 
     // Only `check` has warnings.
