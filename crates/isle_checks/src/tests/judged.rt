@@ -4,8 +4,8 @@ use cranelift_isle::lower::{Lowered, LoweredTerm, lower};
 use isle_answers::samples::sample_text;
 use isle_base::syntax;
 use isle_base::syntax::Pos;
-use isle_judge::generated::{FORMS, list};
 use isle_judge::judge::{Fault, judge};
+use isle_lists::one_term::list;
 use isle_serialize::serialize::{Block, ControlFlow, EvalStep, MatchArm};
 use isle_sets::trie_again::{BindingId, Constraint};
 use isle_text::read;
@@ -37,7 +37,7 @@ fn accepted(rt: &impl Abort, alloc: Global, text: &str) -> Result<Lowered, Fail>
 
 // Judges the trees of a list, and says how many there are: those of refused definitions, or of many sites, aren't.
 fn judged(rt: &impl Abort, alloc: Global, number: u64) -> Result<usize, Fail> {
-    let text = list(alloc, number, FORMS)?;
+    let text = list(alloc, number)?;
     let mut count = 0usize;
     if let Some(mut lowered) = lowered(alloc, &text)? {
         for term in &mut lowered.terms {
@@ -131,7 +131,7 @@ const OTHER_IF_LET: &str = "(decl partial k (u8) u8) (rule (k x) (if-let (me y) 
 
 // Whether a list is accepted with more definitions behind it.
 fn accepts(alloc: Global, number: u64, more: &str) -> Result<bool, Fail> {
-    let mut text = list(alloc, number, FORMS)?;
+    let mut text = list(alloc, number)?;
     text.push_str(more)?;
     Ok(lowered(alloc, &text)?.is_some())
 }
