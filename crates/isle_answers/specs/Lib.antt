@@ -1,3 +1,2 @@
 pub mod Samples
 pub mod Statuses
-pub mod Words

@@ -12,7 +12,7 @@ use isle_printing::errors::error_lines;
 use isle_printing::places::Places;
 use std::alloc::{AllocError, Global};
 use std::io;
-use std::io::Write;
+use std::io::{ErrorKind, Write};
 
 /// What is to be written: the text of trees, or lines of errors.
 #[derive(Drop)]
@@ -75,6 +75,18 @@ pub fn no_memory<E: Write>(err: &mut E) -> u8
     ensures { result ≡ 3 }
 {
     end(err, "out of memory\n", 3)
+}
+
+/// Says why a text can't be read, and answers the status for it: 3 for memory, 1 for a text that is not UTF-8, else 4.
+pub fn cannot_read<E: Write>(why: ErrorKind, err: &mut E) -> u8
+    ensures known { result ≤ 4 }
+    ensures used { result ≢ 2 }
+{
+    match why {
+        ErrorKind::OutOfMemory => no_memory(err),
+        ErrorKind::InvalidData => end(err, "syntax error: the text is not UTF-8\n", 1),
+        _ => end(err, "cannot read\n", 4),
+    }
 }
 
 /// Says why the program ends, where that can be said, and answers its status.

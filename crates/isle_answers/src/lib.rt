@@ -4,7 +4,6 @@
 pub mod answers;
 pub mod rows;
 mod rules;
-pub mod run;
 pub mod sample_run;
 pub mod samples;
 pub mod texts;

@@ -1,7 +1,6 @@
 //! Rows: lists of definitions as text, each with a name, and what is answered to each.
 
-use crate::answers::{Answer, no_memory, write_text};
-use crate::run::cannot_read;
+use crate::answers::{Answer, cannot_read, no_memory, write_text};
 use crate::texts::{Asked, Wanted, answer_to_text};
 use std::alloc::{AllocError, Global};
 use std::io;

@@ -3,6 +3,37 @@
 ghost use Rattle.std.specs.Prelude.{◌≡◌, is_some};
 ghost use Rattle.isle_answers.specs.Samples.{has_errors, has_trees, is_sample};
 
+/// The names of the samples, one a line.
+pub const NAMES: &str = "empty
+fall
+types
+builtin
+const-eq
+variant-eq
+cycle
+cycle2
+cycle3
+conflict
+overlap
+shadow
+prio
+equal
+below
+wrap
+extract
+surplus
+endless
+iflet
+partial
+effects
+unused
+used
+multi
+multi-ext
+shared
+ties
+";
+
 /// The text of the sample with this name, or None where there is no such sample.
 pub fn sample_text(name: &str) -> Option<&'static str>
     ensures { is_some result ≡ is_sample name.now }

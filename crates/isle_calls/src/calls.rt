@@ -1,18 +1,26 @@
 //! Calls of terms with rules.
 
 ghost use Rattle.std.specs.Prelude.{◌≡◌, IfOk};
+ghost use Rattle.std.specs.Bool.{◌==◌};
+ghost use Rattle.std.specs.List.{filter};
+ghost use Rattle.isle_model.specs.rules.Choice.{choice};
+ghost use Rattle.isle_model.specs.rules.Meaning.{total};
 ghost use Rattle.isle_model.specs.trees.Run.{run};
 ghost use Rattle.isle_serialize.specs.TreeViews.{tree_view};
 ghost use Rattle.isle_terms.specs.TermViews.{term_views};
 ghost use Rattle.isle_types.specs.Envs.{constant_at};
-ghost use Rattle.isle_run.specs.RunViews.{outcome_view, stage_of};
+ghost use Rattle.isle_typed.specs.RuleViews.{rule_views};
+ghost use Rattle.isle_run.specs.RunViews.{arg_views, outcome_view, stage_of};
+ghost use Rattle.isle_choose.specs.SourceViews.{of_terms};
 ghost use Rattle.isle_calls.specs.Echoes.{echoes};
 
 use crate::echo::Echo;
 use crate::outcomes::outcome_text;
 use crate::values::{Unanswered, term_of, values_of, wrong};
 use cranelift_isle::lower::{Lowered, LoweredTerm};
+use cranelift_isle::sema::TermId;
 use cranelift_isle::syntax::{Def, Expr, Ident};
+use isle_choose::choose::choose;
 use isle_reading::premises::is_multi;
 use isle_reading::rules::lowered_term;
 use isle_run::run::run;
@@ -55,7 +63,8 @@ pub fn read_call<'a>(
     }
 }
 
-/// The outcome of a call, as `(f 1 (T.A 2))`, in words: the tree of its term is run by echoes.
+/// The outcome of a call, as `(f 1 (T.A 2))`, in words: the tree of its term is run by echoes. If the term isn't multi and the
+/// source rules give another outcome, that follows.
 ///
 /// # Errors
 ///
@@ -64,7 +73,26 @@ pub fn answer_to_call(alloc: Global, lowered: &Lowered, call: &str) -> Result<St
     let called = read_call(alloc, lowered, call)?;
     let multi = is_multi(&lowered.termenv, called.entry.id);
     let outcome = outcome_of(alloc, lowered, called.entry, multi, &called.args)?;
-    Ok(outcome_text(alloc, lowered, multi, &outcome)?)
+    let mut told = outcome_text(alloc, lowered, multi, &outcome)?;
+    if !multi {
+        push_choice(alloc, &mut told, lowered, &called)?;
+    }
+    Ok(told)
+}
+
+// Adds the outcome by the source rules of a term that isn't multi, if it differs from the text so far.
+fn push_choice(
+    alloc: Global,
+    told: &mut String,
+    lowered: &Lowered,
+    called: &ReadCall<'_>,
+) -> Result<(), AllocError> {
+    let outcome = choice_of(alloc, lowered, called.entry.id, &called.args)?;
+    let chosen = outcome_text(alloc, lowered, false, &outcome)?;
+    if chosen.as_str() == told.as_str() {
+        return Ok(());
+    }
+    write!(told, "; by the source rules {chosen}")
 }
 
 // That a call can't be read.
@@ -124,4 +152,27 @@ pub fn outcome_of(
         terms: &lowered.termenv.terms,
     };
     run(alloc, &echo, &entry.rules, &entry.block, args, multi)
+}
+
+/// The outcome of a term on values by its source rules, by echoes. Of a multi term it is that of the first rule that matches.
+///
+/// # Errors
+///
+/// Where memory is refused.
+pub fn choice_of(
+    alloc: Global,
+    lowered: &Lowered,
+    term: TermId,
+    args: &[Value],
+) -> Result<Outcome, AllocError>
+    ensures { IfOk result (λ o. outcome_view o ≡ choice (of_terms lowered.now.termenv.terms.items)
+        (total (echoes (constant_at lowered.now.tyenv) (term_views lowered.now.termenv.terms.items)))
+        (filter (λ r. r.root_term == term.0) (rule_views lowered.now.termenv.rules.items)) (arg_views args.now)) }
+{
+    let env = &lowered.termenv;
+    let echo = Echo {
+        tyenv: &lowered.tyenv,
+        terms: &env.terms,
+    };
+    choose(alloc, &echo, &env.terms, &env.rules, term, args)
 }

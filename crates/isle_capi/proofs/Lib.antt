@@ -1,3 +1,2 @@
-mod Coded
 mod Telling
 mod Texts

@@ -5,14 +5,16 @@ use Rattle.std.specs.declared.alloc.AllocError.{AllocError}
 use Rattle.isle_command.specs.declared.answers.Answer.{Answer}
 use Rattle.isle_command.specs.declared.reading.Reading.{Reading}
 use Rattle.isle_command.specs.declared.words.Request.{Request}
-use Rattle.isle_command.specs.Statuses.{may_fail, IsAcceptedReading, IsStatusOfReading}
+use Rattle.isle_command.specs.Codes.{IsNamesLine}
+use Rattle.isle_command.specs.Readings.{IsAcceptedReading}
+use Rattle.isle_command.specs.Statuses.{may_fail, IsStatusOfReading}
 use Rattle.isle_command.specs.TaskAnswers.{IsAnswerToReading}
 use Rattle.isle_capi.specs.declared.options.Asked.{Asked}
 use Rattle.isle_capi.specs.declared.options.Task.{Task}
 use Rattle.isle_capi.specs.declared.options.Task.TheVariants as A
 use Rattle.isle_capi.specs.declared.output.Sizes.{Sizes}
 use Rattle.isle_capi.specs.declared.statuses.TheConstants.{DONE, ERRORS, NO_CODE}
-use Rattle.isle_capi.specs.Told.{command_task, status_of, text_of, HandsOver, IsCommandAnswer, IsNamesLine, IsRequestOf, IsSaidTo, IsTextOf, IsToldOf, Says}
+use Rattle.isle_capi.specs.Told.{command_task, status_of, text_of, HandsOver, IsCommandAnswer, IsRequestOf, IsSaidTo, IsTextOf, IsToldOf, Says}
 
 -- an answer of the command to a request for a call
 pub command_answer : (asked : Asked) (reading : Reading) (request : Request) (answer : Result Answer AllocError)

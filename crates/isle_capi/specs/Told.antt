@@ -7,11 +7,10 @@ use Rattle.isle_command.specs.declared.words.Format.TheVariants as C
 use Rattle.isle_command.specs.declared.words.Request.{Request}
 use Rattle.isle_command.specs.declared.words.Task as CommandTask
 use Rattle.isle_command.specs.declared.words.Task.TheVariants as T
-use Rattle.isle_command.specs.Readings.{IsReadingOf}
-use Rattle.isle_command.specs.Statuses.{IsAcceptedReading, IsStatusOfReading}
+use Rattle.isle_command.specs.Codes.{IsNamesLine}
+use Rattle.isle_command.specs.Readings.{IsAcceptedReading, IsReadingOf}
+use Rattle.isle_command.specs.Statuses.{IsStatusOfReading}
 use Rattle.isle_command.specs.TaskAnswers.{IsAnswerToReading}
-use Rattle.isle_capi.specs.declared.code.Coded.{Coded}
-use Rattle.isle_capi.specs.declared.code.Coded.TheVariants.{Code, Names, Wrong}
 use Rattle.isle_capi.specs.declared.options.Asked.{Asked}
 use Rattle.isle_capi.specs.declared.options.Format.{Format}
 use Rattle.isle_capi.specs.declared.options.Format.TheVariants as F
@@ -67,20 +66,6 @@ text_of answer = first_text (string_bytes answer.out) (string_bytes answer.err)
 abbrev pub IsSaid : Asked → Reading → (status : ℕ) → (text : List ℕ) → Type 0
 IsSaid asked reading status text =
     (answer : Answer) × IsCommandAnswer asked reading answer × (status ≡ status_of answer) × (text ≡ text_of answer)
-
--- the line that says which names would be one in Rust
-abbrev pub IsNamesLine : List ℕ → Type 0
-IsNamesLine text = (why : List ℕ) × (text ≡ (codes "error[names]: " ++ why) ++ 10 ∷ [])
-
--- what comes of wanting Rust code: where all is accepted the code, or why there is none
-abbrev pub IsCodedBy : (accepted : Type 0) → Coded → Type 0
-IsCodedBy accepted (Code code) = accepted × (string_bytes code ≢ [])
-IsCodedBy accepted (Names why) = accepted × IsNamesLine (string_bytes why)
-IsCodedBy accepted Wrong = accepted → ⊥
-
--- of what was read
-abbrev pub IsCodeOf : Asked → Reading → Coded → Type 0
-IsCodeOf asked reading coded = IsCodedBy (IsAcceptedReading asked.expand reading) coded
 
 -- what a status that comes with a text says of what was read: DONE that all texts were read and their definitions are accepted,
 -- ERRORS that not all were read, or that they aren't, NO_CODE that they are and that their code was wanted

@@ -6,12 +6,12 @@ ghost use Rattle.isle_capi.specs.Calls.{HasText, IsAnswered, LeavesBehind};
 ghost use Rattle.isle_capi.specs.declared.options.Task.TheVariants.{Code};
 ghost use Rattle.isle_capi.specs.Told.{command_format, command_task, status_of, text_of, IsCommandAnswer, IsRequestOf, IsSaidTo, IsToldOf, IsToldOfTexts};
 
-use crate::code::{Coded, code_of};
 use crate::options::{Asked, Format, Task};
 use crate::output::{Sizes, hand_over};
 use crate::statuses::{DONE, ERRORS, NO_CODE, NO_MEMORY};
 use isle_base::syntax::Files;
 use isle_command::answers::{Answer, answer_to_reading};
+use isle_command::code::{Code, code_of};
 use isle_command::progress::Teller;
 use isle_command::reading::{Reading, reading_of};
 use isle_command::words;
@@ -69,10 +69,10 @@ fn coded(
     ensures left { LeavesBehind out.old out.new sizes.new result }
     ensures told { asked.task ≡ Code → IsToldOf asked reading.now out.old out.new sizes.new result }
 {
-    match code_of(alloc, asked, files, reading) {
-        Ok(Coded::Code(code)) => hand_over(DONE, &code, out, sizes),
-        Ok(Coded::Names(why)) => hand_over(NO_CODE, &why, out, sizes),
-        Ok(Coded::Wrong) => said(alloc, asked, files, reading, out, sizes),
+    match code_of(alloc, asked.expand, files, reading) {
+        Ok(Some(Code::Text(code))) => hand_over(DONE, &code, out, sizes),
+        Ok(Some(Code::Names(why))) => hand_over(NO_CODE, &why, out, sizes),
+        Ok(None) => said(alloc, asked, files, reading, out, sizes),
         Err(AllocError) => refused(sizes),
     }
 }

@@ -8,7 +8,6 @@ ghost use Rattle.isle_capi.specs.Known.{AreOptions};
 ghost use Rattle.isle_capi.specs.Told.{IsToldByCall};
 
 mod answers;
-mod code;
 pub mod inputs;
 pub mod options;
 pub mod output;

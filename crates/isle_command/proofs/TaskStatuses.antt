@@ -5,19 +5,28 @@ use Rattle.isle_model.specs.lists.Syntax.{Definition}
 use Rattle.cranelift_isle.specs.declared.lower.Lowered.{Lowered}
 use Rattle.cranelift_isle.specs.Lowerings.{IsLowered}
 use Rattle.isle_command.specs.declared.answers.Answer.{Answer}
+use Rattle.isle_command.specs.declared.code.Code.{Code}
+use Rattle.isle_command.specs.declared.code.Code.TheVariants.{Names, Text}
 use Rattle.isle_command.specs.declared.reading.Reading.{Reading}
 use Rattle.isle_command.specs.declared.reading.Reading.TheVariants.{Defs, Unread}
 use Rattle.isle_command.specs.declared.words.Request.{Request}
 use Rattle.isle_command.specs.declared.words.Task.{Task}
 use Rattle.isle_command.specs.declared.words.Task.TheVariants as T
+use Rattle.isle_command.specs.Codes.{IsAnswerOfCode}
 use Rattle.isle_command.specs.TaskAnswers.{lowered_terms, IsAnswerBy, IsAnswerToDefinitions, IsAnswerToReading, IsAnswerToTexts}
 use Rattle.isle_command.specs.Statuses.{may_fail, IsStatusFor, IsStatusOfReading, IsWritten}
+
+-- code is answered with the status 0, and that there is none with the status 1
+status_of_code : (code : Code) (answer : Answer) → IsAnswerOfCode code answer → (answer.status ≡ 0) ⊎ ((answer.status ≡ 1) × (true ≡ true))
+status_of_code (Text text) answer done = inl done.0
+status_of_code (Names why) answer failed = inr (failed.0, refl)
 
 -- what a task answers has the status 1 only where it may fail
 pub status_of_task : (task : Task) (asked : Request) (terms : List ℕ) (answer : Answer)
     → IsAnswerBy task asked terms answer → (answer.status ≡ 0) ⊎ ((answer.status ≡ 1) × (may_fail task asked ≡ true))
 status_of_task T.Lower asked terms answer (inl done) = inl done.0.0
 status_of_task T.Lower asked terms answer (inr failed) = inr (failed.1.0, failed.0)
+status_of_task T.Rust asked terms answer told = status_of_code told.0 answer told.2
 status_of_task T.Check asked terms answer told = elim told.1 [ inl none ↦ inl none | inr denied ↦ inr (denied.1, denied.0) ]
 status_of_task T.Explain asked terms answer (inl done) = inl done.0.0
 status_of_task T.Explain asked terms answer (inr failed) = inr (failed.0, refl)

@@ -1,3 +1,4 @@
 pub mod Readings
+pub mod Codes
 pub mod TaskAnswers
 pub mod Statuses

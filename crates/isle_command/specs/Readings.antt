@@ -1,8 +1,9 @@
 -- What the texts of files are read as. It says no more than the reader does: that what it gives lies in the texts, and not that
 -- it is what they spell.
-use Rattle.std.specs.Prelude.{ℕ, ◌≡◌, ◌≢◌, List, [], All, length, slice_get, Some}
+use Rattle.std.specs.Prelude.{Bool, ℕ, ◌≡◌, ◌≢◌, List, [], All, length, slice_get, Some}
 use Rattle.isle_base.specs.SyntaxViews.{definition_views}
 use Rattle.isle_model.specs.lists.Syntax.{Definition}
+use Rattle.cranelift_isle.specs.Lowerings.{AreAccepted}
 use Rattle.isle_text.specs.declared.errors.ReadFault.TheVariants.{Text}
 use Rattle.isle_text.specs.declared.errors.TextError.{TextError}
 use Rattle.isle_text.specs.Faults.{FaultIsWithin}
@@ -26,3 +27,8 @@ LiesInSome texts def = (number : ℕ) × (text : List ℕ) × (slice_get texts n
 abbrev pub IsReadingOf : List (List ℕ) → Reading → Type 0
 IsReadingOf texts (Defs defs) = All (LiesInSome texts) (definition_views defs.items)
 IsReadingOf texts (Unread reports) = (reports.items ≢ []) × SomeIsUnread texts
+
+-- all texts were read, and their definitions are accepted
+abbrev pub IsAcceptedReading : Bool → Reading → Type 0
+IsAcceptedReading expand (Defs defs) = AreAccepted (definition_views defs.items) expand
+IsAcceptedReading expand (Unread reports) = ⊥

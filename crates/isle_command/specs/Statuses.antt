@@ -1,31 +1,25 @@
 -- What the command's statuses say.
 use Rattle.std.specs.Prelude.{ℕ, ◌≡◌, ◌≢◌, ◌≤◌, ◌⊎◌, Bool, true, false, List, [], is_some, string_bytes}
-use Rattle.isle_base.specs.SyntaxViews.{definition_views}
-use Rattle.cranelift_isle.specs.Lowerings.{AreAccepted}
 use Rattle.isle_command.specs.declared.answers.Answer.{Answer}
 use Rattle.isle_command.specs.declared.inputs.Unread as U
 use Rattle.isle_command.specs.declared.inputs.Unread.TheVariants as V
 use Rattle.isle_command.specs.declared.reading.Reading.{Reading}
-use Rattle.isle_command.specs.declared.reading.Reading.TheVariants.{Defs, Unread}
 use Rattle.isle_command.specs.declared.words.Request.{Request}
 use Rattle.isle_command.specs.declared.words.Task.{Task}
 use Rattle.isle_command.specs.declared.words.Task.TheVariants as T
+use Rattle.isle_command.specs.Readings.{IsAcceptedReading}
 use Rattle.isle_command.specs.TaskAnswers.{IsAnswerToTexts}
 
 -- whether a task may fail on accepted definitions
 abbrev pub may_fail : Task → Request → Bool
 may_fail T.Lower asked = is_some asked.terms
+may_fail T.Rust asked = true
 may_fail T.Check asked = asked.deny
 may_fail T.Explain asked = true
 may_fail T.Stats asked = false
 may_fail T.Compare asked = true
 may_fail T.Samples asked = false
 may_fail T.Run asked = true
-
--- all texts were read, and their definitions are accepted
-abbrev pub IsAcceptedReading : Bool → Reading → Type 0
-IsAcceptedReading expand (Defs defs) = AreAccepted (definition_views defs.items) expand
-IsAcceptedReading expand (Unread reports) = ⊥
 
 -- an answer's status is 0 only for texts that are accepted, and 1 only for others, unless the task may fail by itself
 pub record IsStatusOfReading (asked : Request) (reading : Reading) (status : ℕ) : Type 0 where

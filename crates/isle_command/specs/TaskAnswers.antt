@@ -8,6 +8,7 @@ use Rattle.isle_model.specs.rules.Program.{terms_with_rules}
 use Rattle.cranelift_isle.specs.declared.lower.Lowered.{Lowered}
 use Rattle.cranelift_isle.specs.Lowerings.{lowered_views, AreAccepted}
 use Rattle.isle_command.specs.declared.answers.Answer.{Answer}
+use Rattle.isle_command.specs.declared.code.Code.{Code}
 use Rattle.isle_command.specs.declared.reading.Reading.{Reading}
 use Rattle.isle_command.specs.declared.reading.Reading.TheVariants.{Defs, Unread}
 use Rattle.isle_command.specs.declared.words.Format.{Format}
@@ -15,6 +16,7 @@ use Rattle.isle_command.specs.declared.words.Format.TheVariants as F
 use Rattle.isle_command.specs.declared.words.Request.{Request}
 use Rattle.isle_command.specs.declared.words.Task.{Task}
 use Rattle.isle_command.specs.declared.words.Task.TheVariants as T
+use Rattle.isle_command.specs.Codes.{IsAnswerOfCode, IsCode}
 use Rattle.isle_command.specs.Readings.{IsReadingOf}
 
 -- nothing stands on standard error
@@ -75,6 +77,7 @@ AsksByName asked = is_some asked.terms ≡ true
 abbrev pub IsAnswerBy : Task → Request → (terms : List ℕ) → Answer → Type 0
 IsAnswerBy T.Lower asked terms answer =
     (IsDone answer × (AsksForAll asked → AreTrees asked.format (length terms) (string_bytes answer.out))) ⊎ (AsksByName asked × IsFailed answer)
+IsAnswerBy T.Rust asked terms answer = (code : Code) × IsCode code × IsAnswerOfCode code answer
 IsAnswerBy T.Check asked terms answer = AreReports asked.format answer × ((answer.status ≡ 0) ⊎ ((asked.deny ≡ true) × (answer.status ≡ 1)))
 IsAnswerBy T.Explain asked terms answer = IsDoneWithText answer ⊎ IsFailed answer
 IsAnswerBy T.Stats asked terms answer = IsDone answer

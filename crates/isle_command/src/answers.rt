@@ -2,13 +2,17 @@
 
 ghost use Rattle.std.specs.Prelude.{◌≡◌, ◌≢◌, ◌⊎◌, ◌≤◌, ◌<◌, true, [], length, is_none, map, string_bytes, string_len, IfOk};
 ghost use Rattle.isle_base.specs.SyntaxViews.{definition_views};
+ghost use Rattle.isle_command.specs.declared.code.Code.{Code};
 ghost use Rattle.isle_command.specs.declared.words.Task.TheVariants.{Lower};
+ghost use Rattle.isle_command.specs.Codes.{IsAnswerOfCode, IsCode};
 ghost use Rattle.isle_command.specs.TaskAnswers.{lowered_terms, AsksForAll, IsAnswerBy, IsAnswerToDefinitions, IsAnswerToReading, IsAnswerToTexts};
 ghost use Rattle.isle_command.specs.TaskAnswers.{AreReports, AreTrees, IsDoneWithText, IsDoneWithoutText, IsFailed, IsRefusal};
 ghost use Rattle.isle_command.specs.Statuses.{IsStatusOfReading};
 
+use crate::code::{Code, code_of_lowered};
 use crate::comparison::difference;
 use crate::graphs::graph_of;
+use crate::json::documents::{document_of_reports, document_of_terms, document_of_warnings};
 use crate::progress::Teller;
 use crate::reading::{Reading, reading_of};
 use crate::words::{Format, Request, Task};
@@ -20,7 +24,6 @@ use isle_explaining::diagnosis::reports_of;
 use isle_explaining::explanation::{explanation, with_rules};
 use isle_explaining::lints::warnings;
 use isle_explaining::stats::stats;
-use isle_json::documents::{document_of_reports, document_of_terms, document_of_warnings};
 use isle_printing::print::{Names, print_bindings, print_block};
 use isle_rendering::layout::push_reports;
 use isle_rendering::report::Report;
@@ -155,6 +158,10 @@ fn answer_to_lowered<E: Write>(
 {
     match asked.task {
         Task::Lower => trees(alloc, asked, files, lowered, teller),
+        Task::Rust => {
+            teller.tell("printing", "all terms");
+            coded(alloc, files, lowered)
+        }
         Task::Check => {
             teller.tell("checking", "all rules");
             warned(alloc, asked, files, &warnings(alloc, defs, lowered)?)
@@ -164,6 +171,28 @@ fn answer_to_lowered<E: Write>(
         Task::Compare => compared(alloc, asked, files, lowered, teller),
         Task::Run => ran(alloc, asked, lowered),
         Task::Explain => explained(alloc, asked, files, lowered),
+    }
+}
+
+// The Rust code of lowered definitions, or why there is none.
+fn coded(alloc: Global, files: &Files, lowered: &Lowered) -> Result<Answer, AllocError>
+    ensures { IfOk result (λ a. (code : Code) × IsCode code × IsAnswerOfCode code a) }
+{
+    let code = code_of_lowered(alloc, files, lowered)?;
+    Ok(answer_of_code(alloc, code))
+}
+
+// Code is answered on standard output, and why there is none on standard error.
+fn answer_of_code(alloc: Global, code: Code) -> Answer
+    ensures { IsAnswerOfCode code result }
+{
+    match code {
+        Code::Text(text) => accepted(alloc, text),
+        Code::Names(why) => Answer {
+            status: 1,
+            out: String::new(alloc),
+            err: why,
+        },
     }
 }
 

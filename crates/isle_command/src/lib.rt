@@ -2,9 +2,12 @@
 #![tactic(auto)]
 
 pub mod answers;
+pub mod code;
 mod comparison;
 mod graphs;
+mod help;
 mod inputs;
+mod json;
 pub mod progress;
 pub mod reading;
 pub mod run;

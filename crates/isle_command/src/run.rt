@@ -6,30 +6,25 @@ ghost use Rattle.isle_command.specs.declared.words.Task.TheVariants.{Samples};
 ghost use Rattle.isle_command.specs.Statuses.{IsStatusFor, IsStatusOfUnread, IsWritten};
 
 use crate::answers::{Answer, answer_to};
+use crate::help::{HELP, VERSION};
 use crate::inputs::{Unread, read_files};
-use crate::words::{Request, Task, asked_by};
+use crate::words::{Asked, Request, Task, Unasked, asked_by};
 use isle_answers::answers::{end, no_memory, write_text};
 use isle_answers::sample_run::run_sample;
+use isle_answers::samples::NAMES;
 use isle_base::syntax::Files;
 use std::alloc::{AllocError, Global};
+use std::env::{Env, FillError};
 use std::io::{Read, Write};
 
-// What the program says of words that ask for nothing.
-const USAGE: &str =
-    "usage: isle lower|check|explain RULE|stats|compare|run|samples [OPTIONS] FILE.. (isle --help says more)\n";
-
-// The names of the samples.
-const SAMPLES: &str =
-    "empty fall types builtin const-eq variant-eq cycle cycle2 cycle3 conflict overlap shadow prio equal below wrap extract surplus endless iflet partial effects unused used multi multi-ext shared ties\n";
-
 /// Runs the command: `words` are its arguments without its own name, `input` is standard input, `terminal` says whether `err`
-/// is a terminal, on which it is told what is being done, and the answer is its status.
+/// is a terminal, and the answer is its status. A terminal shows what is being done, and errors in colours if the environment
+/// has no `NO_COLOR`.
 ///
 /// 0: what is asked is on `out`. 1: what is wrong with the files is on `err`, or on `out` as JSON; or `err` says what there
-/// isn't. 2: the words ask for
-/// nothing, and `err` says how the command is used. 3: memory was refused. 4: a file can't be read, or `out` can't be
+/// isn't. 2: the words ask nothing, and `err` says why. 3: memory was refused. 4: a file can't be read, or `out` can't be
 /// written. A failure of `err` changes no status.
-pub fn run<R: std::rt::Files + AllocGlobal, I: Read + Drop, O: Write, E: Write>(
+pub fn run<R: std::rt::Files + Env + AllocGlobal, I: Read + Drop, O: Write, E: Write>(
     rt: &R,
     words: &[String],
     input: I,
@@ -40,9 +35,32 @@ pub fn run<R: std::rt::Files + AllocGlobal, I: Read + Drop, O: Write, E: Write>(
     // every status has its meaning
     ensures { result ≤ 4 }
 {
-    match asked_by(rt.alloc(), words) {
-        Ok(Some(asked)) => run_request(rt, &asked, input, terminal, out, err),
-        Ok(None) => end(err, USAGE, 2),
+    let colors = terminal && !has_variable(rt, "NO_COLOR");
+    match asked_by(rt.alloc(), words, colors) {
+        Ok(Asked::Help) => write_text(HELP, out, err),
+        Ok(Asked::Version) => write_text(VERSION, out, err),
+        Ok(Asked::Request(asked)) => run_request(rt, &asked, input, terminal, out, err),
+        Err(Unasked::Words(why)) => wrong_words(rt.alloc(), &why, err),
+        Err(Unasked::Memory) => no_memory(err),
+    }
+}
+
+// Whether an environment variable has a text that isn't empty.
+fn has_variable(env: &impl Env, name: &str) -> bool {
+    let mut buf = [0u8; 1];
+    match env.var(name, &mut buf) {
+        Ok(length) => length > 0,
+        Err(FillError::TooLong) => true,
+        Err(FillError::NotPresent) => false,
+    }
+}
+
+// Says what is wrong with the words, and answers the status for it, or 3 where memory is refused.
+fn wrong_words<E: Write>(alloc: Global, why: &str, err: &mut E) -> u8
+    ensures { (result ≡ 2) ⊎ (result ≡ 3) }
+{
+    match format!(in alloc; "isle: {why} (isle --help says how it is used)\n") {
+        Ok(line) => end(err, &line, 2),
         Err(AllocError) => no_memory(err),
     }
 }
@@ -151,7 +169,7 @@ fn run_samples<O: Write, E: Write>(
 {
     match asked.files.first() {
         Some(name) => run_sample_named(alloc, name, out, err),
-        None => write_text(SAMPLES, out, err),
+        None => write_text(NAMES, out, err),
     }
 }
 

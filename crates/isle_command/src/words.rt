@@ -1,13 +1,16 @@
 //! What the command is asked by its words.
 
+use isle_answers::samples::sample_text;
 use isle_rendering::layout::Layout;
-use std::alloc::{AllocError, Global};
+use std::alloc::{AllocError, AllocFailed, Global};
 
 /// What is to be done.
 #[derive(Clone, Copy, PartialEq, Eq)]
 pub enum Task {
     /// The trees of the files' terms.
     Lower,
+    /// The Rust code of the files' terms.
+    Rust,
     /// Nothing but what is wrong.
     Check,
     /// What a rule demands and when it is taken.
@@ -20,6 +23,44 @@ pub enum Task {
     Samples,
     /// The outcome of a call of a term.
     Run,
+}
+
+// All tasks.
+const TASKS: [Task; 8] = [
+    Task::Lower,
+    Task::Rust,
+    Task::Check,
+    Task::Explain,
+    Task::Stats,
+    Task::Compare,
+    Task::Samples,
+    Task::Run,
+];
+
+impl Task {
+    // The word for a task.
+    fn word(self) -> &'static str {
+        match self {
+            Task::Lower => "lower",
+            Task::Rust => "rust",
+            Task::Check => "check",
+            Task::Explain => "explain",
+            Task::Stats => "stats",
+            Task::Compare => "compare",
+            Task::Samples => "samples",
+            Task::Run => "run",
+        }
+    }
+
+    // The task of a word.
+    fn of(word: &str) -> Option<Task> {
+        for task in TASKS {
+            if task.word() == word {
+                return Some(task);
+            }
+        }
+        None
+    }
 }
 
 /// The form of an answer.
@@ -36,6 +77,17 @@ pub enum Format {
 }
 
 impl Format {
+    // The format of a word.
+    fn of(word: &str) -> Option<Format> {
+        match word {
+            "text" => Some(Format::Text),
+            "line" => Some(Format::Line),
+            "json" => Some(Format::Json),
+            "dot" => Some(Format::Dot),
+            _ => None,
+        }
+    }
+
     // Whether a task has answers of this form.
     fn is_of(self, task: Task) -> bool {
         match self {
@@ -90,6 +142,51 @@ impl<'a> Drop for Request<'a> {
     }
 }
 
+/// What words ask.
+#[derive(Drop)]
+pub enum Asked<'a> {
+    /// How the command is used.
+    Help,
+    /// Which program this is.
+    Version,
+    /// Something to be done.
+    Request(Request<'a>),
+}
+
+/// Why words ask nothing.
+#[derive(Drop)]
+pub enum Unasked {
+    /// Memory was refused.
+    Memory,
+    /// What is wrong with the words, without a line's end.
+    Words(String),
+}
+
+impl From<AllocError> for Unasked {
+    fn from(_: AllocError) -> Unasked {
+        Unasked::Memory
+    }
+}
+
+impl<T: Drop> From<AllocFailed<T>> for Unasked {
+    fn from(_: AllocFailed<T>) -> Unasked {
+        Unasked::Memory
+    }
+}
+
+// That something is wrong with the words.
+fn wrong(why: Result<String, AllocError>) -> Unasked {
+    match why {
+        Ok(why) => Unasked::Words(why),
+        Err(AllocError) => Unasked::Memory,
+    }
+}
+
+// The same, with a fixed text.
+fn wrong_as(alloc: Global, why: &str) -> Unasked {
+    wrong(String::from_str(alloc, why))
+}
+
 // What the next word is.
 #[derive(Clone, Copy, PartialEq, Eq)]
 enum Awaited {
@@ -105,48 +202,118 @@ enum Awaited {
     Call,
 }
 
-/// What these words ask, or None where they ask for nothing. They are the name of a task; for `explain` the rule; then
-/// files, the last of `compare` with trees, or for `samples` at most one sample; for `run` then `--` and the words of a call, the
-/// term and its arguments. Everywhere behind the task, and before `--`, there may be `--no-expand`, `--progress`, `--terms NAMES`,
-/// `--format text`, `--format line`, `--color always`, `--color never` and `-C FOLDER`; `--deny` for `check`, `--format json` for `lower` and `check`, `--format dot` for `lower`.
-pub fn asked_by<'a>(alloc: Global, words: &'a [String]) -> Result<Option<Request<'a>>, AllocError> {
+// What the words are read with.
+#[derive(Clone, Copy)]
+struct Given {
+    alloc: Global,
+    // Whether errors have colours where no word says so.
+    colors: bool,
+}
+
+/// What these words ask. `colors` says whether errors have a terminal's colours where no word says so.
+///
+/// Where a word is `--help`, `-h` or `--version`, that is all they ask. Else the first word is the name of a task. For `explain`
+/// the rule follows. Then there are files; the last one of `compare` has trees, and `samples` has at most one name of a
+/// sample. For `run` then come `--` and the words of a call: the term and its arguments. Options may stand everywhere behind the
+/// task and before `--`: `isle --help` lists them.
+///
+/// # Errors
+///
+/// What is wrong with the words, or that memory was refused.
+pub fn asked_by<'a>(
+    alloc: Global,
+    words: &'a [String],
+    colors: bool,
+) -> Result<Asked<'a>, Unasked> {
+    match asked_of_program(words) {
+        Some(asked) => Ok(asked),
+        None => Ok(Asked::Request(request_by(Given { alloc, colors }, words)?)),
+    }
+}
+
+// What is asked of the program itself. The words behind `--` are a call's.
+fn asked_of_program<'a>(words: &[String]) -> Option<Asked<'a>> {
+    for word in words {
+        match word.as_str() {
+            "--help" | "-h" => return Some(Asked::Help),
+            "--version" => return Some(Asked::Version),
+            "--" => return None,
+            _ => {}
+        }
+    }
+    None
+}
+
+// What these words ask to be done.
+fn request_by<'a>(given: Given, words: &'a [String]) -> Result<Request<'a>, Unasked> {
     let mut asked = Request {
         task: Task::Lower,
         expand: true,
         deny: false,
         format: Format::Text,
-        colored: false,
+        colored: given.colors,
         terms: None,
         folder: "",
         rule: "",
         progress: false,
-        files: Vec::new(alloc),
-        call: Vec::new(alloc),
+        files: Vec::new(given.alloc),
+        call: Vec::new(given.alloc),
     };
     let mut awaited = Awaited::Task;
     for word in words {
-        match asked.read(awaited, word.as_str())? {
-            Some(next) => awaited = next,
-            None => return Ok(None),
-        }
+        awaited = asked.read(given, awaited, word.as_str())?;
     }
-    let ended = awaited == Awaited::Any || awaited == Awaited::Call;
-    if ended && asked.has_files() && asked.has_call() && asked.format.is_of(asked.task) {
-        Ok(Some(asked))
-    } else {
-        Ok(None)
+    match asked.missing(awaited) {
+        Some(why) => Err(wrong_as(given.alloc, why)),
+        None => Ok(asked),
     }
 }
 
 impl<'a> Request<'a> {
-    // Whether there are as many files as the task wants.
-    fn has_files(&self) -> bool {
-        match self.task {
-            Task::Samples => self.files.len() <= 1,
-            Task::Compare => self.files.len() >= 2,
-            Task::Lower | Task::Check | Task::Explain | Task::Stats | Task::Run => {
-                !self.files.is_empty()
-            }
+    // What is missing behind the last word, where something is.
+    fn missing(&self, awaited: Awaited) -> Option<&'static str> {
+        match awaited {
+            Awaited::Task => Some("no task"),
+            Awaited::Rule => Some("no rule to explain"),
+            Awaited::Terms => Some("nothing behind '--terms'"),
+            Awaited::Folder => Some("nothing behind '-C'"),
+            Awaited::Format => Some("nothing behind '--format'"),
+            Awaited::Color => Some("nothing behind '--color'"),
+            Awaited::Any | Awaited::Call => match self.wrong_files() {
+                Some(why) => Some(why),
+                None => self.missing_call(awaited),
+            },
+        }
+    }
+
+    // What is wrong with how many files there are, where something is.
+    fn wrong_files(&self) -> Option<&'static str> {
+        let count = self.files.len();
+        if self.task == Task::Samples {
+            return if count > 1 {
+                Some("more than one sample")
+            } else {
+                None
+            };
+        }
+        if count == 0 {
+            return Some("no file");
+        }
+        if count == 1 && self.task == Task::Compare {
+            return Some("no trees to compare");
+        }
+        None
+    }
+
+    // What is missing where a call is wanted.
+    fn missing_call(&self, awaited: Awaited) -> Option<&'static str> {
+        if self.task != Task::Run || !self.call.is_empty() {
+            return None;
+        }
+        if awaited == Awaited::Call {
+            Some("nothing behind '--'")
+        } else {
+            Some("no call behind the files, as -- f 1 2")
         }
     }
 
@@ -164,118 +331,138 @@ impl<'a> Request<'a> {
         }
     }
 
-    // Whether there is a call exactly where the task wants one.
-    fn has_call(&self) -> bool {
-        self.call.is_empty() != (self.task == Task::Run)
-    }
-
     /// Whether the file of a number has printed trees, and no definitions.
     pub fn has_trees(&self, number: usize) -> bool {
         self.task == Task::Compare && number.saturating_add(1) == self.files.len()
     }
 
-    // Reads a word. What is awaited then, or None where the word says nothing.
-    fn read(&mut self, awaited: Awaited, word: &'a str) -> Result<Option<Awaited>, AllocError> {
+    // Reads a word, and answers what is awaited then.
+    fn read(&mut self, given: Given, awaited: Awaited, word: &'a str) -> Result<Awaited, Unasked> {
         match awaited {
-            Awaited::Task => Ok(self.read_task(word)),
-            Awaited::Format => Ok(self.read_format(word)),
-            Awaited::Color => Ok(self.read_color(word)),
-            Awaited::Any => self.read_any(word),
+            Awaited::Task => self.read_task(given.alloc, word),
+            Awaited::Format => self.read_format(given.alloc, word),
+            Awaited::Color => self.read_color(given, word),
+            Awaited::Any => self.read_any(given.alloc, word),
             Awaited::Rule => {
                 self.rule = word;
-                Ok(Some(Awaited::Any))
+                Ok(Awaited::Any)
             }
             Awaited::Terms => {
                 self.terms = Some(word);
-                Ok(Some(Awaited::Any))
+                Ok(Awaited::Any)
             }
             Awaited::Folder => {
                 self.folder = word;
-                Ok(Some(Awaited::Any))
+                Ok(Awaited::Any)
             }
             Awaited::Call => {
                 self.call.push(word)?;
-                Ok(Some(Awaited::Call))
+                Ok(Awaited::Call)
             }
         }
     }
 
     // Reads the name of a task.
-    fn read_task(&mut self, word: &str) -> Option<Awaited> {
-        let (task, next) = match word {
-            "lower" => (Task::Lower, Awaited::Any),
-            "check" => (Task::Check, Awaited::Any),
-            "explain" => (Task::Explain, Awaited::Rule),
-            "stats" => (Task::Stats, Awaited::Any),
-            "compare" => (Task::Compare, Awaited::Any),
-            "samples" => (Task::Samples, Awaited::Any),
-            "run" => (Task::Run, Awaited::Any),
-            _ => return None,
+    fn read_task(&mut self, alloc: Global, word: &str) -> Result<Awaited, Unasked> {
+        if word.is_empty() {
+            return Err(wrong_as(alloc, "no task"));
+        }
+        let Some(task) = Task::of(word) else {
+            return Err(wrong(format!(in alloc; "no task is called '{word}'")));
         };
         self.task = task;
-        Some(next)
+        Ok(if task == Task::Explain {
+            Awaited::Rule
+        } else {
+            Awaited::Any
+        })
     }
 
-    // Reads the name of a form.
-    fn read_format(&mut self, word: &str) -> Option<Awaited> {
-        self.format = match word {
-            "text" => Format::Text,
-            "line" => Format::Line,
-            "json" => Format::Json,
-            "dot" => Format::Dot,
-            _ => return None,
+    // Reads the name of a format.
+    fn read_format(&mut self, alloc: Global, word: &str) -> Result<Awaited, Unasked> {
+        let Some(format) = Format::of(word) else {
+            return Err(wrong(format!(in alloc; "no format is called '{word}'")));
         };
-        Some(Awaited::Any)
+        if !format.is_of(self.task) {
+            let task = self.task.word();
+            return Err(wrong(format!(in alloc; "{task} has no format {word}")));
+        }
+        self.format = format;
+        Ok(Awaited::Any)
     }
 
     // Reads when there are colours.
-    fn read_color(&mut self, word: &str) -> Option<Awaited> {
+    fn read_color(&mut self, given: Given, word: &str) -> Result<Awaited, Unasked> {
         self.colored = match word {
             "always" => true,
             "never" => false,
-            _ => return None,
+            "auto" => given.colors,
+            _ => {
+                let alloc = given.alloc;
+                return Err(wrong(format!(in alloc; "no colours are called '{word}'")));
+            }
         };
-        Some(Awaited::Any)
+        Ok(Awaited::Any)
     }
 
     // Reads an option or a file.
-    fn read_any(&mut self, word: &'a str) -> Result<Option<Awaited>, AllocError> {
+    fn read_any(&mut self, alloc: Global, word: &'a str) -> Result<Awaited, Unasked> {
         match word {
-            "--no-expand" => {
-                self.expand = false;
-                Ok(Some(Awaited::Any))
-            }
-            "--deny" => {
-                self.deny = true;
-                Ok(if self.task == Task::Check {
-                    Some(Awaited::Any)
-                } else {
-                    None
-                })
-            }
+            "--no-expand" => self.read_no_expand(alloc),
+            "--deny" => self.read_deny(alloc),
             "--progress" => {
                 self.progress = true;
-                Ok(Some(Awaited::Any))
+                Ok(Awaited::Any)
             }
-            "--" => Ok(if self.task == Task::Run {
-                Some(Awaited::Call)
-            } else {
-                None
-            }),
-            "--terms" => Ok(Some(Awaited::Terms)),
-            "--format" => Ok(Some(Awaited::Format)),
-            "--color" => Ok(Some(Awaited::Color)),
-            "-C" => Ok(Some(Awaited::Folder)),
-            _ => self.read_file(word),
+            "--" => self.begin_call(alloc),
+            "--terms" => Ok(Awaited::Terms),
+            "--format" => Ok(Awaited::Format),
+            "--color" => Ok(Awaited::Color),
+            "-C" => Ok(Awaited::Folder),
+            _ => self.read_file(alloc, word),
         }
     }
 
-    // Reads the name of a file.
-    fn read_file(&mut self, word: &'a str) -> Result<Option<Awaited>, AllocError> {
-        if word.is_empty() || word != "-" && word.starts_with('-') {
-            return Ok(None);
+    // Rust code has no form for internal extractors.
+    fn read_no_expand(&mut self, alloc: Global) -> Result<Awaited, Unasked> {
+        if self.task == Task::Rust {
+            return Err(wrong_as(alloc, "rust always expands internal extractors"));
+        }
+        self.expand = false;
+        Ok(Awaited::Any)
+    }
+
+    // Only `check` has warnings.
+    fn read_deny(&mut self, alloc: Global) -> Result<Awaited, Unasked> {
+        if self.task != Task::Check {
+            let task = self.task.word();
+            return Err(wrong(format!(in alloc; "{task} has no warnings")));
+        }
+        self.deny = true;
+        Ok(Awaited::Any)
+    }
+
+    // Only `run` has a call.
+    fn begin_call(&mut self, alloc: Global) -> Result<Awaited, Unasked> {
+        if self.task != Task::Run {
+            let task = self.task.word();
+            return Err(wrong(format!(in alloc; "{task} runs no call")));
+        }
+        Ok(Awaited::Call)
+    }
+
+    // Reads the name of a file, or of a sample.
+    fn read_file(&mut self, alloc: Global, word: &'a str) -> Result<Awaited, Unasked> {
+        if word.is_empty() {
+            return Err(wrong_as(alloc, "a file without a name"));
+        }
+        if word != "-" && word.starts_with('-') {
+            return Err(wrong(format!(in alloc; "no option is called '{word}'")));
+        }
+        if self.task == Task::Samples && sample_text(word).is_none() {
+            return Err(wrong(format!(in alloc; "no sample is called '{word}'")));
         }
         self.files.push(word)?;
-        Ok(Some(Awaited::Any))
+        Ok(Awaited::Any)
     }
 }

@@ -2,7 +2,7 @@
 
 use isle_base::syntax::Files;
 use isle_command::answers::answer_to;
-use isle_command::words::asked_by;
+use isle_command::words::{Asked, Request, Unasked, asked_by};
 use std::alloc::{AllocError, Global};
 
 // A row: its line, which is empty before the first row, and the files below it.
@@ -21,7 +21,8 @@ impl<'a> Drop for Row<'a> {
 ///
 /// A row is a line that begins with `# `, behind it the row's name and the command's words, and the text of the file `a.isle`
 /// below it. A line that begins with `## ` and a name begins another file. The answer is a line with the status, then what goes
-/// to standard output and standard error, of which what is told with `--progress` comes first.
+/// to standard output and standard error, of which what is told with `--progress` comes first. Wrong words are answered with
+/// what is wrong with them.
 pub fn answers(alloc: Global, text: &str) -> Result<String, AllocError> {
     let mut out = String::new(alloc);
     let mut row = begun(alloc, "")?;
@@ -78,18 +79,29 @@ fn push_row(alloc: Global, row: &Row<'_>, out: &mut String) -> Result<(), AllocE
     }
     push_line(out, row.line)?;
     let words = words_of(alloc, row.line)?;
-    match asked_by(alloc, &words)? {
-        None => out.push_str("status 2\n"),
-        Some(asked) => {
-            let mut told = Vec::new(alloc);
-            let answer = answer_to(alloc, &asked, &row.files, false, &mut told)?;
-            let status = answer.status;
-            write!(out, "status {status}\n")?;
-            out.push_str(&String::from_utf8_lossy(alloc, &told)?)?;
-            out.push_str(&answer.out)?;
-            out.push_str(&answer.err)
-        }
+    match asked_by(alloc, &words, false) {
+        Ok(Asked::Request(asked)) => push_answer(alloc, &asked, &row.files, out),
+        Ok(Asked::Help) => out.push_str("help\n"),
+        Ok(Asked::Version) => out.push_str("version\n"),
+        Err(Unasked::Words(why)) => write!(out, "status 2\n{why}\n"),
+        Err(Unasked::Memory) => Err(AllocError),
     }
+}
+
+// Adds what is answered to a row's files.
+fn push_answer(
+    alloc: Global,
+    asked: &Request<'_>,
+    files: &Files,
+    out: &mut String,
+) -> Result<(), AllocError> {
+    let mut told = Vec::new(alloc);
+    let answer = answer_to(alloc, asked, files, false, &mut told)?;
+    let status = answer.status;
+    write!(out, "status {status}\n")?;
+    out.push_str(&String::from_utf8_lossy(alloc, &told)?)?;
+    out.push_str(&answer.out)?;
+    out.push_str(&answer.err)
 }
 
 // The command's words on a row's line, behind its name.

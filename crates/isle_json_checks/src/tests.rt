@@ -2,18 +2,14 @@
 mod forms;
 
 use forms::check_document;
-use isle_answers::samples::sample_text;
+use isle_answers::samples::{NAMES, sample_text};
 use isle_base::syntax::Files;
 use isle_command::answers::answer_to;
-use isle_command::words::asked_by;
+use isle_command::words::{Asked, asked_by};
 use serde_json::Value;
 use std::alloc::{AllocError, Global};
 use std::process::Abort;
 use std::test::Fail;
-
-// All samples.
-const SAMPLES: &str =
-    "empty fall types builtin const-eq variant-eq cycle cycle2 cycle3 conflict overlap shadow prio equal below wrap extract surplus endless iflet partial effects unused used multi multi-ext shared ties";
 
 // Types of each kind, and a term that looks at them.
 const TYPES: &str =
@@ -41,7 +37,7 @@ fn one_file(alloc: Global, text: &str) -> Result<Files, AllocError> {
 // What these words are answered to a text, read back. Nothing stands on standard error.
 fn document(rt: &impl Abort, alloc: Global, asked: &str, text: &str) -> Result<Value, Fail> {
     let words = words(alloc, asked)?;
-    let Some(request) = asked_by(alloc, &words)? else {
+    let Ok(Asked::Request(request)) = asked_by(alloc, &words, false) else {
         return Err(Fail::from("wrong words"));
     };
     let files = one_file(alloc, text)?;
@@ -66,7 +62,7 @@ fn is_accepted(value: &Value) -> bool {
 #[test]
 fn samples_are_read_back(rt: HostRuntime) -> Result<(), Fail> {
     let alloc = rt.alloc();
-    for name in SAMPLES.split(' ') {
+    for name in NAMES.lines() {
         let Some(text) = sample_text(name) else {
             return Err(Fail::from("no such sample"));
         };

@@ -18,8 +18,7 @@ mod trial;
 mod values;
 mod words;
 
-use isle_answers::answers::{end, no_memory, write_answer};
-use isle_answers::run::cannot_read;
+use isle_answers::answers::{cannot_read, end, no_memory, write_answer};
 use isle_answers::words::words;
 use std::alloc::{AllocError, Global};
 use std::io;

@@ -4,8 +4,7 @@
 mod verdicts;
 mod verified;
 
-use isle_answers::answers::write_answer;
-use isle_answers::run::cannot_read;
+use isle_answers::answers::{cannot_read, write_answer};
 use std::alloc::Global;
 use std::io;
 use std::io::{Read, Write};

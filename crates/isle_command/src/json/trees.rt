@@ -1,7 +1,7 @@
 //! Trees.
 
-use crate::sets::{push_constraint, push_ids};
-use crate::writer::Json;
+use crate::json::sets::{push_constraint, push_ids};
+use crate::json::writer::Json;
 use isle_base::syntax::Pos;
 use isle_explaining::names::Names;
 use isle_reading::rules::rule_behind;

@@ -1,7 +1,6 @@
 //! What the command answers, as JSON: docs/JSON.md says in which form.
-#![tactic(auto)]
 
-pub mod documents;
+pub(crate) mod documents;
 mod reports;
 mod sets;
 mod tables;

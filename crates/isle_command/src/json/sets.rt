@@ -1,6 +1,6 @@
 //! Sites and rules.
 
-use crate::writer::Json;
+use crate::json::writer::Json;
 use isle_base::syntax::{Files, Pos};
 use isle_explaining::names::Names;
 use isle_reading::in_place::is_in_place;

@@ -2,11 +2,11 @@
 
 ghost use Rattle.std.specs.Prelude.{◌≢◌, [], string_bytes, IfOk};
 
-use crate::reports::push_reports;
-use crate::sets::{push_rule, push_sites};
-use crate::tables::{push_head, push_types};
-use crate::trees::Sources;
-use crate::writer::Json;
+use crate::json::reports::push_reports;
+use crate::json::sets::{push_rule, push_sites};
+use crate::json::tables::{push_head, push_types};
+use crate::json::trees::Sources;
+use crate::json::writer::Json;
 use cranelift_isle::lower::{Lowered, LoweredTerm};
 use isle_base::syntax::Files;
 use isle_explaining::names::Names;

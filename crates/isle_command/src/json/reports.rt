@@ -1,7 +1,7 @@
 //! Reports of what is wrong.
 
-use crate::sets::push_place;
-use crate::writer::Json;
+use crate::json::sets::push_place;
+use crate::json::writer::Json;
 use isle_base::syntax::Files;
 use isle_rendering::report::{Label, Note, Report};
 use std::alloc::AllocError;

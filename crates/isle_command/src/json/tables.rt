@@ -1,6 +1,6 @@
 //! Types, and the heads of terms.
 
-use crate::writer::Json;
+use crate::json::writer::Json;
 use isle_explaining::names::Names;
 use isle_terms::{Term, TermFlags, TermKind};
 use isle_types::{Fields, Type, TypeId, Variant};

@@ -1,0 +1,38 @@
+//! The texts of `isle --help` and `isle --version`.
+
+/// How the command is used.
+pub(crate) const HELP: &str = "usage: isle TASK [OPTIONS] FILE..
+
+Reads ISLE text (docs/NOTATION.md) from files. The file - is standard input. All files together are one list of
+definitions. Tasks:
+  lower FILE..           prints the tree of each term. Each return names its rule.
+  rust FILE..            prints the Rust code of the terms (docs/RUST-CODE.md)
+  check FILE..           prints errors and warnings, and nothing else
+  explain RULE FILE..    says what a rule demands and when it is taken. RULE is a name, a line, or FILE:LINE.
+  stats FILE..           counts the rules, sites, tests, arms and returns of each term, and how deep its tests nest
+  compare FILE.. TREES   shows where the printed trees in the last file differ from the trees of the other files
+  run FILE.. -- TERM VALUE..
+                         runs a term on values (docs/RUNNING.md). Each term that it calls returns its first argument. An
+                         impure term returns the number of impure calls before it. A value with parentheses is quoted:
+                         isle run a.isle -- f 1 '(T.A 2)'
+  samples [NAME]         lists the built-in samples, or prints the tree of one
+Options:
+  --terms NAME,..        lower, compare: only these terms
+  --no-expand            does not expand internal extractors. The task rust always expands them.
+  --deny                 check: warnings are errors
+  --format text          shows each error with its source lines. This is the default.
+  --format line          shows each error on one line
+  --format json          lower, check: prints one JSON object, which has the errors too (docs/JSON.md)
+  --format dot           lower: prints each tree as a Graphviz graph
+  --color WHEN           colours errors: always, never or auto. The default is auto. It colours them if standard error is a
+                         terminal and NO_COLOR is not set.
+  --progress             shows each step on standard error. A terminal shows the current step without this option.
+  -C FOLDER              looks for files in this folder
+  --help, --version
+
+Status: 0 success, 1 errors, 2 wrong use, 3 out of memory, 4 a file cannot be read or the answer cannot be written. The
+script ./isle adds 70: no program gave an answer.
+";
+
+/// Which program this is.
+pub(crate) const VERSION: &str = "isle of joshuapool, after cranelift-isle 0.137.1\n";
