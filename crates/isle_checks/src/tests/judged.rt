@@ -1,7 +1,6 @@
 // Trees of generated definitions and of samples, judged; and trees that the judge refuses.
-use crate::tests::samples::TREES;
 use cranelift_isle::lower::{Lowered, LoweredTerm, lower};
-use isle_answers::samples::sample_text;
+use isle_answers::samples::SAMPLES;
 use isle_base::syntax;
 use isle_base::syntax::Pos;
 use isle_judge::judge::{Fault, judge};
@@ -103,19 +102,17 @@ fn lists_from_400_have_best_trees(rt: HostRuntime) -> Result<(), Fail> {
     judge_hundred(&rt, rt.alloc(), 400, 60)
 }
 
-// The samples with trees have 15 terms.
+// The samples that are accepted have 15 terms.
 #[test]
 fn samples_have_best_trees(rt: HostRuntime) -> Result<(), Fail> {
     let alloc = rt.alloc();
     let mut count = 0usize;
-    for (name, _) in TREES {
-        let Some(text) = sample_text(name) else {
-            return Err(Fail::from("no such sample"));
-        };
-        let mut lowered = accepted(&rt, alloc, text)?;
-        for term in &mut lowered.terms {
-            judge_both_ways(&rt, alloc, 0, term)?;
-            count = count.saturating_add(1);
+    for (_, text) in SAMPLES {
+        if let Some(mut lowered) = lowered(alloc, text)? {
+            for term in &mut lowered.terms {
+                judge_both_ways(&rt, alloc, 0, term)?;
+                count = count.saturating_add(1);
+            }
         }
     }
     assert_eq!(rt; count, 15);
