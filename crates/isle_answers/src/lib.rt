@@ -2,8 +2,6 @@
 #![tactic(auto)]
 
 pub mod answers;
-pub mod rows;
-mod rules;
 pub mod sample_run;
 pub mod samples;
 pub mod texts;

@@ -5,7 +5,7 @@ ghost use Rattle.isle_answers.specs.Samples.{names_sample};
 
 use crate::answers::{end, write_answer};
 use crate::samples::sample_text;
-use crate::texts::{Asked, Wanted, answer_to_text};
+use crate::texts::{Asked, answer_to_text};
 use std::alloc::Global;
 use std::io::Write;
 
@@ -33,7 +33,6 @@ pub fn run_sample<O: Write, E: Write>(
     let asked = Asked {
         expand: true,
         lines: false,
-        wanted: Wanted::Trees,
     };
     write_answer(answer_to_text(alloc, text, asked), out, err)
 }

@@ -1,93 +1,74 @@
 //! The samples: texts of definitions, by name.
 
 ghost use Rattle.std.specs.Prelude.{◌≡◌, is_some};
-ghost use Rattle.isle_answers.specs.Samples.{has_errors, has_trees, is_sample};
+ghost use Rattle.std.specs.List.{list_any};
+ghost use Rattle.std.specs.Str.{bytes_eq};
+ghost use Rattle.isle_answers.specs.Samples.{is_sample};
+
+use std::alloc::{AllocError, Global};
+
+/// The samples, the name and the text of each.
+pub const SAMPLES: [(&str, &str); 28] = [
+    ("empty", EMPTY),
+    ("fall", FALL),
+    ("types", TYPES),
+    ("builtin", BUILTIN),
+    ("const-eq", CONST_EQ),
+    ("variant-eq", VARIANT_EQ),
+    ("cycle", CYCLE),
+    ("cycle2", CYCLE2),
+    ("cycle3", CYCLE3),
+    ("conflict", CONFLICT),
+    ("overlap", OVERLAP),
+    ("shadow", SHADOW),
+    ("prio", PRIO),
+    ("equal", EQUAL),
+    ("below", BELOW),
+    ("wrap", WRAP),
+    ("extract", EXTRACT),
+    ("surplus", SURPLUS),
+    ("endless", ENDLESS),
+    ("iflet", IFLET),
+    ("partial", PARTIAL),
+    ("effects", EFFECTS),
+    ("unused", UNUSED),
+    ("used", USED),
+    ("multi", MULTI),
+    ("multi-ext", MULTI_EXT),
+    ("shared", SHARED),
+    ("ties", TIES),
+];
 
 /// The names of the samples, one a line.
-pub const NAMES: &str = "empty
-fall
-types
-builtin
-const-eq
-variant-eq
-cycle
-cycle2
-cycle3
-conflict
-overlap
-shadow
-prio
-equal
-below
-wrap
-extract
-surplus
-endless
-iflet
-partial
-effects
-unused
-used
-multi
-multi-ext
-shared
-ties
-";
+///
+/// # Errors
+///
+/// Where memory is refused.
+pub fn sample_names(alloc: Global) -> Result<String, AllocError> {
+    let mut names = String::new(alloc);
+    for (name, _) in SAMPLES {
+        write!(names, "{name}\n")?;
+    }
+    Ok(names)
+}
 
 /// The text of the sample with this name, or None where there is no such sample.
 pub fn sample_text(name: &str) -> Option<&'static str>
     ensures { is_some result ≡ is_sample name.now }
 {
-    match text_with_trees(name) {
-        Some(text) => Some(text),
-        None => text_with_errors(name),
-    }
+    text_among(&SAMPLES, name)
 }
 
-// The samples that have trees.
-fn text_with_trees(name: &str) -> Option<&'static str>
-    ensures { is_some result ≡ has_trees name.now }
+// The text of the sample with this name among some.
+fn text_among(samples: &[(&'static str, &'static str)], name: &str) -> Option<&'static str>
+    ensures { is_some result ≡ list_any (λ s. bytes_eq s.0.now name.now) samples.now }
 {
-    match name {
-        "empty" => Some(EMPTY),
-        "fall" => Some(FALL),
-        "types" => Some(TYPES),
-        "const-eq" => Some(CONST_EQ),
-        "variant-eq" => Some(VARIANT_EQ),
-        "prio" => Some(PRIO),
-        "equal" => Some(EQUAL),
-        "below" => Some(BELOW),
-        "extract" => Some(EXTRACT),
-        "surplus" => Some(SURPLUS),
-        "partial" => Some(PARTIAL),
-        "effects" => Some(EFFECTS),
-        "unused" => Some(UNUSED),
-        "used" => Some(USED),
-        "multi" => Some(MULTI),
-        "shared" => Some(SHARED),
-        "ties" => Some(TIES),
-        _ => None,
+    for sample in samples {
+        if sample.0 == name {
+            return Some(sample.1);
+        }
     }
-}
-
-// The samples that have errors.
-fn text_with_errors(name: &str) -> Option<&'static str>
-    ensures { is_some result ≡ has_errors name.now }
-{
-    match name {
-        "builtin" => Some(BUILTIN),
-        "cycle" => Some(CYCLE),
-        "cycle2" => Some(CYCLE2),
-        "cycle3" => Some(CYCLE3),
-        "conflict" => Some(CONFLICT),
-        "wrap" => Some(WRAP),
-        "overlap" => Some(OVERLAP),
-        "shadow" => Some(SHADOW),
-        "endless" => Some(ENDLESS),
-        "iflet" => Some(IFLET),
-        "multi-ext" => Some(MULTI_EXT),
-        _ => None,
-    }
+    None
 }
 
 const EMPTY: &str = "";

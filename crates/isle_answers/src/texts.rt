@@ -1,12 +1,10 @@
 //! Definitions as text, and what is answered to them.
 
-ghost use Rattle.std.specs.Prelude.{◌≡◌, IfOk};
+ghost use Rattle.std.specs.Prelude.{IfOk};
 ghost use Rattle.isle_answers.specs.Statuses.{IsAnswerTo};
-ghost use Rattle.isle_answers.specs.declared.texts.Wanted.TheVariants.{Trees};
 ghost use Rattle.isle_base.specs.SyntaxViews.{definition_views};
 
 use crate::answers::{Answer, answer_to};
-use crate::rules::answer_to_rules;
 use isle_base::syntax::Def;
 use isle_printing::places::Places;
 use isle_text::errors::{Problem, ReadFault, TextError};
@@ -21,22 +19,9 @@ pub struct Asked {
     /// Whether the place of an error is shown as its line and column. Else it is 0 and the number of the definition
     /// that it lies in, where the text is read.
     pub lines: bool,
-    /// What is answered where nothing is wrong.
-    pub wanted: Wanted,
 }
 
-/// What is answered to definitions where nothing is wrong with them.
-#[derive(Clone, Copy)]
-pub enum Wanted {
-    /// Their trees.
-    Trees,
-    /// The number of their terms, and each rule's name and variables.
-    Rules,
-    /// The same with each rule's parts, typed.
-    TypedRules,
-}
-
-/// What is wanted of a text's definitions, or one line for each error: those found on the way to it, or the one of reading.
+/// The trees of a text's definitions, or one line for each error: those found on the way to them, or the one of reading.
 pub fn answer_to_text(alloc: Global, text: &str, asked: Asked) -> Result<Answer, AllocError> {
     match read(alloc, 0, text) {
         Ok(defs) => answer_to_defs(alloc, text, &defs, asked),
@@ -52,15 +37,10 @@ fn answer_to_defs(
     defs: &[Def],
     asked: Asked,
 ) -> Result<Answer, AllocError>
-    // where trees are wanted, the answer is that of lowering these definitions
-    ensures { asked.wanted ≡ Trees → IfOk result (IsAnswerTo (definition_views defs.now) asked.expand) }
+    // the answer is that of lowering these definitions
+    ensures { IfOk result (IsAnswerTo (definition_views defs.now) asked.expand) }
 {
-    let places = places(text, defs, asked);
-    match asked.wanted {
-        Wanted::Trees => answer_to(alloc, defs, asked.expand, places),
-        Wanted::Rules => answer_to_rules(alloc, defs, asked.expand, false, places),
-        Wanted::TypedRules => answer_to_rules(alloc, defs, asked.expand, true, places),
-    }
+    answer_to(alloc, defs, asked.expand, places(text, defs, asked))
 }
 
 // How the places in a text with these definitions are shown.

@@ -10,10 +10,10 @@ mod lists;
 mod stages;
 mod tables;
 mod text;
-mod texts;
 
 use isle_base::syntax::Def;
-use lists::{Kind, definitions_of};
+use isle_lists::long::Kind;
+use lists::definitions_of;
 use std::alloc::{AllocError, Global};
 use std::io::ErrorKind;
 use std::rt::{Clock, Env};

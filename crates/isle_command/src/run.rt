@@ -11,7 +11,7 @@ use crate::inputs::{Unread, read_files};
 use crate::words::{Asked, Request, Task, Unasked, asked_by};
 use isle_answers::answers::{end, no_memory, write_text};
 use isle_answers::sample_run::run_sample;
-use isle_answers::samples::NAMES;
+use isle_answers::samples::sample_names;
 use isle_base::syntax::Files;
 use std::alloc::{AllocError, Global};
 use std::env::{Env, FillError};
@@ -169,7 +169,10 @@ fn run_samples<O: Write, E: Write>(
 {
     match asked.files.first() {
         Some(name) => run_sample_named(alloc, name, out, err),
-        None => write_text(NAMES, out, err),
+        None => match sample_names(alloc) {
+            Ok(names) => write_text(&names, out, err),
+            Err(AllocError) => no_memory(err),
+        },
     }
 }
 

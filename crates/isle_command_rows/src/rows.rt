@@ -1,8 +1,8 @@
-//! Rows: the words of a command and texts of files.
+//! Rows: words that ask, and texts of files.
 
+use crate::command::push_command;
+use crate::texts::push_text;
 use isle_base::syntax::Files;
-use isle_command::answers::answer_to;
-use isle_command::words::{Asked, Request, Unasked, asked_by};
 use std::alloc::{AllocError, Global};
 
 // A row: its line, which is empty before the first row, and the files below it.
@@ -19,10 +19,9 @@ impl<'a> Drop for Row<'a> {
 
 /// What is answered to the rows of a text, each after the row's line.
 ///
-/// A row is a line that begins with `# `, behind it the row's name and the command's words, and the text of the file `a.isle`
-/// below it. A line that begins with `## ` and a name begins another file. The answer is a line with the status, then what goes
-/// to standard output and standard error, of which what is told with `--progress` comes first. Wrong words are answered with
-/// what is wrong with them.
+/// A row is a line that begins with `# `, behind it the row's name and its words, and the text of the file `a.isle` below it.
+/// A line that begins with `## ` and a name begins another file. What stands before the first row is passed over. The words
+/// are those of the command, or the first one is `tree` or `rules`: then only the first file is looked at.
 pub fn answers(alloc: Global, text: &str) -> Result<String, AllocError> {
     let mut out = String::new(alloc);
     let mut row = begun(alloc, "")?;
@@ -79,32 +78,21 @@ fn push_row(alloc: Global, row: &Row<'_>, out: &mut String) -> Result<(), AllocE
     }
     push_line(out, row.line)?;
     let words = words_of(alloc, row.line)?;
-    match asked_by(alloc, &words, false) {
-        Ok(Asked::Request(asked)) => push_answer(alloc, &asked, &row.files, out),
-        Ok(Asked::Help) => out.push_str("help\n"),
-        Ok(Asked::Version) => out.push_str("version\n"),
-        Err(Unasked::Words(why)) => write!(out, "status 2\n{why}\n"),
-        Err(Unasked::Memory) => Err(AllocError),
+    match first_of(&words) {
+        "tree" | "rules" => push_text(alloc, &words, first_of(&row.files.texts), out),
+        _ => push_command(alloc, &words, &row.files, out),
     }
 }
 
-// Adds what is answered to a row's files.
-fn push_answer(
-    alloc: Global,
-    asked: &Request<'_>,
-    files: &Files,
-    out: &mut String,
-) -> Result<(), AllocError> {
-    let mut told = Vec::new(alloc);
-    let answer = answer_to(alloc, asked, files, false, &mut told)?;
-    let status = answer.status;
-    write!(out, "status {status}\n")?;
-    out.push_str(&String::from_utf8_lossy(alloc, &told)?)?;
-    out.push_str(&answer.out)?;
-    out.push_str(&answer.err)
+// The first of some texts, or the empty one.
+fn first_of(texts: &[String]) -> &str {
+    match texts.first() {
+        Some(text) => text.as_str(),
+        None => "",
+    }
 }
 
-// The command's words on a row's line, behind its name.
+// The words on a row's line, behind its name.
 fn words_of(alloc: Global, line: &str) -> Result<Vec<String>, AllocError> {
     let mut words = Vec::new(alloc);
     for word in line.split(' ').skip(2) {

@@ -1,7 +1,7 @@
 //! What code can't show: runs, choices and bags, premises of laws that can be met, and near answers that statements refuse.
 //!
 //! A function here has an empty body: its clauses say what holds of a sample. What a list of definitions becomes, its errors
-//! and its trees are rows (`isle_rows`).
+//! and its trees are rows (`isle_command_rows`).
 #![tactic(auto)]
 
 ghost use Rattle.std.specs.Prelude.{[], pos, true, ◌∷◌};

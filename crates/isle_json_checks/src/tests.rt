@@ -2,7 +2,7 @@
 mod forms;
 
 use forms::check_document;
-use isle_answers::samples::{NAMES, sample_text};
+use isle_answers::samples::SAMPLES;
 use isle_base::syntax::Files;
 use isle_command::answers::answer_to;
 use isle_command::words::{Asked, asked_by};
@@ -62,10 +62,7 @@ fn is_accepted(value: &Value) -> bool {
 #[test]
 fn samples_are_read_back(rt: HostRuntime) -> Result<(), Fail> {
     let alloc = rt.alloc();
-    for name in NAMES.lines() {
-        let Some(text) = sample_text(name) else {
-            return Err(Fail::from("no such sample"));
-        };
+    for (_, text) in SAMPLES {
         let lowered = document(&rt, alloc, "lower --format json a.isle", text)?;
         check_document(alloc, &lowered, &["schema", "types", "terms", "errors"])?;
         let checked = document(&rt, alloc, "check --format json a.isle", text)?;

@@ -1,5 +1,9 @@
-//! Lists of definitions as text, made by chance: of every form that generated code has, with calls in all places.
+//! Lists of definitions as text: small ones, made by numbers that look random, and long ones.
 #![tactic(auto)]
 
 pub mod chance;
-pub mod lists;
+mod flags;
+pub mod long;
+mod long_texts;
+pub mod one_term;
+pub mod two_terms;

@@ -8,8 +8,7 @@ use cranelift_isle::syntax::{Def, Error, Fault, Files};
 use isle_answers::answers::Answer;
 use isle_answers::samples::sample_text;
 use isle_answers::texts::syntax_error_line;
-use isle_judge::generated;
-use isle_lists::lists::list;
+use isle_lists::{one_term, two_terms};
 use isle_reading::texts::{Places, error_lines};
 use isle_rust::code::CodeError;
 use isle_text::errors::ReadFault;
@@ -97,9 +96,9 @@ pub fn text_of(alloc: Global, wanted: Wanted<'_>) -> Result<Answer, AllocError> 
 // The list of a seed: the even ones are those of the judge's tests, the odd ones have more types and two terms.
 fn list_of(alloc: Global, seed: u64) -> Result<String, AllocError> {
     if seed % 2 == 0 {
-        generated::list(alloc, seed / 2, generated::FORMS)
+        one_term::list(alloc, seed / 2)
     } else {
-        list(alloc, seed / 2)
+        two_terms::list(alloc, seed / 2)
     }
 }
 

@@ -1,11 +1,10 @@
 // Trees of generated definitions and of samples, judged; and trees that the judge refuses.
-use crate::tests::samples::TREES;
 use cranelift_isle::lower::{Lowered, LoweredTerm, lower};
-use isle_answers::samples::sample_text;
+use isle_answers::samples::SAMPLES;
 use isle_base::syntax;
 use isle_base::syntax::Pos;
-use isle_judge::generated::{FORMS, list};
 use isle_judge::judge::{Fault, judge};
+use isle_lists::one_term::list;
 use isle_serialize::serialize::{Block, ControlFlow, EvalStep, MatchArm};
 use isle_sets::trie_again::{BindingId, Constraint};
 use isle_text::read;
@@ -37,7 +36,7 @@ fn accepted(rt: &impl Abort, alloc: Global, text: &str) -> Result<Lowered, Fail>
 
 // Judges the trees of a list, and says how many there are: those of refused definitions, or of many sites, aren't.
 fn judged(rt: &impl Abort, alloc: Global, number: u64) -> Result<usize, Fail> {
-    let text = list(alloc, number, FORMS)?;
+    let text = list(alloc, number)?;
     let mut count = 0usize;
     if let Some(mut lowered) = lowered(alloc, &text)? {
         for term in &mut lowered.terms {
@@ -103,19 +102,17 @@ fn lists_from_400_have_best_trees(rt: HostRuntime) -> Result<(), Fail> {
     judge_hundred(&rt, rt.alloc(), 400, 60)
 }
 
-// The samples with trees have 15 terms.
+// The samples that are accepted have 15 terms.
 #[test]
 fn samples_have_best_trees(rt: HostRuntime) -> Result<(), Fail> {
     let alloc = rt.alloc();
     let mut count = 0usize;
-    for (name, _) in TREES {
-        let Some(text) = sample_text(name) else {
-            return Err(Fail::from("no such sample"));
-        };
-        let mut lowered = accepted(&rt, alloc, text)?;
-        for term in &mut lowered.terms {
-            judge_both_ways(&rt, alloc, 0, term)?;
-            count = count.saturating_add(1);
+    for (_, text) in SAMPLES {
+        if let Some(mut lowered) = lowered(alloc, text)? {
+            for term in &mut lowered.terms {
+                judge_both_ways(&rt, alloc, 0, term)?;
+                count = count.saturating_add(1);
+            }
         }
     }
     assert_eq!(rt; count, 15);
@@ -131,7 +128,7 @@ const OTHER_IF_LET: &str = "(decl partial k (u8) u8) (rule (k x) (if-let (me y) 
 
 // Whether a list is accepted with more definitions behind it.
 fn accepts(alloc: Global, number: u64, more: &str) -> Result<bool, Fail> {
-    let mut text = list(alloc, number, FORMS)?;
+    let mut text = list(alloc, number)?;
     text.push_str(more)?;
     Ok(lowered(alloc, &text)?.is_some())
 }

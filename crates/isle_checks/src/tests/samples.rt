@@ -1,11 +1,12 @@
 // What the program answers to each sample.
 use isle_answers::sample_run::run_sample;
+use isle_answers::samples::SAMPLES;
 use std::alloc::{AllocError, Global};
 use std::process::Abort;
 use std::test::Fail;
 
 // The samples whose definitions are accepted, with their trees.
-pub const TREES: [(&str, &str); 17] = [
+const TREES: [(&str, &str); 17] = [
     ("empty", ""),
     (
         "fall",
@@ -310,6 +311,12 @@ fn samples_with_errors(rt: HostRuntime) -> Result<(), Fail> {
         expect_answer(&rt, rt.alloc(), name, 1, ("", text))?;
     }
     Ok(())
+}
+
+// The two lists have as many names as there are samples.
+#[test]
+fn no_sample_is_left_out(rt: HostRuntime) {
+    assert_eq!(rt; TREES.len() + ERRORS.len(), SAMPLES.len());
 }
 
 // Names that differ from a sample's by a letter, or by a space, are no sample's.

@@ -5,7 +5,7 @@ ghost use Rattle.std.specs.Prelude.{IfOk};
 use crate::readings::types_and_rules;
 use isle_base::stablemapset::StableMap;
 use isle_builder::build::build;
-use isle_judge::generated::{FORMS, list};
+use isle_lists::one_term::list;
 use isle_sets::trie_again::{BindingId, Constraint, Overlap, Rule, RuleSet};
 use isle_text::read;
 use isle_types::TermId;
@@ -142,7 +142,7 @@ fn compare_all(
 
 // The set of a generated list's term: None where its types or rules can't be read, or it has many sites.
 fn set_of(alloc: Global, number: u64) -> Result<Option<RuleSet>, Fail> {
-    let defs = read(alloc, 0, &list(alloc, number, FORMS)?)?;
+    let defs = read(alloc, 0, &list(alloc, number)?)?;
     let Ok((_, env)) = types_and_rules(alloc, &defs) else {
         return Ok(None);
     };

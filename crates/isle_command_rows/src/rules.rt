@@ -1,37 +1,46 @@
-//! What is answered to definitions where their rules are wanted as they are read, without trees.
+//! Rules as they are read, without trees.
 
-use crate::answers::Answer;
+use isle_answers::answers::Answer;
+use isle_answers::texts::syntax_error_line;
 use isle_base::syntax::{Def, Fault};
 use isle_printing::errors::error_lines;
 use isle_printing::places::Places;
 use isle_rules::TermEnv;
+use isle_text::errors::ReadFault;
+use isle_text::read;
 use isle_typed::Rule;
 use isle_types::TypeEnv;
 use std::alloc::{AllocError, Global};
 
-// The number of the terms of these definitions in a line and a line for each rule, with its name and its variables, and its
-// parts below it where `parts` says so; or one line for each error of reading them.
-pub(crate) fn answer_to_rules(
+/// A line with the number of the terms of a text's definitions and a line for each rule, with its name and its variables, and
+/// its parts below it where `parts` says so; or one line for each error of reading them.
+pub fn rules_of_text(
+    alloc: Global,
+    text: &str,
+    expand: bool,
+    parts: bool,
+) -> Result<Answer, AllocError> {
+    match read(alloc, 0, text) {
+        Ok(defs) => rules_of_defs(alloc, &defs, expand, parts),
+        Err(ReadFault::Text(error)) => Ok(Answer::Errors(syntax_error_line(alloc, text, &error)?)),
+        Err(ReadFault::Memory(error)) => Err(error),
+    }
+}
+
+// The same of definitions. An error's place is the number of the definition that it lies in.
+fn rules_of_defs(
     alloc: Global,
     defs: &[Def],
     expand: bool,
     parts: bool,
-    places: Places<'_>,
 ) -> Result<Answer, AllocError> {
-    let text = text_of_rules(alloc, defs, expand, parts);
-    answer_with(alloc, text, places)
-}
-
-// A text, or one line for each error.
-fn answer_with(
-    alloc: Global,
-    text: Result<String, Fault>,
-    places: Places<'_>,
-) -> Result<Answer, AllocError> {
-    match text {
+    match text_of_rules(alloc, defs, expand, parts) {
         Ok(text) => Ok(Answer::Trees(text)),
-        Err(Fault::Errors(errors)) => Ok(Answer::Errors(error_lines(alloc, &errors, places)?)),
-        Err(Fault::Memory(e)) => Err(e),
+        Err(Fault::Errors(errors)) => {
+            let lines = error_lines(alloc, &errors, Places::Definitions(defs))?;
+            Ok(Answer::Errors(lines))
+        }
+        Err(Fault::Memory(error)) => Err(error),
     }
 }
 

@@ -1,6 +1,7 @@
-//! Lists of definitions as text, made by chance.
+//! Lists of definitions as text: two terms of types of each kind, with calls in all places.
 
 use crate::chance::Chance;
+use crate::flags::{FLAGS, Flag};
 use std::alloc::{AllocError, Global};
 
 /// A type of values.
@@ -32,16 +33,6 @@ const KINDS: [Kind; 9] = [
 
 // The types of numbers.
 const NUMBERS: [Kind; 4] = [Kind::Byte, Kind::Int, Kind::Wide, Kind::Prim];
-
-// What a term's rules may call, beside total terms.
-#[derive(Clone, Copy, PartialEq, Eq)]
-enum Flag {
-    Plain,
-    Partial,
-    Multi,
-}
-
-const FLAGS: [Flag; 3] = [Flag::Plain, Flag::Partial, Flag::Multi];
 
 // The types that all lists have.
 const TYPES: &str = "(type P (primitive P))
@@ -166,12 +157,8 @@ impl Maker {
     }
 
     fn push_decl(&mut self, name: &str, arguments: &[Kind], gives: Kind) -> Result<(), AllocError> {
-        let head = match self.flag {
-            Flag::Plain => "(decl ",
-            Flag::Partial => "(decl partial ",
-            Flag::Multi => "(decl multi ",
-        };
-        self.push(head)?;
+        self.push("(decl ")?;
+        self.push(self.flag.word())?;
         self.push(name)?;
         self.push(" (")?;
         for kind in arguments {

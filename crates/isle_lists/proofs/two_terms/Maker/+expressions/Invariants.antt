@@ -1,5 +1,5 @@
 use Rattle.std.proofs.Common.{◌+◌, ◌*◌}
-use Rattle.isle_lists.proofs.lists.Maker.+expressions.Given as goal
+use Rattle.isle_lists.proofs.two_terms.Maker.+expressions.Given as goal
 
 abbrev pub decreases-push_expression : goal.decreases-push_expression
 decreases-push_expression l = 2 * l.depth

@@ -1,12 +1,14 @@
-//! Lists of definitions as text, made by a sequence of numbers that look random and are the same in each run.
+//! Small lists of definitions as text: one term, and up to six rules.
+
+use crate::chance::Chance;
+use crate::flags::{FLAGS, Flag};
 use std::alloc::{AllocError, Global};
 
-/// What patterns and expressions are made of, beside wildcards.
+// What patterns and expressions are made of, beside wildcards.
 #[derive(Clone, Copy, PartialEq, Eq)]
-pub enum Form {
+enum Form {
     // Patterns.
     Integer,
-    Variable,
     Equal,
     Bind,
     And,
@@ -29,57 +31,45 @@ pub enum Form {
     MultiCall,
 }
 
-/// What lists are made of. A form that stands twice is taken twice as often.
-#[derive(Clone, Copy)]
-pub struct Forms<'a> {
-    patterns: &'a [Form],
-    expressions: &'a [Form],
-    conditions: bool,
-    // The most arguments.
-    arguments: u64,
-}
+// The forms of patterns. One that stands twice is taken twice as often.
+const PATTERNS: [Form; 20] = [
+    Form::Integer,
+    Form::Integer,
+    Form::Integer,
+    Form::Equal,
+    Form::Equal,
+    Form::Equal,
+    Form::Equal,
+    Form::Bind,
+    Form::And,
+    Form::Truth,
+    Form::Constant,
+    Form::Variant,
+    Form::Variant,
+    Form::Struct,
+    Form::Struct,
+    Form::Fallible,
+    Form::Infallible,
+    Form::Pair,
+    Form::Template,
+    Form::MultiExtractor,
+];
 
-/// All forms.
-pub const FORMS: Forms<'static> = Forms {
-    patterns: &[
-        Form::Integer,
-        Form::Integer,
-        Form::Integer,
-        Form::Equal,
-        Form::Equal,
-        Form::Equal,
-        Form::Equal,
-        Form::Bind,
-        Form::And,
-        Form::Truth,
-        Form::Constant,
-        Form::Variant,
-        Form::Variant,
-        Form::Struct,
-        Form::Struct,
-        Form::Fallible,
-        Form::Infallible,
-        Form::Pair,
-        Form::Template,
-        Form::MultiExtractor,
-    ],
-    expressions: &[
-        Form::Literal,
-        Form::Literal,
-        Form::Bound,
-        Form::Bound,
-        Form::Bound,
-        Form::Let,
-        Form::Pure,
-        Form::Impure,
-        Form::Partial,
-        Form::MultiCall,
-    ],
-    conditions: true,
-    arguments: 3,
-};
+// The forms of expressions, likewise.
+const EXPRESSIONS: [Form; 10] = [
+    Form::Literal,
+    Form::Literal,
+    Form::Bound,
+    Form::Bound,
+    Form::Bound,
+    Form::Let,
+    Form::Pure,
+    Form::Impure,
+    Form::Partial,
+    Form::MultiCall,
+];
 
-// What all rules but those of the first forms speak of.
+// What all rules speak of.
 const SHARED: &str = "(type T (enum (A (x u8) (y u8)) (B (x u8)) C))
 (type S (struct (p u8) (q bool)))
 (extern const $K u8)
@@ -101,14 +91,6 @@ enum Kind {
     Truth,
     Enum,
     Struct,
-}
-
-// What calls a term's rules may make on their right sides, beside total ones.
-#[derive(Clone, Copy, PartialEq, Eq)]
-enum Flag {
-    Plain,
-    Partial,
-    Multi,
 }
 
 // A variable's name, by its type.
@@ -134,10 +116,9 @@ struct Shape {
 
 // What a list is written by.
 #[derive(Drop)]
-struct Maker<'a> {
+struct Maker {
     text: String,
-    state: u64,
-    forms: Forms<'a>,
+    chance: Chance,
     flag: Flag,
     // The variables that the rule has bound so far.
     bound: Vec<Name>,
@@ -145,12 +126,15 @@ struct Maker<'a> {
     has_whole: bool,
 }
 
-// The list of this number: a term, and up to six rules.
-pub fn list(alloc: Global, number: u64, forms: Forms<'_>) -> Result<String, AllocError> {
+/// The list of this seed: a term with up to six rules, and what they call.
+///
+/// # Errors
+///
+/// Where memory is refused.
+pub fn list(alloc: Global, seed: u64) -> Result<String, AllocError> {
     let mut maker = Maker {
-        text: String::new(alloc),
-        state: number.wrapping_mul(2_654_435_761),
-        forms,
+        text: String::from_str(alloc, SHARED)?,
+        chance: Chance::new(seed),
         flag: Flag::Plain,
         bound: Vec::new(alloc),
         has_whole: false,
@@ -160,20 +144,10 @@ pub fn list(alloc: Global, number: u64, forms: Forms<'_>) -> Result<String, Allo
     Ok(text)
 }
 
-impl Maker<'_> {
-    // The next number of the sequence, below a limit.
-    fn below(&mut self, limit: u64) -> u64 {
-        self.state = self
-            .state
-            .wrapping_mul(6_364_136_223_846_793_005)
-            .wrapping_add(1_442_695_040_888_963_407);
-        (self.state >> 33).checked_rem(limit).unwrap_or(0)
-    }
-
-    // One of these forms, or else an integer.
+impl Maker {
+    // One of these forms.
     fn pick(&mut self, from: &[Form]) -> Form {
-        let place = self.below(from.len() as u64);
-        from.get(place as usize).copied().unwrap_or(Form::Integer)
+        self.chance.pick(from).unwrap_or(Form::Integer)
     }
 
     fn push(&mut self, text: &str) -> Result<(), AllocError> {
@@ -181,16 +155,9 @@ impl Maker<'_> {
     }
 
     fn push_list(&mut self, alloc: Global) -> Result<(), AllocError> {
-        if self.forms.conditions {
-            self.push(SHARED)?;
-            self.flag = match self.below(3) {
-                0 => Flag::Plain,
-                1 => Flag::Partial,
-                _ => Flag::Multi,
-            };
-        }
+        self.flag = self.chance.pick(&FLAGS).unwrap_or(Flag::Plain);
         let kinds = self.kinds(alloc)?;
-        let answer = if self.forms.conditions && self.below(4) == 0 {
+        let answer = if self.chance.below(4) == 0 {
             Kind::Enum
         } else {
             Kind::Number
@@ -202,10 +169,10 @@ impl Maker<'_> {
     // The types of the arguments.
     fn kinds(&mut self, alloc: Global) -> Result<Vec<Kind>, AllocError> {
         let mut kinds = Vec::new(alloc);
-        for _ in 0..=self.below(self.forms.arguments) {
-            kinds.push(match self.below(6) {
-                0 | 1 if self.forms.conditions => Kind::Enum,
-                2 if self.forms.conditions => Kind::Struct,
+        for _ in 0..=self.chance.below(3) {
+            kinds.push(match self.chance.below(6) {
+                0 | 1 => Kind::Enum,
+                2 => Kind::Struct,
                 _ => Kind::Number,
             })?;
         }
@@ -213,13 +180,8 @@ impl Maker<'_> {
     }
 
     fn push_term(&mut self, kinds: &[Kind], answer: Kind) -> Result<(), AllocError> {
-        let flag = match self.flag {
-            Flag::Plain => "",
-            Flag::Partial => "partial ",
-            Flag::Multi => "multi ",
-        };
         self.push("(decl ")?;
-        self.push(flag)?;
+        self.push(self.flag.word())?;
         self.push("f (")?;
         for kind in kinds {
             self.push(type_name(*kind))?;
@@ -232,12 +194,12 @@ impl Maker<'_> {
 
     // Rules whose priorities ascend, descend, or are alike.
     fn push_rules(&mut self, kinds: &[Kind], answer: Kind) -> Result<(), AllocError> {
-        let (most, other) = (self.below(6), self.below(6));
+        let (most, other) = (self.chance.below(6), self.chance.below(6));
         let last = most.min(other);
-        let order = self.below(8);
+        let order = self.chance.below(8);
         for number in 0..=last {
             let prio = match order {
-                0 => self.below(3),
+                0 => self.chance.below(3),
                 1..=4 => number,
                 _ => last.saturating_sub(number),
             };
@@ -251,8 +213,8 @@ impl Maker<'_> {
         &mut self,
         kinds: &[Kind],
         answer: Kind,
-        prio: u64,
-        last: u64,
+        prio: usize,
+        last: usize,
     ) -> Result<(), AllocError> {
         self.bound.clear();
         self.has_whole = false;
@@ -262,14 +224,14 @@ impl Maker<'_> {
         }
         for kind in kinds {
             self.push(" ")?;
-            if self.below(last.saturating_add(1)) > prio {
+            if self.chance.below(last.saturating_add(1)) > prio {
                 self.push_new_name(*kind)?;
             } else {
                 self.push_argument(*kind)?;
             }
         }
         self.push(")")?;
-        if self.forms.conditions && self.below(4) == 0 {
+        if self.chance.below(4) == 0 {
             self.push_if_let()?;
         }
         self.push(" ")?;
@@ -283,7 +245,7 @@ impl Maker<'_> {
         let part = self.bound_name(Kind::Number);
         self.push(" (if-let ")?;
         self.push_part(Kind::Number)?;
-        let call = match self.below(3) {
+        let call = match self.chance.below(3) {
             0 => " (pc ",
             1 if self.flag == Flag::Multi => " (pm ",
             _ => " (pp ",
@@ -302,13 +264,13 @@ impl Maker<'_> {
     }
 
     fn push_integer(&mut self) -> Result<(), AllocError> {
-        let value = self.below(2);
+        let value = self.chance.below(2);
         write!(self.text, "{value}")
     }
 
     // A variable of this type that is bound.
     fn bound_name(&mut self, kind: Kind) -> Option<Name> {
-        let from = self.below(3) as usize;
+        let from = self.chance.below(3);
         let mut found = None;
         for (place, name) in self.bound.iter().enumerate() {
             if kind_of(*name) == kind && (found.is_none() || place <= from) {
@@ -348,18 +310,16 @@ impl Maker<'_> {
                 Some(name) => self.push(name_of(name)),
                 None => self.push_new_name(kind),
             },
-            (Form::Variable, _) => self.push_new_name(kind),
             _ => self.push("_"),
         }
     }
 
     // A form of patterns of this type, where one is found soon.
     fn pattern_form(&mut self, kind: Kind) -> Form {
-        let from = self.forms.patterns;
-        let mut form = self.pick(from);
+        let mut form = self.pick(&PATTERNS);
         for _ in 0..3 {
             if !has_patterns_of(form, kind) {
-                form = self.pick(from);
+                form = self.pick(&PATTERNS);
             }
         }
         form
@@ -409,7 +369,7 @@ impl Maker<'_> {
             (Form::And, Kind::Number) => Some(shaped("(and", &[Kind::Number, Kind::Number], ")")),
             (Form::And, Kind::Enum) => Some(shaped("(and", &[Kind::Enum, Kind::Enum], ")")),
             (Form::Bind, Kind::Number) => self.binding_shape(),
-            (Form::Variant, Kind::Enum) => match self.below(3) {
+            (Form::Variant, Kind::Enum) => match self.chance.below(3) {
                 0 => Some(shaped("(T.A", &[Kind::Number, Kind::Number], ")")),
                 1 => Some(shaped("(T.B", &[Kind::Number], ")")),
                 _ => None,
@@ -450,8 +410,7 @@ impl Maker<'_> {
 
     // An expression of a type, whose parts may have parts.
     fn push_expression(&mut self, kind: Kind) -> Result<(), AllocError> {
-        let from = self.forms.expressions;
-        let form = self.pick(from);
+        let form = self.pick(&EXPRESSIONS);
         let Some(shape) = self.expression_shape(form, kind) else {
             return self.push_value(form, kind);
         };
@@ -465,8 +424,7 @@ impl Maker<'_> {
 
     // An expression of a type, whose parts have none.
     fn push_operand(&mut self, kind: Kind) -> Result<(), AllocError> {
-        let from = self.forms.expressions;
-        let form = self.pick(from);
+        let form = self.pick(&EXPRESSIONS);
         let Some(shape) = self.expression_shape(form, kind) else {
             return self.push_value(form, kind);
         };
@@ -485,7 +443,7 @@ impl Maker<'_> {
                 Some(shaped("(let ((v u8", &[Kind::Number], ")) (T.B v))"))
             }
             (Form::Let, _) => Some(shaped("(let ((v u8", &[Kind::Number], ")) (pc v))")),
-            (_, Kind::Enum) => match self.below(3) {
+            (_, Kind::Enum) => match self.chance.below(3) {
                 0 => Some(shaped("(T.A", &[Kind::Number, Kind::Number], ")")),
                 1 => Some(shaped("(T.B", &[Kind::Number], ")")),
                 _ => None,
@@ -521,7 +479,7 @@ fn extractor_shape(form: Form) -> Option<Shape> {
 // Whether a form has patterns of this type.
 fn has_patterns_of(form: Form, kind: Kind) -> bool {
     match form {
-        Form::Variable | Form::Equal | Form::Bind | Form::And => true,
+        Form::Equal | Form::Bind | Form::And => true,
         Form::Truth => kind == Kind::Truth,
         Form::Variant => kind == Kind::Enum,
         Form::Struct => kind == Kind::Struct,

@@ -1,5 +1,5 @@
 use Rattle.std.proofs.Common.{◌+◌, ◌*◌}
-use Rattle.isle_lists.proofs.lists.Maker.+patterns.Given as goal
+use Rattle.isle_lists.proofs.two_terms.Maker.+patterns.Given as goal
 
 abbrev pub decreases-push_pattern : goal.decreases-push_pattern
 decreases-push_pattern l = 3 * l.depth

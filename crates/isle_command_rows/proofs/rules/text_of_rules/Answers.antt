@@ -1,5 +1,5 @@
 use Rattle.isle_laws_typing.proofs.OwnTypes.{own_types_read}
-use Rattle.isle_answers.proofs.rules.text_of_rules.Goals as goal
+use Rattle.isle_command_rows.proofs.rules.text_of_rules.Goals as goal
 
 -- valid types can be read, and the type table is read as them
 pub from_ast-requires-2 : goal.from_ast-requires-2

@@ -1,0 +1,39 @@
+//! Rows that ask the command `isle`.
+
+use isle_base::syntax::Files;
+use isle_command::answers::answer_to;
+use isle_command::words::{Asked, Request, Unasked, asked_by};
+use std::alloc::{AllocError, Global};
+
+/// Adds what the command answers to a row's words and files: a line with the status, then what goes to standard output and
+/// standard error, of which what is told with `--progress` comes first. Wrong words are answered with what is wrong with them.
+pub fn push_command(
+    alloc: Global,
+    words: &[String],
+    files: &Files,
+    out: &mut String,
+) -> Result<(), AllocError> {
+    match asked_by(alloc, words, false) {
+        Ok(Asked::Request(asked)) => push_answer(alloc, &asked, files, out),
+        Ok(Asked::Help) => out.push_str("help\n"),
+        Ok(Asked::Version) => out.push_str("version\n"),
+        Err(Unasked::Words(why)) => write!(out, "status 2\n{why}\n"),
+        Err(Unasked::Memory) => Err(AllocError),
+    }
+}
+
+// Adds what is answered to files.
+fn push_answer(
+    alloc: Global,
+    asked: &Request<'_>,
+    files: &Files,
+    out: &mut String,
+) -> Result<(), AllocError> {
+    let mut told = Vec::new(alloc);
+    let answer = answer_to(alloc, asked, files, false, &mut told)?;
+    let status = answer.status;
+    write!(out, "status {status}\n")?;
+    out.push_str(&String::from_utf8_lossy(alloc, &told)?)?;
+    out.push_str(&answer.out)?;
+    out.push_str(&answer.err)
+}
