@@ -33,3 +33,7 @@ pub mod DistinctSources
 pub mod WellBuilt
 pub mod WholeDemandsLowered
 pub mod WholeSets
+pub mod FiniteAndTotal
+pub mod PatternConstants
+pub mod SetsServed
+pub mod Uses

@@ -7,3 +7,7 @@ pub mod OneTree
 pub mod Scores
 pub mod TreeMeanings
 pub mod WholeDemands
+pub mod FiniteAndTotal
+pub mod PatternConstants
+pub mod SetsServed
+pub mod Uses

@@ -1,4 +1,5 @@
-//! Laws of best trees: at each place the greatest test is made, for exactly the rules that it covers.
+//! Laws of best trees: at each place the greatest test is made, for exactly the rules that it covers. And what follows for those
+//! who use what `lower` promises.
 //!
 //! A function here has no code, or calls the laws that its proof rests on: its clause is a law, and its proof stands in
 //! `proofs/`.
@@ -15,13 +16,17 @@ ghost use Rattle.isle_laws_trees.specs.OneAnswer.{BestTreesAreOfWhatIsShown, Bui
 ghost use Rattle.isle_laws_trees.specs.NoLimits.{CheckableProgramsPassNoLimit, AcceptedPassNoLimit};
 ghost use Rattle.isle_laws_trees.specs.WholeDemands.{AcceptedDemandsAreWhole, AcceptedSetsAreWhole};
 ghost use Rattle.isle_laws_trees.specs.NoLoops.{TreesWithoutCallsHaveNoLoop};
+ghost use Rattle.isle_laws_trees.specs.FiniteAndTotal.{HeadlineIsOfMaps, LoweredTermsRunByFunctions};
+ghost use Rattle.isle_laws_trees.specs.PatternConstants.{ConstantsAreOfPatterns, HeadlineIsOfPatterns, LiteralsAreToldApart};
+ghost use Rattle.isle_laws_trees.specs.SetsServed.{LoweredSetsMeanTheirRules};
+ghost use Rattle.isle_laws_trees.specs.Uses.{BytesAreToldApart};
 
 use isle_laws_closure::{
     built_demands_are_whole, built_sets_are_collected, built_sets_are_tested,
     built_sets_are_well_built, multi_terms_have_one_priority, no_rule_asks_and_goes_over,
 };
 use isle_laws_matching::{
-    built_rules_are_told_apart, built_sets_match_by_demands, results_are_held,
+    built_rules_are_told_apart, built_sets_match_by_demands, built_sets_mean_their_rules, results_are_held,
     rules_without_multi_go_over_no_calls, served_multi_sets_serve, served_sets_serve_tests,
     taken_rules_give_their_outcome,
 };
@@ -226,4 +231,51 @@ pub fn none_is_accepted_and_refused()
 /// it too, where no two rules stand at one position.
 pub fn refusing_gives_one()
     ensures { RefusingGivesOne }
+{}
+
+/// The headline's premise on constants is one on the constants that a walk over typed patterns meets.
+pub fn constants_are_of_patterns()
+    ensures { ConstantsAreOfPatterns }
+{}
+
+/// So whatever tree has the headline, or collects the bag of a multi term, has it by this premise.
+pub fn headline_is_of_patterns()
+    ensures { HeadlineIsOfPatterns }
+{}
+
+/// Where patterns name no constants but booleans and numbers of built-in types, every meaning tells them apart.
+pub fn literals_are_told_apart()
+    ensures { LiteralsAreToldApart }
+{}
+
+/// So it is for the two rules of a term that gives 10 for 1, and else its argument.
+pub fn bytes_are_told_apart()
+    ensures { BytesAreToldApart }
+{}
+
+/// Of what accepted definitions are lowered to, each set means what its rules do wherever a meaning serves the term's rules and
+/// tells constants apart.
+pub fn lowered_sets_mean_their_rules()
+    ensures { LoweredSetsMeanTheirRules }
+{
+    best_trees_mean_their_sets();
+    built_sets_are_tested();
+    served_sets_serve_tests();
+    built_sets_are_collected();
+    served_multi_sets_serve();
+    multi_terms_have_one_priority();
+    rules_without_multi_go_over_no_calls();
+    built_sets_mean_their_rules();
+}
+
+/// Whatever tree has the headline, or collects the bag of a multi term, has it under all finite maps that serve: these are
+/// meanings.
+pub fn headline_is_of_maps()
+    ensures { HeadlineIsOfMaps }
+{}
+
+/// By total functions that are well typed for what its rules use, and tell the constants of their patterns apart, the tree of
+/// each term of accepted definitions runs to the choice by priority, or collects the bag of the rules.
+pub fn lowered_terms_run_by_functions()
+    ensures { LoweredTermsRunByFunctions }
 {}

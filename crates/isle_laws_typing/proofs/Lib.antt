@@ -33,3 +33,6 @@ pub mod WellFormed
 pub mod WellTypedPrograms
 pub mod WellTypedRules
 pub mod WellTypedTerms
+pub mod ReadAgain
+pub mod RefusedAgain
+pub mod RulesAgain

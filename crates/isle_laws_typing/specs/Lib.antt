@@ -10,3 +10,4 @@ pub mod TableLaws
 pub mod TypingLaws
 pub mod TypingResults
 pub mod WellTypedPrograms
+pub mod ReadAgain

@@ -16,6 +16,7 @@ ghost use Rattle.isle_laws_typing.specs.RangeLaws.{ReducedNumbersAreInRange, Num
 ghost use Rattle.isle_laws_typing.specs.ReadEnvironments.{TypesAreShown, TypesStay};
 ghost use Rattle.isle_laws_typing.specs.ReadLimits.{ElaboratedRulesAreWithinLimits, ElaboratedListsPassNoLimit};
 ghost use Rattle.isle_laws_typing.specs.RefusedTerms.{RefusedTermsRefuseRules};
+ghost use Rattle.isle_laws_typing.specs.ReadAgain.{RefusedEnvironmentsCanBeReadAgain, RulesAreRefusedAgain, RulesAreTypedAgain};
 
 /// A pattern becomes by the rules of typing what the function gives, and nothing where it gives nothing.
 pub fn patterns_agree()
@@ -309,4 +310,20 @@ pub fn elaborated_rules_are_within_limits()
 /// No rule of a list that elaborates passes a limit on expansions.
 pub fn elaborated_lists_pass_no_limit()
     ensures { ElaboratedListsPassNoLimit }
+{}
+
+/// What a refusal to read terms or rules leaves of a type environment can be read again: terms are valid by it exactly where
+/// they were, and the same errors refuse them.
+pub fn refused_environments_can_be_read_again()
+    ensures { RefusedEnvironmentsCanBeReadAgain }
+{}
+
+/// And a list has typed rules by its types exactly where it had some before.
+pub fn rules_are_typed_again()
+    ensures { RulesAreTypedAgain }
+{}
+
+/// And the same errors refuse its rules, limits that they name included.
+pub fn rules_are_refused_again()
+    ensures { RulesAreRefusedAgain }
 {}
