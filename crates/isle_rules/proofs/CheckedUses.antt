@@ -11,7 +11,7 @@ use Rattle.isle_model.specs.lists.TermTable.{rule_trees}
 use Rattle.isle_base.specs.NotedErrors.{NotesMore}
 use Rattle.isle_rules.proofs.LimitErrors.{both}
 use Rattle.isle_rules.specs.Constructors.{uses_of_rule, uses_of_definition}
-use Rattle.isle_reports.specs.Elaborating.{Checks}
+use Rattle.isle_typed.specs.Elaborating.{Checks}
 use Rattle.isle_types.proofs.RightTypes.{all_left, all_right}
 use Rattle.isle_rules.proofs.PatternUsing.{checks_both}
 

@@ -11,7 +11,7 @@ use Rattle.isle_model.specs.lists.Tables.{internal_constructor, external_constru
 use Rattle.isle_model.specs.lists.KnownTypes.{KnownTypes}
 use Rattle.isle_model.specs.lists.TermTable.{ConstructorTree, ExternalTree, decl_trees, constructor_trees, extractor_trees, external_trees, extractor_template, internal_extractors, external_extractors, external_constructors, has_rules, constructor_kind, extractor_kind, decl_as_term, terms_made, terms_in_order, term_names_met, term_table, is_defined, IsDefined, AllDefined}
 use Rattle.isle_model.proofs.Members.{in_head}
-use Rattle.isle_reports.specs.RuleNaming.{is_defined_term, AreDefined, IsLeftUndefined, left_undefined}
+use Rattle.isle_typed.specs.RuleNaming.{is_defined_term, AreDefined, IsLeftUndefined, left_undefined}
 use Rattle.isle_rules.specs.RuleBreaches.{IsUndefined, undefined}
 use Rattle.isle_rules.proofs.TemplateUses.{each_made, of_types}
 

@@ -16,7 +16,7 @@ use Rattle.isle_types.specs.Envs.{names_of, constant_at}
 use Rattle.isle_types.specs.TypeViews.{type_views}
 use Rattle.isle_base.specs.NotedErrors.{NotesMore}
 use Rattle.isle_rules.specs.declared.term_env.TermEnv.{TermEnv}
-use Rattle.isle_reports.specs.Elaborating.{Checks}
+use Rattle.isle_typed.specs.Elaborating.{Checks}
 use Rattle.isle_rules.specs.Progress.{Remains}
 use Rattle.isle_rules.specs.ExprReadings.{expr_reading}
 use Rattle.isle_rules.specs.Translating.{Standing, IsSettingOf, Shows, IsTranslated, IsReported}

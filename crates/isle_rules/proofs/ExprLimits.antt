@@ -21,7 +21,7 @@ use Rattle.isle_typed.specs.declared.exprs.Expr.{Expr}
 use Rattle.isle_typed.specs.ExprViews.{expr_views, expr_parts}
 use Rattle.isle_rules.specs.declared.term_env.TermEnv.{TermEnv}
 use Rattle.isle_rules.specs.declared.typing.progress.Stop.{Stop}
-use Rattle.isle_reports.specs.Elaborating.{Checks}
+use Rattle.isle_typed.specs.Elaborating.{Checks}
 use Rattle.isle_rules.specs.Progress.{newest, Remains, CountsOne, Counts}
 use Rattle.isle_rules.specs.ExprReadings.{made_entry, all_made, expr_reading, args_reading}
 use Rattle.isle_rules.specs.ExprUses.{found_expr_converter, declared_converter, inside_call, allowed, expr_list, TakesArgs}

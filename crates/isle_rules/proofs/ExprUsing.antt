@@ -21,7 +21,7 @@ use Rattle.isle_base.specs.NotedErrors.{NotesMore}
 use Rattle.isle_terms.specs.Terms.{has_constructor_kind}
 use Rattle.isle_rules.specs.declared.term_env.TermEnv.{TermEnv}
 use Rattle.isle_rules.specs.declared.typing.progress.Stop.{Stop}
-use Rattle.isle_reports.specs.Elaborating.{Checks}
+use Rattle.isle_typed.specs.Elaborating.{Checks}
 use Rattle.isle_rules.specs.Progress.{newest, Remains, CountsOne, Counts}
 use Rattle.isle_rules.specs.ExprReadings.{made_entry, all_made, expr_reading, args_reading}
 use Rattle.isle_rules.specs.ExprUses.{found_expr_converter, declared_converter, inside_call, allowed, expr_list, ConvertsExpr, TakesArgs}

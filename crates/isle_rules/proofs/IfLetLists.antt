@@ -22,7 +22,7 @@ use Rattle.isle_typed.specs.declared.rules.IfLet as R
 use Rattle.isle_rules.specs.declared.term_env.TermEnv.{TermEnv}
 use Rattle.isle_rules.specs.declared.typing.progress.Stop.{Stop}
 use Rattle.isle_rules.specs.declared.typing.progress.Stop.TheVariants.{Memory, Nesting, Expansions}
-use Rattle.isle_reports.specs.Elaborating.{Checks}
+use Rattle.isle_typed.specs.Elaborating.{Checks}
 use Rattle.isle_rules.specs.Progress.{Remains}
 use Rattle.isle_rules.specs.RuleReadings.{iflet_reading, iflets_reading}
 use Rattle.isle_typed.specs.RuleViews.{iflet_view}

@@ -11,7 +11,7 @@ use Rattle.isle_base.specs.declared.syntax.Span.{Span}
 use Rattle.isle_base.specs.ErrorViews.{limit_view}
 use Rattle.isle_rules.specs.RuleLists.{NotesLimit}
 pub use Rattle.isle_base.proofs.NotedErrors.{some_noted, both, may_both, still_plain}
-pub use Rattle.isle_reports.proofs.FirstErrors.{may_check}
+pub use Rattle.isle_typed.proofs.FirstErrors.{may_check}
 
 -- a limit that is noted
 pub limit_noted : (l : Limit) (at : Pos) (msg : String Global) (span : Span) → span.from ≡ at → (old new : List Error) → new ≡ old ++ LimitError l msg span ∷ [] → NotesLimit l at old new

@@ -15,7 +15,7 @@ use Rattle.isle_base.specs.Positions.{OccurAmong, pattern_positions, patterns_po
 use Rattle.isle_base.proofs.Positioned.{among_both, among_left, among_right, among_rest, among_first, among_one, among_each, among_none, among_join, among_next, among_under}
 use Rattle.isle_typed.specs.declared.rules.Rule.{Rule}
 use Rattle.isle_typed.specs.RuleViews.{rule_views}
-use Rattle.isle_reports.specs.RuleNaming.{rules_at, terms_at}
+use Rattle.isle_typed.specs.RuleNaming.{rules_at, terms_at}
 use Rattle.isle_terms.specs.TermPositions.{kind_positions, entry_positions, terms_positions}
 use Rattle.isle_rules.specs.Lets.{with_let}
 

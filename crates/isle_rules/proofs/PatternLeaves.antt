@@ -15,7 +15,7 @@ use Rattle.isle_types.specs.Envs.{names_of, constant_at}
 use Rattle.isle_types.specs.TypeViews.{type_views}
 use Rattle.isle_base.specs.NotedErrors.{NotesMore}
 use Rattle.isle_rules.specs.declared.term_env.TermEnv.{TermEnv}
-use Rattle.isle_reports.specs.Elaborating.{Checks}
+use Rattle.isle_typed.specs.Elaborating.{Checks}
 use Rattle.isle_rules.specs.Progress.{newest, BindsNext, Remains}
 use Rattle.isle_rules.specs.PatternReadings.{pattern_reading, binding_reading}
 use Rattle.isle_rules.specs.Translating.{Standing, Reading, IsSettingOf, Shows, Wherever, IsTranslated, IsReported}

@@ -26,7 +26,7 @@ use Rattle.isle_rules.specs.declared.term_env.TermEnv.{TermEnv}
 use Rattle.isle_rules.specs.declared.typing.progress.Progress.{Progress}
 use Rattle.isle_rules.specs.declared.typing.progress.Stop.{Stop}
 use Rattle.isle_rules.specs.declared.typing.progress.Stop.TheVariants.{Memory, Nesting, Expansions}
-use Rattle.isle_reports.specs.Elaborating.{Checks}
+use Rattle.isle_typed.specs.Elaborating.{Checks}
 use Rattle.isle_rules.specs.Progress.{Remains, CountsOne, Counts}
 use Rattle.isle_rules.specs.PatternReadings.{pattern_reading, parts_reading, each_reading}
 use Rattle.isle_rules.specs.PatternUses.{found_term, found_converter, found_template, inside_term, TakesParts}

@@ -23,9 +23,9 @@ use Rattle.isle_types.specs.declared.type_env.TypeEnv.{TypeEnv}
 use Rattle.isle_types.specs.Envs.{names_of}
 use Rattle.isle_typed.specs.declared.rules.Rule.{Rule}
 use Rattle.isle_typed.specs.RuleViews.{rule_views}
-use Rattle.isle_reports.specs.Elaborating.{Checks}
-use Rattle.isle_reports.specs.FirstErrors.{MayBegin}
-use Rattle.isle_reports.proofs.FirstErrors.{IsNoted, BeginsUnless, begins_next, may_check, goes_on, parted}
+use Rattle.isle_typed.specs.Elaborating.{Checks}
+use Rattle.isle_typed.specs.FirstErrors.{MayBegin}
+use Rattle.isle_typed.proofs.FirstErrors.{IsNoted, BeginsUnless, begins_next, may_check, goes_on, parted}
 use Rattle.isle_rules.specs.declared.term_env.TermEnv.{TermEnv}
 use Rattle.isle_rules.specs.Constructors.{uses_of_rule, uses_of_definition, has_constructor_if_there, AreFoundMade}
 use Rattle.isle_rules.specs.PatternUses.{found_term}

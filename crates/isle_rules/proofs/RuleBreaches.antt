@@ -18,10 +18,10 @@ use Rattle.isle_types.specs.Envs.{names_of}
 use Rattle.isle_terms.specs.TermViews.{term_views}
 use Rattle.isle_typed.specs.declared.rules.Rule.{Rule}
 use Rattle.isle_typed.specs.RuleViews.{rule_views}
-use Rattle.isle_reports.specs.Elaborating.{Checks}
-use Rattle.isle_reports.specs.FirstErrors.{BeginsAt, MayBegin}
-use Rattle.isle_reports.specs.RuleNaming.{MapsNames, TakesName, AreDefined, IsLeftUndefined}
-use Rattle.isle_reports.proofs.FirstErrors.{GoesOn, begins_still, begins_as}
+use Rattle.isle_typed.specs.Elaborating.{Checks}
+use Rattle.isle_typed.specs.FirstErrors.{BeginsAt, MayBegin}
+use Rattle.isle_typed.specs.RuleNaming.{MapsNames, TakesName, AreDefined, IsLeftUndefined}
+use Rattle.isle_typed.proofs.FirstErrors.{GoesOn, begins_still, begins_as}
 use Rattle.isle_rules.specs.declared.term_env.TermEnv.{TermEnv}
 use Rattle.isle_rules.specs.Constructors.{AreMadeUses, AreFoundMade, AreTermsNamed, uses_of_rule}
 use Rattle.isle_rules.specs.RuleBreaches.{IsUntyped, UsesUnmade, uses_unmade, IsUndefined, BreaksReading, isnt_typed, takes_a_name, isnt_defined, uses_the_unmade}

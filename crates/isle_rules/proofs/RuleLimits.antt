@@ -16,7 +16,7 @@ use Rattle.isle_laws_typing.proofs.Typings.{ne-eqb}
 use Rattle.isle_types.specs.declared.ids.TypeId.{TypeId}
 use Rattle.isle_types.specs.Envs.{names_of, IsInterned}
 use Rattle.isle_base.specs.NotedErrors.{NotesMore, MayNoteMore}
-use Rattle.isle_reports.specs.Elaborating.{Checks}
+use Rattle.isle_typed.specs.Elaborating.{Checks}
 use Rattle.isle_typed.specs.declared.rules.IfLet as R
 use Rattle.isle_typed.specs.RuleViews.{iflet_view}
 use Rattle.isle_rules.specs.declared.term_env.TermEnv.{TermEnv}

@@ -18,9 +18,9 @@ use Rattle.isle_terms.specs.TermViews.{term_views}
 use Rattle.isle_rules.specs.declared.term_env.TermEnv.{TermEnv}
 use Rattle.isle_typed.specs.declared.rules.Rule.{Rule}
 use Rattle.isle_rules.specs.Constructors.{AreFoundMade, AreTermsNamed, uses_of_rule}
-use Rattle.isle_reports.specs.Elaborating.{Checks}
+use Rattle.isle_typed.specs.Elaborating.{Checks}
 use Rattle.isle_rules.specs.RuleLists.{CollectsRules}
-use Rattle.isle_reports.specs.RuleNaming.{MapsNames, AreDefined}
+use Rattle.isle_typed.specs.RuleNaming.{MapsNames, AreDefined}
 use Rattle.isle_rules.specs.RulesRead.{CanBeRead, AreReadRules}
 use Rattle.isle_typed.specs.RuleViews.{rule_views}
 use Rattle.isle_rules.specs.Translating.{Keeps, IsSettingOf}

@@ -27,8 +27,8 @@ use Rattle.isle_base.specs.NotedErrors.{MayNoteMore}
 use Rattle.isle_laws_typing.proofs.RefusedTerms.{of_reading}
 use Rattle.isle_rules.specs.LimitsNamed.{NamesPastLimits, NamesTypedPastLimits, NamesFirstPastLimits}
 use Rattle.isle_rules.specs.RuleErrors.{NotesOfRules, IsOfRules}
-use Rattle.isle_reports.specs.RuleNaming.{MapsNames, AreDefined, IsLeftUndefined}
-use Rattle.isle_reports.proofs.FirstErrors.{begins_as}
+use Rattle.isle_typed.specs.RuleNaming.{MapsNames, AreDefined, IsLeftUndefined}
+use Rattle.isle_typed.proofs.FirstErrors.{begins_as}
 use Rattle.isle_terms.specs.TermBreaches.{FirstBreaksTerms}
 use Rattle.isle_rules.specs.RuleBreaches.{BreaksReading, BeginsWrong, BreaksRules, of_terms, of_rules, FirstBreaksRules}
 use Rattle.isle_rules.proofs.RuleBreaches.{of_list}

@@ -15,7 +15,7 @@ use Rattle.isle_types.specs.Envs.{names_of, IsInterned}
 use Rattle.isle_base.specs.NotedErrors.{NotesMore}
 use Rattle.isle_rules.specs.declared.term_env.TermEnv.{TermEnv}
 use Rattle.isle_rules.specs.Constructors.{has_constructor_if_there, AreMadeUses, AreFoundMade, uses_of_rule, AreTermsNamed}
-use Rattle.isle_reports.specs.Elaborating.{Checks}
+use Rattle.isle_typed.specs.Elaborating.{Checks}
 use Rattle.isle_rules.specs.PatternUses.{found_term}
 use Rattle.isle_rules.specs.RuleLists.{rules_within, CollectsRules}
 use Rattle.isle_rules.specs.Translating.{Keeps, IsSettingOf}

@@ -15,8 +15,8 @@ use Rattle.isle_model.specs.claims.Environments.{TypesRead, setting_of}
 use Rattle.isle_types.specs.declared.type_env.TypeEnv.{TypeEnv}
 use Rattle.isle_types.specs.Envs.{names_of}
 use Rattle.isle_terms.specs.TermBreaches.{BreaksTerms}
-use Rattle.isle_reports.specs.FirstErrors.{BeginsAt, MayBegin}
-use Rattle.isle_reports.specs.RuleNaming.{TakesName, AreDefined, IsLeftUndefined}
+use Rattle.isle_typed.specs.FirstErrors.{BeginsAt, MayBegin}
+use Rattle.isle_typed.specs.RuleNaming.{TakesName, AreDefined, IsLeftUndefined}
 use Rattle.isle_rules.specs.declared.term_env.TermEnv.{TermEnv}
 use Rattle.isle_rules.specs.Constructors.{AreMadeUses, AreTermsNamed, uses_of_rule}
 use Rattle.isle_rules.specs.RuleLists.{rule_within, rules_within}

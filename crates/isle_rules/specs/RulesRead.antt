@@ -9,7 +9,7 @@ use Rattle.isle_types.specs.declared.type_env.TypeEnv.{TypeEnv}
 use Rattle.isle_types.specs.Envs.{names_of}
 use Rattle.isle_rules.specs.declared.term_env.TermEnv.{TermEnv}
 use Rattle.isle_rules.specs.Constructors.{AreTermsNamed}
-use Rattle.isle_reports.specs.RuleNaming.{AreDefined}
+use Rattle.isle_typed.specs.RuleNaming.{AreDefined}
 use Rattle.isle_typed.specs.RuleViews.{rule_views}
 use Rattle.isle_rules.specs.TermEnvs.{rule_in_env}
 use Rattle.isle_rules.specs.Translating.{IsSettingOf}

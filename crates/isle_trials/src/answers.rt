@@ -10,7 +10,7 @@ ghost use Rattle.isle_terms.specs.TermViews.{term_views};
 ghost use Rattle.isle_trials.specs.TrialAnswers.{answer_given, answers_of, constant_answer, gives_withheld, in_place_of, is_answer_withheld, is_withheld};
 
 use isle_calls::echo::{Echo, constant_number};
-use isle_reports::checks::literal_number;
+use isle_typed::checks::literal_number;
 use isle_run::externs::Externs;
 use isle_run::values::{Content, Value};
 use isle_terms::Term;

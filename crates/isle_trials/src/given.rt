@@ -5,7 +5,7 @@ use crate::rust_names::{labels, push_number, push_sym, push_type};
 use cranelift_isle::lower::Lowered;
 use cranelift_isle::sema::{Fields, Sym, Type, TypeEnv, TypeId, Variant};
 use isle_calls::echo::constant_number;
-use isle_reports::checks::literal_number;
+use isle_typed::checks::literal_number;
 use std::alloc::{AllocError, Global};
 
 /// Adds the items that generated code takes from outside.

@@ -6,7 +6,7 @@ use cranelift_isle::sema::{BuiltinType, IntType, Sym, Type, TypeId, Variant};
 use cranelift_isle::trie_again::{Binding, Constraint, Rule, RuleSet};
 use isle_calls::echo::constant_number;
 use isle_lists::chance::Chance;
-use isle_reports::checks::literal_number;
+use isle_typed::checks::literal_number;
 use isle_run::values::Value;
 use std::alloc::{AllocError, Global};
 

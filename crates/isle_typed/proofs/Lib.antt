@@ -10,3 +10,10 @@ pub mod ExprRunForms
 pub mod NumberedVars
 pub mod OrderedVars
 pub mod RuleRunSteps
+pub mod Defaults
+pub mod FirstErrors
+mod MapSteps
+mod NameSteps
+mod CountSteps
+mod DefinedSteps
+mod PlacesNoted

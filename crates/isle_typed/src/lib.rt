@@ -1,10 +1,14 @@
-//! Typed rules: patterns, expressions, the rules that they make, and how a tool walks them.
+//! Typed rules: patterns, expressions, the rules that they make, and how a tool walks them. What can be asked of a rule before its
+//! parts are read (names, literals, counts), and how an error is reported.
 #![tactic(auto)]
 
+pub mod checks;
 mod expr_visits;
 mod exprs;
 mod pattern_visits;
 mod patterns;
+pub mod reports;
+pub mod rule_names;
 mod rule_visits;
 mod rules;
 mod used_terms;

@@ -8,14 +8,14 @@ ghost use Rattle.isle_base.specs.SyntaxViews.{position, definition_view, definit
 ghost use Rattle.isle_model.specs.lists.TermTable.{rule_trees};
 ghost use Rattle.isle_rules.specs.Constructors.{has_constructor_if_there, uses_of_rule, uses_of_definition, AreFoundMade};
 ghost use Rattle.isle_rules.specs.RuleBreaches.{UsesUnmade};
-ghost use Rattle.isle_reports.specs.Elaborating.{Checks};
-ghost use Rattle.isle_reports.specs.FirstErrors.{MayBegin};
+ghost use Rattle.isle_typed.specs.Elaborating.{Checks};
+ghost use Rattle.isle_typed.specs.FirstErrors.{MayBegin};
 ghost use Rattle.isle_rules.specs.PatternUses.{found_term};
 ghost use Rattle.isle_base.specs.Positions.{NotesAt, expr_positions, iflet_positions, rule_positions, definition_positions, positions_of};
 
 use crate::term_env::TermEnv;
 use isle_base::syntax::{Def, Error, Expr, Ident, IfLet, Pos, Rule};
-use isle_reports::reports::report_unmade;
+use isle_typed::reports::report_unmade;
 use isle_types::TypeEnv;
 use std::alloc::AllocError;
 

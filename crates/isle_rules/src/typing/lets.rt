@@ -13,7 +13,7 @@ ghost use Rattle.isle_base.specs.Positions.{NotesAt};
 
 use crate::typing::progress::Progress;
 use isle_base::syntax::{Error, LetDef, Pos};
-use isle_reports::reports::report;
+use isle_typed::reports::report;
 use isle_typed::{BoundVar, Expr};
 use isle_types::{Sym, TypeEnv, TypeId, VarId};
 use std::alloc::AllocError;

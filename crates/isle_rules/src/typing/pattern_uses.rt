@@ -8,7 +8,7 @@ ghost use Rattle.isle_terms.specs.Terms.{has_extractor_kind, has_extractor_term}
 ghost use Rattle.isle_terms.specs.TermViews.{term_view};
 ghost use Rattle.isle_types.specs.Envs.{IsInterned};
 ghost use Rattle.isle_base.specs.NotedErrors.{NotesMore};
-ghost use Rattle.isle_reports.specs.Elaborating.{Checks};
+ghost use Rattle.isle_typed.specs.Elaborating.{Checks};
 ghost use Rattle.isle_rules.specs.Progress.{Remains};
 ghost use Rattle.isle_rules.specs.PatternUses.{found_term, found_converter, found_template, inside_term, UsesTerm};
 ghost use Rattle.isle_rules.specs.UseLimits.{UseComes};
@@ -19,8 +19,8 @@ ghost use Rattle.isle_rules.specs.RulePositions.{with_templates, StaysPlaced, Ex
 use crate::term_env::TermEnv;
 use crate::typing::progress::{Progress, Stop};
 use isle_base::syntax::{Error, Ident, Pattern, Pos};
-use isle_reports::checks::check_count;
-use isle_reports::reports::{report, type_text};
+use isle_typed::checks::check_count;
+use isle_typed::reports::{report, type_text};
 use isle_terms::{ExtractorKind, Term, TermKind};
 use isle_types::{TypeEnv, TypeId};
 use std::alloc::AllocError;

@@ -6,7 +6,7 @@ ghost use Rattle.isle_model.specs.lists.Elaborated.{root_parts, rule_of_sides, w
 ghost use Rattle.isle_model.specs.lists.Setting.{declared_flags};
 ghost use Rattle.isle_terms.specs.TermViews.{flags_view, term_view};
 ghost use Rattle.isle_types.specs.Envs.{names_of, IsInterned};
-ghost use Rattle.isle_reports.specs.Elaborating.{Checks};
+ghost use Rattle.isle_typed.specs.Elaborating.{Checks};
 ghost use Rattle.isle_rules.specs.RuleReadings.{rule_reading, sides_view, scope_of};
 ghost use Rattle.isle_typed.specs.RuleViews.{rule_view};
 ghost use Rattle.isle_rules.specs.LimitStops.{MeetsLimits};
@@ -20,7 +20,7 @@ use crate::typing::progress::{Progress, Stop};
 use crate::typing::sides::RuleSides;
 use isle_base::syntax;
 use isle_base::syntax::{Error, Pos};
-use isle_reports::reports::report;
+use isle_typed::reports::report;
 use isle_terms::{Term, TermFlags, TermKind};
 use isle_typed::{BoundVar, Rule};
 use isle_types::{RuleId, Sym, TypeEnv};

@@ -18,7 +18,7 @@ ghost use Rattle.isle_terms.specs.TermViews.{term_views};
 use crate::term_env::TermEnv;
 use crate::typing::progress::Progress;
 use isle_base::syntax::{Def, Error};
-use isle_reports::rule_names::{check_defined, map_names, name_rules};
+use isle_typed::rule_names::{check_defined, map_names, name_rules};
 use isle_types::TypeEnv;
 use std::alloc::AllocError;
 

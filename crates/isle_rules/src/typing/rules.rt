@@ -13,7 +13,7 @@ ghost use Rattle.isle_typed.specs.RuleViews.{rule_view, rule_views};
 ghost use Rattle.isle_rules.specs.Translating.{Keeps};
 ghost use Rattle.isle_base.specs.Positions.{NotesAt, OccurAmong, rule_positions, definition_positions, positions_of};
 ghost use Rattle.isle_rules.specs.RulePositions.{with_templates, StandsIf};
-ghost use Rattle.isle_reports.specs.RuleNaming.{rules_at};
+ghost use Rattle.isle_typed.specs.RuleNaming.{rules_at};
 
 use crate::term_env::TermEnv;
 use crate::typing::progress::Progress;

@@ -21,7 +21,7 @@ use crate::term_env::TermEnv;
 use crate::typing::progress::{Progress, Stop};
 use isle_base::syntax;
 use isle_base::syntax::{Ident, Pos};
-use isle_reports::checks::check_count;
+use isle_typed::checks::check_count;
 use isle_terms::{Term, TermFlags};
 use isle_typed::{Expr, IfLet, Pattern};
 use isle_types::{TypeEnv, TypeId};

@@ -10,7 +10,7 @@ use Rattle.isle_types.specs.declared.ids.TypeId.{TypeId}
 use Rattle.isle_rules.specs.ExprReadings.{expected, expr_reading, args_reading, lets_reading}
 use Rattle.isle_typed.specs.ExprViews.{expr_view, let_views, let_parts}
 use Rattle.isle_rules.specs.Translating.{standing}
-use Rattle.isle_reports.proofs.Defaults.{same_default}
+use Rattle.isle_typed.proofs.Defaults.{same_default}
 use Rattle.isle_typed.proofs.ExprBridges.{row_exprs-hidden}
 use Rattle.isle_rules.proofs.ExprLists.{none_yet, next_arg, arg_stops}
 use Rattle.isle_rules.proofs.ExprSizes.{expr_size, exprs_size, lets_size, less, inside_less, smaller_arg, smaller_def}

@@ -11,7 +11,7 @@ use Rattle.isle_terms.specs.TermViews.{term_view, term_views}
 use Rattle.isle_rules.specs.PatternReadings.{pattern_reading, parts_reading, each_reading}
 use Rattle.isle_typed.specs.PatternViews.{pattern_view, pattern_views, pattern_parts}
 use Rattle.isle_rules.specs.Translating.{standing}
-use Rattle.isle_reports.proofs.Defaults.{same_default}
+use Rattle.isle_typed.proofs.Defaults.{same_default}
 use Rattle.isle_typed.proofs.PatternBridges.{row_patterns-hidden}
 use Rattle.isle_rules.proofs.PatternLists.{none_yet, next_part, part_stops, next_each, each_stops}
 use Rattle.isle_rules.proofs.PatternSizes.{tree_size, trees_size, growth, grown, smaller, deeper_smaller, expansion_smaller, smaller_part}

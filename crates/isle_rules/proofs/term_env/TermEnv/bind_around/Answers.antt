@@ -4,7 +4,7 @@ use Rattle.isle_types.specs.Envs.{names_of}
 use Rattle.isle_base.specs.SyntaxViews.{name_view, position}
 use Rattle.isle_model.specs.lists.Formed.{pattern_type}
 use Rattle.isle_model.specs.rules.Typed.{match_bind}
-use Rattle.isle_reports.specs.Elaborating.{Checks}
+use Rattle.isle_typed.specs.Elaborating.{Checks}
 use Rattle.isle_typed.specs.PatternViews.{pattern_view}
 use Rattle.isle_rules.specs.Progress.{newest, BindsNext}
 use Rattle.isle_rules.specs.Translating.{standing}

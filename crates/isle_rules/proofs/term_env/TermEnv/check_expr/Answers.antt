@@ -3,7 +3,7 @@ use Rattle.isle_base.specs.Expressions.{terms_of_expr}
 use Rattle.isle_base.specs.Places.{term_view}
 use Rattle.isle_base.specs.SyntaxViews.{expr_view, position}
 use Rattle.isle_rules.specs.Constructors.{AreFoundMade}
-use Rattle.isle_reports.specs.Elaborating.{Checks}
+use Rattle.isle_typed.specs.Elaborating.{Checks}
 use Rattle.isle_base.specs.Positions.{NotesAt, expr_positions}
 use Rattle.isle_base.proofs.Positioned.{notes_among}
 use Rattle.isle_rules.proofs.CheckedUses.{on_then}

@@ -4,7 +4,7 @@ use Rattle.isle_base.specs.Expressions.{terms_of_expr}
 use Rattle.isle_base.specs.SyntaxViews.{expr_view, iflet_view, rule_view}
 use Rattle.isle_model.specs.lists.Syntax.{Position, Name}
 use Rattle.isle_rules.specs.Constructors.{has_constructor_if_there, uses_of_rule, AreFoundMade}
-use Rattle.isle_reports.specs.Elaborating.{Checks}
+use Rattle.isle_typed.specs.Elaborating.{Checks}
 use Rattle.isle_rules.specs.PatternUses.{found_term}
 use Rattle.isle_rules.proofs.CheckedUses.{on_then, checks_all}
 use Rattle.isle_base.specs.Positions.{NotesAt, expr_positions, iflet_positions, rule_positions}

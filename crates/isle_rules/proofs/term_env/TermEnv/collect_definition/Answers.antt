@@ -8,7 +8,7 @@ use Rattle.isle_rules.proofs.RuleEnds.{rule_added, rule_left_out}
 use Rattle.isle_base.specs.SyntaxViews.{definition_view, rule_view as tree_view}
 use Rattle.isle_base.specs.Positions.{definition_positions}
 use Rattle.isle_base.proofs.Positioned.{among_left, notes_nothing}
-use Rattle.isle_reports.specs.RuleNaming.{rules_at}
+use Rattle.isle_typed.specs.RuleNaming.{rules_at}
 use Rattle.isle_rules.proofs.PartPlaces.{added_rule}
 use Rattle.isle_rules.proofs.RulesTold.{nothing_told}
 use Rattle.isle_rules.proofs.term_env.TermEnv.collect_definition.Goals as goal

@@ -11,7 +11,7 @@ use Rattle.isle_base.specs.Positions.{OccurAmong, definition_positions, position
 use Rattle.isle_base.proofs.Positioned.{among_same, among_both, notes_nothing, among_none, among_join, notes_parts}
 use Rattle.isle_rules.specs.RulePositions.{with_templates}
 use Rattle.isle_typed.specs.RuleViews.{rule_views}
-use Rattle.isle_reports.specs.RuleNaming.{rules_at}
+use Rattle.isle_typed.specs.RuleNaming.{rules_at}
 use Rattle.isle_rules.proofs.ErrorPositions.{among_with}
 use Rattle.isle_rules.proofs.PartPlaces.{each_inside}
 use Rattle.isle_rules.proofs.RulesTold.{nothing_told, next_told, all_told}

@@ -3,7 +3,7 @@ use Rattle.isle_base.specs.SyntaxViews.{definition_views}
 use Rattle.isle_model.specs.lists.TermTable.{rule_trees}
 use Rattle.isle_base.specs.Positions.{NotesAt, OccurAmong, positions_of}
 use Rattle.isle_typed.specs.RuleViews.{rule_views}
-use Rattle.isle_reports.specs.RuleNaming.{rules_at}
+use Rattle.isle_typed.specs.RuleNaming.{rules_at}
 use Rattle.isle_rules.specs.RulePositions.{with_templates}
 use Rattle.isle_rules.specs.LimitsNamed.{NamesPastLimits}
 use Rattle.isle_rules.specs.RuleErrors.{NotesOfRules}

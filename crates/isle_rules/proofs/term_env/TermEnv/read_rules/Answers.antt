@@ -3,12 +3,12 @@ use Rattle.isle_base.specs.SyntaxViews.{definition_views}
 use Rattle.isle_model.specs.lists.Elaborated.{named_rules}
 use Rattle.isle_model.specs.lists.TermTable.{rule_trees}
 use Rattle.isle_terms.specs.TermViews.{term_views}
-use Rattle.isle_reports.specs.Elaborating.{Checks}
+use Rattle.isle_typed.specs.Elaborating.{Checks}
 use Rattle.isle_rules.specs.RuleLists.{CollectsRules}
-use Rattle.isle_reports.specs.RuleNaming.{MapsNames, TakesName, AreDefined, IsLeftUndefined, rules_at, terms_at}
+use Rattle.isle_typed.specs.RuleNaming.{MapsNames, TakesName, AreDefined, IsLeftUndefined, rules_at, terms_at}
 use Rattle.isle_typed.specs.RuleViews.{rule_views}
-use Rattle.isle_reports.specs.FirstErrors.{MayBegin}
-use Rattle.isle_reports.proofs.FirstErrors.{goes_on}
+use Rattle.isle_typed.specs.FirstErrors.{MayBegin}
+use Rattle.isle_typed.proofs.FirstErrors.{goes_on}
 use Rattle.isle_rules.specs.RuleBreaches.{BeginsUntyped}
 use Rattle.isle_rules.proofs.RuleBreaches.{stages, once_mapped, right_checked}
 use Rattle.isle_rules.specs.RuleErrors.{NotesOfRules}

@@ -1,6 +1,6 @@
 use Rattle.std.proofs.Common.{◌≡◌, Bool, true, sym, subst}
 use Rattle.isle_terms.specs.TermViews.{flags_view, kind_view}
-use Rattle.isle_reports.specs.Elaborating.{Checks}
+use Rattle.isle_typed.specs.Elaborating.{Checks}
 use Rattle.isle_rules.specs.ExprUses.{allowed}
 use Rattle.isle_rules.proofs.ExprLeaves.{checks_and}
 use Rattle.isle_rules.proofs.typing.expr_uses.check_flags.Goals as goal

@@ -1,3 +1,0 @@
-pub mod Elaborating
-pub mod FirstErrors
-pub mod RuleNaming
