@@ -20,7 +20,7 @@ use Rattle.isle_types.specs.declared.ids.TermId.{TermId}
 use Rattle.isle_rules.specs.declared.term_env.TermEnv.{TermEnv}
 use Rattle.isle_sets.specs.declared.trie_again.RuleSet.{RuleSet}
 use Rattle.isle_term_sets.specs.AddedRules.{report_views}
-use Rattle.isle_builder.specs.BuiltSets.{term_set_views, WereBuilt}
+use Rattle.cranelift_isle.specs.BuiltSets.{term_set_views, WereBuilt}
 use Rattle.cranelift_isle.specs.Checks.{env_program, IsChecked, NamesRules, ReportsAreErrors}
 use Rattle.cranelift_isle.proofs.NamedPlaces.{reports_name_rules}
 use Rattle.isle_base.specs.ErrorViews.{error_view, error_views}

@@ -6,3 +6,5 @@ pub mod OneAnswer
 pub mod NamedErrors
 pub mod NamedPlaces
 pub mod ErrorsOfReading
+pub mod TermsAscending
+pub mod BuildingLists

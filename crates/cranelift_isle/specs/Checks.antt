@@ -19,7 +19,7 @@ use Rattle.isle_typed.specs.RuleViews.{rule_views}
 use Rattle.isle_rules.specs.declared.term_env.TermEnv.{TermEnv}
 use Rattle.isle_sets.specs.declared.trie_again.RuleSet.{RuleSet}
 use Rattle.isle_term_sets.specs.AddedRules.{report_views}
-use Rattle.isle_builder.specs.BuiltSets.{ShowsElaborated, term_set_views}
+use Rattle.cranelift_isle.specs.BuiltSets.{ShowsElaborated, term_set_views}
 use Rattle.isle_base.specs.ErrorViews.{error_views}
 use Rattle.isle_base.specs.Positions.{positions_named}
 

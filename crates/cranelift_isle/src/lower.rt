@@ -10,7 +10,7 @@ ghost use Rattle.isle_laws_trees.specs.NoLimits.{PassedInLowering, PassNoLimit};
 ghost use Rattle.isle_laws_trees.specs.OneAnswer.{AreCheckErrors};
 ghost use Rattle.isle_laws_trees.specs.OneTree.{IsOnlyBest};
 ghost use Rattle.isle_base.specs.ErrorViews.{error_views};
-ghost use Rattle.isle_builder.specs.BuiltSets.{term_set_views};
+ghost use Rattle.cranelift_isle.specs.BuiltSets.{term_set_views};
 ghost use Rattle.isle_sets.specs.SiteViews.{set_view};
 ghost use Rattle.isle_serialize.specs.TreeViews.{tree_view};
 ghost use Rattle.cranelift_isle.specs.Environments.{BreaksWhereRefused, NamesLackedLimits, TellsOfEach};

@@ -13,11 +13,11 @@ ghost use Rattle.isle_base.specs.Answers.{OnErrors};
 ghost use Rattle.isle_base.specs.ErrorViews.{error_views};
 ghost use Rattle.isle_base.specs.Positions.{HasSingleSpans};
 ghost use Rattle.isle_term_sets.specs.AddedRules.{report_views};
-ghost use Rattle.isle_builder.specs.BuiltSets.{IsOfElaborated, ShowsElaborated, WereBuilt, term_set_views};
+ghost use Rattle.cranelift_isle.specs.BuiltSets.{IsOfElaborated, ShowsElaborated, WereBuilt, term_set_views};
 ghost use Rattle.cranelift_isle.specs.Checks.{IsChecked, NamesRules, OfErrors, OfProgram, env_program};
 
 use isle_base::syntax::{Error, Fault};
-use isle_builder::build::build;
+use crate::trie_again::build;
 use isle_laws_closure::{
     check_errors_name_left_out, check_errors_name_masks, check_errors_name_pairs,
 };

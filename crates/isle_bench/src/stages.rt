@@ -1,13 +1,13 @@
 //! Lists at the stages from definitions to trees. What a stage was made of is kept beside it.
 ghost use Rattle.isle_base.specs.SyntaxViews.{definition_views};
-ghost use Rattle.isle_builder.specs.BuiltSets.{IsOfElaborated};
+ghost use Rattle.cranelift_isle.specs.BuiltSets.{IsOfElaborated};
 ghost use Rattle.isle_model.specs.claims.Environments.{AreTypesOf};
 ghost use Rattle.isle_types.specs.EnvViews.{environment_view};
 
 use cranelift_isle::lower::{Lowered, lower};
 use cranelift_isle::overlap::check;
 use isle_base::syntax::{Def, Error, Fault};
-use isle_builder::build::build;
+use cranelift_isle::trie_again::build;
 use isle_rules::TermEnv;
 use isle_sets::trie_again::RuleSet;
 use isle_terms::TermTable;
@@ -55,7 +55,7 @@ pub struct ListWithTrees {
 
 impl Model for ListWithRules {
     ghost use Rattle.std.specs.Prelude.{ℕ, length};
-    ghost use Rattle.isle_builder.specs.BuiltSets.{IsOfElaborated};
+    ghost use Rattle.cranelift_isle.specs.BuiltSets.{IsOfElaborated};
 
     ghost Value = { ℕ };
 

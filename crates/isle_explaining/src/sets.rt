@@ -1,7 +1,7 @@
 //! The rule sets of definitions that may be refused for what their rules demand.
 
 use isle_base::syntax::{Def, Fault};
-use isle_builder::build::build;
+use cranelift_isle::trie_again::build;
 use isle_rules::TermEnv;
 use isle_sets::trie_again::RuleSet;
 use isle_types::{TermId, TypeEnv};

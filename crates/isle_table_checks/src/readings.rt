@@ -1,7 +1,7 @@
 //! What the tests read: the types of definitions with their terms, or with their rules.
 
 ghost use Rattle.std.specs.Prelude.{IfOk};
-ghost use Rattle.isle_builder.specs.BuiltSets.{IsOfElaborated};
+ghost use Rattle.cranelift_isle.specs.BuiltSets.{IsOfElaborated};
 
 use isle_base::syntax::{Def, Fault};
 use isle_rules::TermEnv;

@@ -4,7 +4,7 @@ ghost use Rattle.std.specs.Prelude.{IfOk};
 
 use crate::readings::types_and_rules;
 use isle_base::stablemapset::StableMap;
-use isle_builder::build::build;
+use cranelift_isle::trie_again::build;
 use isle_lists::one_term::list;
 use isle_sets::trie_again::{BindingId, Constraint, Overlap, Rule, RuleSet};
 use isle_text::read;

@@ -1,6 +1,6 @@
 // The sets that are built of typed rules, and what is asked of them.
 ghost use Rattle.std.specs.Prelude.{IsSome, IsTrue};
-ghost use Rattle.isle_builder.specs.BuiltSets.{IsOfElaborated};
+ghost use Rattle.cranelift_isle.specs.BuiltSets.{IsOfElaborated};
 ghost use Rattle.isle_model.specs.claims.Questions.{variant_by_id};
 ghost use Rattle.isle_rules.specs.TermEnvs.{term_in_env, variant_term_in};
 ghost use Rattle.isle_sets.specs.SiteViews.{site_view};
@@ -9,7 +9,7 @@ ghost use Rattle.isle_types.specs.TypeViews.{type_views};
 
 use crate::readings::types_and_rules;
 use isle_base::syntax::{Error, Limit};
-use isle_builder::build::build;
+use cranelift_isle::trie_again::build;
 use isle_printing::errors::error_lines;
 use isle_printing::places::Places;
 use isle_rules::TermEnv;

@@ -5,7 +5,7 @@ use Rattle.std.proofs.lemmas.List.Elements.{All-nil, All-push, All-head, All-tai
 use Rattle.isle_model.specs.claims.Layers.{IsBuiltForSome, LoweredTerm}
 use Rattle.isle_sets.specs.SiteViews.{set_view}
 use Rattle.isle_serialize.specs.TreeViews.{tree_view}
-use Rattle.isle_builder.specs.BuiltSets.{term_set_view, term_set_views}
+use Rattle.cranelift_isle.specs.BuiltSets.{term_set_view, term_set_views}
 use Rattle.cranelift_isle.specs.Lowerings.{lowered_view, lowered_views, set_of_term, SharesTests, BindsBeforeAnyUse}
 use Rattle.cranelift_isle.proofs.TreesSoFar.{moved}
 use Rattle.cranelift_isle.proofs.lower.trees_of.Goals as goal

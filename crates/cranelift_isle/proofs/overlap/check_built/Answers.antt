@@ -6,7 +6,7 @@ use Rattle.isle_model.specs.rules.Program.{is_multi}
 use Rattle.isle_model.specs.sites.SetRules.{reports_of_sets}
 use Rattle.isle_term_sets.specs.AddedRules.{report_views}
 use Rattle.isle_base.specs.Positions.{HasSingleSpans}
-use Rattle.isle_builder.specs.BuiltSets.{term_set_views}
+use Rattle.cranelift_isle.specs.BuiltSets.{term_set_views}
 use Rattle.cranelift_isle.specs.Checks.{env_program}
 use Rattle.cranelift_isle.proofs.CheckedSets.{found_names_rules, nothing_found, something_found}
 use Rattle.cranelift_isle.proofs.overlap.check_built.Goals as goal

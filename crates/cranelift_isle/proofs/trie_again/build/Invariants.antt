@@ -3,9 +3,9 @@ use Rattle.isle_base.specs.Positions.{HasSingleSpans}
 use Rattle.isle_model.specs.claims.Environments.{IsElaborated, TypesRead, program_of}
 use Rattle.isle_model.specs.lists.Elaborated.{TypedRules}
 use Rattle.isle_model.specs.lists.Syntax.{Definition}
-use Rattle.isle_builder.specs.SetsSoFar.{StandAfter}
-use Rattle.isle_builder.specs.BuiltSets.{ShowsElaborated}
-use Rattle.isle_builder.proofs.build.build.Given as goal
+use Rattle.cranelift_isle.specs.SetsSoFar.{StandAfter}
+use Rattle.cranelift_isle.specs.BuiltSets.{ShowsElaborated}
+use Rattle.cranelift_isle.proofs.trie_again.build.Given as goal
 
 abbrev pub invariant-loop-rule : goal.invariant-loop-rule
 invariant-loop-rule l = record {

@@ -1,5 +1,5 @@
 use Rattle.std.proofs.Common.{sym}
-use Rattle.isle_builder.proofs.build.take_set.Goals as goal
+use Rattle.cranelift_isle.proofs.trie_again.take_set.Goals as goal
 
 pub returns-in-Some-clause-table : goal.returns-in-Some-clause-table
 returns-in-Some-clause-table c tables = tables c.args.term c.in-Some.set (sym c.in-Some.ensures.value)

@@ -1,7 +1,7 @@
 use Rattle.std.proofs.Common.{◌≡◌, ◌++◌, [], ap, ◌∙◌, sym, rules, append-nil}
-use Rattle.isle_builder.specs.SetsSoFar.{sets_so_far}
-use Rattle.isle_builder.specs.BuiltSets.{term_set_views}
-use Rattle.isle_builder.proofs.build.list_sets.Goals as goal
+use Rattle.cranelift_isle.specs.SetsSoFar.{sets_so_far}
+use Rattle.cranelift_isle.specs.BuiltSets.{term_set_views}
+use Rattle.cranelift_isle.proofs.trie_again.list_sets.Goals as goal
 
 pub returns-clause-listed : goal.returns-clause-listed
 returns-clause-listed c =

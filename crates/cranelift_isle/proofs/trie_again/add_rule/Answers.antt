@@ -4,10 +4,10 @@ use Rattle.std.specs.Ordering.{nat_cmp}
 use Rattle.isle_laws_closure.specs.RuleByRule.{of_one_term, or_nothing_built}
 use Rattle.isle_model.specs.sites.Limits.{sites_after_rules}
 use Rattle.isle_typed.specs.RuleViews.{rule_view}
-use Rattle.isle_builder.specs.SetsSoFar.{term_set_at}
-use Rattle.isle_builder.proofs.BuildingLists.{goes_on_next, may_add}
-use Rattle.isle_builder.proofs.TermsAscending.{not_at}
-use Rattle.isle_builder.proofs.build.add_rule.Goals as goal
+use Rattle.cranelift_isle.specs.SetsSoFar.{term_set_at}
+use Rattle.cranelift_isle.proofs.BuildingLists.{goes_on_next, may_add}
+use Rattle.cranelift_isle.proofs.TermsAscending.{not_at}
+use Rattle.cranelift_isle.proofs.trie_again.add_rule.Goals as goal
 
 pub add_rule-requires : goal.add_rule-requires
 add_rule-requires g c =

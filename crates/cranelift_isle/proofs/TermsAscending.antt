@@ -16,7 +16,7 @@ use Rattle.isle_model.proofs.Members.{all_members, get_from_member}
 use Rattle.isle_laws_closure.specs.RuleByRule.{AreLookedUp}
 use Rattle.isle_laws_closure.specs.ReportLaws.{RulesHaveTerms}
 use Rattle.isle_term_sets.specs.AddedRules.{set_so_far}
-use Rattle.isle_builder.specs.SetsSoFar.{term_set_at}
+use Rattle.cranelift_isle.specs.SetsSoFar.{term_set_at}
 use Rattle.isle_term_sets.specs.declared.term_sets.TermSet.{TermSet}
 use Rattle.isle_model.proofs.Numbers.{tied}
 

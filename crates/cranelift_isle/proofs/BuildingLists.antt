@@ -35,10 +35,10 @@ use Rattle.isle_typed.specs.declared.rules.Rule.{Rule}
 use Rattle.isle_rules.specs.declared.term_env.TermEnv.{TermEnv}
 use Rattle.isle_sets.specs.declared.trie_again.RuleSet.{RuleSet}
 use Rattle.isle_term_sets.specs.AddedRules.{HasTable, MayAddRule, SetGoesOn, report_views, set_so_far}
-use Rattle.isle_builder.specs.SetsSoFar.{MayGoOn, StandAfter, term_set_at, sets_so_far}
-use Rattle.isle_builder.specs.BuiltSets.{ShowsElaborated, WereBuilt, term_set_views}
+use Rattle.cranelift_isle.specs.SetsSoFar.{MayGoOn, StandAfter, term_set_at, sets_so_far}
+use Rattle.cranelift_isle.specs.BuiltSets.{ShowsElaborated, WereBuilt, term_set_views}
 use Rattle.isle_term_sets.specs.declared.term_sets.TermSet.{TermSet}
-use Rattle.isle_builder.proofs.TermsAscending.{looked_up, terms_listed}
+use Rattle.cranelift_isle.proofs.TermsAscending.{looked_up, terms_listed}
 
 -- 1. one more rule
 module _ (known : List TermEntry) (p : Program) (done : List TypedRule) (r : TypedRule) (sets : BTreeMap ℕ TermSet) (errors : List Error) (h : MayGoOn known r p done sets errors)

@@ -1,2 +1,0 @@
-pub mod TermsAscending
-pub mod BuildingLists

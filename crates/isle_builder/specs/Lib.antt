@@ -1,2 +1,0 @@
-pub mod SetsSoFar
-pub mod BuiltSets
