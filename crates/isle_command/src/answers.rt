@@ -25,8 +25,8 @@ use isle_explaining::explanation::{explanation, with_rules};
 use isle_explaining::lints::warnings;
 use isle_explaining::stats::stats;
 use isle_printing::print::{Names, print_bindings, print_block};
-use isle_rendering::layout::push_reports;
-use isle_rendering::report::Report;
+use isle_printing::layout::push_reports;
+use isle_printing::report::Report;
 use std::alloc::{AllocError, Global};
 use std::io::Write;
 

@@ -6,7 +6,7 @@ use cranelift_isle::lower::{Lowered, LoweredTerm};
 use isle_base::syntax::{Files, Pos};
 use isle_explaining::demands::{push_head, site_texts, text_at};
 use isle_explaining::names::Names;
-use isle_rendering::lines::{file_name, file_text, line_at};
+use isle_printing::lines::{file_name, file_text, line_at};
 use isle_serialize::serialize::{Block, ControlFlow, EvalStep, MatchArm};
 use isle_sets::trie_again::{BindingId, Rule};
 use std::alloc::{AllocError, Global};

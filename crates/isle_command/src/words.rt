@@ -1,7 +1,7 @@
 //! What the command is asked by its words.
 
 use isle_answers::samples::sample_text;
-use isle_rendering::layout::Layout;
+use isle_printing::layout::Layout;
 use std::alloc::{AllocError, AllocFailed, Global};
 
 /// What is to be done.

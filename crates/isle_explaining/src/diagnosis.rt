@@ -4,7 +4,7 @@ use crate::names::{Names, name_of, priority_of, rule_at};
 use crate::sets::{Sets, sets_of};
 use crate::witness::witness;
 use isle_base::syntax::{Def, Error, Fault, Limit, Pos, Span};
-use isle_rendering::report::{Label, Level, Note, Report};
+use isle_printing::report::{Label, Level, Note, Report};
 use isle_sets::trie_again::{Rule, RuleSet};
 use isle_types::TermId;
 use std::alloc::{AllocError, Global};

@@ -5,8 +5,8 @@ use crate::names::Names;
 use crate::trees::{Search, push_returns};
 use cranelift_isle::lower::{Lowered, LoweredTerm};
 use isle_base::syntax::{Files, Pos};
-use isle_rendering::layout::push_place;
-use isle_rendering::lines::{file_name, file_text, line_at};
+use isle_printing::layout::push_place;
+use isle_printing::lines::{file_name, file_text, line_at};
 use isle_sets::trie_again::{Constraint, Overlap, Rule};
 use std::alloc::{AllocError, Global};
 

@@ -7,7 +7,7 @@ use cranelift_isle::lower::Lowered;
 use isle_base::syntax::{Def, Pos};
 use isle_reading::premises::is_multi;
 use isle_reading::walk::{Visit, steps};
-use isle_rendering::report::{Label, Level, Report};
+use isle_printing::report::{Label, Level, Report};
 use isle_serialize::serialize::ControlFlow;
 use isle_sets::trie_again::{Overlap, Rule};
 use std::alloc::{AllocError, Global};

@@ -4,7 +4,7 @@ use crate::diagnosis::add_help;
 use crate::lints::begun;
 use cranelift_isle::lower::Lowered;
 use isle_base::syntax::{Def, Expr, Ident, IfLet, Pattern, Pos, Rule};
-use isle_rendering::report::{Label, Report};
+use isle_printing::report::{Label, Report};
 use isle_types::{BuiltinType, IntType, TermId, Type, TypeId};
 use std::alloc::{AllocError, Global};
 

@@ -3,7 +3,7 @@
 use crate::diagnosis::add_help;
 use crate::lints::begun;
 use isle_base::syntax::{Expr, Ident, IfLet, Pattern, Pos, Rule};
-use isle_rendering::report::{Label, Report};
+use isle_printing::report::{Label, Report};
 use std::alloc::{AllocError, Global};
 use std::collections::BTreeMap;
 

@@ -11,7 +11,7 @@ use cranelift_isle::lower::{Lowered, LoweredTerm};
 use isle_base::syntax::Files;
 use isle_explaining::names::Names;
 use isle_reading::walk::steps;
-use isle_rendering::report::Report;
+use isle_printing::report::Report;
 use isle_sets::trie_again::{BindingId, Rule};
 use std::alloc::{AllocError, Global};
 

@@ -3,7 +3,7 @@
 use crate::json::sets::push_place;
 use crate::json::writer::Json;
 use isle_base::syntax::Files;
-use isle_rendering::report::{Label, Note, Report};
+use isle_printing::report::{Label, Note, Report};
 use std::alloc::AllocError;
 
 /// Adds reports at a key, in order.
