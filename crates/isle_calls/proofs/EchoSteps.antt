@@ -4,9 +4,9 @@ use Rattle.std.proofs.lemmas.List.{at_drop_more, at_drop_all}
 use Rattle.isle_model.specs.rules.Values as Values
 use Rattle.isle_model.specs.rules.Values.{Values, value_and}
 use Rattle.isle_types.specs.declared.ids.TypeId.{TypeId}
-use Rattle.isle_run.specs.declared.values.Value.{Value}
-use Rattle.isle_run.specs.ValueViews.{value_view, value_views}
-use Rattle.isle_run.proofs.ValueSteps.{before, before-push, before-none}
+use Rattle.isle_interpreter.specs.declared.values.Value.{Value}
+use Rattle.isle_interpreter.specs.ValueViews.{value_view, value_views}
+use Rattle.isle_interpreter.proofs.ValueSteps.{before, before-push, before-none}
 use Rattle.isle_calls.specs.Echoes.{for_each_type}
 
 -- a value for each of these types

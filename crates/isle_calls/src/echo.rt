@@ -1,16 +1,16 @@
 //! Answers to what trees call, by a rule that a person works out by hand.
-#![tactic(auto, using(isle_run::proofs::ContentSteps::content_steps, isle_run::proofs::ValueSteps::value_steps))]
+#![tactic(auto, using(isle_interpreter::proofs::ContentSteps::content_steps, isle_interpreter::proofs::ValueSteps::value_steps))]
 
 ghost use Rattle.std.specs.Prelude.{◌≡◌, IfOk, map, not, option_map};
 ghost use Rattle.isle_model.specs.rules.Meaning.{content_and, many, no_content};
 ghost use Rattle.isle_model.specs.rules.Program.{always_answers, kind_of};
 ghost use Rattle.isle_terms.specs.TermViews.{extractor_view, flags_view, term_view, term_views};
 ghost use Rattle.isle_types.specs.Envs.{constant_at};
-ghost use Rattle.isle_run.specs.ValueViews.{content_view, value_view, value_views};
+ghost use Rattle.isle_interpreter.specs.ValueViews.{content_view, value_view, value_views};
 ghost use Rattle.isle_calls.specs.Echoes.{constant_number, impure_echo, echoes, extracted_by, first_or_zero, for_each_type, given_by, in_form, pure_echo, named_value, outputs_of};
 
-use isle_run::externs::Externs;
-use isle_run::values::{Content, Value};
+use isle_interpreter::externs::Externs;
+use isle_interpreter::values::{Content, Value};
 use isle_terms::{ExtractorKind, Term, TermFlags, TermKind};
 use isle_types::{Sym, TermId, TypeEnv, TypeId};
 use std::alloc::{AllocError, Global};

@@ -5,7 +5,7 @@ use cranelift_isle::lower::Lowered;
 use cranelift_isle::sema::{BuiltinType, Term, TermKind, Type, TypeId};
 use isle_base::syntax::{Expr, Ident};
 use isle_reading::names::{term_name, type_name};
-use isle_run::values::Value;
+use isle_interpreter::values::Value;
 use std::alloc::{AllocError, AllocFailed, Global};
 
 /// Why a call has no outcome.

@@ -1,9 +1,9 @@
 //! Answers to what trees call: an echo's, but for constants of built-in types, and for values that are withheld.
-#![tactic(auto, using(isle_run::proofs::ContentSteps::content_steps, isle_run::proofs::ValueSteps::value_steps))]
+#![tactic(auto, using(isle_interpreter::proofs::ContentSteps::content_steps, isle_interpreter::proofs::ValueSteps::value_steps))]
 
 ghost use Rattle.std.specs.Prelude.{◌≡◌};
 ghost use Rattle.isle_model.specs.rules.Meaning.{many};
-ghost use Rattle.isle_run.specs.ValueViews.{content_view, content_views, value_view};
+ghost use Rattle.isle_interpreter.specs.ValueViews.{content_view, content_views, value_view};
 ghost use Rattle.isle_types.specs.Envs.{constant_at};
 ghost use Rattle.isle_types.specs.TypeViews.{type_views};
 ghost use Rattle.isle_terms.specs.TermViews.{term_views};
@@ -11,8 +11,8 @@ ghost use Rattle.isle_trials.specs.TrialAnswers.{answer_given, answers_of, const
 
 use isle_calls::echo::{Echo, constant_number};
 use isle_typed::checks::literal_number;
-use isle_run::externs::Externs;
-use isle_run::values::{Content, Value};
+use isle_interpreter::externs::Externs;
+use isle_interpreter::values::{Content, Value};
 use isle_terms::Term;
 use isle_types::{Sym, TermId, TypeEnv, TypeId};
 use std::alloc::{AllocError, Global};

@@ -7,7 +7,7 @@ use crate::values::Makings;
 use cranelift_isle::lower::LoweredTerm;
 use cranelift_isle::sema::TypeId;
 use isle_lists::chance::Chance;
-use isle_run::values::Value;
+use isle_interpreter::values::Value;
 use std::alloc::{AllocError, Global};
 
 /// What is done with a term.

@@ -6,11 +6,11 @@ use crate::trial::Trial;
 use crate::value_texts::push_composed;
 use cranelift_isle::lower::LoweredTerm;
 use isle_calls::outcomes::outcome_text;
-use isle_choose::choose::choose;
+use isle_interpreter::choose::choose;
 use isle_reading::premises::is_multi;
-use isle_run::run::run;
-use isle_run::state::{Ending, Outcome};
-use isle_run::values::Value;
+use isle_interpreter::run::run;
+use isle_interpreter::state::{Ending, Outcome};
+use isle_interpreter::values::Value;
 use std::alloc::{AllocError, Global};
 
 /// A line for each call of each term: the call, and its outcome.

@@ -4,7 +4,7 @@
 use cranelift_isle::lower::Lowered;
 use cranelift_isle::sema::{BuiltinType, Fields, IntType, Sym, Type, TypeEnv, TypeId};
 use isle_reading::names::{sym_name, variant_of};
-use isle_run::values::Value;
+use isle_interpreter::values::Value;
 use std::alloc::{AllocError, Global};
 
 /// Adds a name as generated code writes it.

@@ -9,7 +9,7 @@ use crate::value_texts::push_showing;
 use cranelift_isle::sema::Term;
 use cranelift_isle::syntax::Files;
 use isle_reading::premises::is_multi;
-use isle_run::values::Value;
+use isle_interpreter::values::Value;
 use isle_rust::code::{CodeError, rust_code};
 use std::alloc::{AllocError, Global};
 

@@ -5,7 +5,7 @@ use cranelift_isle::lower::Lowered;
 use cranelift_isle::sema::{BuiltinType, Fields, IntType, Sym, Type, TypeEnv, TypeId, Variant};
 use isle_calls::echo::constant_number;
 use isle_reading::names::{full_variant_name, sym_name, type_name};
-use isle_run::values::Value;
+use isle_interpreter::values::Value;
 use std::alloc::{AllocError, Global};
 
 /// Adds a function for each type that tells a value of it.

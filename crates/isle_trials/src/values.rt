@@ -7,7 +7,7 @@ use cranelift_isle::trie_again::{Binding, Constraint, Rule, RuleSet};
 use isle_calls::echo::constant_number;
 use isle_lists::chance::Chance;
 use isle_typed::checks::literal_number;
-use isle_run::values::Value;
+use isle_interpreter::values::Value;
 use std::alloc::{AllocError, Global};
 
 // How many composed values nest at most.

@@ -2,9 +2,9 @@
 
 use isle_base::syntax::Pos;
 use isle_calls::echo::Echo;
-use isle_run::run::run;
-use isle_run::state::Ending;
-use isle_run::values::{Content, Value};
+use isle_interpreter::run::run;
+use isle_interpreter::state::Ending;
+use isle_interpreter::values::{Content, Value};
 use isle_serialize::serialize::{Block, ControlFlow, EvalStep};
 use isle_sets::trie_again::{Binding, BindingId, RuleSet, TupleIndex};
 use isle_types::{TypeEnv, TypeId};

@@ -1,5 +1,5 @@
 use Rattle.std.proofs.Common.{rules}
-use Rattle.isle_run.specs.ValueViews.{value_view}
+use Rattle.isle_interpreter.specs.ValueViews.{value_view}
 use Rattle.isle_calls.proofs.EchoSteps.{each_more, each_all}
 use Rattle.isle_calls.proofs.echo.for_each_type.Goals as goal
 

@@ -1,6 +1,6 @@
 use Rattle.std.proofs.Common.{◌≡◌, drop}
-use Rattle.isle_run.specs.ValueViews.{value_view}
-use Rattle.isle_run.proofs.ValueSteps.{before}
+use Rattle.isle_interpreter.specs.ValueViews.{value_view}
+use Rattle.isle_interpreter.proofs.ValueSteps.{before}
 use Rattle.isle_calls.proofs.EchoSteps.{each}
 use Rattle.isle_calls.proofs.echo.for_each_type.Given as goal
 

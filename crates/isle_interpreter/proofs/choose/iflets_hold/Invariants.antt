@@ -1,0 +1,12 @@
+use Rattle.std.proofs.Common.{◌≡◌, drop, map}
+use Rattle.isle_model.specs.rules.Matching.{iflets_hold}
+use Rattle.isle_typed.specs.RuleViews.{iflet_view}
+use Rattle.isle_model.specs.rules.Meaning.{total}
+use Rattle.isle_interpreter.specs.SourceViews.{of_terms, vars_view}
+use Rattle.isle_interpreter.proofs.choose.iflets_hold.Given as goal
+
+abbrev pub invariant-loop-iflet : goal.invariant-loop-iflet
+invariant-loop-iflet g l =
+    let program = of_terms l.source.terms.now in
+    let m = total (g.E.Externs.functions l.source.externs.now) in
+    iflets_hold program m (map iflet_view (drop l.iflet-index l.iflets)) (vars_view l.vars.items) ≡ iflets_hold program m (map iflet_view l.iflets) (vars_view l.fn.vars.items)

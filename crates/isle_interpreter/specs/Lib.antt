@@ -1,0 +1,3 @@
+pub mod ValueViews
+pub mod RunViews
+pub mod SourceViews

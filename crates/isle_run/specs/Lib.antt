@@ -1,2 +1,0 @@
-pub mod ValueViews
-pub mod RunViews
