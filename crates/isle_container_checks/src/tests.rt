@@ -4,3 +4,8 @@ mod last_digit;
 mod partition;
 mod stable;
 mod syntax;
+
+// What the maker makes, and what text spells.
+mod moved;
+mod moved_forms;
+mod spelled;

@@ -1,5 +1,0 @@
-//! Tests of the maker of definitions, against the reader of text.
-#![tactic(auto)]
-
-#[cfg(test)]
-mod tests;
