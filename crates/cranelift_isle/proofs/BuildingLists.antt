@@ -6,26 +6,26 @@ use Rattle.std.specs.Ordering.{nat_cmp}
 use Rattle.std.proofs.lemmas.Bool.{cases_Bool, false≢true}
 use Rattle.std.proofs.lemmas.List.{length-map, map-append, take_all}
 use Rattle.std.proofs.lemmas.Option.{same_Some, slice_get-map, slice_get_read}
-use Rattle.isle_model.specs.claims.Environments.{TypesRead, IsElaborated, program_of}
-use Rattle.isle_model.specs.claims.Layers.{BuildAnswers}
-use Rattle.isle_model.specs.claims.Refusals.{refusal_of}
-use Rattle.isle_model.specs.lists.Elaborated.{TypedRules}
-use Rattle.isle_model.specs.lists.Syntax.{Definition}
-use Rattle.isle_model.specs.lists.Tables.{TermEntry}
-use Rattle.isle_model.specs.rules.Program.{Program}
-use Rattle.isle_model.specs.rules.Typed.{TypedRule}
-use Rattle.isle_model.specs.sites.Limits.{sites_after_rules}
-use Rattle.isle_model.specs.sites.Overlap.{build_reports}
-use Rattle.isle_model.specs.sites.RuleSets.{StandFor}
-use Rattle.isle_model.specs.sites.Sites.{SiteSet}
-use Rattle.isle_model.proofs.Elements.{contains_from_in, in_slice, none_some}
-use Rattle.isle_model.proofs.Positions.{distinct_nil}
-use Rattle.isle_laws_closure.specs.RuleByRule.{AreBuiltSoFar, GoesPast, of_one_term, or_nothing_built}
-use Rattle.isle_laws_matching.specs.AnswerLaws.{BuiltSetsAreAnswered}
-use Rattle.isle_laws_closure.proofs.building.SetsSoFar.{building_ends_lem, building_goes_on_lem, building_starts_lem, stands}
-use Rattle.isle_laws_closure.proofs.overlaps.JudgedLists.{well_typed_rules_have_terms_lem}
-use Rattle.isle_laws_closure.proofs.built.SitesOnce.{once_after}
-use Rattle.isle_laws_typing.specs.WellTypedPrograms.{ElaboratedProgramsAreWellTyped}
+use Rattle.model.specs.claims.Environments.{TypesRead, IsElaborated, program_of}
+use Rattle.model.specs.claims.Layers.{BuildAnswers}
+use Rattle.model.specs.claims.Refusals.{refusal_of}
+use Rattle.model.specs.lists.Elaborated.{TypedRules}
+use Rattle.model.specs.lists.Syntax.{Definition}
+use Rattle.model.specs.lists.Tables.{TermEntry}
+use Rattle.model.specs.rules.Program.{Program}
+use Rattle.model.specs.rules.Typed.{TypedRule}
+use Rattle.model.specs.sites.Limits.{sites_after_rules}
+use Rattle.model.specs.sites.Overlap.{build_reports}
+use Rattle.model.specs.sites.RuleSets.{StandFor}
+use Rattle.model.specs.sites.Sites.{SiteSet}
+use Rattle.model.proofs.Elements.{contains_from_in, in_slice, none_some}
+use Rattle.model.proofs.Positions.{distinct_nil}
+use Rattle.laws_closure.specs.RuleByRule.{AreBuiltSoFar, GoesPast, of_one_term, or_nothing_built}
+use Rattle.laws_matching.specs.AnswerLaws.{BuiltSetsAreAnswered}
+use Rattle.laws_closure.proofs.building.SetsSoFar.{building_ends_lem, building_goes_on_lem, building_starts_lem, stands}
+use Rattle.laws_closure.proofs.overlaps.JudgedLists.{well_typed_rules_have_terms_lem}
+use Rattle.laws_closure.proofs.built.SitesOnce.{once_after}
+use Rattle.laws_typing.specs.WellTypedPrograms.{ElaboratedProgramsAreWellTyped}
 use Rattle.isle_base.specs.declared.syntax.Error.{Error}
 use Rattle.isle_types.specs.declared.ids.TermId.{TermId}
 use Rattle.isle_terms.specs.TermViews.{term_views}
@@ -33,11 +33,11 @@ use Rattle.isle_base.specs.ErrorViews.{error_views}
 use Rattle.isle_typed.specs.RuleViews.{rule_view, rule_views}
 use Rattle.isle_typed.specs.declared.rules.Rule.{Rule}
 use Rattle.isle_rules.specs.declared.term_env.TermEnv.{TermEnv}
-use Rattle.isle_sets.specs.declared.trie_again.RuleSet.{RuleSet}
-use Rattle.isle_term_sets.specs.AddedRules.{HasTable, MayAddRule, SetGoesOn, report_views, set_so_far}
+use Rattle.isle_rule_sets.specs.declared.trie_again.RuleSet.{RuleSet}
+use Rattle.isle_builder.specs.AddedRules.{HasTable, MayAddRule, SetGoesOn, report_views, set_so_far}
 use Rattle.cranelift_isle.specs.SetsSoFar.{MayGoOn, StandAfter, term_set_at, sets_so_far}
 use Rattle.cranelift_isle.specs.BuiltSets.{ShowsElaborated, WereBuilt, term_set_views}
-use Rattle.isle_term_sets.specs.declared.term_sets.TermSet.{TermSet}
+use Rattle.isle_builder.specs.declared.term_sets.TermSet.{TermSet}
 use Rattle.cranelift_isle.proofs.TermsAscending.{looked_up, terms_listed}
 
 -- 1. one more rule

@@ -4,22 +4,22 @@ use Rattle.std.specs.Prelude.{Result, Ok, Err, IfOk}
 use Rattle.std.specs.Global.{Vec}
 use Rattle.std.proofs.lemmas.List.{map-append}
 use Rattle.isle_base.specs.declared.syntax.Fault.{Fault}
-use Rattle.isle_laws_trees.specs.NoLimits.{BuildsWithinLimits}
-use Rattle.isle_model.specs.rules.Program.{Program, kind_of, flags_of, unknown, is_multi}
-use Rattle.isle_model.specs.lists.Tables.{TermEntry}
-use Rattle.isle_model.specs.sites.Overlap.{RuleReport, check_reports}
-use Rattle.isle_model.specs.sites.SetRules.{reports_of_sets}
-use Rattle.isle_model.specs.claims.Layers.{CheckAnswers, IsCheckable}
-use Rattle.isle_model.specs.claims.Refusals.{refusal_of}
-use Rattle.isle_laws_closure.specs.SetReportLaws.{all_reports}
-use Rattle.isle_model.proofs.Mapped.{nothing_mapped}
-use Rattle.isle_laws_closure.proofs.overlaps.SetChecks.{built_sets_are_checked_lem}
-use Rattle.isle_laws_closure.proofs.overlaps.SetReports.{built_sets_are_reported_lem}
+use Rattle.laws_trees.specs.NoLimits.{BuildsWithinLimits}
+use Rattle.model.specs.rules.Program.{Program, kind_of, flags_of, unknown, is_multi}
+use Rattle.model.specs.lists.Tables.{TermEntry}
+use Rattle.model.specs.sites.Overlap.{RuleReport, check_reports}
+use Rattle.model.specs.sites.SetRules.{reports_of_sets}
+use Rattle.model.specs.claims.Layers.{CheckAnswers, IsCheckable}
+use Rattle.model.specs.claims.Refusals.{refusal_of}
+use Rattle.laws_closure.specs.SetReportLaws.{all_reports}
+use Rattle.model.proofs.Mapped.{nothing_mapped}
+use Rattle.laws_closure.proofs.overlaps.SetChecks.{built_sets_are_checked_lem}
+use Rattle.laws_closure.proofs.overlaps.SetReports.{built_sets_are_reported_lem}
 use Rattle.isle_base.specs.declared.syntax.Error.{Error}
 use Rattle.isle_types.specs.declared.ids.TermId.{TermId}
 use Rattle.isle_rules.specs.declared.term_env.TermEnv.{TermEnv}
-use Rattle.isle_sets.specs.declared.trie_again.RuleSet.{RuleSet}
-use Rattle.isle_term_sets.specs.AddedRules.{report_views}
+use Rattle.isle_rule_sets.specs.declared.trie_again.RuleSet.{RuleSet}
+use Rattle.isle_builder.specs.AddedRules.{report_views}
 use Rattle.cranelift_isle.specs.BuiltSets.{term_set_views, WereBuilt}
 use Rattle.cranelift_isle.specs.Checks.{env_program, IsChecked, NamesRules, ReportsAreErrors}
 use Rattle.cranelift_isle.proofs.NamedPlaces.{reports_name_rules}

@@ -6,12 +6,12 @@ use Rattle.isle_base.specs.declared.syntax.Error.{Error}
 use Rattle.isle_base.specs.declared.syntax.Fault.{Fault}
 use Rattle.isle_base.specs.declared.syntax.Fault.TheVariants.{Memory, Errors}
 use Rattle.isle_base.specs.ErrorViews.{error_views}
-use Rattle.isle_model.specs.lists.Syntax.{Definition}
-use Rattle.isle_model.specs.lists.TypeTable.{IsValidTypes}
-use Rattle.isle_model.specs.claims.Environments.{types_read}
-use Rattle.isle_model.specs.claims.Refusals.{Refusal, NamesOnlyPassed, PassedInReading, RefusesTypes}
-use Rattle.isle_laws_trees.specs.NoLimits.{PassedInLowering, in_reading}
-use Rattle.isle_laws_trees.specs.OneAnswer.{AreCheckErrors}
+use Rattle.model.specs.lists.Syntax.{Definition}
+use Rattle.model.specs.lists.TypeTable.{IsValidTypes}
+use Rattle.model.specs.claims.Environments.{types_read}
+use Rattle.model.specs.claims.Refusals.{Refusal, NamesOnlyPassed, PassedInReading, RefusesTypes}
+use Rattle.laws_trees.specs.NoLimits.{PassedInLowering, in_reading}
+use Rattle.laws_trees.specs.OneAnswer.{AreCheckErrors}
 use Rattle.isle_rules.specs.LimitsNamed.{NamesTypedPastLimits, NamesFirstPastLimits}
 use Rattle.isle_rules.specs.RuleBreaches.{FirstBreaksRules}
 use Rattle.isle_rules.specs.RulesTold.{TellsReading}

@@ -8,27 +8,27 @@ use Rattle.isle_base.specs.Positions.{HasSingleSpans, ErrorStandsAt, positions_o
 use Rattle.isle_base.specs.declared.syntax.Error.{Error}
 use Rattle.isle_base.specs.declared.syntax.Fault.{Fault}
 use Rattle.isle_base.specs.declared.syntax.Fault.TheVariants.{Memory, Errors}
-use Rattle.isle_model.specs.lists.Syntax.{Definition}
-use Rattle.isle_model.specs.lists.TypeTable.{IsValidTypes}
-use Rattle.isle_model.specs.lists.Elaborated.{TypedRules, named}
-use Rattle.isle_model.specs.rules.Program.{Program}
-use Rattle.isle_model.specs.sites.RuleSets.{IsBuilt}
-use Rattle.isle_model.specs.claims.Environments.{TypesRead, types_read, setting_of, IsElaborated, IsRead, TypeEnvironment, AreRulesOf, program_of}
-use Rattle.isle_model.specs.claims.Layers.{own_program, IsAccepted, IsBuiltForSome, CheckAnswers, LoweredTerm, AreLowered, LoweringAnswers, RefusedBy, by_check, BestTreesKeepTheHeadline}
-use Rattle.isle_model.specs.claims.Refusals.{Refusal, refusal_of, NamesOnlyPassed, PassedInBuilding}
-use Rattle.isle_model.proofs.Elements.{none_some}
-use Rattle.isle_model.proofs.Mapped.{nothing_mapped}
-use Rattle.isle_laws_trees.specs.NoLimits.{PassedInLowering, in_building}
-use Rattle.isle_laws_trees.specs.OneTree.{IsOnlyBest, LoweredTreesAreOnlyBest}
-use Rattle.isle_laws_trees.specs.OneAnswer.{AreCheckErrors}
-use Rattle.isle_laws_trees.specs.WholeDemands.{AcceptedDemandsAreWhole, AcceptedSetsAreWhole}
-use Rattle.isle_laws_typing.proofs.NoReadLimits.{elaborated_rules_are_within_limits_lem}
-use Rattle.isle_laws_closure.specs.ShadowLaws.{check_errors}
+use Rattle.model.specs.lists.Syntax.{Definition}
+use Rattle.model.specs.lists.TypeTable.{IsValidTypes}
+use Rattle.model.specs.lists.Elaborated.{TypedRules, named}
+use Rattle.model.specs.rules.Program.{Program}
+use Rattle.model.specs.sites.RuleSets.{IsBuilt}
+use Rattle.model.specs.claims.Environments.{TypesRead, types_read, setting_of, IsElaborated, IsRead, TypeEnvironment, AreRulesOf, program_of}
+use Rattle.model.specs.claims.Layers.{own_program, IsAccepted, IsBuiltForSome, CheckAnswers, LoweredTerm, AreLowered, LoweringAnswers, RefusedBy, by_check, BestTreesKeepTheHeadline}
+use Rattle.model.specs.claims.Refusals.{Refusal, refusal_of, NamesOnlyPassed, PassedInBuilding}
+use Rattle.model.proofs.Elements.{none_some}
+use Rattle.model.proofs.Mapped.{nothing_mapped}
+use Rattle.laws_trees.specs.NoLimits.{PassedInLowering, in_building}
+use Rattle.laws_trees.specs.OneTree.{IsOnlyBest, LoweredTreesAreOnlyBest}
+use Rattle.laws_trees.specs.OneAnswer.{AreCheckErrors}
+use Rattle.laws_trees.specs.WholeDemands.{AcceptedDemandsAreWhole, AcceptedSetsAreWhole}
+use Rattle.laws_typing.proofs.NoReadLimits.{elaborated_rules_are_within_limits_lem}
+use Rattle.laws_closure.specs.ShadowLaws.{check_errors}
 use Rattle.isle_types.specs.declared.ids.TermId.{TermId}
 use Rattle.isle_base.specs.ErrorViews.{error_views}
 use Rattle.isle_rules.specs.ShownEnvs.{environment_shown_by}
 use Rattle.isle_rules.specs.declared.term_env.TermEnv.{TermEnv}
-use Rattle.isle_sets.specs.declared.trie_again.RuleSet.{RuleSet}
+use Rattle.isle_rule_sets.specs.declared.trie_again.RuleSet.{RuleSet}
 use Rattle.cranelift_isle.specs.BuiltSets.{IsOfElaborated, ShowsElaborated, term_set_views}
 use Rattle.cranelift_isle.specs.Checks.{IsChecked, NamesRules, OfErrors, ReportsAreErrors}
 use Rattle.cranelift_isle.proofs.NamedPlaces.{rules_stand}

@@ -5,14 +5,14 @@ use Rattle.std.specs.Global.{Vec}
 use Rattle.isle_base.specs.Answers.{OnErrors}
 use Rattle.isle_base.specs.declared.syntax.Fault.{Fault}
 use Rattle.isle_base.specs.declared.syntax.Fault.TheVariants.{Memory, Errors}
-use Rattle.isle_model.specs.rules.Program.{Program}
-use Rattle.isle_model.specs.sites.Overlap.{RuleReport}
-use Rattle.isle_model.specs.claims.Layers.{CheckReports}
-use Rattle.isle_model.specs.claims.Refusals.{Refusal, refusal_of}
+use Rattle.model.specs.rules.Program.{Program}
+use Rattle.model.specs.sites.Overlap.{RuleReport}
+use Rattle.model.specs.claims.Layers.{CheckReports}
+use Rattle.model.specs.claims.Refusals.{Refusal, refusal_of}
 use Rattle.isle_types.specs.declared.ids.TermId.{TermId}
 use Rattle.isle_base.specs.ErrorViews.{error_views}
-use Rattle.isle_sets.specs.declared.trie_again.RuleSet.{RuleSet}
-use Rattle.isle_laws_closure.specs.ShadowLaws.{check_errors}
+use Rattle.isle_rule_sets.specs.declared.trie_again.RuleSet.{RuleSet}
+use Rattle.laws_closure.specs.ShadowLaws.{check_errors}
 use Rattle.cranelift_isle.specs.Checks.{IsChecked}
 
 pub named : (P : Program → List Refusal → Type 0) (p : Program) (result : Result (Vec (TermId × RuleSet)) Fault)

@@ -2,27 +2,27 @@
 use Rattle.std.proofs.Common.{◌≡◌, ◌==◌, ℕ, zero, suc, Bool, true, false, not, if◌then◌else◌, List, [], ◌∷◌, ◌++◌, map, filter, flat_map, Option, Some, None, option_map, All, Contains, refl, sym, ap, ◌∙◌, subst, inl, inr}
 use Rattle.std.proofs.lemmas.List.Elements.{All-contains, Contains-append_cases}
 use Rattle.std.proofs.lemmas.Option.{none-some, same_Some}
-use Rattle.isle_model.specs.lists.Syntax.{Position, RuleTree, Definition, type_definition, declaration, extractor_definition, converter_definition, rule_definition, extern_definition, other_definition}
-use Rattle.isle_model.specs.lists.Setting.{Setting, Scope}
-use Rattle.isle_model.specs.lists.TermTable.{rule_of, rule_trees, term_names_met}
-use Rattle.isle_model.specs.lists.TypeTable.{type_table}
-use Rattle.isle_model.specs.lists.Elaborated.{TypedRules, named_rule, typed_rules, named}
-use Rattle.isle_model.specs.lists.Elaborates.{ElaboratesRule, a_rule, ElaboratesRules, no_rule, one_rule}
-use Rattle.isle_model.specs.rules.Typed.{TypedRule}
-use Rattle.isle_model.specs.rules.Program.{Program, rules_of}
-use Rattle.isle_model.specs.sites.Sites.{SiteTerm}
-use Rattle.isle_model.specs.visits.Demands.{demands_of}
-use Rattle.isle_model.specs.sites.Closure.{reported}
-use Rattle.isle_model.specs.sites.Limits.{RuleLimit, first_limit, sites_wanted, sites_after_rules}
-use Rattle.isle_model.specs.sites.Overlap.{BuiltRule, built_rules, shadows, wrong_overlaps, position_eq, has_end, other_end, is_reported_before, foremost, OverlapReport, ShadowReport, overlap_report, overlap_reports_in, overlap_reports, shadow_reports, RuleReport, limit_passed, not_reached, rules_overlap, rule_shadows, build_reports_of, build_reports_after, build_reports, overlap_and_shadow_reports, check_reports}
-use Rattle.isle_model.specs.claims.Environments.{TypesRead, setting_of, IsElaborated, program_of}
-use Rattle.isle_model.specs.claims.Refusals.{refusal_of}
-use Rattle.isle_model.proofs.Elements.{In, in_from_contains, contains_from_in, in_either, in_slice, in_filter, in_map, map_in, in_flat_map, from_flat_map}
-use Rattle.isle_model.proofs.Members.{all_members}
-use Rattle.isle_laws_typing.proofs.TypedRules.{lists_agree}
-use Rattle.isle_laws_closure.proofs.overlaps.ListedOverlaps.{ascending_in}
-use Rattle.isle_laws_closure.proofs.overlaps.Pairs.{sorted_in}
-use Rattle.isle_laws_closure.proofs.overlaps.ReportedOverlaps.{built_of, wrong_means, report_of, masked_means}
+use Rattle.model.specs.lists.Syntax.{Position, RuleTree, Definition, type_definition, declaration, extractor_definition, converter_definition, rule_definition, extern_definition, other_definition}
+use Rattle.model.specs.lists.Setting.{Setting, Scope}
+use Rattle.model.specs.lists.TermTable.{rule_of, rule_trees, term_names_met}
+use Rattle.model.specs.lists.TypeTable.{type_table}
+use Rattle.model.specs.lists.Elaborated.{TypedRules, named_rule, typed_rules, named}
+use Rattle.model.specs.lists.Elaborates.{ElaboratesRule, a_rule, ElaboratesRules, no_rule, one_rule}
+use Rattle.model.specs.rules.Typed.{TypedRule}
+use Rattle.model.specs.rules.Program.{Program, rules_of}
+use Rattle.model.specs.sites.Sites.{SiteTerm}
+use Rattle.model.specs.visits.Demands.{demands_of}
+use Rattle.model.specs.sites.Closure.{reported}
+use Rattle.model.specs.sites.Limits.{RuleLimit, first_limit, sites_wanted, sites_after_rules}
+use Rattle.model.specs.sites.Overlap.{BuiltRule, built_rules, shadows, wrong_overlaps, position_eq, has_end, other_end, is_reported_before, foremost, OverlapReport, ShadowReport, overlap_report, overlap_reports_in, overlap_reports, shadow_reports, RuleReport, limit_passed, not_reached, rules_overlap, rule_shadows, build_reports_of, build_reports_after, build_reports, overlap_and_shadow_reports, check_reports}
+use Rattle.model.specs.claims.Environments.{TypesRead, setting_of, IsElaborated, program_of}
+use Rattle.model.specs.claims.Refusals.{refusal_of}
+use Rattle.model.proofs.Elements.{In, in_from_contains, contains_from_in, in_either, in_slice, in_filter, in_map, map_in, in_flat_map, from_flat_map}
+use Rattle.model.proofs.Members.{all_members}
+use Rattle.laws_typing.proofs.TypedRules.{lists_agree}
+use Rattle.laws_closure.proofs.overlaps.ListedOverlaps.{ascending_in}
+use Rattle.laws_closure.proofs.overlaps.Pairs.{sorted_in}
+use Rattle.laws_closure.proofs.overlaps.ReportedOverlaps.{built_of, wrong_means, report_of, masked_means}
 use Rattle.isle_base.specs.declared.syntax.Error.{Error}
 use Rattle.isle_base.specs.ErrorViews.{error_view, error_views}
 use Rattle.isle_base.specs.Positions.{HasSingleSpans, ErrorStandsAt, OccurAmong, definition_positions, positions_of, positions_named}

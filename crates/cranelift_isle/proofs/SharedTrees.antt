@@ -1,11 +1,11 @@
 -- What the best tree of a built set is besides: shared, and it binds before use.
-use Rattle.isle_model.specs.sites.Sites.{SiteSet}
-use Rattle.isle_model.specs.trees.Trees.{Tree}
-use Rattle.isle_model.specs.claims.Environments.{program_of}
-use Rattle.isle_model.specs.claims.Layers.{IsBuiltForSome, IsSerialized}
-use Rattle.isle_laws_typing.proofs.WellTypedRules.{elaborated_programs_are_well_typed_lem}
-use Rattle.isle_laws_trees.specs.BestLaws.{BestTreesShareMost}
-use Rattle.isle_laws_trees.specs.BuiltLaws.{BestTreesBindBeforeUse}
+use Rattle.model.specs.sites.Sites.{SiteSet}
+use Rattle.model.specs.trees.Trees.{Tree}
+use Rattle.model.specs.claims.Environments.{program_of}
+use Rattle.model.specs.claims.Layers.{IsBuiltForSome, IsSerialized}
+use Rattle.laws_typing.proofs.WellTypedRules.{elaborated_programs_are_well_typed_lem}
+use Rattle.laws_trees.specs.BestLaws.{BestTreesShareMost}
+use Rattle.laws_trees.specs.BuiltLaws.{BestTreesBindBeforeUse}
 use Rattle.cranelift_isle.specs.Lowerings.{SharesTests, BindsBeforeAnyUse}
 
 pub shares_tests : BestTreesShareMost → (set : SiteSet) (tree : Tree) → IsSerialized set tree → SharesTests set tree

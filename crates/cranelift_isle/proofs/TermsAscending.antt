@@ -9,16 +9,16 @@ use Rattle.std.proofs.lemmas.Cmp.{nat_cmp_total}
 use Rattle.std.proofs.lemmas.Map.Entries.{btree_map_get_place, place_from_lookup}
 use Rattle.std.proofs.lemmas.Map.Keys.{below_from_sorted, sorted_tail}
 use Rattle.std.proofs.lemmas.Option.{get_or_from_slice_get, slice_get_within}
-use Rattle.isle_model.specs.rules.Program.{Program, numbers_from, terms_with_rules}
-use Rattle.isle_model.specs.sites.Sites.{SiteSet}
-use Rattle.isle_model.proofs.Elements.{In, contains_from_in, in_any, in_map, in_slice, map_in, slice_in}
-use Rattle.isle_model.proofs.Members.{all_members, get_from_member}
-use Rattle.isle_laws_closure.specs.RuleByRule.{AreLookedUp}
-use Rattle.isle_laws_closure.specs.ReportLaws.{RulesHaveTerms}
-use Rattle.isle_term_sets.specs.AddedRules.{set_so_far}
+use Rattle.model.specs.rules.Program.{Program, numbers_from, terms_with_rules}
+use Rattle.model.specs.sites.Sites.{SiteSet}
+use Rattle.model.proofs.Elements.{In, contains_from_in, in_any, in_map, in_slice, map_in, slice_in}
+use Rattle.model.proofs.Members.{all_members, get_from_member}
+use Rattle.laws_closure.specs.RuleByRule.{AreLookedUp}
+use Rattle.laws_closure.specs.ReportLaws.{RulesHaveTerms}
+use Rattle.isle_builder.specs.AddedRules.{set_so_far}
 use Rattle.cranelift_isle.specs.SetsSoFar.{term_set_at}
-use Rattle.isle_term_sets.specs.declared.term_sets.TermSet.{TermSet}
-use Rattle.isle_model.proofs.Numbers.{tied}
+use Rattle.isle_builder.specs.declared.term_sets.TermSet.{TermSet}
+use Rattle.model.proofs.Numbers.{tied}
 
 -- 1. ascending numbers of a range
 after_first : (k : ℕ) (ks : List ℕ) → IsStrictlySortedBy nat_cmp (k ∷ ks) → (m : ℕ) → In ks m → k < m

@@ -1,23 +1,23 @@
 -- What building gives: sets and errors, for a term environment that shows a list of definitions which elaborates.
 use Rattle.std.specs.Prelude.{◌≡◌, ℕ, Bool, List, map}
-use Rattle.isle_model.specs.lists.Syntax.{Definition}
-use Rattle.isle_model.specs.lists.Elaborated.{TypedRules}
-use Rattle.isle_model.specs.lists.TermTable.{term_table}
-use Rattle.isle_model.specs.rules.Program.{Program}
-use Rattle.isle_model.specs.sites.Overlap.{RuleReport}
-use Rattle.isle_model.specs.sites.Sites.{SiteSet}
-use Rattle.isle_model.specs.claims.Environments.{TypesRead, IsElaborated}
-use Rattle.isle_model.specs.claims.Layers.{BuildAnswers}
-use Rattle.isle_laws_closure.specs.ReportLaws.{RulesHaveTerms}
+use Rattle.model.specs.lists.Syntax.{Definition}
+use Rattle.model.specs.lists.Elaborated.{TypedRules}
+use Rattle.model.specs.lists.TermTable.{term_table}
+use Rattle.model.specs.rules.Program.{Program}
+use Rattle.model.specs.sites.Overlap.{RuleReport}
+use Rattle.model.specs.sites.Sites.{SiteSet}
+use Rattle.model.specs.claims.Environments.{TypesRead, IsElaborated}
+use Rattle.model.specs.claims.Layers.{BuildAnswers}
+use Rattle.laws_closure.specs.ReportLaws.{RulesHaveTerms}
 use Rattle.isle_base.specs.declared.syntax.Error.{Error}
 use Rattle.isle_types.specs.declared.ids.TermId.{TermId}
 use Rattle.isle_terms.specs.TermViews.{term_views}
 use Rattle.isle_base.specs.ErrorViews.{error_views}
 use Rattle.isle_typed.specs.RuleViews.{rule_views}
 use Rattle.isle_rules.specs.declared.term_env.TermEnv.{TermEnv}
-use Rattle.isle_sets.specs.SiteViews.{set_view}
-use Rattle.isle_term_sets.specs.AddedRules.{report_views}
-use Rattle.isle_sets.specs.declared.trie_again.RuleSet.{RuleSet}
+use Rattle.isle_rule_sets.specs.SiteViews.{set_view}
+use Rattle.isle_builder.specs.AddedRules.{report_views}
+use Rattle.isle_rule_sets.specs.declared.trie_again.RuleSet.{RuleSet}
 
 -- sets of terms, without where they lie in memory
 abbrev pub term_set_view : TermId × RuleSet → ℕ × SiteSet

@@ -1,15 +1,15 @@
 -- What checking answers of a program, and of sets that were built.
 use Rattle.std.specs.Prelude.{◌≡◌, Bool, List, [], map, All, Contains, Result, Ok, Err, ⊤}
 use Rattle.std.specs.Global.{Vec}
-use Rattle.isle_model.specs.rules.Program.{Program}
-use Rattle.isle_model.specs.lists.Syntax.{Definition, Position}
-use Rattle.isle_model.specs.lists.Elaborated.{TypedRules}
-use Rattle.isle_model.specs.claims.Environments.{TypesRead, IsElaborated, program_of}
-use Rattle.isle_model.specs.claims.Refusals.{Refusal}
-use Rattle.isle_laws_closure.specs.ShadowLaws.{check_errors}
+use Rattle.model.specs.rules.Program.{Program}
+use Rattle.model.specs.lists.Syntax.{Definition, Position}
+use Rattle.model.specs.lists.Elaborated.{TypedRules}
+use Rattle.model.specs.claims.Environments.{TypesRead, IsElaborated, program_of}
+use Rattle.model.specs.claims.Refusals.{Refusal}
+use Rattle.laws_closure.specs.ShadowLaws.{check_errors}
 use Rattle.isle_base.specs.Answers.{OnErrors}
-use Rattle.isle_model.specs.sites.Overlap.{RuleReport}
-use Rattle.isle_model.specs.claims.Layers.{CheckAnswers, CheckReports}
+use Rattle.model.specs.sites.Overlap.{RuleReport}
+use Rattle.model.specs.claims.Layers.{CheckAnswers, CheckReports}
 use Rattle.isle_base.specs.declared.syntax.Error.{Error}
 use Rattle.isle_base.specs.declared.syntax.Fault.{Fault}
 use Rattle.isle_base.specs.declared.syntax.Fault.TheVariants.{Memory, Errors}
@@ -17,8 +17,8 @@ use Rattle.isle_types.specs.declared.ids.TermId.{TermId}
 use Rattle.isle_terms.specs.TermViews.{term_views}
 use Rattle.isle_typed.specs.RuleViews.{rule_views}
 use Rattle.isle_rules.specs.declared.term_env.TermEnv.{TermEnv}
-use Rattle.isle_sets.specs.declared.trie_again.RuleSet.{RuleSet}
-use Rattle.isle_term_sets.specs.AddedRules.{report_views}
+use Rattle.isle_rule_sets.specs.declared.trie_again.RuleSet.{RuleSet}
+use Rattle.isle_builder.specs.AddedRules.{report_views}
 use Rattle.cranelift_isle.specs.BuiltSets.{ShowsElaborated, term_set_views}
 use Rattle.isle_base.specs.ErrorViews.{error_views}
 use Rattle.isle_base.specs.Positions.{positions_named}

@@ -1,11 +1,11 @@
 -- What definitions become before their rules are compared, and what the errors say where they become nothing.
 use Rattle.std.specs.Prelude.{Bool, List}
 use Rattle.isle_base.specs.declared.syntax.Error.{Error}
-use Rattle.isle_model.specs.lists.Elaborated.{TypedRules}
-use Rattle.isle_model.specs.lists.Syntax.{Definition}
-use Rattle.isle_model.specs.lists.TypeTable.{IsValidTypes}
-use Rattle.isle_model.specs.claims.Environments.{types_read, AreRulesOf, HasTypedRules, TermEnvironment, TypeEnvironment}
-use Rattle.isle_model.specs.claims.Refusals.{Refusal}
+use Rattle.model.specs.lists.Elaborated.{TypedRules}
+use Rattle.model.specs.lists.Syntax.{Definition}
+use Rattle.model.specs.lists.TypeTable.{IsValidTypes}
+use Rattle.model.specs.claims.Environments.{types_read, AreRulesOf, HasTypedRules, TermEnvironment, TypeEnvironment}
+use Rattle.model.specs.claims.Refusals.{Refusal}
 use Rattle.isle_rules.specs.LimitsNamed.{NamesTypedPastLimits, NamesFirstPastLimits}
 use Rattle.isle_rules.specs.RuleBreaches.{FirstBreaksRules}
 use Rattle.isle_rules.specs.RulesTold.{TellsReading}

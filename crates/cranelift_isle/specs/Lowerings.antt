@@ -1,20 +1,20 @@
 -- What lowering a list of definitions gives.
 use Rattle.std.specs.Prelude.{◌≡◌, ℕ, Bool, List, map, All}
-use Rattle.isle_model.specs.lists.Syntax.{Definition}
-use Rattle.isle_model.specs.lists.Elaborated.{TypedRules}
-use Rattle.isle_model.specs.rules.Program.{Program}
-use Rattle.isle_model.specs.sites.Sites.{SiteSet}
-use Rattle.isle_model.specs.trees.Trees.{Tree}
-use Rattle.isle_model.specs.trees.Best.{IsBestTree}
-use Rattle.isle_model.specs.trees.Collects.{CollectsTheBag}
-use Rattle.isle_model.specs.claims.Headline.{RunsAsChosen}
-use Rattle.isle_model.specs.claims.Layers.{own_program, IsAccepted, LoweredTerm, LoweringAnswers, TestsAreShared, MeansItsSet, BindsBeforeUse}
-use Rattle.isle_model.specs.claims.SetMeanings.{DemandsAreWhole}
-use Rattle.isle_laws_trees.specs.OneAnswer.{EachTwo, BecameSame}
-use Rattle.isle_laws_trees.specs.WholeDemands.{IsWhole}
+use Rattle.model.specs.lists.Syntax.{Definition}
+use Rattle.model.specs.lists.Elaborated.{TypedRules}
+use Rattle.model.specs.rules.Program.{Program}
+use Rattle.model.specs.sites.Sites.{SiteSet}
+use Rattle.model.specs.trees.Trees.{Tree}
+use Rattle.model.specs.trees.Best.{IsBestTree}
+use Rattle.model.specs.trees.Collects.{CollectsTheBag}
+use Rattle.model.specs.claims.Headline.{RunsAsChosen}
+use Rattle.model.specs.claims.Layers.{own_program, IsAccepted, LoweredTerm, LoweringAnswers, TestsAreShared, MeansItsSet, BindsBeforeUse}
+use Rattle.model.specs.claims.SetMeanings.{DemandsAreWhole}
+use Rattle.laws_trees.specs.OneAnswer.{EachTwo, BecameSame}
+use Rattle.laws_trees.specs.WholeDemands.{IsWhole}
 use Rattle.isle_types.specs.EnvViews.{environment_view}
 use Rattle.isle_rules.specs.ShownEnvs.{environment_shown_by}
-use Rattle.isle_sets.specs.SiteViews.{set_view}
+use Rattle.isle_rule_sets.specs.SiteViews.{set_view}
 use Rattle.isle_serialize.specs.TreeViews.{tree_view}
 use Rattle.cranelift_isle.specs.declared.lower.LoweredTerm as Code
 use Rattle.cranelift_isle.specs.declared.lower.Lowered.{Lowered}

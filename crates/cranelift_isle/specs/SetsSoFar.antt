@@ -2,17 +2,17 @@
 use Rattle.std.specs.Prelude.{◌≡◌, ℕ, true, List, map, Option, Some, option_map}
 use Rattle.std.specs.BTreeMap.{BTreeMap, get}
 use Rattle.std.specs.Ordering.{nat_cmp}
-use Rattle.isle_model.specs.lists.Formed.{is_formed_rule}
-use Rattle.isle_model.specs.lists.Tables.{TermEntry}
-use Rattle.isle_model.specs.rules.Typed.{TypedRule}
-use Rattle.isle_model.specs.rules.Program.{Program}
-use Rattle.isle_model.specs.sites.Sites.{SiteSet}
-use Rattle.isle_model.specs.sites.Overlap.{RuleReport}
-use Rattle.isle_laws_closure.specs.RuleByRule.{AreBuiltSoFar}
+use Rattle.model.specs.lists.Formed.{is_formed_rule}
+use Rattle.model.specs.lists.Tables.{TermEntry}
+use Rattle.model.specs.rules.Typed.{TypedRule}
+use Rattle.model.specs.rules.Program.{Program}
+use Rattle.model.specs.sites.Sites.{SiteSet}
+use Rattle.model.specs.sites.Overlap.{RuleReport}
+use Rattle.laws_closure.specs.RuleByRule.{AreBuiltSoFar}
 use Rattle.isle_base.specs.ErrorViews.{error_views}
 use Rattle.isle_base.specs.declared.syntax.Error.{Error}
-use Rattle.isle_term_sets.specs.AddedRules.{HasTable, report_views, set_so_far}
-use Rattle.isle_term_sets.specs.declared.term_sets.TermSet.{TermSet}
+use Rattle.isle_builder.specs.AddedRules.{HasTable, report_views, set_so_far}
+use Rattle.isle_builder.specs.declared.term_sets.TermSet.{TermSet}
 
 -- the set so far of each term that has one, by its number
 abbrev pub term_set_at : BTreeMap ℕ TermSet → ℕ → Option SiteSet

@@ -1,30 +1,30 @@
 //! The check of overlaps: rules of one priority that may both match, and rules that others mask.
 
 ghost use Rattle.std.specs.Prelude.{All, Bool, List, ◌≡◌, IfOk};
-ghost use Rattle.isle_model.specs.lists.Syntax.{Definition};
-ghost use Rattle.isle_model.specs.lists.Elaborated.{TypedRules};
-ghost use Rattle.isle_model.specs.rules.Program.{Program, is_multi};
-ghost use Rattle.isle_model.specs.claims.Environments.{IsElaborated, TypesRead, program_of};
-ghost use Rattle.isle_model.specs.sites.Overlap.{RuleReport};
-ghost use Rattle.isle_model.specs.sites.SetRules.{reports_of_sets};
-ghost use Rattle.isle_laws_closure.specs.ErrorLaws.{NamesLeftOut, NamesPairs, NamesMasks};
-ghost use Rattle.isle_laws_trees.specs.NoLimits.{BuildsWithinLimits};
+ghost use Rattle.model.specs.lists.Syntax.{Definition};
+ghost use Rattle.model.specs.lists.Elaborated.{TypedRules};
+ghost use Rattle.model.specs.rules.Program.{Program, is_multi};
+ghost use Rattle.model.specs.claims.Environments.{IsElaborated, TypesRead, program_of};
+ghost use Rattle.model.specs.sites.Overlap.{RuleReport};
+ghost use Rattle.model.specs.sites.SetRules.{reports_of_sets};
+ghost use Rattle.laws_closure.specs.ErrorLaws.{NamesLeftOut, NamesPairs, NamesMasks};
+ghost use Rattle.laws_trees.specs.NoLimits.{BuildsWithinLimits};
 ghost use Rattle.isle_base.specs.Answers.{OnErrors};
 ghost use Rattle.isle_base.specs.ErrorViews.{error_views};
 ghost use Rattle.isle_base.specs.Positions.{HasSingleSpans};
-ghost use Rattle.isle_term_sets.specs.AddedRules.{report_views};
+ghost use Rattle.isle_builder.specs.AddedRules.{report_views};
 ghost use Rattle.cranelift_isle.specs.BuiltSets.{IsOfElaborated, ShowsElaborated, WereBuilt, term_set_views};
 ghost use Rattle.cranelift_isle.specs.Checks.{IsChecked, NamesRules, OfErrors, OfProgram, env_program};
 
 use isle_base::syntax::{Error, Fault};
 use crate::trie_again::build;
-use isle_laws_closure::{
+use laws_closure::{
     check_errors_name_left_out, check_errors_name_masks, check_errors_name_pairs,
 };
-use isle_laws_trees::checkable_programs_pass_no_limit;
+use laws_trees::checkable_programs_pass_no_limit;
 use isle_overlap::overlap::Errors;
 use isle_rules::TermEnv;
-use isle_sets::trie_again::RuleSet;
+use isle_rule_sets::trie_again::RuleSet;
 use isle_terms::TermKind;
 use isle_types::TermId;
 use std::alloc::{AllocError, Global};

@@ -3,29 +3,29 @@
 ghost use Rattle.std.specs.BTreeMap.{IsOrdered, get};
 ghost use Rattle.std.specs.Ordering.{nat_cmp};
 ghost use Rattle.std.specs.Prelude.{◌≡◌, ◌≢◌, ◌++◌, ◌∷◌, [], ℕ, All, Bool, List, IfOk, OnOk};
-ghost use Rattle.isle_model.specs.claims.Environments.{IsElaborated, TypesRead, program_of};
-ghost use Rattle.isle_model.specs.lists.Elaborated.{TypedRules};
-ghost use Rattle.isle_model.specs.lists.Syntax.{Definition};
-ghost use Rattle.isle_model.specs.rules.Program.{Program};
-ghost use Rattle.isle_model.specs.rules.Typed.{TypedRule};
-ghost use Rattle.isle_model.specs.sites.Overlap.{build_reports};
+ghost use Rattle.model.specs.claims.Environments.{IsElaborated, TypesRead, program_of};
+ghost use Rattle.model.specs.lists.Elaborated.{TypedRules};
+ghost use Rattle.model.specs.lists.Syntax.{Definition};
+ghost use Rattle.model.specs.rules.Program.{Program};
+ghost use Rattle.model.specs.rules.Typed.{TypedRule};
+ghost use Rattle.model.specs.sites.Overlap.{build_reports};
 ghost use Rattle.isle_base.specs.Positions.{HasSingleSpans};
-ghost use Rattle.isle_laws_closure.specs.RuleByRule.{or_nothing_built};
+ghost use Rattle.laws_closure.specs.RuleByRule.{or_nothing_built};
 ghost use Rattle.isle_typed.specs.RuleViews.{rule_view};
-ghost use Rattle.isle_term_sets.specs.AddedRules.{HasTable, set_so_far};
+ghost use Rattle.isle_builder.specs.AddedRules.{HasTable, set_so_far};
 ghost use Rattle.cranelift_isle.specs.SetsSoFar.{AreTables, MayGoOn, StandAfter, term_set_at, sets_so_far};
 ghost use Rattle.cranelift_isle.specs.BuiltSets.{IsOfElaborated, ShowsElaborated, WereBuilt, term_set_views};
 
-pub use isle_sets::trie_again::{
+pub use isle_rule_sets::trie_again::{
     Binding, BindingId, Constraint, OutOfRange, Overlap, Rule, RuleSet, TupleIndex,
 };
 pub use isle_types::VariantTerms;
 
 use isle_base::syntax::Error;
-use isle_laws_matching::built_sets_are_answered;
-use isle_laws_typing::elaborated_programs_are_well_typed;
+use laws_matching::built_sets_are_answered;
+use laws_typing::elaborated_programs_are_well_typed;
 use isle_rules::TermEnv;
-use isle_term_sets::TermSet;
+use isle_builder::TermSet;
 use isle_typed::{Rule, UsedTerms};
 use isle_types::TermId;
 use std::alloc::{AllocError, Global};

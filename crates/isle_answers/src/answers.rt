@@ -2,7 +2,7 @@
 
 ghost use Rattle.std.specs.Prelude.{◌≡◌, ◌≢◌, ◌≤◌, ◌⊎◌, IfOk, Bool, List};
 ghost use Rattle.isle_base.specs.SyntaxViews.{definition_views};
-ghost use Rattle.isle_model.specs.lists.Syntax.{Definition};
+ghost use Rattle.model.specs.lists.Syntax.{Definition};
 ghost use Rattle.isle_answers.specs.Statuses.{IsAnswerTo, IsStatusOf};
 
 use crate::trees::trees;

@@ -7,8 +7,8 @@ ghost use Rattle.isle_base.specs.SyntaxViews.{definition_views};
 use crate::answers::{Answer, answer_to};
 use isle_base::syntax::Def;
 use isle_printing::places::Places;
-use isle_text::errors::{Problem, ReadFault, TextError};
-use isle_text::read;
+use isle_reader::errors::{Problem, ReadFault, TextError};
+use isle_reader::read;
 use std::alloc::{AllocError, Global};
 
 /// How a text is lowered, and its errors shown.

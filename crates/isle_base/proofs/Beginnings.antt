@@ -5,11 +5,11 @@ use Rattle.std.proofs.lemmas.List.{append-nil, append_assoc, at_drop_more, at_dr
 use Rattle.isle_base.specs.declared.syntax.Pattern.{Pattern}
 use Rattle.isle_base.specs.declared.syntax.Expr.{Expr}
 use Rattle.isle_base.specs.declared.syntax.LetDef.{LetDef}
-use Rattle.isle_model.specs.lists.Syntax.{Position, Name}
+use Rattle.model.specs.lists.Syntax.{Position, Name}
 use Rattle.isle_base.specs.Expressions.{terms_of_expr, terms_of_exprs, terms_of_lets}
 use Rattle.isle_base.specs.Places.{HoldsAllBut, HoldsBeginning}
 use Rattle.isle_base.specs.SyntaxViews.{pattern_view, pattern_views, expr_view, expr_views, let_views}
-use Rattle.isle_model.specs.lists.TermTable.{terms_of, terms_of_all}
+use Rattle.model.specs.lists.TermTable.{terms_of, terms_of_all}
 
 pub when_refused : {A E : Type 0} (P : Type 0) (r : Result A E) → P → OnErr r P
 when_refused P (Ok x) h = tt

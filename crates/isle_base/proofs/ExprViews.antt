@@ -5,7 +5,7 @@ use Rattle.std.specs.declared.alloc.Global.{Global}
 use Rattle.isle_base.specs.declared.syntax.Expr.{Expr}
 use Rattle.isle_base.specs.declared.syntax.Expr.TheBlock.{Row_of-Expr, end_of-Expr, more_of-Expr, items-the_row-Expr, hidden-the_row-Expr-0, items_hidden-the_row-Expr-0, Row_of-LetDef, end_of-LetDef, more_of-LetDef, items-the_row-LetDef, hidden-the_row-LetDef-1, items_hidden-the_row-LetDef-1}
 use Rattle.isle_base.specs.declared.syntax.LetDef.{LetDef}
-use Rattle.isle_model.specs.lists.Syntax.{ExprTrees, no_expr, expr_and, LetTrees, no_let, let_and}
+use Rattle.model.specs.lists.Syntax.{ExprTrees, no_expr, expr_and, LetTrees, no_let, let_and}
 use Rattle.isle_base.specs.SyntaxViews.{position, name_view, expr_view, row_exprs, row_lets, expr_views, let_views}
 
 row_exprs-items : {m : _} (r : Row_of-Expr m) → row_exprs r ≡ expr_views (items-the_row-Expr m r)

@@ -6,8 +6,8 @@ use Rattle.isle_base.specs.declared.syntax.Pos.{Pos}
 use Rattle.isle_base.specs.declared.syntax.Ident.{Ident}
 use Rattle.isle_base.specs.declared.syntax.Pattern.{Pattern, Term, And, Row_of-Pattern, end_of-Pattern, more_of-Pattern, items-the_row-Pattern}
 use Rattle.isle_base.specs.declared.syntax.Pattern.TheBlock.{hidden-the_row-Pattern-0, items_hidden-the_row-Pattern-0}
-use Rattle.isle_model.specs.lists.Syntax.{PatternTree, PatternTrees, no_pattern, pattern_and, term_pattern, and_pattern}
-use Rattle.isle_model.specs.lists.Expansions.{with_pattern}
+use Rattle.model.specs.lists.Syntax.{PatternTree, PatternTrees, no_pattern, pattern_and, term_pattern, and_pattern}
+use Rattle.model.specs.lists.Expansions.{with_pattern}
 use Rattle.isle_base.specs.SyntaxViews.{position, name_view, pattern_view, row_patterns, pattern_views}
 
 row_patterns-items : {m : _} (r : Row_of-Pattern m) → row_patterns r ≡ pattern_views (items-the_row-Pattern m r)

@@ -3,8 +3,8 @@ use Rattle.std.proofs.Common.{◌≡◌, All, Contains, List, [], ◌∷◌, ◌
 use Rattle.std.specs.List.{flat_map}
 use Rattle.std.specs.declared.alloc.Global.{Global}
 use Rattle.std.proofs.lemmas.List.Elements.{All-weaker, All-contains_itself, Contains-append_left, Contains-append_right, Contains-append_cases}
-use Rattle.isle_model.specs.lists.Syntax.{Position}
-use Rattle.isle_model.proofs.Members.{nothing_in, in_head, in_tail, in_alone, in_cases, in_flat_map, all_members}
+use Rattle.model.specs.lists.Syntax.{Position}
+use Rattle.model.proofs.Members.{nothing_in, in_head, in_tail, in_alone, in_cases, in_flat_map, all_members}
 use Rattle.isle_base.specs.declared.syntax.Error.{Error}
 use Rattle.isle_base.specs.declared.syntax.Error.TheVariants.{TypeError, LimitError}
 use Rattle.isle_base.specs.declared.syntax.Limit.{Limit}

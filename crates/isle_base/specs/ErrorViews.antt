@@ -1,8 +1,8 @@
 -- What errors say, without their texts and without where spans end.
 use Rattle.std.specs.Prelude.{List, map}
-use Rattle.isle_model.specs.lists.Syntax.{Position}
-use Rattle.isle_model.specs.sites.Limits.{fields_limit, outputs_limit, arguments_limit, sites_limit}
-use Rattle.isle_model.specs.claims.Refusals.{NamedLimit, of_rule, of_nesting, of_expansions, Refusal, ill_typed, unreachable, overlapping, shadowing, past_limit}
+use Rattle.model.specs.lists.Syntax.{Position}
+use Rattle.model.specs.sites.Limits.{fields_limit, outputs_limit, arguments_limit, sites_limit}
+use Rattle.model.specs.claims.Refusals.{NamedLimit, of_rule, of_nesting, of_expansions, Refusal, ill_typed, unreachable, overlapping, shadowing, past_limit}
 use Rattle.isle_base.specs.SyntaxViews.{position}
 use Rattle.isle_base.specs.declared.syntax.Error.{Error}
 use Rattle.isle_base.specs.declared.syntax.Error.TheVariants.{TypeError, UnreachableError, OverlapError, ShadowedError, LimitError}

@@ -1,6 +1,6 @@
 -- What is noted while definitions are read.
 use Rattle.std.specs.Prelude.{◌≡◌, ◌≢◌, ◌⊎◌, List, [], ◌++◌, All}
-use Rattle.isle_model.specs.claims.Refusals.{IsIllTyped}
+use Rattle.model.specs.claims.Refusals.{IsIllTyped}
 use Rattle.isle_base.specs.declared.syntax.Error.{Error}
 use Rattle.isle_base.specs.ErrorViews.{error_view}
 

@@ -1,5 +1,5 @@
 -- What the calls on patterns give, over the model's trees.
-use Rattle.isle_model.specs.lists.Syntax.{Position, PatternTree, var_pattern, bind_pattern, bool_pattern, int_pattern, prim_pattern, term_pattern, wildcard_pattern, and_pattern, macro_arg}
+use Rattle.model.specs.lists.Syntax.{Position, PatternTree, var_pattern, bind_pattern, bool_pattern, int_pattern, prim_pattern, term_pattern, wildcard_pattern, and_pattern, macro_arg}
 
 abbrev pub pattern_position : PatternTree → Position
 pattern_position (var_pattern v p) = p

@@ -1,8 +1,8 @@
 -- The positions that occur in definitions, and errors that stand at some of them.
 use Rattle.std.specs.Prelude.{◌≡◌, ◌⊎◌, List, [], ◌∷◌, ◌++◌, Option, Some, None, All, Contains, map}
 use Rattle.std.specs.List.{flat_map}
-use Rattle.isle_model.specs.lists.Syntax.{Position, Name, PatternTree, PatternTrees, ExprTree, ExprTrees, LetTrees, FieldTree, TupleFieldTree, FieldTrees, VariantTree, TypeValueTree, TypeTree, DeclTree, ExtractorTree, ConverterTree, IfLetTree, RuleTree, ExternTree, Definition, var_pattern, bind_pattern, bool_pattern, int_pattern, prim_pattern, term_pattern, wildcard_pattern, and_pattern, macro_arg, no_pattern, pattern_and, term_expr, var_expr, bool_expr, int_expr, prim_expr, let_expr, no_expr, expr_and, no_let, let_and, unit_fields, struct_fields, tuple_fields, primitive_value, enum_value, struct_value, extern_constructor, extern_extractor, extern_const, type_definition, declaration, extractor_definition, converter_definition, rule_definition, extern_definition, other_definition}
-use Rattle.isle_model.specs.claims.Refusals.{Refusal, ill_typed, unreachable, overlapping, shadowing, past_limit}
+use Rattle.model.specs.lists.Syntax.{Position, Name, PatternTree, PatternTrees, ExprTree, ExprTrees, LetTrees, FieldTree, TupleFieldTree, FieldTrees, VariantTree, TypeValueTree, TypeTree, DeclTree, ExtractorTree, ConverterTree, IfLetTree, RuleTree, ExternTree, Definition, var_pattern, bind_pattern, bool_pattern, int_pattern, prim_pattern, term_pattern, wildcard_pattern, and_pattern, macro_arg, no_pattern, pattern_and, term_expr, var_expr, bool_expr, int_expr, prim_expr, let_expr, no_expr, expr_and, no_let, let_and, unit_fields, struct_fields, tuple_fields, primitive_value, enum_value, struct_value, extern_constructor, extern_extractor, extern_const, type_definition, declaration, extractor_definition, converter_definition, rule_definition, extern_definition, other_definition}
+use Rattle.model.specs.claims.Refusals.{Refusal, ill_typed, unreachable, overlapping, shadowing, past_limit}
 use Rattle.isle_base.specs.declared.syntax.Error.{Error}
 use Rattle.isle_base.specs.declared.syntax.Error.TheVariants.{TypeError, UnreachableError, OverlapError, ShadowedError, LimitError}
 use Rattle.isle_base.specs.declared.syntax.Span.{Span}

@@ -7,10 +7,10 @@ ghost use Rattle.std.specs.List.{position_from};
 ghost use Rattle.std.specs.Str.{bytes_eq};
 ghost use Rattle.isle_base.specs.declared.syntax.Fault.TheVariants.{Memory};
 ghost use Rattle.isle_base.specs.Expressions.{expr_position, terms_of_expr, terms_of_exprs, terms_of_lets};
-ghost use Rattle.isle_model.specs.lists.TermTable.{terms_of, terms_of_all};
+ghost use Rattle.model.specs.lists.TermTable.{terms_of, terms_of_all};
 ghost use Rattle.isle_base.specs.Patterns.{pattern_position};
-ghost use Rattle.isle_model.specs.lists.TermTable.{root_name, template, templates};
-ghost use Rattle.isle_model.specs.lists.Expansions.{substituted, all_substituted};
+ghost use Rattle.model.specs.lists.TermTable.{root_name, template, templates};
+ghost use Rattle.model.specs.lists.Expansions.{substituted, all_substituted};
 ghost use Rattle.isle_base.specs.Places.{full_name_of, line_of, printed_line, single_end, term_view, HoldsBeginning};
 ghost use Rattle.isle_base.specs.SyntaxViews.{position, name_view, pattern_view, pattern_views, expr_view, expr_views, let_views};
 

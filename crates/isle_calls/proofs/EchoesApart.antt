@@ -2,18 +2,18 @@
 use Rattle.std.proofs.Common.{◌≡◌, ℕ, ℤ, pos, ◌+ℤ◌, Bool, true, false, List, Option, Some, None, slice_get, Contains, refl, sym, ap, ◌∙◌, subst, arith}
 use Rattle.std.proofs.lemmas.Bool.{false≢true, true≢false}
 use Rattle.std.proofs.lemmas.Int.{ints}
-use Rattle.isle_model.specs.lists.Tables.{TypeEntry, builtin_type, primitive_type, enum_type, struct_type}
-use Rattle.isle_model.specs.rules.Values.{Value, truth, atom, is_atom_type}
-use Rattle.isle_model.specs.rules.Meaning.{total}
-use Rattle.isle_model.specs.rules.Program.{Program, rules_of}
-use Rattle.isle_model.specs.rules.Typed.{TypedRule}
-use Rattle.isle_model.specs.sites.Sites.{SiteTerm, bool_term, int_term, prim_term, argument, extractor_call, constructor_call, pick_of, variant_made, variant_field, struct_made, struct_field, some_made, some_part, tuple_part, no_site}
-use Rattle.isle_model.specs.sites.Serves.{constant_type, is_type_with_parts, tested_constants, written_type, written_value}
-use Rattle.isle_model.specs.claims.Environments.{program_of}
-use Rattle.isle_model.proofs.Elements.{some_is, none_some}
-use Rattle.isle_laws_typing.proofs.WellTypedRules.{elaborated_programs_are_well_typed_lem}
-use Rattle.isle_laws_matching.specs.TotalLaws.{matched_by, called_by}
-use Rattle.isle_laws_matching.proofs.total.Total.{runs_by_functions_as_chosen_lem, tested_constant_used}
+use Rattle.model.specs.lists.Tables.{TypeEntry, builtin_type, primitive_type, enum_type, struct_type}
+use Rattle.model.specs.rules.Values.{Value, truth, atom, is_atom_type}
+use Rattle.model.specs.rules.Meaning.{total}
+use Rattle.model.specs.rules.Program.{Program, rules_of}
+use Rattle.model.specs.rules.Typed.{TypedRule}
+use Rattle.model.specs.sites.Sites.{SiteTerm, bool_term, int_term, prim_term, argument, extractor_call, constructor_call, pick_of, variant_made, variant_field, struct_made, struct_field, some_made, some_part, tuple_part, no_site}
+use Rattle.model.specs.sites.Serves.{constant_type, is_type_with_parts, tested_constants, written_type, written_value}
+use Rattle.model.specs.claims.Environments.{program_of}
+use Rattle.model.proofs.Elements.{some_is, none_some}
+use Rattle.laws_typing.proofs.WellTypedRules.{elaborated_programs_are_well_typed_lem}
+use Rattle.laws_matching.specs.TotalLaws.{matched_by, called_by}
+use Rattle.laws_matching.proofs.total.Total.{runs_by_functions_as_chosen_lem, tested_constant_used}
 use Rattle.isle_calls.specs.Echoes.{constant_number, named_value, echoes}
 use Rattle.isle_calls.specs.EchoLaws.{AreConstantTypesOf, WritesNoConstant, EchoesKeepConstantsApart, EchoesChooseAsSource}
 use Rattle.isle_calls.proofs.EchoesFit.{echoes_are_well_typed_lem}

@@ -3,9 +3,9 @@
 ghost use Rattle.std.specs.Prelude.{◌≡◌, IfOk};
 ghost use Rattle.std.specs.Bool.{◌==◌};
 ghost use Rattle.std.specs.List.{filter};
-ghost use Rattle.isle_model.specs.rules.Choice.{choice};
-ghost use Rattle.isle_model.specs.rules.Meaning.{total};
-ghost use Rattle.isle_model.specs.trees.Run.{run};
+ghost use Rattle.model.specs.rules.Choice.{choice};
+ghost use Rattle.model.specs.rules.Meaning.{total};
+ghost use Rattle.model.specs.trees.Run.{run};
 ghost use Rattle.isle_serialize.specs.TreeViews.{tree_view};
 ghost use Rattle.isle_terms.specs.TermViews.{term_views};
 ghost use Rattle.isle_types.specs.Envs.{constant_at};
@@ -21,13 +21,13 @@ use cranelift_isle::lower::{Lowered, LoweredTerm};
 use cranelift_isle::sema::TermId;
 use cranelift_isle::syntax::{Def, Expr, Ident};
 use isle_interpreter::choose::choose;
-use isle_reading::premises::is_multi;
-use isle_reading::rules::lowered_term;
+use isle_queries::premises::is_multi;
+use isle_queries::rules::lowered_term;
 use isle_interpreter::run::run;
 use isle_interpreter::state::Outcome;
 use isle_interpreter::values::Value;
-use isle_text::errors::{ReadFault, TextError};
-use isle_text::read;
+use isle_reader::errors::{ReadFault, TextError};
+use isle_reader::read;
 use std::alloc::{AllocError, Global};
 
 // What stands before a call where it is read: it is the right side of a rule.

@@ -2,8 +2,8 @@
 #![tactic(auto, using(isle_interpreter::proofs::ContentSteps::content_steps, isle_interpreter::proofs::ValueSteps::value_steps))]
 
 ghost use Rattle.std.specs.Prelude.{◌≡◌, IfOk, map, not, option_map};
-ghost use Rattle.isle_model.specs.rules.Meaning.{content_and, many, no_content};
-ghost use Rattle.isle_model.specs.rules.Program.{always_answers, kind_of};
+ghost use Rattle.model.specs.rules.Meaning.{content_and, many, no_content};
+ghost use Rattle.model.specs.rules.Program.{always_answers, kind_of};
 ghost use Rattle.isle_terms.specs.TermViews.{extractor_view, flags_view, term_view, term_views};
 ghost use Rattle.isle_types.specs.Envs.{constant_at};
 ghost use Rattle.isle_interpreter.specs.ValueViews.{content_view, value_view, value_views};

@@ -3,7 +3,7 @@
 use crate::echo::constant_number;
 use cranelift_isle::lower::Lowered;
 use cranelift_isle::sema::{Sym, TypeId};
-use isle_reading::names::{full_variant_name, sym_name, term_name, type_name};
+use isle_queries::names::{full_variant_name, sym_name, term_name, type_name};
 use isle_interpreter::state::{Call, Ending, Outcome};
 use isle_interpreter::values::{Content, Value};
 use std::alloc::{AllocError, Global};

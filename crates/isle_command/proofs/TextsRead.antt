@@ -1,8 +1,8 @@
 -- What is read of one text more.
 use Rattle.std.proofs.Common.{◌≡◌, ◌⊎◌, ℕ, List, ◌++◌, All, Some, length, slice_get, sym, subst, inl, inr}
 use Rattle.std.proofs.lemmas.List.Elements.{All-append, All-weaker}
-use Rattle.isle_model.specs.lists.Syntax.{Definition}
-use Rattle.isle_text.specs.Within.{AreWithin, DefinitionIsWithin}
+use Rattle.model.specs.lists.Syntax.{Definition}
+use Rattle.isle_reader.specs.Within.{AreWithin, DefinitionIsWithin}
 use Rattle.isle_command.specs.Readings.{IsUnread, LiesInSome, SomeIsUnread}
 
 -- definitions that lie in one text lie in some

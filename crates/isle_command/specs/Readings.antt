@@ -2,12 +2,12 @@
 -- it is what they spell.
 use Rattle.std.specs.Prelude.{Bool, ℕ, ◌≡◌, ◌≢◌, List, [], All, length, slice_get, Some}
 use Rattle.isle_base.specs.SyntaxViews.{definition_views}
-use Rattle.isle_model.specs.lists.Syntax.{Definition}
+use Rattle.model.specs.lists.Syntax.{Definition}
 use Rattle.cranelift_isle.specs.Lowerings.{AreAccepted}
-use Rattle.isle_text.specs.declared.errors.ReadFault.TheVariants.{Text}
-use Rattle.isle_text.specs.declared.errors.TextError.{TextError}
-use Rattle.isle_text.specs.Faults.{FaultIsWithin}
-use Rattle.isle_text.specs.Within.{DefinitionIsWithin}
+use Rattle.isle_reader.specs.declared.errors.ReadFault.TheVariants.{Text}
+use Rattle.isle_reader.specs.declared.errors.TextError.{TextError}
+use Rattle.isle_reader.specs.Faults.{FaultIsWithin}
+use Rattle.isle_reader.specs.Within.{DefinitionIsWithin}
 use Rattle.isle_command.specs.declared.reading.Reading.{Reading}
 use Rattle.isle_command.specs.declared.reading.Reading.TheVariants.{Defs, Unread}
 

@@ -2,8 +2,8 @@
 
 ghost use Rattle.std.specs.Prelude.{◌≡◌, ◌≢◌, ◌++◌, ◌⊎◌, [], List, length, map, string_bytes, IfOk, OnOk};
 ghost use Rattle.isle_base.specs.SyntaxViews.{definition_views};
-ghost use Rattle.isle_model.specs.lists.Syntax.{Definition};
-ghost use Rattle.isle_text.specs.Within.{AreWithin};
+ghost use Rattle.model.specs.lists.Syntax.{Definition};
+ghost use Rattle.isle_reader.specs.Within.{AreWithin};
 ghost use Rattle.isle_command.specs.Readings.{IsReadingOf, IsUnread};
 
 use crate::progress::Teller;
@@ -11,8 +11,8 @@ use crate::words::Request;
 use isle_base::syntax::{Def, Files};
 use isle_printing::lines::file_name;
 use isle_printing::report::{Label, Level, Report};
-use isle_text::errors::{Problem, ReadFault, TextError};
-use isle_text::read;
+use isle_reader::errors::{Problem, ReadFault, TextError};
+use isle_reader::read;
 use std::alloc::{AllocError, Global};
 use std::io::Write;
 

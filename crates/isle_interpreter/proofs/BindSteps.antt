@@ -3,8 +3,8 @@ use Rattle.std.proofs.Common.{◌≡◌, ℕ, true, false, ◌+◌, ◌<◌, ◌
 use Rattle.std.proofs.lemmas.Bool.{false≢true}
 use Rattle.std.proofs.lemmas.List.{at_drop_more, at_drop_all, append-nil}
 use Rattle.std.proofs.Math.Seq.{take-append_seam}
-use Rattle.isle_model.specs.rules.Outcome as O
-use Rattle.isle_model.specs.trees.Run.{Env, Bound, all_bound, then_bind, World, bind_site, bind_all}
+use Rattle.model.specs.rules.Outcome as O
+use Rattle.model.specs.trees.Run.{Env, Bound, all_bound, then_bind, World, bind_site, bind_all}
 use Rattle.isle_interpreter.specs.declared.values.Content.{Content}
 use Rattle.isle_interpreter.specs.declared.state.Call.{Call}
 use Rattle.isle_interpreter.specs.declared.state.Bound as C

@@ -1,11 +1,11 @@
 -- A rule holds where its arguments do and then its if-lets; the rules of a term, from one on.
 use Rattle.std.proofs.Common.{◌≡◌, ◌==◌, ℕ, Bool, true, false, List, [], map, Option, None, filter, sym, ap, ◌∙◌}
-use Rattle.isle_model.specs.rules.Values as Values
-use Rattle.isle_model.specs.rules.Outcome.{then_option}
-use Rattle.isle_model.specs.rules.Typed.{TypedRule}
-use Rattle.isle_model.specs.rules.Matching.{Vars, each_holds, iflets_hold, matches}
-use Rattle.isle_model.specs.rules.Meaning.{Meaning}
-use Rattle.isle_model.specs.rules.Choice.{chosen}
+use Rattle.model.specs.rules.Values as Values
+use Rattle.model.specs.rules.Outcome.{then_option}
+use Rattle.model.specs.rules.Typed.{TypedRule}
+use Rattle.model.specs.rules.Matching.{Vars, each_holds, iflets_hold, matches}
+use Rattle.model.specs.rules.Meaning.{Meaning}
+use Rattle.model.specs.rules.Choice.{chosen}
 use Rattle.isle_typed.specs.declared.rules.IfLet.{IfLet}
 use Rattle.isle_typed.specs.declared.rules.Rule.{Rule}
 use Rattle.isle_typed.specs.declared.patterns.Pattern.{Pattern}
@@ -14,7 +14,7 @@ use Rattle.isle_typed.specs.RuleViews.{iflet_view, rule_view, rule_views}
 use Rattle.isle_interpreter.specs.declared.values.Value.{Value}
 use Rattle.isle_interpreter.specs.RunViews.{arg_views}
 use Rattle.isle_interpreter.specs.ValueViews.{value_views}
-use Rattle.isle_model.specs.rules.Program.{Program}
+use Rattle.model.specs.rules.Program.{Program}
 use Rattle.isle_interpreter.specs.SourceViews.{if_held}
 use Rattle.isle_interpreter.proofs.PatternSteps.{args_as_parts, held, not_held}
 

@@ -5,7 +5,7 @@ use Rattle.std.specs.declared.alloc.Global.{Global}
 use Rattle.isle_interpreter.specs.declared.values.Content as C
 use Rattle.isle_interpreter.specs.declared.values.Content.{Content, Row_of-Content, end_of-Content, more_of-Content, items-the_row-Content}
 use Rattle.isle_interpreter.specs.declared.values.Content.TheBlock.{hidden-the_row-Content-0, items_hidden-the_row-Content-0}
-use Rattle.isle_model.specs.rules.Meaning.{Contents, no_content, content_and, many}
+use Rattle.model.specs.rules.Meaning.{Contents, no_content, content_and, many}
 use Rattle.isle_interpreter.specs.ValueViews.{content_view, row_contents, content_views}
 
 row_contents-items : {m : _} (r : Row_of-Content m) → row_contents r ≡ content_views (items-the_row-Content m r)

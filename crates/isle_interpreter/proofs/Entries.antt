@@ -10,8 +10,8 @@ use Rattle.isle_terms.specs.declared.term.TermKind.{TermKind}
 use Rattle.isle_terms.specs.declared.term.TermKind.TheVariants as K
 use Rattle.isle_terms.specs.declared.term.Term.{Term}
 use Rattle.isle_terms.specs.TermViews.{extractor_view, flags_view, kind_view, term_view}
-use Rattle.isle_model.specs.lists.Tables.{TermEntry}
-use Rattle.isle_model.specs.rules.Program.{Kind, a_variant, a_struct, a_call, unknown, always_answers, kind_of, kind}
+use Rattle.model.specs.lists.Tables.{TermEntry}
+use Rattle.model.specs.rules.Program.{Kind, a_variant, a_struct, a_call, unknown, always_answers, kind_of, kind}
 use Rattle.isle_interpreter.specs.SourceViews.{of_terms}
 
 abbrev of_entry : Option TermEntry → Kind

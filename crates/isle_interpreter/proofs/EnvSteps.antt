@@ -5,11 +5,11 @@ use Rattle.std.specs.declared.alloc.Global.{Global}
 use Rattle.isle_interpreter.specs.declared.values.Value.{Value}
 use Rattle.isle_interpreter.specs.declared.values.Content as C
 use Rattle.isle_interpreter.specs.declared.values.Content.{Content}
-use Rattle.isle_model.specs.rules.Values.{listed, Values, no_value, value_and}
-use Rattle.isle_model.specs.rules.Outcome.{then_option}
-use Rattle.isle_model.specs.trees.Run.{World, used_value, used_values, Env, bound_to, part_at, from_value}
+use Rattle.model.specs.rules.Values.{listed, Values, no_value, value_and}
+use Rattle.model.specs.rules.Outcome.{then_option}
+use Rattle.model.specs.trees.Run.{World, used_value, used_values, Env, bound_to, part_at, from_value}
 use Rattle.isle_interpreter.proofs.ValueSteps.{before, before-push, before-none}
-use Rattle.isle_model.specs.rules.Meaning as M
+use Rattle.model.specs.rules.Meaning as M
 use Rattle.isle_interpreter.specs.RunViews.{env_onto, env_view}
 use Rattle.isle_interpreter.specs.ValueViews.{value_view, value_views, content_view}
 

@@ -5,21 +5,21 @@ use Rattle.std.proofs.lemmas.List.{at_drop_more, at_drop_all}
 use Rattle.std.specs.declared.alloc.Global.{Global}
 use Rattle.isle_types.specs.declared.ids.TypeId.{TypeId}
 use Rattle.isle_types.specs.declared.ids.VarId.{VarId}
-use Rattle.isle_model.specs.rules.Values as Values
-use Rattle.isle_model.specs.rules.Values.{Values, no_value, value_and}
-use Rattle.isle_model.specs.rules.Outcome as O
-use Rattle.isle_model.specs.rules.Outcome.{then_option}
-use Rattle.isle_model.specs.rules.Typed.{TypedExprs, typed_expr_and, TypedLets, typed_let_and}
-use Rattle.isle_model.specs.rules.Matching.{Vars, pure_value, pure_values, pure_lets}
-use Rattle.isle_model.specs.rules.RightSide.{Eval, gives, ends, EvalAll, gives_all, ends_all, EvalLets, gives_vars, ends_lets, pair_up, then_rest, then_lets, eval, eval_all, eval_lets}
-use Rattle.isle_model.specs.rules.Meaning.{Meaning}
+use Rattle.model.specs.rules.Values as Values
+use Rattle.model.specs.rules.Values.{Values, no_value, value_and}
+use Rattle.model.specs.rules.Outcome as O
+use Rattle.model.specs.rules.Outcome.{then_option}
+use Rattle.model.specs.rules.Typed.{TypedExprs, typed_expr_and, TypedLets, typed_let_and}
+use Rattle.model.specs.rules.Matching.{Vars, pure_value, pure_values, pure_lets}
+use Rattle.model.specs.rules.RightSide.{Eval, gives, ends, EvalAll, gives_all, ends_all, EvalLets, gives_vars, ends_lets, pair_up, then_rest, then_lets, eval, eval_all, eval_lets}
+use Rattle.model.specs.rules.Meaning.{Meaning}
 use Rattle.isle_typed.specs.declared.exprs.Expr.{Expr}
 use Rattle.isle_typed.specs.ExprViews.{expr_view, expr_views, expr_parts, let_views, let_parts}
 use Rattle.isle_interpreter.specs.declared.values.Value.{Value}
 use Rattle.isle_interpreter.specs.ValueViews.{value_view, value_views}
 use Rattle.isle_interpreter.proofs.ValueSteps.{before}
 use Rattle.isle_interpreter.proofs.EnvSteps.{after, after_push, after_none, after_all}
-use Rattle.isle_model.specs.rules.Program.{Program}
+use Rattle.model.specs.rules.Program.{Program}
 use Rattle.isle_interpreter.specs.SourceViews.{lets_view, with_value}
 
 abbrev args_of : List Expr → TypedExprs

@@ -1,12 +1,12 @@
 -- Fields, one after another.
 use Rattle.std.proofs.Common.{◌≡◌, ℕ, zero, suc, ◌+◌, ◌<◌, ◌≤◌, List, [], ◌∷◌, ◌++◌, length, get_or, drop, Option, Some, None, slice_get, if◌then◌else◌, ◌==◌, ◌&&◌, true, arith, Vec, refl, sym, ap, ◌∙◌, append_assoc}
 use Rattle.std.proofs.lemmas.List.{at_drop_more, at_drop_all, append-nil, map-append, drop_more}
-use Rattle.isle_model.specs.rules.Values as Values
-use Rattle.isle_model.specs.rules.Values.{listed}
-use Rattle.isle_model.specs.rules.Meaning as M
-use Rattle.isle_model.specs.trees.Run.{Env, all_one, bind_fields, value_fields, content_fields}
-use Rattle.isle_model.specs.sites.Sites.{Constraint, is_variant, is_struct, is_bool, is_int, is_prim, is_present}
-use Rattle.isle_model.specs.rules.Meaning.{Meaning}
+use Rattle.model.specs.rules.Values as Values
+use Rattle.model.specs.rules.Values.{listed}
+use Rattle.model.specs.rules.Meaning as M
+use Rattle.model.specs.trees.Run.{Env, all_one, bind_fields, value_fields, content_fields}
+use Rattle.model.specs.sites.Sites.{Constraint, is_variant, is_struct, is_bool, is_int, is_prim, is_present}
+use Rattle.model.specs.rules.Meaning.{Meaning}
 use Rattle.isle_interpreter.specs.declared.values.Content as C
 use Rattle.isle_interpreter.specs.declared.values.Content.{Content}
 use Rattle.std.specs.declared.alloc.Global.{Global}

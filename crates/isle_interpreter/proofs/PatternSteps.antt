@@ -4,13 +4,13 @@ use Rattle.std.proofs.lemmas.Bool.{false≢true}
 use Rattle.std.specs.declared.alloc.Global.{Global}
 use Rattle.isle_types.specs.declared.ids.TypeId.{TypeId}
 use Rattle.isle_types.specs.declared.ids.VariantId.{VariantId}
-use Rattle.isle_model.specs.rules.Values as Values
-use Rattle.isle_model.specs.rules.Values.{Values}
-use Rattle.isle_model.specs.rules.Outcome.{then_option}
-use Rattle.isle_model.specs.rules.Program.{a_variant, a_struct, Program}
-use Rattle.isle_model.specs.rules.Typed.{TypedPatterns}
-use Rattle.isle_model.specs.rules.Matching.{Vars, parts_seen, holds, each_holds, args_hold}
-use Rattle.isle_model.specs.rules.Meaning.{Meaning}
+use Rattle.model.specs.rules.Values as Values
+use Rattle.model.specs.rules.Values.{Values}
+use Rattle.model.specs.rules.Outcome.{then_option}
+use Rattle.model.specs.rules.Program.{a_variant, a_struct, Program}
+use Rattle.model.specs.rules.Typed.{TypedPatterns}
+use Rattle.model.specs.rules.Matching.{Vars, parts_seen, holds, each_holds, args_hold}
+use Rattle.model.specs.rules.Meaning.{Meaning}
 use Rattle.isle_typed.specs.declared.patterns.Pattern.{Pattern}
 use Rattle.isle_typed.specs.PatternViews.{pattern_view, pattern_views, pattern_parts}
 use Rattle.isle_interpreter.specs.declared.values.Value as V

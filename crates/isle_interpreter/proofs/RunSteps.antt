@@ -2,17 +2,17 @@
 use Rattle.std.proofs.Common.{◌≡◌, ℕ, Bool, true, false, ◌+◌, ◌<◌, ◌≤◌, if◌then◌else◌, List, [], ◌∷◌, ◌++◌, length, get_or, drop, Option, Some, None, slice_get, refl, sym, ap, ◌∙◌}
 use Rattle.std.proofs.lemmas.Bool.{false≢true}
 use Rattle.std.proofs.lemmas.List.{at_drop_more, at_drop_all}
-use Rattle.isle_model.specs.rules.Meaning as M
-use Rattle.isle_model.specs.rules.Values as Values
-use Rattle.isle_model.specs.rules.Outcome as O
-use Rattle.isle_model.specs.rules.Outcome.{Outcome, then_option}
-use Rattle.isle_model.specs.trees.Trees.{Tree, step, Check, match_at, equal_at, loop_at, return_at, Arms, arm}
-use Rattle.isle_model.specs.trees.Run.{Env, Trace, all_bound, unwrap_failed, no_content_there, ending_at, with_calls, on_bound, on_ending, or_next, with_env, with_content, on_met, on_equal, for_each, on_many, iterated, returned, bind_fields, World, used, used_value, bind_all, content_fields, run_tree, run_check, run_arms}
+use Rattle.model.specs.rules.Meaning as M
+use Rattle.model.specs.rules.Values as Values
+use Rattle.model.specs.rules.Outcome as O
+use Rattle.model.specs.rules.Outcome.{Outcome, then_option}
+use Rattle.model.specs.trees.Trees.{Tree, step, Check, match_at, equal_at, loop_at, return_at, Arms, arm}
+use Rattle.model.specs.trees.Run.{Env, Trace, all_bound, unwrap_failed, no_content_there, ending_at, with_calls, on_bound, on_ending, or_next, with_env, with_content, on_met, on_equal, for_each, on_many, iterated, returned, bind_fields, World, used, used_value, bind_all, content_fields, run_tree, run_check, run_arms}
 use Rattle.isle_serialize.specs.declared.serialize.EvalStep.{EvalStep}
 use Rattle.isle_serialize.specs.declared.serialize.MatchArm.{MatchArm, out-MatchArm, roll-out-MatchArm}
 use Rattle.isle_serialize.specs.TreeViews.{tree_view, check_view, arm_view, steps_view, arms_view}
 use Rattle.isle_serialize.proofs.TreeLaws.{arm_seen}
-use Rattle.isle_sets.specs.SiteViews.{constraint_view}
+use Rattle.isle_rule_sets.specs.SiteViews.{constraint_view}
 use Rattle.isle_interpreter.specs.declared.values.Content.{Content}
 use Rattle.isle_interpreter.specs.declared.state.Ending as E
 use Rattle.isle_interpreter.specs.declared.state.Ending.TheVariants.{Ended, Failed, RanThrough, Stuck}

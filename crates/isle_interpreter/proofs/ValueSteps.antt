@@ -8,7 +8,7 @@ use Rattle.isle_types.specs.declared.ids.VariantId.{VariantId}
 use Rattle.isle_interpreter.specs.declared.values.Value as V
 use Rattle.isle_interpreter.specs.declared.values.Value.{Value, Row_of-Value, end_of-Value, more_of-Value, items-the_row-Value}
 use Rattle.isle_interpreter.specs.declared.values.Value.TheBlock.{hidden-the_row-Value-0, items_hidden-the_row-Value-0}
-use Rattle.isle_model.specs.rules.Values.{value_eq, values_eq, Values, no_value, value_and, of_variant, of_struct}
+use Rattle.model.specs.rules.Values.{value_eq, values_eq, Values, no_value, value_and, of_variant, of_struct}
 use Rattle.isle_interpreter.specs.ValueViews.{value_view, row_values, value_views}
 
 row_values-items : {m : _} (r : Row_of-Value m) → row_values r ≡ value_views (items-the_row-Value m r)

@@ -1,14 +1,14 @@
 -- What a run's state says: the sites that are bound, the last one first, what a site was found to hold, and the trace.
 use Rattle.std.specs.Prelude.{◌≡◌, ℕ, Bool, true, false, List, [], ◌∷◌, ◌++◌, map, Option, Some, None, if◌then◌else◌}
-use Rattle.isle_model.specs.rules.Values as Values
-use Rattle.isle_model.specs.rules.Values.{value_eq}
-use Rattle.isle_model.specs.rules.Outcome as O
-use Rattle.isle_model.specs.trees.Run as R
-use Rattle.isle_model.specs.trees.Run.{Env, all_bound, unwrap_failed, no_content_there, ending_at, World}
-use Rattle.isle_model.specs.rules.Meaning as M
-use Rattle.isle_sets.specs.SiteViews.{site_views}
-use Rattle.isle_sets.specs.declared.trie_again.Binding.{Binding}
-use Rattle.isle_model.specs.rules.Meaning.{TotalMeaning, total}
+use Rattle.model.specs.rules.Values as Values
+use Rattle.model.specs.rules.Values.{value_eq}
+use Rattle.model.specs.rules.Outcome as O
+use Rattle.model.specs.trees.Run as R
+use Rattle.model.specs.trees.Run.{Env, all_bound, unwrap_failed, no_content_there, ending_at, World}
+use Rattle.model.specs.rules.Meaning as M
+use Rattle.isle_rule_sets.specs.SiteViews.{site_views}
+use Rattle.isle_rule_sets.specs.declared.trie_again.Binding.{Binding}
+use Rattle.model.specs.rules.Meaning.{TotalMeaning, total}
 use Rattle.isle_interpreter.specs.declared.values.Value.{Value}
 use Rattle.isle_interpreter.specs.declared.values.Content.{Content}
 use Rattle.isle_interpreter.specs.declared.state.Stage.{Stage}

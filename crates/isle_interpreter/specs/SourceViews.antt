@@ -1,10 +1,10 @@
 -- What variables and what an expression comes to say, without where their parts lie in memory.
 use Rattle.std.specs.Prelude.{Bool, true, List, [], ◌∷◌, ◌++◌, Option, Some, None, if◌then◌else◌, option_map}
-use Rattle.isle_model.specs.rules.Program.{Program, Kind, a_variant, a_struct, a_call, unknown}
-use Rattle.isle_model.specs.rules.Matching.{Vars}
-use Rattle.isle_model.specs.rules.Meaning.{Meaning, TotalMeaning, total}
-use Rattle.isle_model.specs.rules.Outcome as O
-use Rattle.isle_model.specs.rules.RightSide as R
+use Rattle.model.specs.rules.Program.{Program, Kind, a_variant, a_struct, a_call, unknown}
+use Rattle.model.specs.rules.Matching.{Vars}
+use Rattle.model.specs.rules.Meaning.{Meaning, TotalMeaning, total}
+use Rattle.model.specs.rules.Outcome as O
+use Rattle.model.specs.rules.RightSide as R
 use Rattle.isle_types.specs.declared.ids.VarId.{VarId}
 use Rattle.isle_terms.specs.declared.term.Term.{Term}
 use Rattle.isle_terms.specs.TermViews.{term_views}

@@ -1,8 +1,8 @@
 -- What values say, without where their parts lie in memory: each as a value of the model.
 use Rattle.std.specs.Prelude.{List, [], ◌∷◌}
-use Rattle.isle_model.specs.rules.Values as Values
-use Rattle.isle_model.specs.rules.Values.{truth, atom, of_variant, of_struct, Values, no_value, value_and}
-use Rattle.isle_model.specs.rules.Meaning as M
+use Rattle.model.specs.rules.Values as Values
+use Rattle.model.specs.rules.Values.{truth, atom, of_variant, of_struct, Values, no_value, value_and}
+use Rattle.model.specs.rules.Meaning as M
 use Rattle.isle_interpreter.specs.declared.values.Content as C
 use Rattle.isle_interpreter.specs.declared.values.Content.{Content, Row_of-Content, end_of-Content, more_of-Content}
 use Rattle.isle_interpreter.specs.declared.values.Value as V

@@ -1,9 +1,9 @@
 //! What is made of answers to calls.
 
 ghost use Rattle.std.specs.Prelude.{◌≡◌, IfOk, option_map};
-ghost use Rattle.isle_model.specs.rules.Matching.{single};
-ghost use Rattle.isle_model.specs.rules.Meaning.{answered_outputs, outputs};
-ghost use Rattle.isle_model.specs.trees.Run.{as_value};
+ghost use Rattle.model.specs.rules.Matching.{single};
+ghost use Rattle.model.specs.rules.Meaning.{answered_outputs, outputs};
+ghost use Rattle.model.specs.trees.Run.{as_value};
 ghost use Rattle.isle_interpreter.specs.ValueViews.{content_view, value_view, value_views};
 
 use crate::values::{Content, Value, value_clones};

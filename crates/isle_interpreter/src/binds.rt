@@ -1,12 +1,12 @@
 //! Sites that are bound, in order, before a test.
 
 ghost use Rattle.std.specs.Prelude.{◌≡◌, ◌++◌, ◌∷◌, [], ℕ, IfOk, Some, length, map, option_map, slice_get};
-ghost use Rattle.isle_model.specs.rules.Meaning.{just, one};
-ghost use Rattle.isle_model.specs.rules.Outcome as Outcomes;
-ghost use Rattle.isle_model.specs.rules.Outcome.{then_option};
-ghost use Rattle.isle_model.specs.rules.Values.{of_struct, of_variant};
-ghost use Rattle.isle_model.specs.trees.Run.{Env, now_bound, part_at, unwrapped, bind_all, bind_site, constructed};
-ghost use Rattle.isle_sets.specs.SiteViews.{site_view, site_views};
+ghost use Rattle.model.specs.rules.Meaning.{just, one};
+ghost use Rattle.model.specs.rules.Outcome as Outcomes;
+ghost use Rattle.model.specs.rules.Outcome.{then_option};
+ghost use Rattle.model.specs.rules.Values.{of_struct, of_variant};
+ghost use Rattle.model.specs.trees.Run.{Env, now_bound, part_at, unwrapped, bind_all, bind_site, constructed};
+ghost use Rattle.isle_rule_sets.specs.SiteViews.{site_view, site_views};
 ghost use Rattle.isle_interpreter.specs.RunViews.{IsBeginningOf, bound_view, call_views, env_view, found_view, is_all_bound, stage_view};
 ghost use Rattle.isle_interpreter.specs.RunViews.{used_in, used_value_in, used_values_in};
 ghost use Rattle.isle_interpreter.specs.ValueViews.{content_view, value_views};
@@ -15,7 +15,7 @@ use crate::env::{in_place, part, used, used_value, used_values};
 use crate::externs::Externs;
 use crate::state::{Bound, Call, Found, Stage};
 use crate::values::{Content, Value};
-use isle_sets::trie_again::{Binding, BindingId};
+use isle_rule_sets::trie_again::{Binding, BindingId};
 use isle_types::{TermId, TypeId, VariantId};
 use std::alloc::{AllocError, Global};
 

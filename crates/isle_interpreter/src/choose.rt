@@ -3,16 +3,16 @@
 ghost use Rattle.std.specs.Prelude.{◌≡◌, ◌&&◌, IfOk, Some, is_some, map, option_map};
 ghost use Rattle.std.specs.Bool.{◌==◌};
 ghost use Rattle.std.specs.List.{filter};
-ghost use Rattle.isle_model.specs.rules.Choice as Choice;
-ghost use Rattle.isle_model.specs.rules.Outcome.{no_rule};
-ghost use Rattle.isle_model.specs.rules.Program.{flags_of, kind};
-ghost use Rattle.isle_model.specs.rules.RightSide.{outcome_of, result_content, right_side};
-ghost use Rattle.isle_model.specs.rules.Choice.{choice, chosen};
-ghost use Rattle.isle_model.specs.rules.Matching.{iflets_hold, matches};
+ghost use Rattle.model.specs.rules.Choice as Choice;
+ghost use Rattle.model.specs.rules.Outcome.{no_rule};
+ghost use Rattle.model.specs.rules.Program.{flags_of, kind};
+ghost use Rattle.model.specs.rules.RightSide.{outcome_of, result_content, right_side};
+ghost use Rattle.model.specs.rules.Choice.{choice, chosen};
+ghost use Rattle.model.specs.rules.Matching.{iflets_hold, matches};
 ghost use Rattle.isle_typed.specs.RuleViews.{iflet_view, rule_view, rule_views};
 ghost use Rattle.isle_interpreter.specs.RunViews.{arg_views, call_views, outcome_view};
 ghost use Rattle.isle_interpreter.specs.ValueViews.{content_view, value_view};
-ghost use Rattle.isle_model.specs.rules.Meaning.{total};
+ghost use Rattle.model.specs.rules.Meaning.{total};
 ghost use Rattle.isle_interpreter.specs.SourceViews.{of_terms, source_program, meaning_in, evaluated_view, if_held, vars_view};
 
 use crate::exprs::{Evaluated, eval, pure_value};

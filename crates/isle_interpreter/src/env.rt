@@ -1,17 +1,17 @@
 //! What sites are bound to, and what a site that is used holds.
 
 ghost use Rattle.std.specs.Prelude.{◌≡◌, IfOk, option_map};
-ghost use Rattle.isle_model.specs.rules.Meaning.{one};
-ghost use Rattle.isle_model.specs.rules.Values.{no_value, of_struct, of_variant};
-ghost use Rattle.isle_model.specs.trees.Run.{bound_to, part_at, in_place, used, used_value, used_values};
-ghost use Rattle.isle_sets.specs.SiteViews.{site_view};
+ghost use Rattle.model.specs.rules.Meaning.{one};
+ghost use Rattle.model.specs.rules.Values.{no_value, of_struct, of_variant};
+ghost use Rattle.model.specs.trees.Run.{bound_to, part_at, in_place, used, used_value, used_values};
+ghost use Rattle.isle_rule_sets.specs.SiteViews.{site_view};
 ghost use Rattle.isle_interpreter.specs.RunViews.{env_view, stage_view};
 ghost use Rattle.isle_interpreter.specs.ValueViews.{value_view, value_views, content_view};
 
 use crate::externs::Externs;
 use crate::state::Stage;
 use crate::values::{Content, Value};
-use isle_sets::trie_again::{Binding, BindingId};
+use isle_rule_sets::trie_again::{Binding, BindingId};
 use isle_types::{TypeId, VariantId};
 use std::alloc::{AllocError, Global};
 

@@ -2,14 +2,14 @@
 //! in order.
 
 ghost use Rattle.std.specs.Prelude.{◌≡◌, ◌++◌, ◌∷◌, [], ℕ, IfOk, Some, length, option_map};
-ghost use Rattle.isle_model.specs.rules.Outcome.{then_option};
-ghost use Rattle.isle_model.specs.rules.RightSide.{applied, eval_all, eval, eval_lets, impure_call};
-ghost use Rattle.isle_model.specs.rules.Program.{kind};
-ghost use Rattle.isle_model.specs.rules.Matching.{pure_lets, pure_term, pure_value, pure_values};
+ghost use Rattle.model.specs.rules.Outcome.{then_option};
+ghost use Rattle.model.specs.rules.RightSide.{applied, eval_all, eval, eval_lets, impure_call};
+ghost use Rattle.model.specs.rules.Program.{kind};
+ghost use Rattle.model.specs.rules.Matching.{pure_lets, pure_term, pure_value, pure_values};
 ghost use Rattle.isle_typed.specs.ExprViews.{expr_parts, expr_view, expr_views, let_parts, let_views};
 ghost use Rattle.isle_interpreter.specs.RunViews.{call_views};
 ghost use Rattle.isle_interpreter.specs.ValueViews.{value_view, value_views};
-ghost use Rattle.isle_model.specs.rules.Meaning.{total};
+ghost use Rattle.model.specs.rules.Meaning.{total};
 ghost use Rattle.isle_interpreter.specs.SourceViews.{of_terms, source_program, meaning_in, evaluated_all_view, evaluated_view, lets_view, purity, vars_view, with_value};
 
 use crate::answers::single;

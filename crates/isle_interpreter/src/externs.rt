@@ -1,7 +1,7 @@
 //! What trees call: the meanings of literals, named constants and declared terms, which the caller gives.
 
 ghost use Rattle.std.specs.Prelude.{◌≡◌, IfOk, length};
-ghost use Rattle.isle_model.specs.rules.Meaning.{bool_literal, int_literal, TotalMeaning};
+ghost use Rattle.model.specs.rules.Meaning.{bool_literal, int_literal, TotalMeaning};
 ghost use Rattle.isle_interpreter.specs.ValueViews.{value_view, value_views, content_view};
 
 use crate::values::{Content, Value};

@@ -1,19 +1,19 @@
 //! What a content brings that meets a constraint, and the sites of fields.
 
 ghost use Rattle.std.specs.Prelude.{◌≡◌, ◌==◌, ◌&&◌, ◌∷◌, [], IfOk, None, Some, false, if◌then◌else◌, map, option_map, true};
-ghost use Rattle.isle_model.specs.rules.Meaning.{just, total};
-ghost use Rattle.isle_model.specs.rules.Values.{listed};
-ghost use Rattle.isle_model.specs.trees.Run as Run;
-ghost use Rattle.isle_model.specs.trees.Run.{all_one, where_constant, content_fields, value_fields};
-ghost use Rattle.isle_model.specs.sites.Sites.{is_present, is_struct, is_variant};
-ghost use Rattle.isle_sets.specs.SiteViews.{constraint_view};
+ghost use Rattle.model.specs.rules.Meaning.{just, total};
+ghost use Rattle.model.specs.rules.Values.{listed};
+ghost use Rattle.model.specs.trees.Run as Run;
+ghost use Rattle.model.specs.trees.Run.{all_one, where_constant, content_fields, value_fields};
+ghost use Rattle.model.specs.sites.Sites.{is_present, is_struct, is_variant};
+ghost use Rattle.isle_rule_sets.specs.SiteViews.{constraint_view};
 ghost use Rattle.isle_interpreter.specs.RunViews.{IsBeginningOf, content_list, env_view, if_bound, with_field};
 ghost use Rattle.isle_interpreter.specs.ValueViews.{content_view, value_view, value_views};
 
 use crate::externs::Externs;
 use crate::state::Stage;
 use crate::values::{Content, Value, same_type, same_value, same_variant};
-use isle_sets::trie_again::{BindingId, Constraint};
+use isle_rule_sets::trie_again::{BindingId, Constraint};
 use isle_types::{TypeId, VariantId};
 use std::alloc::{AllocError, Global};
 

@@ -1,11 +1,11 @@
 //! Typed patterns, matched with values.
 
 ghost use Rattle.std.specs.Prelude.{◌≡◌, IfOk, Some, option_map};
-ghost use Rattle.isle_model.specs.rules.Program.{a_struct, a_variant, kind};
-ghost use Rattle.isle_model.specs.rules.Matching.{all_hold, each_holds, holds, parts_seen};
+ghost use Rattle.model.specs.rules.Program.{a_struct, a_variant, kind};
+ghost use Rattle.model.specs.rules.Matching.{all_hold, each_holds, holds, parts_seen};
 ghost use Rattle.isle_typed.specs.PatternViews.{pattern_parts, pattern_view, pattern_views};
 ghost use Rattle.isle_interpreter.specs.ValueViews.{value_view, value_views};
-ghost use Rattle.isle_model.specs.rules.Meaning.{total};
+ghost use Rattle.model.specs.rules.Meaning.{total};
 ghost use Rattle.isle_interpreter.specs.SourceViews.{of_terms, source_program, meaning_in, if_held, vars_view};
 
 use crate::answers::answered_outputs;

@@ -1,14 +1,14 @@
 //! The run of a tree of tests.
 
 ghost use Rattle.std.specs.Prelude.{◌≡◌, ◌∷◌, IfOk, if◌then◌else◌, map, option_map, slice_get};
-ghost use Rattle.isle_model.specs.rules.Outcome.{ended, ran_through, then_option};
-ghost use Rattle.isle_model.specs.trees.Run.{for_each, iterated, on_ending, returned, with_content, with_env, run_arms, run, run_check, run_tree};
-ghost use Rattle.isle_model.specs.trees.Run as Run;
-ghost use Rattle.isle_model.specs.trees.Trees as Trees;
-ghost use Rattle.isle_model.specs.trees.Trees.{Tree};
+ghost use Rattle.model.specs.rules.Outcome.{ended, ran_through, then_option};
+ghost use Rattle.model.specs.trees.Run.{for_each, iterated, on_ending, returned, with_content, with_env, run_arms, run, run_check, run_tree};
+ghost use Rattle.model.specs.trees.Run as Run;
+ghost use Rattle.model.specs.trees.Trees as Trees;
+ghost use Rattle.model.specs.trees.Trees.{Tree};
 ghost use Rattle.isle_serialize.specs.TreeViews.{arms_view, check_view, tree_view};
 ghost use Rattle.isle_serialize.specs.declared.serialize.MatchArm.{out-MatchArm};
-ghost use Rattle.isle_sets.specs.SiteViews.{site_view, site_views};
+ghost use Rattle.isle_rule_sets.specs.SiteViews.{site_view, site_views};
 ghost use Rattle.isle_interpreter.specs.RunViews.{IsBeginningOf, arg_views, content_list, ending_view, env_view, equality_by, is_through, many_by};
 ghost use Rattle.isle_interpreter.specs.RunViews.{outcome_at, outcome_view, stage_of, stage_view, trace_view, used_in, used_value_in};
 ghost use Rattle.isle_interpreter.specs.ValueViews.{content_view};
@@ -20,7 +20,7 @@ use crate::fields::{bind_fields, content_fields};
 use crate::state::{Bound, Ending, Outcome, Stage, Trace};
 use crate::values::{Content, Value, same_value};
 use isle_serialize::serialize::{Block, ControlFlow, EvalStep, MatchArm};
-use isle_sets::trie_again::{Binding, BindingId, RuleSet};
+use isle_rule_sets::trie_again::{Binding, BindingId, RuleSet};
 use std::alloc::{AllocError, Global};
 
 // Whether two sites hold equal values, where each holds a value.
@@ -295,7 +295,7 @@ fn run_each<E: Externs>(
 /// in order, and how it ends. `block` is a tree whose sites are those of `set`, `args` has one value for each argument, and
 /// `multi` says whether the term is multi. A site that holds nothing of the form that is used ends it as stuck. No tree that
 /// `lower` gives of a term that isn't multi is stuck on well-typed arguments, by well-typed functions that tell constants apart
-/// (`runs_by_functions_as_chosen` of `isle_laws_matching`).
+/// (`runs_by_functions_as_chosen` of `laws_matching`).
 ///
 /// # Errors
 ///

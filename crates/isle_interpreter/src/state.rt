@@ -1,7 +1,7 @@
 //! What a run works with, where it stands, and how it ends.
 
 use crate::values::{Content, Value};
-use isle_sets::trie_again::Binding;
+use isle_rule_sets::trie_again::Binding;
 use isle_types::TermId;
 use std::alloc::Global;
 

@@ -2,9 +2,9 @@
 
 ghost use Rattle.std.specs.Prelude.{◌≡◌, ◌&&◌, ℕ, IfOk, Some, option_map};
 ghost use Rattle.std.specs.Bool.{◌==◌};
-ghost use Rattle.isle_model.specs.rules.Values.{value_eq, values_eq};
+ghost use Rattle.model.specs.rules.Values.{value_eq, values_eq};
 ghost use Rattle.isle_interpreter.specs.ValueViews.{value_view, value_views, content_view, content_views};
-ghost use Rattle.isle_model.specs.trees.Run.{Env, as_value, unwrapped};
+ghost use Rattle.model.specs.trees.Run.{Env, as_value, unwrapped};
 ghost use Rattle.isle_interpreter.specs.RunViews.{content_list, found_view, many_by};
 
 use crate::state::Found;

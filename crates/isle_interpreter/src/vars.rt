@@ -1,7 +1,7 @@
 //! The variables of a rule, each with its value, or as one whose value failed.
 
 ghost use Rattle.std.specs.Prelude.{◌≡◌, IfOk, option_map};
-ghost use Rattle.isle_model.specs.rules.Matching.{var_value};
+ghost use Rattle.model.specs.rules.Matching.{var_value};
 ghost use Rattle.isle_interpreter.specs.ValueViews.{value_view};
 ghost use Rattle.isle_interpreter.specs.SourceViews.{vars_view};
 

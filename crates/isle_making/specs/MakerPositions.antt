@@ -1,6 +1,6 @@
 -- What a maker gives its position to, and how it counts.
 use Rattle.std.specs.Prelude.{◌≡◌, ℕ, List, Result, MatchResult}
-use Rattle.isle_model.specs.lists.Syntax.{Name, FieldTree, TupleFieldTree}
+use Rattle.model.specs.lists.Syntax.{Name, FieldTree, TupleFieldTree}
 use Rattle.isle_base.specs.declared.syntax.Pos.{Pos}
 use Rattle.isle_base.specs.Places.{single_end}
 use Rattle.isle_base.specs.SyntaxViews.{position}

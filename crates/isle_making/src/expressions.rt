@@ -4,7 +4,7 @@
 ghost use Rattle.std.specs.Prelude.{◌≡◌, ◌∷◌, [], IfOk};
 ghost use Rattle.isle_base.specs.SyntaxViews.{expr_view, expr_views, let_views, position};
 ghost use Rattle.isle_making.specs.MakerPositions.{name_at};
-ghost use Rattle.isle_model.specs.lists.Syntax.{term_expr, var_expr, bool_expr, int_expr, prim_expr, let_expr, let_and, no_let};
+ghost use Rattle.model.specs.lists.Syntax.{term_expr, var_expr, bool_expr, int_expr, prim_expr, let_expr, let_and, no_let};
 
 use crate::maker::Maker;
 use isle_base::syntax::{Expr, LetDef};

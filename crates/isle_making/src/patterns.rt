@@ -4,7 +4,7 @@
 ghost use Rattle.std.specs.Prelude.{◌≡◌, IfOk};
 ghost use Rattle.isle_base.specs.SyntaxViews.{pattern_view, pattern_views, position};
 ghost use Rattle.isle_making.specs.MakerPositions.{name_at};
-ghost use Rattle.isle_model.specs.lists.Syntax.{var_pattern, bind_pattern, bool_pattern, int_pattern, prim_pattern, term_pattern, wildcard_pattern, and_pattern, macro_arg};
+ghost use Rattle.model.specs.lists.Syntax.{var_pattern, bind_pattern, bool_pattern, int_pattern, prim_pattern, term_pattern, wildcard_pattern, and_pattern, macro_arg};
 
 use crate::maker::Maker;
 use isle_base::syntax::Pattern;

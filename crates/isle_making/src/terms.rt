@@ -3,7 +3,7 @@
 ghost use Rattle.std.specs.Prelude.{◌≡◌, map, false, IfOk};
 ghost use Rattle.isle_base.specs.SyntaxViews.{converter_view, decl_view, extern_view, extractor_view, pattern_view, position};
 ghost use Rattle.isle_making.specs.MakerPositions.{name_at, IsCountedIfMade};
-ghost use Rattle.isle_model.specs.lists.Syntax.{extern_const, extern_constructor, extern_extractor};
+ghost use Rattle.model.specs.lists.Syntax.{extern_const, extern_constructor, extern_extractor};
 
 use crate::maker::Maker;
 use isle_base::syntax::{Converter, Decl, Extern, Extractor, Pattern};

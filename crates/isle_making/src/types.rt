@@ -4,7 +4,7 @@ ghost use Rattle.std.specs.Prelude.{◌≡◌, map, false, IfOk};
 ghost use Rattle.std.specs.List.{enumerate_from};
 ghost use Rattle.isle_base.specs.SyntaxViews.{field_view, fields_view, name_view, position, type_value_view, type_view, variant_view};
 ghost use Rattle.isle_making.specs.MakerPositions.{counted, field_at, name_at, tuple_field_at, IsCountedIfMade};
-ghost use Rattle.isle_model.specs.lists.Syntax.{enum_value, primitive_value, struct_fields, struct_value, tuple_fields};
+ghost use Rattle.model.specs.lists.Syntax.{enum_value, primitive_value, struct_fields, struct_value, tuple_fields};
 
 use crate::maker::Maker;
 use isle_base::syntax::{

@@ -2,10 +2,10 @@
 use Rattle.std.proofs.Common.{◌≡◌, ◌==◌, ◌&&◌, ◌||◌, ℕ, true, false, if◌then◌else◌, nat_lt, List, [], ◌∷◌, refl, sym, ap₂, ◌∙◌, subst, inl, inr, arith}
 use Rattle.std.proofs.lemmas.Bool.{cases_Bool, cond-true, cond-false, false≢true}
 use Rattle.std.proofs.lemmas.Bool.Decides.{nat_tests}
-use Rattle.isle_model.specs.lists.Syntax.{Position}
-use Rattle.isle_model.specs.sites.Overlap.{position_eq, position_lt, with_position, ascending_positions}
-use Rattle.isle_model.proofs.Elements.{In}
-use Rattle.isle_laws_closure.proofs.overlaps.ListedOverlaps.{position_same, with_in, in_ascending, ascending_in}
+use Rattle.model.specs.lists.Syntax.{Position}
+use Rattle.model.specs.sites.Overlap.{position_eq, position_lt, with_position, ascending_positions}
+use Rattle.model.proofs.Elements.{In}
+use Rattle.laws_closure.proofs.overlaps.ListedOverlaps.{position_same, with_in, in_ascending, ascending_in}
 
 -- 1. an order of positions
 chain : (a b c d e f : ℕ) → (nat_lt a c || ((a == c) && nat_lt b d)) ≡ true → (nat_lt c e || ((c == e) && nat_lt d f)) ≡ true → (nat_lt a e || ((a == e) && nat_lt b f)) ≡ true

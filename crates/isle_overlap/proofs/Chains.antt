@@ -8,10 +8,10 @@ use Rattle.std.proofs.lemmas.Bool.{cases_Bool, cases_eq, cond-true, cond-false, 
 use Rattle.std.proofs.lemmas.List.{length-map, length-set, get_or-set_same, get_or-set_other}
 use Rattle.std.proofs.lemmas.Option.{same_Some, get_or_from_slice_get, slice_get-get_or, slice_get_within}
 use Rattle.std.proofs.Math.Seq.{drop-cons}
-use Rattle.isle_model.specs.sites.Sites.{SetRule}
-use Rattle.isle_model.proofs.Mapped.{get_map}
-use Rattle.isle_sets.specs.SiteViews.{set_rule_view, set_rule_views}
-use Rattle.isle_sets.specs.declared.trie_again.Rule.{Rule}
+use Rattle.model.specs.sites.Sites.{SetRule}
+use Rattle.model.proofs.Mapped.{get_map}
+use Rattle.isle_rule_sets.specs.SiteViews.{set_rule_view, set_rule_views}
+use Rattle.isle_rule_sets.specs.declared.trie_again.Rule.{Rule}
 use Rattle.isle_overlap.specs.Comparisons.{masked_behind, wrong_behind}
 use Rattle.isle_overlap.specs.Keys.{AreApart, AreNext, IsAhead, IsFirst, TellApart, nearer}
 use Rattle.isle_overlap.specs.declared.overlap.Ahead.{Ahead}

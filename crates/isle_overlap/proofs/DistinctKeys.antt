@@ -7,20 +7,20 @@ use Rattle.std.proofs.lemmas.Bool.{cases_Bool, and_from}
 use Rattle.std.proofs.Math.Bool.{and-false}
 use Rattle.std.proofs.lemmas.List.{length-append, length-replicate, map-append, take_more}
 use Rattle.std.proofs.lemmas.Option.{same_Some, slice_get_within}
-use Rattle.isle_model.specs.sites.Sites.{Constraint, is_variant, is_struct, is_bool, is_int, is_prim, is_present, SetRule}
-use Rattle.isle_model.specs.visits.Demands.{constraint_eq}
-use Rattle.isle_model.specs.sites.SetRules.{sites_differ, differs_at, overlap_between, overlap_wrongly, is_mask_of, may_both_match, is_subset, no_overlap, some_overlap, is_subset_of_sites}
-use Rattle.isle_model.specs.trees.Places.{constraint_at}
-use Rattle.isle_model.specs.trees.Best.{total_constraints}
-use Rattle.isle_model.proofs.Members.{constraint_in, passes_any}
-use Rattle.isle_model.proofs.SameSites.{constraint_means, same_constraint}
+use Rattle.model.specs.sites.Sites.{Constraint, is_variant, is_struct, is_bool, is_int, is_prim, is_present, SetRule}
+use Rattle.model.specs.visits.Demands.{constraint_eq}
+use Rattle.model.specs.sites.SetRules.{sites_differ, differs_at, overlap_between, overlap_wrongly, is_mask_of, may_both_match, is_subset, no_overlap, some_overlap, is_subset_of_sites}
+use Rattle.model.specs.trees.Places.{constraint_at}
+use Rattle.model.specs.trees.Best.{total_constraints}
+use Rattle.model.proofs.Members.{constraint_in, passes_any}
+use Rattle.model.proofs.SameSites.{constraint_means, same_constraint}
 use Rattle.isle_overlap.specs.Comparisons.{wrong_pair, masked_pair}
-use Rattle.isle_model.proofs.Positions.{get_push_cases}
-use Rattle.isle_sets.specs.SiteViews.{constraint_view, set_rule_view, set_rule_views}
-use Rattle.isle_sets.specs.declared.trie_again.Rule.{Rule}
-use Rattle.isle_sets.specs.contracts.trie_again.ConstraintOrd.TheImpl.{ghosts}
-use Rattle.isle_sets.specs.declared.trie_again.Constraint as C
-use Rattle.isle_sets.specs.declared.trie_again.Constraint.TheVariants as T
+use Rattle.model.proofs.Positions.{get_push_cases}
+use Rattle.isle_rule_sets.specs.SiteViews.{constraint_view, set_rule_view, set_rule_views}
+use Rattle.isle_rule_sets.specs.declared.trie_again.Rule.{Rule}
+use Rattle.isle_rule_sets.specs.contracts.trie_again.ConstraintOrd.TheImpl.{ghosts}
+use Rattle.isle_rule_sets.specs.declared.trie_again.Constraint as C
+use Rattle.isle_rule_sets.specs.declared.trie_again.Constraint.TheVariants as T
 use Rattle.isle_overlap.specs.Keys.{AreApart, AreNumbered, IsAskedNumber, TellApart}
 
 -- two constraints of one site

@@ -6,11 +6,11 @@ use Rattle.std.proofs.lemmas.Bool.{cases_Bool}
 use Rattle.std.proofs.lemmas.Bool.Decides.{nat_tests}
 use Rattle.std.proofs.lemmas.List.{length-map, map-append, append-nil}
 use Rattle.std.proofs.lemmas.List.Elements.{filter_agree}
-use Rattle.isle_model.specs.lists.Syntax.{Position}
-use Rattle.isle_model.specs.sites.Overlap.{position_eq, position_lt, has_end, other_end, degree, is_reported_before, overlap_reports, overlap_reports_in, rules_overlap, ascending_positions}
-use Rattle.isle_model.specs.claims.Refusals.{overlapping, refusal_of}
-use Rattle.isle_model.proofs.Elements.{In}
-use Rattle.isle_laws_closure.proofs.overlaps.ListedOverlaps.{position_means, in_ascending, left_over, no_longer}
+use Rattle.model.specs.lists.Syntax.{Position}
+use Rattle.model.specs.sites.Overlap.{position_eq, position_lt, has_end, other_end, degree, is_reported_before, overlap_reports, overlap_reports_in, rules_overlap, ascending_positions}
+use Rattle.model.specs.claims.Refusals.{overlapping, refusal_of}
+use Rattle.model.proofs.Elements.{In}
+use Rattle.laws_closure.proofs.overlaps.ListedOverlaps.{position_means, in_ascending, left_over, no_longer}
 use Rattle.isle_base.specs.SyntaxViews.{position}
 use Rattle.isle_base.specs.declared.syntax.Error.{Error}
 use Rattle.isle_base.specs.declared.syntax.Pos.{Pos}

@@ -4,10 +4,10 @@ use Rattle.std.proofs.lemmas.Bool.{cases_Bool, cond-true, cond-false, and_parts,
 use Rattle.std.proofs.lemmas.Bool.Decides.{nat_tests}
 use Rattle.std.proofs.lemmas.List.Elements.{filter_agree}
 use Rattle.std.proofs.Math.Bool.{and-true, or-false}
-use Rattle.isle_model.specs.lists.Syntax.{Position}
-use Rattle.isle_model.specs.sites.Overlap.{position_eq, position_lt, has_end, other_end, degree, is_reported_before, foremost, overlap_report, overlap_reports_in}
-use Rattle.isle_model.proofs.Elements.{In, or_split, or_right, in_filter, filter_from, passed_filter, in_map, in_flat_map, from_flat_map}
-use Rattle.isle_laws_closure.proofs.overlaps.ListedOverlaps.{position_means, first_end, second_end, left_over}
+use Rattle.model.specs.lists.Syntax.{Position}
+use Rattle.model.specs.sites.Overlap.{position_eq, position_lt, has_end, other_end, degree, is_reported_before, foremost, overlap_report, overlap_reports_in}
+use Rattle.model.proofs.Elements.{In, or_split, or_right, in_filter, filter_from, passed_filter, in_map, in_flat_map, from_flat_map}
+use Rattle.laws_closure.proofs.overlaps.ListedOverlaps.{position_means, first_end, second_end, left_over}
 use Rattle.isle_overlap.specs.Graphs.{neighbours, ends_of}
 use Rattle.isle_overlap.proofs.Ascents.{lt_total}
 

@@ -6,13 +6,13 @@ use Rattle.std.proofs.lemmas.Int.{ints}
 use Rattle.std.proofs.lemmas.List.{map-append, append-nil, length-map, map-set, length-set, get_or-map, get_or-set_same, get_or-set_other, take_more}
 use Rattle.std.proofs.lemmas.List.Elements.{filter-append, All-cons, All-nil, All-append}
 use Rattle.std.proofs.lemmas.Option.{slice_get_within}
-use Rattle.isle_model.specs.lists.Syntax.{Position}
-use Rattle.isle_model.specs.sites.Sites.{SetRule}
-use Rattle.isle_model.specs.sites.Overlap.{each_two, rule_shadows, ShadowReport}
-use Rattle.isle_model.specs.sites.SetRules.{overlap_between, overlap_wrongly, is_mask_of, is_subset, wrong_among, shadow_report_of, shadows_among}
-use Rattle.isle_model.specs.trees.Best.{total_constraints}
-use Rattle.isle_model.specs.claims.Refusals.{refusal_of}
-use Rattle.isle_model.proofs.Elements.{some_is}
+use Rattle.model.specs.lists.Syntax.{Position}
+use Rattle.model.specs.sites.Sites.{SetRule}
+use Rattle.model.specs.sites.Overlap.{each_two, rule_shadows, ShadowReport}
+use Rattle.model.specs.sites.SetRules.{overlap_between, overlap_wrongly, is_mask_of, is_subset, wrong_among, shadow_report_of, shadows_among}
+use Rattle.model.specs.trees.Best.{total_constraints}
+use Rattle.model.specs.claims.Refusals.{refusal_of}
+use Rattle.model.proofs.Elements.{some_is}
 use Rattle.isle_base.specs.SyntaxViews.{position}
 use Rattle.isle_base.specs.declared.syntax.Pos.{Pos}
 use Rattle.isle_overlap.specs.Comparisons.{AreGrouped, list_views, masked_view, masked_views, positions, masked_pair, wrong_behind, masked_behind, wrong_rows, masked_rows, of_mask, shadow_of, shadows_of}

@@ -10,10 +10,10 @@ use Rattle.std.specs.List.{AllByRecursion, dedup}
 use Rattle.std.specs.List.Sorted.{ties, IsSortedBy, IsSorted, IsStrictlySortedBy}
 use Rattle.std.proofs.lemmas.List.Sorted.{ranks_by, Contains-permutation, IsPermutation-sym}
 use Rattle.std.proofs.lemmas.List.Kept.{IsStrictlySortedBy-dedup, Contains-dedup, Contains-from_dedup}
-use Rattle.isle_model.specs.lists.Syntax.{Position}
-use Rattle.isle_model.specs.sites.Overlap.{RuleReport, limit_passed, not_reached, rules_overlap, rule_shadows, report_position, position_lt, with_report, by_position, ascending_positions}
-use Rattle.isle_model.specs.claims.Refusals.{Refusal, ill_typed, unreachable, overlapping, shadowing, past_limit, refusal_of}
-use Rattle.isle_model.proofs.Elements.{In, in_map, map_in, in_from_contains, contains_from_in}
+use Rattle.model.specs.lists.Syntax.{Position}
+use Rattle.model.specs.sites.Overlap.{RuleReport, limit_passed, not_reached, rules_overlap, rule_shadows, report_position, position_lt, with_report, by_position, ascending_positions}
+use Rattle.model.specs.claims.Refusals.{Refusal, ill_typed, unreachable, overlapping, shadowing, past_limit, refusal_of}
+use Rattle.model.proofs.Elements.{In, in_map, map_in, in_from_contains, contains_from_in}
 use Rattle.isle_base.specs.SyntaxViews.{position}
 use Rattle.isle_base.specs.declared.syntax.Error.{Error}
 use Rattle.isle_base.specs.declared.syntax.Error.TheVariants.{TypeError, UnreachableError, OverlapError, ShadowedError, LimitError}

@@ -1,7 +1,7 @@
 -- What was found of rules that were compared.
 use Rattle.std.specs.Prelude.{List, All}
-use Rattle.isle_model.specs.lists.Syntax.{Position}
-use Rattle.isle_model.specs.claims.Refusals.{Refusal}
+use Rattle.model.specs.lists.Syntax.{Position}
+use Rattle.model.specs.claims.Refusals.{Refusal}
 use Rattle.isle_base.specs.ErrorViews.{error_views}
 use Rattle.isle_base.specs.Positions.{HasSingleSpans}
 use Rattle.isle_overlap.specs.Comparisons.{pair_views}

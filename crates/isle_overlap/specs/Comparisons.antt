@@ -3,10 +3,10 @@ use Rattle.std.specs.Prelude.{◌≡◌, ℕ, ◌+◌, ◌<◌, List, [], ◌∷
 use Rattle.std.specs.Bool.{◌==◌}
 use Rattle.std.specs.List.{filter, flat_map}
 use Rattle.std.specs.Global.{Vec}
-use Rattle.isle_model.specs.lists.Syntax.{Position}
-use Rattle.isle_model.specs.sites.Sites.{SetRule}
-use Rattle.isle_model.specs.claims.Refusals.{Refusal, shadowing}
-use Rattle.isle_model.specs.sites.SetRules.{overlap_wrongly, is_mask_of}
+use Rattle.model.specs.lists.Syntax.{Position}
+use Rattle.model.specs.sites.Sites.{SetRule}
+use Rattle.model.specs.claims.Refusals.{Refusal, shadowing}
+use Rattle.model.specs.sites.SetRules.{overlap_wrongly, is_mask_of}
 use Rattle.isle_base.specs.SyntaxViews.{position}
 use Rattle.isle_base.specs.declared.syntax.Pos.{Pos}
 

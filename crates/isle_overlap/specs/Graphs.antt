@@ -4,12 +4,12 @@ use Rattle.std.specs.Bool.{◌==◌}
 use Rattle.std.specs.List.{filter, flat_map}
 use Rattle.std.specs.Global.{Vec}
 use Rattle.std.specs.BTreeMap.{BTreeMap, get}
-use Rattle.isle_model.specs.lists.Syntax.{Position}
-use Rattle.isle_model.specs.sites.Overlap.{position_eq, position_lt, has_end, other_end}
+use Rattle.model.specs.lists.Syntax.{Position}
+use Rattle.model.specs.sites.Overlap.{position_eq, position_lt, has_end, other_end}
 use Rattle.isle_base.specs.SyntaxViews.{position}
 use Rattle.isle_base.specs.declared.syntax.Pos.{Pos}
 use Rattle.isle_base.specs.contracts.syntax.PosOrd.TheImpl.{ghosts}
-use Rattle.isle_sets.specs.Endings.{items_of}
+use Rattle.isle_rule_sets.specs.Endings.{items_of}
 
 -- the rules that overlap one, in the order of the overlaps
 abbrev pub neighbours : List (Position × Position) → Position → List Position

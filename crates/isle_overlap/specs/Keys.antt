@@ -1,12 +1,12 @@
 -- Keys of rules: numbers that tell rules apart, and where the next rule of a key stands.
 use Rattle.std.specs.Prelude.{true, ◌≡◌, ◌≢◌, ◌≤◌, ◌<◌, ◌+◌, ℕ, List, Option, Some, None, length, slice_get, nat_lt, if◌then◌else◌}
 use Rattle.std.specs.BTreeMap.{BTreeMap, get}
-use Rattle.isle_model.specs.sites.Sites.{SetRule}
-use Rattle.isle_model.specs.sites.SetRules.{sites_differ}
-use Rattle.isle_model.specs.trees.Places.{constraint_at}
-use Rattle.isle_sets.specs.SiteViews.{constraint_view}
-use Rattle.isle_sets.specs.contracts.trie_again.ConstraintOrd.TheImpl.{ghosts}
-use Rattle.isle_sets.specs.declared.trie_again.Constraint.{Constraint}
+use Rattle.model.specs.sites.Sites.{SetRule}
+use Rattle.model.specs.sites.SetRules.{sites_differ}
+use Rattle.model.specs.trees.Places.{constraint_at}
+use Rattle.isle_rule_sets.specs.SiteViews.{constraint_view}
+use Rattle.isle_rule_sets.specs.contracts.trie_again.ConstraintOrd.TheImpl.{ghosts}
+use Rattle.isle_rule_sets.specs.declared.trie_again.Constraint.{Constraint}
 use Rattle.isle_overlap.specs.declared.keys.Keys.{Keys}
 use Rattle.isle_overlap.specs.declared.overlap.Ahead.{Ahead}
 

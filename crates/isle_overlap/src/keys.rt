@@ -4,10 +4,10 @@ ghost use Rattle.std.specs.BTreeMap.{get};
 ghost use Rattle.std.specs.Option.{option_cmp};
 ghost use Rattle.std.specs.Ordering.{nat_cmp};
 ghost use Rattle.std.specs.Prelude.{◌≡◌, ◌+◌, ℕ, List, Option, IfOk, None, Some, replicate, length, slice_get, unwrap_or};
-ghost use Rattle.isle_sets.specs.SiteViews.{set_rule_view, set_rule_views};
+ghost use Rattle.isle_rule_sets.specs.SiteViews.{set_rule_view, set_rule_views};
 ghost use Rattle.isle_overlap.specs.Keys.{AreKeys, AreNext, AreNumbered, IsFirst, IsAskedNumber, TellApart};
 
-use isle_sets::trie_again::{BindingId, Constraint, Rule};
+use isle_rule_sets::trie_again::{BindingId, Constraint, Rule};
 use std::alloc::{AllocError, Global};
 use std::collections::{BTreeMap, BTreeSet};
 

@@ -1,12 +1,12 @@
 //! The check of overlaps: rules of one priority that may both match, and rules that others mask.
 ghost use Rattle.std.specs.Prelude.{◌^◌, List, Option, None, true, false, Some, slice_get, if◌then◌else◌, slice_index_or, ◌≡◌, ◌++◌, ◌∷◌, [], ◌+◌, ◌-◌, ◌<◌, ℕ, All, IfOk, OnOk, drop, length, map, nat_lt, cond, vec_len};
-ghost use Rattle.isle_model.specs.claims.Refusals.{overlapping, refusal_of};
-ghost use Rattle.isle_model.specs.sites.Overlap.{RuleReport, ShadowReport, ascending_positions, by_position, degree, has_end, other_end, overlap_reports, rule_shadows, rules_overlap};
-ghost use Rattle.isle_model.specs.sites.SetRules.{is_mask_of, overlap_wrongly, shadows_among, wrong_among};
+ghost use Rattle.model.specs.claims.Refusals.{overlapping, refusal_of};
+ghost use Rattle.model.specs.sites.Overlap.{RuleReport, ShadowReport, ascending_positions, by_position, degree, has_end, other_end, overlap_reports, rule_shadows, rules_overlap};
+ghost use Rattle.model.specs.sites.SetRules.{is_mask_of, overlap_wrongly, shadows_among, wrong_among};
 ghost use Rattle.isle_base.specs.ErrorViews.{error_view, error_views, span_starts};
 ghost use Rattle.isle_base.specs.Positions.{HasSingleSpans, IsSingle};
 ghost use Rattle.isle_base.specs.SyntaxViews.{position};
-ghost use Rattle.isle_sets.specs.SiteViews.{set_rule_view, set_rule_views};
+ghost use Rattle.isle_rule_sets.specs.SiteViews.{set_rule_view, set_rule_views};
 ghost use Rattle.isle_overlap.specs.Comparisons.{AreGrouped, list_views, masked_behind, masked_pair, masked_rows, masked_views, pair_views, positions, shadow_of, shadows_of, wrong_behind, wrong_pair, wrong_rows};
 ghost use Rattle.isle_overlap.specs.ErrorViews.{error_pos};
 ghost use Rattle.isle_overlap.specs.ComparedRules.{HaveSingleSpans, found_shadows, found_wrong};
@@ -15,7 +15,7 @@ ghost use Rattle.isle_overlap.specs.Graphs.{unreported_at, count_left, counts_be
 
 use crate::keys::{Keys, first_without, keys_of};
 use isle_base::syntax::{Error, Pos, Span};
-use isle_sets::trie_again::{Overlap, Rule};
+use isle_rule_sets::trie_again::{Overlap, Rule};
 use std::alloc::{AllocError, Global};
 use std::collections::BTreeMap;
 

@@ -6,8 +6,8 @@ use Rattle.std.proofs.lemmas.List.Elements.{All-nil, All-cons, All-head, All-app
 use Rattle.isle_base.specs.declared.syntax.Def.{Def}
 use Rattle.isle_base.specs.declared.syntax.Error.{Error}
 use Rattle.isle_base.specs.SyntaxViews.{definition_view, definition_views}
-use Rattle.isle_model.specs.lists.Syntax.{Definition, type_definition, declaration, extractor_definition, converter_definition, rule_definition, extern_definition, other_definition}
-use Rattle.isle_model.specs.lists.TermTable.{rule_trees}
+use Rattle.model.specs.lists.Syntax.{Definition, type_definition, declaration, extractor_definition, converter_definition, rule_definition, extern_definition, other_definition}
+use Rattle.model.specs.lists.TermTable.{rule_trees}
 use Rattle.isle_base.specs.NotedErrors.{NotesMore}
 use Rattle.isle_rules.proofs.LimitErrors.{both}
 use Rattle.isle_rules.specs.Constructors.{uses_of_rule, uses_of_definition}

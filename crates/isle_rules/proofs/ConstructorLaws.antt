@@ -6,27 +6,27 @@ use Rattle.std.proofs.lemmas.Bool.{cases_Bool, false≢true}
 use Rattle.std.proofs.lemmas.List.Elements.{All-nil, All-cons, All-head, All-tail, All-append}
 use Rattle.std.proofs.lemmas.Option.{none-some, same_Some}
 use Rattle.isle_base.specs.Expressions.{terms_of_expr, terms_of_exprs, terms_of_lets}
-use Rattle.isle_model.proofs.Options.{options_one}
-use Rattle.isle_laws_typing.proofs.TwoTables.{that_passes}
-use Rattle.isle_model.specs.lists.Syntax.{Position, Name, ExprTree, term_expr, var_expr, ExprTrees, LetTrees, IfLetTree, RuleTree}
-use Rattle.isle_model.specs.lists.Names.{number, has_name}
-use Rattle.isle_model.specs.lists.Tables.{Flags, TermKindEntry, variant_term, struct_term, declared_term, TermEntry}
-use Rattle.isle_model.specs.lists.TermTable.{root_name}
-use Rattle.isle_model.specs.rules.Meaning.{look}
-use Rattle.isle_model.specs.rules.Outcome.{then_option}
-use Rattle.isle_model.specs.rules.Typed.{TypedExpr, make_term, TypedExprs, TypedLets, TypedIfLet, TypedRule}
-use Rattle.isle_model.specs.lists.Setting.{Setting, Scope, new_scope, entry_named, term_of, has_constructor, is_expected, is_callable, allow, converter, expr_converter, expr_type, on_lhs, declared_flags}
-use Rattle.isle_model.specs.lists.Typings.{Typing, joined_typing, followed}
-use Rattle.isle_model.specs.lists.Expansions.{term_name_at, wrapped_expr}
-use Rattle.isle_model.specs.lists.Elaborated.{elaborated_pattern, elaborated_parts, elaborated_expr, elaborated_iflet, elaborated_iflets, elaborated_sides, elaborated_rule, typed_iflet, root_parts, sides_of, last_sides, finished_rule, may_have_priority, few_enough, most_nested, typed_rule, typed_rules, TypedRules, with_typed, with_own_name}
-use Rattle.isle_model.specs.lists.Elaborates.{ElaboratesExpr, ElaboratesArgs, ElaboratesLets, a_call, converted_call, a_variable, converted_variable, truth_expr, integer_expr, constant_expr, let_in, no_arg, an_arg, no_def, a_def, ElaboratesIfLets, no_iflet, an_iflet, ElaboratesRule, a_rule}
-use Rattle.isle_model.proofs.Members.{get_within}
-use Rattle.isle_model.proofs.Names.{found, absent, last, has_at, at_number}
-use Rattle.isle_laws_typing.proofs.FormedRules.{named_at, constructs}
-use Rattle.isle_laws_typing.proofs.Typings.{then_gives, followed_gives}
-use Rattle.isle_laws_typing.proofs.TypedRules.{rules_agree, typed_within_limits}
-use Rattle.isle_laws_typing.proofs.TypedPatterns as patterns
-use Rattle.isle_laws_typing.proofs.TypedExprs as exprs
+use Rattle.model.proofs.Options.{options_one}
+use Rattle.laws_typing.proofs.TwoTables.{that_passes}
+use Rattle.model.specs.lists.Syntax.{Position, Name, ExprTree, term_expr, var_expr, ExprTrees, LetTrees, IfLetTree, RuleTree}
+use Rattle.model.specs.lists.Names.{number, has_name}
+use Rattle.model.specs.lists.Tables.{Flags, TermKindEntry, variant_term, struct_term, declared_term, TermEntry}
+use Rattle.model.specs.lists.TermTable.{root_name}
+use Rattle.model.specs.rules.Meaning.{look}
+use Rattle.model.specs.rules.Outcome.{then_option}
+use Rattle.model.specs.rules.Typed.{TypedExpr, make_term, TypedExprs, TypedLets, TypedIfLet, TypedRule}
+use Rattle.model.specs.lists.Setting.{Setting, Scope, new_scope, entry_named, term_of, has_constructor, is_expected, is_callable, allow, converter, expr_converter, expr_type, on_lhs, declared_flags}
+use Rattle.model.specs.lists.Typings.{Typing, joined_typing, followed}
+use Rattle.model.specs.lists.Expansions.{term_name_at, wrapped_expr}
+use Rattle.model.specs.lists.Elaborated.{elaborated_pattern, elaborated_parts, elaborated_expr, elaborated_iflet, elaborated_iflets, elaborated_sides, elaborated_rule, typed_iflet, root_parts, sides_of, last_sides, finished_rule, may_have_priority, few_enough, most_nested, typed_rule, typed_rules, TypedRules, with_typed, with_own_name}
+use Rattle.model.specs.lists.Elaborates.{ElaboratesExpr, ElaboratesArgs, ElaboratesLets, a_call, converted_call, a_variable, converted_variable, truth_expr, integer_expr, constant_expr, let_in, no_arg, an_arg, no_def, a_def, ElaboratesIfLets, no_iflet, an_iflet, ElaboratesRule, a_rule}
+use Rattle.model.proofs.Members.{get_within}
+use Rattle.model.proofs.Names.{found, absent, last, has_at, at_number}
+use Rattle.laws_typing.proofs.FormedRules.{named_at, constructs}
+use Rattle.laws_typing.proofs.Typings.{then_gives, followed_gives}
+use Rattle.laws_typing.proofs.TypedRules.{rules_agree, typed_within_limits}
+use Rattle.laws_typing.proofs.TypedPatterns as patterns
+use Rattle.laws_typing.proofs.TypedExprs as exprs
 use Rattle.isle_types.proofs.RightTypes.{all_left, all_right}
 use Rattle.isle_rules.specs.Constructors.{has_constructor_if_there, AreMadeUses, uses_of_rule, AreTermsNamed}
 use Rattle.isle_rules.specs.ExprReadings.{made_kind, made_entry, all_made}

@@ -5,12 +5,12 @@ use Rattle.std.proofs.Math.Path.{ap₂}
 use Rattle.std.specs.List.{enumerate_from, find, flat_map}
 use Rattle.std.specs.Str.{bytes_eq}
 use Rattle.std.proofs.lemmas.List.Elements.{All-nil, All-cons, All-head, All-tail, All-append, All-contains, Contains-append_right}
-use Rattle.isle_model.specs.lists.Syntax.{Position, DeclTree, ExtractorTree, Definition}
-use Rattle.isle_model.specs.lists.Names.{number, has_name}
-use Rattle.isle_model.specs.lists.Tables.{internal_constructor, external_constructor, internal_extractor, external_extractor, TermEntry}
-use Rattle.isle_model.specs.lists.KnownTypes.{KnownTypes}
-use Rattle.isle_model.specs.lists.TermTable.{ConstructorTree, ExternalTree, decl_trees, constructor_trees, extractor_trees, external_trees, extractor_template, internal_extractors, external_extractors, external_constructors, has_rules, constructor_kind, extractor_kind, decl_as_term, terms_made, terms_in_order, term_names_met, term_table, is_defined, IsDefined, AllDefined}
-use Rattle.isle_model.proofs.Members.{in_head}
+use Rattle.model.specs.lists.Syntax.{Position, DeclTree, ExtractorTree, Definition}
+use Rattle.model.specs.lists.Names.{number, has_name}
+use Rattle.model.specs.lists.Tables.{internal_constructor, external_constructor, internal_extractor, external_extractor, TermEntry}
+use Rattle.model.specs.lists.KnownTypes.{KnownTypes}
+use Rattle.model.specs.lists.TermTable.{ConstructorTree, ExternalTree, decl_trees, constructor_trees, extractor_trees, external_trees, extractor_template, internal_extractors, external_extractors, external_constructors, has_rules, constructor_kind, extractor_kind, decl_as_term, terms_made, terms_in_order, term_names_met, term_table, is_defined, IsDefined, AllDefined}
+use Rattle.model.proofs.Members.{in_head}
 use Rattle.isle_typed.specs.RuleNaming.{is_defined_term, AreDefined, IsLeftUndefined, left_undefined}
 use Rattle.isle_rules.specs.RuleBreaches.{IsUndefined, undefined}
 use Rattle.isle_rules.proofs.TemplateUses.{each_made, of_types}

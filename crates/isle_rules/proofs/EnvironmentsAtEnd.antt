@@ -6,15 +6,15 @@ use Rattle.std.proofs.lemmas.List.{append_assoc}
 use Rattle.std.proofs.lemmas.Option.{same_Some}
 use Rattle.isle_base.specs.declared.syntax.Error.{Error}
 use Rattle.isle_base.specs.Stable.{look_up}
-use Rattle.isle_model.specs.lists.Syntax.{Definition}
-use Rattle.isle_model.specs.lists.Names.{IsDistinct}
-use Rattle.isle_model.specs.lists.TermTable.{decl_names, function_of, rule_trees}
-use Rattle.isle_model.specs.lists.Elaborated.{TypedRules, RulesElaborate, rule_named}
-use Rattle.isle_model.specs.rules.Meaning.{look}
-use Rattle.isle_model.specs.rules.Typed.{TypedRule}
-use Rattle.isle_model.specs.claims.Environments.{TypesRead, AreReadable, setting_of, IsElaborated, IsReadAs, environment_of, with_read_names, rules_by_name, ShowsTerms, AreTermsOf, AreRulesOf, IsLeftByRefusal}
-use Rattle.isle_model.proofs.NumbersOf.{environments_are_read}
-use Rattle.isle_laws_typing.proofs.TypesStay.{types_are_shown_lem, types_stay_lem}
+use Rattle.model.specs.lists.Syntax.{Definition}
+use Rattle.model.specs.lists.Names.{IsDistinct}
+use Rattle.model.specs.lists.TermTable.{decl_names, function_of, rule_trees}
+use Rattle.model.specs.lists.Elaborated.{TypedRules, RulesElaborate, rule_named}
+use Rattle.model.specs.rules.Meaning.{look}
+use Rattle.model.specs.rules.Typed.{TypedRule}
+use Rattle.model.specs.claims.Environments.{TypesRead, AreReadable, setting_of, IsElaborated, IsReadAs, environment_of, with_read_names, rules_by_name, ShowsTerms, AreTermsOf, AreRulesOf, IsLeftByRefusal}
+use Rattle.model.proofs.NumbersOf.{environments_are_read}
+use Rattle.laws_typing.proofs.TypesStay.{types_are_shown_lem, types_stay_lem}
 use Rattle.isle_types.specs.declared.type_env.TypeEnv.{TypeEnv}
 use Rattle.isle_types.specs.Envs.{names_of, same_symbol, symbol, IsInterned}
 use Rattle.isle_types.specs.EnvViews.{environment_view}

@@ -1,6 +1,6 @@
 -- Errors that stand at positions of what is read, or of templates: from a part to the whole, and one step after another.
 use Rattle.std.proofs.Common.{ℕ, List, [], ◌∷◌, Result, Ok, Err, ap}
-use Rattle.isle_model.specs.lists.Syntax.{Position}
+use Rattle.model.specs.lists.Syntax.{Position}
 use Rattle.isle_base.specs.declared.syntax.Error.{Error}
 use Rattle.isle_base.specs.declared.syntax.Pos.{Pos}
 use Rattle.isle_base.specs.Positions.{NotesAt, OccurAmong}

@@ -7,11 +7,11 @@ use Rattle.isle_base.specs.declared.syntax.Expr as T
 use Rattle.isle_base.specs.declared.syntax.LetDef.{LetDef}
 use Rattle.isle_base.specs.SyntaxViews as S
 use Rattle.isle_base.proofs.ExprViews as V
-use Rattle.isle_model.specs.lists.Syntax.{ExprTree, term_expr, let_expr}
-use Rattle.isle_model.specs.lists.Tables.{Flags, TermEntry}
-use Rattle.isle_model.specs.rules.Typed.{TypedExpr, make_term}
-use Rattle.isle_model.specs.lists.Typings.{Typing, made_into}
-use Rattle.isle_laws_typing.proofs.Typings.{made_gives}
+use Rattle.model.specs.lists.Syntax.{ExprTree, term_expr, let_expr}
+use Rattle.model.specs.lists.Tables.{Flags, TermEntry}
+use Rattle.model.specs.rules.Typed.{TypedExpr, make_term}
+use Rattle.model.specs.lists.Typings.{Typing, made_into}
+use Rattle.laws_typing.proofs.Typings.{made_gives}
 use Rattle.isle_base.specs.NotedErrors.{NotesMore, MayNoteMore}
 use Rattle.isle_typed.specs.declared.exprs.Expr.{Expr}
 use Rattle.isle_rules.specs.declared.term_env.TermEnv.{TermEnv}

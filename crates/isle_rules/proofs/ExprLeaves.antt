@@ -2,16 +2,16 @@
 use Rattle.std.proofs.Common.{◌≡◌, ℕ, ℤ, ◌&&◌, Bool, true, false, cond, List, Option, Some, None, slice_get, refl, sym, ap, ◌∙◌, inl, inr, ◌⊎◌}
 use Rattle.std.proofs.lemmas.Bool.{false≢true}
 use Rattle.isle_base.specs.declared.syntax.Error.{Error}
-use Rattle.isle_model.specs.lists.Syntax.{Position, Name, bool_expr, int_expr, prim_expr}
-use Rattle.isle_model.specs.lists.Names.{number, with_name}
-use Rattle.isle_model.specs.lists.Ranges.{reduced}
-use Rattle.isle_model.specs.lists.Tables.{Flags}
-use Rattle.isle_model.specs.rules.Values.{is_atom_type}
-use Rattle.isle_model.specs.rules.Outcome.{then_option}
-use Rattle.isle_model.specs.rules.Typed.{TypedExpr, make_bool, make_int, make_prim}
-use Rattle.isle_model.specs.lists.Setting.{Setting, Scope, type_of_constant, is_expected}
-use Rattle.isle_model.specs.lists.Typings.{Typing, plain}
-use Rattle.isle_model.proofs.Names.{known_name}
+use Rattle.model.specs.lists.Syntax.{Position, Name, bool_expr, int_expr, prim_expr}
+use Rattle.model.specs.lists.Names.{number, with_name}
+use Rattle.model.specs.lists.Ranges.{reduced}
+use Rattle.model.specs.lists.Tables.{Flags}
+use Rattle.model.specs.rules.Values.{is_atom_type}
+use Rattle.model.specs.rules.Outcome.{then_option}
+use Rattle.model.specs.rules.Typed.{TypedExpr, make_bool, make_int, make_prim}
+use Rattle.model.specs.lists.Setting.{Setting, Scope, type_of_constant, is_expected}
+use Rattle.model.specs.lists.Typings.{Typing, plain}
+use Rattle.model.proofs.Names.{known_name}
 use Rattle.isle_types.specs.Envs.{names_of, constant_at}
 use Rattle.isle_types.specs.TypeViews.{type_views}
 use Rattle.isle_base.specs.NotedErrors.{NotesMore}

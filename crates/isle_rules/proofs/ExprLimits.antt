@@ -6,15 +6,15 @@ use Rattle.isle_base.specs.declared.syntax.Error.{Error}
 use Rattle.isle_base.specs.declared.syntax.Expr as T
 use Rattle.isle_base.specs.SyntaxViews as S
 use Rattle.isle_types.specs.declared.ids.TypeId.{TypeId}
-use Rattle.isle_model.specs.lists.Syntax.{Position, Name, ExprTree, ExprTrees, no_expr, expr_and, term_expr, var_expr}
-use Rattle.isle_model.specs.lists.Tables.{Flags, TermEntry}
-use Rattle.isle_model.specs.lists.Expansions.{wrapped_expr}
-use Rattle.isle_model.specs.lists.Setting.{Setting, Scope, is_callable, is_expected}
-use Rattle.isle_model.specs.lists.Typings.{made_into, followed}
-use Rattle.isle_model.specs.lists.Elaborated.{as_expected, most_expansions}
-use Rattle.isle_model.specs.rules.Typed.{TypedExprs, TypedVar, make_term}
-use Rattle.isle_model.specs.claims.Refusals.{NamedLimit, of_nesting, of_expansions}
-use Rattle.isle_laws_typing.proofs.Typings.{ne-eqb, expected_itself}
+use Rattle.model.specs.lists.Syntax.{Position, Name, ExprTree, ExprTrees, no_expr, expr_and, term_expr, var_expr}
+use Rattle.model.specs.lists.Tables.{Flags, TermEntry}
+use Rattle.model.specs.lists.Expansions.{wrapped_expr}
+use Rattle.model.specs.lists.Setting.{Setting, Scope, is_callable, is_expected}
+use Rattle.model.specs.lists.Typings.{made_into, followed}
+use Rattle.model.specs.lists.Elaborated.{as_expected, most_expansions}
+use Rattle.model.specs.rules.Typed.{TypedExprs, TypedVar, make_term}
+use Rattle.model.specs.claims.Refusals.{NamedLimit, of_nesting, of_expansions}
+use Rattle.laws_typing.proofs.Typings.{ne-eqb, expected_itself}
 use Rattle.isle_types.specs.Envs.{symbol_of, IsInterned}
 use Rattle.isle_base.specs.NotedErrors.{NotesMore, MayNoteMore}
 use Rattle.isle_typed.specs.declared.exprs.Expr.{Expr}

@@ -5,11 +5,11 @@ use Rattle.isle_types.specs.declared.ids.TypeId.{TypeId}
 use Rattle.std.specs.Option.{option_to_list}
 use Rattle.isle_base.specs.declared.syntax.Expr as T
 use Rattle.isle_base.specs.SyntaxViews as S
-use Rattle.isle_model.specs.rules.Typed.{TypedExpr, TypedExprs, no_typed_expr, typed_expr_and}
-use Rattle.isle_model.specs.lists.Tables.{Flags}
-use Rattle.isle_model.specs.lists.Setting.{Setting, Scope}
-use Rattle.isle_model.specs.lists.Typings.{Typing, plain, made_into, joined_typing, followed}
-use Rattle.isle_model.specs.lists.Elaborated.{elaborated_expr, args_with, deeper_expr}
+use Rattle.model.specs.rules.Typed.{TypedExpr, TypedExprs, no_typed_expr, typed_expr_and}
+use Rattle.model.specs.lists.Tables.{Flags}
+use Rattle.model.specs.lists.Setting.{Setting, Scope}
+use Rattle.model.specs.lists.Typings.{Typing, plain, made_into, joined_typing, followed}
+use Rattle.model.specs.lists.Elaborated.{elaborated_expr, args_with, deeper_expr}
 use Rattle.isle_typed.specs.declared.exprs.Expr.{Expr}
 use Rattle.isle_rules.specs.declared.term_env.TermEnv.{TermEnv}
 use Rattle.isle_rules.specs.declared.typing.progress.Stop.{Stop}

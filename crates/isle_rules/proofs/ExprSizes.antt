@@ -3,7 +3,7 @@ use Rattle.std.proofs.Common.{◌≡◌, ℕ, suc, zero, ◌+◌, ◌<◌, ◌�
 use Rattle.isle_base.specs.declared.syntax.Expr as T
 use Rattle.isle_base.specs.declared.syntax.LetDef.{LetDef}
 use Rattle.isle_base.specs.SyntaxViews as S
-use Rattle.isle_model.specs.lists.Syntax.{Position, Name, ExprTree, term_expr, var_expr, bool_expr, int_expr, prim_expr, let_expr, ExprTrees, no_expr, expr_and, LetTrees, no_let, let_and}
+use Rattle.model.specs.lists.Syntax.{Position, Name, ExprTree, term_expr, var_expr, bool_expr, int_expr, prim_expr, let_expr, ExprTrees, no_expr, expr_and, LetTrees, no_let, let_and}
 use Rattle.isle_rules.proofs.PatternSizes.{grown, smaller, deeper_smaller}
 
 abbrev mutual

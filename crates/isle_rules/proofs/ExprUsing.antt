@@ -4,18 +4,18 @@ use Rattle.std.proofs.lemmas.Bool.{cases_Bool, false≢true}
 use Rattle.std.proofs.lemmas.Option.{none-some}
 use Rattle.isle_base.specs.declared.syntax.Expr.{Expr}
 use Rattle.isle_base.specs.SyntaxViews as S
-use Rattle.isle_model.specs.lists.Syntax.{Position, Name, ExprTree, ExprTrees, no_expr, expr_and, term_expr, var_expr}
-use Rattle.isle_model.specs.lists.Names.{number, has_name}
-use Rattle.isle_model.specs.lists.Tables.{Flags, TermKindEntry, variant_term, struct_term, declared_term, TermEntry}
-use Rattle.isle_model.specs.lists.Expansions.{wrapped_expr}
-use Rattle.isle_model.specs.lists.Setting.{Setting, Scope, var_of, var_named, that, has_constructor, is_callable, is_expected, expr_converter}
-use Rattle.isle_model.specs.lists.Typings.{Typing, plain, made_into, counted}
-use Rattle.isle_model.specs.lists.Elaborated.{as_expected, deeper_expr, elaborated_expr, args_with}
-use Rattle.isle_model.specs.rules.Outcome.{then_option}
-use Rattle.isle_model.specs.rules.Typed.{TypedExpr, make_term, make_var, typed_expr_and, TypedVar}
-use Rattle.isle_model.proofs.ByNumber.{looked_up}
-use Rattle.isle_model.proofs.Names.{last}
-use Rattle.isle_laws_typing.proofs.Typings.{expected_itself}
+use Rattle.model.specs.lists.Syntax.{Position, Name, ExprTree, ExprTrees, no_expr, expr_and, term_expr, var_expr}
+use Rattle.model.specs.lists.Names.{number, has_name}
+use Rattle.model.specs.lists.Tables.{Flags, TermKindEntry, variant_term, struct_term, declared_term, TermEntry}
+use Rattle.model.specs.lists.Expansions.{wrapped_expr}
+use Rattle.model.specs.lists.Setting.{Setting, Scope, var_of, var_named, that, has_constructor, is_callable, is_expected, expr_converter}
+use Rattle.model.specs.lists.Typings.{Typing, plain, made_into, counted}
+use Rattle.model.specs.lists.Elaborated.{as_expected, deeper_expr, elaborated_expr, args_with}
+use Rattle.model.specs.rules.Outcome.{then_option}
+use Rattle.model.specs.rules.Typed.{TypedExpr, make_term, make_var, typed_expr_and, TypedVar}
+use Rattle.model.proofs.ByNumber.{looked_up}
+use Rattle.model.proofs.Names.{last}
+use Rattle.laws_typing.proofs.Typings.{expected_itself}
 use Rattle.isle_types.specs.Envs.{names_of, symbol_of, IsInterned}
 use Rattle.isle_base.specs.NotedErrors.{NotesMore}
 use Rattle.isle_terms.specs.Terms.{has_constructor_kind}

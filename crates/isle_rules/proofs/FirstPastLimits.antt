@@ -3,23 +3,23 @@ use Rattle.std.proofs.Common.{◌≡◌, ℕ, suc, ◌+◌, Bool, List, [], ◌�
 use Rattle.std.specs.List.{flat_map}
 use Rattle.std.proofs.lemmas.List.{append-nil, append_assoc}
 use Rattle.std.proofs.lemmas.Option.{none-some}
-use Rattle.isle_model.specs.lists.Syntax.{RuleTree, Definition}
-use Rattle.isle_model.specs.lists.Names.{IsDistinct}
-use Rattle.isle_model.specs.lists.TermTable.{rule_trees, decl_names, function_of, term_names_met}
-use Rattle.isle_model.specs.lists.Setting.{Setting, Scope}
-use Rattle.isle_model.specs.lists.Typings.{Typing}
-use Rattle.isle_model.specs.lists.Elaborated.{elaborated_rule, most_nested, typed_rule, typed_rules, TypedRules, with_typed}
-use Rattle.isle_model.specs.rules.Outcome.{then_option}
-use Rattle.isle_model.specs.rules.Typed.{TypedRule}
-use Rattle.isle_model.specs.claims.Environments.{TypesRead, AreReadable, setting_of}
-use Rattle.isle_model.specs.claims.Refusals.{Refusal}
-use Rattle.isle_model.proofs.Names.{distinct_names}
+use Rattle.model.specs.lists.Syntax.{RuleTree, Definition}
+use Rattle.model.specs.lists.Names.{IsDistinct}
+use Rattle.model.specs.lists.TermTable.{rule_trees, decl_names, function_of, term_names_met}
+use Rattle.model.specs.lists.Setting.{Setting, Scope}
+use Rattle.model.specs.lists.Typings.{Typing}
+use Rattle.model.specs.lists.Elaborated.{elaborated_rule, most_nested, typed_rule, typed_rules, TypedRules, with_typed}
+use Rattle.model.specs.rules.Outcome.{then_option}
+use Rattle.model.specs.rules.Typed.{TypedRule}
+use Rattle.model.specs.claims.Environments.{TypesRead, AreReadable, setting_of}
+use Rattle.model.specs.claims.Refusals.{Refusal}
+use Rattle.model.proofs.Names.{distinct_names}
 use Rattle.isle_rules.proofs.ConstructorLaws.{with_some}
-use Rattle.isle_laws_typing.specs.FurtherNames.{AreThereAlike}
-use Rattle.isle_laws_typing.proofs.NamesOfTables.{names_of_rules_dont_matter_lem}
-use Rattle.isle_laws_typing.proofs.TypedResults.{names_stay}
-use Rattle.isle_laws_typing.proofs.TypedRules.{rules_agree, rules_one_way, typed_within_limits}
-use Rattle.isle_laws_typing.proofs.Typings.{then_gives}
+use Rattle.laws_typing.specs.FurtherNames.{AreThereAlike}
+use Rattle.laws_typing.proofs.NamesOfTables.{names_of_rules_dont_matter_lem}
+use Rattle.laws_typing.proofs.TypedResults.{names_stay}
+use Rattle.laws_typing.proofs.TypedRules.{rules_agree, rules_one_way, typed_within_limits}
+use Rattle.laws_typing.proofs.Typings.{then_gives}
 use Rattle.isle_rules.specs.LimitsNamed.{IsTypedPastLimits, NamesTypedPastLimits, rules_reached, NamesFirstPastLimits}
 
 -- 1. what is so from further names is so from the first ones

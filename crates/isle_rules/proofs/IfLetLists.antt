@@ -11,11 +11,11 @@ use Rattle.isle_typed.specs.PatternViews.{pattern_views, pattern_parts}
 use Rattle.isle_rules.proofs.PatternUsing.{list_length, parts_count}
 use Rattle.isle_base.specs.declared.syntax.IfLet.{IfLet}
 use Rattle.isle_base.specs.SyntaxViews as S
-use Rattle.isle_model.specs.lists.Syntax.{IfLetTree}
-use Rattle.isle_model.specs.lists.Tables.{Flags}
-use Rattle.isle_model.specs.rules.Typed.{TypedIfLet}
-use Rattle.isle_model.specs.lists.Setting.{Setting, Scope}
-use Rattle.isle_model.specs.lists.Typings.{Typing, plain, made_into, joined_typing, followed}
+use Rattle.model.specs.lists.Syntax.{IfLetTree}
+use Rattle.model.specs.lists.Tables.{Flags}
+use Rattle.model.specs.rules.Typed.{TypedIfLet}
+use Rattle.model.specs.lists.Setting.{Setting, Scope}
+use Rattle.model.specs.lists.Typings.{Typing, plain, made_into, joined_typing, followed}
 use Rattle.isle_types.specs.Envs.{names_of}
 use Rattle.isle_base.specs.NotedErrors.{NotesMore, MayNoteMore}
 use Rattle.isle_typed.specs.declared.rules.IfLet as R

@@ -6,24 +6,24 @@ use Rattle.std.proofs.lemmas.List.{take_more, take-append-drop, length-append}
 use Rattle.std.specs.List.{position_from}
 use Rattle.isle_base.specs.declared.syntax.LetDef.{LetDef}
 use Rattle.isle_base.specs.SyntaxViews as S
-use Rattle.isle_model.specs.lists.Syntax.{Position, Name, ExprTree, let_expr, LetTrees, no_let, let_and}
-use Rattle.isle_model.specs.lists.Names.{number, has_name, with_name}
-use Rattle.isle_model.specs.lists.Tables.{Flags}
-use Rattle.isle_model.specs.rules.Outcome.{then_option}
-use Rattle.isle_model.specs.rules.Typed.{TypedExpr, TypedLets, no_typed_let, typed_let_and}
-use Rattle.isle_model.specs.lists.Setting as M
-use Rattle.isle_model.specs.lists.Setting.{Setting, Scope, met, bound, after_let, var_named}
-use Rattle.isle_model.specs.lists.Typings.{Typing, plain, scoped, joined_typing, followed}
-use Rattle.isle_model.specs.lists.Elaborated.{before_rest, bound_let, typed_let, elaborated_expr, lets_with, deeper_expr, most_expansions}
-use Rattle.isle_model.proofs.ByNumber.{looked_up}
-use Rattle.isle_model.proofs.Names.{last, known_name, number_new, has_new, has_left}
-use Rattle.isle_laws_typing.proofs.Typings.{scoped_gives}
+use Rattle.model.specs.lists.Syntax.{Position, Name, ExprTree, let_expr, LetTrees, no_let, let_and}
+use Rattle.model.specs.lists.Names.{number, has_name, with_name}
+use Rattle.model.specs.lists.Tables.{Flags}
+use Rattle.model.specs.rules.Outcome.{then_option}
+use Rattle.model.specs.rules.Typed.{TypedExpr, TypedLets, no_typed_let, typed_let_and}
+use Rattle.model.specs.lists.Setting as M
+use Rattle.model.specs.lists.Setting.{Setting, Scope, met, bound, after_let, var_named}
+use Rattle.model.specs.lists.Typings.{Typing, plain, scoped, joined_typing, followed}
+use Rattle.model.specs.lists.Elaborated.{before_rest, bound_let, typed_let, elaborated_expr, lets_with, deeper_expr, most_expansions}
+use Rattle.model.proofs.ByNumber.{looked_up}
+use Rattle.model.proofs.Names.{last, known_name, number_new, has_new, has_left}
+use Rattle.laws_typing.proofs.Typings.{scoped_gives}
 use Rattle.isle_types.specs.declared.ids.Sym.{Sym}
 use Rattle.isle_types.specs.declared.ids.TypeId.{TypeId}
 use Rattle.isle_types.specs.declared.ids.VarId.{VarId}
 use Rattle.isle_types.specs.Envs.{names_of, symbol_of, type_at, type_of_name, IsInterned}
 use Rattle.isle_base.specs.NotedErrors.{NotesMore, MayNoteMore}
-use Rattle.isle_laws_typing.proofs.TypesStay.{number_front}
+use Rattle.laws_typing.proofs.TypesStay.{number_front}
 use Rattle.isle_typed.specs.declared.exprs.Expr.{Expr}
 use Rattle.isle_typed.specs.declared.rules.BoundVar.{BoundVar}
 use Rattle.isle_rules.specs.declared.term_env.TermEnv.{TermEnv}

@@ -4,14 +4,14 @@ use Rattle.std.specs.declared.alloc.Global.{Global}
 use Rattle.std.proofs.lemmas.List.{take_all, take-append-drop}
 use Rattle.isle_base.specs.declared.syntax.LetDef.{LetDef}
 use Rattle.isle_base.specs.SyntaxViews as S
-use Rattle.isle_model.specs.lists.Syntax.{Position, Name, ExprTree, let_expr, LetTrees, no_let, let_and}
-use Rattle.isle_model.specs.lists.Names.{with_name}
-use Rattle.isle_model.specs.lists.Tables.{Flags}
-use Rattle.isle_model.specs.rules.Typed.{TypedExpr, TypedLets}
-use Rattle.isle_model.specs.lists.Setting.{Setting, Scope, met}
-use Rattle.isle_model.specs.lists.Typings.{followed}
-use Rattle.isle_model.specs.lists.Elaborated.{typed_let, bound_let}
-use Rattle.isle_model.specs.claims.Refusals.{NamedLimit, of_nesting, of_expansions}
+use Rattle.model.specs.lists.Syntax.{Position, Name, ExprTree, let_expr, LetTrees, no_let, let_and}
+use Rattle.model.specs.lists.Names.{with_name}
+use Rattle.model.specs.lists.Tables.{Flags}
+use Rattle.model.specs.rules.Typed.{TypedExpr, TypedLets}
+use Rattle.model.specs.lists.Setting.{Setting, Scope, met}
+use Rattle.model.specs.lists.Typings.{followed}
+use Rattle.model.specs.lists.Elaborated.{typed_let, bound_let}
+use Rattle.model.specs.claims.Refusals.{NamedLimit, of_nesting, of_expansions}
 use Rattle.isle_types.specs.declared.ids.Sym.{Sym}
 use Rattle.isle_types.specs.declared.ids.TypeId.{TypeId}
 use Rattle.isle_types.specs.declared.ids.VarId.{VarId}

@@ -2,12 +2,12 @@
 use Rattle.std.proofs.Common.{◌≡◌, ℕ, ◌+◌, ◌-◌, ◌<◌, take, get_or, cond, nat_eq, List, [], ◌∷◌, ◌++◌, length, Option, Some, option_map, refl, sym, ap, ◌∙◌, inl, inr, arith}
 use Rattle.std.proofs.lemmas.Bool.{cases_Bool, eqb-true}
 use Rattle.std.proofs.lemmas.List.{take_more}
-use Rattle.isle_model.specs.lists.Syntax.{ExprTree, ExprTrees}
-use Rattle.isle_model.specs.lists.Tables.{Flags}
-use Rattle.isle_model.specs.rules.Typed.{TypedVar, TypedExpr, TypedExprs}
-use Rattle.isle_model.specs.lists.Setting.{Setting, Scope, var_named}
-use Rattle.isle_model.specs.lists.Elaborates.{ElaboratesExpr, ElaboratesArgs, a_call, converted_call, a_variable, converted_variable, truth_expr, integer_expr, constant_expr, let_in, no_arg, an_arg}
-use Rattle.isle_laws_typing.proofs.TypedExprs as exprs
+use Rattle.model.specs.lists.Syntax.{ExprTree, ExprTrees}
+use Rattle.model.specs.lists.Tables.{Flags}
+use Rattle.model.specs.rules.Typed.{TypedVar, TypedExpr, TypedExprs}
+use Rattle.model.specs.lists.Setting.{Setting, Scope, var_named}
+use Rattle.model.specs.lists.Elaborates.{ElaboratesExpr, ElaboratesArgs, a_call, converted_call, a_variable, converted_variable, truth_expr, integer_expr, constant_expr, let_in, no_arg, an_arg}
+use Rattle.laws_typing.proofs.TypedExprs as exprs
 use Rattle.isle_types.specs.declared.ids.Sym.{Sym}
 use Rattle.isle_typed.specs.declared.rules.BoundVar.{BoundVar}
 use Rattle.isle_rules.specs.declared.term_env.TermEnv.{TermEnv}

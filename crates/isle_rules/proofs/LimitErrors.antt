@@ -1,7 +1,7 @@
 -- Errors noted after errors.
 use Rattle.std.proofs.Common.{List, ◌∷◌, ◌++◌, ◌≡◌, [], String, ap}
 use Rattle.std.specs.declared.alloc.Global.{Global}
-use Rattle.isle_model.specs.claims.Refusals.{past_limit}
+use Rattle.model.specs.claims.Refusals.{past_limit}
 use Rattle.isle_base.specs.SyntaxViews.{position}
 use Rattle.isle_base.specs.declared.syntax.Error.{Error}
 use Rattle.isle_base.specs.declared.syntax.Error.TheVariants.{LimitError}

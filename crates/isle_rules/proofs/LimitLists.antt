@@ -6,14 +6,14 @@ use Rattle.isle_base.specs.declared.syntax.Expr as X
 use Rattle.isle_base.specs.declared.syntax.LetDef.{LetDef}
 use Rattle.isle_base.specs.declared.syntax.IfLet.{IfLet}
 use Rattle.isle_base.specs.SyntaxViews as S
-use Rattle.isle_model.specs.lists.Syntax.{IfLetTree}
-use Rattle.isle_model.specs.lists.Tables.{Flags}
-use Rattle.isle_model.specs.lists.Setting.{Setting, Scope, met, type_of_name}
-use Rattle.isle_model.specs.lists.Typings.{Typing, joined_typing, followed}
-use Rattle.isle_model.specs.lists.Elaborated.{elaborated_pattern, elaborated_parts, each_with, deeper_pattern, elaborated_expr, args_with, lets_with, deeper_expr, before_rest, bound_let}
-use Rattle.isle_model.specs.rules.Outcome.{then_option}
-use Rattle.isle_model.specs.rules.Typed.{TypedLets, typed_pattern_and, typed_expr_and}
-use Rattle.isle_model.specs.claims.Refusals.{NamedLimit}
+use Rattle.model.specs.lists.Syntax.{IfLetTree}
+use Rattle.model.specs.lists.Tables.{Flags}
+use Rattle.model.specs.lists.Setting.{Setting, Scope, met, type_of_name}
+use Rattle.model.specs.lists.Typings.{Typing, joined_typing, followed}
+use Rattle.model.specs.lists.Elaborated.{elaborated_pattern, elaborated_parts, each_with, deeper_pattern, elaborated_expr, args_with, lets_with, deeper_expr, before_rest, bound_let}
+use Rattle.model.specs.rules.Outcome.{then_option}
+use Rattle.model.specs.rules.Typed.{TypedLets, typed_pattern_and, typed_expr_and}
+use Rattle.model.specs.claims.Refusals.{NamedLimit}
 use Rattle.isle_rules.specs.ExprReadings.{all_made, expr_reading, args_reading, lets_reading}
 use Rattle.isle_rules.specs.PatternReadings.{pattern_reading, parts_reading, each_reading}
 use Rattle.isle_rules.specs.RuleReadings.{iflet_reading, iflets_reading}

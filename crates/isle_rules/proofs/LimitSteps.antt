@@ -4,9 +4,9 @@ use Rattle.std.proofs.lemmas.List.{length-append}
 use Rattle.std.proofs.lemmas.Option.{none-some}
 use Rattle.isle_base.specs.declared.syntax.Error.{Error}
 use Rattle.isle_base.specs.NotedErrors.{NotesMore, MayNoteMore}
-use Rattle.isle_model.specs.claims.Refusals.{NamedLimit, of_nesting, of_expansions}
-use Rattle.isle_model.specs.lists.Setting.{Setting, Scope}
-use Rattle.isle_model.specs.lists.Typings.{Typing, followed}
+use Rattle.model.specs.claims.Refusals.{NamedLimit, of_nesting, of_expansions}
+use Rattle.model.specs.lists.Setting.{Setting, Scope}
+use Rattle.model.specs.lists.Typings.{Typing, followed}
 use Rattle.isle_rules.specs.declared.term_env.TermEnv.{TermEnv}
 use Rattle.isle_rules.specs.declared.typing.progress.Stop.{Stop}
 use Rattle.isle_rules.specs.declared.typing.progress.Stop.TheVariants.{Memory, Nesting, Expansions}

@@ -3,10 +3,10 @@ use Rattle.std.proofs.Common.{◌≡◌, ℕ, ◌&&◌, Bool, true, false, cond,
 use Rattle.std.specs.Bool.{◌==◌}
 use Rattle.std.proofs.lemmas.Bool.{cases_Bool, eqb-true}
 use Rattle.std.proofs.lemmas.Option.{slice_get-map}
-use Rattle.isle_model.specs.rules.Meaning.{look}
-use Rattle.isle_model.specs.rules.Outcome.{then_option}
-use Rattle.isle_model.specs.lists.Tables.{Flags, TermKindEntry, variant_term, struct_term, declared_term, TermEntry}
-use Rattle.isle_model.specs.lists.Setting.{Setting, Scope, entry_named, term_of, that, has_constructor, is_callable, expr_converter}
+use Rattle.model.specs.rules.Meaning.{look}
+use Rattle.model.specs.rules.Outcome.{then_option}
+use Rattle.model.specs.lists.Tables.{Flags, TermKindEntry, variant_term, struct_term, declared_term, TermEntry}
+use Rattle.model.specs.lists.Setting.{Setting, Scope, entry_named, term_of, that, has_constructor, is_callable, expr_converter}
 use Rattle.isle_rules.specs.ExprUses.{allowed}
 use Rattle.isle_rules.specs.ExprReadings.{made_kind, made_entry, all_made}
 

@@ -14,17 +14,17 @@ use Rattle.isle_base.specs.declared.syntax.Rule as T
 use Rattle.isle_base.specs.ErrorViews.{limit_view, error_view, error_views}
 use Rattle.isle_base.specs.NotedErrors.{MayNoteMore}
 use Rattle.isle_base.specs.SyntaxViews as S
-use Rattle.isle_model.specs.lists.Syntax.{Position, RuleTree, Definition, type_definition, declaration, extractor_definition, converter_definition, rule_definition, extern_definition, other_definition}
-use Rattle.isle_model.specs.lists.Names.{IsDistinct}
-use Rattle.isle_model.specs.lists.TermTable.{rule_of, rule_trees, term_names_met}
-use Rattle.isle_model.specs.lists.Setting.{Setting}
-use Rattle.isle_model.specs.lists.Typings.{Typing}
-use Rattle.isle_model.specs.lists.Elaborated.{few_enough, most_nested}
-use Rattle.isle_model.specs.rules.Typed.{TypedRule}
-use Rattle.isle_model.specs.claims.Environments.{TypesRead, AreReadable, setting_of}
-use Rattle.isle_model.specs.claims.Refusals.{of_nesting, of_expansions, Refusal, past_limit}
-use Rattle.isle_model.proofs.Members.{in_head, in_map, member_from_get}
-use Rattle.isle_laws_typing.proofs.NamesOfTables.{names_of_rules_dont_matter_lem}
+use Rattle.model.specs.lists.Syntax.{Position, RuleTree, Definition, type_definition, declaration, extractor_definition, converter_definition, rule_definition, extern_definition, other_definition}
+use Rattle.model.specs.lists.Names.{IsDistinct}
+use Rattle.model.specs.lists.TermTable.{rule_of, rule_trees, term_names_met}
+use Rattle.model.specs.lists.Setting.{Setting}
+use Rattle.model.specs.lists.Typings.{Typing}
+use Rattle.model.specs.lists.Elaborated.{few_enough, most_nested}
+use Rattle.model.specs.rules.Typed.{TypedRule}
+use Rattle.model.specs.claims.Environments.{TypesRead, AreReadable, setting_of}
+use Rattle.model.specs.claims.Refusals.{of_nesting, of_expansions, Refusal, past_limit}
+use Rattle.model.proofs.Members.{in_head, in_map, member_from_get}
+use Rattle.laws_typing.proofs.NamesOfTables.{names_of_rules_dont_matter_lem}
 use Rattle.isle_types.specs.declared.type_env.TypeEnv.{TypeEnv}
 use Rattle.isle_types.specs.Envs.{names_of, IsInterned}
 use Rattle.isle_rules.specs.Constructors.{AreTermsNamed}

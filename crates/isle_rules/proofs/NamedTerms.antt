@@ -2,13 +2,13 @@
 use Rattle.std.proofs.Common.{◌≡◌, ℕ, zero, suc, true, false, cond, eqb, List, [], ◌∷◌, map, Some, None, option_map, slice_get, refl, sym, ap, ◌∙◌}
 use Rattle.std.proofs.lemmas.Bool.{eq-eqb}
 use Rattle.std.proofs.lemmas.Option.{none-some, same_Some, slice_get-map}
-use Rattle.isle_model.specs.lists.Names.{IsDistinct}
-use Rattle.isle_model.specs.lists.Tables.{TermEntry}
-use Rattle.isle_model.specs.lists.Setting.{Setting, entry_named}
+use Rattle.model.specs.lists.Names.{IsDistinct}
+use Rattle.model.specs.lists.Tables.{TermEntry}
+use Rattle.model.specs.lists.Setting.{Setting, entry_named}
 use Rattle.isle_types.specs.declared.type_env.TypeEnv.{TypeEnv}
 use Rattle.isle_types.specs.Envs.{names_of, IsInterned}
-use Rattle.isle_laws_typing.proofs.FormedRules.{named_at}
-use Rattle.isle_laws_typing.proofs.Typings.{then_gives}
+use Rattle.laws_typing.proofs.FormedRules.{named_at}
+use Rattle.laws_typing.proofs.Typings.{then_gives}
 use Rattle.isle_rules.specs.declared.term_env.TermEnv.{TermEnv}
 use Rattle.isle_rules.specs.TermEnvs.{term_in_env}
 use Rattle.isle_rules.specs.Constructors.{AreTermsNamed}

@@ -1,12 +1,12 @@
 -- The names of a scope stay at their numbers, whatever is typed from it.
 use Rattle.std.proofs.Common.{◌≡◌, ℕ, Bool, List, [], ◌∷◌, Option, Some, slice_get}
-use Rattle.isle_model.specs.lists.Syntax.{PatternTree, PatternTrees, ExprTree, ExprTrees, LetTrees}
-use Rattle.isle_model.specs.lists.Names.{with_name, IsDistinct}
-use Rattle.isle_model.specs.lists.Tables.{Flags}
-use Rattle.isle_model.specs.rules.Typed.{TypedPattern, TypedPatterns, TypedExpr, TypedExprs, TypedLets}
-use Rattle.isle_model.specs.lists.Setting.{Setting, Scope}
-use Rattle.isle_model.specs.lists.Elaborates.{ElaboratesPattern, ElaboratesParts, ElaboratesEach, new_name, bound_name, binding, a_truth, an_integer, a_constant, a_term, a_template, a_conversion, anything, all_of, no_part, part, no_more, one_more, ElaboratesExpr, ElaboratesArgs, ElaboratesLets, a_call, converted_call, a_variable, converted_variable, truth_expr, integer_expr, constant_expr, let_in, no_arg, an_arg, no_def, a_def}
-use Rattle.isle_model.proofs.Names.{get_kept, distinct_names}
+use Rattle.model.specs.lists.Syntax.{PatternTree, PatternTrees, ExprTree, ExprTrees, LetTrees}
+use Rattle.model.specs.lists.Names.{with_name, IsDistinct}
+use Rattle.model.specs.lists.Tables.{Flags}
+use Rattle.model.specs.rules.Typed.{TypedPattern, TypedPatterns, TypedExpr, TypedExprs, TypedLets}
+use Rattle.model.specs.lists.Setting.{Setting, Scope}
+use Rattle.model.specs.lists.Elaborates.{ElaboratesPattern, ElaboratesParts, ElaboratesEach, new_name, bound_name, binding, a_truth, an_integer, a_constant, a_term, a_template, a_conversion, anything, all_of, no_part, part, no_more, one_more, ElaboratesExpr, ElaboratesArgs, ElaboratesLets, a_call, converted_call, a_variable, converted_variable, truth_expr, integer_expr, constant_expr, let_in, no_arg, an_arg, no_def, a_def}
+use Rattle.model.proofs.Names.{get_kept, distinct_names}
 
 -- names stay at their numbers, and where they stood once each does still
 pub record Kept (ns ms : List (List ℕ)) : Type 0 where

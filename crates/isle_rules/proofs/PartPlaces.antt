@@ -5,11 +5,11 @@ use Rattle.isle_base.specs.declared.syntax.Pattern as P
 use Rattle.isle_base.specs.declared.syntax.Expr as E
 use Rattle.isle_base.specs.declared.syntax.LetDef.{LetDef}
 use Rattle.isle_base.specs.SyntaxViews as S
-use Rattle.isle_model.specs.lists.Syntax.{Position, Name, PatternTree, var_pattern, bind_pattern, bool_pattern, int_pattern, prim_pattern, term_pattern, wildcard_pattern, and_pattern, macro_arg, PatternTrees, ExprTree, term_expr, var_expr, bool_expr, int_expr, prim_expr, let_expr, ExprTrees, no_expr, expr_and, LetTrees, no_let, let_and, IfLetTree, RuleTree}
-use Rattle.isle_model.specs.lists.Tables.{TermEntry}
-use Rattle.isle_model.specs.rules.Typed.{TypedRule}
-use Rattle.isle_model.specs.lists.Elaborated.{root_parts, named_rule, named_rules}
-use Rattle.isle_model.proofs.Members.{in_head, in_map}
+use Rattle.model.specs.lists.Syntax.{Position, Name, PatternTree, var_pattern, bind_pattern, bool_pattern, int_pattern, prim_pattern, term_pattern, wildcard_pattern, and_pattern, macro_arg, PatternTrees, ExprTree, term_expr, var_expr, bool_expr, int_expr, prim_expr, let_expr, ExprTrees, no_expr, expr_and, LetTrees, no_let, let_and, IfLetTree, RuleTree}
+use Rattle.model.specs.lists.Tables.{TermEntry}
+use Rattle.model.specs.rules.Typed.{TypedRule}
+use Rattle.model.specs.lists.Elaborated.{root_parts, named_rule, named_rules}
+use Rattle.model.proofs.Members.{in_head, in_map}
 use Rattle.isle_base.specs.Expressions.{terms_of_expr, terms_of_exprs, terms_of_lets}
 use Rattle.isle_base.specs.Positions.{OccurAmong, pattern_positions, patterns_positions, expr_positions, exprs_positions, lets_positions, iflet_positions, rule_name_positions, rule_positions}
 use Rattle.isle_base.proofs.Positioned.{among_both, among_left, among_right, among_rest, among_first, among_one, among_each, among_none, among_join, among_next, among_under}

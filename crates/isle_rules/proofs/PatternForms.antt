@@ -6,16 +6,16 @@ use Rattle.isle_base.specs.declared.syntax.Pos.{Pos}
 use Rattle.isle_base.specs.declared.syntax.Pattern as T
 use Rattle.isle_base.specs.SyntaxViews as S
 use Rattle.isle_base.proofs.PatternViews as V
-use Rattle.isle_model.specs.lists.Syntax.{Position, Name, PatternTree, bind_pattern, term_pattern, wildcard_pattern, and_pattern}
-use Rattle.isle_model.specs.lists.Tables.{TermEntry}
-use Rattle.isle_model.specs.lists.Formed.{pattern_type}
-use Rattle.isle_model.specs.rules.Typed.{TypedPattern, match_bind, match_term, match_any}
-use Rattle.isle_model.specs.lists.Setting.{Setting, Scope, bound, var_of}
-use Rattle.isle_model.specs.lists.Typings.{Typing, plain, made_into, joined_typing, followed}
-use Rattle.isle_model.specs.lists.Elaborated.{elaborated_pattern, bound_after}
-use Rattle.isle_laws_typing.proofs.TypedPatterns as patterns
-use Rattle.isle_laws_typing.proofs.TypedResults.{types_are_expected}
-use Rattle.isle_laws_typing.proofs.Typings.{made_gives}
+use Rattle.model.specs.lists.Syntax.{Position, Name, PatternTree, bind_pattern, term_pattern, wildcard_pattern, and_pattern}
+use Rattle.model.specs.lists.Tables.{TermEntry}
+use Rattle.model.specs.lists.Formed.{pattern_type}
+use Rattle.model.specs.rules.Typed.{TypedPattern, match_bind, match_term, match_any}
+use Rattle.model.specs.lists.Setting.{Setting, Scope, bound, var_of}
+use Rattle.model.specs.lists.Typings.{Typing, plain, made_into, joined_typing, followed}
+use Rattle.model.specs.lists.Elaborated.{elaborated_pattern, bound_after}
+use Rattle.laws_typing.proofs.TypedPatterns as patterns
+use Rattle.laws_typing.proofs.TypedResults.{types_are_expected}
+use Rattle.laws_typing.proofs.Typings.{made_gives}
 use Rattle.isle_base.specs.NotedErrors.{NotesMore, MayNoteMore}
 use Rattle.isle_typed.specs.declared.patterns.Pattern.{Pattern}
 use Rattle.isle_rules.specs.declared.term_env.TermEnv.{TermEnv}

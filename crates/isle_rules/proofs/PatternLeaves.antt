@@ -1,16 +1,16 @@
 -- What patterns without parts become, and what binding a name around a pattern does.
 use Rattle.std.proofs.Common.{◌≡◌, ℕ, ℤ, Bool, true, cond, nat_eq, length, Option, Some, None, is_some, slice_get, refl, sym, ap, subst, ◌∙◌, inl, inr, ◌⊎◌}
 use Rattle.std.proofs.lemmas.Bool.{eq-eqb, cases_Bool}
-use Rattle.isle_model.specs.lists.Syntax.{Position, Name, var_pattern, bool_pattern, int_pattern, prim_pattern}
-use Rattle.isle_model.specs.lists.Names.{number, with_name}
-use Rattle.isle_model.specs.lists.Ranges.{reduced}
-use Rattle.isle_model.specs.rules.Values.{is_atom_type}
-use Rattle.isle_model.specs.rules.Outcome.{then_option}
-use Rattle.isle_model.specs.rules.Typed.{match_bind, match_var, match_any, match_bool, match_int, match_prim, TypedVar}
-use Rattle.isle_model.specs.lists.Setting.{Setting, Scope, bound, type_of_constant}
-use Rattle.isle_model.specs.lists.Typings.{plain}
-use Rattle.isle_model.specs.lists.Elaborated.{var_pattern_at}
-use Rattle.isle_laws_typing.proofs.Typings.{ne-eqb}
+use Rattle.model.specs.lists.Syntax.{Position, Name, var_pattern, bool_pattern, int_pattern, prim_pattern}
+use Rattle.model.specs.lists.Names.{number, with_name}
+use Rattle.model.specs.lists.Ranges.{reduced}
+use Rattle.model.specs.rules.Values.{is_atom_type}
+use Rattle.model.specs.rules.Outcome.{then_option}
+use Rattle.model.specs.rules.Typed.{match_bind, match_var, match_any, match_bool, match_int, match_prim, TypedVar}
+use Rattle.model.specs.lists.Setting.{Setting, Scope, bound, type_of_constant}
+use Rattle.model.specs.lists.Typings.{plain}
+use Rattle.model.specs.lists.Elaborated.{var_pattern_at}
+use Rattle.laws_typing.proofs.Typings.{ne-eqb}
 use Rattle.isle_types.specs.Envs.{names_of, constant_at}
 use Rattle.isle_types.specs.TypeViews.{type_views}
 use Rattle.isle_base.specs.NotedErrors.{NotesMore}
@@ -20,7 +20,7 @@ use Rattle.isle_rules.specs.Progress.{newest, BindsNext, Remains}
 use Rattle.isle_rules.specs.PatternReadings.{pattern_reading, binding_reading}
 use Rattle.isle_rules.specs.Translating.{Standing, Reading, IsSettingOf, Shows, Wherever, IsTranslated, IsReported}
 use Rattle.isle_rules.proofs.Scopes.{is_met, still, as_many, var_is, var_met, bound_shows, plain_made}
-use Rattle.isle_model.proofs.Names.{known_name}
+use Rattle.model.proofs.Names.{known_name}
 
 -- what hangs on a test alone
 pub tested : {Q : Type 0} (env : TermEnv) (old new : Standing) (reading : Reading Q) (q : Q) (P : Type 0) → Remains old.work new.work

@@ -6,16 +6,16 @@ use Rattle.isle_base.specs.declared.syntax.Error.{Error}
 use Rattle.isle_base.specs.declared.syntax.Pattern as T
 use Rattle.isle_base.specs.SyntaxViews as S
 use Rattle.isle_types.specs.declared.ids.TypeId.{TypeId}
-use Rattle.isle_model.specs.lists.Syntax.{Position, Name, PatternTree, PatternTrees, no_pattern, pattern_and, term_pattern, pattern_list}
-use Rattle.isle_model.specs.lists.Tables.{TermEntry}
-use Rattle.isle_model.specs.lists.Expansions.{substituted, wrapped_pattern}
-use Rattle.isle_model.specs.lists.Setting.{Setting, Scope, is_matchable, kind_template, template_in, pattern_converter}
-use Rattle.isle_model.specs.lists.Typings.{Typing, made_into, joined_typing, followed}
-use Rattle.isle_model.specs.lists.Elaborated.{most_expansions}
-use Rattle.isle_model.specs.rules.Outcome.{then_option}
-use Rattle.isle_model.specs.rules.Typed.{TypedPatterns, match_term}
-use Rattle.isle_model.specs.claims.Refusals.{NamedLimit, of_nesting, of_expansions}
-use Rattle.isle_laws_typing.proofs.Typings.{ne-eqb}
+use Rattle.model.specs.lists.Syntax.{Position, Name, PatternTree, PatternTrees, no_pattern, pattern_and, term_pattern, pattern_list}
+use Rattle.model.specs.lists.Tables.{TermEntry}
+use Rattle.model.specs.lists.Expansions.{substituted, wrapped_pattern}
+use Rattle.model.specs.lists.Setting.{Setting, Scope, is_matchable, kind_template, template_in, pattern_converter}
+use Rattle.model.specs.lists.Typings.{Typing, made_into, joined_typing, followed}
+use Rattle.model.specs.lists.Elaborated.{most_expansions}
+use Rattle.model.specs.rules.Outcome.{then_option}
+use Rattle.model.specs.rules.Typed.{TypedPatterns, match_term}
+use Rattle.model.specs.claims.Refusals.{NamedLimit, of_nesting, of_expansions}
+use Rattle.laws_typing.proofs.Typings.{ne-eqb}
 use Rattle.isle_types.specs.Envs.{names_of, IsInterned}
 use Rattle.isle_base.specs.NotedErrors.{NotesMore, MayNoteMore}
 use Rattle.isle_terms.specs.Terms.{has_extractor_kind}

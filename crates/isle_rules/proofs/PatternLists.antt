@@ -5,10 +5,10 @@ use Rattle.isle_types.specs.declared.ids.TypeId.{TypeId}
 use Rattle.std.specs.Option.{option_to_list}
 use Rattle.isle_base.specs.declared.syntax.Pattern as T
 use Rattle.isle_base.specs.SyntaxViews as S
-use Rattle.isle_model.specs.rules.Typed.{TypedPattern, TypedPatterns, no_typed_pattern, typed_pattern_and}
-use Rattle.isle_model.specs.lists.Setting.{Setting, Scope}
-use Rattle.isle_model.specs.lists.Typings.{Typing, plain, made_into, joined_typing, followed}
-use Rattle.isle_model.specs.lists.Elaborated.{elaborated_pattern, elaborated_parts, each_with, deeper_pattern}
+use Rattle.model.specs.rules.Typed.{TypedPattern, TypedPatterns, no_typed_pattern, typed_pattern_and}
+use Rattle.model.specs.lists.Setting.{Setting, Scope}
+use Rattle.model.specs.lists.Typings.{Typing, plain, made_into, joined_typing, followed}
+use Rattle.model.specs.lists.Elaborated.{elaborated_pattern, elaborated_parts, each_with, deeper_pattern}
 use Rattle.isle_typed.specs.declared.patterns.Pattern.{Pattern}
 use Rattle.isle_rules.specs.declared.term_env.TermEnv.{TermEnv}
 use Rattle.isle_rules.specs.declared.typing.progress.Stop.{Stop}

@@ -5,17 +5,17 @@ use Rattle.std.proofs.lemmas.Option.{none-some}
 use Rattle.isle_base.specs.declared.syntax.Error.{Error}
 use Rattle.isle_base.specs.declared.syntax.Pattern.{Pattern}
 use Rattle.isle_base.specs.SyntaxViews as S
-use Rattle.isle_model.specs.lists.Syntax.{Position, Name, PatternTree, PatternTrees, no_pattern, pattern_and, term_pattern, pattern_list}
-use Rattle.isle_model.specs.lists.Names.{number}
-use Rattle.isle_model.specs.lists.Tables.{TermKindEntry, variant_term, struct_term, declared_term, TermEntry}
-use Rattle.isle_model.specs.lists.Expansions.{substituted, wrapped_pattern}
-use Rattle.isle_model.specs.lists.Setting.{Setting, Scope, entry_named, term_of, that, has_extractor, is_matchable, kind_template, template_in, pattern_converter}
-use Rattle.isle_model.specs.lists.Typings.{Typing, made_into, followed, counted}
-use Rattle.isle_model.specs.lists.Elaborated.{deeper_pattern, elaborated_pattern, elaborated_parts}
-use Rattle.isle_model.specs.rules.Outcome.{then_option}
-use Rattle.isle_model.specs.rules.Typed.{match_term, typed_pattern_and}
-use Rattle.isle_model.proofs.Options.{then_some}
-use Rattle.isle_laws_typing.proofs.Typings.{ne-eqb, counted_gives}
+use Rattle.model.specs.lists.Syntax.{Position, Name, PatternTree, PatternTrees, no_pattern, pattern_and, term_pattern, pattern_list}
+use Rattle.model.specs.lists.Names.{number}
+use Rattle.model.specs.lists.Tables.{TermKindEntry, variant_term, struct_term, declared_term, TermEntry}
+use Rattle.model.specs.lists.Expansions.{substituted, wrapped_pattern}
+use Rattle.model.specs.lists.Setting.{Setting, Scope, entry_named, term_of, that, has_extractor, is_matchable, kind_template, template_in, pattern_converter}
+use Rattle.model.specs.lists.Typings.{Typing, made_into, followed, counted}
+use Rattle.model.specs.lists.Elaborated.{deeper_pattern, elaborated_pattern, elaborated_parts}
+use Rattle.model.specs.rules.Outcome.{then_option}
+use Rattle.model.specs.rules.Typed.{match_term, typed_pattern_and}
+use Rattle.model.proofs.Options.{then_some}
+use Rattle.laws_typing.proofs.Typings.{ne-eqb, counted_gives}
 use Rattle.isle_types.specs.Envs.{names_of, symbol_of, IsInterned}
 use Rattle.isle_base.specs.NotedErrors.{NotesMore, MayNoteMore}
 use Rattle.isle_terms.specs.Terms.{has_extractor_kind}

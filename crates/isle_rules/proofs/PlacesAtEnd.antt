@@ -1,9 +1,9 @@
 -- Where the errors stand that are found while the rules of a list are read, by the types that it is read with.
 use Rattle.std.proofs.Common.{◌≡◌, All, List, [], ◌++◌, sym, ap, subst, ◌∙◌}
-use Rattle.isle_model.specs.lists.Syntax.{Definition}
-use Rattle.isle_model.specs.lists.Tables.{TypeEntry}
-use Rattle.isle_model.specs.lists.TermTable.{term_table}
-use Rattle.isle_model.specs.claims.Environments.{TypesRead, TypeEnvironment, AreTermsOf}
+use Rattle.model.specs.lists.Syntax.{Definition}
+use Rattle.model.specs.lists.Tables.{TypeEntry}
+use Rattle.model.specs.lists.TermTable.{term_table}
+use Rattle.model.specs.claims.Environments.{TypesRead, TypeEnvironment, AreTermsOf}
 use Rattle.isle_base.specs.declared.syntax.Error.{Error}
 use Rattle.isle_base.specs.Positions.{ErrorStandsAt, NotesAt, OccurAmong, positions_of}
 use Rattle.isle_base.proofs.Positioned.{among_left, notes_among, all_stand, among_join}

@@ -4,10 +4,10 @@ use Rattle.std.proofs.lemmas.Option.{same_Some, none-some}
 use Rattle.std.specs.Result.{IsErr, IsErrAnd}
 use Rattle.std.proofs.lemmas.List.{length-append, append-nil}
 use Rattle.isle_base.specs.Stable.{look_up}
-use Rattle.isle_model.specs.lists.Setting.{Setting, Scope}
-use Rattle.isle_model.specs.lists.Typings.{Typing, made_into, joined_typing, followed, counted}
-use Rattle.isle_model.specs.lists.Elaborated.{most_expansions}
-use Rattle.isle_laws_typing.proofs.Typings.{followed_gives, made_gives, counted_gives}
+use Rattle.model.specs.lists.Setting.{Setting, Scope}
+use Rattle.model.specs.lists.Typings.{Typing, made_into, joined_typing, followed, counted}
+use Rattle.model.specs.lists.Elaborated.{most_expansions}
+use Rattle.laws_typing.proofs.Typings.{followed_gives, made_gives, counted_gives}
 use Rattle.isle_types.specs.declared.type_env.TypeEnv.{TypeEnv}
 use Rattle.isle_types.specs.Envs.{names_of, symbol, same_symbol, IsInterned}
 use Rattle.isle_types.specs.TypeViews.{type_views}

@@ -11,14 +11,14 @@ use Rattle.isle_base.specs.Positions.{NotesAt, definition_positions, rule_positi
 use Rattle.isle_base.specs.SyntaxViews as S
 use Rattle.isle_base.proofs.NotedErrors.{some_noted}
 use Rattle.isle_rules.proofs.ConstructorLaws.{with_some}
-use Rattle.isle_model.specs.lists.Syntax.{Position, Name, RuleTree, Definition, type_definition, declaration, extractor_definition, converter_definition, rule_definition, extern_definition, other_definition}
-use Rattle.isle_model.specs.lists.TermTable.{rule_of, rule_trees}
-use Rattle.isle_model.specs.lists.Setting.{Setting}
-use Rattle.isle_model.specs.lists.Typings.{Typing}
-use Rattle.isle_model.specs.lists.Elaborated.{TypedRules, with_typed}
-use Rattle.isle_model.specs.rules.Outcome.{then_option}
-use Rattle.isle_model.specs.rules.Typed.{TypedRule}
-use Rattle.isle_laws_typing.proofs.Typings.{then_gives}
+use Rattle.model.specs.lists.Syntax.{Position, Name, RuleTree, Definition, type_definition, declaration, extractor_definition, converter_definition, rule_definition, extern_definition, other_definition}
+use Rattle.model.specs.lists.TermTable.{rule_of, rule_trees}
+use Rattle.model.specs.lists.Setting.{Setting}
+use Rattle.model.specs.lists.Typings.{Typing}
+use Rattle.model.specs.lists.Elaborated.{TypedRules, with_typed}
+use Rattle.model.specs.rules.Outcome.{then_option}
+use Rattle.model.specs.rules.Typed.{TypedRule}
+use Rattle.laws_typing.proofs.Typings.{then_gives}
 use Rattle.isle_types.specs.declared.type_env.TypeEnv.{TypeEnv}
 use Rattle.isle_types.specs.Envs.{names_of}
 use Rattle.isle_typed.specs.declared.rules.Rule.{Rule}

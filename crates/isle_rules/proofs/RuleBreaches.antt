@@ -3,13 +3,13 @@ use Rattle.std.proofs.Common.{◌≡◌, ◌≢◌, Bool, List, [], ◌∷◌, �
 use Rattle.std.specs.List.{flat_map}
 use Rattle.isle_base.specs.declared.syntax.Error.{Error}
 use Rattle.isle_base.proofs.NotedErrors.{some_noted}
-use Rattle.isle_model.specs.lists.Syntax.{Position, RuleTree, Definition}
-use Rattle.isle_model.specs.lists.Names.{IsDistinct}
-use Rattle.isle_model.specs.lists.Setting.{Setting}
-use Rattle.isle_model.specs.lists.TermTable.{rule_trees, term_table, term_names_met, AllDefined}
-use Rattle.isle_model.specs.lists.Elaborated.{TypedRules, named_rules, rule_names}
-use Rattle.isle_model.specs.rules.Typed.{TypedRule}
-use Rattle.isle_model.specs.claims.Environments.{TypesRead, setting_of}
+use Rattle.model.specs.lists.Syntax.{Position, RuleTree, Definition}
+use Rattle.model.specs.lists.Names.{IsDistinct}
+use Rattle.model.specs.lists.Setting.{Setting}
+use Rattle.model.specs.lists.TermTable.{rule_trees, term_table, term_names_met, AllDefined}
+use Rattle.model.specs.lists.Elaborated.{TypedRules, named_rules, rule_names}
+use Rattle.model.specs.rules.Typed.{TypedRule}
+use Rattle.model.specs.claims.Environments.{TypesRead, setting_of}
 use Rattle.isle_base.specs.Stable.{Entries}
 use Rattle.isle_types.specs.declared.ids.RuleId.{RuleId}
 use Rattle.isle_types.specs.declared.ids.Sym.{Sym}

@@ -9,11 +9,11 @@ use Rattle.isle_base.specs.declared.syntax.Limit.TheVariants.{Nesting, Expansion
 use Rattle.isle_base.specs.declared.syntax.Pos.{Pos}
 use Rattle.isle_base.specs.declared.syntax.Rule as T
 use Rattle.isle_base.specs.SyntaxViews as S
-use Rattle.isle_model.specs.lists.Syntax.{rule_definition}
-use Rattle.isle_model.specs.rules.Typed.{TypedRule}
-use Rattle.isle_model.specs.lists.Setting.{Scope, new_scope}
-use Rattle.isle_model.specs.lists.Typings.{Typing}
-use Rattle.isle_model.specs.lists.Elaborated.{few_enough, most_nested, most_expansions}
+use Rattle.model.specs.lists.Syntax.{rule_definition}
+use Rattle.model.specs.rules.Typed.{TypedRule}
+use Rattle.model.specs.lists.Setting.{Scope, new_scope}
+use Rattle.model.specs.lists.Typings.{Typing}
+use Rattle.model.specs.lists.Elaborated.{few_enough, most_nested, most_expansions}
 use Rattle.isle_types.specs.declared.type_env.TypeEnv.{TypeEnv}
 use Rattle.isle_types.specs.Envs.{names_of}
 use Rattle.isle_base.specs.NotedErrors.{NotesMore, MayNoteMore}

@@ -10,22 +10,22 @@ use Rattle.isle_base.specs.declared.syntax.Error.{Error}
 use Rattle.isle_base.specs.declared.syntax.Error.TheVariants.{TypeError, UnreachableError, OverlapError, ShadowedError, LimitError}
 use Rattle.isle_base.specs.declared.syntax.Rule as T
 use Rattle.isle_base.specs.SyntaxViews as S
-use Rattle.isle_model.specs.lists.Syntax.{Position, RuleTree, Definition, type_definition, declaration, extractor_definition, converter_definition, rule_definition, extern_definition, other_definition}
-use Rattle.isle_model.specs.lists.Names.{IsDistinct}
-use Rattle.isle_model.specs.lists.Tables.{TermEntry}
-use Rattle.isle_model.specs.lists.TermTable.{rule_of, rule_trees, IsValidTerms, term_names_met}
-use Rattle.isle_model.specs.lists.Setting.{Setting, Scope, new_scope, term_of, declared_flags}
-use Rattle.isle_model.specs.lists.TermTable.{root_name}
-use Rattle.isle_model.specs.lists.Typings.{Typing}
-use Rattle.isle_model.specs.lists.Elaborated.{Sides, finished_rule, may_have_priority, few_enough, most_nested, most_expansions, elaborated_rule, typed_rule}
-use Rattle.isle_model.specs.rules.Outcome.{then_option}
-use Rattle.isle_model.specs.rules.Typed.{TypedRule}
-use Rattle.isle_model.specs.claims.Environments.{TypesRead, AreReadable, HasTypedRules, setting_of, PassesNesting, PassesExpansions}
-use Rattle.isle_model.specs.claims.Refusals.{NamedLimit, of_rule, of_nesting, of_expansions, Refusal, ill_typed, unreachable, overlapping, shadowing, past_limit, NamesOnlyPassed, PassedInReading, nesting_passes, expansions_pass, IsIllTyped, IsOfReading, RefusesRules}
-use Rattle.isle_model.proofs.Members.{in_head, in_alone, get_from_member, all_members, from_map, in_map, in_flat_map}
-use Rattle.isle_model.proofs.Positions.{get_front}
-use Rattle.isle_laws_typing.specs.FurtherNames.{AreThereAlike}
-use Rattle.isle_laws_typing.proofs.NamesOfTables.{names_of_rules_dont_matter_lem}
+use Rattle.model.specs.lists.Syntax.{Position, RuleTree, Definition, type_definition, declaration, extractor_definition, converter_definition, rule_definition, extern_definition, other_definition}
+use Rattle.model.specs.lists.Names.{IsDistinct}
+use Rattle.model.specs.lists.Tables.{TermEntry}
+use Rattle.model.specs.lists.TermTable.{rule_of, rule_trees, IsValidTerms, term_names_met}
+use Rattle.model.specs.lists.Setting.{Setting, Scope, new_scope, term_of, declared_flags}
+use Rattle.model.specs.lists.TermTable.{root_name}
+use Rattle.model.specs.lists.Typings.{Typing}
+use Rattle.model.specs.lists.Elaborated.{Sides, finished_rule, may_have_priority, few_enough, most_nested, most_expansions, elaborated_rule, typed_rule}
+use Rattle.model.specs.rules.Outcome.{then_option}
+use Rattle.model.specs.rules.Typed.{TypedRule}
+use Rattle.model.specs.claims.Environments.{TypesRead, AreReadable, HasTypedRules, setting_of, PassesNesting, PassesExpansions}
+use Rattle.model.specs.claims.Refusals.{NamedLimit, of_rule, of_nesting, of_expansions, Refusal, ill_typed, unreachable, overlapping, shadowing, past_limit, NamesOnlyPassed, PassedInReading, nesting_passes, expansions_pass, IsIllTyped, IsOfReading, RefusesRules}
+use Rattle.model.proofs.Members.{in_head, in_alone, get_from_member, all_members, from_map, in_map, in_flat_map}
+use Rattle.model.proofs.Positions.{get_front}
+use Rattle.laws_typing.specs.FurtherNames.{AreThereAlike}
+use Rattle.laws_typing.proofs.NamesOfTables.{names_of_rules_dont_matter_lem}
 use Rattle.isle_types.specs.declared.type_env.TypeEnv.{TypeEnv}
 use Rattle.isle_types.specs.Envs.{names_of, IsInterned}
 use Rattle.isle_rules.specs.Constructors.{AreTermsNamed}

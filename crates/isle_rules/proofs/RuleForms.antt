@@ -1,14 +1,14 @@
 -- A rule, from what its sides became.
 use Rattle.std.proofs.Common.{◌≡◌, ℕ, ℤ, Bool, true, false, cond, List, [], ◌∷◌, length, map, Option, Some, None, unwrap_or, pos, refl, sym, ap, subst, ◌∙◌, inl, inr, ◌⊎◌, ⊎_elim, arith}
 use Rattle.std.proofs.lemmas.List.{length-append}
-use Rattle.isle_model.specs.lists.Syntax.{Name, RuleTree}
-use Rattle.isle_model.specs.lists.Tables.{Flags, TermEntry}
-use Rattle.isle_model.specs.lists.TermTable.{root_name}
-use Rattle.isle_model.specs.rules.Typed.{TypedPattern, TypedPatterns, no_typed_pattern, typed_pattern_and, TypedRule, TypedVar}
-use Rattle.isle_model.specs.lists.Names.{number, with_name}
-use Rattle.isle_model.specs.lists.Setting.{Setting, Scope, var_named, declared_flags}
-use Rattle.isle_model.specs.lists.Typings.{Typing}
-use Rattle.isle_model.specs.lists.Elaborated.{typed_list, Sides, with_own_name, own_number, rule_of_sides, finished_rule, may_have_priority}
+use Rattle.model.specs.lists.Syntax.{Name, RuleTree}
+use Rattle.model.specs.lists.Tables.{Flags, TermEntry}
+use Rattle.model.specs.lists.TermTable.{root_name}
+use Rattle.model.specs.rules.Typed.{TypedPattern, TypedPatterns, no_typed_pattern, typed_pattern_and, TypedRule, TypedVar}
+use Rattle.model.specs.lists.Names.{number, with_name}
+use Rattle.model.specs.lists.Setting.{Setting, Scope, var_named, declared_flags}
+use Rattle.model.specs.lists.Typings.{Typing}
+use Rattle.model.specs.lists.Elaborated.{typed_list, Sides, with_own_name, own_number, rule_of_sides, finished_rule, may_have_priority}
 use Rattle.isle_types.specs.Envs.{names_of, IsInterned}
 use Rattle.isle_base.specs.NotedErrors.{NotesMore, MayNoteMore}
 use Rattle.isle_typed.specs.declared.rules.BoundVar.{BoundVar}

@@ -5,14 +5,14 @@ use Rattle.std.proofs.lemmas.List.{take_all, take-append-drop, map-append, lengt
 use Rattle.isle_base.specs.declared.syntax.IfLet.{IfLet}
 use Rattle.isle_base.specs.declared.syntax.Pattern as T
 use Rattle.isle_base.specs.SyntaxViews as S
-use Rattle.isle_model.specs.lists.Syntax.{Name, PatternTrees, IfLetTree, RuleTree, pattern_list}
-use Rattle.isle_model.specs.lists.Tables.{Flags, TermEntry}
-use Rattle.isle_model.specs.lists.TermTable.{root_name}
-use Rattle.isle_model.specs.rules.Typed.{TypedPatterns, TypedExpr, TypedIfLet, TypedRule}
-use Rattle.isle_model.specs.lists.Setting.{Setting, Scope, expr_type, on_lhs, declared_flags}
-use Rattle.isle_model.specs.lists.Typings.{followed}
-use Rattle.isle_model.specs.lists.Elaborated.{typed_iflet, root_parts, Sides, sides_of, last_sides}
-use Rattle.isle_laws_typing.proofs.Typings.{ne-eqb}
+use Rattle.model.specs.lists.Syntax.{Name, PatternTrees, IfLetTree, RuleTree, pattern_list}
+use Rattle.model.specs.lists.Tables.{Flags, TermEntry}
+use Rattle.model.specs.lists.TermTable.{root_name}
+use Rattle.model.specs.rules.Typed.{TypedPatterns, TypedExpr, TypedIfLet, TypedRule}
+use Rattle.model.specs.lists.Setting.{Setting, Scope, expr_type, on_lhs, declared_flags}
+use Rattle.model.specs.lists.Typings.{followed}
+use Rattle.model.specs.lists.Elaborated.{typed_iflet, root_parts, Sides, sides_of, last_sides}
+use Rattle.laws_typing.proofs.Typings.{ne-eqb}
 use Rattle.isle_types.specs.declared.ids.TypeId.{TypeId}
 use Rattle.isle_types.specs.Envs.{names_of, IsInterned}
 use Rattle.isle_base.specs.NotedErrors.{NotesMore, MayNoteMore}

@@ -4,13 +4,13 @@ use Rattle.std.proofs.lemmas.List.{at_drop_more, length_push, length-map}
 use Rattle.isle_base.specs.declared.syntax.Def.{Def}
 use Rattle.isle_base.specs.declared.syntax.Error.{Error}
 use Rattle.isle_base.specs.SyntaxViews.{definition_view, definition_views}
-use Rattle.isle_model.specs.lists.Syntax.{RuleTree, Definition, type_definition, declaration, extractor_definition, converter_definition, rule_definition, extern_definition, other_definition}
-use Rattle.isle_model.specs.lists.TermTable.{rule_trees}
-use Rattle.isle_model.specs.rules.Outcome.{then_option}
-use Rattle.isle_model.specs.rules.Typed.{TypedRule}
-use Rattle.isle_model.specs.lists.Setting.{Setting}
-use Rattle.isle_model.specs.lists.Typings.{Typing}
-use Rattle.isle_model.specs.lists.Elaborated.{TypedRules, with_typed}
+use Rattle.model.specs.lists.Syntax.{RuleTree, Definition, type_definition, declaration, extractor_definition, converter_definition, rule_definition, extern_definition, other_definition}
+use Rattle.model.specs.lists.TermTable.{rule_trees}
+use Rattle.model.specs.rules.Outcome.{then_option}
+use Rattle.model.specs.rules.Typed.{TypedRule}
+use Rattle.model.specs.lists.Setting.{Setting}
+use Rattle.model.specs.lists.Typings.{Typing}
+use Rattle.model.specs.lists.Elaborated.{TypedRules, with_typed}
 use Rattle.isle_types.specs.declared.type_env.TypeEnv.{TypeEnv}
 use Rattle.isle_types.specs.Envs.{names_of}
 use Rattle.isle_typed.specs.declared.rules.Rule.{Rule}

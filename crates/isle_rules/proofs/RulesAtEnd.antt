@@ -3,12 +3,12 @@ use Rattle.std.proofs.Common.{◌≡◌, ◌≢◌, List, [], Some, None, option
 use Rattle.std.specs.List.{flat_map}
 use Rattle.std.proofs.lemmas.Option.{none-some, same_Some}
 use Rattle.isle_base.specs.declared.syntax.Error.{Error}
-use Rattle.isle_model.specs.lists.Syntax.{Definition}
-use Rattle.isle_model.specs.lists.Names.{IsDistinct}
-use Rattle.isle_model.specs.lists.TermTable.{rule_trees}
-use Rattle.isle_model.specs.lists.Setting.{Setting}
-use Rattle.isle_model.specs.lists.Elaborated.{TypedRules, typed_rules, named, named_rules, rule_names}
-use Rattle.isle_model.specs.rules.Typed.{TypedRule}
+use Rattle.model.specs.lists.Syntax.{Definition}
+use Rattle.model.specs.lists.Names.{IsDistinct}
+use Rattle.model.specs.lists.TermTable.{rule_trees}
+use Rattle.model.specs.lists.Setting.{Setting}
+use Rattle.model.specs.lists.Elaborated.{TypedRules, typed_rules, named, named_rules, rule_names}
+use Rattle.model.specs.rules.Typed.{TypedRule}
 use Rattle.isle_types.specs.declared.type_env.TypeEnv.{TypeEnv}
 use Rattle.isle_types.specs.Envs.{names_of}
 use Rattle.isle_base.specs.NotedErrors.{NotesMore}

@@ -7,11 +7,11 @@ use Rattle.isle_base.specs.declared.syntax.Fault.{Fault}
 use Rattle.isle_base.specs.declared.syntax.Fault.TheVariants.{Errors, Memory}
 use Rattle.isle_base.specs.declared.syntax.Error.{Error}
 use Rattle.isle_base.specs.Stable.{Entries}
-use Rattle.isle_model.specs.lists.Syntax.{Position, RuleTree, Definition}
-use Rattle.isle_model.specs.lists.TermTable.{rule_trees, term_names_met, term_table}
-use Rattle.isle_model.specs.claims.Environments.{TypesRead, AreReadable, HasTypedRules, setting_of, AreTermsOf}
-use Rattle.isle_model.specs.claims.Refusals.{NamedLimit, Refusal, past_limit, NamesOnlyPassed, PassedInReading, IsIllTyped, IsOfReading, RefusesTerms, RefusesRules}
-use Rattle.isle_model.specs.rules.Typed.{TypedRule}
+use Rattle.model.specs.lists.Syntax.{Position, RuleTree, Definition}
+use Rattle.model.specs.lists.TermTable.{rule_trees, term_names_met, term_table}
+use Rattle.model.specs.claims.Environments.{TypesRead, AreReadable, HasTypedRules, setting_of, AreTermsOf}
+use Rattle.model.specs.claims.Refusals.{NamedLimit, Refusal, past_limit, NamesOnlyPassed, PassedInReading, IsIllTyped, IsOfReading, RefusesTerms, RefusesRules}
+use Rattle.model.specs.rules.Typed.{TypedRule}
 use Rattle.isle_types.specs.declared.ids.RuleId.{RuleId}
 use Rattle.isle_types.specs.declared.ids.Sym.{Sym}
 use Rattle.isle_types.specs.declared.type_env.TypeEnv.{TypeEnv}
@@ -24,7 +24,7 @@ use Rattle.isle_rules.specs.declared.term_env.TermEnv.{TermEnv}
 use Rattle.isle_rules.specs.Constructors.{AreTermsNamed}
 use Rattle.isle_base.specs.ErrorViews.{error_views}
 use Rattle.isle_base.specs.NotedErrors.{MayNoteMore}
-use Rattle.isle_laws_typing.proofs.RefusedTerms.{of_reading}
+use Rattle.laws_typing.proofs.RefusedTerms.{of_reading}
 use Rattle.isle_rules.specs.LimitsNamed.{NamesPastLimits, NamesTypedPastLimits, NamesFirstPastLimits}
 use Rattle.isle_rules.specs.RuleErrors.{NotesOfRules, IsOfRules}
 use Rattle.isle_typed.specs.RuleNaming.{MapsNames, AreDefined, IsLeftUndefined}

@@ -5,7 +5,7 @@ use Rattle.std.proofs.lemmas.List.Elements.{All-nil, Contains-append_right, Cont
 use Rattle.std.proofs.lemmas.Option.{same_Some}
 use Rattle.isle_base.specs.declared.syntax.Pos.{Pos}
 use Rattle.isle_base.specs.Positions.{ErrorStandsAt, NotesAt, rule_positions}
-use Rattle.isle_model.proofs.Members.{all_members}
+use Rattle.model.proofs.Members.{all_members}
 use Rattle.isle_base.specs.declared.syntax.Def.{Def}
 use Rattle.isle_base.specs.declared.syntax.Error.{Error}
 use Rattle.isle_base.specs.declared.syntax.Limit.{Limit}
@@ -14,14 +14,14 @@ use Rattle.isle_base.specs.declared.syntax.Rule as T
 use Rattle.isle_base.specs.ErrorViews.{error_view}
 use Rattle.isle_base.specs.NotedErrors.{NotesMore, MayNoteMore, AreIllTyped}
 use Rattle.isle_base.specs.SyntaxViews as S
-use Rattle.isle_model.specs.lists.Syntax.{Position, RuleTree, Definition}
-use Rattle.isle_model.specs.lists.Names.{IsDistinct}
-use Rattle.isle_model.specs.lists.TermTable.{rule_of, rule_trees}
-use Rattle.isle_model.specs.lists.Setting.{Setting, Scope, new_scope}
-use Rattle.isle_model.specs.lists.Typings.{Typing}
-use Rattle.isle_model.specs.lists.Elaborated.{few_enough, most_nested, most_expansions}
-use Rattle.isle_model.specs.rules.Typed.{TypedRule}
-use Rattle.isle_model.specs.claims.Refusals.{NamedLimit, of_nesting, of_expansions, past_limit, IsIllTyped}
+use Rattle.model.specs.lists.Syntax.{Position, RuleTree, Definition}
+use Rattle.model.specs.lists.Names.{IsDistinct}
+use Rattle.model.specs.lists.TermTable.{rule_of, rule_trees}
+use Rattle.model.specs.lists.Setting.{Setting, Scope, new_scope}
+use Rattle.model.specs.lists.Typings.{Typing}
+use Rattle.model.specs.lists.Elaborated.{few_enough, most_nested, most_expansions}
+use Rattle.model.specs.rules.Typed.{TypedRule}
+use Rattle.model.specs.claims.Refusals.{NamedLimit, of_nesting, of_expansions, past_limit, IsIllTyped}
 use Rattle.isle_types.specs.declared.type_env.TypeEnv.{TypeEnv}
 use Rattle.isle_types.specs.Envs.{names_of, IsInterned}
 use Rattle.isle_typed.specs.declared.rules.Rule.{Rule}

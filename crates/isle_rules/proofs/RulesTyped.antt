@@ -4,12 +4,12 @@ use Rattle.std.specs.List.{flat_map}
 use Rattle.std.proofs.lemmas.List.Elements.{All-nil, All-cons, All-head, All-tail, All-append, All-weaker}
 use Rattle.std.proofs.lemmas.Option.{none-some, same_Some}
 use Rattle.isle_base.specs.declared.syntax.Error.{Error}
-use Rattle.isle_model.specs.lists.Syntax.{Position, Name, RuleTree}
-use Rattle.isle_model.specs.lists.Names.{number}
-use Rattle.isle_model.specs.rules.Typed.{TypedRule}
-use Rattle.isle_model.specs.lists.Setting.{Setting, entry_named}
-use Rattle.isle_model.specs.lists.Elaborated.{TypedRules, typed_rules}
-use Rattle.isle_model.proofs.Positions.{get_front}
+use Rattle.model.specs.lists.Syntax.{Position, Name, RuleTree}
+use Rattle.model.specs.lists.Names.{number}
+use Rattle.model.specs.rules.Typed.{TypedRule}
+use Rattle.model.specs.lists.Setting.{Setting, entry_named}
+use Rattle.model.specs.lists.Elaborated.{TypedRules, typed_rules}
+use Rattle.model.proofs.Positions.{get_front}
 use Rattle.isle_types.specs.declared.type_env.TypeEnv.{TypeEnv}
 use Rattle.isle_types.specs.Envs.{names_of, IsInterned}
 use Rattle.isle_base.specs.NotedErrors.{NotesMore}

@@ -2,11 +2,11 @@
 use Rattle.std.proofs.Common.{◌≡◌, ℕ, ◌<◌, true, false, cond, nat_eq, List, [], ◌∷◌, ◌++◌, length, Option, Some, refl, sym, ap, subst, ◌∙◌, arith, inl, inr}
 use Rattle.std.proofs.lemmas.Bool.{cases_Bool, eqb-true}
 use Rattle.std.proofs.lemmas.List.{length-map}
-use Rattle.isle_model.specs.lists.Names.{number, has_name, with_name}
-use Rattle.isle_model.specs.rules.Typed.{TypedVar}
-use Rattle.isle_model.specs.lists.Setting.{Scope, new_var, var_named, met, bound, var_of}
-use Rattle.isle_model.specs.lists.Typings.{Typing, plain}
-use Rattle.isle_model.proofs.Names.{last, known_name, number_new, has_new, number_below}
+use Rattle.model.specs.lists.Names.{number, has_name, with_name}
+use Rattle.model.specs.rules.Typed.{TypedVar}
+use Rattle.model.specs.lists.Setting.{Scope, new_var, var_named, met, bound, var_of}
+use Rattle.model.specs.lists.Typings.{Typing, plain}
+use Rattle.model.proofs.Names.{last, known_name, number_new, has_new, number_below}
 use Rattle.isle_types.proofs.WellFormedEnvs.{longer}
 use Rattle.isle_types.specs.Envs.{names_of}
 use Rattle.isle_typed.specs.RuleViews.{var_view}

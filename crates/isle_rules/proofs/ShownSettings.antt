@@ -4,20 +4,20 @@ use Rattle.std.specs.List.{cons_option, enumerate_from, filter_map, flat_map, po
 use Rattle.std.proofs.lemmas.Bool.{cases_Bool, cond-false}
 use Rattle.std.proofs.lemmas.List.Elements.{All-nil, All-cons, All-head, All-tail, All-append, All-contains, All-weaker}
 use Rattle.std.proofs.lemmas.Option.{none-some, slice_get_within}
-use Rattle.isle_model.specs.lists.Syntax.{Definition}
-use Rattle.isle_model.specs.lists.Names.{number, has_name, IsDistinct}
-use Rattle.isle_model.specs.lists.Tables.{TermEntry}
-use Rattle.isle_model.specs.lists.KnownTypes.{KnownTypes}
-use Rattle.isle_model.specs.lists.Setting.{entry_named}
-use Rattle.isle_model.specs.lists.TermTable.{decl_names, function_of, made_by, term_names, term_names_met, term_table, IsValidTerms}
-use Rattle.isle_model.specs.rules.Meaning.{look}
-use Rattle.isle_model.specs.rules.Outcome.{then_option}
-use Rattle.isle_model.specs.claims.Environments.{TypesRead, IsReadAs, AreReadable, setting_of, numbered, terms_by_name, environment_of, with_read_names, AreTermsOf}
-use Rattle.isle_model.proofs.Mapped.{get_mapped}
-use Rattle.isle_model.proofs.Members.{get_within, in_head, in_tail, get_from_member, member_from_get, all_members}
-use Rattle.isle_model.proofs.Names.{found, has_at, at_number, has_left, has_kept, has_met, get_kept, number_below}
-use Rattle.isle_laws_typing.proofs.TermLaws.{terms_have_names_lem, terms_stand_at_ids_lem}
-use Rattle.isle_laws_typing.proofs.TypesStay.{types_are_shown_lem, types_stay_lem}
+use Rattle.model.specs.lists.Syntax.{Definition}
+use Rattle.model.specs.lists.Names.{number, has_name, IsDistinct}
+use Rattle.model.specs.lists.Tables.{TermEntry}
+use Rattle.model.specs.lists.KnownTypes.{KnownTypes}
+use Rattle.model.specs.lists.Setting.{entry_named}
+use Rattle.model.specs.lists.TermTable.{decl_names, function_of, made_by, term_names, term_names_met, term_table, IsValidTerms}
+use Rattle.model.specs.rules.Meaning.{look}
+use Rattle.model.specs.rules.Outcome.{then_option}
+use Rattle.model.specs.claims.Environments.{TypesRead, IsReadAs, AreReadable, setting_of, numbered, terms_by_name, environment_of, with_read_names, AreTermsOf}
+use Rattle.model.proofs.Mapped.{get_mapped}
+use Rattle.model.proofs.Members.{get_within, in_head, in_tail, get_from_member, member_from_get, all_members}
+use Rattle.model.proofs.Names.{found, has_at, at_number, has_left, has_kept, has_met, get_kept, number_below}
+use Rattle.laws_typing.proofs.TermLaws.{terms_have_names_lem, terms_stand_at_ids_lem}
+use Rattle.laws_typing.proofs.TypesStay.{types_are_shown_lem, types_stay_lem}
 use Rattle.isle_types.specs.declared.type_env.TypeEnv.{TypeEnv}
 use Rattle.isle_types.specs.Envs.{names_of, type_at}
 use Rattle.isle_types.specs.EnvViews.{environment_view}

@@ -1,11 +1,11 @@
 -- The sides of a rule, from what its arguments, its if-lets and its right side became.
 use Rattle.std.proofs.Common.{◌≡◌, ℕ, List, Some, ap, refl, ◌⊎◌}
-use Rattle.isle_model.specs.lists.Syntax.{PatternTrees, RuleTree}
-use Rattle.isle_model.specs.lists.Tables.{Flags, TermEntry}
-use Rattle.isle_model.specs.rules.Typed.{TypedPatterns, TypedExpr, TypedIfLet}
-use Rattle.isle_model.specs.lists.Setting.{Setting, Scope}
-use Rattle.isle_model.specs.lists.Typings.{followed}
-use Rattle.isle_model.specs.lists.Elaborated.{root_parts, Sides, sides_of, last_sides}
+use Rattle.model.specs.lists.Syntax.{PatternTrees, RuleTree}
+use Rattle.model.specs.lists.Tables.{Flags, TermEntry}
+use Rattle.model.specs.rules.Typed.{TypedPatterns, TypedExpr, TypedIfLet}
+use Rattle.model.specs.lists.Setting.{Setting, Scope}
+use Rattle.model.specs.lists.Typings.{followed}
+use Rattle.model.specs.lists.Elaborated.{root_parts, Sides, sides_of, last_sides}
 use Rattle.isle_rules.specs.declared.term_env.TermEnv.{TermEnv}
 use Rattle.isle_rules.specs.declared.typing.progress.Stop.{Stop}
 use Rattle.isle_rules.specs.ExprReadings.{expr_reading}

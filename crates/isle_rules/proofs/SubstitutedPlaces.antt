@@ -1,12 +1,12 @@
 -- Where what takes the place of a use stands: at positions of the use, or of templates.
 use Rattle.std.proofs.Common.{◌≡◌, ℕ, zero, suc, Bool, true, false, cond, List, [], ◌∷◌, ◌++◌, Option, Some, None, Contains, slice_get, option_and_then, refl, sym, subst}
 use Rattle.std.proofs.lemmas.Option.{none-some, same_Some}
-use Rattle.isle_model.specs.lists.Syntax.{Position, Name, PatternTree, var_pattern, bind_pattern, bool_pattern, int_pattern, prim_pattern, term_pattern, wildcard_pattern, and_pattern, macro_arg, PatternTrees, no_pattern, pattern_and, pattern_list, ExprTree}
-use Rattle.isle_model.specs.lists.Tables.{ExtractorEntry, internal_extractor, external_extractor, TermKindEntry, variant_term, struct_term, declared_term, TermEntry}
-use Rattle.isle_model.specs.lists.Expansions.{substituted, all_substituted}
-use Rattle.isle_model.specs.lists.Setting.{entry_template, kind_template}
-use Rattle.isle_model.proofs.Members.{in_head, in_tail, member_from_get}
-use Rattle.isle_model.proofs.Options.{then_some}
+use Rattle.model.specs.lists.Syntax.{Position, Name, PatternTree, var_pattern, bind_pattern, bool_pattern, int_pattern, prim_pattern, term_pattern, wildcard_pattern, and_pattern, macro_arg, PatternTrees, no_pattern, pattern_and, pattern_list, ExprTree}
+use Rattle.model.specs.lists.Tables.{ExtractorEntry, internal_extractor, external_extractor, TermKindEntry, variant_term, struct_term, declared_term, TermEntry}
+use Rattle.model.specs.lists.Expansions.{substituted, all_substituted}
+use Rattle.model.specs.lists.Setting.{entry_template, kind_template}
+use Rattle.model.proofs.Members.{in_head, in_tail, member_from_get}
+use Rattle.model.proofs.Options.{then_some}
 use Rattle.isle_base.specs.Positions.{OccurAmong, pattern_positions, patterns_positions, expr_positions}
 use Rattle.isle_base.proofs.Positioned.{among_same, among_both, among_left, among_right, among_rest, among_each, among_none, among_join, among_next}
 use Rattle.isle_types.specs.declared.type_env.TypeEnv.{TypeEnv}

@@ -6,17 +6,17 @@ use Rattle.std.proofs.lemmas.Bool.{false≢true}
 use Rattle.std.proofs.lemmas.List.{length-map}
 use Rattle.std.proofs.lemmas.List.Elements.{All-nil, All-cons, All-head, All-tail, All-append}
 use Rattle.std.proofs.lemmas.Option.{none-some, same_Some}
-use Rattle.isle_model.specs.lists.Syntax.{Position, PatternTree, var_pattern, bind_pattern, bool_pattern, int_pattern, prim_pattern, term_pattern, wildcard_pattern, and_pattern, macro_arg, PatternTrees, no_pattern, pattern_and, DeclTree, ExtractorTree, Definition}
-use Rattle.isle_model.specs.lists.Names.{number, has_name, IsDistinct}
-use Rattle.isle_model.specs.lists.Tables.{FieldEntries, VariantEntry, TypeEntry, builtin_type, primitive_type, enum_type, struct_type, internal_extractor, external_extractor, TermEntry}
-use Rattle.isle_model.specs.lists.KnownTypes.{KnownTypes, known_type}
-use Rattle.isle_model.specs.lists.TermTable.{ExternalTree, arguments_in, arguments_in_all, argument_count, decl_trees, decl_names, extractor_trees, external_trees, extractor_template, internal_extractors, made_by, variant_as_term, struct_as_term, terms_made, decl_as_term, terms_in_order, term_names_met, term_table, UsesDeclaredArguments, IsValidTerms}
-use Rattle.isle_model.specs.lists.Setting.{entry_template}
-use Rattle.isle_model.specs.lists.Expansions.{substituted, all_substituted, with_pattern}
-use Rattle.isle_model.proofs.Bytes.{same_bytes, same_self}
-use Rattle.isle_model.proofs.Mapped.{get_map}
-use Rattle.isle_model.proofs.Members.{all_members, from_map, get_from_member}
-use Rattle.isle_model.proofs.Positions.{get_front}
+use Rattle.model.specs.lists.Syntax.{Position, PatternTree, var_pattern, bind_pattern, bool_pattern, int_pattern, prim_pattern, term_pattern, wildcard_pattern, and_pattern, macro_arg, PatternTrees, no_pattern, pattern_and, DeclTree, ExtractorTree, Definition}
+use Rattle.model.specs.lists.Names.{number, has_name, IsDistinct}
+use Rattle.model.specs.lists.Tables.{FieldEntries, VariantEntry, TypeEntry, builtin_type, primitive_type, enum_type, struct_type, internal_extractor, external_extractor, TermEntry}
+use Rattle.model.specs.lists.KnownTypes.{KnownTypes, known_type}
+use Rattle.model.specs.lists.TermTable.{ExternalTree, arguments_in, arguments_in_all, argument_count, decl_trees, decl_names, extractor_trees, external_trees, extractor_template, internal_extractors, made_by, variant_as_term, struct_as_term, terms_made, decl_as_term, terms_in_order, term_names_met, term_table, UsesDeclaredArguments, IsValidTerms}
+use Rattle.model.specs.lists.Setting.{entry_template}
+use Rattle.model.specs.lists.Expansions.{substituted, all_substituted, with_pattern}
+use Rattle.model.proofs.Bytes.{same_bytes, same_self}
+use Rattle.model.proofs.Mapped.{get_map}
+use Rattle.model.proofs.Members.{all_members, from_map, get_from_member}
+use Rattle.model.proofs.Positions.{get_front}
 use Rattle.isle_rules.specs.Translating.{IsWholeTemplate}
 use Rattle.isle_types.proofs.RightTypes.{all_left, all_right}
 

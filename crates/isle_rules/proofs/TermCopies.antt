@@ -1,6 +1,6 @@
 -- A term's clone says what the term says.
 use Rattle.std.proofs.Common.{◌≡◌, map, Option, Some, None, option_map, refl, ap}
-use Rattle.isle_model.specs.lists.Tables.{external_constructor, internal_extractor, variant_term}
+use Rattle.model.specs.lists.Tables.{external_constructor, internal_extractor, variant_term}
 use Rattle.isle_terms.specs.declared.term.ConstructorKind.{ConstructorKind}
 use Rattle.isle_terms.specs.declared.term.ConstructorKind.TheVariants.{InternalConstructor, ExternalConstructor}
 use Rattle.isle_terms.specs.declared.term.ExtractorKind.{ExtractorKind}

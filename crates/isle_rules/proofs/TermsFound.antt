@@ -1,10 +1,10 @@
 -- The term of a name, as the tables find it, is that of a setting.
 use Rattle.std.proofs.Common.{◌≡◌, ℕ, true, false, cond, List, Option, Some, None, option_and_then, slice_get, refl, sym, ap, ◌∙◌, arith}
-use Rattle.isle_model.specs.lists.Names.{number, has_name}
-use Rattle.isle_model.specs.lists.Setting.{Setting, entry_named}
-use Rattle.isle_model.specs.rules.Outcome.{then_option}
-use Rattle.isle_model.proofs.ByNumber.{looked_up}
-use Rattle.isle_model.proofs.Names.{last}
+use Rattle.model.specs.lists.Names.{number, has_name}
+use Rattle.model.specs.lists.Setting.{Setting, entry_named}
+use Rattle.model.specs.rules.Outcome.{then_option}
+use Rattle.model.proofs.ByNumber.{looked_up}
+use Rattle.model.proofs.Names.{last}
 use Rattle.isle_types.specs.declared.type_env.TypeEnv.{TypeEnv}
 use Rattle.isle_types.specs.Envs.{names_of, symbol_of, IsInterned}
 use Rattle.isle_rules.specs.declared.term_env.TermEnv.{TermEnv}

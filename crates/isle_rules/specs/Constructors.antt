@@ -2,10 +2,10 @@
 use Rattle.std.specs.Prelude.{◌≡◌, ℕ, ◌<◌, Bool, true, List, [], ◌++◌, length, All, IsTrue, Option, Some, None, slice_get}
 use Rattle.std.specs.List.{flat_map}
 use Rattle.isle_base.specs.Expressions.{terms_of_expr}
-use Rattle.isle_model.specs.lists.Syntax.{Position, Name, RuleTree, Definition, rule_definition}
-use Rattle.isle_model.specs.lists.Names.{number, IsDistinct}
-use Rattle.isle_model.specs.lists.Tables.{TermEntry}
-use Rattle.isle_model.specs.lists.Setting.{Setting, entry_named, has_constructor}
+use Rattle.model.specs.lists.Syntax.{Position, Name, RuleTree, Definition, rule_definition}
+use Rattle.model.specs.lists.Names.{number, IsDistinct}
+use Rattle.model.specs.lists.Tables.{TermEntry}
+use Rattle.model.specs.lists.Setting.{Setting, entry_named, has_constructor}
 use Rattle.isle_types.specs.declared.type_env.TypeEnv.{TypeEnv}
 use Rattle.isle_rules.specs.declared.term_env.TermEnv.{TermEnv}
 use Rattle.isle_rules.specs.PatternUses.{found_term}

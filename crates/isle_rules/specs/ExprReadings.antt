@@ -1,11 +1,11 @@
 -- How expressions are read, as the function of typing says. Whether each term that an expression names has a constructor is
 -- looked at after all rules: until then it is taken to have one.
 use Rattle.std.specs.Prelude.{ℕ, List, filter, map, Option, Some, option_map, is_some}
-use Rattle.isle_model.specs.lists.Syntax.{ExprTree, ExprTrees, LetTrees}
-use Rattle.isle_model.specs.lists.Tables.{Flags, internal_constructor, TermKindEntry, variant_term, struct_term, declared_term, TermEntry}
-use Rattle.isle_model.specs.rules.Typed.{TypedExpr, TypedExprs, TypedLets}
-use Rattle.isle_model.specs.lists.Setting.{Setting, expr_converter}
-use Rattle.isle_model.specs.lists.Elaborated.{elaborated_expr, args_with, lets_with, deeper_expr}
+use Rattle.model.specs.lists.Syntax.{ExprTree, ExprTrees, LetTrees}
+use Rattle.model.specs.lists.Tables.{Flags, internal_constructor, TermKindEntry, variant_term, struct_term, declared_term, TermEntry}
+use Rattle.model.specs.rules.Typed.{TypedExpr, TypedExprs, TypedLets}
+use Rattle.model.specs.lists.Setting.{Setting, expr_converter}
+use Rattle.model.specs.lists.Elaborated.{elaborated_expr, args_with, lets_with, deeper_expr}
 use Rattle.isle_types.specs.declared.ids.TypeId.{TypeId}
 use Rattle.isle_rules.specs.Translating.{Reading}
 

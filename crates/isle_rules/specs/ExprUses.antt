@@ -1,12 +1,12 @@
 -- What the use of a name in an expression stands for: a conversion, a variable, or a term itself.
 use Rattle.std.specs.Prelude.{◌≡◌, ◌⊎◌, ℕ, suc, Bool, true, List, [], ◌∷◌, length, Option, Result, Ok, Err}
 use Rattle.isle_base.specs.SyntaxViews as S
-use Rattle.isle_model.specs.lists.Syntax.{Position, Name, ExprTree, term_expr, ExprTrees, no_expr, expr_and}
-use Rattle.isle_model.specs.lists.Tables.{Flags, TermKindEntry, variant_term, struct_term, declared_term, TermEntry}
-use Rattle.isle_model.specs.lists.Setting.{allow}
-use Rattle.isle_model.specs.lists.Typings.{made_into}
-use Rattle.isle_model.specs.rules.Outcome.{then_option}
-use Rattle.isle_model.specs.rules.Typed.{make_term, make_var}
+use Rattle.model.specs.lists.Syntax.{Position, Name, ExprTree, term_expr, ExprTrees, no_expr, expr_and}
+use Rattle.model.specs.lists.Tables.{Flags, TermKindEntry, variant_term, struct_term, declared_term, TermEntry}
+use Rattle.model.specs.lists.Setting.{allow}
+use Rattle.model.specs.lists.Typings.{made_into}
+use Rattle.model.specs.rules.Outcome.{then_option}
+use Rattle.model.specs.rules.Typed.{make_term, make_var}
 use Rattle.isle_types.specs.declared.type_env.TypeEnv.{TypeEnv}
 use Rattle.isle_terms.specs.Terms.{has_constructor_kind}
 use Rattle.isle_terms.specs.TermViews.{term_view}

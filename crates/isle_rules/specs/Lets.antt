@@ -1,11 +1,11 @@
 -- The scopes of lets: what their names stood for before.
 use Rattle.std.specs.Prelude.{◌≡◌, ◌⊎◌, ⊤, ℕ, nat_eq, List, [], ◌∷◌, length, Option, Some, None, option_map, Result, Ok, Err, Box, Vec, if◌then◌else◌}
 use Rattle.std.specs.declared.alloc.Global.{Global}
-use Rattle.isle_model.specs.lists.Syntax.{Name, LetTrees, let_and}
+use Rattle.model.specs.lists.Syntax.{Name, LetTrees, let_and}
 use Rattle.isle_base.specs.declared.syntax.LetDef.{LetDef}
 use Rattle.isle_base.specs.SyntaxViews.{position, name_view, expr_view}
-use Rattle.isle_model.specs.lists.Names.{number, with_name}
-use Rattle.isle_model.specs.rules.Typed.{TypedVar, TypedExpr, TypedLets}
+use Rattle.model.specs.lists.Names.{number, with_name}
+use Rattle.model.specs.rules.Typed.{TypedVar, TypedExpr, TypedLets}
 use Rattle.isle_types.specs.declared.ids.Sym.{Sym}
 use Rattle.isle_types.specs.declared.ids.TypeId.{TypeId}
 use Rattle.isle_types.specs.declared.ids.VarId.{VarId}

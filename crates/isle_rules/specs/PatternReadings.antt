@@ -1,11 +1,11 @@
 -- How patterns are read, as the function of typing says.
 use Rattle.std.specs.Prelude.{◌≡◌, ◌⊎◌, ℕ, Bool, List, length, Option, Some, None, is_some, Result, Ok, Err, if◌then◌else◌}
-use Rattle.isle_model.specs.lists.Syntax.{PatternTree, PatternTrees}
-use Rattle.isle_model.specs.rules.Typed.{TypedPattern, match_bind, TypedPatterns}
-use Rattle.isle_model.specs.lists.Setting.{bound, var_of}
-use Rattle.isle_model.specs.lists.Typings.{plain}
-use Rattle.isle_model.specs.lists.Elaborated.{elaborated_pattern, elaborated_parts, each_with, deeper_pattern}
-use Rattle.isle_model.specs.lists.Formed.{pattern_type}
+use Rattle.model.specs.lists.Syntax.{PatternTree, PatternTrees}
+use Rattle.model.specs.rules.Typed.{TypedPattern, match_bind, TypedPatterns}
+use Rattle.model.specs.lists.Setting.{bound, var_of}
+use Rattle.model.specs.lists.Typings.{plain}
+use Rattle.model.specs.lists.Elaborated.{elaborated_pattern, elaborated_parts, each_with, deeper_pattern}
+use Rattle.model.specs.lists.Formed.{pattern_type}
 use Rattle.isle_typed.specs.declared.patterns.Pattern.{Pattern}
 use Rattle.isle_rules.specs.declared.term_env.TermEnv.{TermEnv}
 use Rattle.isle_rules.specs.declared.typing.progress.Stop.{Stop}

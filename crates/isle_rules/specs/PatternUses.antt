@@ -3,14 +3,14 @@
 use Rattle.std.specs.Prelude.{◌≡◌, ◌⊎◌, ℕ, suc, Bool, List, length, Option, Some, None, option_and_then, slice_get, Result, Ok, Err, if◌then◌else◌}
 use Rattle.std.specs.Bool.{◌==◌}
 use Rattle.isle_base.specs.SyntaxViews as S
-use Rattle.isle_model.specs.lists.Syntax.{Position, Name, PatternTree, PatternTrees, no_pattern, pattern_and, term_pattern, pattern_list}
-use Rattle.isle_model.specs.lists.Tables.{TermKindEntry, TermEntry}
-use Rattle.isle_model.specs.lists.Signatures.{text_of}
-use Rattle.isle_model.specs.lists.Expansions.{substituted}
-use Rattle.isle_model.specs.lists.Setting.{that, kind_template}
-use Rattle.isle_model.specs.lists.Typings.{made_into}
-use Rattle.isle_model.specs.rules.Outcome.{then_option}
-use Rattle.isle_model.specs.rules.Typed.{match_term}
+use Rattle.model.specs.lists.Syntax.{Position, Name, PatternTree, PatternTrees, no_pattern, pattern_and, term_pattern, pattern_list}
+use Rattle.model.specs.lists.Tables.{TermKindEntry, TermEntry}
+use Rattle.model.specs.lists.Signatures.{text_of}
+use Rattle.model.specs.lists.Expansions.{substituted}
+use Rattle.model.specs.lists.Setting.{that, kind_template}
+use Rattle.model.specs.lists.Typings.{made_into}
+use Rattle.model.specs.rules.Outcome.{then_option}
+use Rattle.model.specs.rules.Typed.{match_term}
 use Rattle.isle_types.specs.declared.type_env.TypeEnv.{TypeEnv}
 use Rattle.isle_types.specs.Envs.{names_of, symbol_of}
 use Rattle.isle_terms.specs.TermViews.{term_view, term_views}

@@ -2,8 +2,8 @@
 use Rattle.std.specs.Prelude.{◌≡◌, ℕ, suc, ◌+◌, ◌≤◌, ◌<◌, nat_eq, List, [], ◌∷◌, ◌++◌, length, map, Option, Some, None, option_map, unwrap_or, Result, Ok, Err, if◌then◌else◌}
 use Rattle.isle_base.specs.declared.syntax.Error.{Error}
 use Rattle.isle_base.specs.Stable.{look_up}
-use Rattle.isle_model.specs.rules.Typed.{TypedVar}
-use Rattle.isle_model.specs.lists.Elaborated.{most_expansions}
+use Rattle.model.specs.rules.Typed.{TypedVar}
+use Rattle.model.specs.lists.Elaborated.{most_expansions}
 use Rattle.isle_types.specs.Envs.{same_symbol, symbol}
 use Rattle.isle_rules.specs.declared.typing.progress.Progress.{Progress}
 use Rattle.isle_rules.specs.declared.typing.progress.Stop.{Stop}

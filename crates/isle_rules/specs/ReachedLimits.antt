@@ -3,15 +3,15 @@
 -- may nest any more, else that on their number where as many were made as may be; what it makes is read in its place.
 use Rattle.std.specs.Prelude.{ℕ, zero, suc, ◌+◌, Bool, ◌&&◌, List, [], ◌∷◌, length, Option, Some, None, slice_get, nat_le, if◌then◌else◌}
 use Rattle.std.specs.Bool.{◌==◌}
-use Rattle.isle_model.specs.lists.Syntax.{PatternTree, var_pattern, bind_pattern, bool_pattern, int_pattern, prim_pattern, term_pattern, wildcard_pattern, and_pattern, macro_arg, PatternTrees, no_pattern, pattern_and, pattern_list, ExprTree, term_expr, var_expr, bool_expr, int_expr, prim_expr, let_expr, ExprTrees, no_expr, expr_and, LetTrees, no_let, let_and, IfLetTree, RuleTree}
-use Rattle.isle_model.specs.lists.Tables.{Flags, TermEntry}
-use Rattle.isle_model.specs.lists.TermTable.{root_name}
-use Rattle.isle_model.specs.lists.Setting.{Setting, Scope, new_scope, met, var_of, term_of, type_of_name, expr_type, on_lhs, declared_flags, is_callable, is_matchable, template_in, pattern_converter}
-use Rattle.isle_model.specs.lists.Expansions.{expanded, wrapped_pattern, wrapped_expr}
-use Rattle.isle_model.specs.lists.Typings.{Typing}
-use Rattle.isle_model.specs.lists.Elaborated.{PatternReading, ExprReading, or_expanded, as_expected, pattern_with, deeper_pattern, expr_with, lets_with, bound_let, deeper_expr, root_parts, most_nested, most_expansions}
-use Rattle.isle_model.specs.rules.Outcome.{then_option}
-use Rattle.isle_model.specs.claims.Refusals.{NamedLimit, of_nesting, of_expansions}
+use Rattle.model.specs.lists.Syntax.{PatternTree, var_pattern, bind_pattern, bool_pattern, int_pattern, prim_pattern, term_pattern, wildcard_pattern, and_pattern, macro_arg, PatternTrees, no_pattern, pattern_and, pattern_list, ExprTree, term_expr, var_expr, bool_expr, int_expr, prim_expr, let_expr, ExprTrees, no_expr, expr_and, LetTrees, no_let, let_and, IfLetTree, RuleTree}
+use Rattle.model.specs.lists.Tables.{Flags, TermEntry}
+use Rattle.model.specs.lists.TermTable.{root_name}
+use Rattle.model.specs.lists.Setting.{Setting, Scope, new_scope, met, var_of, term_of, type_of_name, expr_type, on_lhs, declared_flags, is_callable, is_matchable, template_in, pattern_converter}
+use Rattle.model.specs.lists.Expansions.{expanded, wrapped_pattern, wrapped_expr}
+use Rattle.model.specs.lists.Typings.{Typing}
+use Rattle.model.specs.lists.Elaborated.{PatternReading, ExprReading, or_expanded, as_expected, pattern_with, deeper_pattern, expr_with, lets_with, bound_let, deeper_expr, root_parts, most_nested, most_expansions}
+use Rattle.model.specs.rules.Outcome.{then_option}
+use Rattle.model.specs.claims.Refusals.{NamedLimit, of_nesting, of_expansions}
 use Rattle.isle_rules.specs.ExprReadings.{all_made, expr_reading}
 use Rattle.isle_rules.specs.ExprUses.{expr_list}
 use Rattle.isle_rules.specs.PatternReadings.{parts_reading}

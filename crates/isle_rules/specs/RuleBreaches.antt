@@ -6,12 +6,12 @@ use Rattle.std.specs.Prelude.{◌≡◌, ℕ, Bool, List, [], ◌∷◌, ◌++�
 use Rattle.std.specs.List.{flat_map}
 use Rattle.isle_base.specs.declared.syntax.Error.{Error}
 use Rattle.isle_base.specs.Positions.{rule_positions}
-use Rattle.isle_model.specs.lists.Syntax.{Position, Name, DeclTree, RuleTree, Definition}
-use Rattle.isle_model.specs.lists.Names.{IsDistinct}
-use Rattle.isle_model.specs.lists.Setting.{Setting}
-use Rattle.isle_model.specs.lists.TermTable.{decl_trees, rule_trees, IsDefined, AllDefined, IsValidTerms, term_names_met}
-use Rattle.isle_model.specs.lists.Elaborated.{TypedRules, named_rules, rule_names}
-use Rattle.isle_model.specs.claims.Environments.{TypesRead, setting_of}
+use Rattle.model.specs.lists.Syntax.{Position, Name, DeclTree, RuleTree, Definition}
+use Rattle.model.specs.lists.Names.{IsDistinct}
+use Rattle.model.specs.lists.Setting.{Setting}
+use Rattle.model.specs.lists.TermTable.{decl_trees, rule_trees, IsDefined, AllDefined, IsValidTerms, term_names_met}
+use Rattle.model.specs.lists.Elaborated.{TypedRules, named_rules, rule_names}
+use Rattle.model.specs.claims.Environments.{TypesRead, setting_of}
 use Rattle.isle_types.specs.declared.type_env.TypeEnv.{TypeEnv}
 use Rattle.isle_types.specs.Envs.{names_of}
 use Rattle.isle_terms.specs.TermBreaches.{BreaksTerms}

@@ -2,13 +2,13 @@
 -- on expansions, and then one of them does.
 use Rattle.std.specs.Prelude.{◌≡◌, ℕ, List, [], ◌∷◌, ◌++◌, Option, None, All, Contains}
 use Rattle.isle_base.specs.declared.syntax.Error.{Error}
-use Rattle.isle_model.specs.lists.Syntax.{Position, RuleTree, Definition, rule_definition}
-use Rattle.isle_model.specs.lists.Names.{IsDistinct}
-use Rattle.isle_model.specs.rules.Typed.{TypedRule}
-use Rattle.isle_model.specs.lists.Setting.{Setting}
-use Rattle.isle_model.specs.lists.Typings.{Typing}
-use Rattle.isle_model.specs.lists.Elaborated.{few_enough, most_nested}
-use Rattle.isle_model.specs.claims.Refusals.{of_rule, of_nesting, of_expansions, Refusal, ill_typed, past_limit}
+use Rattle.model.specs.lists.Syntax.{Position, RuleTree, Definition, rule_definition}
+use Rattle.model.specs.lists.Names.{IsDistinct}
+use Rattle.model.specs.rules.Typed.{TypedRule}
+use Rattle.model.specs.lists.Setting.{Setting}
+use Rattle.model.specs.lists.Typings.{Typing}
+use Rattle.model.specs.lists.Elaborated.{few_enough, most_nested}
+use Rattle.model.specs.claims.Refusals.{of_rule, of_nesting, of_expansions, Refusal, ill_typed, past_limit}
 use Rattle.isle_types.specs.declared.type_env.TypeEnv.{TypeEnv}
 use Rattle.isle_types.specs.Envs.{names_of}
 use Rattle.isle_base.specs.ErrorViews.{error_view}

@@ -7,13 +7,13 @@ use Rattle.isle_base.specs.declared.syntax.Limit.TheVariants.{Nesting, Expansion
 use Rattle.isle_base.specs.declared.syntax.Pos.{Pos}
 use Rattle.isle_base.specs.declared.syntax.Rule as T
 use Rattle.isle_base.specs.SyntaxViews.{position, rule_view}
-use Rattle.isle_model.specs.lists.Syntax.{RuleTree, Definition, rule_definition}
-use Rattle.isle_model.specs.rules.Outcome.{then_option}
-use Rattle.isle_model.specs.rules.Typed.{TypedRule}
-use Rattle.isle_model.specs.lists.Setting.{Setting, new_scope}
-use Rattle.isle_model.specs.lists.Typings.{Typing}
-use Rattle.isle_model.specs.lists.Elaborated.{few_enough, most_nested, TypedRules, with_typed}
-use Rattle.isle_model.specs.claims.Refusals.{past_limit}
+use Rattle.model.specs.lists.Syntax.{RuleTree, Definition, rule_definition}
+use Rattle.model.specs.rules.Outcome.{then_option}
+use Rattle.model.specs.rules.Typed.{TypedRule}
+use Rattle.model.specs.lists.Setting.{Setting, new_scope}
+use Rattle.model.specs.lists.Typings.{Typing}
+use Rattle.model.specs.lists.Elaborated.{few_enough, most_nested, TypedRules, with_typed}
+use Rattle.model.specs.claims.Refusals.{past_limit}
 use Rattle.isle_types.specs.declared.type_env.TypeEnv.{TypeEnv}
 use Rattle.isle_types.specs.Envs.{names_of}
 use Rattle.isle_base.specs.NotedErrors.{NotesMore, MayNoteMore}

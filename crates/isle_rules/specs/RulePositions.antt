@@ -2,9 +2,9 @@
 -- terms, which take the place of their uses.
 use Rattle.std.specs.Prelude.{◌≡◌, Bool, List, [], ◌++◌, Option, Some, None, Result, Ok, Err, ⊤, if◌then◌else◌}
 use Rattle.std.specs.List.{flat_map}
-use Rattle.isle_model.specs.lists.Syntax.{Position, PatternTree}
-use Rattle.isle_model.specs.lists.Tables.{TermEntry}
-use Rattle.isle_model.specs.lists.Setting.{kind_template}
+use Rattle.model.specs.lists.Syntax.{Position, PatternTree}
+use Rattle.model.specs.lists.Tables.{TermEntry}
+use Rattle.model.specs.lists.Setting.{kind_template}
 use Rattle.isle_base.specs.declared.syntax.Error.{Error}
 use Rattle.isle_base.specs.Positions.{NotesAt, OccurAmong, pattern_positions, expr_positions}
 use Rattle.isle_base.specs.SyntaxViews.{position, pattern_view, expr_view}

@@ -1,14 +1,14 @@
 -- How if-lets and the sides of rules are read: patterns as the function of typing reads them, expressions as if each term
 -- had a constructor.
 use Rattle.std.specs.Prelude.{ℕ, List, [], ◌∷◌, map, Option, Some, None, if◌then◌else◌}
-use Rattle.isle_model.specs.lists.Syntax.{IfLetTree, RuleTree}
-use Rattle.isle_model.specs.lists.Tables.{Flags, TermEntry}
-use Rattle.isle_model.specs.rules.Typed.{TypedIfLet, TypedExpr, TypedRule}
-use Rattle.isle_model.specs.lists.Setting.{Setting, Scope, expr_type, on_lhs, term_of, declared_flags}
-use Rattle.isle_model.specs.lists.Typings.{Typing, plain, followed}
-use Rattle.isle_model.specs.lists.Elaborated.{typed_iflet, root_parts, Sides, sides_of, last_sides, finished_rule, may_have_priority}
-use Rattle.isle_model.specs.lists.TermTable.{root_name}
-use Rattle.isle_model.specs.rules.Outcome.{then_option}
+use Rattle.model.specs.lists.Syntax.{IfLetTree, RuleTree}
+use Rattle.model.specs.lists.Tables.{Flags, TermEntry}
+use Rattle.model.specs.rules.Typed.{TypedIfLet, TypedExpr, TypedRule}
+use Rattle.model.specs.lists.Setting.{Setting, Scope, expr_type, on_lhs, term_of, declared_flags}
+use Rattle.model.specs.lists.Typings.{Typing, plain, followed}
+use Rattle.model.specs.lists.Elaborated.{typed_iflet, root_parts, Sides, sides_of, last_sides, finished_rule, may_have_priority}
+use Rattle.model.specs.lists.TermTable.{root_name}
+use Rattle.model.specs.rules.Outcome.{then_option}
 use Rattle.isle_typed.specs.declared.rules.BoundVar.{BoundVar}
 use Rattle.isle_rules.specs.declared.typing.sides.RuleSides.{RuleSides}
 use Rattle.isle_rules.specs.ExprReadings.{expr_reading}

@@ -1,10 +1,10 @@
 -- What reading all rules of a list gives, by the tables of its terms.
 use Rattle.std.specs.Prelude.{◌≡◌, ◌≢◌, ◌⊎◌, ℕ, List, []}
 use Rattle.isle_base.specs.declared.syntax.Error.{Error}
-use Rattle.isle_model.specs.lists.Syntax.{Definition}
-use Rattle.isle_model.specs.lists.TermTable.{rule_trees}
-use Rattle.isle_model.specs.lists.Setting.{Setting}
-use Rattle.isle_model.specs.lists.Elaborated.{TypedRules, RulesElaborate, rule_named}
+use Rattle.model.specs.lists.Syntax.{Definition}
+use Rattle.model.specs.lists.TermTable.{rule_trees}
+use Rattle.model.specs.lists.Setting.{Setting}
+use Rattle.model.specs.lists.Elaborated.{TypedRules, RulesElaborate, rule_named}
 use Rattle.isle_types.specs.declared.type_env.TypeEnv.{TypeEnv}
 use Rattle.isle_types.specs.Envs.{names_of}
 use Rattle.isle_rules.specs.declared.term_env.TermEnv.{TermEnv}

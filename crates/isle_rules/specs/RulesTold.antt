@@ -6,14 +6,14 @@ use Rattle.isle_base.specs.declared.syntax.Error.{Error}
 use Rattle.isle_base.specs.ErrorViews.{error_view}
 use Rattle.isle_base.specs.NotedErrors.{AreIllTyped}
 use Rattle.isle_base.specs.Positions.{ErrorStandsAt, rule_positions}
-use Rattle.isle_model.specs.lists.Syntax.{Position, RuleTree, Definition}
-use Rattle.isle_model.specs.lists.Names.{IsDistinct}
-use Rattle.isle_model.specs.lists.TermTable.{rule_trees, IsValidTerms, term_names_met}
-use Rattle.isle_model.specs.lists.Setting.{Setting}
-use Rattle.isle_model.specs.lists.Typings.{Typing}
-use Rattle.isle_model.specs.rules.Typed.{TypedRule}
-use Rattle.isle_model.specs.claims.Environments.{TypesRead, setting_of}
-use Rattle.isle_model.specs.claims.Refusals.{NamedLimit, past_limit}
+use Rattle.model.specs.lists.Syntax.{Position, RuleTree, Definition}
+use Rattle.model.specs.lists.Names.{IsDistinct}
+use Rattle.model.specs.lists.TermTable.{rule_trees, IsValidTerms, term_names_met}
+use Rattle.model.specs.lists.Setting.{Setting}
+use Rattle.model.specs.lists.Typings.{Typing}
+use Rattle.model.specs.rules.Typed.{TypedRule}
+use Rattle.model.specs.claims.Environments.{TypesRead, setting_of}
+use Rattle.model.specs.claims.Refusals.{NamedLimit, past_limit}
 use Rattle.isle_terms.specs.TermErrors.{AreErrorsOfTerms}
 use Rattle.isle_types.specs.declared.type_env.TypeEnv.{TypeEnv}
 use Rattle.isle_types.specs.Envs.{names_of}

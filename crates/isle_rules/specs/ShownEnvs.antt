@@ -1,5 +1,5 @@
 -- What a term environment shows to whom it is handed.
-use Rattle.isle_model.specs.claims.Environments.{TermsShown, TermEnvironment}
+use Rattle.model.specs.claims.Environments.{TermsShown, TermEnvironment}
 use Rattle.isle_terms.specs.TermViews.{term_views}
 use Rattle.isle_rules.specs.declared.term_env.TermEnv.{TermEnv}
 use Rattle.isle_typed.specs.RuleViews.{rule_views}

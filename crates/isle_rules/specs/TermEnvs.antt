@@ -3,7 +3,7 @@ use Rattle.std.specs.Prelude.{ℕ, Option, option_map}
 use Rattle.isle_base.specs.Stable.{look_up}
 use Rattle.isle_types.specs.declared.type_env.TypeEnv.{TypeEnv}
 use Rattle.isle_types.specs.Envs.{same_symbol, symbol}
-use Rattle.isle_model.specs.claims.Questions.{term_of_variant}
+use Rattle.model.specs.claims.Questions.{term_of_variant}
 use Rattle.isle_types.specs.TypeViews.{type_views}
 use Rattle.isle_rules.specs.declared.term_env.TermEnv.{TermEnv}
 

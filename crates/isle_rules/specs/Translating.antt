@@ -4,15 +4,15 @@ use Rattle.std.specs.Prelude.{◌≡◌, ℕ, zero, suc, ◌+◌, ◌<◌, ◌�
 use Rattle.std.specs.Bool.{◌==◌}
 use Rattle.std.specs.List.{position_from}
 use Rattle.isle_base.specs.Stable.{look_up}
-use Rattle.isle_model.specs.rules.Meaning.{look}
-use Rattle.isle_model.specs.rules.Outcome.{then_option}
-use Rattle.isle_model.specs.rules.Typed.{TypedVar}
-use Rattle.isle_model.specs.lists.Syntax.{PatternTree}
-use Rattle.isle_model.specs.lists.Tables.{TermEntry}
-use Rattle.isle_model.specs.lists.Expansions.{substituted}
-use Rattle.isle_model.specs.lists.Setting.{Setting, Scope, var_named, entry_named, kind_template}
-use Rattle.isle_model.specs.lists.Typings.{Typing, counted}
-use Rattle.isle_model.specs.lists.Elaborated.{most_expansions}
+use Rattle.model.specs.rules.Meaning.{look}
+use Rattle.model.specs.rules.Outcome.{then_option}
+use Rattle.model.specs.rules.Typed.{TypedVar}
+use Rattle.model.specs.lists.Syntax.{PatternTree}
+use Rattle.model.specs.lists.Tables.{TermEntry}
+use Rattle.model.specs.lists.Expansions.{substituted}
+use Rattle.model.specs.lists.Setting.{Setting, Scope, var_named, entry_named, kind_template}
+use Rattle.model.specs.lists.Typings.{Typing, counted}
+use Rattle.model.specs.lists.Elaborated.{most_expansions}
 use Rattle.isle_types.specs.declared.type_env.TypeEnv.{TypeEnv}
 use Rattle.isle_types.specs.Envs.{names_of, type_at, constant_at, IsInterned}
 use Rattle.isle_types.specs.TypeViews.{type_views}

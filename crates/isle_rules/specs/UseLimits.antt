@@ -1,8 +1,8 @@
 -- Which limit the use of a name comes to, by what it stands for.
 use Rattle.std.specs.Prelude.{ℕ, Bool, Option, None, Result, Ok, Err}
 use Rattle.isle_base.specs.SyntaxViews as S
-use Rattle.isle_model.specs.lists.Syntax.{PatternTree, PatternTrees, ExprTree, ExprTrees}
-use Rattle.isle_model.specs.lists.Tables.{Flags}
+use Rattle.model.specs.lists.Syntax.{PatternTree, PatternTrees, ExprTree, ExprTrees}
+use Rattle.model.specs.lists.Tables.{Flags}
 use Rattle.isle_terms.specs.TermViews.{term_view}
 use Rattle.isle_rules.specs.declared.term_env.TermEnv.{TermEnv}
 use Rattle.isle_rules.specs.declared.typing.progress.Stop.{Stop}

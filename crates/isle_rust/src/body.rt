@@ -10,7 +10,7 @@ use cranelift_isle::sema::{ExternalSig, ReturnKind};
 use cranelift_isle::serialize::{Block, ControlFlow, EvalStep, MatchArm};
 use cranelift_isle::syntax::Pos;
 use cranelift_isle::trie_again::{Binding, BindingId};
-use isle_reading::in_place::is_in_place;
+use isle_queries::in_place::is_in_place;
 use std::alloc::AllocError;
 
 /// Adds the function of a term.

@@ -7,7 +7,7 @@ use cranelift_isle::sema::{
     TermKind, Type, TypeId, VariantId,
 };
 use cranelift_isle::trie_again::{Binding, BindingId, TupleIndex};
-use isle_reading::names::variant_of;
+use isle_queries::names::variant_of;
 use std::alloc::AllocError;
 
 /// The sites of a term's tree in a program.

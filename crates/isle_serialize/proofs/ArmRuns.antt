@@ -10,14 +10,14 @@ use Rattle.std.proofs.lemmas.List.Elements.{filter_agree, filter_more, Contains-
 use Rattle.std.proofs.lemmas.List.Sorted.{sorted_far, Contains-permutation, IsPermutation-map, IsPermutation-sym}
 use Rattle.std.proofs.lemmas.List.Sums.{take_while-cons}
 use Rattle.std.proofs.lemmas.Option.{none-some, same_Some}
-use Rattle.isle_model.specs.sites.Sites.{Constraint, SetRule}
-use Rattle.isle_model.specs.trees.Judge.{is_that}
-use Rattle.isle_model.specs.trees.Sound.{comes_before}
-use Rattle.isle_model.proofs.Members.{in_head, in_tail, in_cases, from_map, in_alone, in_map}
-use Rattle.isle_laws_closure.proofs.overlaps.Overlaps.{bool_same}
-use Rattle.isle_laws_runs.proofs.runs.Order.{before_chain, before_itself}
-use Rattle.isle_laws_trees.proofs.Constraints.{that_exact}
-use Rattle.isle_laws_trees.proofs.ConstraintsTotal.{before_total}
+use Rattle.model.specs.sites.Sites.{Constraint, SetRule}
+use Rattle.model.specs.trees.Judge.{is_that}
+use Rattle.model.specs.trees.Sound.{comes_before}
+use Rattle.model.proofs.Members.{in_head, in_tail, in_cases, from_map, in_alone, in_map}
+use Rattle.laws_closure.proofs.overlaps.Overlaps.{bool_same}
+use Rattle.laws_runs.proofs.runs.Order.{before_chain, before_itself}
+use Rattle.laws_trees.proofs.Constraints.{that_exact}
+use Rattle.laws_trees.proofs.ConstraintsTotal.{before_total}
 use Rattle.isle_serialize.specs.declared.arms.Asked.{Asked}
 use Rattle.isle_serialize.specs.Turns.{asked_at, asks, asks_some, asked_constraint, asks_that, asked_numbers, AreAsked, is_ahead, Ascend, AreTurns, AreInTurn, IsLeastAsked}
 use Rattle.isle_serialize.proofs.Descents.{none_kept}

@@ -4,18 +4,18 @@ use Rattle.std.proofs.lemmas.Bool.{false≢true}
 use Rattle.std.specs.Prelude.{IsPermutation}
 use Rattle.std.proofs.lemmas.List.{length-drop, length-map}
 use Rattle.std.proofs.lemmas.List.Sorted.{IsPermutation-trans}
-use Rattle.isle_model.specs.sites.Sites.{Constraint, SetRule, SiteSet}
-use Rattle.isle_model.specs.trees.Trees.{Tree, Arms, no_arm, arm, marks_arms}
-use Rattle.isle_model.specs.trees.Best.{descend}
-use Rattle.isle_model.specs.trees.Places as Places
-use Rattle.isle_model.specs.trees.Places.{constraint_at, in_arm}
-use Rattle.isle_model.specs.trees.Sound.{IsAfter}
-use Rattle.isle_model.specs.trees.Tests.{match_test, is_needed}
-use Rattle.isle_model.proofs.Members.{nothing_in, in_filter, from_filter}
-use Rattle.isle_laws_trees.proofs.Constraints.{that_exact}
-use Rattle.isle_laws_trees.proofs.Covers.{descend_rest}
-use Rattle.isle_laws_trees.proofs.ConstraintsTotal.{before_total}
-use Rattle.isle_sets.specs.SiteViews.{constraint_view}
+use Rattle.model.specs.sites.Sites.{Constraint, SetRule, SiteSet}
+use Rattle.model.specs.trees.Trees.{Tree, Arms, no_arm, arm, marks_arms}
+use Rattle.model.specs.trees.Best.{descend}
+use Rattle.model.specs.trees.Places as Places
+use Rattle.model.specs.trees.Places.{constraint_at, in_arm}
+use Rattle.model.specs.trees.Sound.{IsAfter}
+use Rattle.model.specs.trees.Tests.{match_test, is_needed}
+use Rattle.model.proofs.Members.{nothing_in, in_filter, from_filter}
+use Rattle.laws_trees.proofs.Constraints.{that_exact}
+use Rattle.laws_trees.proofs.Covers.{descend_rest}
+use Rattle.laws_trees.proofs.ConstraintsTotal.{before_total}
+use Rattle.isle_rule_sets.specs.SiteViews.{constraint_view}
 use Rattle.isle_serialize.specs.declared.around.Around.{Around}
 use Rattle.isle_serialize.specs.declared.arms.NextArm.{NextArm}
 use Rattle.isle_serialize.specs.declared.serialize.MatchArm.{MatchArm}

@@ -1,8 +1,8 @@
 -- The names of classes: one more pair that is joined.
 use Rattle.std.proofs.Common.{◌≡◌, ℕ, suc, ◌≤◌, ◌==◌, Bool, true, false, if◌then◌else◌, List, [], ◌∷◌, map, length, get_or, ◌||◌, ◌⊎◌, drop, Contains, refl, sym, ap, ◌∙◌, inl, inr, arith, drop-cons, drop_of_length-le, eqb-true, eq-eqb}
 use Rattle.std.proofs.lemmas.Bool.{cases_Bool, cond-true, cond-false, or_left, or_right, false≢true}
-use Rattle.isle_model.specs.trees.Places.{class, is_in}
-use Rattle.isle_model.proofs.Members.{in_head, in_tail, in_flat_map, member_is_in}
+use Rattle.model.specs.trees.Places.{class, is_in}
+use Rattle.model.proofs.Members.{in_head, in_tail, in_flat_map, member_is_in}
 use Rattle.isle_serialize.specs.AroundViews.{sites_of_pairs, class_name_in, IsNaming}
 
 -- 1. look-ups

@@ -2,9 +2,9 @@
 use Rattle.std.proofs.Common.{◌≡◌, ℕ, zero, suc, ◌<◌, Bool, true, nat_lt, List, [], ◌∷◌, ◌++◌, Contains, filter, refl, ap, ◌∙◌, subst, inl, inr, arith, ltb-true, lt-ltb}
 use Rattle.std.proofs.lemmas.Bool.{cases_Bool, cond-true, cond-false, and_parts, and_from}
 use Rattle.std.proofs.lemmas.List.Elements.{Contains-append_cases}
-use Rattle.isle_model.specs.trees.Tests.{up_to}
-use Rattle.isle_model.proofs.Members.{nothing_in, in_head, in_tail, in_cases, in_alone, from_filter, from_up_to}
-use Rattle.isle_sets.specs.Listings.{is_below_first, ascends}
+use Rattle.model.specs.trees.Tests.{up_to}
+use Rattle.model.proofs.Members.{nothing_in, in_head, in_tail, in_cases, in_alone, from_filter, from_up_to}
+use Rattle.isle_rule_sets.specs.Listings.{is_below_first, ascends}
 
 -- each is below all behind it
 pub ascends_head : (x : ℕ) (xs : List ℕ) → ascends (x ∷ xs) ≡ true → (y : ℕ) → Contains xs y → x < y

@@ -5,9 +5,9 @@ use Rattle.std.proofs.lemmas.Bool.{cases_Bool, cond-false, or_left, or_right}
 use Rattle.std.proofs.lemmas.List.{take_more}
 use Rattle.std.proofs.lemmas.List.Folds.{list_all-append}
 use Rattle.isle_serialize.specs.declared.small_set.SmallSet.{SmallSet}
-use Rattle.isle_model.specs.sites.Sites.{Site, sources_at}
-use Rattle.isle_model.specs.trees.Places.{Around, available, is_in, waits, is_available}
-use Rattle.isle_model.proofs.Members.{nothing_in, in_head, in_tail, in_cases}
+use Rattle.model.specs.sites.Sites.{Site, sources_at}
+use Rattle.model.specs.trees.Places.{Around, available, is_in, waits, is_available}
+use Rattle.model.proofs.Members.{nothing_in, in_head, in_tail, in_cases}
 use Rattle.isle_serialize.specs.AroundViews.{has, AreAtHand}
 
 module _ (sites : List Site) (sources : (s a : ℕ) → Contains (sources_at sites s) a → a < s) (brought : List ℕ) where

@@ -3,14 +3,14 @@ use Rattle.std.proofs.Common.{◌≡◌, ℕ, Bool, true, false, not, ◌&&◌, 
 use Rattle.std.specs.List.{filter, find, list_all, list_any, prefix_len}
 use Rattle.std.proofs.lemmas.Bool.{cases_Bool, cond-true, cond-false, and_parts, and_from, false≢true, or_cases, or_right}
 use Rattle.std.proofs.Math.Bool.{and-true, and-false}
-use Rattle.isle_model.specs.sites.Sites.{SetRule}
-use Rattle.isle_model.specs.trees.Best.{descend}
-use Rattle.isle_model.specs.trees.Tests.{Test, needs_at, is_lower, is_covered, cover}
-use Rattle.isle_model.proofs.Members.{in_head, in_tail, in_filter, each_passes, all_pass, passes_any}
-use Rattle.isle_laws_trees.proofs.Covers.{prio_at, not_lower_at_least, at_least_not_lower, first_is_top, descend_rest}
-use Rattle.isle_laws_trees.proofs.JudgeExactness.{not_exact}
-use Rattle.isle_laws_runs.proofs.runs.ChosenRules.{through}
-use Rattle.isle_laws_closure.proofs.overlaps.Overlaps.{bool_same}
+use Rattle.model.specs.sites.Sites.{SetRule}
+use Rattle.model.specs.trees.Best.{descend}
+use Rattle.model.specs.trees.Tests.{Test, needs_at, is_lower, is_covered, cover}
+use Rattle.model.proofs.Members.{in_head, in_tail, in_filter, each_passes, all_pass, passes_any}
+use Rattle.laws_trees.proofs.Covers.{prio_at, not_lower_at_least, at_least_not_lower, first_is_top, descend_rest}
+use Rattle.laws_trees.proofs.JudgeExactness.{not_exact}
+use Rattle.laws_runs.proofs.runs.ChosenRules.{through}
+use Rattle.laws_closure.proofs.overlaps.Overlaps.{bool_same}
 use Rattle.isle_serialize.specs.Bars.{reaches, is_at_bar, IsBar}
 use Rattle.isle_serialize.proofs.Descents.{none_kept, itself, reaching_first}
 use Rattle.isle_serialize.proofs.TestSteps.{kept_alike}

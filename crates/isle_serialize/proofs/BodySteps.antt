@@ -2,12 +2,12 @@
 use Rattle.std.proofs.Common.{◌≡◌, ◌==◌, ◌||◌, ℕ, not, List, [], ◌∷◌, ◌++◌, Option, Some, slice_get, flat_map, filter, refl, sym, ap, ◌∙◌, subst, inl, inr, eqb-true}
 use Rattle.std.proofs.lemmas.Bool.{cases_Bool, cond-true, cond-false, or_cases, or_right}
 use Rattle.std.proofs.lemmas.List.{append_assoc, append-nil}
-use Rattle.isle_model.specs.sites.Sites.{iterator_site, Constraint, SiteSet, sources_at}
-use Rattle.isle_model.specs.trees.Trees.{m_loop, m_no_step}
-use Rattle.isle_model.specs.trees.Places as Places
-use Rattle.isle_model.specs.trees.Places.{is_in, all_below, field_sites, in_arm, in_equal, in_loop, after_step}
-use Rattle.isle_laws_trees.proofs.Passing.{sources_there}
-use Rattle.isle_laws_closure.proofs.overlaps.Overlaps.{bool_same}
+use Rattle.model.specs.sites.Sites.{iterator_site, Constraint, SiteSet, sources_at}
+use Rattle.model.specs.trees.Trees.{m_loop, m_no_step}
+use Rattle.model.specs.trees.Places as Places
+use Rattle.model.specs.trees.Places.{is_in, all_below, field_sites, in_arm, in_equal, in_loop, after_step}
+use Rattle.laws_trees.proofs.Passing.{sources_there}
+use Rattle.laws_closure.proofs.overlaps.Overlaps.{bool_same}
 use Rattle.isle_serialize.specs.declared.around.Around.{Around}
 use Rattle.isle_serialize.specs.AroundViews.{around_view, IsInside, after_uses, AreEmitted, where_emitted, where_joined, brings, arm_around, loop_around}
 use Rattle.isle_serialize.proofs.EqualSurroundings.{Alike}

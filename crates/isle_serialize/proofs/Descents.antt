@@ -4,12 +4,12 @@ use Rattle.std.specs.List.{list_all, take_while}
 use Rattle.std.proofs.lemmas.Bool.{cases_Bool, cond-true, cond-false, and_parts, and_from, false≢true}
 use Rattle.std.proofs.lemmas.Int.{ints}
 use Rattle.std.proofs.lemmas.List.Sums.{take_while-cons}
-use Rattle.isle_model.specs.sites.Sites.{SetRule}
-use Rattle.isle_model.specs.trees.Tests.{is_lower}
-use Rattle.isle_model.specs.trees.Best.{comes_first, descend}
-use Rattle.isle_model.proofs.Members.{in_head, in_tail, from_filter, each_passes, all_pass}
-use Rattle.isle_laws_runs.proofs.runs.ChosenRules.{through}
-use Rattle.isle_laws_trees.proofs.Covers.{prio_at, not_lower_at_least, at_least_not_lower, first_is_top, descend_rest}
+use Rattle.model.specs.sites.Sites.{SetRule}
+use Rattle.model.specs.trees.Tests.{is_lower}
+use Rattle.model.specs.trees.Best.{comes_first, descend}
+use Rattle.model.proofs.Members.{in_head, in_tail, from_filter, each_passes, all_pass}
+use Rattle.laws_runs.proofs.runs.ChosenRules.{through}
+use Rattle.laws_trees.proofs.Covers.{prio_at, not_lower_at_least, at_least_not_lower, first_is_top, descend_rest}
 use Rattle.isle_serialize.specs.Bars.{reaches}
 
 pub none_kept : {X : Type 0} (p : X → Bool) (xs : List X) → ((x : X) → Contains xs x → p x ≡ false) → filter p xs ≡ []

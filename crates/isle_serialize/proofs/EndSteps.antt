@@ -7,16 +7,16 @@ use Rattle.std.proofs.lemmas.Bool.{cases_Bool, cond-true, and_parts, and_from, o
 use Rattle.std.proofs.lemmas.Bool.Decides.{Decides-int_eq}
 use Rattle.std.proofs.lemmas.Int.{ints}
 use Rattle.std.proofs.lemmas.List.Sorted.{ranks_by, IsStrictWeakOrder-flip, sorted_far, IsPermutation-refl}
-use Rattle.isle_laws_runs.proofs.runs.ChosenRules.{one_number}
-use Rattle.isle_model.specs.sites.Sites.{SetRule, SiteSet}
-use Rattle.isle_model.specs.trees.Trees.{Tree, no_step, step, join, return_of, m_return}
-use Rattle.isle_model.specs.trees.Places as Places
-use Rattle.isle_model.specs.trees.Places.{return_uses, bind_order, after_step}
-use Rattle.isle_model.specs.trees.Tests.{is_lower}
-use Rattle.isle_model.specs.trees.Best.{comes_first, descend}
-use Rattle.isle_model.proofs.Members.{nothing_in, in_filter, each_passes, all_pass}
-use Rattle.isle_laws_trees.proofs.Covers.{prio_at, not_lower_at_least, at_least_not_lower, descend_rest}
-use Rattle.isle_sets.specs.Listings.{ascends}
+use Rattle.laws_runs.proofs.runs.ChosenRules.{one_number}
+use Rattle.model.specs.sites.Sites.{SetRule, SiteSet}
+use Rattle.model.specs.trees.Trees.{Tree, no_step, step, join, return_of, m_return}
+use Rattle.model.specs.trees.Places as Places
+use Rattle.model.specs.trees.Places.{return_uses, bind_order, after_step}
+use Rattle.model.specs.trees.Tests.{is_lower}
+use Rattle.model.specs.trees.Best.{comes_first, descend}
+use Rattle.model.proofs.Members.{nothing_in, in_filter, each_passes, all_pass}
+use Rattle.laws_trees.proofs.Covers.{prio_at, not_lower_at_least, at_least_not_lower, descend_rest}
+use Rattle.isle_rule_sets.specs.Listings.{ascends}
 use Rattle.isle_serialize.specs.declared.around.Around.{Around}
 use Rattle.isle_serialize.specs.declared.serialize.EvalStep.{EvalStep}
 use Rattle.isle_serialize.specs.AroundViews.{around_view, IsInside, after_uses}

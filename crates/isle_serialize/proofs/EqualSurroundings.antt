@@ -1,12 +1,12 @@
 -- Of what stands around a place only this is asked: the sources of the arms and loops, the joined pairs, what was brought, and
 -- which sites are emitted. Where two places agree in that, a tree is best at one exactly where it is at the other.
 use Rattle.std.proofs.Common.{◌≡◌, ℕ, zero, suc, Bool, true, false, not, ◌&&◌, ◌||◌, ◌==◌, nat_lt, cond, List, [], ◌∷◌, ◌++◌, length, map, Option, Some, None, slice_get, refl, sym, ap, ◌∙◌, filter, flat_map}
-use Rattle.isle_model.specs.sites.Sites.{Site, Constraint, SiteSet, sources_at}
-use Rattle.isle_model.specs.trees.Trees.{Marked, m_no_step, m_step, MarkedCheck, m_match, m_equal, m_loop, m_return, MarkedArms, m_no_arm, m_arm, marks, marks_arms}
-use Rattle.isle_model.specs.trees.Places.{Around, is_in, joins, available, is_in_place, each_after, listed_below, bind_order, uses, field_sites, in_arm, in_equal, in_loop, after_step, all_below, emits}
-use Rattle.isle_model.specs.trees.Sound.{as_number, is_return}
-use Rattle.isle_model.specs.trees.Tests.{Test, match_test, equal_test, loop_test, cover, sources_around, is_open, score, is_greater}
-use Rattle.isle_model.specs.trees.Best.{IsGreatest, IsMade, IsEnd, BestSteps, BestCheck, BestArms}
+use Rattle.model.specs.sites.Sites.{Site, Constraint, SiteSet, sources_at}
+use Rattle.model.specs.trees.Trees.{Marked, m_no_step, m_step, MarkedCheck, m_match, m_equal, m_loop, m_return, MarkedArms, m_no_arm, m_arm, marks, marks_arms}
+use Rattle.model.specs.trees.Places.{Around, is_in, joins, available, is_in_place, each_after, listed_below, bind_order, uses, field_sites, in_arm, in_equal, in_loop, after_step, all_below, emits}
+use Rattle.model.specs.trees.Sound.{as_number, is_return}
+use Rattle.model.specs.trees.Tests.{Test, match_test, equal_test, loop_test, cover, sources_around, is_open, score, is_greater}
+use Rattle.model.specs.trees.Best.{IsGreatest, IsMade, IsEnd, BestSteps, BestCheck, BestArms}
 use Rattle.isle_serialize.proofs.Tables.{is_in_append}
 
 -- what is around two places that agree

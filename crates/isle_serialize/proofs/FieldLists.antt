@@ -9,12 +9,12 @@ use Rattle.std.proofs.lemmas.List.{append-nil, length-map, map-set, get_or-map, 
 use Rattle.std.proofs.lemmas.List.Elements.{filter-append}
 use Rattle.std.proofs.lemmas.List.Folds.{find-append}
 use Rattle.std.proofs.lemmas.Option.{none-some, same_Some, slice_get-map, slice_get-get_or}
-use Rattle.isle_model.specs.sites.Sites.{Site, iterator_site, match_variant_site, extract_struct_site, match_some_site, Constraint, is_variant, is_struct, is_present, sources_at, sources_of}
-use Rattle.isle_model.specs.trees.Places.{site_from}
-use Rattle.isle_model.specs.trees.Tests.{up_to}
-use Rattle.isle_model.proofs.Members.{in_head}
-use Rattle.isle_sets.specs.declared.trie_again.Binding.{Binding}
-use Rattle.isle_sets.specs.SiteViews.{site_view, site_views}
+use Rattle.model.specs.sites.Sites.{Site, iterator_site, match_variant_site, extract_struct_site, match_some_site, Constraint, is_variant, is_struct, is_present, sources_at, sources_of}
+use Rattle.model.specs.trees.Places.{site_from}
+use Rattle.model.specs.trees.Tests.{up_to}
+use Rattle.model.proofs.Members.{in_head}
+use Rattle.isle_rule_sets.specs.declared.trie_again.Binding.{Binding}
+use Rattle.isle_rule_sets.specs.SiteViews.{site_view, site_views}
 use Rattle.isle_serialize.specs.FieldTests.{is_field, is_iterator_of, passes_at, brought_from, is_brought_from, brought_by, list_at}
 
 -- 1. a search of a part that all hits are in

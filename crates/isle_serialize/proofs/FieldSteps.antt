@@ -3,10 +3,10 @@ use Rattle.std.proofs.Common.{◌≡◌, ℕ, zero, suc, ◌+◌, Bool, true, fa
 use Rattle.std.specs.List.{list_any}
 use Rattle.std.proofs.lemmas.Bool.{cases_Bool, cond-true, cond-false, false≢true}
 use Rattle.std.proofs.lemmas.Option.{none-some, same_Some}
-use Rattle.isle_model.specs.sites.Sites.{Site, iterator_site, Constraint, is_variant, is_struct, is_bool, is_int, is_prim, is_present}
-use Rattle.isle_model.specs.trees.Places.{site_from, each_field, fields_of, is_variant_field, is_struct_field}
-use Rattle.isle_model.specs.trees.Tests.{up_to}
-use Rattle.isle_model.proofs.Members.{member_from_get, passes_any}
+use Rattle.model.specs.sites.Sites.{Site, iterator_site, Constraint, is_variant, is_struct, is_bool, is_int, is_prim, is_present}
+use Rattle.model.specs.trees.Places.{site_from, each_field, fields_of, is_variant_field, is_struct_field}
+use Rattle.model.specs.trees.Tests.{up_to}
+use Rattle.model.proofs.Members.{member_from_get, passes_any}
 use Rattle.isle_serialize.specs.FieldTests.{is_field, field_count, is_iterator_of, HasIterator, IsIteratorOf}
 use Rattle.isle_serialize.proofs.Tables.{table_more}
 

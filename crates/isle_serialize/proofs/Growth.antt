@@ -7,14 +7,14 @@ use Rattle.std.proofs.lemmas.List.Elements.{filter-append}
 use Rattle.std.proofs.lemmas.List.Sums.{length-filter}
 use Rattle.std.proofs.lemmas.List.Sorted.{IsPermutation-refl, IsPermutation-sym, IsPermutation-cons, IsPermutation-trans, IsPermutation-append, IsPermutation-filter_both, Contains-permutation, sum_by-IsPermutation, length_permutation}
 use Rattle.std.proofs.lemmas.List.{nil_from_length, append-nil}
-use Rattle.isle_model.specs.sites.Sites.{iterator_site, Constraint, SetRule, SiteSet, sources_at}
-use Rattle.isle_model.specs.trees.Trees.{Tree, no_step, step, match_at, equal_at, loop_at, return_of, Arms, no_arm, arm, Marked, m_no_step, m_step, m_match, m_equal, m_loop, m_return, m_no_arm, m_arm, marks, marks_arms}
-use Rattle.isle_model.specs.trees.Places.{Around, return_uses, bind_order, fields_of, constraint_at, in_arm, in_equal, in_loop, after_step}
-use Rattle.isle_model.specs.trees.Sound.{IsAfter}
-use Rattle.isle_model.specs.trees.Tests.{Test, match_test, equal_test, loop_test, needs_at, is_lower, is_covered, cover, IsOpen, score, is_greater}
-use Rattle.isle_model.specs.trees.Best.{IsGreatest, IsMade, comes_first, descend, BestSteps}
-use Rattle.isle_model.proofs.Members.{in_head, in_tail, each_passes, all_pass, from_filter}
-use Rattle.isle_laws_closure.proofs.overlaps.Overlaps.{bool_same}
+use Rattle.model.specs.sites.Sites.{iterator_site, Constraint, SetRule, SiteSet, sources_at}
+use Rattle.model.specs.trees.Trees.{Tree, no_step, step, match_at, equal_at, loop_at, return_of, Arms, no_arm, arm, Marked, m_no_step, m_step, m_match, m_equal, m_loop, m_return, m_no_arm, m_arm, marks, marks_arms}
+use Rattle.model.specs.trees.Places.{Around, return_uses, bind_order, fields_of, constraint_at, in_arm, in_equal, in_loop, after_step}
+use Rattle.model.specs.trees.Sound.{IsAfter}
+use Rattle.model.specs.trees.Tests.{Test, match_test, equal_test, loop_test, needs_at, is_lower, is_covered, cover, IsOpen, score, is_greater}
+use Rattle.model.specs.trees.Best.{IsGreatest, IsMade, comes_first, descend, BestSteps}
+use Rattle.model.proofs.Members.{in_head, in_tail, each_passes, all_pass, from_filter}
+use Rattle.laws_closure.proofs.overlaps.Overlaps.{bool_same}
 use Rattle.isle_serialize.specs.Growing.{IsBestFrom, AreEnds, AreBestArms}
 use Rattle.isle_serialize.proofs.EqualSurroundings.{Alike, steps_alike}
 

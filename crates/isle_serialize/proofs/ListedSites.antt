@@ -3,10 +3,10 @@ use Rattle.std.proofs.Common.{◌≡◌, ◌⊎◌, ℕ, zero, suc, ◌+◌, ◌
 use Rattle.std.proofs.lemmas.Bool.{cases_Bool, cond-true, cond-false}
 use Rattle.std.proofs.lemmas.List.{take_more}
 use Rattle.std.proofs.lemmas.List.Elements.{Contains-append_left, Contains-append_right, Contains-append_cases}
-use Rattle.isle_laws_closure.proofs.overlaps.Overlaps.{bool_same}
-use Rattle.isle_model.specs.sites.Sites.{Site, sources_at}
-use Rattle.isle_model.specs.trees.Places.{is_in, each_after, listed_below, below, all_below}
-use Rattle.isle_model.proofs.Members.{nothing_in, in_head, in_tail, in_cases, in_alone, in_flat_map, from_flat_map, member_found, member_is_in}
+use Rattle.laws_closure.proofs.overlaps.Overlaps.{bool_same}
+use Rattle.model.specs.sites.Sites.{Site, sources_at}
+use Rattle.model.specs.trees.Places.{is_in, each_after, listed_below, below, all_below}
+use Rattle.model.proofs.Members.{nothing_in, in_head, in_tail, in_cases, in_alone, in_flat_map, from_flat_map, member_found, member_is_in}
 
 each_append : (f : List ℕ → ℕ → List ℕ) (d xs : List ℕ) (x : ℕ) → each_after f d (xs ++ x ∷ []) ≡ f (each_after f d xs) x
 each_append f d [] x = refl

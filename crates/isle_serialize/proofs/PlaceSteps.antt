@@ -2,14 +2,14 @@
 use Rattle.std.proofs.Common.{◌≡◌, ◌≢◌, ℕ, ◌<◌, true, false, not, ◌&&◌, nat_lt, List, [], ◌∷◌, ◌++◌, length, Option, Some, None, slice_get, Contains, filter, refl, sym, ap, ◌∙◌, subst, arith, ltb-true}
 use Rattle.std.proofs.lemmas.Bool.{and_parts, false≢true, not-true}
 use Rattle.std.proofs.lemmas.List.Filters.{length-filter_both}
-use Rattle.isle_model.specs.sites.Sites.{iterator_site, SetRule, SiteSet}
-use Rattle.isle_model.specs.trees.Trees.{Tree, step, join, Check, m_match, m_equal, m_loop, m_no_step, m_no_arm}
-use Rattle.isle_model.specs.trees.Best.{descend}
-use Rattle.isle_model.specs.trees.Places as Places
-use Rattle.isle_model.specs.trees.Places.{is_in, joins, available, bind_order, in_equal, in_loop, after_step}
-use Rattle.isle_model.specs.trees.Tests.{Test, match_test, equal_test, loop_test, is_needed, needs_at, is_covered, cover, sources_around, is_at_hand, is_open_site, IsOpen}
-use Rattle.isle_model.proofs.Members.{from_filter, some_member, member_found, member_from_get}
-use Rattle.isle_laws_trees.proofs.Passing.{sources_there}
+use Rattle.model.specs.sites.Sites.{iterator_site, SetRule, SiteSet}
+use Rattle.model.specs.trees.Trees.{Tree, step, join, Check, m_match, m_equal, m_loop, m_no_step, m_no_arm}
+use Rattle.model.specs.trees.Best.{descend}
+use Rattle.model.specs.trees.Places as Places
+use Rattle.model.specs.trees.Places.{is_in, joins, available, bind_order, in_equal, in_loop, after_step}
+use Rattle.model.specs.trees.Tests.{Test, match_test, equal_test, loop_test, is_needed, needs_at, is_covered, cover, sources_around, is_at_hand, is_open_site, IsOpen}
+use Rattle.model.proofs.Members.{from_filter, some_member, member_found, member_from_get}
+use Rattle.laws_trees.proofs.Passing.{sources_there}
 use Rattle.isle_serialize.specs.declared.around.Around.{Around}
 use Rattle.isle_serialize.specs.declared.steps.NextTest.{NextTest}
 use Rattle.isle_serialize.specs.declared.serialize.Block.{Block}

@@ -4,7 +4,7 @@ use Rattle.std.proofs.lemmas.List.{take_more}
 use Rattle.std.proofs.Math.Bool.{or_assoc}
 use Rattle.isle_base.specs.Stable.{contains}
 use Rattle.isle_serialize.specs.declared.small_set.SmallSet.{SmallSet}
-use Rattle.isle_model.specs.trees.Places.{is_in}
+use Rattle.model.specs.trees.Places.{is_in}
 use Rattle.isle_serialize.specs.AroundViews.{has, AreSettled, IsSetOf}
 use Rattle.isle_serialize.proofs.Tables.{is_in_append}
 

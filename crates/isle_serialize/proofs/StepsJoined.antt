@@ -1,6 +1,6 @@
 -- Lists of steps and of arms, with more behind them.
 use Rattle.std.proofs.Common.{◌≡◌, List, [], ◌∷◌, ◌++◌, refl, ap}
-use Rattle.isle_model.specs.trees.Trees.{Tree, step, join, Arms, no_arm}
+use Rattle.model.specs.trees.Trees.{Tree, step, join, Arms, no_arm}
 use Rattle.isle_serialize.specs.declared.serialize.EvalStep.{EvalStep}
 use Rattle.isle_serialize.specs.declared.serialize.MatchArm.{MatchArm}
 use Rattle.isle_serialize.specs.TreeViews.{check_view, steps_view, arm_view, arms_view}

@@ -3,15 +3,15 @@ use Rattle.std.proofs.Common.{◌≡◌, ℕ, zero, suc, ◌<◌, ◌==◌, Bool
 use Rattle.std.proofs.lemmas.Bool.{cases_Bool, cond-true, cond-false, or_cases, or_left, or_right, false≢true, cases_lt}
 use Rattle.std.proofs.Math.Bool.{or_assoc}
 use Rattle.isle_base.specs.Stable.{Members, contains}
-use Rattle.isle_model.specs.trees.Places.{is_in}
-use Rattle.isle_model.specs.trees.Tests.{up_to}
+use Rattle.model.specs.trees.Places.{is_in}
+use Rattle.model.specs.trees.Tests.{up_to}
 use Rattle.std.specs.Set.{is_member}
 use Rattle.std.proofs.lemmas.Option.{slice_get-map}
-use Rattle.isle_model.specs.trees.Tests.{Test, is_needed, needs_at}
-use Rattle.isle_laws_closure.proofs.overlaps.Overlaps.{bool_same}
-use Rattle.isle_sets.proofs.SitesIn.{none_passing}
-use Rattle.isle_sets.specs.SiteViews.{passing_below, member_sites, set_rule_view, set_rule_views}
-use Rattle.isle_sets.specs.declared.trie_again.Rule.{Rule}
+use Rattle.model.specs.trees.Tests.{Test, is_needed, needs_at}
+use Rattle.laws_closure.proofs.overlaps.Overlaps.{bool_same}
+use Rattle.isle_rule_sets.proofs.SitesIn.{none_passing}
+use Rattle.isle_rule_sets.specs.SiteViews.{passing_below, member_sites, set_rule_view, set_rule_views}
+use Rattle.isle_rule_sets.specs.declared.trie_again.Rule.{Rule}
 
 -- 1. the sites of a set, ascending
 pub is_in_append : (x : ℕ) (xs ys : List ℕ) → is_in x (xs ++ ys) ≡ (is_in x xs || is_in x ys)

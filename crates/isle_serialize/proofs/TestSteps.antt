@@ -3,12 +3,12 @@ use Rattle.std.proofs.Common.{◌≡◌, ℕ, Bool, true, false, cond, List, [],
 use Rattle.std.specs.List.{filter}
 use Rattle.std.proofs.lemmas.Bool.{cases_Bool, cond-true, cond-false, false≢true}
 use Rattle.std.proofs.lemmas.List.Elements.{Contains-append_left, Contains-append_right, Contains-append_cases}
-use Rattle.isle_model.specs.sites.Sites.{SiteSet}
-use Rattle.isle_model.specs.trees.Places.{Around}
-use Rattle.isle_model.specs.trees.Tests as Tests
-use Rattle.isle_model.specs.trees.Tests.{score, is_greater}
-use Rattle.isle_model.proofs.Members.{in_head, in_tail, in_alone}
-use Rattle.isle_laws_trees.proofs.Scores.{scores_are_ordered_lem}
+use Rattle.model.specs.sites.Sites.{SiteSet}
+use Rattle.model.specs.trees.Places.{Around}
+use Rattle.model.specs.trees.Tests as Tests
+use Rattle.model.specs.trees.Tests.{score, is_greater}
+use Rattle.model.proofs.Members.{in_head, in_tail, in_alone}
+use Rattle.laws_trees.proofs.Scores.{scores_are_ordered_lem}
 use Rattle.isle_serialize.specs.declared.tests.Test.{Test}
 use Rattle.isle_serialize.specs.declared.tests.Score.{Score}
 use Rattle.isle_serialize.specs.declared.tests.Scored.{Scored}

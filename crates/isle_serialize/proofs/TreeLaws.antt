@@ -4,14 +4,14 @@ use Rattle.std.specs.declared.alloc.Global.{Global}
 use denote.Hole.Carrier
 use Rattle.isle_base.specs.declared.syntax.Pos.{Pos}
 use Rattle.isle_base.specs.SyntaxViews.{position}
-use Rattle.isle_sets.specs.declared.trie_again.Constraint.{Constraint}
+use Rattle.isle_rule_sets.specs.declared.trie_again.Constraint.{Constraint}
 use Rattle.isle_serialize.specs.declared.serialize.Block.{Block, out-Block, roll-Block, roll-out-Block, Row_of-EvalStep, end_of-EvalStep, more_of-EvalStep, items-the_row-EvalStep, items_hidden-the_row-EvalStep-1}
 use Rattle.isle_serialize.specs.declared.serialize.EvalStep.{EvalStep}
 use Rattle.isle_serialize.specs.declared.serialize.MatchArm.{MatchArm, roll-MatchArm}
 use Rattle.isle_serialize.specs.declared.serialize.ControlFlow.{Match, Equal, Loop, Return, Row_of-MatchArm, end_of-MatchArm, more_of-MatchArm, items-the_row-MatchArm, items_hidden-the_row-MatchArm-0}
 use Rattle.isle_serialize.specs.declared.serialize.ControlFlow.TheBlock.{hidden-the_row-EvalStep-1, hidden-the_row-MatchArm-0}
-use Rattle.isle_model.specs.trees.Trees.{step, match_at, equal_at, loop_at, return_at, Arms, arm}
-use Rattle.isle_sets.specs.SiteViews.{constraint_view}
+use Rattle.model.specs.trees.Trees.{step, match_at, equal_at, loop_at, return_at, Arms, arm}
+use Rattle.isle_rule_sets.specs.SiteViews.{constraint_view}
 use Rattle.isle_serialize.specs.TreeViews.{tree_view, row_steps, check_view, row_arms, arm_view, steps_view, arms_view}
 
 row_steps-items : {m : _} (r : Row_of-EvalStep m) → row_steps r ≡ steps_view (items-the_row-EvalStep m r)

@@ -3,9 +3,9 @@ use Rattle.std.proofs.Common.{◌≡◌, ℕ, ◌+◌, ◌<◌, ◌≤◌, ◌==
 use Rattle.std.proofs.lemmas.Bool.{cond-true, or_left, false≢true}
 use Rattle.std.proofs.lemmas.List.Elements.{Contains-append_left, Contains-append_right}
 use Rattle.std.proofs.lemmas.List.Sums.{sum_by-cons}
-use Rattle.isle_model.specs.trees.Places.{Around, is_in, class, joins}
-use Rattle.isle_model.specs.trees.Tests.{Test, match_test, equal_test, loop_test, sources_around, up_to}
-use Rattle.isle_model.proofs.Members.{nothing_in, in_cases, in_map, in_flat_map, in_up_to}
+use Rattle.model.specs.trees.Places.{Around, is_in, class, joins}
+use Rattle.model.specs.trees.Tests.{Test, match_test, equal_test, loop_test, sources_around, up_to}
+use Rattle.model.proofs.Members.{nothing_in, in_cases, in_map, in_flat_map, in_up_to}
 
 -- 1. counting by a test that fewer pass
 abbrev weight : Bool → ℕ

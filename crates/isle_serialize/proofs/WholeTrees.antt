@@ -2,14 +2,14 @@
 use Rattle.std.proofs.Common.{ℕ, List, length}
 use Rattle.std.specs.Prelude.{IsPermutation}
 use Rattle.std.proofs.lemmas.List.Sorted.{IsPermutation-trans}
-use Rattle.isle_model.specs.sites.Sites.{SiteSet}
-use Rattle.isle_model.specs.trees.Trees.{Tree}
-use Rattle.isle_model.specs.trees.Places.{nothing_around}
-use Rattle.isle_model.specs.trees.Tests.{up_to}
-use Rattle.isle_model.specs.claims.Layers.{IsBuiltForSome, IsSerialized}
-use Rattle.isle_laws_trees.specs.TreeMeanings.{BestTreesMeanTheirSets}
-use Rattle.isle_laws_trees.proofs.PicksMade.{picks_are_made}
-use Rattle.isle_laws_trees.proofs.SerializedSteps.{best_steps_serialize}
+use Rattle.model.specs.sites.Sites.{SiteSet}
+use Rattle.model.specs.trees.Trees.{Tree}
+use Rattle.model.specs.trees.Places.{nothing_around}
+use Rattle.model.specs.trees.Tests.{up_to}
+use Rattle.model.specs.claims.Layers.{IsBuiltForSome, IsSerialized}
+use Rattle.laws_trees.specs.TreeMeanings.{BestTreesMeanTheirSets}
+use Rattle.laws_trees.proofs.PicksMade.{picks_are_made}
+use Rattle.laws_trees.proofs.SerializedSteps.{best_steps_serialize}
 use Rattle.isle_serialize.specs.Growing.{IsBestFrom, CanGrow}
 use Rattle.isle_serialize.proofs.FieldSteps.{pick_there}
 

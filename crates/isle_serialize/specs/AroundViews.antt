@@ -1,10 +1,10 @@
 -- What stands around a place, as it is kept: the sources of arms and loops in one list.
 use Rattle.std.specs.Prelude.{◌≡◌, ℕ, Bool, true, ◌==◌, ◌||◌, if◌then◌else◌, List, [], ◌∷◌, ◌++◌, Option}
 use Rattle.std.specs.List.{flat_map}
-use Rattle.isle_model.specs.sites.Sites.{Site, SiteSet, sources_at}
-use Rattle.isle_model.specs.trees.Places as Places
-use Rattle.isle_model.specs.trees.Places.{is_in, class, all_below, available, field_sites}
-use Rattle.isle_model.specs.trees.Tests.{sources_around}
+use Rattle.model.specs.sites.Sites.{Site, SiteSet, sources_at}
+use Rattle.model.specs.trees.Places as Places
+use Rattle.model.specs.trees.Places.{is_in, class, all_below, available, field_sites}
+use Rattle.model.specs.trees.Tests.{sources_around}
 use Rattle.isle_base.specs.Stable.{contains}
 use Rattle.isle_serialize.specs.declared.around.Around.{Around}
 use Rattle.isle_serialize.specs.declared.around.Known.{Known}

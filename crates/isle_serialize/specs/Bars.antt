@@ -1,8 +1,8 @@
 -- A bar: of the rules of a place that don't need a test, one of the greatest priority. What is below it can't wait for the test.
 use Rattle.std.specs.Prelude.{◌≡◌, ℕ, Bool, true, not, ◌&&◌, ◌||◌, List, Option, Some, None}
 use Rattle.std.specs.List.{list_all}
-use Rattle.isle_model.specs.sites.Sites.{SetRule}
-use Rattle.isle_model.specs.trees.Tests.{Test, needs_at, is_lower}
+use Rattle.model.specs.sites.Sites.{SetRule}
+use Rattle.model.specs.trees.Tests.{Test, needs_at, is_lower}
 
 -- whether a rule isn't below a bar
 abbrev pub reaches : List SetRule → Option ℕ → ℕ → Bool

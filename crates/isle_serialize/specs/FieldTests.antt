@@ -3,9 +3,9 @@ use Rattle.std.specs.Prelude.{◌≡◌, ℕ, Bool, false, cond, IsTrue, List, [
 use Rattle.std.specs.Bool.{◌==◌}
 use Rattle.std.specs.List.{filter, list_any}
 use Rattle.std.specs.Global.{Vec}
-use Rattle.isle_model.specs.sites.Sites.{Site, iterator_site, match_variant_site, extract_struct_site, match_some_site, Constraint, is_variant, is_struct, is_present}
-use Rattle.isle_model.specs.trees.Places.{is_variant_field, is_struct_field, is_part_of}
-use Rattle.isle_model.specs.trees.Tests.{up_to}
+use Rattle.model.specs.sites.Sites.{Site, iterator_site, match_variant_site, extract_struct_site, match_some_site, Constraint, is_variant, is_struct, is_present}
+use Rattle.model.specs.trees.Places.{is_variant_field, is_struct_field, is_part_of}
+use Rattle.model.specs.trees.Tests.{up_to}
 use Rattle.isle_serialize.specs.declared.fields.Fields.{Fields}
 
 -- whether a site is field i of what a constraint on s brings

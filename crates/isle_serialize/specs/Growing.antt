@@ -1,11 +1,11 @@
 -- Trees that grow from a place on: what is best of the rules that are left there.
 use Rattle.std.specs.Prelude.{◌≡◌, ◌≢◌, ℕ, ◌<◌, ◌≤◌, true, false, not, List, [], ◌∷◌, length, Option, Some, None, Contains, IsTrue, IsPermutation}
 use Rattle.std.specs.List.{filter}
-use Rattle.isle_model.specs.sites.Sites.{Constraint, SetRule, Site, SiteSet, sources_at}
-use Rattle.isle_model.specs.trees.Trees.{Tree, Check, match_at, equal_at, loop_at, Arms, Marked, MarkedArms, marks, marks_arms, plain, plain_arms}
-use Rattle.isle_model.specs.trees.Places.{Around, bind_order, in_equal, in_loop}
-use Rattle.isle_model.specs.trees.Tests.{Test, match_test, equal_test, loop_test, needs_at, is_covered, cover, IsOpen}
-use Rattle.isle_model.specs.trees.Best.{descend, BestSteps, BestArms}
+use Rattle.model.specs.sites.Sites.{Constraint, SetRule, Site, SiteSet, sources_at}
+use Rattle.model.specs.trees.Trees.{Tree, Check, match_at, equal_at, loop_at, Arms, Marked, MarkedArms, marks, marks_arms, plain, plain_arms}
+use Rattle.model.specs.trees.Places.{Around, bind_order, in_equal, in_loop}
+use Rattle.model.specs.trees.Tests.{Test, match_test, equal_test, loop_test, needs_at, is_covered, cover, IsOpen}
+use Rattle.model.specs.trees.Best.{descend, BestSteps, BestArms}
 use Rattle.isle_serialize.specs.AroundViews.{AreEmitted}
 use Rattle.isle_serialize.specs.FieldTests.{HasIterator, IsIteratorOf}
 use Rattle.isle_serialize.specs.TestViews.{test_view, IsChosen}

@@ -1,10 +1,10 @@
 -- Tests that are listed where they are open, and which tests a rule needs, form by form.
 use Rattle.std.specs.Prelude.{◌≡◌, ◌⊎◌, ℕ, true, List, Contains}
 use Rattle.std.specs.List.{list_any}
-use Rattle.isle_model.specs.sites.Sites.{iterator_site, SetRule, Site, SiteSet}
-use Rattle.isle_model.specs.trees.Places.{Around}
-use Rattle.isle_model.specs.trees.Tests as Tests
-use Rattle.isle_model.specs.trees.Tests.{match_test, equal_test, loop_test, needs, needs_at, IsOpen}
+use Rattle.model.specs.sites.Sites.{iterator_site, SetRule, Site, SiteSet}
+use Rattle.model.specs.trees.Places.{Around}
+use Rattle.model.specs.trees.Tests as Tests
+use Rattle.model.specs.trees.Tests.{match_test, equal_test, loop_test, needs, needs_at, IsOpen}
 use Rattle.isle_serialize.specs.declared.tests.Test.{Test}
 use Rattle.isle_serialize.specs.declared.place.Place.{Place}
 use Rattle.isle_serialize.specs.PlaceViews.{around_at, set_at}

@@ -1,7 +1,7 @@
 -- The set of a place, and what stands around it.
-use Rattle.isle_model.specs.sites.Sites.{SiteSet}
-use Rattle.isle_model.specs.trees.Places.{Around}
-use Rattle.isle_sets.specs.SiteViews.{set_view}
+use Rattle.model.specs.sites.Sites.{SiteSet}
+use Rattle.model.specs.trees.Places.{Around}
+use Rattle.isle_rule_sets.specs.SiteViews.{set_view}
 use Rattle.isle_serialize.specs.AroundViews.{around_view}
 use Rattle.isle_serialize.specs.declared.place.IndexedSet.{IndexedSet}
 use Rattle.isle_serialize.specs.declared.place.Place.{Place}

@@ -1,11 +1,11 @@
 -- Tests and scores, sites by their numbers.
 use Rattle.std.specs.Prelude.{◌≡◌, ◌≢◌, ◌⊎◌, ℕ, Bool, false, List, [], Option, Some, None, Contains, if◌then◌else◌}
-use Rattle.isle_model.specs.sites.Sites.{SiteSet}
-use Rattle.isle_model.specs.trees.Places.{Around}
-use Rattle.isle_model.specs.trees.Sound.{as_number}
-use Rattle.isle_model.specs.trees.Tests as Tests
-use Rattle.isle_model.specs.trees.Tests.{match_test, equal_test, loop_test, cover, IsOpen, score, is_greater}
-use Rattle.isle_model.specs.trees.Best.{IsGreatest}
+use Rattle.model.specs.sites.Sites.{SiteSet}
+use Rattle.model.specs.trees.Places.{Around}
+use Rattle.model.specs.trees.Sound.{as_number}
+use Rattle.model.specs.trees.Tests as Tests
+use Rattle.model.specs.trees.Tests.{match_test, equal_test, loop_test, cover, IsOpen, score, is_greater}
+use Rattle.model.specs.trees.Best.{IsGreatest}
 use Rattle.isle_serialize.specs.declared.tests.Test.{Test}
 use Rattle.isle_serialize.specs.declared.tests.Test.TheVariants.{Match, Equal, Loop}
 use Rattle.isle_serialize.specs.declared.tests.Score.{Score}

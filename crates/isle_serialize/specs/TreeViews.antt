@@ -1,12 +1,12 @@
 -- The tree that a block is: its steps, tests and arms without where they lie in memory, sites by their numbers.
 use Rattle.std.specs.Prelude.{List, [], ◌∷◌}
 use Rattle.isle_base.specs.SyntaxViews.{position}
-use Rattle.isle_model.specs.trees.Trees.{Tree, no_step, step, Check, match_at, equal_at, loop_at, return_at, Arms, no_arm, arm}
+use Rattle.model.specs.trees.Trees.{Tree, no_step, step, Check, match_at, equal_at, loop_at, return_at, Arms, no_arm, arm}
 use Rattle.isle_serialize.specs.declared.serialize.Block.{Block, Block', Row_of-EvalStep, end_of-EvalStep, more_of-EvalStep}
 use Rattle.isle_serialize.specs.declared.serialize.EvalStep.{EvalStep}
 use Rattle.isle_serialize.specs.declared.serialize.MatchArm.{MatchArm, MatchArm'}
 use Rattle.isle_serialize.specs.declared.serialize.ControlFlow.{ControlFlow, Match', Equal, Loop, Return, Row_of-MatchArm, end_of-MatchArm, more_of-MatchArm}
-use Rattle.isle_sets.specs.SiteViews.{constraint_view}
+use Rattle.isle_rule_sets.specs.SiteViews.{constraint_view}
 
 unfoldable mutual
   pub tree_view : Block → Tree

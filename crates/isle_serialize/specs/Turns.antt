@@ -1,11 +1,11 @@
 -- The rules of a match in the order of its arms: by what they ask of its source.
 use Rattle.std.specs.Prelude.{◌≡◌, ℕ, Bool, false, List, [], ◌∷◌, map, Option, Some, None, is_some, slice_get, Contains, IsPermutation}
 use Rattle.std.specs.List.{filter}
-use Rattle.isle_model.specs.sites.Sites.{Constraint, SetRule, SiteSet}
-use Rattle.isle_model.specs.trees.Places.{Around, constraint_at, fields_of}
-use Rattle.isle_model.specs.trees.Sound.{comes_before}
-use Rattle.isle_model.specs.trees.Judge.{is_that}
-use Rattle.isle_sets.specs.SiteViews.{constraint_view}
+use Rattle.model.specs.sites.Sites.{Constraint, SetRule, SiteSet}
+use Rattle.model.specs.trees.Places.{Around, constraint_at, fields_of}
+use Rattle.model.specs.trees.Sound.{comes_before}
+use Rattle.model.specs.trees.Judge.{is_that}
+use Rattle.isle_rule_sets.specs.SiteViews.{constraint_view}
 use Rattle.isle_serialize.specs.AroundViews.{around_view, IsInside, arm_around}
 use Rattle.isle_serialize.specs.declared.arms.Asked.{Asked}
 use Rattle.isle_serialize.specs.declared.arms.NextArm.{NextArm}

@@ -3,9 +3,9 @@
 ghost use Rattle.std.specs.Prelude.{◌≡◌, ◌≤◌, ◌∷◌, [], IfOk, drop, length, option_map};
 ghost use Rattle.std.specs.List.{filter, prefix_len};
 ghost use Rattle.std.specs.Ordering.{is_lt};
-ghost use Rattle.isle_model.specs.trees.Sound as Sound;
-ghost use Rattle.isle_model.specs.trees.Tests.{match_test};
-ghost use Rattle.isle_sets.specs.SiteViews.{constraint_view, set_view};
+ghost use Rattle.model.specs.trees.Sound as Sound;
+ghost use Rattle.model.specs.trees.Tests.{match_test};
+ghost use Rattle.isle_rule_sets.specs.SiteViews.{constraint_view, set_view};
 ghost use Rattle.isle_serialize.specs.AroundViews.{around_view};
 ghost use Rattle.isle_serialize.specs.Growing.{AreEmittedBy};
 ghost use Rattle.isle_serialize.specs.PlaceViews.{set_in};
@@ -16,7 +16,7 @@ use crate::around::Around;
 use crate::bodies::in_arm;
 use crate::fields::fields_of;
 use crate::place::IndexedSet;
-use isle_sets::trie_again::{BindingId, Constraint, RuleSet};
+use isle_rule_sets::trie_again::{BindingId, Constraint, RuleSet};
 use std::alloc::{AllocError, Global};
 use std::cmp::Ordering;
 

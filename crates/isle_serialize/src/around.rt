@@ -1,14 +1,14 @@
 //! What stands around a place of a tree.
 
 ghost use Rattle.std.specs.Prelude.{◌≡◌, ◌<◌, ◌==◌, if◌then◌else◌, Some, IfOk, map};
-ghost use Rattle.isle_model.specs.trees.Places.{nothing_around, class, is_in, joins, waits};
-ghost use Rattle.isle_sets.specs.SiteViews.{site_view};
+ghost use Rattle.model.specs.trees.Places.{nothing_around, class, is_in, joins, waits};
+ghost use Rattle.isle_rule_sets.specs.SiteViews.{site_view};
 ghost use Rattle.isle_serialize.specs.AroundViews.{around_view, sites_of_pairs, class_name_in, IsKnown, IsNaming, IsSetOf};
 ghost use Rattle.isle_serialize.specs.PlaceViews.{around_at};
 
 use crate::place::Place;
 use crate::small_set::{FEW, SmallSet};
-use isle_sets::trie_again::{Binding, BindingId};
+use isle_rule_sets::trie_again::{Binding, BindingId};
 use std::alloc::{AllocError, Global};
 
 /// What the steps around a place of a tree have tested, joined, brought and used.

@@ -1,8 +1,8 @@
 //! The best tree of a set: at each place the greatest test is made, for exactly the rules that it covers.
 
 ghost use Rattle.std.specs.Prelude.{◌≡◌, ◌≤◌, ◌∷◌, [], None, IfOk, IsTrue, length};
-ghost use Rattle.isle_model.specs.trees.Best.{descend};
-ghost use Rattle.isle_model.specs.trees.Tests as Tests;
+ghost use Rattle.model.specs.trees.Best.{descend};
+ghost use Rattle.model.specs.trees.Tests as Tests;
 ghost use Rattle.isle_serialize.specs.AroundViews.{around_view};
 ghost use Rattle.isle_serialize.specs.Growing.{AreBestArms, AreEmittedBy, IsBestBody, IsBestFrom, IsStepOf};
 ghost use Rattle.isle_serialize.specs.PlaceViews.{set_in};
@@ -17,7 +17,7 @@ use crate::place::IndexedSet;
 use crate::serialize::{Block, ControlFlow, EvalStep, MatchArm};
 use crate::steps::{next_test, pick_of};
 use crate::tests::Test;
-use isle_sets::trie_again::BindingId;
+use isle_rule_sets::trie_again::BindingId;
 use std::alloc::{AllocError, Global};
 
 /// The best steps from a place on, whose rules stand in order: tests while some open test covers a rule, then the

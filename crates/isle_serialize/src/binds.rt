@@ -2,10 +2,10 @@
 
 ghost use Rattle.std.specs.Prelude.{◌≡◌, ◌<◌, ◌||◌, ℕ, suc, [], Some, not, Contains, IfOk, OnOk, length, slice_get};
 ghost use Rattle.std.specs.List.{filter};
-ghost use Rattle.isle_model.specs.sites.Sites.{sources_at};
-ghost use Rattle.isle_model.specs.trees.Places as Places;
-ghost use Rattle.isle_model.specs.trees.Places.{each_after, is_in, is_in_place, listed_below};
-ghost use Rattle.isle_sets.specs.SiteViews.{site_view, set_view};
+ghost use Rattle.model.specs.sites.Sites.{sources_at};
+ghost use Rattle.model.specs.trees.Places as Places;
+ghost use Rattle.model.specs.trees.Places.{each_after, is_in, is_in_place, listed_below};
+ghost use Rattle.isle_rule_sets.specs.SiteViews.{site_view, set_view};
 ghost use Rattle.isle_serialize.specs.AroundViews.{around_view, AreSettled, IsSetOf};
 ghost use Rattle.isle_serialize.specs.PlaceViews.{set_in};
 
@@ -13,7 +13,7 @@ use crate::around::Around;
 use crate::parts::keep;
 use crate::place::IndexedSet;
 use crate::small_set::SmallSet;
-use isle_sets::trie_again::{Binding, BindingId, RuleSet};
+use isle_rule_sets::trie_again::{Binding, BindingId, RuleSet};
 use std::alloc::{AllocError, Global};
 
 /// The sources of a site, and none where there is no such site.

@@ -2,7 +2,7 @@
 
 ghost use Rattle.std.specs.Prelude.{◌≡◌, ◌<◌, ◌∷◌, ◌++◌, [], ℕ, not, Contains, IfOk};
 ghost use Rattle.std.specs.List.{filter};
-ghost use Rattle.isle_model.specs.trees.Places as Places;
+ghost use Rattle.model.specs.trees.Places as Places;
 ghost use Rattle.isle_serialize.specs.AroundViews.{around_view, has, IsSetOf, brings, where_emitted, where_joined};
 ghost use Rattle.isle_serialize.specs.PlaceViews.{set_in};
 
@@ -11,7 +11,7 @@ use crate::binds::all_below;
 use crate::parts::keep;
 use crate::place::IndexedSet;
 use crate::small_set::SmallSet;
-use isle_sets::trie_again::BindingId;
+use isle_rule_sets::trie_again::BindingId;
 use std::alloc::{AllocError, Global};
 
 fn chained(

@@ -1,11 +1,11 @@
 //! The end of a block: the rules that no open test covers return one after another.
 
 ghost use Rattle.std.specs.Prelude.{◌≡◌, ◌<◌, ℕ, IsTrue, None, Some, Contains, IfOk, slice_get};
-ghost use Rattle.isle_model.specs.trees.Best.{descend};
-ghost use Rattle.isle_model.specs.trees.Places as Places;
-ghost use Rattle.isle_model.specs.trees.Places.{return_uses};
-ghost use Rattle.isle_model.specs.trees.Trees as Trees;
-ghost use Rattle.isle_sets.specs.SiteViews.{set_rule_view, set_view};
+ghost use Rattle.model.specs.trees.Best.{descend};
+ghost use Rattle.model.specs.trees.Places as Places;
+ghost use Rattle.model.specs.trees.Places.{return_uses};
+ghost use Rattle.model.specs.trees.Trees as Trees;
+ghost use Rattle.isle_rule_sets.specs.SiteViews.{set_rule_view, set_view};
 ghost use Rattle.isle_serialize.specs.AroundViews.{around_view, IsSetOf};
 ghost use Rattle.isle_serialize.specs.Growing.{AreEnds};
 ghost use Rattle.isle_serialize.specs.PlaceViews.{set_in};
@@ -18,7 +18,7 @@ use crate::place::IndexedSet;
 use crate::serialize::{ControlFlow, EvalStep};
 use crate::small_set::SmallSet;
 use isle_base::syntax::Pos;
-use isle_sets::trie_again::{BindingId, Rule, RuleSet};
+use isle_rule_sets::trie_again::{BindingId, Rule, RuleSet};
 use std::alloc::{AllocError, Global};
 
 // What the rule of a number uses: its impure calls in order, then its result.

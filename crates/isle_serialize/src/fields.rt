@@ -2,9 +2,9 @@
 
 ghost use Rattle.std.specs.Prelude.{◌≡◌, ◌≤◌, ◌<◌, ◌∷◌, ◌++◌, [], ℕ, cond, Some, Contains, IfOk, OnOk, length};
 ghost use Rattle.std.specs.List.{find};
-ghost use Rattle.isle_model.specs.trees.Places as Places;
-ghost use Rattle.isle_model.specs.trees.Places.{site_from};
-ghost use Rattle.isle_sets.specs.SiteViews.{constraint_view, set_view, site_view};
+ghost use Rattle.model.specs.trees.Places as Places;
+ghost use Rattle.model.specs.trees.Places.{site_from};
+ghost use Rattle.isle_rule_sets.specs.SiteViews.{constraint_view, set_view, site_view};
 ghost use Rattle.isle_serialize.specs.FieldTests as FieldTests;
 ghost use Rattle.isle_serialize.specs.FieldTests.{passes_at, AreFields, ListsOneMore, list_at, listed_under};
 ghost use Rattle.isle_serialize.specs.Growing.{SourcesFirst};
@@ -12,7 +12,7 @@ ghost use Rattle.isle_serialize.specs.PlaceViews.{set_in};
 
 use crate::around::site_at;
 use crate::place::IndexedSet;
-use isle_sets::trie_again::{Binding, BindingId, Constraint, RuleSet};
+use isle_rule_sets::trie_again::{Binding, BindingId, Constraint, RuleSet};
 use isle_types::VariantId;
 use std::alloc::{AllocError, Global};
 

@@ -2,10 +2,10 @@
 
 ghost use Rattle.std.specs.Prelude.{◌≡◌, ◌<◌, ◌||◌, false, true, ℕ, IsTrue, Contains, IfOk, OnOk, slice_get};
 ghost use Rattle.std.specs.List.{list_any};
-ghost use Rattle.isle_model.specs.trees.Best.{descend};
-ghost use Rattle.isle_model.specs.trees.Places.{available, is_in, waits};
-ghost use Rattle.isle_model.specs.trees.Tests as Tests;
-ghost use Rattle.isle_sets.specs.SiteViews.{set_rule_view, set_view, site_view};
+ghost use Rattle.model.specs.trees.Best.{descend};
+ghost use Rattle.model.specs.trees.Places.{available, is_in, waits};
+ghost use Rattle.model.specs.trees.Tests as Tests;
+ghost use Rattle.isle_rule_sets.specs.SiteViews.{set_rule_view, set_view, site_view};
 ghost use Rattle.isle_serialize.specs.AroundViews.{has, AreAtHand};
 ghost use Rattle.isle_serialize.specs.PlaceViews.{around_at, set_at};
 ghost use Rattle.isle_serialize.specs.NeededTests.{AddsAt, IsEqualOf, IsLoopBy, IsLoopOf, IsMatchOf, IsPairOf, IsPairWith, IsTest, IsWanted, OfSome};
@@ -16,7 +16,7 @@ use crate::binds::sources_of;
 use crate::place::Place;
 use crate::small_set::SmallSet;
 use crate::tests::{Test, needs_at, reach_count};
-use isle_sets::trie_again::{Binding, BindingId, Rule, RuleSet};
+use isle_rule_sets::trie_again::{Binding, BindingId, Rule, RuleSet};
 use std::alloc::{AllocError, Global};
 
 // Whether only an arm or a loop brings the site of a number, or there is none.

@@ -1,13 +1,13 @@
 //! A place of a tree, and the set that the tree is made of.
 
-ghost use Rattle.isle_sets.specs.SiteViews.{set_view};
+ghost use Rattle.isle_rule_sets.specs.SiteViews.{set_view};
 ghost use Rattle.isle_serialize.specs.AroundViews.{around_view, IsKnown};
 ghost use Rattle.isle_serialize.specs.FieldTests.{AreFields};
 ghost use Rattle.isle_serialize.specs.Growing.{CanGrow};
 
 use crate::around::{Around, Known};
 use crate::fields::Fields;
-use isle_sets::trie_again::RuleSet;
+use isle_rule_sets::trie_again::RuleSet;
 
 /// A set of which a tree can be grown, and its fields by their sources. All places of the tree share it.
 #[derive(Clone, Copy)]

@@ -2,13 +2,13 @@
 //! may serve several rules.
 
 ghost use Rattle.std.specs.Prelude.{◌≡◌, IfOk, IsPermutation, IsTrue, length};
-ghost use Rattle.isle_model.specs.claims.Layers.{IsBuiltForSome, IsSerialized};
-ghost use Rattle.isle_model.specs.trees.Best.{descend};
-ghost use Rattle.isle_model.specs.trees.Tests.{up_to};
-ghost use Rattle.isle_model.specs.trees.Trees.{no_step};
-ghost use Rattle.isle_laws_trees.specs.OneTree.{IsOnlyBest};
-ghost use Rattle.isle_sets.specs.Listings.{ascends};
-ghost use Rattle.isle_sets.specs.SiteViews.{set_view};
+ghost use Rattle.model.specs.claims.Layers.{IsBuiltForSome, IsSerialized};
+ghost use Rattle.model.specs.trees.Best.{descend};
+ghost use Rattle.model.specs.trees.Tests.{up_to};
+ghost use Rattle.model.specs.trees.Trees.{no_step};
+ghost use Rattle.laws_trees.specs.OneTree.{IsOnlyBest};
+ghost use Rattle.isle_rule_sets.specs.Listings.{ascends};
+ghost use Rattle.isle_rule_sets.specs.SiteViews.{set_view};
 ghost use Rattle.isle_serialize.specs.TreeViews.{tree_view};
 
 use crate::around::Around;
@@ -17,8 +17,8 @@ use crate::fields::fields_by_source;
 use crate::place::IndexedSet;
 use crate::tests::priority;
 use isle_base::syntax::Pos;
-use isle_laws_trees::{best_trees_mean_their_sets, built_sets_have_one_best_tree};
-use isle_sets::trie_again::{BindingId, Constraint, RuleSet};
+use laws_trees::{best_trees_mean_their_sets, built_sets_have_one_best_tree};
+use isle_rule_sets::trie_again::{BindingId, Constraint, RuleSet};
 use std::alloc::{AllocError, Global};
 use std::cmp::Reverse;
 

@@ -2,11 +2,11 @@
 
 ghost use Rattle.std.specs.Prelude.{◌≡◌, ◌==◌, ◌||◌, ℕ, true, false, if◌then◌else◌, IfOk, OnOk};
 ghost use Rattle.isle_base.specs.Stable.{contains};
-ghost use Rattle.isle_model.specs.trees.Places.{is_in};
+ghost use Rattle.model.specs.trees.Places.{is_in};
 ghost use Rattle.isle_serialize.specs.AroundViews.{has, IsSetOf};
 
 use isle_base::stablemapset::StableSet;
-use isle_sets::trie_again::BindingId;
+use isle_rule_sets::trie_again::BindingId;
 use std::alloc::{AllocError, Global};
 
 /// So many sites are walked faster than one is looked up.

@@ -1,7 +1,7 @@
 //! The test steps of a place: which test comes next, and what its step binds, covers and leaves.
 
 ghost use Rattle.std.specs.Prelude.{◌≡◌, IfOk, IsTrue, option_map};
-ghost use Rattle.isle_model.specs.trees.Best.{descend};
+ghost use Rattle.model.specs.trees.Best.{descend};
 ghost use Rattle.isle_serialize.specs.AroundViews.{around_view, AreEmitted};
 ghost use Rattle.isle_serialize.specs.FieldTests.{HasIterator, IsIteratorOf};
 ghost use Rattle.isle_serialize.specs.Growing.{test_sites, AreEmittedBy, IsNext};
@@ -15,7 +15,7 @@ use crate::fields::iterator_of;
 use crate::open_tests::useful_tests;
 use crate::place::{IndexedSet, Place};
 use crate::tests::{Test, greatest_of, parted};
-use isle_sets::trie_again::BindingId;
+use isle_rule_sets::trie_again::BindingId;
 use std::alloc::{AllocError, Global};
 
 /// The test that is made at a place, and what goes with it.

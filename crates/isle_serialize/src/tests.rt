@@ -3,10 +3,10 @@
 
 ghost use Rattle.std.specs.Prelude.{◌≡◌, ◌≤◌, not, IsTrue, option_map, IfOk, MatchOption, length, slice_get};
 ghost use Rattle.std.specs.List.{filter, find, prefix_len};
-ghost use Rattle.isle_model.specs.trees.Best.{descend};
-ghost use Rattle.isle_model.specs.trees.Places.{is_in, joins_in};
-ghost use Rattle.isle_model.specs.trees.Tests as Tests;
-ghost use Rattle.isle_sets.specs.SiteViews.{set_rule_view, set_view};
+ghost use Rattle.model.specs.trees.Best.{descend};
+ghost use Rattle.model.specs.trees.Places.{is_in, joins_in};
+ghost use Rattle.model.specs.trees.Tests as Tests;
+ghost use Rattle.isle_rule_sets.specs.SiteViews.{set_rule_view, set_view};
 ghost use Rattle.isle_serialize.specs.Bars as Bars;
 ghost use Rattle.isle_serialize.specs.Bars.{reaches};
 ghost use Rattle.isle_serialize.specs.PlaceViews.{around_at, set_at};
@@ -15,7 +15,7 @@ ghost use Rattle.isle_serialize.specs.TestViews.{test_view, score_view, greater_
 use crate::around::is_emitted;
 use crate::parts::part;
 use crate::place::Place;
-use isle_sets::trie_again::{BindingId, Rule, RuleSet};
+use isle_rule_sets::trie_again::{BindingId, Rule, RuleSet};
 use std::alloc::{AllocError, Global};
 
 /// What a step can test.

@@ -1,8 +1,8 @@
 -- The first error that is noted, and where it stands, one step after another.
 use Rattle.std.proofs.Common.{◌≡◌, ◌≢◌, List, [], ◌∷◌, ◌++◌, Contains, refl, sym, ap, subst, ◌∙◌, inl, inr}
-use Rattle.isle_model.specs.lists.Syntax.{Position, Definition}
-use Rattle.isle_model.specs.lists.KnownTypes.{KnownTypes}
-use Rattle.isle_model.proofs.Members.{in_head, nothing_in}
+use Rattle.model.specs.lists.Syntax.{Position, Definition}
+use Rattle.model.specs.lists.KnownTypes.{KnownTypes}
+use Rattle.model.proofs.Members.{in_head, nothing_in}
 use Rattle.isle_base.specs.declared.syntax.Error.{Error}
 use Rattle.isle_base.specs.NotedErrors.{NotesMore, MayNoteMore}
 use Rattle.isle_base.specs.Positions.{NotesAt, OccurAmong}

@@ -5,13 +5,13 @@ use Rattle.std.proofs.lemmas.List.{append_assoc, map-append}
 use Rattle.std.proofs.lemmas.List.Concat.{flat_map-append}
 use Rattle.std.proofs.lemmas.List.Elements.{filter_map-append}
 use Rattle.std.proofs.lemmas.Option.{slice_get_within}
-use Rattle.isle_model.specs.lists.Syntax.{Position, DeclTree, ExtractorTree, ConverterTree, RuleTree, Definition, declaration, extractor_definition, converter_definition, rule_definition, extern_definition, extern_constructor, extern_extractor}
-use Rattle.isle_model.specs.lists.Names.{IsDistinct}
-use Rattle.isle_model.specs.lists.Tables.{TypeEntry}
-use Rattle.isle_model.specs.lists.KnownTypes.{KnownTypes}
-use Rattle.isle_model.specs.lists.TermTable.{ConstructorTree, ExternalTree, converted_pairs, converter_of, converter_trees, constructor_trees, decl_names, decl_of, decl_trees, external_constructor_of, external_extractor_of, external_constructors, external_extractors, external_trees, extractor_of, extractor_trees, internal_extractors, made_by, rule_of, rule_trees, term_names, HasDeclaredRoot, HasKnownArguments, HasKnownResult, HoldsNoMacroArg, IsDeclaredTerm, IsKnownConverter, IsNotBothMultiAndPartial, IsOfPlainTerm, IsValidTerms, IsWithoutRules, NamesKnownTerms, UsesDeclaredArguments}
-use Rattle.isle_model.proofs.Members.{get_from_member}
-use Rattle.isle_model.proofs.Positions.{twice}
+use Rattle.model.specs.lists.Syntax.{Position, DeclTree, ExtractorTree, ConverterTree, RuleTree, Definition, declaration, extractor_definition, converter_definition, rule_definition, extern_definition, extern_constructor, extern_extractor}
+use Rattle.model.specs.lists.Names.{IsDistinct}
+use Rattle.model.specs.lists.Tables.{TypeEntry}
+use Rattle.model.specs.lists.KnownTypes.{KnownTypes}
+use Rattle.model.specs.lists.TermTable.{ConstructorTree, ExternalTree, converted_pairs, converter_of, converter_trees, constructor_trees, decl_names, decl_of, decl_trees, external_constructor_of, external_extractor_of, external_constructors, external_extractors, external_trees, extractor_of, extractor_trees, internal_extractors, made_by, rule_of, rule_trees, term_names, HasDeclaredRoot, HasKnownArguments, HasKnownResult, HoldsNoMacroArg, IsDeclaredTerm, IsKnownConverter, IsNotBothMultiAndPartial, IsOfPlainTerm, IsValidTerms, IsWithoutRules, NamesKnownTerms, UsesDeclaredArguments}
+use Rattle.model.proofs.Members.{get_from_member}
+use Rattle.model.proofs.Positions.{twice}
 use Rattle.isle_terms.specs.TermBreaches.{TermGroup, BreaksDeclaration, name_taken, both_marks, unknown_argument, unknown_result, BreaksMade, BreaksExtractor, extractor_of_none, second_extractor, extractor_of_multi, unknown_term, holds_macro_arg, argument_past, BreaksConverter, unknown_converter, second_converter, BreaksConstructor, constructor_of_none, beside_rules, second_constructor, BreaksExternal, external_of_none, second_taker, BreaksGroup, BreaksTerms, by_declaration, by_made, by_rule, by_extractor, by_recursion, by_converter, by_constructor, by_external}
 use Rattle.isle_terms.proofs.Declaring.{at_middle}
 use Rattle.isle_terms.proofs.Making.{distinct_left}

@@ -5,14 +5,14 @@ use Rattle.std.specs.Str.{bytes_eq}
 use Rattle.std.proofs.Math.ListN.{set}
 use Rattle.std.proofs.lemmas.Bool.{false≢true}
 use Rattle.std.proofs.lemmas.Option.{same_Some}
-use Rattle.isle_model.specs.lists.Syntax.{DeclTree}
-use Rattle.isle_model.specs.lists.Names.{has_name, IsDistinct}
-use Rattle.isle_model.specs.lists.Tables.{TypeEntry, builtin_type, primitive_type, enum_type, struct_type, VariantEntry, TermEntry}
-use Rattle.isle_model.specs.lists.TypeTable.{place_from}
-use Rattle.isle_model.specs.lists.TermTable.{terms_made, variant_as_term}
-use Rattle.isle_model.proofs.Bytes.{same_bytes}
-use Rattle.isle_model.proofs.FirstPlaces.{place_next}
-use Rattle.isle_model.proofs.Joined.{all_joined}
+use Rattle.model.specs.lists.Syntax.{DeclTree}
+use Rattle.model.specs.lists.Names.{has_name, IsDistinct}
+use Rattle.model.specs.lists.Tables.{TypeEntry, builtin_type, primitive_type, enum_type, struct_type, VariantEntry, TermEntry}
+use Rattle.model.specs.lists.TypeTable.{place_from}
+use Rattle.model.specs.lists.TermTable.{terms_made, variant_as_term}
+use Rattle.model.proofs.Bytes.{same_bytes}
+use Rattle.model.proofs.FirstPlaces.{place_next}
+use Rattle.model.proofs.Joined.{all_joined}
 use Rattle.isle_terms.specs.declared.term.Term.{Term}
 use Rattle.isle_terms.specs.TermViews.{term_view, term_views}
 use Rattle.isle_terms.specs.Stages.{place_among}

@@ -7,16 +7,16 @@ use Rattle.std.proofs.lemmas.List.{append-nil, map-append}
 use Rattle.std.proofs.lemmas.List.Concat.{flat_map-append}
 use Rattle.std.proofs.lemmas.List.Elements.{All-contains, All-push, Contains-append_left, Contains-append_right, Contains-append_cases}
 use Rattle.std.proofs.lemmas.Option.{same_Some, slice_get-map}
-use Rattle.isle_model.proofs.Members.{in_alone, in_head, in_map, member_from_get, get_from_member, nothing_in}
-use Rattle.isle_model.proofs.Mapped.{mapped_some}
-use Rattle.isle_model.specs.lists.Syntax.{Name, ConverterTree, Definition, type_definition, declaration, extractor_definition, converter_definition, rule_definition, extern_definition, other_definition}
-use Rattle.isle_model.specs.lists.Names.{IsDistinct}
-use Rattle.isle_model.specs.rules.Meaning.{look}
-use Rattle.isle_model.specs.lists.TypeTable.{IsKnownType}
-use Rattle.isle_model.specs.lists.KnownTypes.{type_named, known_type}
-use Rattle.isle_model.specs.lists.TermTable.{decl_names, rule_trees, extractor_trees, converter_of, converter_trees, converted_pairs, term_named, known_term, IsKnownTerm, IsKnownConverter}
-use Rattle.isle_model.specs.claims.Environments.{TypesRead, AreReadable, IsLeftByRefusal}
-use Rattle.isle_model.proofs.Positions.{distinct_push}
+use Rattle.model.proofs.Members.{in_alone, in_head, in_map, member_from_get, get_from_member, nothing_in}
+use Rattle.model.proofs.Mapped.{mapped_some}
+use Rattle.model.specs.lists.Syntax.{Name, ConverterTree, Definition, type_definition, declaration, extractor_definition, converter_definition, rule_definition, extern_definition, other_definition}
+use Rattle.model.specs.lists.Names.{IsDistinct}
+use Rattle.model.specs.rules.Meaning.{look}
+use Rattle.model.specs.lists.TypeTable.{IsKnownType}
+use Rattle.model.specs.lists.KnownTypes.{type_named, known_type}
+use Rattle.model.specs.lists.TermTable.{decl_names, rule_trees, extractor_trees, converter_of, converter_trees, converted_pairs, term_named, known_term, IsKnownTerm, IsKnownConverter}
+use Rattle.model.specs.claims.Environments.{TypesRead, AreReadable, IsLeftByRefusal}
+use Rattle.model.proofs.Positions.{distinct_push}
 use Rattle.isle_base.specs.declared.syntax.Def.{Def}
 use Rattle.isle_base.specs.declared.syntax.Error.{Error}
 use Rattle.isle_base.specs.Stable.{Entries, look_up}

@@ -6,17 +6,17 @@ use Rattle.std.proofs.lemmas.List.{append_assoc, append-nil, at_drop_more, take_
 use Rattle.std.proofs.lemmas.List.Concat.{flat_map-append}
 use Rattle.std.proofs.lemmas.List.FromFn.{length-enumerate_from}
 use Rattle.std.proofs.lemmas.List.Elements.{All-nil, All-cons, All-push, All-contains, All-weaker}
-use Rattle.isle_model.specs.lists.Syntax.{Name, DeclTree, Definition, type_definition, declaration, extractor_definition, converter_definition, rule_definition, extern_definition, other_definition}
-use Rattle.isle_model.specs.lists.Names.{number, with_name, with_names}
-use Rattle.isle_model.specs.lists.Tables.{TermEntry}
-use Rattle.isle_model.specs.lists.TypeTable.{place_from, IsKnownType}
-use Rattle.isle_model.specs.lists.KnownTypes.{KnownTypes, type_named, known_type}
-use Rattle.isle_model.specs.lists.TermTable.{decl_of, decl_trees, decl_names, function_of, term_names_met, HasKnownArguments, HasKnownResult, IsNotBothMultiAndPartial}
-use Rattle.isle_model.specs.claims.Environments.{TypesRead, AreReadable, IsLeftByRefusal}
-use Rattle.isle_model.proofs.FirstPlaces.{distinct_push, place_there}
-use Rattle.isle_model.proofs.Members.{member_from_get}
-use Rattle.isle_model.proofs.Names.{number_stays, with_names_append}
-use Rattle.isle_model.proofs.Positions.{get_middle}
+use Rattle.model.specs.lists.Syntax.{Name, DeclTree, Definition, type_definition, declaration, extractor_definition, converter_definition, rule_definition, extern_definition, other_definition}
+use Rattle.model.specs.lists.Names.{number, with_name, with_names}
+use Rattle.model.specs.lists.Tables.{TermEntry}
+use Rattle.model.specs.lists.TypeTable.{place_from, IsKnownType}
+use Rattle.model.specs.lists.KnownTypes.{KnownTypes, type_named, known_type}
+use Rattle.model.specs.lists.TermTable.{decl_of, decl_trees, decl_names, function_of, term_names_met, HasKnownArguments, HasKnownResult, IsNotBothMultiAndPartial}
+use Rattle.model.specs.claims.Environments.{TypesRead, AreReadable, IsLeftByRefusal}
+use Rattle.model.proofs.FirstPlaces.{distinct_push, place_there}
+use Rattle.model.proofs.Members.{member_from_get}
+use Rattle.model.proofs.Names.{number_stays, with_names_append}
+use Rattle.model.proofs.Positions.{get_middle}
 use Rattle.isle_base.specs.declared.syntax.Def.{Def}
 use Rattle.isle_base.specs.declared.syntax.Error.{Error}
 use Rattle.isle_base.specs.NotedErrors.{MayNoteMore}

@@ -1,12 +1,12 @@
 -- What was noted, and what that says, one step after another.
 use Rattle.std.proofs.Common.{◌≡◌, Bool, true, false, OnOk, Result, Ok, Err, ℕ, suc, List, [], length, ◌⊎◌, refl, sym, ap, subst, ◌∙◌, inl, inr, ⊎_elim}
-use Rattle.isle_model.specs.lists.Syntax.{Position, Definition}
-use Rattle.isle_model.specs.claims.Refusals.{IsIllTyped}
+use Rattle.model.specs.lists.Syntax.{Position, Definition}
+use Rattle.model.specs.claims.Refusals.{IsIllTyped}
 use Rattle.isle_base.specs.ErrorViews.{error_view}
 use Rattle.isle_types.specs.ToldErrors as T
 use Rattle.isle_types.specs.ToldErrors.{IsToldAt}
 use Rattle.std.proofs.lemmas.List.Elements.{All-weaker}
-use Rattle.isle_model.specs.claims.Environments.{TypesRead, IsLeftByRefusal}
+use Rattle.model.specs.claims.Environments.{TypesRead, IsLeftByRefusal}
 use Rattle.isle_base.specs.declared.syntax.Error.{Error}
 use Rattle.isle_types.specs.declared.type_env.TypeEnv.{TypeEnv}
 use Rattle.isle_types.specs.EnvViews.{environment_view}

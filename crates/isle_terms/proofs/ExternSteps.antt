@@ -6,14 +6,14 @@ use Rattle.std.proofs.lemmas.Bool.{false≢true}
 use Rattle.std.proofs.lemmas.List.{append_assoc, append-nil, map-append}
 use Rattle.std.proofs.lemmas.List.Concat.{flat_map-append}
 use Rattle.std.proofs.lemmas.List.Elements.{All-push, Contains-append_left, Contains-append_right, Contains-append_cases}
-use Rattle.isle_model.specs.lists.Syntax.{Name, Position, ExtractorTree, Definition, type_definition, declaration, extractor_definition, converter_definition, rule_definition, extern_definition, other_definition, extern_constructor, extern_extractor, extern_const}
-use Rattle.isle_model.specs.lists.Names.{number, has_name, with_name, with_names, IsDistinct}
-use Rattle.isle_model.specs.lists.Tables.{ConstructorEntry, internal_constructor, external_constructor, ExtractorEntry, internal_extractor, external_extractor, TermKindEntry, variant_term, struct_term, declared_term, TermEntry}
-use Rattle.isle_model.specs.lists.TermTable.{ConstructorTree, ExternalTree, decl_flags, decl_names, function_of, external_constructor_of, external_extractor_of, constructor_trees, external_trees, extractor_trees, internal_extractors, extractor_template, has_rules, term_names_met, IsDeclaredTerm, IsWithoutRules}
-use Rattle.isle_model.specs.claims.Environments.{TypesRead, AreReadable, IsLeftByRefusal}
-use Rattle.isle_model.proofs.Members.{member_from_get, get_from_member}
-use Rattle.isle_model.proofs.Names.{found, absent, number_stays, with_names_append}
-use Rattle.isle_model.proofs.Positions.{distinct_push}
+use Rattle.model.specs.lists.Syntax.{Name, Position, ExtractorTree, Definition, type_definition, declaration, extractor_definition, converter_definition, rule_definition, extern_definition, other_definition, extern_constructor, extern_extractor, extern_const}
+use Rattle.model.specs.lists.Names.{number, has_name, with_name, with_names, IsDistinct}
+use Rattle.model.specs.lists.Tables.{ConstructorEntry, internal_constructor, external_constructor, ExtractorEntry, internal_extractor, external_extractor, TermKindEntry, variant_term, struct_term, declared_term, TermEntry}
+use Rattle.model.specs.lists.TermTable.{ConstructorTree, ExternalTree, decl_flags, decl_names, function_of, external_constructor_of, external_extractor_of, constructor_trees, external_trees, extractor_trees, internal_extractors, extractor_template, has_rules, term_names_met, IsDeclaredTerm, IsWithoutRules}
+use Rattle.model.specs.claims.Environments.{TypesRead, AreReadable, IsLeftByRefusal}
+use Rattle.model.proofs.Members.{member_from_get, get_from_member}
+use Rattle.model.proofs.Names.{found, absent, number_stays, with_names_append}
+use Rattle.model.proofs.Positions.{distinct_push}
 use Rattle.isle_base.specs.declared.syntax.Def.{Def}
 use Rattle.isle_base.specs.declared.syntax.Error.{Error}
 use Rattle.isle_base.specs.Stable.{look_up}

@@ -1,10 +1,10 @@
 -- What is found by names, after one more name, or one more thing with a name.
 use Rattle.std.proofs.Common.{◌≡◌, ℕ, true, false, cond, nat_eq, List, [], ◌∷◌, ◌++◌, length, Option, Some, None, option_and_then, slice_get, refl, sym, ap, subst, ◌∙◌, arith, eqb-true}
-use Rattle.isle_model.specs.lists.Names.{number, has_name, with_name, IsDistinct, AreNumbersOf}
-use Rattle.isle_model.specs.rules.Outcome.{then_option}
-use Rattle.isle_model.proofs.ByNumber.{by_text, of_text, others, then_with}
-use Rattle.isle_model.proofs.FirstPlaces.{place_push_new, place_push_other}
-use Rattle.isle_model.proofs.Names.{with_missing, with_name_at}
+use Rattle.model.specs.lists.Names.{number, has_name, with_name, IsDistinct, AreNumbersOf}
+use Rattle.model.specs.rules.Outcome.{then_option}
+use Rattle.model.proofs.ByNumber.{by_text, of_text, others, then_with}
+use Rattle.model.proofs.FirstPlaces.{place_push_new, place_push_other}
+use Rattle.model.proofs.Names.{with_missing, with_name_at}
 use Rattle.isle_terms.specs.Stages.{Finds, place_among}
 
 module _ (names : List (List ℕ)) (at : ℕ → Option ℕ) (has : List ℕ → Option ℕ) (f : Finds names at has) where

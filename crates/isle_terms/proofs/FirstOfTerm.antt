@@ -4,7 +4,7 @@ use Rattle.std.specs.List.{find}
 use Rattle.std.specs.Str.{bytes_eq}
 use Rattle.std.proofs.lemmas.Bool.{false≢true}
 use Rattle.std.proofs.lemmas.Option.{same_Some}
-use Rattle.isle_model.proofs.Bytes.{same_bytes, same_self, differ}
+use Rattle.model.proofs.Bytes.{same_bytes, same_self, differ}
 use Rattle.isle_terms.proofs.Rooting.{turned_other}
 
 module _ {T K : Type 0} (term_of : T → List ℕ) (before : List ℕ → Bool) (other : List ℕ → Option K) (kind : T → K) where

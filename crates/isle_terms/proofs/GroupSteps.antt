@@ -6,19 +6,19 @@ use Rattle.std.proofs.lemmas.Bool.{false≢true}
 use Rattle.std.proofs.lemmas.List.{append-nil}
 use Rattle.std.proofs.lemmas.List.Concat.{flat_map-append}
 use Rattle.std.proofs.lemmas.List.Elements.{All-nil, Contains-append_cases, recursion_from_All}
-use Rattle.isle_laws_typing.proofs.LooksByNumber.{nothing_then, numbered_from}
-use Rattle.isle_model.specs.lists.Syntax.{DeclTree, ExtractorTree, Definition}
-use Rattle.isle_model.specs.lists.Names.{number, has_name, with_names, IsDistinct}
-use Rattle.isle_model.specs.rules.Meaning.{look}
-use Rattle.isle_model.specs.rules.Outcome.{then_option}
-use Rattle.isle_model.specs.lists.Tables.{TypeEntry, TermEntry, declared_term, internal_extractor}
-use Rattle.isle_model.specs.lists.KnownTypes.{entry_numbers, IsWellFormed}
-use Rattle.isle_model.specs.lists.TermTable.{decl_flags, decl_trees, decl_names, rule_trees, extractor_trees, extractor_template, internal_extractors, function_of, made_by, term_names, term_names_met, terms_made, term_table, converters, IsValidTerms}
-use Rattle.isle_model.specs.claims.Environments.{TypesRead, AreReadable, AreTermsOf, IsLeftByRefusal, IsReadAs, terms_by_name, with_read_names}
-use Rattle.isle_model.specs.claims.Refusals.{RefusesTerms}
-use Rattle.isle_model.proofs.Members.{in_cases, nothing_in, get_from_member}
-use Rattle.isle_model.proofs.Names.{has_at, has_met, has_left, has_kept}
-use Rattle.isle_laws_typing.proofs.TermLaws.{all_made_only, terms_have_names_lem, terms_stand_at_ids_lem}
+use Rattle.laws_typing.proofs.LooksByNumber.{nothing_then, numbered_from}
+use Rattle.model.specs.lists.Syntax.{DeclTree, ExtractorTree, Definition}
+use Rattle.model.specs.lists.Names.{number, has_name, with_names, IsDistinct}
+use Rattle.model.specs.rules.Meaning.{look}
+use Rattle.model.specs.rules.Outcome.{then_option}
+use Rattle.model.specs.lists.Tables.{TypeEntry, TermEntry, declared_term, internal_extractor}
+use Rattle.model.specs.lists.KnownTypes.{entry_numbers, IsWellFormed}
+use Rattle.model.specs.lists.TermTable.{decl_flags, decl_trees, decl_names, rule_trees, extractor_trees, extractor_template, internal_extractors, function_of, made_by, term_names, term_names_met, terms_made, term_table, converters, IsValidTerms}
+use Rattle.model.specs.claims.Environments.{TypesRead, AreReadable, AreTermsOf, IsLeftByRefusal, IsReadAs, terms_by_name, with_read_names}
+use Rattle.model.specs.claims.Refusals.{RefusesTerms}
+use Rattle.model.proofs.Members.{in_cases, nothing_in, get_from_member}
+use Rattle.model.proofs.Names.{has_at, has_met, has_left, has_kept}
+use Rattle.laws_typing.proofs.TermLaws.{all_made_only, terms_have_names_lem, terms_stand_at_ids_lem}
 use Rattle.isle_base.specs.ErrorViews.{error_views}
 use Rattle.isle_base.specs.NotedErrors.{AreIllTyped}
 use Rattle.isle_base.proofs.NotedErrors.{forms_of, some_views}

@@ -1,8 +1,8 @@
 -- What looking at the kind of one term, and changing it, comes to.
 use Rattle.std.proofs.Common.{◌≡◌, ℕ, Bool, true, false, not, List, get_or, Some, sym, ap, subst, ◌∙◌, inl, inr}
 use Rattle.std.proofs.Math.ListN.{set}
-use Rattle.isle_model.specs.lists.Syntax.{Name}
-use Rattle.isle_model.specs.lists.Tables.{TermKindEntry}
+use Rattle.model.specs.lists.Syntax.{Name}
+use Rattle.model.specs.lists.Tables.{TermKindEntry}
 use Rattle.isle_base.specs.declared.syntax.Error.{Error}
 use Rattle.isle_types.specs.declared.type_env.TypeEnv.{TypeEnv}
 use Rattle.isle_types.specs.Envs.{symbol_of}

@@ -5,14 +5,14 @@ use Rattle.std.proofs.lemmas.List.{append_assoc, append-nil, at_drop_more, take_
 use Rattle.std.proofs.lemmas.List.Concat.{flat_map-append}
 use Rattle.std.proofs.lemmas.List.Elements.{Contains-append_left, filter_map-append}
 use Rattle.std.proofs.lemmas.Option.{same_Some, slice_get-get_or}
-use Rattle.isle_model.specs.lists.Names.{number, has_name, with_name, IsDistinct}
-use Rattle.isle_model.specs.rules.Values.{field_types}
-use Rattle.isle_model.specs.lists.Tables.{TypeEntry, FieldEntries, unit_entries, struct_entries, tuple_entries, TermEntry}
-use Rattle.isle_model.specs.lists.TermTable.{made_by, terms_made, variant_as_term}
-use Rattle.isle_model.specs.claims.Environments.{TypesRead}
-use Rattle.isle_model.proofs.Joined.{all_left, all_right}
-use Rattle.isle_model.proofs.Names.{found, has_at, known_name, get_kept}
-use Rattle.isle_model.proofs.Positions.{get_front}
+use Rattle.model.specs.lists.Names.{number, has_name, with_name, IsDistinct}
+use Rattle.model.specs.rules.Values.{field_types}
+use Rattle.model.specs.lists.Tables.{TypeEntry, FieldEntries, unit_entries, struct_entries, tuple_entries, TermEntry}
+use Rattle.model.specs.lists.TermTable.{made_by, terms_made, variant_as_term}
+use Rattle.model.specs.claims.Environments.{TypesRead}
+use Rattle.model.proofs.Joined.{all_left, all_right}
+use Rattle.model.proofs.Names.{found, has_at, known_name, get_kept}
+use Rattle.model.proofs.Positions.{get_front}
 use Rattle.isle_base.specs.declared.syntax.Error.{Error}
 use Rattle.isle_types.specs.declared.type_env.TypeEnv.{TypeEnv}
 use Rattle.isle_types.specs.declared.types.Type as T

@@ -10,8 +10,8 @@ use Rattle.std.proofs.lemmas.List.{length-set, length_push, take_all}
 use Rattle.std.proofs.lemmas.List.Elements.{All-cons, All-nil, All-push, All-contains, All-take, Contains-push_cases}
 use Rattle.std.proofs.lemmas.List.Sums.{sum_by-set}
 use Rattle.std.proofs.lemmas.Option.{same_Some, slice_get-map, slice_get-get_or, slice_get_within}
-use Rattle.isle_model.proofs.Mapped.{mapped_some}
-use Rattle.isle_model.proofs.Members.{in_alone, in_cases, in_head, in_tail, member_from_get}
+use Rattle.model.proofs.Mapped.{mapped_some}
+use Rattle.model.proofs.Members.{in_alone, in_cases, in_head, in_tail, member_from_get}
 use Rattle.isle_types.specs.declared.ids.TermId.{TermId}
 use Rattle.isle_terms.specs.declared.reading.recursion.Mark.{Mark}
 use Rattle.isle_terms.specs.declared.reading.recursion.Mark.TheVariants.{Unmet, Met, Ends}

@@ -8,10 +8,10 @@ use Rattle.std.proofs.lemmas.Result.{on_ok_weaker}
 use Rattle.std.proofs.lemmas.Simd.{map-map}
 use Rattle.std.proofs.lemmas.List.Concat.{flat_map-append}
 use Rattle.std.proofs.lemmas.List.Elements.{Contains-append_left, Contains-append_right, Contains-get_or}
-use Rattle.isle_model.specs.lists.Syntax.{Position, Name, PatternTree, PatternTrees, var_pattern, bind_pattern, bool_pattern, int_pattern, prim_pattern, term_pattern, wildcard_pattern, and_pattern, macro_arg, no_pattern, pattern_and, ConverterTree, DeclTree, ExtractorTree}
-use Rattle.isle_model.specs.lists.Tables.{VariantEntry, ConstructorEntry, ExtractorEntry, internal_extractor, external_extractor, TermKindEntry, variant_term, struct_term, declared_term, TermEntry}
-use Rattle.isle_model.specs.lists.TermTable.{variant_as_term, argument_or, binding_or, template, templates, extractor_template, terms_of, terms_of_all}
-use Rattle.isle_model.proofs.Members.{in_head, in_tail, in_cases, in_map, in_flat_map, from_map, from_flat_map, member_from_get}
+use Rattle.model.specs.lists.Syntax.{Position, Name, PatternTree, PatternTrees, var_pattern, bind_pattern, bool_pattern, int_pattern, prim_pattern, term_pattern, wildcard_pattern, and_pattern, macro_arg, no_pattern, pattern_and, ConverterTree, DeclTree, ExtractorTree}
+use Rattle.model.specs.lists.Tables.{VariantEntry, ConstructorEntry, ExtractorEntry, internal_extractor, external_extractor, TermKindEntry, variant_term, struct_term, declared_term, TermEntry}
+use Rattle.model.specs.lists.TermTable.{variant_as_term, argument_or, binding_or, template, templates, extractor_template, terms_of, terms_of_all}
+use Rattle.model.proofs.Members.{in_head, in_tail, in_cases, in_map, in_flat_map, from_map, from_flat_map, member_from_get}
 use Rattle.isle_base.specs.declared.syntax.Def.{Def}
 use Rattle.isle_base.specs.declared.syntax.Error.{Error}
 use Rattle.isle_base.specs.declared.syntax.Ident.{Ident}

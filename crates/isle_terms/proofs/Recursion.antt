@@ -7,12 +7,12 @@ use Rattle.std.proofs.lemmas.Bool.{false≢true}
 use Rattle.std.proofs.lemmas.Bool.Decides.{Decides-eqb}
 use Rattle.std.proofs.lemmas.List.Elements.{All-nil, All-contains}
 use Rattle.std.proofs.lemmas.Option.{same_Some}
-use Rattle.isle_model.specs.lists.Syntax.{Position, Name, PatternTree, var_pattern, bind_pattern, bool_pattern, int_pattern, prim_pattern, term_pattern, wildcard_pattern, and_pattern, macro_arg, ExtractorTree, Definition}
-use Rattle.isle_model.specs.lists.Tables.{ConstructorEntry, ExtractorEntry, internal_extractor, declared_term, TermEntry, Flags}
-use Rattle.isle_model.specs.lists.TermTable.{argument_or, binding_or, decl_flags, decl_names, rule_trees, template, extractor_trees, extractor_template, terms_in, term_names, term_named, made_by, IsDeclaredTerm, IsKnownTerm, NamesKnownTerms, Uses, Reaches, directly, through, IsAcyclic}
-use Rattle.isle_model.specs.claims.Environments.{TypesRead, AreReadable, IsLeftByRefusal}
-use Rattle.isle_model.proofs.Bytes.{same_bytes, same_self}
-use Rattle.isle_model.proofs.Members.{in_cases, in_head, in_tail, in_map, from_map}
+use Rattle.model.specs.lists.Syntax.{Position, Name, PatternTree, var_pattern, bind_pattern, bool_pattern, int_pattern, prim_pattern, term_pattern, wildcard_pattern, and_pattern, macro_arg, ExtractorTree, Definition}
+use Rattle.model.specs.lists.Tables.{ConstructorEntry, ExtractorEntry, internal_extractor, declared_term, TermEntry, Flags}
+use Rattle.model.specs.lists.TermTable.{argument_or, binding_or, decl_flags, decl_names, rule_trees, template, extractor_trees, extractor_template, terms_in, term_names, term_named, made_by, IsDeclaredTerm, IsKnownTerm, NamesKnownTerms, Uses, Reaches, directly, through, IsAcyclic}
+use Rattle.model.specs.claims.Environments.{TypesRead, AreReadable, IsLeftByRefusal}
+use Rattle.model.proofs.Bytes.{same_bytes, same_self}
+use Rattle.model.proofs.Members.{in_cases, in_head, in_tail, in_map, from_map}
 use Rattle.isle_base.specs.declared.syntax.Error.{Error}
 use Rattle.isle_base.specs.NotedErrors.{NotesMore}
 use Rattle.isle_base.specs.Patterns.{pattern_position}

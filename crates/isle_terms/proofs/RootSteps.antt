@@ -4,12 +4,12 @@ use Rattle.std.proofs.lemmas.Bool.{false≢true}
 use Rattle.std.proofs.lemmas.List.{append-nil}
 use Rattle.std.proofs.lemmas.List.Concat.{flat_map-append}
 use Rattle.std.proofs.lemmas.List.Elements.{All-push}
-use Rattle.isle_model.specs.lists.Syntax.{Name, RuleTree, Definition, type_definition, declaration, extractor_definition, converter_definition, rule_definition, extern_definition, other_definition}
-use Rattle.isle_model.specs.rules.Outcome.{then_option}
-use Rattle.isle_model.specs.lists.Tables.{ConstructorEntry, ExtractorEntry, declared_term}
-use Rattle.isle_model.specs.lists.TermTable.{decl_flags, decl_names, rule_of, rule_trees, term_id, term_names_met, root_name, is_declared, HasDeclaredRoot}
-use Rattle.isle_model.specs.claims.Environments.{TypesRead, AreReadable, IsLeftByRefusal}
-use Rattle.isle_model.proofs.Options.{then_some}
+use Rattle.model.specs.lists.Syntax.{Name, RuleTree, Definition, type_definition, declaration, extractor_definition, converter_definition, rule_definition, extern_definition, other_definition}
+use Rattle.model.specs.rules.Outcome.{then_option}
+use Rattle.model.specs.lists.Tables.{ConstructorEntry, ExtractorEntry, declared_term}
+use Rattle.model.specs.lists.TermTable.{decl_flags, decl_names, rule_of, rule_trees, term_id, term_names_met, root_name, is_declared, HasDeclaredRoot}
+use Rattle.model.specs.claims.Environments.{TypesRead, AreReadable, IsLeftByRefusal}
+use Rattle.model.proofs.Options.{then_some}
 use Rattle.isle_base.specs.declared.syntax.Def.{Def}
 use Rattle.isle_base.specs.declared.syntax.Error.{Error}
 use Rattle.isle_base.specs.Positions.{definition_positions}

@@ -5,13 +5,13 @@ use Rattle.std.specs.Str.{bytes_eq}
 use Rattle.std.proofs.lemmas.Bool.{false≢true}
 use Rattle.std.proofs.lemmas.List.Folds.{list_any-append}
 use Rattle.std.proofs.lemmas.Slice.Eq.{bytes_eq-Decides}
-use Rattle.isle_model.specs.lists.Syntax.{Name, RuleTree, Definition}
-use Rattle.isle_model.specs.lists.Names.{number, has_name, IsDistinct}
-use Rattle.isle_model.specs.lists.Tables.{internal_constructor}
-use Rattle.isle_model.specs.lists.TermTable.{root_name, has_root, is_rule_of}
+use Rattle.model.specs.lists.Syntax.{Name, RuleTree, Definition}
+use Rattle.model.specs.lists.Names.{number, has_name, IsDistinct}
+use Rattle.model.specs.lists.Tables.{internal_constructor}
+use Rattle.model.specs.lists.TermTable.{root_name, has_root, is_rule_of}
 use Rattle.std.proofs.Math.Bool.{or-true, or-false}
-use Rattle.isle_model.proofs.Bytes.{same_bytes}
-use Rattle.isle_model.proofs.Names.{found}
+use Rattle.model.proofs.Bytes.{same_bytes}
+use Rattle.model.proofs.Names.{found}
 use Rattle.isle_terms.specs.declared.term_table.TermTable.{TermTable}
 use Rattle.isle_terms.specs.TermTables.{term_at}
 use Rattle.isle_terms.specs.Reading.{IsWithin}

@@ -5,12 +5,12 @@ use Rattle.std.specs.Str.{bytes_eq}
 use Rattle.std.proofs.lemmas.Bool.{false≢true}
 use Rattle.std.proofs.lemmas.List.{length-map}
 use Rattle.std.proofs.lemmas.Option.{same_Some, slice_get_within, slice_get-map}
-use Rattle.isle_model.specs.lists.Syntax.{Name, DeclTree, Definition}
-use Rattle.isle_model.specs.lists.Names.{with_name}
-use Rattle.isle_model.specs.lists.Tables.{ConstructorEntry, ExtractorEntry, TermEntry}
-use Rattle.isle_model.specs.lists.TypeTable.{place_from}
-use Rattle.isle_model.specs.lists.TermTable.{decl_trees, decl_names, term_id, term_names, term_names_met, terms_made, made_by}
-use Rattle.isle_model.specs.claims.Environments.{TypesRead}
+use Rattle.model.specs.lists.Syntax.{Name, DeclTree, Definition}
+use Rattle.model.specs.lists.Names.{with_name}
+use Rattle.model.specs.lists.Tables.{ConstructorEntry, ExtractorEntry, TermEntry}
+use Rattle.model.specs.lists.TypeTable.{place_from}
+use Rattle.model.specs.lists.TermTable.{decl_trees, decl_names, term_id, term_names, term_names_met, terms_made, made_by}
+use Rattle.model.specs.claims.Environments.{TypesRead}
 use Rattle.isle_base.specs.Stable.{look_up}
 use Rattle.isle_types.specs.declared.type_env.TypeEnv.{TypeEnv}
 use Rattle.isle_types.specs.Envs.{names_of, symbol_of, same_symbol, symbol, IsInterned}

@@ -5,9 +5,9 @@ use Rattle.std.proofs.lemmas.List.{map-append, take_more}
 use Rattle.std.proofs.lemmas.List.Elements.{All-cons, All-nil, All-contains, All-map, All-weaker, Contains-get_or}
 use Rattle.std.proofs.lemmas.Option.{same_Some}
 use Rattle.std.proofs.lemmas.Simd.{map-map}
-use Rattle.isle_model.specs.lists.Syntax.{Position, Name, PatternTree}
-use Rattle.isle_model.specs.lists.TermTable.{terms_of, terms_in}
-use Rattle.isle_model.proofs.Members.{in_map, from_map}
+use Rattle.model.specs.lists.Syntax.{Position, Name, PatternTree}
+use Rattle.model.specs.lists.TermTable.{terms_of, terms_in}
+use Rattle.model.proofs.Members.{in_map, from_map}
 use Rattle.isle_base.specs.declared.syntax.Error.{Error}
 use Rattle.isle_base.specs.declared.syntax.Ident.{Ident}
 use Rattle.isle_base.specs.declared.syntax.Pos.{Pos}

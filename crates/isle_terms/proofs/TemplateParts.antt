@@ -1,8 +1,8 @@
 -- What is noted of the parts of one internal extractor, put together.
 use Rattle.std.proofs.Common.{◌≡◌, ℕ, List, [], ◌∷◌, ◌⊎◌, None, Vec, slice_get, refl, inr}
 use Rattle.std.specs.declared.alloc.Global.{Global}
-use Rattle.isle_model.specs.lists.Syntax.{ExtractorTree}
-use Rattle.isle_model.specs.lists.TermTable.{terms_in, HoldsNoMacroArg}
+use Rattle.model.specs.lists.Syntax.{ExtractorTree}
+use Rattle.model.specs.lists.TermTable.{terms_in, HoldsNoMacroArg}
 use Rattle.isle_base.specs.declared.syntax.Error.{Error}
 use Rattle.isle_types.specs.declared.ids.TermId.{TermId}
 use Rattle.isle_types.specs.declared.type_env.TypeEnv.{TypeEnv}

@@ -10,16 +10,16 @@ use Rattle.std.proofs.lemmas.List.Concat.{flat_map-append}
 use Rattle.std.proofs.lemmas.List.Elements.{All-push, All-weaker, Contains-append_left, Contains-push, Contains-push_cases}
 use Rattle.std.proofs.lemmas.List.Sorted.{Contains-permutation, IsPermutation-sym}
 use Rattle.std.proofs.lemmas.Option.{same_Some}
-use Rattle.isle_model.specs.lists.Syntax.{Name, DeclTree, ExtractorTree, Definition, type_definition, declaration, extractor_definition, converter_definition, rule_definition, extern_definition, other_definition}
-use Rattle.isle_model.specs.lists.Names.{IsDistinct}
-use Rattle.isle_model.specs.lists.Tables.{ConstructorEntry, ExtractorEntry, internal_extractor, TermKindEntry, variant_term, struct_term, declared_term, TermEntry}
-use Rattle.isle_model.specs.lists.TypeTable.{place_from}
-use Rattle.isle_model.specs.lists.KnownTypes.{known_type}
-use Rattle.isle_model.specs.lists.TermTable.{decl_flags, decl_names, decl_named, decl_trees, rule_trees, extractor_of, extractor_trees, extractor_template, terms_in, arguments_in, argument_count, term_names, term_names_met, term_named, is_declared_multi, IsDeclaredTerm, IsKnownTerm, IsOfPlainTerm, NamesKnownTerms, HoldsNoMacroArg, UsesDeclaredArguments}
-use Rattle.isle_model.specs.claims.Environments.{TypesRead, AreReadable, IsLeftByRefusal}
-use Rattle.isle_model.proofs.FirstPlaces.{place_next}
-use Rattle.isle_model.proofs.Members.{in_map, get_from_member, member_from_get}
-use Rattle.isle_model.proofs.Positions.{distinct_push}
+use Rattle.model.specs.lists.Syntax.{Name, DeclTree, ExtractorTree, Definition, type_definition, declaration, extractor_definition, converter_definition, rule_definition, extern_definition, other_definition}
+use Rattle.model.specs.lists.Names.{IsDistinct}
+use Rattle.model.specs.lists.Tables.{ConstructorEntry, ExtractorEntry, internal_extractor, TermKindEntry, variant_term, struct_term, declared_term, TermEntry}
+use Rattle.model.specs.lists.TypeTable.{place_from}
+use Rattle.model.specs.lists.KnownTypes.{known_type}
+use Rattle.model.specs.lists.TermTable.{decl_flags, decl_names, decl_named, decl_trees, rule_trees, extractor_of, extractor_trees, extractor_template, terms_in, arguments_in, argument_count, term_names, term_names_met, term_named, is_declared_multi, IsDeclaredTerm, IsKnownTerm, IsOfPlainTerm, NamesKnownTerms, HoldsNoMacroArg, UsesDeclaredArguments}
+use Rattle.model.specs.claims.Environments.{TypesRead, AreReadable, IsLeftByRefusal}
+use Rattle.model.proofs.FirstPlaces.{place_next}
+use Rattle.model.proofs.Members.{in_map, get_from_member, member_from_get}
+use Rattle.model.proofs.Positions.{distinct_push}
 use Rattle.isle_base.specs.declared.syntax.Def.{Def}
 use Rattle.isle_base.specs.declared.syntax.Error.{Error}
 use Rattle.isle_base.specs.Positions.{definition_positions}

@@ -3,25 +3,25 @@ use Rattle.std.proofs.Common.{◌≡◌, ◌==◌, Result, Ok, Err, OnOk, OnErr,
 use Rattle.std.proofs.lemmas.Bool.{false≢true}
 use Rattle.std.proofs.lemmas.List.{append_assoc, append-nil}
 use Rattle.std.proofs.lemmas.List.Elements.{All-contains}
-use Rattle.isle_model.specs.lists.Names.{number, has_name, with_name, with_names, IsDistinct}
-use Rattle.isle_model.specs.rules.Meaning.{look}
-use Rattle.isle_model.specs.rules.Outcome.{then_option}
-use Rattle.isle_model.specs.lists.TypeTable.{place_from}
-use Rattle.isle_model.specs.lists.KnownTypes.{type_named}
-use Rattle.isle_model.specs.claims.Environments.{TypesRead, AreReadable, environment_of, with_read_names, numbered, IsLeftByRefusal}
-use Rattle.isle_model.proofs.ByNumber.{by_text}
-use Rattle.isle_model.proofs.FirstPlaces.{place_absent}
-use Rattle.isle_model.proofs.Members.{member_from_get}
-use Rattle.isle_model.proofs.Names.{found, has_left}
-use Rattle.isle_model.proofs.NumbersOf.{environments_are_read}
-use Rattle.isle_laws_typing.proofs.TypesStay.{types_are_shown_lem, types_stay_lem}
+use Rattle.model.specs.lists.Names.{number, has_name, with_name, with_names, IsDistinct}
+use Rattle.model.specs.rules.Meaning.{look}
+use Rattle.model.specs.rules.Outcome.{then_option}
+use Rattle.model.specs.lists.TypeTable.{place_from}
+use Rattle.model.specs.lists.KnownTypes.{type_named}
+use Rattle.model.specs.claims.Environments.{TypesRead, AreReadable, environment_of, with_read_names, numbered, IsLeftByRefusal}
+use Rattle.model.proofs.ByNumber.{by_text}
+use Rattle.model.proofs.FirstPlaces.{place_absent}
+use Rattle.model.proofs.Members.{member_from_get}
+use Rattle.model.proofs.Names.{found, has_left}
+use Rattle.model.proofs.NumbersOf.{environments_are_read}
+use Rattle.laws_typing.proofs.TypesStay.{types_are_shown_lem, types_stay_lem}
 use Rattle.isle_types.specs.declared.type_env.TypeEnv.{TypeEnv}
 use Rattle.isle_types.specs.Envs.{names_of, symbol_of, type_at, same_symbol, symbol, type_of_name, IsInterned}
 use Rattle.isle_types.specs.EnvViews.{environment_view}
 use Rattle.isle_types.specs.TypeViews.{type_views}
 use Rattle.isle_types.proofs.Inverse.{inverse_distinct}
 use Rattle.isle_base.specs.Stable.{look_up}
-use Rattle.isle_laws_typing.proofs.LooksByNumber.{numbered_from}
+use Rattle.laws_typing.proofs.LooksByNumber.{numbered_from}
 use Rattle.isle_terms.specs.Reading.{Interns, MayIntern}
 
 with_name_more : (ns : List (List ℕ)) (x : List ℕ) → (more : List (List ℕ)) × (with_name ns x ≡ ns ++ more)

@@ -3,13 +3,13 @@ use Rattle.std.specs.Prelude.{◌≡◌, ℕ, ◌&&◌, List, ◌⊎◌, map, Op
 use Rattle.std.specs.List.{find}
 use Rattle.std.specs.Str.{bytes_eq}
 use Rattle.std.specs.Bool.{◌==◌}
-use Rattle.isle_model.specs.lists.Syntax.{ConverterTree, ExtractorTree, Definition, converter_definition}
-use Rattle.isle_model.specs.lists.Names.{IsDistinct}
-use Rattle.isle_model.specs.rules.Meaning.{look}
-use Rattle.isle_model.specs.lists.Tables.{ExtractorEntry, internal_extractor}
-use Rattle.isle_model.specs.lists.KnownTypes.{KnownTypes, known_type}
-use Rattle.isle_model.specs.lists.TermTable.{decl_names, rule_trees, extractor_trees, extractor_template, converter_trees, converted_pairs, known_term, IsKnownConverter}
-use Rattle.isle_model.specs.claims.Environments.{TypesRead}
+use Rattle.model.specs.lists.Syntax.{ConverterTree, ExtractorTree, Definition, converter_definition}
+use Rattle.model.specs.lists.Names.{IsDistinct}
+use Rattle.model.specs.rules.Meaning.{look}
+use Rattle.model.specs.lists.Tables.{ExtractorEntry, internal_extractor}
+use Rattle.model.specs.lists.KnownTypes.{KnownTypes, known_type}
+use Rattle.model.specs.lists.TermTable.{decl_names, rule_trees, extractor_trees, extractor_template, converter_trees, converted_pairs, known_term, IsKnownConverter}
+use Rattle.model.specs.claims.Environments.{TypesRead}
 use Rattle.isle_base.specs.declared.syntax.Error.{Error}
 use Rattle.isle_base.specs.Stable.{look_up}
 use Rattle.isle_types.specs.declared.ids.TypeId.{TypeId}

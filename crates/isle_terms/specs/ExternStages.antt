@@ -3,12 +3,12 @@ use Rattle.std.specs.Prelude.{◌≡◌, ℕ, ◌&&◌, List, ◌++◌, map, Opt
 use Rattle.std.specs.Bool.{◌==◌}
 use Rattle.std.specs.List.{find, flat_map}
 use Rattle.std.specs.Str.{bytes_eq}
-use Rattle.isle_model.specs.lists.Syntax.{ExternTree, extern_constructor, extern_extractor, extern_const, Definition, extern_definition}
-use Rattle.isle_model.specs.lists.Names.{number, has_name, IsDistinct}
-use Rattle.isle_model.specs.rules.Meaning.{look}
-use Rattle.isle_model.specs.lists.Tables.{ConstructorEntry, internal_constructor, external_constructor, ExtractorEntry, internal_extractor, external_extractor}
-use Rattle.isle_model.specs.lists.TermTable.{ConstructorTree, ExternalTree, decl_names, function_of, constructor_trees, external_trees, extractor_trees, internal_extractors, extractor_template, has_rules, term_names_met, converters, IsDeclaredTerm, IsWithoutRules}
-use Rattle.isle_model.specs.claims.Environments.{TypesRead}
+use Rattle.model.specs.lists.Syntax.{ExternTree, extern_constructor, extern_extractor, extern_const, Definition, extern_definition}
+use Rattle.model.specs.lists.Names.{number, has_name, IsDistinct}
+use Rattle.model.specs.rules.Meaning.{look}
+use Rattle.model.specs.lists.Tables.{ConstructorEntry, internal_constructor, external_constructor, ExtractorEntry, internal_extractor, external_extractor}
+use Rattle.model.specs.lists.TermTable.{ConstructorTree, ExternalTree, decl_names, function_of, constructor_trees, external_trees, extractor_trees, internal_extractors, extractor_template, has_rules, term_names_met, converters, IsDeclaredTerm, IsWithoutRules}
+use Rattle.model.specs.claims.Environments.{TypesRead}
 use Rattle.isle_base.specs.declared.syntax.Error.{Error}
 use Rattle.isle_types.specs.declared.type_env.TypeEnv.{TypeEnv}
 use Rattle.isle_types.specs.Envs.{names_of}

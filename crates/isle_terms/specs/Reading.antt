@@ -1,10 +1,10 @@
 -- What reading one definition does to a term table, to a type environment and to the errors found so far.
 use Rattle.std.specs.Prelude.{◌≡◌, ℕ, ◌<◌, nat_eq, List, [], ◌∷◌, ◌++◌, ◌⊎◌, length, map, if◌then◌else◌, Option, Some, None, is_some, option_and_then, All, IsTrue}
-use Rattle.isle_model.specs.lists.Syntax.{Name, DeclTree, RuleTree}
-use Rattle.isle_model.specs.lists.Names.{with_name}
-use Rattle.isle_model.specs.rules.Outcome.{then_option}
-use Rattle.isle_model.specs.lists.Tables.{internal_constructor, TermKindEntry, variant_term, struct_term, declared_term, TermEntry}
-use Rattle.isle_model.specs.lists.TermTable.{decl_flags, root_name}
+use Rattle.model.specs.lists.Syntax.{Name, DeclTree, RuleTree}
+use Rattle.model.specs.lists.Names.{with_name}
+use Rattle.model.specs.rules.Outcome.{then_option}
+use Rattle.model.specs.lists.Tables.{internal_constructor, TermKindEntry, variant_term, struct_term, declared_term, TermEntry}
+use Rattle.model.specs.lists.TermTable.{decl_flags, root_name}
 use Rattle.isle_base.specs.declared.syntax.Error.{Error}
 use Rattle.isle_types.specs.declared.type_env.TypeEnv.{TypeEnv}
 use Rattle.isle_types.specs.Envs.{names_of, symbol_of, type_of_name, IsInterned}

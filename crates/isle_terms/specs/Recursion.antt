@@ -1,10 +1,10 @@
 -- Whether templates come back to themselves, by the terms that each names, and how far the search for it is.
 use Rattle.std.specs.Prelude.{◌≡◌, ℕ, ◌+◌, ◌-◌, ◌<◌, ◌⊎◌, Bool, true, false, nat_eq, cond, List, [], ◌∷◌, ◌++◌, length, map, take, replicate, set, sum_by, Option, None, Some, All, Contains, IfSome, slice_get, Vec, ⊤}
 use Rattle.std.specs.declared.alloc.Global.{Global}
-use Rattle.isle_model.specs.lists.Syntax.{Position, Definition}
-use Rattle.isle_model.specs.lists.Tables.{ExtractorEntry, internal_extractor, external_extractor, TermKindEntry, variant_term, struct_term, declared_term, TermEntry}
-use Rattle.isle_model.specs.lists.TermTable.{decl_names, rule_trees, extractor_trees, HasDeclaredRoot, IsAcyclic}
-use Rattle.isle_model.specs.claims.Environments.{TypesRead}
+use Rattle.model.specs.lists.Syntax.{Position, Definition}
+use Rattle.model.specs.lists.Tables.{ExtractorEntry, internal_extractor, external_extractor, TermKindEntry, variant_term, struct_term, declared_term, TermEntry}
+use Rattle.model.specs.lists.TermTable.{decl_names, rule_trees, extractor_trees, HasDeclaredRoot, IsAcyclic}
+use Rattle.model.specs.claims.Environments.{TypesRead}
 use Rattle.isle_base.specs.declared.syntax.Error.{Error}
 use Rattle.isle_types.specs.declared.ids.TermId.{TermId}
 use Rattle.isle_types.specs.declared.type_env.TypeEnv.{TypeEnv}

@@ -1,5 +1,5 @@
 -- What a term table shows to whom it is handed.
-use Rattle.isle_model.specs.claims.Environments.{TermsShown}
+use Rattle.model.specs.claims.Environments.{TermsShown}
 use Rattle.isle_terms.specs.declared.term_table.TermTable.{TermTable}
 use Rattle.isle_terms.specs.TermTables.{term_at}
 use Rattle.isle_terms.specs.TermViews.{term_views}

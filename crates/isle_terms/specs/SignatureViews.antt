@@ -1,6 +1,6 @@
 -- What the signatures of the code say.
 use Rattle.std.specs.Prelude.{map, string_bytes}
-use Rattle.isle_model.specs.lists.Signatures.{Giving, gives_one, gives_one_or_none, gives_any_number, Signature}
+use Rattle.model.specs.lists.Signatures.{Giving, gives_one, gives_one_or_none, gives_any_number, Signature}
 use Rattle.isle_terms.specs.declared.signature.ReturnKind as R
 use Rattle.isle_terms.specs.declared.signature.ReturnKind.TheVariants as K
 use Rattle.isle_terms.specs.declared.signature.ExternalSig.{ExternalSig}

@@ -2,13 +2,13 @@
 -- and those that types make.
 use Rattle.std.specs.Prelude.{◌≡◌, ℕ, ◌<◌, ◌&&◌, true, nat_eq, if◌then◌else◌, List, [], ◌∷◌, ◌++◌, ◌⊎◌, length, map, Option, None, Some, All, Contains, slice_get}
 use Rattle.std.specs.List.{enumerate_from, filter_map, flat_map, AllByRecursion}
-use Rattle.isle_model.specs.lists.Syntax.{Position, DeclTree, Definition, declaration}
-use Rattle.isle_model.specs.lists.Names.{number, with_names, IsDistinct}
-use Rattle.isle_model.specs.lists.Tables.{FieldEntries, TypeEntry, ConstructorEntry, ExtractorEntry, TermKindEntry, declared_term, TermEntry}
-use Rattle.isle_model.specs.rules.Values.{field_types}
-use Rattle.isle_model.specs.lists.KnownTypes.{KnownTypes, known_type}
-use Rattle.isle_model.specs.lists.TermTable.{decl_trees, decl_names, decl_flags, made_by, term_names_met, terms_made, HasKnownArguments, HasKnownResult, IsNotBothMultiAndPartial}
-use Rattle.isle_model.specs.claims.Environments.{TypesRead, IsLeftByRefusal}
+use Rattle.model.specs.lists.Syntax.{Position, DeclTree, Definition, declaration}
+use Rattle.model.specs.lists.Names.{number, with_names, IsDistinct}
+use Rattle.model.specs.lists.Tables.{FieldEntries, TypeEntry, ConstructorEntry, ExtractorEntry, TermKindEntry, declared_term, TermEntry}
+use Rattle.model.specs.rules.Values.{field_types}
+use Rattle.model.specs.lists.KnownTypes.{KnownTypes, known_type}
+use Rattle.model.specs.lists.TermTable.{decl_trees, decl_names, decl_flags, made_by, term_names_met, terms_made, HasKnownArguments, HasKnownResult, IsNotBothMultiAndPartial}
+use Rattle.model.specs.claims.Environments.{TypesRead, IsLeftByRefusal}
 use Rattle.isle_base.specs.declared.syntax.Error.{Error}
 use Rattle.isle_types.specs.declared.type_env.TypeEnv.{TypeEnv}
 use Rattle.isle_types.specs.Envs.{names_of, IsInterned}

@@ -1,12 +1,12 @@
 -- What the stages of reading a list of definitions speak of.
 use Rattle.std.specs.Prelude.{◌≡◌, ℕ, false, List, Option, Some, None, slice_get, if◌then◌else◌}
 use Rattle.std.specs.List.{list_any}
-use Rattle.isle_model.specs.lists.Syntax.{RuleTree}
-use Rattle.isle_model.specs.lists.Names.{has_name}
-use Rattle.isle_model.specs.rules.Outcome.{then_option}
-use Rattle.isle_model.specs.lists.Tables.{ConstructorEntry, internal_constructor}
-use Rattle.isle_model.specs.lists.TypeTable.{place_from}
-use Rattle.isle_model.specs.lists.TermTable.{is_rule_of}
+use Rattle.model.specs.lists.Syntax.{RuleTree}
+use Rattle.model.specs.lists.Names.{has_name}
+use Rattle.model.specs.rules.Outcome.{then_option}
+use Rattle.model.specs.lists.Tables.{ConstructorEntry, internal_constructor}
+use Rattle.model.specs.lists.TypeTable.{place_from}
+use Rattle.model.specs.lists.TermTable.{is_rule_of}
 use Rattle.isle_base.specs.Stable.{look_up}
 use Rattle.isle_types.specs.declared.ids.TypeId.{TypeId}
 use Rattle.isle_terms.specs.declared.term_table.TermTable.{TermTable}

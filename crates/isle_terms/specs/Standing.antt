@@ -2,11 +2,11 @@
 -- is read then.
 use Rattle.std.specs.Prelude.{◌≡◌, ℕ, zero, suc, Bool, true, false, List, [], ◌∷◌, ◌++◌, ◌⊎◌, map, Option, None, Some, All, slice_get}
 use Rattle.std.specs.List.{flat_map}
-use Rattle.isle_model.specs.lists.Syntax.{RuleTree, Definition, rule_definition}
-use Rattle.isle_model.specs.lists.Names.{with_names, IsDistinct}
-use Rattle.isle_model.specs.lists.Tables.{ConstructorEntry, ExtractorEntry, TermKindEntry, variant_term, struct_term, declared_term, TermEntry}
-use Rattle.isle_model.specs.lists.TermTable.{decl_trees, decl_names, rule_trees, term_names, term_names_met, terms_made, HasDeclaredRoot}
-use Rattle.isle_model.specs.claims.Environments.{TypesRead}
+use Rattle.model.specs.lists.Syntax.{RuleTree, Definition, rule_definition}
+use Rattle.model.specs.lists.Names.{with_names, IsDistinct}
+use Rattle.model.specs.lists.Tables.{ConstructorEntry, ExtractorEntry, TermKindEntry, variant_term, struct_term, declared_term, TermEntry}
+use Rattle.model.specs.lists.TermTable.{decl_trees, decl_names, rule_trees, term_names, term_names_met, terms_made, HasDeclaredRoot}
+use Rattle.model.specs.claims.Environments.{TypesRead}
 use Rattle.isle_base.specs.declared.syntax.Error.{Error}
 use Rattle.isle_types.specs.declared.type_env.TypeEnv.{TypeEnv}
 use Rattle.isle_types.specs.Envs.{names_of}

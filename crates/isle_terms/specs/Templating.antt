@@ -2,11 +2,11 @@
 use Rattle.std.specs.Prelude.{◌≡◌, ◌≢◌, ℕ, ◌<◌, ◌&&◌, not, Bool, true, false, List, [], ◌∷◌, ◌++◌, ◌⊎◌, length, map, Option, None, Some, is_some, unwrap_or, option_map, All, Contains, IsTrue, slice_get, Vec}
 use Rattle.std.specs.List.Sorted.{IsPermutation}
 use Rattle.std.specs.declared.alloc.Global.{Global}
-use Rattle.isle_model.specs.lists.Syntax.{Name, ExtractorTree, Definition, extractor_definition}
-use Rattle.isle_model.specs.lists.Names.{IsDistinct}
-use Rattle.isle_model.specs.lists.Tables.{internal_extractor, TermKindEntry, variant_term, struct_term, declared_term, TermEntry}
-use Rattle.isle_model.specs.lists.TermTable.{decl_names, rule_trees, extractor_trees, extractor_template, terms_in, arguments_in, term_named, HasDeclaredRoot, IsDeclaredTerm, IsOfPlainTerm, NamesKnownTerms, HoldsNoMacroArg, UsesDeclaredArguments}
-use Rattle.isle_model.specs.claims.Environments.{TypesRead}
+use Rattle.model.specs.lists.Syntax.{Name, ExtractorTree, Definition, extractor_definition}
+use Rattle.model.specs.lists.Names.{IsDistinct}
+use Rattle.model.specs.lists.Tables.{internal_extractor, TermKindEntry, variant_term, struct_term, declared_term, TermEntry}
+use Rattle.model.specs.lists.TermTable.{decl_names, rule_trees, extractor_trees, extractor_template, terms_in, arguments_in, term_named, HasDeclaredRoot, IsDeclaredTerm, IsOfPlainTerm, NamesKnownTerms, HoldsNoMacroArg, UsesDeclaredArguments}
+use Rattle.model.specs.claims.Environments.{TypesRead}
 use Rattle.isle_base.specs.declared.syntax.Error.{Error}
 use Rattle.isle_types.specs.declared.ids.TermId.{TermId}
 use Rattle.isle_types.specs.declared.type_env.TypeEnv.{TypeEnv}

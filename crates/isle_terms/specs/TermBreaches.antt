@@ -2,10 +2,10 @@
 -- stands. Of two that have one name, it is the one that comes later: an external extractor comes after all internal ones.
 use Rattle.std.specs.Prelude.{◌≡◌, ℕ, List, [], ◌∷◌, ◌++◌, Some, Contains, slice_get}
 use Rattle.std.specs.List.{filter_map, flat_map}
-use Rattle.isle_model.specs.lists.Syntax.{Position, Name, DeclTree, ExtractorTree, ConverterTree, RuleTree, Definition, declaration, extractor_definition, converter_definition, rule_definition, extern_definition, extern_constructor, extern_extractor}
-use Rattle.isle_model.specs.lists.Tables.{TypeEntry}
-use Rattle.isle_model.specs.lists.KnownTypes.{KnownTypes}
-use Rattle.isle_model.specs.lists.TermTable.{ConstructorTree, ExternalTree, decl_names, converted_pairs, external_constructors, external_extractors, extractor_trees, internal_extractors, made_by, HasDeclaredRoot, HasKnownArguments, HasKnownResult, HoldsNoMacroArg, IsDeclaredTerm, IsKnownConverter, IsNotBothMultiAndPartial, IsOfPlainTerm, IsWithoutRules, NamesKnownTerms, Reaches, UsesDeclaredArguments}
+use Rattle.model.specs.lists.Syntax.{Position, Name, DeclTree, ExtractorTree, ConverterTree, RuleTree, Definition, declaration, extractor_definition, converter_definition, rule_definition, extern_definition, extern_constructor, extern_extractor}
+use Rattle.model.specs.lists.Tables.{TypeEntry}
+use Rattle.model.specs.lists.KnownTypes.{KnownTypes}
+use Rattle.model.specs.lists.TermTable.{ConstructorTree, ExternalTree, decl_names, converted_pairs, external_constructors, external_extractors, extractor_trees, internal_extractors, made_by, HasDeclaredRoot, HasKnownArguments, HasKnownResult, HoldsNoMacroArg, IsDeclaredTerm, IsKnownConverter, IsNotBothMultiAndPartial, IsOfPlainTerm, IsWithoutRules, NamesKnownTerms, Reaches, UsesDeclaredArguments}
 use Rattle.isle_base.specs.declared.syntax.Error.{Error}
 use Rattle.isle_base.specs.Patterns.{pattern_position}
 use Rattle.isle_base.specs.Positions.{ErrorStandsAt, definition_positions}

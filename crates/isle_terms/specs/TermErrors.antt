@@ -1,10 +1,10 @@
 -- Which errors are told of the terms of a list of definitions: those of the first group in which something is wrong.
 use Rattle.std.specs.Prelude.{◌≡◌, ℕ, List, [], All, Contains}
-use Rattle.isle_model.specs.lists.Syntax.{ConverterTree, Definition, converter_definition}
-use Rattle.isle_model.specs.lists.KnownTypes.{KnownTypes}
-use Rattle.isle_model.specs.lists.Names.{IsDistinct}
-use Rattle.isle_model.specs.lists.TermTable.{decl_trees, rule_trees, extractor_trees, converter_trees, converted_pairs, term_names, HasDeclaredRoot, IsAcyclic, IsKnownConverter}
-use Rattle.isle_model.specs.claims.Environments.{TypesRead}
+use Rattle.model.specs.lists.Syntax.{ConverterTree, Definition, converter_definition}
+use Rattle.model.specs.lists.KnownTypes.{KnownTypes}
+use Rattle.model.specs.lists.Names.{IsDistinct}
+use Rattle.model.specs.lists.TermTable.{decl_trees, rule_trees, extractor_trees, converter_trees, converted_pairs, term_names, HasDeclaredRoot, IsAcyclic, IsKnownConverter}
+use Rattle.model.specs.claims.Environments.{TypesRead}
 use Rattle.isle_base.specs.declared.syntax.Error.{Error}
 use Rattle.isle_base.specs.Positions.{converter_positions}
 use Rattle.isle_types.specs.ToldErrors.{TellsUnless, Told}

@@ -2,8 +2,8 @@
 -- stand too.
 use Rattle.std.specs.Prelude.{List, [], ◌∷◌, ◌++◌, Option, Some, None, map}
 use Rattle.std.specs.List.{flat_map}
-use Rattle.isle_model.specs.lists.Syntax.{Position, PatternTree, PatternTrees, bind_pattern, term_pattern, and_pattern, macro_arg, no_pattern, pattern_and}
-use Rattle.isle_model.specs.lists.Tables.{VariantEntry, ExtractorEntry, internal_extractor, external_extractor, TermKindEntry, variant_term, struct_term, declared_term, TermEntry}
+use Rattle.model.specs.lists.Syntax.{Position, PatternTree, PatternTrees, bind_pattern, term_pattern, and_pattern, macro_arg, no_pattern, pattern_and}
+use Rattle.model.specs.lists.Tables.{VariantEntry, ExtractorEntry, internal_extractor, external_extractor, TermKindEntry, variant_term, struct_term, declared_term, TermEntry}
 use Rattle.isle_base.specs.Patterns.{pattern_position}
 use Rattle.isle_base.specs.Positions.{pattern_positions, OccurAmong}
 use Rattle.isle_terms.specs.declared.term.ExtractorKind.{ExtractorKind}

@@ -1,6 +1,6 @@
 -- What the terms of the code say, as entries of the term table.
 use Rattle.std.specs.Prelude.{List, map, option_map}
-use Rattle.isle_model.specs.lists.Tables.{Flags, ConstructorEntry, internal_constructor, external_constructor, ExtractorEntry, internal_extractor, external_extractor, TermKindEntry, variant_term, struct_term, declared_term, TermEntry}
+use Rattle.model.specs.lists.Tables.{Flags, ConstructorEntry, internal_constructor, external_constructor, ExtractorEntry, internal_extractor, external_extractor, TermKindEntry, variant_term, struct_term, declared_term, TermEntry}
 use Rattle.isle_base.specs.SyntaxViews.{position, pattern_view}
 use Rattle.isle_terms.specs.declared.term.TermFlags.{TermFlags}
 use Rattle.isle_terms.specs.declared.term.ConstructorKind.{ConstructorKind}

@@ -1,6 +1,6 @@
 -- What a client asks of an entry of the term table.
 use Rattle.std.specs.Prelude.{Bool, true, false, Option, Some, None, is_some}
-use Rattle.isle_model.specs.lists.Tables.{ConstructorEntry, internal_constructor, external_constructor, ExtractorEntry, internal_extractor, external_extractor, TermKindEntry, variant_term, struct_term, declared_term, TermEntry}
+use Rattle.model.specs.lists.Tables.{ConstructorEntry, internal_constructor, external_constructor, ExtractorEntry, internal_extractor, external_extractor, TermKindEntry, variant_term, struct_term, declared_term, TermEntry}
 
 abbrev pub is_variant_kind : TermKindEntry → Bool
 is_variant_kind (variant_term variant) = true

@@ -5,7 +5,7 @@ ghost use Rattle.std.specs.Prelude.{◌≡◌, ◌⊎◌, ◌++◌, ◌∷◌, [
 ghost use Rattle.isle_base.specs.Positions.{NotesAt, declaration_positions, name_positions};
 ghost use Rattle.isle_base.specs.SyntaxViews.{decl_view, name_view, position};
 ghost use Rattle.isle_types.specs.Envs.{names_of, IsInterned};
-ghost use Rattle.isle_model.specs.lists.Names.{number};
+ghost use Rattle.model.specs.lists.Names.{number};
 ghost use Rattle.isle_base.specs.NotedErrors.{NotesMore};
 ghost use Rattle.isle_types.specs.ToldErrors.{Notes};
 ghost use Rattle.isle_terms.specs.TermBreaches.{FirstStandsAt};

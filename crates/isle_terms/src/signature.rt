@@ -1,7 +1,7 @@
 //! The signatures of the functions that stand for terms outside.
 
 ghost use Rattle.std.specs.Prelude.{◌≡◌, ◌++◌, ◌∷◌, [], codes, IfOk, map, option_map, string_bytes};
-ghost use Rattle.isle_model.specs.lists.Signatures.{extractor_signature, constructor_signature, extractor_gives, constructor_gives};
+ghost use Rattle.model.specs.lists.Signatures.{extractor_signature, constructor_signature, extractor_gives, constructor_gives};
 ghost use Rattle.isle_types.specs.Envs.{names_of};
 ghost use Rattle.isle_terms.specs.TermViews.{flags_view, term_view};
 ghost use Rattle.isle_terms.specs.SignatureViews.{giving_view, signature_view};

@@ -5,12 +5,12 @@ use Rattle.std.specs.Ordering.{nat_cmp, is_eq, match_ordering}
 use Rattle.std.specs.declared.cmp.Ordering.TheVariants.{Less, Equal, Greater}
 use Rattle.std.specs.Cmp.{unsigned_tied}
 use Rattle.std.proofs.lemmas.Map.Lookups.{exact_unsigned}
-use Rattle.isle_model.specs.lists.Tables.{TermEntry}
-use Rattle.isle_model.specs.rules.Typed.{TypedPattern, match_bind, match_var, match_bool, match_int, match_prim, match_term, match_any, match_and, TypedPatterns, no_typed_pattern, typed_pattern_and, TypedExpr, make_term, make_var, make_bool, make_int, make_prim, make_let, TypedExprs, no_typed_expr, typed_expr_and, TypedLets, no_typed_let, typed_let_and}
-use Rattle.isle_model.specs.visits.Demands.{pattern_count}
-use Rattle.isle_model.specs.trees.Places.{is_in}
-use Rattle.isle_model.specs.lists.Visitable.{bound_after, bound_after_parts, bound_after_lets, is_visitable_pattern, are_visitable_parts, is_visitable_expr, are_visitable_args, are_visitable_lets, opens_into, is_made_of, expr_count}
-use Rattle.isle_model.specs.visits.Runs.{BoundIds, bound_at, bound_vars, with_bound}
+use Rattle.model.specs.lists.Tables.{TermEntry}
+use Rattle.model.specs.rules.Typed.{TypedPattern, match_bind, match_var, match_bool, match_int, match_prim, match_term, match_any, match_and, TypedPatterns, no_typed_pattern, typed_pattern_and, TypedExpr, make_term, make_var, make_bool, make_int, make_prim, make_let, TypedExprs, no_typed_expr, typed_expr_and, TypedLets, no_typed_let, typed_let_and}
+use Rattle.model.specs.visits.Demands.{pattern_count}
+use Rattle.model.specs.trees.Places.{is_in}
+use Rattle.model.specs.lists.Visitable.{bound_after, bound_after_parts, bound_after_lets, is_visitable_pattern, are_visitable_parts, is_visitable_expr, are_visitable_args, are_visitable_lets, opens_into, is_made_of, expr_count}
+use Rattle.model.specs.visits.Runs.{BoundIds, bound_at, bound_vars, with_bound}
 
 same_either_way : (x y : ℕ) → (x == y) ≡ (y == x)
 same_either_way x y =

@@ -6,7 +6,7 @@ use Rattle.std.proofs.lemmas.Bool.Decides.{eqb_tells}
 use Rattle.std.proofs.lemmas.List.{length-set, get_or-set_same, get_or-set_other, length-map, length-take-le, take-map}
 use Rattle.std.proofs.lemmas.List.Sums.{count_by-le-length, count_by_more_yes, count_by_more_no}
 use Rattle.std.proofs.lemmas.Option.{none-some, same_Some, slice_get-get_or, get_or_from_slice_get, slice_get_within}
-use Rattle.isle_model.specs.rules.Typed.{TypedRule}
+use Rattle.model.specs.rules.Typed.{TypedRule}
 use Rattle.isle_typed.specs.declared.rules.Rule.{Rule}
 use Rattle.isle_typed.specs.RuleNaming.{AreCounts}
 use Rattle.isle_typed.specs.RuleViews.{rule_view, rule_views}

@@ -3,7 +3,7 @@ use Rattle.std.proofs.Common.{◌≡◌, ◌≢◌, ℕ, ◌+◌, ◌<◌, IsTru
 use Rattle.std.proofs.lemmas.List.{at_drop_more}
 use Rattle.std.proofs.lemmas.List.Elements.{All-nil, All-cons, All-head, All-tail, All-append}
 use Rattle.isle_base.specs.declared.syntax.Error.{Error}
-use Rattle.isle_model.specs.lists.Tables.{TermEntry}
+use Rattle.model.specs.lists.Tables.{TermEntry}
 use Rattle.isle_terms.specs.declared.term.Term.{Term}
 use Rattle.isle_terms.specs.TermViews.{term_view, term_views}
 use Rattle.isle_base.specs.NotedErrors.{NotesMore}

@@ -4,7 +4,7 @@ use Rattle.std.specs.declared.alloc.Global.{Global}
 use Rattle.isle_types.specs.declared.ids.TypeId.{TypeId}
 use Rattle.isle_types.specs.declared.ids.TermId.{TermId}
 use Rattle.isle_types.specs.declared.ids.VarId.{VarId}
-use Rattle.isle_model.specs.rules.Typed.{make_term, make_let, typed_expr_and, typed_let_and}
+use Rattle.model.specs.rules.Typed.{make_term, make_let, typed_expr_and, typed_let_and}
 use Rattle.isle_typed.specs.declared.exprs.Expr.{Expr, Term, Let, Row_of-Expr, end_of-Expr, more_of-Expr, items-the_row-Expr, Row_of-Expr-Let-1-4, end_of-Expr-Let-1-4, more_of-Expr-Let-1-4, items-the_row-Expr-Let-1-4}
 use Rattle.isle_typed.specs.declared.exprs.Expr.TheBlock.{hidden-the_row-Expr-0, items_hidden-the_row-Expr-0, hidden-the_row-Expr-Let-1-4-1, items_hidden-the_row-Expr-Let-1-4-1}
 use Rattle.isle_typed.specs.ExprViews.{expr_view, row_exprs, row_lets, expr_views, expr_parts, let_views, let_parts}

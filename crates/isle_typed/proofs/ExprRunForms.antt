@@ -10,19 +10,19 @@ use Rattle.isle_types.specs.declared.ids.TermId.{TermId}
 use Rattle.isle_types.specs.declared.ids.VarId.{VarId}
 use Rattle.isle_terms.specs.declared.term.Term.{Term as CodeTerm}
 use Rattle.isle_terms.specs.TermViews.{term_view}
-use Rattle.isle_model.specs.lists.Formed.{of_entry}
-use Rattle.isle_model.specs.lists.Setting.{has_constructor}
-use Rattle.isle_model.specs.lists.Tables.{TermEntry}
-use Rattle.isle_model.specs.rules.Typed.{make_term, make_let, TypedLets, no_typed_let, typed_let_and}
-use Rattle.isle_model.specs.trees.Places.{is_in}
+use Rattle.model.specs.lists.Formed.{of_entry}
+use Rattle.model.specs.lists.Setting.{has_constructor}
+use Rattle.model.specs.lists.Tables.{TermEntry}
+use Rattle.model.specs.rules.Typed.{make_term, make_let, TypedLets, no_typed_let, typed_let_and}
+use Rattle.model.specs.trees.Places.{is_in}
 use Rattle.isle_typed.specs.declared.exprs.Expr.{Expr, Term, Let}
 use Rattle.isle_base.specs.declared.visit_fault.VisitFault.{VisitFault}
-use Rattle.isle_model.specs.visits.Visitors.{ExprSteps}
+use Rattle.model.specs.visits.Visitors.{ExprSteps}
 use Rattle.isle_typed.specs.ExprViews.{expr_view, expr_views, expr_parts, let_views, let_parts}
-use Rattle.isle_model.specs.visits.ExprRuns.{entry_arg_types, Makes, ExprRun, InputsRun, LetsRun}
-use Rattle.isle_model.specs.lists.Visitable.{bound_after_lets, is_visitable_expr, are_visitable_args, are_visitable_lets, is_made_of, expr_count}
+use Rattle.model.specs.visits.ExprRuns.{entry_arg_types, Makes, ExprRun, InputsRun, LetsRun}
+use Rattle.model.specs.lists.Visitable.{bound_after_lets, is_visitable_expr, are_visitable_args, are_visitable_lets, is_made_of, expr_count}
 use Rattle.isle_typed.specs.VisitAnswers.{type_numbers}
-use Rattle.isle_model.specs.visits.Runs.{BoundIds, bound_vars, with_bound}
+use Rattle.model.specs.visits.Runs.{BoundIds, bound_vars, with_bound}
 use Rattle.isle_typed.specs.VisitorSteps.{no_memory}
 use Rattle.isle_typed.proofs.BoundVars.{SameVars, bound_with, expr_same, lets_after_same}
 use Rattle.isle_typed.proofs.ExprBridges.{view-Term, view-Let}

@@ -5,17 +5,17 @@ use Rattle.std.proofs.lemmas.Bool.{and_parts}
 use Rattle.std.proofs.lemmas.List.{drop_more, drop_all, map-append, length-append}
 use Rattle.isle_types.specs.declared.ids.TypeId.{TypeId}
 use Rattle.isle_types.specs.declared.ids.VarId.{VarId}
-use Rattle.isle_model.specs.lists.Tables.{TermEntry}
-use Rattle.isle_model.specs.rules.Typed.{TypedExpr, TypedExprs, typed_expr_and}
+use Rattle.model.specs.lists.Tables.{TermEntry}
+use Rattle.model.specs.rules.Typed.{TypedExpr, TypedExprs, typed_expr_and}
 use Rattle.isle_typed.specs.declared.exprs.Expr.{Expr}
 use Rattle.isle_base.specs.declared.visit_fault.VisitFault.{VisitFault}
 use Rattle.isle_base.specs.declared.visit_fault.VisitFault.TheVariants.{Memory}
-use Rattle.isle_model.specs.visits.Visitors.{ExprSteps}
+use Rattle.model.specs.visits.Visitors.{ExprSteps}
 use Rattle.isle_typed.specs.ExprViews.{expr_view, expr_views, expr_parts, let_views, let_parts}
-use Rattle.isle_model.specs.visits.ExprRuns.{ExprRun, InputsRun, LetsRun}
-use Rattle.isle_model.specs.lists.Visitable.{is_visitable_expr, are_visitable_args, are_visitable_lets}
+use Rattle.model.specs.visits.ExprRuns.{ExprRun, InputsRun, LetsRun}
+use Rattle.model.specs.lists.Visitable.{is_visitable_expr, are_visitable_args, are_visitable_lets}
 use Rattle.isle_typed.specs.VisitAnswers.{type_numbers, typed_inputs}
-use Rattle.isle_model.specs.visits.Runs.{BoundIds, binds, bound_vars, with_bound}
+use Rattle.model.specs.visits.Runs.{BoundIds, binds, bound_vars, with_bound}
 use Rattle.isle_typed.specs.VisitorSteps.{no_memory}
 use Rattle.isle_typed.proofs.BoundVars.{bound_with, lets_same}
 

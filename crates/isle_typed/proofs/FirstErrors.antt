@@ -1,8 +1,8 @@
 -- The first error of a list, while errors are noted one after another.
 use Rattle.std.proofs.Common.{◌≡◌, ◌≢◌, ℕ, zero, suc, ◌+◌, ◌<◌, Contains, List, [], ◌∷◌, ◌++◌, length, map, take, drop, get_or, arith, add-one, sym, ap, subst, refl, ◌∙◌, inl, inr, ◌⊎◌}
 use Rattle.std.proofs.lemmas.List.{append-nil}
-use Rattle.isle_model.specs.lists.Syntax.{Position}
-use Rattle.isle_model.proofs.Members.{nothing_in, in_head}
+use Rattle.model.specs.lists.Syntax.{Position}
+use Rattle.model.proofs.Members.{nothing_in, in_head}
 use Rattle.isle_base.specs.declared.syntax.Error.{Error}
 use Rattle.isle_base.specs.NotedErrors.{MayNoteMore}
 use Rattle.isle_base.specs.Positions.{ErrorStandsAt, NotesAt}

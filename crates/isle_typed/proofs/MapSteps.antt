@@ -7,11 +7,11 @@ use Rattle.std.proofs.lemmas.List.{append_assoc, append-nil, at_drop_more}
 use Rattle.std.proofs.lemmas.List.Elements.{filter_map-append}
 use Rattle.isle_base.specs.declared.syntax.Error.{Error}
 use Rattle.isle_base.specs.Stable.{Entries, look_up}
-use Rattle.isle_model.specs.lists.Names.{IsDistinct}
-use Rattle.isle_model.proofs.Positions.{distinct_nil, distinct_push, twice}
-use Rattle.isle_model.proofs.Members.{member_from_get}
-use Rattle.isle_model.specs.rules.Typed.{TypedRule}
-use Rattle.isle_model.specs.lists.Elaborated.{rule_names, rule_named}
+use Rattle.model.specs.lists.Names.{IsDistinct}
+use Rattle.model.proofs.Positions.{distinct_nil, distinct_push, twice}
+use Rattle.model.proofs.Members.{member_from_get}
+use Rattle.model.specs.rules.Typed.{TypedRule}
+use Rattle.model.specs.lists.Elaborated.{rule_names, rule_named}
 use Rattle.isle_types.specs.declared.ids.Sym.{Sym}
 use Rattle.isle_types.specs.declared.ids.RuleId.{RuleId}
 use Rattle.isle_types.specs.Envs.{same_symbol, symbol}

@@ -1,9 +1,9 @@
 -- Giving rules the names of their terms, one rule after another.
 use Rattle.std.proofs.Common.{◌≡◌, ℕ, zero, suc, ◌+◌, ◌<◌, List, [], ◌∷◌, ◌++◌, length, take, drop, set, get_or, map, Option, option_map, refl, sym, ap, subst, ◌∙◌, arith}
 use Rattle.std.proofs.lemmas.List.{map-set, length-map}
-use Rattle.isle_model.specs.lists.Tables.{TermEntry}
-use Rattle.isle_model.specs.rules.Typed.{TypedRule}
-use Rattle.isle_model.specs.lists.Elaborated.{named_rule, named_rules}
+use Rattle.model.specs.lists.Tables.{TermEntry}
+use Rattle.model.specs.rules.Typed.{TypedRule}
+use Rattle.model.specs.lists.Elaborated.{named_rule, named_rules}
 use Rattle.isle_types.specs.declared.ids.Sym.{Sym}
 use Rattle.isle_typed.specs.declared.rules.Rule.{Rule}
 use Rattle.isle_typed.proofs.Defaults.{same_default}

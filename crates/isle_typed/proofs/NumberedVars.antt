@@ -8,7 +8,7 @@ use Rattle.std.specs.Ordering.{nat_cmp, is_eq, match_ordering}
 use Rattle.std.specs.declared.cmp.Ordering.{Ordering}
 use Rattle.std.specs.declared.cmp.Ordering.TheVariants.{Less, Equal, Greater}
 use Rattle.isle_types.specs.declared.ids.VarId.{VarId}
-use Rattle.isle_model.specs.visits.Runs.{bound_at, bound_vars, with_bound}
+use Rattle.model.specs.visits.Runs.{bound_at, bound_vars, with_bound}
 use Rattle.isle_typed.specs.VisitorSteps.{by_number}
 
 abbrev pub var_cmp : VarId → VarId → Ordering

@@ -6,7 +6,7 @@ use Rattle.std.specs.List.Sorted.{IsStrictlySortedBy}
 use Rattle.std.specs.Ordering.{nat_cmp, match_ordering, ordering_reverse}
 use Rattle.std.specs.declared.cmp.Ordering.TheVariants.{Less, Greater}
 use Rattle.std.proofs.lemmas.Cmp.{nat_cmp_total}
-use Rattle.isle_model.specs.visits.Runs.{BoundIds, binds, bound_vars, with_bound}
+use Rattle.model.specs.visits.Runs.{BoundIds, binds, bound_vars, with_bound}
 use Rattle.isle_typed.specs.VisitorSteps.{no_memory}
 
 is_below : (a b : ℕ) → nat_cmp a b ≡ Less → nat_cmp b a ≡ Greater

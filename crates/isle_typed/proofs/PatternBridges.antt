@@ -3,7 +3,7 @@ use Rattle.std.proofs.Common.{◌≡◌, refl, ap, ◌∙◌, Vec}
 use Rattle.std.specs.declared.alloc.Global.{Global}
 use Rattle.isle_types.specs.declared.ids.TypeId.{TypeId}
 use Rattle.isle_types.specs.declared.ids.TermId.{TermId}
-use Rattle.isle_model.specs.rules.Typed.{match_term, match_and, typed_pattern_and}
+use Rattle.model.specs.rules.Typed.{match_term, match_and, typed_pattern_and}
 use Rattle.isle_typed.specs.declared.patterns.Pattern.{Pattern, Term, And, Row_of-Pattern, end_of-Pattern, more_of-Pattern, items-the_row-Pattern}
 use Rattle.isle_typed.specs.declared.patterns.Pattern.TheBlock.{hidden-the_row-Pattern-0, items_hidden-the_row-Pattern-0}
 use Rattle.isle_typed.specs.PatternViews.{pattern_view, row_patterns, pattern_views, pattern_parts}

@@ -6,16 +6,16 @@ use Rattle.std.proofs.lemmas.Bool.{and_parts}
 use Rattle.isle_types.specs.declared.ids.TypeId.{TypeId}
 use Rattle.isle_types.specs.declared.ids.TermId.{TermId}
 use Rattle.isle_types.specs.declared.ids.VarId.{VarId}
-use Rattle.isle_model.specs.lists.Tables.{TermEntry}
-use Rattle.isle_model.specs.rules.Typed.{match_bind, match_term, match_and}
-use Rattle.isle_model.specs.visits.Demands.{pattern_count}
+use Rattle.model.specs.lists.Tables.{TermEntry}
+use Rattle.model.specs.rules.Typed.{match_bind, match_term, match_and}
+use Rattle.model.specs.visits.Demands.{pattern_count}
 use Rattle.isle_typed.specs.declared.patterns.Pattern.{Pattern, BindPattern, Var, Term, And}
 use Rattle.isle_base.specs.declared.visit_fault.VisitFault.{VisitFault}
-use Rattle.isle_model.specs.visits.Visitors.{PatternSteps}
+use Rattle.model.specs.visits.Visitors.{PatternSteps}
 use Rattle.isle_typed.specs.PatternViews.{pattern_view, pattern_views, pattern_parts}
-use Rattle.isle_model.specs.visits.PatternRuns.{part_types, Opens, PatternRun, PartsRun, EachRun}
-use Rattle.isle_model.specs.lists.Visitable.{is_visitable_pattern, are_visitable_parts, opens_into}
-use Rattle.isle_model.specs.visits.Runs.{BoundIds, binds, bound_at, bound_vars, with_bound}
+use Rattle.model.specs.visits.PatternRuns.{part_types, Opens, PatternRun, PartsRun, EachRun}
+use Rattle.model.specs.lists.Visitable.{is_visitable_pattern, are_visitable_parts, opens_into}
+use Rattle.model.specs.visits.Runs.{BoundIds, binds, bound_at, bound_vars, with_bound}
 use Rattle.isle_typed.specs.VisitorSteps.{no_memory}
 use Rattle.isle_typed.proofs.BoundVars.{bound_with, pattern_same}
 use Rattle.isle_typed.proofs.PatternBridges.{view-Term, view-And}

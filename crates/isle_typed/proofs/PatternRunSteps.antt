@@ -4,17 +4,17 @@ use Rattle.std.specs.Result.{IsErr, IsErrAnd}
 use Rattle.std.proofs.lemmas.Bool.{and_parts}
 use Rattle.std.proofs.lemmas.List.{drop_more, length-map}
 use Rattle.isle_types.specs.declared.ids.TypeId.{TypeId}
-use Rattle.isle_model.specs.lists.Tables.{TermEntry}
-use Rattle.isle_model.specs.rules.Typed.{TypedPattern, match_bind, match_var, match_bool, match_int, match_prim, match_term, match_any, match_and, TypedPatterns, no_typed_pattern, typed_pattern_and}
-use Rattle.isle_model.specs.trees.Places.{is_in}
+use Rattle.model.specs.lists.Tables.{TermEntry}
+use Rattle.model.specs.rules.Typed.{TypedPattern, match_bind, match_var, match_bool, match_int, match_prim, match_term, match_any, match_and, TypedPatterns, no_typed_pattern, typed_pattern_and}
+use Rattle.model.specs.trees.Places.{is_in}
 use Rattle.isle_typed.specs.declared.patterns.Pattern.{Pattern}
 use Rattle.isle_base.specs.declared.visit_fault.VisitFault.{VisitFault}
-use Rattle.isle_model.specs.visits.Visitors.{PatternSteps}
+use Rattle.model.specs.visits.Visitors.{PatternSteps}
 use Rattle.isle_typed.specs.PatternViews.{pattern_view, pattern_views, pattern_parts}
-use Rattle.isle_model.specs.visits.PatternRuns.{part_types, PatternRun, PartsRun, EachRun}
+use Rattle.model.specs.visits.PatternRuns.{part_types, PatternRun, PartsRun, EachRun}
 use Rattle.isle_typed.specs.VisitAnswers.{type_numbers}
-use Rattle.isle_model.specs.lists.Visitable.{bound_after, bound_after_parts, is_visitable_pattern, are_visitable_parts}
-use Rattle.isle_model.specs.visits.Runs.{BoundIds, bound_vars, with_bound}
+use Rattle.model.specs.lists.Visitable.{bound_after, bound_after_parts, is_visitable_pattern, are_visitable_parts}
+use Rattle.model.specs.visits.Runs.{BoundIds, bound_vars, with_bound}
 use Rattle.isle_typed.specs.VisitorSteps.{no_memory}
 use Rattle.isle_typed.proofs.BoundVars.{SameVars, bound_with, after_same, parts_after_same, parts_same}
 

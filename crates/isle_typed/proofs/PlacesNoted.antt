@@ -1,7 +1,7 @@
 -- Errors that stand where the elements of a list do, noted for one after another.
 use Rattle.std.proofs.Common.{◌≡◌, ℕ, ◌<◌, List, [], ◌∷◌, length, get_or, map, Contains, sym}
-use Rattle.isle_model.specs.lists.Syntax.{Position}
-use Rattle.isle_model.proofs.Members.{in_map}
+use Rattle.model.specs.lists.Syntax.{Position}
+use Rattle.model.proofs.Members.{in_map}
 use Rattle.isle_base.specs.declared.syntax.Error.{Error}
 use Rattle.isle_base.specs.Positions.{NotesAt}
 use Rattle.isle_base.proofs.Positioned.{among_one, notes_among, notes_both}

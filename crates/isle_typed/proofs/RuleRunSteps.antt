@@ -7,26 +7,26 @@ use Rattle.std.specs.BTreeMap.{BTreeMap}
 use Rattle.std.specs.Ordering.{nat_cmp}
 use Rattle.isle_types.specs.declared.ids.TypeId.{TypeId}
 use Rattle.isle_types.specs.declared.ids.VarId.{VarId}
-use Rattle.isle_model.specs.lists.Formed.{of_entry}
-use Rattle.isle_model.specs.lists.Setting.{expr_type}
-use Rattle.isle_model.specs.lists.Tables.{TermEntry}
-use Rattle.isle_model.specs.rules.Typed.{TypedPattern, TypedExpr, TypedIfLet, TypedRule}
-use Rattle.isle_model.specs.trees.Places.{is_in}
+use Rattle.model.specs.lists.Formed.{of_entry}
+use Rattle.model.specs.lists.Setting.{expr_type}
+use Rattle.model.specs.lists.Tables.{TermEntry}
+use Rattle.model.specs.rules.Typed.{TypedPattern, TypedExpr, TypedIfLet, TypedRule}
+use Rattle.model.specs.trees.Places.{is_in}
 use Rattle.isle_typed.specs.declared.patterns.Pattern.{Pattern}
 use Rattle.isle_typed.specs.declared.rules.IfLet.{IfLet}
 use Rattle.isle_typed.specs.declared.visitors.VisitedExpr.{VisitedExpr}
 use Rattle.isle_base.specs.declared.visit_fault.VisitFault.{VisitFault}
 use Rattle.isle_base.specs.declared.visit_fault.VisitFault.TheVariants.{Memory}
-use Rattle.isle_model.specs.visits.Visitors.{PatternSteps, ExprSteps, RuleSteps}
+use Rattle.model.specs.visits.Visitors.{PatternSteps, ExprSteps, RuleSteps}
 use Rattle.isle_typed.specs.PatternViews.{pattern_view, pattern_views}
 use Rattle.isle_typed.specs.ExprViews.{expr_view}
 use Rattle.isle_typed.specs.RuleViews.{iflet_view}
-use Rattle.isle_model.specs.visits.PatternRuns.{PatternRun}
-use Rattle.isle_model.specs.visits.RuleRuns.{lent_binding, lent_valuing, PatternCall, ExchangeRun, ExprCall, ValueRun, ArgsRun, IfLetsRun, RuleRun}
-use Rattle.isle_model.specs.visits.ExprRuns.{entry_arg_types, ExprRun}
-use Rattle.isle_model.specs.lists.Visitable.{is_visitable_rule, bound_after, bound_after_list, bound_after_iflets, is_visitable_pattern, is_visitable_expr, are_visitable_list, are_visitable_iflets}
+use Rattle.model.specs.visits.PatternRuns.{PatternRun}
+use Rattle.model.specs.visits.RuleRuns.{lent_binding, lent_valuing, PatternCall, ExchangeRun, ExprCall, ValueRun, ArgsRun, IfLetsRun, RuleRun}
+use Rattle.model.specs.visits.ExprRuns.{entry_arg_types, ExprRun}
+use Rattle.model.specs.lists.Visitable.{is_visitable_rule, bound_after, bound_after_list, bound_after_iflets, is_visitable_pattern, is_visitable_expr, are_visitable_list, are_visitable_iflets}
 use Rattle.isle_typed.specs.VisitAnswers.{type_numbers}
-use Rattle.isle_model.specs.visits.Runs.{BoundIds, answering, binds, bound_vars, lent_run, taking, with_bound}
+use Rattle.model.specs.visits.Runs.{BoundIds, answering, binds, bound_vars, lent_run, taking, with_bound}
 use Rattle.isle_typed.specs.VisitorSteps.{by_number, entries_of, no_memory, visited_of}
 use Rattle.isle_typed.proofs.BoundVars.{SameVars, after_same, pattern_same, expr_same}
 use Rattle.isle_typed.proofs.ExprRunSteps.{after_these}

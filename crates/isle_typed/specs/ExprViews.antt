@@ -3,7 +3,7 @@ use Rattle.std.specs.Prelude.{ℕ, List, [], ◌∷◌, map, Box}
 use Rattle.std.specs.declared.alloc.Global.{Global}
 use Rattle.isle_types.specs.declared.ids.VarId.{VarId}
 use Rattle.isle_types.specs.declared.ids.TypeId.{TypeId}
-use Rattle.isle_model.specs.rules.Typed.{TypedExpr, make_term, make_var, make_bool, make_int, make_prim, make_let, TypedExprs, no_typed_expr, typed_expr_and, TypedLets, no_typed_let, typed_let_and}
+use Rattle.model.specs.rules.Typed.{TypedExpr, make_term, make_var, make_bool, make_int, make_prim, make_let, TypedExprs, no_typed_expr, typed_expr_and, TypedLets, no_typed_let, typed_let_and}
 use Rattle.isle_typed.specs.declared.exprs.Expr.{Expr, Term', Var, ConstBool, ConstInt, ConstPrim, Let', Row_of-Expr, end_of-Expr, more_of-Expr, Row_of-Expr-Let-1-4, end_of-Expr-Let-1-4, more_of-Expr-Let-1-4}
 
 abbrev mutual

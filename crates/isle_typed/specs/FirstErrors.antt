@@ -1,6 +1,6 @@
 -- Where the first error stands that is noted, if one is.
 use Rattle.std.specs.Prelude.{◌≡◌, ◌⊎◌, List, [], ◌∷◌}
-use Rattle.isle_model.specs.lists.Syntax.{Position}
+use Rattle.model.specs.lists.Syntax.{Position}
 use Rattle.isle_base.specs.declared.syntax.Error.{Error}
 use Rattle.isle_base.specs.Positions.{ErrorStandsAt}
 

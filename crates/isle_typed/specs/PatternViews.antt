@@ -1,6 +1,6 @@
 -- What typed patterns say, without where their parts lie in memory.
 use Rattle.std.specs.Prelude.{List, [], ◌∷◌, map}
-use Rattle.isle_model.specs.rules.Typed.{TypedPattern, match_bind, match_var, match_bool, match_int, match_prim, match_term, match_any, match_and, TypedPatterns, no_typed_pattern, typed_pattern_and}
+use Rattle.model.specs.rules.Typed.{TypedPattern, match_bind, match_var, match_bool, match_int, match_prim, match_term, match_any, match_and, TypedPatterns, no_typed_pattern, typed_pattern_and}
 use Rattle.isle_typed.specs.declared.patterns.Pattern.{Pattern, BindPattern', Var, ConstBool, ConstInt, ConstPrim, Term', Wildcard, And', Row_of-Pattern, end_of-Pattern, more_of-Pattern}
 
 abbrev mutual

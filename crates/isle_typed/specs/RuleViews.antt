@@ -1,6 +1,6 @@
 -- What typed rules say, without where their parts lie in memory.
 use Rattle.std.specs.Prelude.{List, map, option_map}
-use Rattle.isle_model.specs.rules.Typed.{TypedIfLet, TypedVar, TypedRule}
+use Rattle.model.specs.rules.Typed.{TypedIfLet, TypedVar, TypedRule}
 use Rattle.isle_base.specs.SyntaxViews.{position}
 use Rattle.isle_typed.specs.declared.rules.BoundVar.{BoundVar}
 use Rattle.isle_typed.specs.declared.rules.IfLet.{IfLet}

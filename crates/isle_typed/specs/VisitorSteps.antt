@@ -4,8 +4,8 @@ use Rattle.std.specs.BTreeMap.{BTreeMap}
 use Rattle.isle_types.specs.declared.ids.VarId.{VarId}
 use Rattle.isle_base.specs.declared.visit_fault.VisitFault.{VisitFault}
 use Rattle.isle_base.specs.declared.visit_fault.VisitFault.TheVariants.{Memory}
-use Rattle.isle_model.specs.visits.Runs.{BoundIds}
-use Rattle.isle_model.specs.visits.Visitors.{PatternSteps, ExprSteps, RuleSteps}
+use Rattle.model.specs.visits.Runs.{BoundIds}
+use Rattle.model.specs.visits.Visitors.{PatternSteps, ExprSteps, RuleSteps}
 use Rattle.isle_typed.specs.declared.visitors.PatternVisitor.{Ghosts as PatternGhosts}
 use Rattle.isle_typed.specs.declared.visitors.ExprVisitor.{Ghosts as ExprGhosts}
 use Rattle.isle_typed.specs.declared.visitors.RuleVisitor.{Ghosts as RuleGhosts}

@@ -3,8 +3,8 @@
 ghost use Rattle.std.specs.Prelude.{◌≡◌, true, [], ◌∷◌, OnOk, Some, option_map, slice_get};
 ghost use Rattle.isle_base.specs.Positions.{NotesAt};
 ghost use Rattle.isle_base.specs.SyntaxViews.{position};
-ghost use Rattle.isle_model.specs.lists.Ranges.{reduced};
-ghost use Rattle.isle_model.specs.rules.Values.{is_atom_type};
+ghost use Rattle.model.specs.lists.Ranges.{reduced};
+ghost use Rattle.model.specs.rules.Values.{is_atom_type};
 ghost use Rattle.isle_types.specs.Envs.{constant_at};
 ghost use Rattle.isle_types.specs.TypeViews.{type_view, type_views};
 ghost use Rattle.isle_typed.specs.Elaborating.{Checks};

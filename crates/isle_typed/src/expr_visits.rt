@@ -1,11 +1,11 @@
 //! The visit of an expression by any visitor.
 
 ghost use Rattle.std.specs.Prelude.{◌≡◌, IfOk, IsTrue, IfErr, alloc_error, length, slice_get, vec_len};
-ghost use Rattle.isle_model.specs.visits.ExprRuns.{ExprRun, InputsRun, LetsRun, Makes};
+ghost use Rattle.model.specs.visits.ExprRuns.{ExprRun, InputsRun, LetsRun, Makes};
 ghost use Rattle.isle_typed.specs.ExprViews.{expr_view, expr_views, expr_parts, let_views, let_parts};
-ghost use Rattle.isle_model.specs.lists.Visitable.{is_visitable_expr, are_visitable_args, are_visitable_lets, is_made_of};
+ghost use Rattle.model.specs.lists.Visitable.{is_visitable_expr, are_visitable_args, are_visitable_lets, is_made_of};
 ghost use Rattle.isle_typed.specs.VisitAnswers.{inputs_of, type_numbers, typed_inputs};
-ghost use Rattle.isle_model.specs.visits.Runs.{answering, bound_vars};
+ghost use Rattle.model.specs.visits.Runs.{answering, bound_vars};
 ghost use Rattle.isle_typed.specs.VisitorSteps.{by_number, expr_steps, no_memory};
 ghost use Rattle.isle_base.specs.declared.visit_fault.VisitFault.TheVariants.{Memory};
 

@@ -1,7 +1,7 @@
 //! Typed expressions: what a rule makes.
 ghost use Rattle.std.specs.Prelude.{◌≡◌, IfOk};
 ghost use Rattle.isle_typed.specs.ExprViews.{expr_view, expr_views, let_views};
-ghost use Rattle.isle_model.specs.lists.Setting.{expr_type};
+ghost use Rattle.model.specs.lists.Setting.{expr_type};
 
 use isle_types::{Sym, TermId, TypeId, VarId};
 use std::alloc::{AllocError, Global};

@@ -1,13 +1,13 @@
 //! The visit of a pattern by any visitor.
 
 ghost use Rattle.std.specs.Prelude.{◌≡◌, IfOk, IsTrue, Some, length, slice_get, vec_len};
-ghost use Rattle.isle_model.specs.rules.Program.{always_answers};
-ghost use Rattle.isle_model.specs.trees.Places.{is_in};
-ghost use Rattle.isle_model.specs.visits.PatternRuns.{part_types, PatternRun, PartsRun, EachRun, Opens};
+ghost use Rattle.model.specs.rules.Program.{always_answers};
+ghost use Rattle.model.specs.trees.Places.{is_in};
+ghost use Rattle.model.specs.visits.PatternRuns.{part_types, PatternRun, PartsRun, EachRun, Opens};
 ghost use Rattle.isle_typed.specs.PatternViews.{pattern_view, pattern_views, pattern_parts};
-ghost use Rattle.isle_model.specs.lists.Visitable.{is_visitable_pattern, are_visitable_parts, opens_into};
+ghost use Rattle.model.specs.lists.Visitable.{is_visitable_pattern, are_visitable_parts, opens_into};
 ghost use Rattle.isle_typed.specs.VisitAnswers.{listed, type_numbers};
-ghost use Rattle.isle_model.specs.visits.Runs.{binds, bound_at, bound_vars};
+ghost use Rattle.model.specs.visits.Runs.{binds, bound_at, bound_vars};
 ghost use Rattle.isle_typed.specs.VisitorSteps.{by_number, no_memory, pattern_steps};
 ghost use Rattle.isle_terms.specs.TermViews.{flags_view, extractor_view};
 

@@ -1,7 +1,7 @@
 //! Typed patterns: what a rule matches.
 ghost use Rattle.std.specs.Prelude.{◌≡◌, IfOk};
 ghost use Rattle.isle_typed.specs.PatternViews.{pattern_view, pattern_views};
-ghost use Rattle.isle_model.specs.lists.Formed.{pattern_type};
+ghost use Rattle.model.specs.lists.Formed.{pattern_type};
 
 use isle_types::{Sym, TermId, TypeId, VarId};
 use std::alloc::{AllocError, Global};

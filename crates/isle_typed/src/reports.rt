@@ -1,7 +1,7 @@
 //! How what is wrong with rules is noted, and the texts of types, for messages.
 
 ghost use Rattle.std.specs.Prelude.{◌≡◌, true, [], ◌∷◌, ◌++◌, OnOk};
-ghost use Rattle.isle_model.specs.claims.Refusals.{ill_typed};
+ghost use Rattle.model.specs.claims.Refusals.{ill_typed};
 ghost use Rattle.isle_typed.specs.Elaborating.{Checks};
 ghost use Rattle.isle_base.specs.ErrorViews.{error_views};
 ghost use Rattle.isle_base.specs.NotedErrors.{NotesMore};

@@ -2,8 +2,8 @@
 
 ghost use Rattle.std.specs.Prelude.{◌≡◌, List, [], ◌∷◌, IfOk, OnOk, OnErr, IsTrue, length, option_map};
 ghost use Rattle.isle_base.specs.Positions.{NotesAt};
-ghost use Rattle.isle_model.specs.lists.Elaborated.{named_rule, named_rules, term_name};
-ghost use Rattle.isle_model.specs.rules.Typed.{TypedRule};
+ghost use Rattle.model.specs.lists.Elaborated.{named_rule, named_rules, term_name};
+ghost use Rattle.model.specs.rules.Typed.{TypedRule};
 ghost use Rattle.isle_terms.specs.TermViews.{term_view, term_views};
 ghost use Rattle.isle_typed.specs.Elaborating.{Checks};
 ghost use Rattle.isle_typed.specs.FirstErrors.{MayBegin};

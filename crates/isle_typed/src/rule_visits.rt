@@ -1,16 +1,16 @@
 //! The visit of a rule by any visitor.
 
 ghost use Rattle.std.specs.Prelude.{◌≡◌, [], IsTrue, MatchResult, length, map};
-ghost use Rattle.isle_model.specs.lists.Setting.{expr_type};
-ghost use Rattle.isle_model.specs.visits.ExprRuns.{ExprRun};
+ghost use Rattle.model.specs.lists.Setting.{expr_type};
+ghost use Rattle.model.specs.visits.ExprRuns.{ExprRun};
 ghost use Rattle.isle_typed.specs.ExprViews.{expr_view};
-ghost use Rattle.isle_model.specs.visits.PatternRuns.{PatternRun};
+ghost use Rattle.model.specs.visits.PatternRuns.{PatternRun};
 ghost use Rattle.isle_typed.specs.PatternViews.{pattern_view, pattern_views};
-ghost use Rattle.isle_model.specs.visits.RuleRuns.{lent_binding, lent_valuing, PatternCall, ExchangeRun, ExprCall, ValueRun, ArgsRun, IfLetsRun, RuleRun};
+ghost use Rattle.model.specs.visits.RuleRuns.{lent_binding, lent_valuing, PatternCall, ExchangeRun, ExprCall, ValueRun, ArgsRun, IfLetsRun, RuleRun};
 ghost use Rattle.isle_typed.specs.RuleViews.{iflet_view, rule_view};
-ghost use Rattle.isle_model.specs.lists.Visitable.{is_visitable_pattern, is_visitable_expr, are_visitable_list, are_visitable_iflets, is_visitable_rule};
+ghost use Rattle.model.specs.lists.Visitable.{is_visitable_pattern, is_visitable_expr, are_visitable_list, are_visitable_iflets, is_visitable_rule};
 ghost use Rattle.isle_typed.specs.VisitAnswers.{type_numbers};
-ghost use Rattle.isle_model.specs.visits.Runs.{bound_vars};
+ghost use Rattle.model.specs.visits.Runs.{bound_vars};
 ghost use Rattle.isle_typed.specs.VisitorSteps.{by_number, entries_of, expr_steps, no_memory, pattern_steps, rule_steps, visited_of};
 
 use crate::exprs::Expr;

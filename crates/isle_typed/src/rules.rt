@@ -2,7 +2,7 @@
 
 ghost use Rattle.std.specs.Prelude.{◌≡◌, IfOk, length, map, string_bytes};
 ghost use Rattle.isle_base.specs.Places.{printed_line};
-ghost use Rattle.isle_model.specs.claims.Questions.{identifier, HasIdentifier};
+ghost use Rattle.model.specs.claims.Questions.{identifier, HasIdentifier};
 ghost use Rattle.isle_types.specs.Envs.{names_of};
 ghost use Rattle.isle_typed.specs.RuleViews.{rule_view};
 

@@ -1,7 +1,7 @@
 //! Where the terms of typed rules are looked up, for crates that stand below the environment of terms.
 
 ghost use Rattle.std.specs.Prelude.{◌≡◌, IsTrue, List, is_some, slice_get, Some};
-ghost use Rattle.isle_model.specs.lists.Tables.{TermEntry};
+ghost use Rattle.model.specs.lists.Tables.{TermEntry};
 ghost use Rattle.isle_terms.specs.TermViews.{term_view};
 
 use isle_terms::Term;

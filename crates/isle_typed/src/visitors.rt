@@ -6,7 +6,7 @@
 ghost use Rattle.std.specs.Prelude.{◌≡◌, ℕ, ℤ, List, Bool, Result, IfOk, length, vec_len};
 ghost use Rattle.std.specs.Fn.{FnOnceReturnsAtMut};
 ghost use Rattle.isle_typed.specs.VisitAnswers.{listed, type_numbers, typed_inputs};
-ghost use Rattle.isle_model.specs.visits.Runs.{lent_run, taking};
+ghost use Rattle.model.specs.visits.Runs.{lent_run, taking};
 ghost use Rattle.isle_base.specs.declared.visit_fault.VisitFault.{VisitFault};
 
 use isle_base::visit_fault::VisitFault;

@@ -1,10 +1,10 @@
 -- Adding the built-in types, one after another.
 use Rattle.std.proofs.Common.{◌≡◌, ℕ, ◌+◌, ◌<◌, false, cond, List, [], ◌∷◌, ◌++◌, length, drop, get_or, map, slice_get, sym, ap, subst, ◌∙◌, inl, inr, refl}
 use Rattle.std.proofs.lemmas.List.{append_assoc, append-nil, at_drop_more}
-use Rattle.isle_model.specs.lists.Names.{has_name, AreNumbersOf}
-use Rattle.isle_model.specs.rules.Outcome.{then_option}
-use Rattle.isle_model.specs.lists.Tables.{builtin_type}
-use Rattle.isle_model.specs.lists.TypeTable.{builtin_names, place_from}
+use Rattle.model.specs.lists.Names.{has_name, AreNumbersOf}
+use Rattle.model.specs.rules.Outcome.{then_option}
+use Rattle.model.specs.lists.Tables.{builtin_type}
+use Rattle.model.specs.lists.TypeTable.{builtin_names, place_from}
 use Rattle.isle_base.specs.Stable.{entry_count}
 use Rattle.isle_types.specs.declared.builtin.BuiltinType.{BuiltinType}
 use Rattle.isle_types.specs.declared.type_env.TypeEnv.{TypeEnv}
@@ -15,8 +15,8 @@ use Rattle.isle_types.specs.Stages.{Sees, Booting}
 use Rattle.isle_types.specs.TypeTables.{SeesTypes}
 use Rattle.isle_types.specs.TypeViews.{type_views}
 use Rattle.isle_types.proofs.EnvironmentSteps.{type_of_text, was_free, sees_type}
-use Rattle.isle_model.proofs.Names.{distinct_if}
-use Rattle.isle_model.proofs.FirstPlaces.{place_missing, twice}
+use Rattle.model.proofs.Names.{distinct_if}
+use Rattle.model.proofs.FirstPlaces.{place_missing, twice}
 
 step_boot : (b : BuiltinType) (rest : List BuiltinType) (old new : TypeEnv) → IsInterned new → Booting old (b ∷ rest) → AddsBuiltin b old new → Booting new rest
 step_boot b rest old new i s (inl a) =

@@ -2,12 +2,12 @@
 use Rattle.std.proofs.Common.{◌≡◌, ℕ, ◌+◌, List, [], ◌∷◌, map, All, IsTrue, refl, sym, ap, ◌∙◌}
 use Rattle.std.specs.List.{flat_map, enumerate_from}
 use Rattle.std.proofs.lemmas.List.Elements.{All-nil, All-cons, All-head, All-tail, All-weaker}
-use Rattle.isle_model.specs.lists.Syntax.{FieldTree, FieldTrees, unit_fields, struct_fields, tuple_fields, VariantTree, TypeTree, TypeValueTree, primitive_value, enum_value, struct_value, Definition}
-use Rattle.isle_model.specs.lists.Names.{number, has_name, with_name, with_names}
-use Rattle.isle_model.specs.lists.Tables.{primitive_type, enum_type, struct_type, struct_entries}
-use Rattle.isle_model.specs.lists.TypeTable.{full_name, field_names, variant_names, names_inside, type_or_first, field_entry, field_entries, variant_entry, entry_at, type_entry}
+use Rattle.model.specs.lists.Syntax.{FieldTree, FieldTrees, unit_fields, struct_fields, tuple_fields, VariantTree, TypeTree, TypeValueTree, primitive_value, enum_value, struct_value, Definition}
+use Rattle.model.specs.lists.Names.{number, has_name, with_name, with_names}
+use Rattle.model.specs.lists.Tables.{primitive_type, enum_type, struct_type, struct_entries}
+use Rattle.model.specs.lists.TypeTable.{full_name, field_names, variant_names, names_inside, type_or_first, field_entry, field_entries, variant_entry, entry_at, type_entry}
 use Rattle.isle_types.proofs.RightTypes.{all_left, all_right}
-use Rattle.isle_model.proofs.Names.{has_new, has_kept, number_kept}
+use Rattle.model.proofs.Names.{has_new, has_kept, number_kept}
 
 -- each of these texts is among the names
 abbrev pub AllMet : List (List ℕ) → List (List ℕ) → Type 0

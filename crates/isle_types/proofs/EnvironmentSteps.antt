@@ -1,18 +1,18 @@
 -- What a type environment sees after one more name, or one more type.
 use Rattle.std.proofs.Common.{◌≡◌, ℕ, ◌+◌, true, false, cond, nat_eq, List, [], ◌∷◌, ◌++◌, length, Some, None, option_map, slice_get, refl, sym, ap, subst, ◌∙◌, arith, eqb-true}
 use Rattle.std.proofs.lemmas.List.{length_push}
-use Rattle.isle_model.specs.lists.Names.{number, has_name, with_name}
-use Rattle.isle_model.specs.rules.Outcome.{then_option}
-use Rattle.isle_model.specs.lists.TypeTable.{place_from}
+use Rattle.model.specs.lists.Names.{number, has_name, with_name}
+use Rattle.model.specs.rules.Outcome.{then_option}
+use Rattle.model.specs.lists.TypeTable.{place_from}
 use Rattle.isle_base.specs.Stable.{entry_count, look_up}
 use Rattle.isle_types.specs.declared.type_env.TypeEnv.{TypeEnv}
 use Rattle.isle_types.specs.Envs.{names_of, symbol_of, type_at, same_symbol, symbol, IsInterned}
 use Rattle.isle_types.specs.Reading.{NamesType}
 use Rattle.isle_types.specs.Stages.{Sees}
 use Rattle.isle_types.proofs.Inverse.{inverse_distinct}
-use Rattle.isle_model.proofs.ByNumber.{then_with, of_text, others}
-use Rattle.isle_model.proofs.FirstPlaces.{place_push_new, place_push_other}
-use Rattle.isle_model.proofs.Names.{with_missing, with_name_at}
+use Rattle.model.proofs.ByNumber.{then_with, of_text, others}
+use Rattle.model.proofs.FirstPlaces.{place_push_new, place_push_other}
+use Rattle.model.proofs.Names.{with_missing, with_name_at}
 
 module _ (env : TypeEnv) (ts : List (List ℕ)) (s : Sees env ts) where
   -- the type of a text's number is the place of the text

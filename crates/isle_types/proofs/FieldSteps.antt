@@ -5,10 +5,10 @@ use Rattle.std.specs.Option.{is_some}
 use Rattle.std.proofs.lemmas.Bool.{false≢true}
 use Rattle.std.proofs.lemmas.List.{append_assoc, append-nil, map-append, length_push, at_drop_more, at_drop_all}
 use Rattle.std.proofs.lemmas.List.Elements.{All-nil, All-push, All-head, All-tail}
-use Rattle.isle_model.specs.lists.Syntax.{Name, FieldTree, TupleFieldTree, struct_fields, tuple_fields, Definition}
-use Rattle.isle_model.specs.lists.Names.{number, with_name, with_names, IsDistinct, AreNumbersOf}
-use Rattle.isle_model.specs.lists.Tables.{FieldEntry, TupleFieldEntry, struct_entries, tuple_entries}
-use Rattle.isle_model.specs.lists.TypeTable.{field_names, all_type_names, place_from, IsKnownType, type_or_first, field_entry, tuple_field_entry}
+use Rattle.model.specs.lists.Syntax.{Name, FieldTree, TupleFieldTree, struct_fields, tuple_fields, Definition}
+use Rattle.model.specs.lists.Names.{number, with_name, with_names, IsDistinct, AreNumbersOf}
+use Rattle.model.specs.lists.Tables.{FieldEntry, TupleFieldEntry, struct_entries, tuple_entries}
+use Rattle.model.specs.lists.TypeTable.{field_names, all_type_names, place_from, IsKnownType, type_or_first, field_entry, tuple_field_entry}
 use Rattle.isle_base.specs.declared.syntax.Error.{Error}
 use Rattle.isle_base.specs.declared.syntax.StructField as S
 use Rattle.isle_base.specs.declared.syntax.TupleField as U
@@ -25,9 +25,9 @@ use Rattle.isle_types.specs.FieldReading.{was_seen, IsField, ReadsField, IsTuple
 use Rattle.isle_types.specs.Reading.{MeetsNames, EndsAt, AreRightFields}
 use Rattle.isle_types.specs.Stages.{Sees}
 use Rattle.isle_types.specs.TypeViews.{field_view, tuple_field_view}
-use Rattle.isle_model.proofs.ByNumber.{by_text}
-use Rattle.isle_model.proofs.FirstPlaces.{distinct_push, twice}
-use Rattle.isle_model.proofs.Names.{number_stays, with_names_append}
+use Rattle.model.proofs.ByNumber.{by_text}
+use Rattle.model.proofs.FirstPlaces.{distinct_push, twice}
+use Rattle.model.proofs.Names.{number_stays, with_names_append}
 use Rattle.isle_types.proofs.NamesMet.{meet_more}
 use Rattle.isle_types.proofs.PlacesNoted.{noted_first}
 use Rattle.isle_types.proofs.EnvironmentSteps.{sees_name}

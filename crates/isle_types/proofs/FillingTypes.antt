@@ -3,10 +3,10 @@ use Rattle.std.proofs.Common.{◌≡◌, ℕ, ◌+◌, ◌<◌, List, [], ◌∷
 use Rattle.std.specs.List.{flat_map}
 use Rattle.std.proofs.lemmas.List.{append_assoc, append-nil, at_drop_more, length_push, length-map, map_push}
 use Rattle.std.proofs.lemmas.List.Elements.{All-nil, All-cons, All-head}
-use Rattle.isle_model.specs.lists.Syntax.{TypeTree, Definition, type_definition, declaration, extractor_definition, converter_definition, rule_definition, extern_definition, other_definition}
-use Rattle.isle_model.specs.lists.Names.{has_name, with_names, IsDistinct}
-use Rattle.isle_model.specs.lists.Tables.{TypeEntry}
-use Rattle.isle_model.specs.lists.TypeTable.{builtin_names, type_trees, type_names, all_type_names, names_inside, type_names_met, type_entry, type_table}
+use Rattle.model.specs.lists.Syntax.{TypeTree, Definition, type_definition, declaration, extractor_definition, converter_definition, rule_definition, extern_definition, other_definition}
+use Rattle.model.specs.lists.Names.{has_name, with_names, IsDistinct}
+use Rattle.model.specs.lists.Tables.{TypeEntry}
+use Rattle.model.specs.lists.TypeTable.{builtin_names, type_trees, type_names, all_type_names, names_inside, type_names_met, type_entry, type_table}
 use Rattle.isle_base.specs.declared.syntax.Def.{Def}
 use Rattle.isle_base.specs.declared.syntax.Error.{Error}
 use Rattle.isle_base.specs.SyntaxViews.{definition_view, definition_views}
@@ -24,8 +24,8 @@ use Rattle.isle_types.specs.VariantReading.{FillsType, FillsDefinition}
 use Rattle.isle_types.proofs.EntriesStay.{AllMet, met_more, met_self, type_stays}
 use Rattle.isle_types.proofs.NamesMet.{sees_after}
 use Rattle.isle_types.proofs.KnownTypes.{right_same, type_named, known_met, knows_met, one_more_read}
-use Rattle.isle_model.proofs.Members.{in_map}
-use Rattle.isle_model.proofs.Names.{with_names_append}
+use Rattle.model.proofs.Members.{in_map}
+use Rattle.model.proofs.Names.{with_names_append}
 use Rattle.isle_types.proofs.ReadingSteps.{reads_on, reads_wrong, reads_same}
 use Rattle.isle_types.proofs.ToldErrors.{some_told, not_same, noted_none, noted_more}
 

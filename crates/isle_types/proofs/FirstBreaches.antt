@@ -1,12 +1,12 @@
 -- A list with a definition that breaks a condition on types has no type table; the first error is told of such a definition.
 use Rattle.std.proofs.Common.{◌≡◌, ◌≢◌, ℕ, suc, ◌||◌, Bool, true, false, cond, List, [], ◌∷◌, ◌++◌, length, All, Contains, refl, sym, ap, subst, ◌∙◌, inl, inr}
 use Rattle.std.proofs.lemmas.List.Elements.{All-head, All-contains, Contains-append_right}
-use Rattle.isle_model.specs.lists.Syntax.{Position, Definition, type_definition, declaration, extractor_definition, converter_definition, rule_definition, extern_definition, extern_constructor, extern_extractor, extern_const, other_definition}
-use Rattle.isle_model.specs.lists.Names.{number, has_name}
-use Rattle.isle_model.specs.lists.TypeTable.{builtin_names, type_of, type_trees, type_names, all_type_names, ConstantTree, constant_of, constant_trees, IsOfKnownType, IsValidTypes}
-use Rattle.isle_model.proofs.Members.{in_head, in_flat_map}
-use Rattle.isle_model.proofs.Names.{found, number_below, has_append}
-use Rattle.isle_model.proofs.Positions.{twice}
+use Rattle.model.specs.lists.Syntax.{Position, Definition, type_definition, declaration, extractor_definition, converter_definition, rule_definition, extern_definition, extern_constructor, extern_extractor, extern_const, other_definition}
+use Rattle.model.specs.lists.Names.{number, has_name}
+use Rattle.model.specs.lists.TypeTable.{builtin_names, type_of, type_trees, type_names, all_type_names, ConstantTree, constant_of, constant_trees, IsOfKnownType, IsValidTypes}
+use Rattle.model.proofs.Members.{in_head, in_flat_map}
+use Rattle.model.proofs.Names.{found, number_below, has_append}
+use Rattle.model.proofs.Positions.{twice}
 use Rattle.isle_base.specs.declared.syntax.Error.{Error}
 use Rattle.isle_base.specs.Positions.{type_positions, definition_positions}
 use Rattle.isle_types.specs.Reading.{IsRightType}

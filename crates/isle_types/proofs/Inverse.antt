@@ -2,9 +2,9 @@
 use Rattle.std.proofs.Common.{◌≡◌, ℕ, true, false, cond, List, [], ◌∷◌, ◌++◌, length, Option, Some, option_map, slice_get, refl, sym, ap, ◌∙◌, ⊎_elim}
 use Rattle.std.specs.Map.{update}
 use Rattle.std.specs.Str.{bytes_eq}
-use Rattle.isle_model.specs.lists.Names.{IsDistinct, AreNumbersOf}
-use Rattle.isle_model.proofs.Bytes.{same_bytes, differ}
-use Rattle.isle_model.proofs.Positions.{get_front, get_middle, get_push_cases}
+use Rattle.model.specs.lists.Names.{IsDistinct, AreNumbersOf}
+use Rattle.model.proofs.Bytes.{same_bytes, differ}
+use Rattle.model.proofs.Positions.{get_front, get_middle, get_push_cases}
 
 -- what is read off a map with one more entry
 pub update_read : {X Y : Type 0} (f : X → Y) (old new : List ℕ → Option X) (name : List ℕ) (w : X) → ((q : List ℕ) → new q ≡ update bytes_eq old name (Some w) q) → (q : List ℕ) → option_map f (new q) ≡ update bytes_eq (λ p. option_map f (old p)) name (Some (f w)) q

@@ -5,13 +5,13 @@ use Rattle.std.proofs.lemmas.Bool.{false≢true}
 use Rattle.std.proofs.lemmas.Grind.{flat_map-append}
 use Rattle.std.proofs.lemmas.List.{append_assoc, append-nil, map-append, map_push, take_more}
 use Rattle.std.proofs.lemmas.List.Elements.{All-weaker}
-use Rattle.isle_model.specs.lists.Syntax.{Name, FieldTrees, TypeTree, Definition, type_definition}
-use Rattle.isle_model.specs.lists.Names.{number, has_name}
-use Rattle.isle_model.specs.lists.TypeTable.{builtin_names, type_of, type_trees, type_names, all_type_names, field_lists_of, field_type_names, place_from, IsKnownType}
-use Rattle.isle_model.proofs.Bytes.{same_bytes}
-use Rattle.isle_model.proofs.Members.{in_head, in_map, in_flat_map, get_from_member}
-use Rattle.isle_model.proofs.Names.{has_append, has_at, has_right}
-use Rattle.isle_model.proofs.FirstPlaces.{place_absent, place_missing}
+use Rattle.model.specs.lists.Syntax.{Name, FieldTrees, TypeTree, Definition, type_definition}
+use Rattle.model.specs.lists.Names.{number, has_name}
+use Rattle.model.specs.lists.TypeTable.{builtin_names, type_of, type_trees, type_names, all_type_names, field_lists_of, field_type_names, place_from, IsKnownType}
+use Rattle.model.proofs.Bytes.{same_bytes}
+use Rattle.model.proofs.Members.{in_head, in_map, in_flat_map, get_from_member}
+use Rattle.model.proofs.Names.{has_append, has_at, has_right}
+use Rattle.model.proofs.FirstPlaces.{place_absent, place_missing}
 use Rattle.isle_base.specs.declared.syntax.Def.{Def}
 use Rattle.isle_base.specs.SyntaxViews.{definition_view, definition_views}
 use Rattle.isle_types.specs.declared.type_env.TypeEnv.{TypeEnv}

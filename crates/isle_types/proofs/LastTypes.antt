@@ -3,14 +3,14 @@ use Rattle.std.proofs.Common.{◌≡◌, ℕ, ◌||◌, true, false, cond, nat_e
 use Rattle.std.specs.List.{find}
 use Rattle.std.specs.Str.{bytes_eq}
 use Rattle.std.proofs.lemmas.List.{reverse-append}
-use Rattle.isle_model.specs.lists.Syntax.{Definition}
-use Rattle.isle_model.specs.lists.Names.{number, has_name, with_name, with_names, IsDistinct}
-use Rattle.isle_model.specs.rules.Outcome.{then_option}
-use Rattle.isle_model.specs.lists.TypeTable.{ConstantTree, type_id, type_or_first, type_names_met}
-use Rattle.isle_model.proofs.Bytes.{same_self}
-use Rattle.isle_model.proofs.Names.{has_met}
+use Rattle.model.specs.lists.Syntax.{Definition}
+use Rattle.model.specs.lists.Names.{number, has_name, with_name, with_names, IsDistinct}
+use Rattle.model.specs.rules.Outcome.{then_option}
+use Rattle.model.specs.lists.TypeTable.{ConstantTree, type_id, type_or_first, type_names_met}
+use Rattle.model.proofs.Bytes.{same_self}
+use Rattle.model.proofs.Names.{has_met}
 use Rattle.isle_types.specs.Stages.{last_type}
-use Rattle.isle_laws_typing.proofs.LooksByNumber.{number_looked_up}
+use Rattle.laws_typing.proofs.LooksByNumber.{number_looked_up}
 
 -- the type of a constant of one more definition
 last_more : (defs : List Definition) (read : List ConstantTree) (c : ConstantTree) (x : List ℕ) → last_type defs (read ++ c ∷ []) x ≡ cond (bytes_eq c.name.text x) (Some (type_or_first defs c.ty)) (last_type defs read x)

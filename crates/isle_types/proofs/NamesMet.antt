@@ -1,9 +1,9 @@
 -- Names that are met one after another, and that the types stay seen meanwhile.
 use Rattle.std.proofs.Common.{◌≡◌, ℕ, true, false, List, [], ◌∷◌, ◌++◌, option_map, slice_get, refl, sym, ap, subst, ◌∙◌}
-use Rattle.isle_model.specs.lists.Names.{has_name, with_name, with_names}
-use Rattle.isle_model.specs.rules.Outcome.{then_option}
-use Rattle.isle_model.specs.lists.TypeTable.{place_from}
-use Rattle.isle_model.specs.lists.Syntax.{Position}
+use Rattle.model.specs.lists.Names.{has_name, with_name, with_names}
+use Rattle.model.specs.rules.Outcome.{then_option}
+use Rattle.model.specs.lists.TypeTable.{place_from}
+use Rattle.model.specs.lists.Syntax.{Position}
 use Rattle.isle_base.specs.declared.syntax.Error.{Error}
 use Rattle.isle_base.specs.Positions.{OccurAmong}
 use Rattle.isle_base.specs.Stable.{entry_count, look_up}
@@ -13,8 +13,8 @@ use Rattle.isle_types.specs.Reading.{MeetsNames, EndsAt}
 use Rattle.isle_types.specs.Stages.{Sees}
 use Rattle.isle_types.specs.ToldErrors.{Notes}
 use Rattle.isle_types.proofs.ToldErrors.{noted_among}
-use Rattle.isle_model.proofs.ByNumber.{then_withs}
-use Rattle.isle_model.proofs.Names.{known_name, missing_before, with_names_append}
+use Rattle.model.proofs.ByNumber.{then_withs}
+use Rattle.model.proofs.Names.{known_name, missing_before, with_names_append}
 
 -- one name is met
 pub meet_one : (x y : List ℕ) (old new : TypeEnv) → x ≡ y → names_of new ≡ with_name (names_of old) x → new.types ≡ old.types → new.type_map ≡ old.type_map → new.const_types ≡ old.const_types → new.errors ≡ old.errors → MeetsNames (y ∷ []) old new

@@ -2,10 +2,10 @@
 use Rattle.std.proofs.Common.{◌≡◌, ◌≢◌, ℕ, ◌+◌, ◌<◌, ◌||◌, Bool, cond, length, drop, get_or, take, List, [], ◌∷◌, ◌++◌, true, false, slice_get, refl, sym, ap, subst, ◌∙◌, inl, inr, arith}
 use Rattle.std.proofs.lemmas.List.{append_assoc, append-nil, at_drop_more}
 use Rattle.std.proofs.lemmas.List.Elements.{All-nil}
-use Rattle.isle_model.specs.lists.Syntax.{Position, TypeTree, Definition, type_definition, declaration, extractor_definition, converter_definition, rule_definition, extern_definition, other_definition}
-use Rattle.isle_model.specs.lists.Names.{has_name, with_names, AreNumbersOf}
-use Rattle.isle_model.specs.rules.Outcome.{then_option}
-use Rattle.isle_model.specs.lists.TypeTable.{builtin_names, type_names, all_type_names, place_from}
+use Rattle.model.specs.lists.Syntax.{Position, TypeTree, Definition, type_definition, declaration, extractor_definition, converter_definition, rule_definition, extern_definition, other_definition}
+use Rattle.model.specs.lists.Names.{has_name, with_names, AreNumbersOf}
+use Rattle.model.specs.rules.Outcome.{then_option}
+use Rattle.model.specs.lists.TypeTable.{builtin_names, type_names, all_type_names, place_from}
 use Rattle.isle_base.specs.declared.syntax.Def.{Def}
 use Rattle.isle_base.specs.declared.syntax.Error.{Error}
 use Rattle.isle_base.specs.SyntaxViews.{definition_view, definition_views}
@@ -19,8 +19,8 @@ use Rattle.isle_types.specs.TypeErrors.{times_taken, TellsOfName}
 use Rattle.isle_types.specs.TypeTables.{SeesTypes}
 use Rattle.isle_types.specs.TypeViews.{type_views}
 use Rattle.isle_types.proofs.EnvironmentSteps.{was_free, sees_type}
-use Rattle.isle_model.proofs.Names.{distinct_if, has_append}
-use Rattle.isle_model.proofs.FirstPlaces.{distinct_push, place_absent, place_missing}
+use Rattle.model.proofs.Names.{distinct_if, has_append}
+use Rattle.model.proofs.FirstPlaces.{distinct_push, place_absent, place_missing}
 use Rattle.isle_types.proofs.KnownTypes.{place_within, knows_other, knows_more, knows_taken, taken_place, taken_has, one_more_read}
 use Rattle.isle_types.proofs.ToldErrors.{some_told, noted_more}
 use Rattle.isle_types.proofs.ReadingSteps.{reads_on, reads_wrong, reads_same}

@@ -1,17 +1,17 @@
 -- Sets of the numbers of names.
 use Rattle.std.proofs.Common.{◌≡◌, ℕ, nat_eq, true, false, cond, List, [], ◌∷◌, ◌++◌, Some, None, is_some, slice_get, refl, sym, ap, subst, ◌∙◌, eqb-true}
 use Rattle.std.specs.Str.{bytes_eq}
-use Rattle.isle_model.specs.lists.Names.{has_name, with_names, IsDistinct}
-use Rattle.isle_model.specs.rules.Outcome.{then_option}
-use Rattle.isle_model.specs.lists.TypeTable.{place_from}
+use Rattle.model.specs.lists.Names.{has_name, with_names, IsDistinct}
+use Rattle.model.specs.rules.Outcome.{then_option}
+use Rattle.model.specs.lists.TypeTable.{place_from}
 use Rattle.isle_base.specs.Stable.{Members, contains}
 use Rattle.isle_types.specs.declared.ids.Sym.{Sym}
 use Rattle.isle_types.specs.Envs.{same_symbol, symbol}
 use Rattle.isle_types.specs.VariantReading.{HasSeen}
-use Rattle.isle_model.proofs.ByNumber.{then_withs, others}
-use Rattle.isle_model.proofs.Bytes.{same_bytes}
-use Rattle.isle_model.proofs.FirstPlaces.{place_push_new, place_push_other}
-use Rattle.isle_model.proofs.Names.{absent, missing_before}
+use Rattle.model.proofs.ByNumber.{then_withs, others}
+use Rattle.model.proofs.Bytes.{same_bytes}
+use Rattle.model.proofs.FirstPlaces.{place_push_new, place_push_other}
+use Rattle.model.proofs.Names.{absent, missing_before}
 
 module _ (ns : List (List ℕ)) (seen : Members Sym) (earlier : List (List ℕ)) (h : HasSeen ns seen earlier) where
   -- more names are met

@@ -1,7 +1,7 @@
 -- The names after one more was met, by whether it has a place.
 use Rattle.std.proofs.Common.{◌≡◌, ℕ, true, false, cond, List, [], ◌∷◌, ◌++◌, length, Some, None, refl}
-use Rattle.isle_model.specs.lists.Names.{number, has_name, with_name, number_if_met}
-use Rattle.isle_model.proofs.Names.{last}
+use Rattle.model.specs.lists.Names.{number, has_name, with_name, number_if_met}
+use Rattle.model.proofs.Names.{last}
 
 module _ (names : List (List ℕ)) (x : List ℕ) where
   pub known_number : (k : ℕ) → Some k ≡ number_if_met names x → k ≡ number names x

@@ -1,8 +1,8 @@
 -- What is noted at the positions of a part of a definition is noted at those of the whole.
 use Rattle.std.proofs.Common.{◌≡◌, ℕ, ◌<◌, List, [], ◌∷◌, length, get_or, map, Contains, sym, subst}
 use Rattle.std.specs.List.{flat_map}
-use Rattle.isle_model.specs.lists.Syntax.{Position, FieldTree, TupleFieldTree, VariantTree, TypeTree}
-use Rattle.isle_model.proofs.Members.{in_head, in_tail, in_map}
+use Rattle.model.specs.lists.Syntax.{Position, FieldTree, TupleFieldTree, VariantTree, TypeTree}
+use Rattle.model.proofs.Members.{in_head, in_tail, in_map}
 use Rattle.isle_base.specs.declared.syntax.Error.{Error}
 use Rattle.isle_base.specs.Positions.{OccurAmong, field_positions, tuple_field_positions, fields_positions, variant_positions, value_positions, type_positions}
 use Rattle.isle_base.proofs.Positioned.{among_one, among_first, among_each}

@@ -2,8 +2,8 @@
 use Rattle.std.proofs.Common.{◌≡◌, ℕ, suc, ◌-◌, ◌*◌, ◌^◌, ◌<◌, ℤ, pos, neg_ℤ, ◌+ℤ◌, ◌-ℤ◌, ◌≤ℤ◌, ◌<ℤ◌, sym, ap, subst, ◌∙◌, inl, arith}
 use Rattle.std.proofs.Math.Nat.{pow-suc}
 use Rattle.std.proofs.lemmas.Int.{ints, by_lt_z}
-use Rattle.isle_model.specs.lists.Ranges.{IsInRange, unsigned, signed, reduce}
-use Rattle.isle_laws_typing.proofs.Ranges.{reduced_numbers_are_in_range_lem, numbers_in_range_stay_lem, reduced_numbers_differ_by_multiples_lem, reduced_alike_by_multiples_lem}
+use Rattle.model.specs.lists.Ranges.{IsInRange, unsigned, signed, reduce}
+use Rattle.laws_typing.proofs.Ranges.{reduced_numbers_are_in_range_lem, numbers_in_range_stay_lem, reduced_numbers_differ_by_multiples_lem, reduced_alike_by_multiples_lem}
 
 -- as many are negative as are not
 halves : (bits : ℕ) → 0 < bits → 2 ^ bits ≡ 2 ^ (bits - 1) * 2

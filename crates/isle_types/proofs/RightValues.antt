@@ -2,8 +2,8 @@
 use Rattle.std.proofs.Common.{◌≡◌, ℕ, ◌&&◌, true, false, not, List, [], map, All, Option, Some, None, sym, ap, subst, ◌∙◌}
 use Rattle.std.proofs.lemmas.Bool.{false≢true}
 use Rattle.std.proofs.lemmas.List.Elements.{All-nil, All-cons}
-use Rattle.isle_model.specs.lists.Syntax.{Position, Name, FieldTrees, VariantTree, TypeTree, TypeValueTree, primitive_value, enum_value, struct_value, Definition}
-use Rattle.isle_model.specs.lists.Names.{number, has_name, with_name, IsDistinct}
+use Rattle.model.specs.lists.Syntax.{Position, Name, FieldTrees, VariantTree, TypeTree, TypeValueTree, primitive_value, enum_value, struct_value, Definition}
+use Rattle.model.specs.lists.Names.{number, has_name, with_name, IsDistinct}
 use Rattle.isle_base.specs.declared.syntax.Error.{Error}
 use Rattle.isle_base.specs.declared.syntax.Type as S
 use Rattle.isle_base.specs.SyntaxViews as views
@@ -13,7 +13,7 @@ use Rattle.isle_types.specs.Envs.{names_of}
 use Rattle.isle_types.specs.Reading.{MeetsNames, AreRightFields, IsRightType, ReadsType}
 use Rattle.isle_types.specs.VariantReading.{of_value, IsNumberOf}
 use Rattle.isle_types.proofs.NamesMet.{meet_more}
-use Rattle.isle_model.proofs.Names.{has_new, number_new, number_kept}
+use Rattle.model.proofs.Names.{has_new, number_new, number_kept}
 
 -- a name that is met has its number
 pub named_now : (n : ℕ) (x : List ℕ) (old new : TypeEnv) → names_of new ≡ with_name (names_of old) x → n ≡ number (names_of old) x → IsNumberOf n x (names_of new)

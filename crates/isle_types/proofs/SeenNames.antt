@@ -2,17 +2,17 @@
 use Rattle.std.proofs.Common.{◌≡◌, ℕ, nat_eq, true, false, cond, List, [], ◌∷◌, ◌++◌, Option, Some, None, slice_get, refl, sym, ap, ◌∙◌}
 use Rattle.std.specs.Option.{is_some}
 use Rattle.std.proofs.lemmas.Bool.{false≢true}
-use Rattle.isle_model.specs.lists.Names.{number, with_name, AreNumbersOf}
-use Rattle.isle_model.specs.rules.Outcome.{then_option}
-use Rattle.isle_model.specs.lists.TypeTable.{place_from}
+use Rattle.model.specs.lists.Names.{number, with_name, AreNumbersOf}
+use Rattle.model.specs.rules.Outcome.{then_option}
+use Rattle.model.specs.lists.TypeTable.{place_from}
 use Rattle.isle_base.specs.Stable.{Members}
 use Rattle.isle_types.specs.declared.ids.Sym.{Sym}
 use Rattle.isle_types.specs.FieldReading.{was_seen}
 use Rattle.isle_types.specs.VariantReading.{HasSeen}
-use Rattle.isle_model.proofs.ByNumber.{of_text}
+use Rattle.model.proofs.ByNumber.{of_text}
 use Rattle.isle_types.proofs.Inverse.{inverse_distinct}
 use Rattle.isle_types.proofs.NumbersSeen.{seen_met, seen_push}
-use Rattle.isle_model.proofs.Names.{with_name_at}
+use Rattle.model.proofs.Names.{with_name_at}
 
 pub none_seen : (names : List (List ℕ)) (seen : Members Sym) → ((k : ℕ) → was_seen seen k ≡ false) → HasSeen names seen []
 none_seen names seen none = record {

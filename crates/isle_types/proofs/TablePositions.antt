@@ -2,9 +2,9 @@
 use Rattle.std.proofs.Common.{◌≡◌, ℕ, suc, ◌+◌, List, [], ◌∷◌, ◌++◌, map, refl, sym, ap, subst, ◌∙◌}
 use Rattle.std.specs.List.{flat_map, enumerate_from}
 use Rattle.std.proofs.lemmas.Grind.{flat_map-append}
-use Rattle.isle_model.specs.lists.Syntax.{Position, VariantTree, TypeTree, TypeValueTree, primitive_value, enum_value, struct_value, Definition, type_definition, declaration, extractor_definition, converter_definition, rule_definition, extern_definition, other_definition}
-use Rattle.isle_model.specs.lists.TypeTable.{builtin_names, type_trees, type_names_met, builtin_from, variant_entry, entry_at, type_entry, type_table}
-use Rattle.isle_model.proofs.Members.{in_head, in_tail}
+use Rattle.model.specs.lists.Syntax.{Position, VariantTree, TypeTree, TypeValueTree, primitive_value, enum_value, struct_value, Definition, type_definition, declaration, extractor_definition, converter_definition, rule_definition, extern_definition, other_definition}
+use Rattle.model.specs.lists.TypeTable.{builtin_names, type_trees, type_names_met, builtin_from, variant_entry, entry_at, type_entry, type_table}
+use Rattle.model.proofs.Members.{in_head, in_tail}
 use Rattle.isle_base.specs.Positions.{OccurAmong, fields_positions, variant_positions, value_positions, type_positions, definition_positions, positions_of}
 use Rattle.isle_base.proofs.Positioned.{among_same, among_first, among_both, among_right, among_next, among_sides}
 use Rattle.isle_types.specs.TypePositions.{entry_positions, types_positions}

@@ -1,13 +1,13 @@
 -- The errors that are told of types: put together, and each stands at the definition that it is told of.
 use Rattle.std.proofs.Common.{◌≡◌, List, [], ◌∷◌, ◌++◌, All, sym, ap, subst, ◌∙◌, inl, inr}
 use Rattle.std.proofs.lemmas.List.Elements.{All-nil, All-append, All-weaker}
-use Rattle.isle_model.specs.lists.Syntax.{Position, Definition, type_definition, declaration, extractor_definition, converter_definition, rule_definition, extern_definition, extern_constructor, extern_extractor, extern_const, other_definition}
+use Rattle.model.specs.lists.Syntax.{Position, Definition, type_definition, declaration, extractor_definition, converter_definition, rule_definition, extern_definition, extern_constructor, extern_extractor, extern_const, other_definition}
 use Rattle.isle_base.specs.declared.syntax.Error.{Error}
 use Rattle.isle_base.specs.ErrorViews.{error_view}
 use Rattle.isle_base.specs.NotedErrors.{AreIllTyped}
 use Rattle.isle_base.specs.Positions.{ErrorStandsAt, definition_positions, positions_of}
 use Rattle.isle_base.proofs.Positioned.{among_first}
-use Rattle.isle_model.specs.claims.Refusals.{IsIllTyped}
+use Rattle.model.specs.claims.Refusals.{IsIllTyped}
 use Rattle.isle_types.specs.ToldErrors.{IsToldAt, TellsUnless, NotesEach}
 use Rattle.isle_types.specs.TypeErrors.{TellsOfName, TellsOfType, TellsOfConstant, AreErrorsOfTypes}
 use Rattle.isle_types.proofs.ToldErrors.{told_among, each_told}

@@ -2,18 +2,18 @@
 use Rattle.std.proofs.Common.{◌≡◌, ◌≢◌, ℕ, ◌||◌, true, false, cond, ◌==◌, List, [], ◌∷◌, ◌++◌, map, Some, None, nat_eq, slice_get, refl, sym, ap, subst, ◌∙◌, eqb-true}
 use Rattle.std.proofs.lemmas.List.{append-nil}
 use Rattle.std.proofs.lemmas.List.Elements.{All-nil}
-use Rattle.isle_model.specs.lists.Syntax.{Definition}
-use Rattle.isle_model.specs.lists.Names.{number, has_name, AreNumbersOf}
-use Rattle.isle_model.specs.rules.Meaning.{look}
-use Rattle.isle_model.specs.rules.Outcome.{then_option}
-use Rattle.isle_model.specs.lists.TypeTable.{builtin_names, type_names, ConstantTree, constant_trees, type_names_met, last_definitions, type_of_number, type_or_first, constant_types, IsOfKnownType, IsValidTypes}
-use Rattle.isle_model.specs.claims.Refusals.{RefusesTypes}
+use Rattle.model.specs.lists.Syntax.{Definition}
+use Rattle.model.specs.lists.Names.{number, has_name, AreNumbersOf}
+use Rattle.model.specs.rules.Meaning.{look}
+use Rattle.model.specs.rules.Outcome.{then_option}
+use Rattle.model.specs.lists.TypeTable.{builtin_names, type_names, ConstantTree, constant_trees, type_names_met, last_definitions, type_of_number, type_or_first, constant_types, IsOfKnownType, IsValidTypes}
+use Rattle.model.specs.claims.Refusals.{RefusesTypes}
 use Rattle.isle_base.specs.declared.syntax.Error.{Error}
 use Rattle.isle_base.specs.ErrorViews.{error_views}
 use Rattle.isle_base.proofs.NotedErrors.{forms_of, some_views}
-use Rattle.isle_model.proofs.Bytes.{same_self}
-use Rattle.isle_model.proofs.Names.{found, has_at, has_met, has_right}
-use Rattle.isle_laws_typing.proofs.TypeLaws.{names_later, type_names_distinct, last_definition_counts_lem}
+use Rattle.model.proofs.Bytes.{same_self}
+use Rattle.model.proofs.Names.{found, has_at, has_met, has_right}
+use Rattle.laws_typing.proofs.TypeLaws.{names_later, type_names_distinct, last_definition_counts_lem}
 use Rattle.isle_types.specs.declared.type_env.TypeEnv.{TypeEnv}
 use Rattle.isle_types.specs.Envs.{symbol_of, IsInterned}
 use Rattle.isle_types.specs.Stages.{names_in_types, constant_names, last_type, TypingConstants, ReadsConstants}

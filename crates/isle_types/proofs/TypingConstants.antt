@@ -3,15 +3,15 @@ use Rattle.std.proofs.Common.{◌≡◌, ℕ, ◌+◌, ◌<◌, length, take, dr
 use Rattle.std.proofs.lemmas.Bool.{false≢true}
 use Rattle.std.proofs.lemmas.List.{append_assoc, append-nil, at_drop_more}
 use Rattle.std.proofs.lemmas.List.Elements.{All-nil, All-cons}
-use Rattle.isle_model.specs.lists.Syntax.{Name, Position, Definition, type_definition, declaration, extractor_definition, converter_definition, rule_definition, extern_definition, extern_constructor, extern_extractor, extern_const, other_definition}
-use Rattle.isle_model.specs.lists.Names.{number, has_name, with_names}
-use Rattle.isle_model.specs.rules.Outcome.{then_option}
-use Rattle.isle_model.specs.lists.TypeTable.{ConstantTree, constant_trees, all_type_names, type_id, type_of_number, type_names_met, IsOfKnownType}
+use Rattle.model.specs.lists.Syntax.{Name, Position, Definition, type_definition, declaration, extractor_definition, converter_definition, rule_definition, extern_definition, extern_constructor, extern_extractor, extern_const, other_definition}
+use Rattle.model.specs.lists.Names.{number, has_name, with_names}
+use Rattle.model.specs.rules.Outcome.{then_option}
+use Rattle.model.specs.lists.TypeTable.{ConstantTree, constant_trees, all_type_names, type_id, type_of_number, type_names_met, IsOfKnownType}
 use Rattle.isle_base.specs.declared.syntax.Def.{Def}
 use Rattle.isle_base.specs.declared.syntax.Error.{Error}
 use Rattle.isle_base.specs.Stable.{look_up}
 use Rattle.isle_base.specs.SyntaxViews.{definition_view, definition_views}
-use Rattle.isle_laws_typing.proofs.TypeLaws.{type_names_distinct}
+use Rattle.laws_typing.proofs.TypeLaws.{type_names_distinct}
 use Rattle.isle_types.specs.declared.type_env.TypeEnv.{TypeEnv}
 use Rattle.isle_types.specs.ConstantReading.{TypesConstant, ReadsConstant, ReadsDefinition}
 use Rattle.isle_types.specs.Envs.{names_of, symbol_of, type_at, same_symbol, symbol, type_of_name, IsInterned}
@@ -21,8 +21,8 @@ use Rattle.isle_types.specs.ToldErrors.{NotesOf, NotesEach}
 use Rattle.isle_types.specs.TypeErrors.{TellsOfConstant}
 use Rattle.isle_types.specs.TypeViews.{type_views}
 use Rattle.isle_types.proofs.LastTypes.{last_read}
-use Rattle.isle_model.proofs.ByNumber.{by_text, then_with}
-use Rattle.isle_model.proofs.Names.{with_missing, number_stays}
+use Rattle.model.proofs.ByNumber.{by_text, then_with}
+use Rattle.model.proofs.Names.{with_missing, number_stays}
 use Rattle.isle_types.proofs.KnownTypes.{placed_has, one_more_read}
 use Rattle.isle_types.proofs.ToldErrors.{some_told, noted_none, noted_more}
 use Rattle.isle_types.proofs.ReadingSteps.{reads_on, reads_wrong, reads_same}

@@ -5,10 +5,10 @@ use Rattle.std.proofs.lemmas.List.{append-nil, map_push, map-append, length-map,
 use Rattle.std.proofs.lemmas.List.FromFn.{length-enumerate_from}
 use Rattle.std.proofs.lemmas.List.Elements.{All-head, All-push, Contains-append_right}
 use Rattle.std.proofs.lemmas.Grind.{flat_map-append}
-use Rattle.isle_model.specs.lists.Syntax.{FieldTrees, VariantTree, Definition}
-use Rattle.isle_model.specs.lists.Names.{IsDistinct}
-use Rattle.isle_model.specs.lists.Tables.{VariantEntry}
-use Rattle.isle_model.specs.lists.TypeTable.{all_type_names, place_from, variant_names, variant_entry}
+use Rattle.model.specs.lists.Syntax.{FieldTrees, VariantTree, Definition}
+use Rattle.model.specs.lists.Names.{IsDistinct}
+use Rattle.model.specs.lists.Tables.{VariantEntry}
+use Rattle.model.specs.lists.TypeTable.{all_type_names, place_from, variant_names, variant_entry}
 use Rattle.isle_base.specs.declared.syntax.Error.{Error}
 use Rattle.isle_base.specs.declared.syntax.Variant as S
 use Rattle.isle_base.specs.SyntaxViews as views
@@ -28,8 +28,8 @@ use Rattle.isle_types.proofs.EntriesStay.{AllMet, met_self, variants_stay}
 use Rattle.isle_types.proofs.NamesMet.{meet_more, sees_met}
 use Rattle.isle_types.proofs.ToldErrors.{noted_among}
 use Rattle.isle_types.proofs.RightTypes.{all_right}
-use Rattle.isle_model.proofs.Members.{in_head}
-use Rattle.isle_model.proofs.FirstPlaces.{distinct_push, twice}
+use Rattle.model.proofs.Members.{in_head}
+use Rattle.model.proofs.FirstPlaces.{distinct_push, twice}
 
 abbrev pub own_names : List VariantTree → List (List ℕ)
 own_names vs = map (λ v. v.name.text) vs

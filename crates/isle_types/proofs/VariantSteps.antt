@@ -1,9 +1,9 @@
 -- Reading one variant: its names, its name's test, its fields.
 use Rattle.std.proofs.Common.{◌≡◌, ℕ, true, false, not, cond, List, [], ◌∷◌, ◌++◌, Some, None, is_some, slice_get, string_bytes, refl, sym, ap, subst, ◌∙◌}
 use Rattle.std.proofs.lemmas.Bool.{false≢true}
-use Rattle.isle_model.specs.lists.Syntax.{Definition}
-use Rattle.isle_model.specs.lists.Names.{number, with_names}
-use Rattle.isle_model.specs.lists.TypeTable.{place_from, full_name, field_names, field_entries, variant_names, variant_entry}
+use Rattle.model.specs.lists.Syntax.{Definition}
+use Rattle.model.specs.lists.Names.{number, with_names}
+use Rattle.model.specs.lists.TypeTable.{place_from, full_name, field_names, field_entries, variant_names, variant_entry}
 use Rattle.isle_base.specs.declared.syntax.Variant as S
 use Rattle.isle_base.specs.SyntaxViews as views
 use Rattle.isle_base.specs.Stable.{Members, contains}
@@ -20,7 +20,7 @@ use Rattle.isle_types.specs.VariantReading.{HasSeen, VariantRead}
 use Rattle.isle_types.proofs.Inverse.{inverse_distinct}
 use Rattle.isle_types.proofs.NamesMet.{meet_more, sees_met}
 use Rattle.isle_types.proofs.NumbersSeen.{seen_met, seen_number, seen_push}
-use Rattle.isle_model.proofs.Names.{with_name_at, number_stays}
+use Rattle.model.proofs.Names.{with_name_at, number_stays}
 
 -- the full name is met, then the name of the variant
 module _ (ty : List ℕ) (w : S.Variant) (old first env : TypeEnv) (one : MeetsNames (full_name ty (string_bytes w.name.0) ∷ []) old first) (two : MeetsNames (string_bytes w.name.0 ∷ []) first env) where

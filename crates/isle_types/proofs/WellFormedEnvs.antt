@@ -4,16 +4,16 @@ use Rattle.std.proofs.Common.{◌≡◌, Result, Ok, Err, OnOk, OnErr, ℕ, ◌<
 use Rattle.std.specs.List.{flat_map}
 use Rattle.std.proofs.lemmas.List.{length-append}
 use Rattle.std.proofs.lemmas.List.Elements.{All-contains, All-weaker}
-use Rattle.isle_model.specs.lists.Syntax.{Definition}
-use Rattle.isle_model.specs.lists.Names.{has_name, with_name, AreNumbersOf}
-use Rattle.isle_model.specs.lists.Tables.{TypeEntry}
-use Rattle.isle_model.specs.lists.TypeTable.{builtin_names, builtin_from, all_type_names, type_names_met, IsValidTypes}
-use Rattle.isle_model.specs.lists.KnownTypes.{types_inside, entry_numbers, StandAtIds}
-use Rattle.isle_model.specs.claims.Environments.{types_read, AreReadable, HasVariantsAtIds, TypeEnvironment, AreTypesOf}
-use Rattle.isle_model.specs.claims.Questions.{HasOneNumber, AnswersTypes, IsWellFormedEnvironment}
-use Rattle.isle_laws_typing.proofs.EnvironmentsShown.{well_formed_environments_are_read_lem}
-use Rattle.isle_laws_typing.proofs.LooksByNumber.{numbered_look}
-use Rattle.isle_laws_typing.proofs.OwnTypes.{own_types_are_readable_lem}
+use Rattle.model.specs.lists.Syntax.{Definition}
+use Rattle.model.specs.lists.Names.{has_name, with_name, AreNumbersOf}
+use Rattle.model.specs.lists.Tables.{TypeEntry}
+use Rattle.model.specs.lists.TypeTable.{builtin_names, builtin_from, all_type_names, type_names_met, IsValidTypes}
+use Rattle.model.specs.lists.KnownTypes.{types_inside, entry_numbers, StandAtIds}
+use Rattle.model.specs.claims.Environments.{types_read, AreReadable, HasVariantsAtIds, TypeEnvironment, AreTypesOf}
+use Rattle.model.specs.claims.Questions.{HasOneNumber, AnswersTypes, IsWellFormedEnvironment}
+use Rattle.laws_typing.proofs.EnvironmentsShown.{well_formed_environments_are_read_lem}
+use Rattle.laws_typing.proofs.LooksByNumber.{numbered_look}
+use Rattle.laws_typing.proofs.OwnTypes.{own_types_are_readable_lem}
 use Rattle.isle_base.specs.Stable.{look_up}
 use Rattle.isle_types.specs.declared.type_env.TypeEnv.{TypeEnv}
 use Rattle.isle_types.specs.Envs.{names_of, symbol_of, same_symbol, symbol, IsInterned}
@@ -22,7 +22,7 @@ use Rattle.isle_types.specs.Stages.{Booting}
 use Rattle.isle_types.specs.TypeTables.{SeesTypes}
 use Rattle.isle_types.specs.TypeViews.{type_views}
 use Rattle.isle_types.proofs.Booting.{booted}
-use Rattle.isle_laws_typing.proofs.JudgedTypes.{types_are_judged_lem}
+use Rattle.laws_typing.proofs.JudgedTypes.{types_are_judged_lem}
 
 module _ (defs : List Definition) (env : TypeEnv) (v : IsValidTypes defs) (s : SeesTypes env defs (type_names_met defs)) where
   own : AreReadable (types_read defs)

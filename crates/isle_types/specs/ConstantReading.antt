@@ -1,7 +1,7 @@
 -- What reading a constant does to a type environment and to the errors found so far.
 use Rattle.std.specs.Prelude.{◌≡◌, ℕ, nat_eq, List, [], ◌∷◌, ◌⊎◌, if◌then◌else◌, Some, None}
-use Rattle.isle_model.specs.lists.Syntax.{Position, Name, Definition, extern_definition, extern_const}
-use Rattle.isle_model.specs.lists.Names.{number, with_name}
+use Rattle.model.specs.lists.Syntax.{Position, Name, Definition, extern_definition, extern_const}
+use Rattle.model.specs.lists.Names.{number, with_name}
 use Rattle.isle_base.specs.declared.syntax.Error.{Error}
 use Rattle.isle_types.specs.declared.type_env.TypeEnv.{TypeEnv}
 use Rattle.isle_types.specs.Envs.{names_of, constant_at, type_of_name}

@@ -1,6 +1,6 @@
 -- What a type environment shows to those who read terms and rules with it.
 use Rattle.std.specs.Prelude.{length}
-use Rattle.isle_model.specs.claims.Environments.{TypeEnvironment}
+use Rattle.model.specs.claims.Environments.{TypeEnvironment}
 use Rattle.isle_types.specs.declared.type_env.TypeEnv.{TypeEnv}
 use Rattle.isle_types.specs.Envs.{names_of, symbol_of, type_at, constant_at}
 use Rattle.isle_types.specs.TypeViews.{type_views}

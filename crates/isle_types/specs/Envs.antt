@@ -4,7 +4,7 @@ use Rattle.std.specs.HashMap.{get_by_text}
 use Rattle.isle_base.specs.Stable.{look_up}
 use Rattle.isle_types.specs.declared.ids.Sym.{Sym}
 use Rattle.isle_types.specs.declared.type_env.TypeEnv.{TypeEnv}
-use Rattle.isle_model.specs.lists.Names.{AreNumbersOf}
+use Rattle.model.specs.lists.Names.{AreNumbersOf}
 
 -- the names, in the order of their numbers
 abbrev pub names_of : TypeEnv → List (List ℕ)

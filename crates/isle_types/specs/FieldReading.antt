@@ -1,7 +1,7 @@
 -- What reading one field does.
 use Rattle.std.specs.Prelude.{◌≡◌, ℕ, nat_eq, Bool, true, false, if◌then◌else◌, List, ◌⊎◌, Option, Some, None}
-use Rattle.isle_model.specs.lists.Syntax.{FieldTree, TupleFieldTree}
-use Rattle.isle_model.specs.lists.Names.{number}
+use Rattle.model.specs.lists.Syntax.{FieldTree, TupleFieldTree}
+use Rattle.model.specs.lists.Names.{number}
 use Rattle.isle_base.specs.declared.syntax.Error.{Error}
 use Rattle.isle_base.specs.Positions.{field_positions, tuple_field_positions}
 use Rattle.isle_base.specs.Stable.{Members, contains}

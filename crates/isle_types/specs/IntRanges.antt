@@ -1,7 +1,7 @@
 -- The built-in integer types among the types of the model, and how many bits each has.
 use Rattle.std.specs.Prelude.{◌≡◌, ℕ, option_map, Some}
-use Rattle.isle_model.specs.lists.Ranges.{range_of}
-use Rattle.isle_model.specs.lists.Tables.{TypeEntry, builtin_type}
+use Rattle.model.specs.lists.Ranges.{range_of}
+use Rattle.model.specs.lists.Tables.{TypeEntry, builtin_type}
 use Rattle.isle_types.specs.declared.builtin.BuiltinType.TheVariants.{Int}
 use Rattle.isle_types.specs.declared.builtin.IntType.{IntType}
 use Rattle.isle_types.specs.Builtin.{builtin_place}

@@ -1,8 +1,8 @@
 -- What reading a part of a type promises of each list of definitions whose type names are all seen.
 use Rattle.std.specs.Prelude.{ℕ, List, [], ◌∷◌, Option, IsTrue}
-use Rattle.isle_model.specs.lists.Syntax.{Position, Name, FieldTrees, VariantTree, TypeTree, TypeValueTree, primitive_value, Definition}
-use Rattle.isle_model.specs.lists.Names.{has_name}
-use Rattle.isle_model.specs.lists.TypeTable.{all_type_names, type_names}
+use Rattle.model.specs.lists.Syntax.{Position, Name, FieldTrees, VariantTree, TypeTree, TypeValueTree, primitive_value, Definition}
+use Rattle.model.specs.lists.Names.{has_name}
+use Rattle.model.specs.lists.TypeTable.{all_type_names, type_names}
 use Rattle.isle_base.specs.declared.syntax.Error.{Error}
 use Rattle.isle_base.specs.Stable.{Members}
 use Rattle.isle_types.specs.declared.ids.Sym.{Sym}

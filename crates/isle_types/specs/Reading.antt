@@ -1,9 +1,9 @@
 -- What reading one definition does to a type environment and to the errors found so far.
 use Rattle.std.specs.Prelude.{◌≡◌, ℕ, ◌+◌, ◌<◌, ◌≤◌, nat_eq, List, [], ◌∷◌, ◌++◌, ◌⊎◌, if◌then◌else◌, Option, Some, None, All}
-use Rattle.isle_model.specs.lists.Syntax.{Position, FieldTrees, TypeTree, Definition, type_definition}
-use Rattle.isle_model.specs.lists.Names.{number, with_name, with_names}
-use Rattle.isle_model.specs.lists.Tables.{builtin_type}
-use Rattle.isle_model.specs.lists.TypeTable.{field_names, names_inside, field_lists_of, IsUnmarkedIfPrimitive, HasAtMostOneMark, HasDistinctVariants, HasDistinctFields, HasKnownTypes, field_entries, type_entry}
+use Rattle.model.specs.lists.Syntax.{Position, FieldTrees, TypeTree, Definition, type_definition}
+use Rattle.model.specs.lists.Names.{number, with_name, with_names}
+use Rattle.model.specs.lists.Tables.{builtin_type}
+use Rattle.model.specs.lists.TypeTable.{field_names, names_inside, field_lists_of, IsUnmarkedIfPrimitive, HasAtMostOneMark, HasDistinctVariants, HasDistinctFields, HasKnownTypes, field_entries, type_entry}
 use Rattle.isle_base.specs.declared.syntax.Error.{Error}
 use Rattle.isle_base.specs.Positions.{fields_positions, type_positions}
 use Rattle.isle_base.specs.Stable.{entry_count}

@@ -2,11 +2,11 @@
 use Rattle.std.specs.Prelude.{◌≡◌, ℕ, false, List, [], ◌++◌, length, map, reverse, Option, None, option_map, slice_get, All, IsTrue}
 use Rattle.std.specs.List.{find, flat_map, enumerate_from}
 use Rattle.std.specs.Str.{bytes_eq}
-use Rattle.isle_model.specs.lists.Syntax.{TypeTree, Definition}
-use Rattle.isle_model.specs.lists.Names.{has_name, with_names, IsDistinct}
-use Rattle.isle_model.specs.rules.Outcome.{then_option}
-use Rattle.isle_model.specs.lists.Tables.{TypeEntry, builtin_type}
-use Rattle.isle_model.specs.lists.TypeTable.{builtin_names, type_trees, type_names, all_type_names, names_inside, ConstantTree, constant_trees, type_names_met, type_id, type_or_first, type_of_number, place_from, IsOfKnownType, builtin_from, type_entry, type_table}
+use Rattle.model.specs.lists.Syntax.{TypeTree, Definition}
+use Rattle.model.specs.lists.Names.{has_name, with_names, IsDistinct}
+use Rattle.model.specs.rules.Outcome.{then_option}
+use Rattle.model.specs.lists.Tables.{TypeEntry, builtin_type}
+use Rattle.model.specs.lists.TypeTable.{builtin_names, type_trees, type_names, all_type_names, names_inside, ConstantTree, constant_trees, type_names_met, type_id, type_or_first, type_of_number, place_from, IsOfKnownType, builtin_from, type_entry, type_table}
 use Rattle.isle_base.specs.declared.syntax.Error.{Error}
 use Rattle.isle_base.specs.Stable.{entry_count}
 use Rattle.isle_types.specs.declared.builtin.BuiltinType.{BuiltinType}

@@ -1,7 +1,7 @@
 -- Errors that are told of definitions, one after another: of which, how many, and in which order.
 use Rattle.std.specs.Prelude.{◌≡◌, ℕ, List, [], ◌∷◌, ◌++◌, ◌⊎◌, length, All}
-use Rattle.isle_model.specs.lists.Syntax.{Position, Definition}
-use Rattle.isle_model.specs.claims.Refusals.{IsIllTyped}
+use Rattle.model.specs.lists.Syntax.{Position, Definition}
+use Rattle.model.specs.claims.Refusals.{IsIllTyped}
 use Rattle.isle_base.specs.declared.syntax.Error.{Error}
 use Rattle.isle_base.specs.ErrorViews.{error_view}
 use Rattle.isle_base.specs.Positions.{ErrorStandsAt}

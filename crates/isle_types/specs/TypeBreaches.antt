@@ -1,8 +1,8 @@
 -- Which definitions break a condition on types, and where the first error stands.
 use Rattle.std.specs.Prelude.{◌≡◌, List, ◌∷◌, ◌++◌, Contains, IsTrue}
-use Rattle.isle_model.specs.lists.Syntax.{TypeTree, Definition, type_definition}
-use Rattle.isle_model.specs.lists.Names.{has_name}
-use Rattle.isle_model.specs.lists.TypeTable.{ConstantTree, constant_of, all_type_names, IsOfKnownType}
+use Rattle.model.specs.lists.Syntax.{TypeTree, Definition, type_definition}
+use Rattle.model.specs.lists.Names.{has_name}
+use Rattle.model.specs.lists.TypeTable.{ConstantTree, constant_of, all_type_names, IsOfKnownType}
 use Rattle.isle_base.specs.declared.syntax.Error.{Error}
 use Rattle.isle_base.specs.Positions.{ErrorStandsAt, definition_positions}
 use Rattle.isle_types.specs.Reading.{IsRightType}

@@ -1,8 +1,8 @@
 -- Which errors are told of the types and the constants of a list of definitions.
 use Rattle.std.specs.Prelude.{◌≡◌, ℕ, List, [], ◌∷◌, ◌++◌, if◌then◌else◌}
-use Rattle.isle_model.specs.lists.Syntax.{Definition, type_definition, extern_definition, extern_const}
-use Rattle.isle_model.specs.lists.Names.{has_name}
-use Rattle.isle_model.specs.lists.TypeTable.{builtin_names, type_names, IsOfKnownType}
+use Rattle.model.specs.lists.Syntax.{Definition, type_definition, extern_definition, extern_const}
+use Rattle.model.specs.lists.Names.{has_name}
+use Rattle.model.specs.lists.TypeTable.{builtin_names, type_names, IsOfKnownType}
 use Rattle.isle_base.specs.declared.syntax.Error.{Error}
 use Rattle.isle_base.specs.Positions.{type_positions}
 use Rattle.isle_types.specs.Reading.{IsRightType}

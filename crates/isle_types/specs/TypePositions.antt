@@ -1,8 +1,8 @@
 -- The positions that stand in a type table.
 use Rattle.std.specs.Prelude.{List, [], ◌∷◌, map}
 use Rattle.std.specs.List.{flat_map}
-use Rattle.isle_model.specs.lists.Syntax.{Position}
-use Rattle.isle_model.specs.lists.Tables.{TypeEntry, builtin_type, primitive_type, enum_type, struct_type}
+use Rattle.model.specs.lists.Syntax.{Position}
+use Rattle.model.specs.lists.Tables.{TypeEntry, builtin_type, primitive_type, enum_type, struct_type}
 
 -- where a type is defined, and where its variants are; a built-in type stands nowhere
 abbrev pub entry_positions : TypeEntry → List Position

@@ -1,12 +1,12 @@
 -- What a type environment is: the type table of a list of definitions.
 use Rattle.std.specs.Prelude.{◌≡◌, ℕ, List, []}
 use Rattle.std.specs.Bool.{◌==◌}
-use Rattle.isle_model.specs.lists.Syntax.{Definition}
-use Rattle.isle_model.specs.rules.Meaning.{look}
-use Rattle.isle_model.specs.lists.TypeTable.{type_table, type_of_number, constant_types}
+use Rattle.model.specs.lists.Syntax.{Definition}
+use Rattle.model.specs.rules.Meaning.{look}
+use Rattle.model.specs.lists.TypeTable.{type_table, type_of_number, constant_types}
 use Rattle.isle_types.specs.declared.type_env.TypeEnv.{TypeEnv}
 use Rattle.isle_types.specs.Envs.{names_of, symbol_of, type_at, constant_at}
-use Rattle.isle_model.specs.lists.Names.{AreNumbersOf}
+use Rattle.model.specs.lists.Names.{AreNumbersOf}
 use Rattle.isle_types.specs.TypeViews.{type_views}
 
 -- the types and the constants are those of the definitions, and the names are these, which may go on after those of the

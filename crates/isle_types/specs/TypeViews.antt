@@ -1,6 +1,6 @@
 -- What the types of the code say, as entries of the type table.
 use Rattle.std.specs.Prelude.{List, map}
-use Rattle.isle_model.specs.lists.Tables.{FieldEntry, TupleFieldEntry, FieldEntries, unit_entries, struct_entries, tuple_entries, VariantEntry, TypeEntry, builtin_type, primitive_type, enum_type, struct_type}
+use Rattle.model.specs.lists.Tables.{FieldEntry, TupleFieldEntry, FieldEntries, unit_entries, struct_entries, tuple_entries, VariantEntry, TypeEntry, builtin_type, primitive_type, enum_type, struct_type}
 use Rattle.isle_base.specs.SyntaxViews.{position}
 use Rattle.isle_types.specs.Builtin.{builtin_place}
 use Rattle.isle_types.specs.declared.types.StructField.{StructField}

@@ -1,8 +1,8 @@
 -- What a client reads off an entry of the type table.
 use Rattle.std.specs.Prelude.{ℕ, Bool, true, false, List, [], map, Option, Some, None, nat_lt, slice_get}
-use Rattle.isle_model.specs.lists.Syntax.{Position}
-use Rattle.isle_model.specs.lists.TypeTable.{builtin_names}
-use Rattle.isle_model.specs.lists.Tables.{FieldEntries, unit_entries, struct_entries, tuple_entries, TypeEntry, builtin_type, primitive_type, enum_type, struct_type}
+use Rattle.model.specs.lists.Syntax.{Position}
+use Rattle.model.specs.lists.TypeTable.{builtin_names}
+use Rattle.model.specs.lists.Tables.{FieldEntries, unit_entries, struct_entries, tuple_entries, TypeEntry, builtin_type, primitive_type, enum_type, struct_type}
 
 -- the number of a type
 abbrev pub type_id_of : TypeEntry → ℕ

@@ -1,10 +1,10 @@
 -- What reading the value of a type does, and reading the variants of an enum.
 use Rattle.std.specs.Prelude.{◌≡◌, ℕ, Bool, true, false, List, [], ◌∷◌, ◌++◌, ◌⊎◌, Option, length, Some, None, All, map, is_some, slice_get}
 use Rattle.std.specs.List.{flat_map, enumerate_from}
-use Rattle.isle_model.specs.lists.Syntax.{Position, VariantTree, TypeTree, TypeValueTree, Definition, type_definition}
-use Rattle.isle_model.specs.lists.Names.{number, has_name, with_names, IsDistinct}
-use Rattle.isle_model.specs.rules.Outcome.{then_option}
-use Rattle.isle_model.specs.lists.TypeTable.{place_from, variant_names, names_inside, variant_entry, type_entry}
+use Rattle.model.specs.lists.Syntax.{Position, VariantTree, TypeTree, TypeValueTree, Definition, type_definition}
+use Rattle.model.specs.lists.Names.{number, has_name, with_names, IsDistinct}
+use Rattle.model.specs.rules.Outcome.{then_option}
+use Rattle.model.specs.lists.TypeTable.{place_from, variant_names, names_inside, variant_entry, type_entry}
 use Rattle.isle_base.specs.declared.syntax.Error.{Error}
 use Rattle.isle_base.specs.NotedErrors.{NotesMore}
 use Rattle.isle_base.specs.Positions.{variant_positions, type_positions}

@@ -1,8 +1,8 @@
 //! The built-in types: `bool` and the integers of fixed width.
 
 ghost use Rattle.std.specs.Prelude.{◌≡◌, ◌<◌, ◌≤◌, ◌^◌, ◌∷◌, [], Some, map, pos};
-ghost use Rattle.isle_model.specs.lists.Ranges.{unsigned, signed, reduce, reduced};
-ghost use Rattle.isle_model.specs.lists.TypeTable.{builtin_names};
+ghost use Rattle.model.specs.lists.Ranges.{unsigned, signed, reduce, reduced};
+ghost use Rattle.model.specs.lists.TypeTable.{builtin_names};
 ghost use Rattle.isle_types.specs.Builtin.{int_name, int_signed, builtin_name, builtin_place, builtin_id};
 ghost use Rattle.isle_types.specs.IntRanges.{int_type, HasBits};
 

@@ -2,11 +2,11 @@
 //! types are, then constants. What is wrong with a definition is noted, and the reading goes on.
 
 ghost use Rattle.std.specs.Prelude.{◌≡◌, ◌⊎◌, [], ◌∷◌, ◌++◌, All, IfOk, OnOk, MatchOption, Some};
-ghost use Rattle.isle_model.specs.lists.Names.{number};
-ghost use Rattle.isle_model.specs.lists.TypeTable.{IsValidTypes, builtin_names, type_names_met};
-ghost use Rattle.isle_model.specs.claims.Environments.{AreTypesOf};
-ghost use Rattle.isle_model.specs.claims.Questions.{IsWellFormedEnvironment};
-ghost use Rattle.isle_model.specs.claims.Refusals.{RefusesTypes, ill_typed};
+ghost use Rattle.model.specs.lists.Names.{number};
+ghost use Rattle.model.specs.lists.TypeTable.{IsValidTypes, builtin_names, type_names_met};
+ghost use Rattle.model.specs.claims.Environments.{AreTypesOf};
+ghost use Rattle.model.specs.claims.Questions.{IsWellFormedEnvironment};
+ghost use Rattle.model.specs.claims.Refusals.{RefusesTypes, ill_typed};
 ghost use Rattle.isle_base.specs.Answers.{Answers, NoLimit, OnErrors};
 ghost use Rattle.isle_base.specs.ErrorViews.{error_views};
 ghost use Rattle.isle_base.specs.Stable.{entry_count};

@@ -2,9 +2,9 @@
 
 ghost use Rattle.std.specs.Prelude.{◌≡◌, ℕ, List, ◌++◌, ◌∷◌, [], map, option_map, IfOk, OnOk, OnErr, string_bytes, length, Some, IsSome, slice_get};
 ghost use Rattle.std.specs.HashMap.{get_by_text};
-ghost use Rattle.isle_model.specs.lists.Names.{number, with_name, number_if_met};
-ghost use Rattle.isle_model.specs.lists.Signatures.{text_of};
-ghost use Rattle.isle_model.specs.claims.Questions.{IsWellFormedEnvironment, variant_by_id};
+ghost use Rattle.model.specs.lists.Names.{number, with_name, number_if_met};
+ghost use Rattle.model.specs.lists.Signatures.{text_of};
+ghost use Rattle.model.specs.claims.Questions.{IsWellFormedEnvironment, variant_by_id};
 ghost use Rattle.isle_types.specs.EnvViews.{environment_view};
 ghost use Rattle.isle_types.specs.Envs.{names_of, symbol_of, type_of_name, IsInterned};
 ghost use Rattle.isle_types.specs.TypeViews.{type_views, variant_view};

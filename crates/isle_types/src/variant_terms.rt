@@ -1,7 +1,7 @@
 //! Where variants' terms are looked up, for crates that stand below the term table.
 
 ghost use Rattle.std.specs.Prelude.{◌≡◌, ℕ, Option, Some, IsSome};
-ghost use Rattle.isle_model.specs.claims.Questions.{term_of_variant, variant_by_id};
+ghost use Rattle.model.specs.claims.Questions.{term_of_variant, variant_by_id};
 ghost use Rattle.isle_types.specs.TypeViews.{type_views};
 
 use crate::ids::{TermId, TypeId, VariantId};

@@ -2,10 +2,10 @@
 
 use crate::json::writer::Json;
 use isle_base::syntax::{Files, Pos};
-use isle_explaining::names::Names;
-use isle_reading::in_place::is_in_place;
+use isle_diagnostics::names::Names;
+use isle_queries::in_place::is_in_place;
 use isle_printing::lines::{file_name, file_text, line_at};
-use isle_sets::trie_again::{Binding, BindingId, Constraint, Rule};
+use isle_rule_sets::trie_again::{Binding, BindingId, Constraint, Rule};
 use isle_types::TypeId;
 use std::alloc::AllocError;
 

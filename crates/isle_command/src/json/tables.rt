@@ -1,7 +1,7 @@
 //! Types, and the heads of terms.
 
 use crate::json::writer::Json;
-use isle_explaining::names::Names;
+use isle_diagnostics::names::Names;
 use isle_terms::{Term, TermFlags, TermKind};
 use isle_types::{Fields, Type, TypeId, Variant};
 use std::alloc::AllocError;

@@ -5,7 +5,7 @@ ghost use Rattle.std.specs.List.{flat_map};
 ghost use Rattle.isle_base.specs.Expressions.{terms_of_expr};
 ghost use Rattle.isle_base.specs.Places.{term_view};
 ghost use Rattle.isle_base.specs.SyntaxViews.{position, definition_view, definition_views, expr_view, iflet_view, rule_view};
-ghost use Rattle.isle_model.specs.lists.TermTable.{rule_trees};
+ghost use Rattle.model.specs.lists.TermTable.{rule_trees};
 ghost use Rattle.isle_rules.specs.Constructors.{has_constructor_if_there, uses_of_rule, uses_of_definition, AreFoundMade};
 ghost use Rattle.isle_rules.specs.RuleBreaches.{UsesUnmade};
 ghost use Rattle.isle_typed.specs.Elaborating.{Checks};

@@ -2,9 +2,9 @@
 
 ghost use Rattle.std.specs.Prelude.{◌≡◌, [], ◌∷◌, ℕ, true, OnOk};
 ghost use Rattle.isle_base.specs.SyntaxViews.{name_view, position};
-ghost use Rattle.isle_model.specs.lists.Syntax.{bool_expr, int_expr, prim_expr};
-ghost use Rattle.isle_model.specs.lists.Tables.{Flags};
-ghost use Rattle.isle_model.specs.lists.Setting.{is_expected};
+ghost use Rattle.model.specs.lists.Syntax.{bool_expr, int_expr, prim_expr};
+ghost use Rattle.model.specs.lists.Tables.{Flags};
+ghost use Rattle.model.specs.lists.Setting.{is_expected};
 ghost use Rattle.isle_types.specs.Envs.{IsInterned};
 ghost use Rattle.isle_base.specs.NotedErrors.{NotesMore};
 ghost use Rattle.isle_typed.specs.Elaborating.{Checks};

@@ -2,9 +2,9 @@
 
 ghost use Rattle.std.specs.Prelude.{◌≡◌, ◌||◌, [], ◌∷◌, true, not, IfOk, OnOk, option_map, option_and_then, length, string_bytes};
 ghost use Rattle.isle_base.specs.SyntaxViews.{name_view, position, expr_view, expr_views};
-ghost use Rattle.isle_model.specs.lists.Syntax.{term_expr, var_expr};
-ghost use Rattle.isle_model.specs.lists.Setting.{is_expected};
-ghost use Rattle.isle_model.specs.lists.Tables.{Flags};
+ghost use Rattle.model.specs.lists.Syntax.{term_expr, var_expr};
+ghost use Rattle.model.specs.lists.Setting.{is_expected};
+ghost use Rattle.model.specs.lists.Tables.{Flags};
 ghost use Rattle.isle_terms.specs.TermViews.{flags_view, term_view};
 ghost use Rattle.isle_types.specs.Envs.{symbol_of, IsInterned};
 ghost use Rattle.isle_base.specs.NotedErrors.{NotesMore};

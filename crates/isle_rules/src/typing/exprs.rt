@@ -3,7 +3,7 @@
 ghost use Rattle.std.specs.Prelude.{◌≡◌, ◌∷◌, ◌++◌, OnOk, length, map};
 ghost use Rattle.std.specs.Option.{option_to_list};
 ghost use Rattle.isle_base.specs.SyntaxViews as S;
-ghost use Rattle.isle_model.specs.lists.Syntax.{no_let, let_expr};
+ghost use Rattle.model.specs.lists.Syntax.{no_let, let_expr};
 ghost use Rattle.isle_terms.specs.TermViews.{flags_view};
 ghost use Rattle.isle_types.specs.Envs.{IsInterned};
 ghost use Rattle.isle_rules.specs.ExprReadings.{expected, expr_reading, args_reading, lets_reading};

@@ -3,7 +3,7 @@
 ghost use Rattle.std.specs.Prelude.{◌≡◌, [], ◌∷◌, ◌++◌, ℕ, IfOk, OnOk, length};
 ghost use Rattle.std.specs.Option.{option_to_list};
 ghost use Rattle.isle_base.specs.SyntaxViews.{name_view, position};
-ghost use Rattle.isle_model.specs.lists.Elaborated.{typed_let};
+ghost use Rattle.model.specs.lists.Elaborated.{typed_let};
 ghost use Rattle.isle_types.specs.Envs.{IsInterned};
 ghost use Rattle.isle_base.specs.NotedErrors.{NotesMore};
 ghost use Rattle.isle_typed.specs.ExprViews.{expr_view, let_views, let_parts};

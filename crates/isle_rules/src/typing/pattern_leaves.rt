@@ -2,7 +2,7 @@
 
 ghost use Rattle.std.specs.Prelude.{◌≡◌, [], ◌∷◌, ℕ, Bool, None, OnOk, string_bytes};
 ghost use Rattle.isle_base.specs.SyntaxViews.{name_view, position};
-ghost use Rattle.isle_model.specs.lists.Syntax.{var_pattern, bool_pattern, int_pattern, prim_pattern, macro_arg};
+ghost use Rattle.model.specs.lists.Syntax.{var_pattern, bool_pattern, int_pattern, prim_pattern, macro_arg};
 ghost use Rattle.isle_types.specs.Envs.{IsInterned};
 ghost use Rattle.isle_typed.specs.Elaborating.{Checks};
 ghost use Rattle.isle_typed.specs.PatternViews.{pattern_view};

@@ -2,8 +2,8 @@
 
 ghost use Rattle.std.specs.Prelude.{◌≡◌, [], ◌∷◌, true, IfOk, OnOk, IsTrue, option_map, length, string_bytes};
 ghost use Rattle.isle_base.specs.SyntaxViews.{name_view, position, pattern_view, pattern_views};
-ghost use Rattle.isle_model.specs.lists.Setting.{is_matchable};
-ghost use Rattle.isle_model.specs.lists.Syntax.{term_pattern};
+ghost use Rattle.model.specs.lists.Setting.{is_matchable};
+ghost use Rattle.model.specs.lists.Syntax.{term_pattern};
 ghost use Rattle.isle_terms.specs.Terms.{has_extractor_kind, has_extractor_term};
 ghost use Rattle.isle_terms.specs.TermViews.{term_view};
 ghost use Rattle.isle_types.specs.Envs.{IsInterned};

@@ -1,7 +1,7 @@
 //! What typing a rule has come to.
 
 ghost use Rattle.std.specs.Prelude.{◌≡◌, ◌≤◌, IfOk, OnOk, option_map, length, alloc_error};
-ghost use Rattle.isle_model.specs.lists.Elaborated.{most_expansions};
+ghost use Rattle.model.specs.lists.Elaborated.{most_expansions};
 ghost use Rattle.isle_typed.specs.RuleViews.{var_view};
 ghost use Rattle.isle_rules.specs.declared.typing.progress.Stop.TheVariants.{Memory};
 

@@ -2,8 +2,8 @@
 
 ghost use Rattle.std.specs.Prelude.{◌≡◌, ◌&&◌, [], ◌∷◌, true, not, pos, IfOk, OnOk, option_map, is_some, unwrap_or};
 ghost use Rattle.isle_base.specs.SyntaxViews as S;
-ghost use Rattle.isle_model.specs.lists.Elaborated.{root_parts, rule_of_sides, with_own_name, own_number};
-ghost use Rattle.isle_model.specs.lists.Setting.{declared_flags};
+ghost use Rattle.model.specs.lists.Elaborated.{root_parts, rule_of_sides, with_own_name, own_number};
+ghost use Rattle.model.specs.lists.Setting.{declared_flags};
 ghost use Rattle.isle_terms.specs.TermViews.{flags_view, term_view};
 ghost use Rattle.isle_types.specs.Envs.{names_of, IsInterned};
 ghost use Rattle.isle_typed.specs.Elaborating.{Checks};

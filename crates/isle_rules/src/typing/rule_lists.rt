@@ -2,7 +2,7 @@
 
 ghost use Rattle.std.specs.Prelude.{◌≡◌, [], ◌++◌, IfOk};
 ghost use Rattle.isle_base.specs.SyntaxViews.{definition_views};
-ghost use Rattle.isle_model.specs.lists.TermTable.{rule_trees};
+ghost use Rattle.model.specs.lists.TermTable.{rule_trees};
 ghost use Rattle.isle_types.specs.Envs.{IsInterned};
 ghost use Rattle.isle_rules.specs.LimitsNamed.{NamesPastLimits};
 ghost use Rattle.isle_rules.specs.RuleBreaches.{BeginsWrong};

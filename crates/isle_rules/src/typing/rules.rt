@@ -2,7 +2,7 @@
 
 ghost use Rattle.std.specs.Prelude.{◌≡◌, [], ◌∷◌, ◌++◌, IfOk, OnOk, option_map};
 ghost use Rattle.isle_base.specs.SyntaxViews.{position, definition_view, definition_views, rule_view as tree_view};
-ghost use Rattle.isle_model.specs.lists.TermTable.{rule_of, rule_trees};
+ghost use Rattle.model.specs.lists.TermTable.{rule_of, rule_trees};
 ghost use Rattle.isle_types.specs.Envs.{IsInterned};
 ghost use Rattle.isle_rules.specs.LimitsNamed.{NamesPastLimits};
 ghost use Rattle.isle_rules.specs.RuleBreaches.{BeginsUntyped};

@@ -3,7 +3,7 @@
 ghost use Rattle.std.specs.Prelude.{◌≡◌, ◌∷◌, ◌++◌, OnOk, map, length};
 ghost use Rattle.std.specs.Option.{option_to_list};
 ghost use Rattle.isle_base.specs.SyntaxViews as S;
-ghost use Rattle.isle_model.specs.lists.Elaborated.{root_parts};
+ghost use Rattle.model.specs.lists.Elaborated.{root_parts};
 ghost use Rattle.isle_terms.specs.TermViews.{flags_view, term_view};
 ghost use Rattle.isle_types.specs.Envs.{IsInterned};
 ghost use Rattle.isle_rules.specs.PatternReadings.{parts_reading};

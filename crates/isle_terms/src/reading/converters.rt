@@ -1,7 +1,7 @@
 //! How converters are read: each is the term that a conversion from one type to another calls.
 
 ghost use Rattle.std.specs.Prelude.{◌≡◌, [], ◌∷◌, OnOk};
-ghost use Rattle.isle_model.specs.claims.Environments.{TypesRead, AreReadable};
+ghost use Rattle.model.specs.claims.Environments.{TypesRead, AreReadable};
 ghost use Rattle.isle_base.specs.Positions.{NotesAt, converter_positions, definition_positions, positions_of};
 ghost use Rattle.isle_base.specs.SyntaxViews.{converter_view, definition_view, definition_views, position};
 ghost use Rattle.isle_base.specs.NotedErrors.{NotesMore};

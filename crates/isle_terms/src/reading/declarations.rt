@@ -1,7 +1,7 @@
 //! How declared terms are read: each declaration becomes the next term.
 
 ghost use Rattle.std.specs.Prelude.{◌≡◌, ◌&&◌, [], ◌∷◌, ◌++◌, OnOk};
-ghost use Rattle.isle_model.specs.claims.Environments.{TypesRead, AreReadable, IsLeftByRefusal};
+ghost use Rattle.model.specs.claims.Environments.{TypesRead, AreReadable, IsLeftByRefusal};
 ghost use Rattle.isle_base.specs.Positions.{NotesAt, declaration_positions, definition_positions, positions_of};
 ghost use Rattle.isle_base.specs.SyntaxViews.{decl_view, definition_view, definition_views, position};
 ghost use Rattle.isle_types.specs.EnvViews.{environment_view};

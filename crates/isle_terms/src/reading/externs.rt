@@ -2,8 +2,8 @@
 //! terms or take them apart.
 
 ghost use Rattle.std.specs.Prelude.{◌≡◌, [], ◌∷◌, ◌++◌, Contains, not, IfOk, OnOk};
-ghost use Rattle.isle_model.specs.claims.Environments.{TypesRead, AreReadable, IsLeftByRefusal};
-ghost use Rattle.isle_model.specs.lists.Tables.{external_constructor, external_extractor};
+ghost use Rattle.model.specs.claims.Environments.{TypesRead, AreReadable, IsLeftByRefusal};
+ghost use Rattle.model.specs.lists.Tables.{external_constructor, external_extractor};
 ghost use Rattle.isle_base.specs.Positions.{NotesAt, definition_positions, extern_positions, positions_of};
 ghost use Rattle.isle_base.specs.SyntaxViews.{definition_view, definition_views, extern_view, name_view, position};
 ghost use Rattle.isle_types.specs.Envs.{IsInterned};

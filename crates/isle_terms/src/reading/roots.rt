@@ -1,7 +1,7 @@
 //! How the terms that rules are of are read: such a term is made by its rules.
 
 ghost use Rattle.std.specs.Prelude.{◌≡◌, [], ◌∷◌, OnOk, is_none, true, false};
-ghost use Rattle.isle_model.specs.claims.Environments.{TypesRead, AreReadable};
+ghost use Rattle.model.specs.claims.Environments.{TypesRead, AreReadable};
 ghost use Rattle.isle_base.specs.Positions.{NotesAt, definition_positions, positions_of};
 ghost use Rattle.isle_base.specs.SyntaxViews.{definition_view, definition_views, position, rule_view};
 ghost use Rattle.isle_terms.specs.Reading.{IsWithin};

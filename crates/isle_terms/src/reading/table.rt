@@ -1,9 +1,9 @@
 //! How the whole term table is read, group by group. Each group is read only where nothing is wrong so far.
 
 ghost use Rattle.std.specs.Prelude.{◌≡◌, ◌++◌, ℕ, None, [], All, IfOk, OnErr, OnOk};
-ghost use Rattle.isle_model.specs.claims.Environments.{TypesRead, AreReadable, AreTermsOf, IsLeftByRefusal, IsReadAs};
-ghost use Rattle.isle_model.specs.lists.TermTable.{IsValidTerms};
-ghost use Rattle.isle_model.specs.claims.Refusals.{RefusesTerms};
+ghost use Rattle.model.specs.claims.Environments.{TypesRead, AreReadable, AreTermsOf, IsLeftByRefusal, IsReadAs};
+ghost use Rattle.model.specs.lists.TermTable.{IsValidTerms};
+ghost use Rattle.model.specs.claims.Refusals.{RefusesTerms};
 ghost use Rattle.isle_base.specs.Positions.{NotesAt, ErrorStandsAt, positions_of};
 ghost use Rattle.isle_base.specs.Answers.{Answers, NoLimit, OnErrors};
 ghost use Rattle.isle_base.specs.ErrorViews.{error_views};

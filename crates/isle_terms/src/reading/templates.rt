@@ -1,8 +1,8 @@
 //! How internal extractors are read: the pattern of each becomes the template of its term.
 
 ghost use Rattle.std.specs.Prelude.{◌≡◌, ◌++◌, ◌<◌, ◌≤◌, [], ◌∷◌, None, true, not, All, Contains, IfOk, OnOk, MatchOption, length, map};
-ghost use Rattle.isle_model.specs.claims.Environments.{TypesRead, AreReadable};
-ghost use Rattle.isle_model.specs.lists.TermTable.{arguments_in, extractor_template, terms_in};
+ghost use Rattle.model.specs.claims.Environments.{TypesRead, AreReadable};
+ghost use Rattle.model.specs.lists.TermTable.{arguments_in, extractor_template, terms_in};
 ghost use Rattle.isle_base.specs.Positions.{NotesAt, definition_positions, extractor_positions, pattern_positions, positions_of};
 ghost use Rattle.isle_base.specs.SyntaxViews.{definition_view, definition_views, extractor_view, name_view, pattern_view, position};
 ghost use Rattle.isle_base.specs.NotedErrors.{NotesMore};

@@ -1,7 +1,7 @@
 //! How the terms that types make are read: one for each variant of an enum, and one for a struct.
 
 ghost use Rattle.std.specs.Prelude.{◌∷◌, ◌++◌, [], OnOk, map};
-ghost use Rattle.isle_model.specs.lists.TermTable.{made_by, terms_made, variant_as_term, struct_as_term};
+ghost use Rattle.model.specs.lists.TermTable.{made_by, terms_made, variant_as_term, struct_as_term};
 ghost use Rattle.isle_base.specs.Positions.{NotesAt};
 ghost use Rattle.isle_base.specs.SyntaxViews.{position};
 ghost use Rattle.isle_types.specs.TypeViews.{fields_view, type_view, type_views, variant_view};

@@ -1,10 +1,10 @@
 use Rattle.std.proofs.Common.{[], ◌∷◌, Ok, Err, alloc_error, sym, ap, ◌∙◌, refl, arith, get_or, append-nil, IsTrue, subst}
 use Rattle.isle_base.specs.declared.visit_fault.VisitFault.TheVariants.{Memory}
 use Rattle.isle_typed.specs.ExprViews.{expr_view, let_views, let_parts}
-use Rattle.isle_model.specs.visits.ExprRuns.{LetsRun}
-use Rattle.isle_model.specs.lists.Visitable.{is_visitable_expr, are_visitable_lets, is_made_of}
+use Rattle.model.specs.visits.ExprRuns.{LetsRun}
+use Rattle.model.specs.lists.Visitable.{is_visitable_expr, are_visitable_lets, is_made_of}
 use Rattle.isle_typed.specs.VisitAnswers.{typed_inputs}
-use Rattle.isle_model.specs.visits.Runs.{bound_vars}
+use Rattle.model.specs.visits.Runs.{bound_vars}
 use Rattle.isle_typed.specs.VisitorSteps.{by_number, expr_steps, no_memory}
 use Rattle.isle_typed.proofs.PatternRunSteps.{err_is}
 use Rattle.isle_typed.proofs.ExprRunSteps.{after_these, input_step, input_stop, input_refused, input_end, inputs_step, one_more, let_step, let_stop, let_refused, arg_visitable, let_visitable, lets_visitable}

@@ -1,9 +1,9 @@
 use Rattle.std.proofs.Common.{IsTrue, drop, ◌≡◌, length}
-use Rattle.isle_model.specs.visits.ExprRuns.{InputsRun, LetsRun}
+use Rattle.model.specs.visits.ExprRuns.{InputsRun, LetsRun}
 use Rattle.isle_typed.specs.ExprViews.{expr_view, expr_views, expr_parts, let_views, let_parts}
-use Rattle.isle_model.specs.lists.Visitable.{are_visitable_args, are_visitable_lets}
+use Rattle.model.specs.lists.Visitable.{are_visitable_args, are_visitable_lets}
 use Rattle.isle_typed.specs.VisitAnswers.{type_numbers, typed_inputs}
-use Rattle.isle_model.specs.visits.Runs.{bound_vars}
+use Rattle.model.specs.visits.Runs.{bound_vars}
 use Rattle.isle_typed.specs.VisitorSteps.{by_number, expr_steps, no_memory}
 use Rattle.isle_typed.proofs.ExprRunSteps.{after_these}
 use Rattle.isle_typed.proofs.VisitSizes.{expr_size, exprs_size, lets_size}

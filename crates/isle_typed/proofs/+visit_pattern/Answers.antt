@@ -1,6 +1,6 @@
 use Rattle.std.proofs.Common.{sym, ap, arith, get_or}
 use Rattle.isle_typed.specs.PatternViews.{pattern_view}
-use Rattle.isle_model.specs.visits.Runs.{bound_vars}
+use Rattle.model.specs.visits.Runs.{bound_vars}
 use Rattle.isle_typed.specs.VisitorSteps.{by_number, pattern_steps}
 use Rattle.isle_typed.proofs.PatternRunSteps.{err_is, run_binds, parts_step, parts_stop, each_step, each_stop, rest_visitable, next_visitable}
 use Rattle.isle_typed.proofs.PatternRunForms.{seen_term, seen_and, seen_bind, asks_term, asks_and, asks_bind, runs_term, stops_term, runs_and, runs_bind, runs_var}

@@ -1,8 +1,8 @@
 use Rattle.std.proofs.Common.{IsTrue, drop}
-use Rattle.isle_model.specs.visits.PatternRuns.{PartsRun, EachRun}
+use Rattle.model.specs.visits.PatternRuns.{PartsRun, EachRun}
 use Rattle.isle_typed.specs.PatternViews.{pattern_view, pattern_views, pattern_parts}
-use Rattle.isle_model.specs.lists.Visitable.{are_visitable_parts}
-use Rattle.isle_model.specs.visits.Runs.{bound_vars}
+use Rattle.model.specs.lists.Visitable.{are_visitable_parts}
+use Rattle.model.specs.visits.Runs.{bound_vars}
 use Rattle.isle_typed.specs.VisitorSteps.{by_number, no_memory, pattern_steps}
 use Rattle.isle_typed.proofs.VisitSizes.{pattern_size, patterns_size}
 use Rattle.isle_typed.proofs.+visit_pattern.Given as goal

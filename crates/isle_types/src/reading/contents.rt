@@ -2,7 +2,7 @@
 //! that is wrong is noted and ends the work on it.
 
 ghost use Rattle.std.specs.Prelude.{◌≡◌, ◌&&◌, [], ◌∷◌, map, option_map, OnOk, IfOk, string_bytes};
-ghost use Rattle.isle_model.specs.lists.Syntax.{enum_value, struct_value};
+ghost use Rattle.model.specs.lists.Syntax.{enum_value, struct_value};
 ghost use Rattle.isle_base.specs.SyntaxViews.{position, name_view, fields_view, variant_view, type_view, definition_view, definition_views};
 ghost use Rattle.isle_types.specs.Envs.{names_of, IsInterned};
 ghost use Rattle.isle_types.specs.Promises.{TypeIsRead, PrimitiveIsRead, ValueIsRead, VariantsAreRead, OneVariantIsRead, DefinitionIsFilled};

@@ -2,7 +2,7 @@
 //! that is wrong is noted and ends the reading.
 
 ghost use Rattle.std.specs.Prelude.{[], ◌∷◌, map, option_map, IfOk, OnOk};
-ghost use Rattle.isle_model.specs.lists.Syntax.{struct_fields, tuple_fields};
+ghost use Rattle.model.specs.lists.Syntax.{struct_fields, tuple_fields};
 ghost use Rattle.isle_base.specs.SyntaxViews.{position, fields_view, field_view, tuple_field_view};
 ghost use Rattle.isle_types.specs.Envs.{IsInterned};
 ghost use Rattle.isle_types.specs.FieldReading.{ReadsField, ReadsTupleField};

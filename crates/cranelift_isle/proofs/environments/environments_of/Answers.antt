@@ -3,12 +3,12 @@ use Rattle.isle_base.specs.Answers.{OnErrors, limit_of}
 use Rattle.isle_base.specs.ErrorViews.{error_views}
 use Rattle.isle_base.specs.Positions.{ErrorStandsAt, positions_of}
 use Rattle.isle_base.specs.SyntaxViews.{definition_views}
-use Rattle.isle_laws_trees.specs.NoLimits.{PassedInLowering}
-use Rattle.isle_laws_typing.proofs.OwnTypes.{own_types_read}
-use Rattle.isle_model.specs.claims.Environments.{types_read}
-use Rattle.isle_model.specs.claims.Layers.{RefusedBy, by_types, by_rules}
-use Rattle.isle_model.specs.claims.Refusals.{NamesOnlyPassed, PassedInReading, RefusesTypes, RefusesRules}
-use Rattle.isle_model.specs.lists.TypeTable.{type_table}
+use Rattle.laws_trees.specs.NoLimits.{PassedInLowering}
+use Rattle.laws_typing.proofs.OwnTypes.{own_types_read}
+use Rattle.model.specs.claims.Environments.{types_read}
+use Rattle.model.specs.claims.Layers.{RefusedBy, by_types, by_rules}
+use Rattle.model.specs.claims.Refusals.{NamesOnlyPassed, PassedInReading, RefusesTypes, RefusesRules}
+use Rattle.model.specs.lists.TypeTable.{type_table}
 use Rattle.isle_rules.proofs.RuleErrorSteps.{no_limit_named}
 use Rattle.isle_rules.specs.declared.term_env.TermEnv.{TermEnv}
 use Rattle.isle_types.specs.TypePositions.{types_positions}

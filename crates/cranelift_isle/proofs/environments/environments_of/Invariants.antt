@@ -1,6 +1,6 @@
 -- Terms and rules are read with the types of the same definitions.
 use Rattle.isle_base.specs.SyntaxViews.{definition_views}
-use Rattle.isle_model.specs.claims.Environments.{types_read}
+use Rattle.model.specs.claims.Environments.{types_read}
 use Rattle.cranelift_isle.proofs.environments.environments_of.Given as goal
 
 abbrev pub ghost-from_ast : goal.ghost-from_ast

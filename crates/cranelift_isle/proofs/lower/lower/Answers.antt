@@ -3,10 +3,10 @@ use Rattle.isle_base.specs.Answers.{OnErrors}
 use Rattle.isle_base.specs.Positions.{ErrorStandsAt, positions_of}
 use Rattle.isle_base.specs.SyntaxViews.{definition_views}
 use Rattle.isle_base.specs.ErrorViews.{error_views}
-use Rattle.isle_model.specs.claims.Layers.{RefusedBy}
-use Rattle.isle_model.specs.claims.Refusals.{NamesOnlyPassed}
-use Rattle.isle_laws_trees.specs.NoLimits.{PassedInLowering}
-use Rattle.isle_laws_trees.specs.OneAnswer.{AreCheckErrors}
+use Rattle.model.specs.claims.Layers.{RefusedBy}
+use Rattle.model.specs.claims.Refusals.{NamesOnlyPassed}
+use Rattle.laws_trees.specs.NoLimits.{PassedInLowering}
+use Rattle.laws_trees.specs.OneAnswer.{AreCheckErrors}
 use Rattle.isle_types.specs.EnvViews.{environment_view}
 use Rattle.isle_rules.specs.ShownEnvs.{environment_shown_by}
 use Rattle.cranelift_isle.specs.declared.environments.Environments.{Environments}

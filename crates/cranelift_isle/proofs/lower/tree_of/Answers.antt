@@ -1,6 +1,6 @@
 use Rattle.std.proofs.lemmas.Result.{IfOk-weaker}
-use Rattle.isle_model.specs.claims.Layers.{IsSerialized}
-use Rattle.isle_sets.specs.SiteViews.{set_view}
+use Rattle.model.specs.claims.Layers.{IsSerialized}
+use Rattle.isle_rule_sets.specs.SiteViews.{set_view}
 use Rattle.isle_serialize.specs.TreeViews.{tree_view}
 use Rattle.cranelift_isle.specs.Lowerings.{SharesTests, BindsBeforeAnyUse}
 use Rattle.cranelift_isle.proofs.SharedTrees.{shares_tests, binds_before_any_use}

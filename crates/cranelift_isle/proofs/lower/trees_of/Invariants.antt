@@ -1,5 +1,5 @@
 use Rattle.std.proofs.Common.{◌≡◌, ◌++◌, map, All}
-use Rattle.isle_model.specs.claims.Layers.{IsBuiltForSome}
+use Rattle.model.specs.claims.Layers.{IsBuiltForSome}
 use Rattle.cranelift_isle.specs.BuiltSets.{term_set_views}
 use Rattle.cranelift_isle.specs.Lowerings.{lowered_views, set_of_term, SharesTests, BindsBeforeAnyUse}
 use Rattle.cranelift_isle.proofs.lower.trees_of.Given as goal

@@ -2,9 +2,9 @@ use Rattle.std.proofs.Common.{All, length, sym, ap, subst, ◌∙◌, arith, eqb
 use Rattle.std.proofs.lemmas.Bool.{false≢true}
 use Rattle.std.proofs.lemmas.List.{nil_from_length}
 use Rattle.std.proofs.lemmas.List.Elements.{All-append}
-use Rattle.isle_model.specs.rules.Program.{is_multi}
-use Rattle.isle_model.specs.sites.SetRules.{reports_of_sets}
-use Rattle.isle_term_sets.specs.AddedRules.{report_views}
+use Rattle.model.specs.rules.Program.{is_multi}
+use Rattle.model.specs.sites.SetRules.{reports_of_sets}
+use Rattle.isle_builder.specs.AddedRules.{report_views}
 use Rattle.isle_base.specs.Positions.{HasSingleSpans}
 use Rattle.cranelift_isle.specs.BuiltSets.{term_set_views}
 use Rattle.cranelift_isle.specs.Checks.{env_program}

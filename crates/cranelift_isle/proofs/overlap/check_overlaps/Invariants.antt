@@ -1,8 +1,8 @@
 use Rattle.std.proofs.Common.{◌≡◌, map, take}
-use Rattle.isle_model.specs.claims.Refusals.{refusal_of}
-use Rattle.isle_model.specs.rules.Program.{is_multi}
-use Rattle.isle_model.specs.sites.Overlap.{rule_shadows}
-use Rattle.isle_model.specs.sites.SetRules.{shadows_in_sets, wrong_in_sets}
+use Rattle.model.specs.claims.Refusals.{refusal_of}
+use Rattle.model.specs.rules.Program.{is_multi}
+use Rattle.model.specs.sites.Overlap.{rule_shadows}
+use Rattle.model.specs.sites.SetRules.{shadows_in_sets, wrong_in_sets}
 use Rattle.cranelift_isle.specs.BuiltSets.{term_set_views}
 use Rattle.isle_overlap.specs.ComparedRules.{HaveSingleSpans, found_shadows, found_wrong}
 use Rattle.cranelift_isle.specs.Checks.{env_program}

@@ -1,8 +1,8 @@
 use Rattle.std.proofs.Common.{All, Bool, List, take}
 use Rattle.isle_base.specs.Positions.{HasSingleSpans}
-use Rattle.isle_model.specs.claims.Environments.{IsElaborated, TypesRead, program_of}
-use Rattle.isle_model.specs.lists.Elaborated.{TypedRules}
-use Rattle.isle_model.specs.lists.Syntax.{Definition}
+use Rattle.model.specs.claims.Environments.{IsElaborated, TypesRead, program_of}
+use Rattle.model.specs.lists.Elaborated.{TypedRules}
+use Rattle.model.specs.lists.Syntax.{Definition}
 use Rattle.cranelift_isle.specs.SetsSoFar.{StandAfter}
 use Rattle.cranelift_isle.specs.BuiltSets.{ShowsElaborated}
 use Rattle.cranelift_isle.proofs.trie_again.build.Given as goal

@@ -3,7 +3,7 @@ use Rattle.std.specs.Prelude.{slice_get}
 use Rattle.std.proofs.lemmas.Grind.{common_steps}
 use Rattle.std.proofs.lemmas.Option.{slice_get-map, slice_get-get_or, slice_get_past}
 use Rattle.isle_base.specs.SyntaxViews.{pattern_view}
-use Rattle.isle_model.specs.lists.Expansions.{substituted, all_substituted}
+use Rattle.model.specs.lists.Expansions.{substituted, all_substituted}
 use Rattle.isle_base.proofs.PatternViews.{row_patterns-hidden, step_after, none_after, end_after}
 use Rattle.isle_base.proofs.syntax.+subst.Goals as goal
 

@@ -1,6 +1,6 @@
 use Rattle.std.proofs.Common.{◌≡◌, drop, map}
 use Rattle.isle_base.specs.SyntaxViews.{pattern_view, pattern_views}
-use Rattle.isle_model.specs.lists.Expansions.{all_substituted}
+use Rattle.model.specs.lists.Expansions.{all_substituted}
 use Rattle.isle_base.proofs.PatternViews.{after}
 use Rattle.isle_base.proofs.syntax.+subst.Given as goal
 

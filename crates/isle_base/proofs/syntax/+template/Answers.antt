@@ -1,5 +1,5 @@
 use Rattle.std.proofs.Common.{refl, rules, map, string_bytes}
-use Rattle.isle_model.specs.lists.TermTable.{template, templates}
+use Rattle.model.specs.lists.TermTable.{template, templates}
 use Rattle.isle_base.proofs.PatternViews.{row_patterns-hidden, step_before, end_before}
 use Rattle.isle_base.proofs.syntax.+template.Goals as goal
 

@@ -1,6 +1,6 @@
 use Rattle.std.proofs.Common.{◌≡◌, drop, map, string_bytes}
 use Rattle.isle_base.specs.SyntaxViews.{pattern_views}
-use Rattle.isle_model.specs.lists.TermTable.{templates}
+use Rattle.model.specs.lists.TermTable.{templates}
 use Rattle.isle_base.proofs.PatternViews.{before}
 use Rattle.isle_base.proofs.syntax.+template.Given as goal
 

@@ -1,5 +1,5 @@
 use Rattle.std.proofs.Common.{sym, ap, ◌∙◌}
-use Rattle.isle_model.specs.trees.Run.{all_bound}
+use Rattle.model.specs.trees.Run.{all_bound}
 use Rattle.isle_interpreter.specs.RunViews.{env_view, found_view}
 use Rattle.isle_interpreter.proofs.BindSteps.{env_pushed}
 use Rattle.isle_interpreter.proofs.binds.bind.Goals as goal

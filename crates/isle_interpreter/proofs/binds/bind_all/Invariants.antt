@@ -1,5 +1,5 @@
 use Rattle.std.proofs.Common.{◌≡◌, drop}
-use Rattle.isle_model.specs.trees.Run.{bind_all}
+use Rattle.model.specs.trees.Run.{bind_all}
 use Rattle.isle_interpreter.specs.RunViews.{IsBeginningOf, call_views, env_view, stage_view}
 use Rattle.isle_interpreter.proofs.binds.bind_all.Given as goal
 

@@ -1,7 +1,7 @@
 use Rattle.std.proofs.Common.{◌≡◌, ◌≤◌, drop, length, option_map}
 use Rattle.isle_typed.specs.RuleViews.{rule_view}
 use Rattle.isle_interpreter.specs.RunViews.{arg_views}
-use Rattle.isle_model.specs.rules.Meaning.{total}
+use Rattle.model.specs.rules.Meaning.{total}
 use Rattle.isle_interpreter.specs.SourceViews.{of_terms}
 use Rattle.isle_interpreter.proofs.ChoiceSteps.{chosen_from}
 use Rattle.isle_interpreter.proofs.choose.chosen.Given as goal

@@ -1,7 +1,7 @@
 use Rattle.std.proofs.Common.{◌≡◌, drop, map}
-use Rattle.isle_model.specs.rules.Matching.{iflets_hold}
+use Rattle.model.specs.rules.Matching.{iflets_hold}
 use Rattle.isle_typed.specs.RuleViews.{iflet_view}
-use Rattle.isle_model.specs.rules.Meaning.{total}
+use Rattle.model.specs.rules.Meaning.{total}
 use Rattle.isle_interpreter.specs.SourceViews.{of_terms, vars_view}
 use Rattle.isle_interpreter.proofs.choose.iflets_hold.Given as goal
 

@@ -1,5 +1,5 @@
 use Rattle.std.proofs.Common.{◌≡◌, ap, ◌∙◌, None, Some}
-use Rattle.isle_model.specs.rules.Meaning.{total}
+use Rattle.model.specs.rules.Meaning.{total}
 use Rattle.isle_interpreter.specs.SourceViews.{of_terms, vars_view}
 use Rattle.isle_interpreter.proofs.ChoiceSteps.{no_args, with_iflets}
 use Rattle.isle_interpreter.proofs.PatternSteps.{held, not_held}

@@ -1,5 +1,5 @@
 use Rattle.std.proofs.Common.{◌∙◌, Some, option_map, take, if◌then◌else◌, rules, sym, ap}
-use Rattle.isle_model.specs.trees.Run.{bound_to}
+use Rattle.model.specs.trees.Run.{bound_to}
 use Rattle.isle_interpreter.specs.RunViews.{env_view}
 use Rattle.isle_interpreter.specs.ValueViews.{content_view}
 use Rattle.isle_interpreter.proofs.EnvSteps.{bound_more}

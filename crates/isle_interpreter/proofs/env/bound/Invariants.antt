@@ -1,5 +1,5 @@
 use Rattle.std.proofs.Common.{◌≡◌, option_map, take}
-use Rattle.isle_model.specs.trees.Run.{bound_to}
+use Rattle.model.specs.trees.Run.{bound_to}
 use Rattle.isle_interpreter.specs.RunViews.{env_view}
 use Rattle.isle_interpreter.specs.ValueViews.{content_view}
 use Rattle.isle_interpreter.proofs.env.bound.Given as goal

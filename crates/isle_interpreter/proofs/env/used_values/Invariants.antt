@@ -1,5 +1,5 @@
 use Rattle.std.proofs.Common.{◌≡◌, drop}
-use Rattle.isle_model.specs.trees.Run.{used_values}
+use Rattle.model.specs.trees.Run.{used_values}
 use Rattle.isle_interpreter.specs.RunViews.{env_view, stage_view}
 use Rattle.isle_interpreter.proofs.EnvSteps.{after}
 use Rattle.isle_interpreter.proofs.env.used_values.Given as goal

@@ -1,11 +1,11 @@
 use Rattle.std.proofs.Common.{◌≡◌, ◌∷◌, ◌∙◌, Some, option_map, refl, rules, sym, ap}
-use Rattle.isle_model.specs.rules.RightSide.{then_body, apply, eval_all, eval, eval_lets}
-use Rattle.isle_model.specs.rules.Program.{kind}
+use Rattle.model.specs.rules.RightSide.{then_body, apply, eval_all, eval, eval_lets}
+use Rattle.model.specs.rules.Program.{kind}
 use Rattle.isle_typed.specs.ExprViews.{expr_parts, expr_view, expr_views, let_parts, let_views}
 use Rattle.isle_typed.proofs.ExprRunForms.{seen_call, seen_let}
 use Rattle.isle_interpreter.specs.RunViews.{call_views}
 use Rattle.isle_interpreter.specs.ValueViews.{value_view}
-use Rattle.isle_model.specs.rules.Meaning.{total}
+use Rattle.model.specs.rules.Meaning.{total}
 use Rattle.isle_interpreter.specs.SourceViews.{of_terms, evaluated_all_view, evaluated_view, vars_view}
 use Rattle.isle_interpreter.proofs.VarSteps.{pushed}
 use Rattle.isle_interpreter.proofs.ExprSteps.{ahead, ahead_nothing, all_evaluated, defs_more, ended_there, ends_there, given_more, goes_on}

@@ -1,8 +1,8 @@
 use Rattle.std.proofs.Common.{◌≡◌, drop, option_map}
-use Rattle.isle_model.specs.rules.RightSide.{eval_all, eval_lets}
+use Rattle.model.specs.rules.RightSide.{eval_all, eval_lets}
 use Rattle.isle_typed.specs.ExprViews.{expr_parts, expr_views, let_parts, let_views}
 use Rattle.isle_interpreter.specs.RunViews.{call_views}
-use Rattle.isle_model.specs.rules.Meaning.{total}
+use Rattle.model.specs.rules.Meaning.{total}
 use Rattle.isle_interpreter.specs.SourceViews.{of_terms, vars_view}
 use Rattle.isle_interpreter.proofs.ExprSteps.{ahead}
 use Rattle.isle_interpreter.proofs.exprs.+eval.Given as goal

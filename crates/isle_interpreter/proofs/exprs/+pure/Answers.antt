@@ -1,12 +1,12 @@
 use Rattle.std.proofs.Common.{◌≡◌, ◌∷◌, option_map, rules, refl, sym, ap, ◌∙◌}
-use Rattle.isle_model.specs.rules.Outcome.{then_option}
-use Rattle.isle_model.specs.rules.Program.{kind}
-use Rattle.isle_model.specs.rules.Matching.{pure_lets, pure_term, pure_value}
+use Rattle.model.specs.rules.Outcome.{then_option}
+use Rattle.model.specs.rules.Program.{kind}
+use Rattle.model.specs.rules.Matching.{pure_lets, pure_term, pure_value}
 use Rattle.isle_typed.specs.ExprViews.{expr_view, let_parts, let_views}
 use Rattle.isle_typed.proofs.ExprRunForms.{seen_call, seen_let}
 use Rattle.isle_interpreter.specs.ValueViews.{value_views}
 use Rattle.isle_interpreter.proofs.EnvSteps.{after_nil}
-use Rattle.isle_model.specs.rules.Meaning.{total}
+use Rattle.model.specs.rules.Meaning.{total}
 use Rattle.isle_interpreter.specs.SourceViews.{of_terms, vars_view}
 use Rattle.isle_interpreter.proofs.VarSteps.{pushed}
 use Rattle.isle_interpreter.proofs.ExprSteps.{lets_done, lets_more, pure_all, pure_missing, pure_more}

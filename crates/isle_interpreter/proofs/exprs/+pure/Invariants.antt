@@ -1,8 +1,8 @@
 use Rattle.std.proofs.Common.{◌≡◌, drop}
-use Rattle.isle_model.specs.rules.Matching.{pure_lets, pure_values}
+use Rattle.model.specs.rules.Matching.{pure_lets, pure_values}
 use Rattle.isle_typed.specs.ExprViews.{expr_parts, expr_views, let_parts, let_views}
 use Rattle.isle_interpreter.proofs.EnvSteps.{after}
-use Rattle.isle_model.specs.rules.Meaning.{total}
+use Rattle.model.specs.rules.Meaning.{total}
 use Rattle.isle_interpreter.specs.SourceViews.{of_terms, vars_view}
 use Rattle.isle_interpreter.proofs.exprs.+pure.Given as goal
 

@@ -1,8 +1,8 @@
 use Rattle.std.proofs.Common.{◌≡◌, ◌∙◌, Some, sym, ap}
-use Rattle.isle_model.specs.rules.Matching.{single, pure_term}
+use Rattle.model.specs.rules.Matching.{single, pure_term}
 use Rattle.isle_interpreter.specs.ValueViews.{value_views}
 use Rattle.isle_interpreter.proofs.ValueSteps.{view-Struct, view-Variant}
-use Rattle.isle_model.specs.rules.Meaning.{total}
+use Rattle.model.specs.rules.Meaning.{total}
 use Rattle.isle_interpreter.proofs.Entries.{call_entry, known, not_known, struct_entry, variant_entry}
 use Rattle.isle_interpreter.proofs.exprs.pure_term.Goals as goal
 

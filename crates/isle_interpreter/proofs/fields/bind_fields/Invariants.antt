@@ -1,5 +1,5 @@
 use Rattle.std.proofs.Common.{◌≡◌, drop}
-use Rattle.isle_model.specs.trees.Run.{bind_fields}
+use Rattle.model.specs.trees.Run.{bind_fields}
 use Rattle.isle_interpreter.specs.RunViews.{IsBeginningOf, content_list, env_view}
 use Rattle.isle_interpreter.proofs.fields.bind_fields.Given as goal
 

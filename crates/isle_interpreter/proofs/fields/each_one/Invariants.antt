@@ -1,6 +1,6 @@
 use Rattle.std.proofs.Common.{◌≡◌, ◌++◌, drop}
-use Rattle.isle_model.specs.rules.Values.{listed}
-use Rattle.isle_model.specs.trees.Run.{all_one}
+use Rattle.model.specs.rules.Values.{listed}
+use Rattle.model.specs.trees.Run.{all_one}
 use Rattle.isle_interpreter.specs.RunViews.{content_list}
 use Rattle.isle_interpreter.specs.ValueViews.{value_views}
 use Rattle.isle_interpreter.proofs.fields.each_one.Given as goal

@@ -1,7 +1,7 @@
 use Rattle.std.proofs.Common.{sym, ap, ◌∙◌}
-use Rattle.isle_model.specs.rules.Meaning.{total}
-use Rattle.isle_model.specs.trees.Run.{value_fields}
-use Rattle.isle_sets.specs.SiteViews.{constraint_view}
+use Rattle.model.specs.rules.Meaning.{total}
+use Rattle.model.specs.trees.Run.{value_fields}
+use Rattle.isle_rule_sets.specs.SiteViews.{constraint_view}
 use Rattle.isle_interpreter.specs.ValueViews.{value_view}
 use Rattle.isle_interpreter.proofs.fields.value_fields.Goals as goal
 

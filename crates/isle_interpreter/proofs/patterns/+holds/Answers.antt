@@ -1,10 +1,10 @@
 use Rattle.std.proofs.Common.{◌≡◌, ◌∷◌, ◌∙◌, Some, option_map, sym, ap}
-use Rattle.isle_model.specs.rules.Outcome.{then_option}
-use Rattle.isle_model.specs.rules.Matching.{each_holds, holds}
+use Rattle.model.specs.rules.Outcome.{then_option}
+use Rattle.model.specs.rules.Matching.{each_holds, holds}
 use Rattle.isle_typed.specs.PatternViews.{pattern_parts, pattern_view, pattern_views}
 use Rattle.isle_typed.proofs.PatternRunForms.{seen_and, seen_bind, seen_term}
 use Rattle.isle_interpreter.specs.ValueViews.{value_view, value_views}
-use Rattle.isle_model.specs.rules.Meaning.{total}
+use Rattle.model.specs.rules.Meaning.{total}
 use Rattle.isle_interpreter.specs.SourceViews.{of_terms, vars_view}
 use Rattle.isle_interpreter.proofs.VarSteps.{pushed}
 use Rattle.isle_interpreter.proofs.patterns.+holds.Goals as goal

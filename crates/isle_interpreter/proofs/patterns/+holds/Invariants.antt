@@ -1,8 +1,8 @@
 use Rattle.std.proofs.Common.{◌≡◌, drop}
-use Rattle.isle_model.specs.rules.Matching.{all_hold, each_holds}
+use Rattle.model.specs.rules.Matching.{all_hold, each_holds}
 use Rattle.isle_typed.specs.PatternViews.{pattern_parts, pattern_views}
 use Rattle.isle_interpreter.specs.ValueViews.{value_view, value_views}
-use Rattle.isle_model.specs.rules.Meaning.{total}
+use Rattle.model.specs.rules.Meaning.{total}
 use Rattle.isle_interpreter.specs.SourceViews.{of_terms, vars_view}
 use Rattle.isle_interpreter.proofs.patterns.+holds.Given as goal
 

@@ -1,6 +1,6 @@
 use Rattle.std.proofs.Common.{◌≡◌, ◌∙◌, sym, ap}
-use Rattle.isle_model.specs.rules.Meaning.{answered_outputs, total}
-use Rattle.isle_model.specs.rules.Matching.{parts_seen}
+use Rattle.model.specs.rules.Meaning.{answered_outputs, total}
+use Rattle.model.specs.rules.Matching.{parts_seen}
 use Rattle.isle_interpreter.specs.ValueViews.{value_view}
 use Rattle.isle_interpreter.proofs.Entries.{call_entry, known, not_known, struct_entry, variant_entry}
 use Rattle.isle_interpreter.proofs.patterns.parts_seen.Goals as goal

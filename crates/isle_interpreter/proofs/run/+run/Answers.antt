@@ -1,8 +1,8 @@
 use Rattle.std.proofs.Common.{◌≡◌, ◌∷◌, ◌∙◌, None, Some, false, option_map, refl, rules, slice_get, sym, ap, subst, true}
 use Rattle.isle_base.specs.SyntaxViews.{position}
-use Rattle.isle_model.specs.rules.Outcome.{ran_through, stuck, then_option}
-use Rattle.isle_model.specs.trees.Run.{bind_fields, ending_at, for_each, iterated, on_ending, returned, with_content, with_env, bind_all, run_arms, run_check, run_tree, used, used_value}
-use Rattle.isle_model.specs.trees.Trees.{equal_at, loop_at, match_at, return_at}
+use Rattle.model.specs.rules.Outcome.{ran_through, stuck, then_option}
+use Rattle.model.specs.trees.Run.{bind_fields, ending_at, for_each, iterated, on_ending, returned, with_content, with_env, bind_all, run_arms, run_check, run_tree, used, used_value}
+use Rattle.model.specs.trees.Trees.{equal_at, loop_at, match_at, return_at}
 use Rattle.isle_serialize.specs.declared.serialize.MatchArm.{out-MatchArm}
 use Rattle.isle_serialize.specs.TreeViews.{arms_view, check_view, steps_view, tree_view}
 use Rattle.isle_serialize.proofs.TreeLaws.{block_steps, equal_seen, loop_seen, match_seen, return_seen}

@@ -1,5 +1,5 @@
 use Rattle.std.proofs.Common.{◌≡◌, ◌∷◌, drop}
-use Rattle.isle_model.specs.trees.Run.{for_each, run_arms, run_tree}
+use Rattle.model.specs.trees.Run.{for_each, run_arms, run_tree}
 use Rattle.isle_serialize.specs.TreeViews.{arms_view, steps_view, tree_view}
 use Rattle.isle_interpreter.specs.RunViews.{IsBeginningOf, content_list, env_view, stage_view, trace_view}
 use Rattle.isle_interpreter.specs.ValueViews.{content_view}

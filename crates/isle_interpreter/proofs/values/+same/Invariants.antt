@@ -1,5 +1,5 @@
 use Rattle.std.proofs.Common.{◌≡◌, drop}
-use Rattle.isle_model.specs.rules.Values.{values_eq}
+use Rattle.model.specs.rules.Values.{values_eq}
 use Rattle.isle_interpreter.specs.ValueViews.{value_views}
 use Rattle.isle_interpreter.proofs.values.+same.Given as goal
 

@@ -1,5 +1,5 @@
 use Rattle.std.proofs.Common.{◌≡◌, ◌∙◌, Some, option_map, option_copied, take, if◌then◌else◌, rules, sym, ap}
-use Rattle.isle_model.specs.rules.Matching.{var_value}
+use Rattle.model.specs.rules.Matching.{var_value}
 use Rattle.isle_interpreter.specs.ValueViews.{value_view}
 use Rattle.isle_interpreter.specs.SourceViews.{vars_view}
 use Rattle.isle_interpreter.proofs.VarSteps.{copied_value, var_more}

@@ -1,5 +1,5 @@
 use Rattle.std.proofs.Common.{◌≡◌, option_map, take}
-use Rattle.isle_model.specs.rules.Matching.{var_value}
+use Rattle.model.specs.rules.Matching.{var_value}
 use Rattle.isle_interpreter.specs.ValueViews.{value_view}
 use Rattle.isle_interpreter.specs.SourceViews.{vars_view}
 use Rattle.isle_interpreter.proofs.vars.var_value.Given as goal

@@ -1,7 +1,7 @@
 use Rattle.std.proofs.Common.{◌≡◌, replicate, length, None, sym, ap, ◌∙◌}
 use Rattle.std.proofs.lemmas.Result.{IfOk-weaker}
 use Rattle.std.proofs.lemmas.List.{length-map}
-use Rattle.isle_sets.specs.SiteViews.{set_rule_view, set_rule_views}
+use Rattle.isle_rule_sets.specs.SiteViews.{set_rule_view, set_rule_views}
 use Rattle.isle_overlap.specs.Keys.{AreNumbered, TellApart}
 use Rattle.isle_overlap.proofs.DistinctKeys.{none_tell_apart, numbered_tell_apart}
 use Rattle.isle_overlap.proofs.keys.keys_by_site.Goals as goal

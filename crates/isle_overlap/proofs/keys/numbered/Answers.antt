@@ -1,5 +1,5 @@
 use Rattle.std.proofs.Common.{subst}
-use Rattle.isle_sets.specs.SiteViews.{set_rule_view}
+use Rattle.isle_rule_sets.specs.SiteViews.{set_rule_view}
 use Rattle.isle_overlap.specs.Keys.{IsAskedNumber}
 use Rattle.isle_overlap.proofs.DistinctKeys.{numbered_more}
 use Rattle.isle_overlap.proofs.keys.numbered.Goals as goal

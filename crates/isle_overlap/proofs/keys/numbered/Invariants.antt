@@ -1,5 +1,5 @@
 use Rattle.std.proofs.Common.{take}
-use Rattle.isle_sets.specs.SiteViews.{set_rule_views}
+use Rattle.isle_rule_sets.specs.SiteViews.{set_rule_views}
 use Rattle.isle_overlap.specs.Keys.{AreNumbered}
 use Rattle.isle_overlap.proofs.keys.numbered.Given as goal
 

@@ -1,7 +1,7 @@
 use Rattle.std.proofs.Common.{◌<◌, ◌++◌, ap, subst, sym, ◌∙◌}
 use Rattle.isle_base.specs.ErrorViews.{error_views}
-use Rattle.isle_sets.specs.SiteViews.{set_rule_view, set_rule_views}
-use Rattle.isle_sets.proofs.ListTails.{rest_is}
+use Rattle.isle_rule_sets.specs.SiteViews.{set_rule_view, set_rule_views}
+use Rattle.isle_rule_sets.proofs.ListTails.{rest_is}
 use Rattle.isle_overlap.specs.Comparisons.{list_views, positions, shadow_of, shadows_of}
 use Rattle.isle_overlap.proofs.ListIteration.{more}
 use Rattle.isle_overlap.proofs.overlap.add_shadows.Goals as goal

@@ -1,5 +1,5 @@
 use Rattle.std.proofs.Common.{◌≡◌, ◌++◌, All, drop}
-use Rattle.isle_sets.specs.SiteViews.{set_rule_views}
+use Rattle.isle_rule_sets.specs.SiteViews.{set_rule_views}
 use Rattle.isle_overlap.specs.Comparisons.{list_views, shadows_of}
 use Rattle.isle_base.specs.ErrorViews.{error_views}
 use Rattle.isle_base.specs.Positions.{HasSingleSpans}

@@ -1,6 +1,6 @@
 use Rattle.std.proofs.Common.{◌+◌, ◌<◌, ◌++◌, ap, drop, length, refl, subst, sym, ◌∙◌, arith}
-use Rattle.isle_sets.specs.SiteViews.{set_rule_view, set_rule_views}
-use Rattle.isle_sets.proofs.ListTails.{rest_is}
+use Rattle.isle_rule_sets.specs.SiteViews.{set_rule_view, set_rule_views}
+use Rattle.isle_rule_sets.proofs.ListTails.{rest_is}
 use Rattle.isle_overlap.specs.Comparisons.{masked_behind, masked_pair, masked_views, pair_views, wrong_behind, wrong_pair}
 use Rattle.isle_overlap.specs.Keys.{AreNext, IsAhead, nearer}
 use Rattle.isle_overlap.proofs.Chains.{from_nearer, nearer_behind, passed_over, same_key}

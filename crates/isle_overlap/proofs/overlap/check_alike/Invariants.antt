@@ -1,5 +1,5 @@
 use Rattle.std.proofs.Common.{◌≡◌, ◌+◌, ◌-◌, ◌++◌, ℕ, Some, drop, length, slice_get}
-use Rattle.isle_sets.specs.SiteViews.{set_rule_view, set_rule_views}
+use Rattle.isle_rule_sets.specs.SiteViews.{set_rule_view, set_rule_views}
 use Rattle.isle_overlap.specs.Comparisons.{masked_behind, masked_views, pair_views, wrong_behind}
 use Rattle.isle_overlap.specs.Keys.{IsAhead, nearer}
 use Rattle.isle_overlap.proofs.overlap.check_alike.Given as goal

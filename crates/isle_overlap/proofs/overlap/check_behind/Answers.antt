@@ -1,7 +1,7 @@
 use Rattle.std.proofs.Common.{ap, refl}
-use Rattle.isle_sets.specs.SiteViews.{set_rule_view, set_rule_views}
+use Rattle.isle_rule_sets.specs.SiteViews.{set_rule_view, set_rule_views}
 use Rattle.isle_overlap.specs.Comparisons.{masked_behind, wrong_behind}
-use Rattle.isle_sets.proofs.ListTails.{rest_is}
+use Rattle.isle_rule_sets.proofs.ListTails.{rest_is}
 use Rattle.isle_overlap.proofs.ListIteration.{more, no_more}
 use Rattle.isle_overlap.proofs.overlap.check_behind.Goals as goal
 

@@ -1,5 +1,5 @@
 use Rattle.std.proofs.Common.{refl, subst, None, ◌∙◌}
-use Rattle.isle_sets.specs.SiteViews.{set_rule_views}
+use Rattle.isle_rule_sets.specs.SiteViews.{set_rule_views}
 use Rattle.isle_overlap.specs.Comparisons.{masked_rows, wrong_rows}
 use Rattle.isle_overlap.specs.Keys.{IsFirst}
 use Rattle.isle_overlap.proofs.ListIteration.{no_more}

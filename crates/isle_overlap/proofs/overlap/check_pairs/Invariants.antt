@@ -1,5 +1,5 @@
 use Rattle.std.proofs.Common.{◌≡◌, ◌++◌, None, drop}
-use Rattle.isle_sets.specs.SiteViews.{set_rule_views}
+use Rattle.isle_rule_sets.specs.SiteViews.{set_rule_views}
 use Rattle.isle_overlap.specs.Comparisons.{masked_rows, masked_views, pair_views, wrong_rows}
 use Rattle.isle_overlap.specs.Keys.{IsFirst}
 use Rattle.isle_overlap.proofs.overlap.check_pairs.Given as goal

@@ -1,8 +1,8 @@
 use Rattle.std.proofs.Common.{Some, sym, ap, ◌∙◌, arith}
 use Rattle.std.proofs.lemmas.List.{length-map}
 use Rattle.std.proofs.lemmas.Option.{slice_get-get_or}
-use Rattle.isle_model.proofs.Mapped.{get_map}
-use Rattle.isle_sets.specs.SiteViews.{set_rule_view}
+use Rattle.model.proofs.Mapped.{get_map}
+use Rattle.isle_rule_sets.specs.SiteViews.{set_rule_view}
 use Rattle.isle_overlap.proofs.Chains.{ahead_behind, bare_behind}
 use Rattle.isle_overlap.proofs.overlap.check_row.Goals as goal
 

@@ -2,7 +2,7 @@ use Rattle.std.proofs.Common.{◌-◌, ◌+◌, All, length, sym, ap, subst, ◌
 use Rattle.std.proofs.lemmas.List.{length-map}
 use Rattle.std.proofs.lemmas.List.Elements.{All-nil}
 use Rattle.isle_base.specs.Positions.{HasSingleSpans}
-use Rattle.isle_model.specs.sites.Overlap.{ascending_positions}
+use Rattle.model.specs.sites.Overlap.{ascending_positions}
 use Rattle.isle_overlap.specs.Comparisons.{pair_view, pair_views, positions}
 use Rattle.isle_overlap.proofs.OverlapCounts.{so_far_none, so_far_all, so_far_more, so_far_end}
 use Rattle.isle_overlap.proofs.overlap.overlap_errors.Goals as goal

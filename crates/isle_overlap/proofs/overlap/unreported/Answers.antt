@@ -1,5 +1,5 @@
 use Rattle.std.proofs.Common.{nat_lt}
-use Rattle.isle_sets.proofs.ListTails.{kept_at}
+use Rattle.isle_rule_sets.proofs.ListTails.{kept_at}
 use Rattle.isle_overlap.specs.Graphs.{unreported_at}
 use Rattle.isle_overlap.proofs.overlap.unreported.Goals as goal
 

@@ -1,7 +1,7 @@
 use Rattle.std.proofs.Common.{◌∷◌, [], ◌∙◌, ap, sym}
-use Rattle.isle_sets.specs.SiteViews.{constraint_view}
+use Rattle.isle_rule_sets.specs.SiteViews.{constraint_view}
 use Rattle.isle_serialize.specs.AroundViews.{around_view, brings, where_emitted}
-use Rattle.isle_model.specs.trees.Places.{field_sites}
+use Rattle.model.specs.trees.Places.{field_sites}
 use Rattle.isle_serialize.specs.PlaceViews.{set_in}
 use Rattle.isle_serialize.proofs.BodySteps.{brought_inside}
 use Rattle.isle_serialize.proofs.ArmRuns.{asking_first, least_of}

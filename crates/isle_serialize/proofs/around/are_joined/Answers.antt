@@ -1,5 +1,5 @@
 use Rattle.std.proofs.Common.{◌≡◌, ◌∙◌, ◌==◌, ap}
-use Rattle.isle_model.specs.trees.Places.{class}
+use Rattle.model.specs.trees.Places.{class}
 use Rattle.isle_serialize.specs.AroundViews.{class_name_in}
 use Rattle.isle_serialize.specs.PlaceViews.{around_at}
 use Rattle.isle_serialize.proofs.around.are_joined.Goals as goal

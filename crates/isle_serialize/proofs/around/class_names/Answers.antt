@@ -1,5 +1,5 @@
 use Rattle.std.proofs.Common.{◌≡◌, ◌∙◌, ap, arith, drop, map, ◌-◌}
-use Rattle.isle_model.specs.trees.Places.{class}
+use Rattle.model.specs.trees.Places.{class}
 use Rattle.isle_serialize.specs.AroundViews.{sites_of_pairs}
 use Rattle.isle_serialize.proofs.AroundSteps.{joined_start, joined_step, named_all}
 use Rattle.isle_serialize.proofs.around.class_names.Goals as goal

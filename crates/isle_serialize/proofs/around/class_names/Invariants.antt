@@ -1,5 +1,5 @@
 use Rattle.std.proofs.Common.{◌≡◌, ◌≤◌, length, map, drop}
-use Rattle.isle_model.specs.trees.Places.{class}
+use Rattle.model.specs.trees.Places.{class}
 use Rattle.isle_serialize.specs.AroundViews.{sites_of_pairs}
 use Rattle.isle_serialize.proofs.around.class_names.Given as goal
 

@@ -8,7 +8,7 @@ use Rattle.isle_serialize.specs.Turns.{asked_numbers, AreInTurn, IsNextArmOf}
 use Rattle.isle_serialize.specs.TreeViews.{tree_view, arms_view, check_view}
 use Rattle.isle_serialize.specs.PlaceViews.{set_in}
 use Rattle.isle_serialize.proofs.ArmSteps.{ArmsGrow, arms_start, fewer_left, asking_ordered, arms_more, arms_whole}
-use Rattle.isle_model.specs.sites.Sites.{sources_at}
+use Rattle.model.specs.sites.Sites.{sources_at}
 use Rattle.isle_serialize.specs.declared.around.Around.{Around}
 use Rattle.isle_serialize.proofs.BodySteps.{emitted_inside, brought_inside, joined_inside}
 use Rattle.isle_serialize.proofs.PlaceSteps.{covered_ordered, covered_step, fewer_others, block_more, block_whole, equal_fewer, equal_body, loop_fewer, loop_body, arm_fewer, pick_made}

@@ -1,5 +1,5 @@
 use Rattle.std.proofs.Common.{◌<◌, ◌∙◌, sym, ap, subst, rules, arith, Contains}
-use Rattle.isle_model.specs.trees.Places.{is_in, each_after, listed_below}
+use Rattle.model.specs.trees.Places.{is_in, each_after, listed_below}
 use Rattle.std.proofs.Common.{List, ℕ, ◌||◌}
 use Rattle.isle_serialize.specs.PlaceViews.{set_in}
 use Rattle.isle_serialize.proofs.ListedSites.{each_more, listed_whole}

@@ -1,5 +1,5 @@
 use Rattle.std.proofs.Common.{◌≡◌, ◌≤◌, ℕ, take}
-use Rattle.isle_model.specs.trees.Places.{each_after, listed_below}
+use Rattle.model.specs.trees.Places.{each_after, listed_below}
 use Rattle.isle_serialize.specs.AroundViews.{AreSettled}
 use Rattle.isle_serialize.specs.PlaceViews.{set_in}
 use Rattle.isle_serialize.proofs.binds.+list_below.Given as goal

@@ -1,6 +1,6 @@
 use Rattle.std.proofs.Common.{◌∙◌, suc, [], sym, ap, subst, arith}
 use Rattle.std.proofs.lemmas.List.{take_all}
-use Rattle.isle_model.specs.trees.Places.{each_after, listed_below}
+use Rattle.model.specs.trees.Places.{each_after, listed_below}
 use Rattle.isle_serialize.specs.AroundViews.{AreSettled}
 use Rattle.isle_serialize.specs.PlaceViews.{set_in}
 use Rattle.isle_serialize.proofs.ListedSites.{each_more}

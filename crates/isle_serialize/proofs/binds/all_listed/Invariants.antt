@@ -1,5 +1,5 @@
 use Rattle.std.proofs.Common.{◌≡◌, suc, [], take}
-use Rattle.isle_model.specs.trees.Places.{each_after, listed_below}
+use Rattle.model.specs.trees.Places.{each_after, listed_below}
 use Rattle.isle_serialize.specs.AroundViews.{AreSettled}
 use Rattle.isle_serialize.specs.PlaceViews.{set_in}
 use Rattle.isle_serialize.proofs.binds.all_listed.Given as goal

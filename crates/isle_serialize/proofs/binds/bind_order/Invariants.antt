@@ -1,6 +1,6 @@
 use Rattle.std.proofs.Common.{◌≡◌, not, slice_get, take}
 use Rattle.std.specs.List.{filter}
-use Rattle.isle_model.specs.trees.Places.{is_in_place}
+use Rattle.model.specs.trees.Places.{is_in_place}
 use Rattle.isle_serialize.specs.PlaceViews.{set_in}
 use Rattle.isle_serialize.proofs.binds.bind_order.Given as goal
 

@@ -1,6 +1,6 @@
 use Rattle.std.proofs.Common.{◌≡◌, ◌∙◌, ◌++◌, ◌||◌, ℕ, Bool, List, not, sym, ap, filter}
 use Rattle.std.proofs.lemmas.Result.{IfOk-weaker}
-use Rattle.isle_model.specs.trees.Places.{is_in, all_below}
+use Rattle.model.specs.trees.Places.{is_in, all_below}
 use Rattle.isle_serialize.specs.AroundViews.{has}
 use Rattle.isle_serialize.specs.PlaceViews.{set_in}
 use Rattle.isle_serialize.proofs.BodySteps.{listed_once}

@@ -1,5 +1,5 @@
 use Rattle.std.proofs.Common.{◌≡◌, ◌++◌, drop}
-use Rattle.isle_model.specs.trees.Places.{field_sites}
+use Rattle.model.specs.trees.Places.{field_sites}
 use Rattle.isle_serialize.proofs.bodies.field_sites.Given as goal
 
 abbrev pub invariant-loop-field : goal.invariant-loop-field

@@ -1,8 +1,8 @@
 use Rattle.std.proofs.Common.{◌≡◌, ◌+◌, ◌≤◌, ◌<◌, ◌∙◌, ◌∷◌, ◌++◌, [], ℕ, List, suc, length, get_or, ap, sym, subst, arith}
 use Rattle.std.proofs.lemmas.List.{nil_from_length, get_or_append_left}
 use Rattle.std.proofs.Math.Seq.{get_or-append_seam}
-use Rattle.isle_model.specs.trees.Places.{all_below, bind_order, is_in}
-use Rattle.isle_model.specs.trees.Trees.{join}
+use Rattle.model.specs.trees.Places.{all_below, bind_order, is_in}
+use Rattle.model.specs.trees.Trees.{join}
 use Rattle.isle_serialize.specs.declared.around.Around.{Around}
 use Rattle.isle_serialize.specs.AroundViews.{around_view, AreEmitted}
 use Rattle.isle_serialize.specs.Growing.{AreEnds}

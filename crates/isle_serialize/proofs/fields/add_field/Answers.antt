@@ -1,5 +1,5 @@
 use Rattle.std.proofs.Common.{◌≡◌, ◌∙◌, sym, ap, Some}
-use Rattle.isle_sets.specs.SiteViews.{site_view}
+use Rattle.isle_rule_sets.specs.SiteViews.{site_view}
 use Rattle.isle_serialize.specs.FieldTests.{brought_from}
 use Rattle.isle_serialize.proofs.FieldLists.{field_more}
 use Rattle.isle_serialize.proofs.fields.add_field.Goals as goal

@@ -1,6 +1,6 @@
 use Rattle.std.proofs.Common.{◌<◌, ◌∙◌, length, arith}
 use Rattle.std.proofs.lemmas.List.{length-map}
-use Rattle.isle_sets.specs.SiteViews.{site_view, set_view}
+use Rattle.isle_rule_sets.specs.SiteViews.{site_view, set_view}
 use Rattle.isle_serialize.specs.FieldTests.{list_at}
 use Rattle.isle_serialize.proofs.FieldLists.{brought_before, listed_more, site_here}
 use Rattle.isle_serialize.proofs.fields.fields_by_source.Goals as goal

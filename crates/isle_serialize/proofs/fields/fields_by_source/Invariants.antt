@@ -1,6 +1,6 @@
 use Rattle.std.proofs.Common.{◌≡◌, ℕ, length, filter}
-use Rattle.isle_model.specs.trees.Tests.{up_to}
-use Rattle.isle_sets.specs.SiteViews.{set_view}
+use Rattle.model.specs.trees.Tests.{up_to}
+use Rattle.isle_rule_sets.specs.SiteViews.{set_view}
 use Rattle.isle_serialize.specs.FieldTests.{passes_at, is_brought_from, list_at}
 use Rattle.isle_serialize.proofs.fields.fields_by_source.Given as goal
 

@@ -1,7 +1,7 @@
 use Rattle.std.proofs.Common.{◌≡◌, map}
-use Rattle.isle_model.specs.trees.Places.{site_from}
-use Rattle.isle_model.specs.trees.Tests.{up_to}
-use Rattle.isle_sets.specs.SiteViews.{constraint_view}
+use Rattle.model.specs.trees.Places.{site_from}
+use Rattle.model.specs.trees.Tests.{up_to}
+use Rattle.isle_rule_sets.specs.SiteViews.{constraint_view}
 use Rattle.isle_serialize.specs.FieldTests.{is_field}
 use Rattle.isle_serialize.specs.PlaceViews.{set_in}
 use Rattle.isle_serialize.proofs.fields.fields_of.Given as goal

@@ -2,7 +2,7 @@ use Rattle.std.proofs.Common.{◌≡◌, ◌<◌, ◌∙◌, true, false, sym, a
 use Rattle.std.specs.List.{list_all}
 use Rattle.std.proofs.lemmas.Bool.{or_cases}
 use Rattle.std.proofs.lemmas.List.{take_all}
-use Rattle.isle_model.specs.trees.Places.{available, is_in}
+use Rattle.model.specs.trees.Places.{available, is_in}
 use Rattle.isle_serialize.specs.AroundViews.{has}
 use Rattle.isle_serialize.specs.PlaceViews.{around_at, set_at}
 use Rattle.isle_serialize.proofs.AvailableSites.{neither, brought_at_hand, missed, lacking, made_at_hand, source_more}

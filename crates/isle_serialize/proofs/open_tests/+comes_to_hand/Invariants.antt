@@ -1,6 +1,6 @@
 use Rattle.std.proofs.Common.{◌≡◌, true, take}
 use Rattle.std.specs.List.{list_all}
-use Rattle.isle_model.specs.trees.Places.{available}
+use Rattle.model.specs.trees.Places.{available}
 use Rattle.isle_serialize.specs.AroundViews.{AreAtHand}
 use Rattle.isle_serialize.specs.PlaceViews.{around_at, set_at}
 use Rattle.isle_serialize.proofs.open_tests.+comes_to_hand.Given as goal

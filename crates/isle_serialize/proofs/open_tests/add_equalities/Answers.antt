@@ -1,5 +1,5 @@
 use Rattle.std.proofs.Common.{sym, subst, take}
-use Rattle.isle_sets.specs.SiteViews.{set_rule_view}
+use Rattle.isle_rule_sets.specs.SiteViews.{set_rule_view}
 use Rattle.isle_serialize.specs.NeededTests.{AddsOpen, IsEqualOf, IsPairOf, OfSome}
 use Rattle.isle_serialize.specs.PlaceViews.{around_at, set_at}
 use Rattle.isle_serialize.proofs.OpenTestLists.{adds_as, adds_more, equalities_of}

@@ -1,7 +1,7 @@
 use Rattle.std.proofs.Common.{sym, subst, take}
-use Rattle.isle_sets.specs.SiteViews.{site_view}
-use Rattle.isle_model.specs.trees.Tests.{Test}
-use Rattle.isle_sets.specs.declared.trie_again.Binding.{Binding}
+use Rattle.isle_rule_sets.specs.SiteViews.{site_view}
+use Rattle.model.specs.trees.Tests.{Test}
+use Rattle.isle_rule_sets.specs.declared.trie_again.Binding.{Binding}
 use Rattle.isle_serialize.specs.NeededTests.{IsLoopBy, IsLoopOf, OfSome}
 use Rattle.isle_serialize.specs.PlaceViews.{around_at, set_at}
 use Rattle.isle_serialize.proofs.OpenTestLists.{adds_as, adds_more, loops_of, of_seen}

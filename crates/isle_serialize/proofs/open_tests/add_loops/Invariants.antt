@@ -1,5 +1,5 @@
 use Rattle.std.proofs.Common.{take}
-use Rattle.isle_sets.specs.SiteViews.{site_view}
+use Rattle.isle_rule_sets.specs.SiteViews.{site_view}
 use Rattle.isle_serialize.specs.NeededTests.{AddsAt, IsLoopBy, OfSome}
 use Rattle.isle_serialize.specs.PlaceViews.{set_at}
 use Rattle.isle_serialize.proofs.open_tests.add_loops.Given as goal

@@ -1,5 +1,5 @@
 use Rattle.std.proofs.Common.{◌≡◌, ◌∙◌, ◌⊎◌, Some, ap, sym, option_map, slice_get}
-use Rattle.isle_sets.specs.SiteViews.{set_rule_view}
+use Rattle.isle_rule_sets.specs.SiteViews.{set_rule_view}
 use Rattle.isle_serialize.specs.NeededTests.{IsEqualOf, IsMatchOf, IsWanted}
 use Rattle.isle_serialize.specs.PlaceViews.{around_at, set_at}
 use Rattle.isle_serialize.proofs.OpenTestLists.{adds_as, adds_both, wanted_of}

@@ -1,6 +1,6 @@
 use Rattle.std.proofs.Common.{◌≡◌, ◌∙◌, ◌≤◌, Some, None, length, slice_get, sym, ap, subst, arith, ltb-false}
 use Rattle.std.proofs.lemmas.Option.{slice_get-get_or, slice_get_past}
-use Rattle.isle_model.specs.trees.Tests.{loop_test}
+use Rattle.model.specs.trees.Tests.{loop_test}
 use Rattle.isle_serialize.proofs.Tables.{needed_at, no_members}
 use Rattle.isle_serialize.proofs.open_tests.goes_over_some.Goals as goal
 

@@ -2,9 +2,9 @@ use Rattle.std.proofs.Common.{◌≡◌, ◌<◌, ◌&&◌, length, sym, ap, ◌
 use Rattle.std.proofs.lemmas.Bool.{false≢true}
 use Rattle.std.proofs.lemmas.List.{length-map}
 use Rattle.std.proofs.lemmas.Result.{IfOk-weaker}
-use Rattle.isle_model.specs.trees.Places.{available}
-use Rattle.isle_model.specs.trees.Tests as Tests
-use Rattle.isle_sets.specs.SiteViews.{site_view}
+use Rattle.model.specs.trees.Places.{available}
+use Rattle.model.specs.trees.Tests as Tests
+use Rattle.isle_rule_sets.specs.SiteViews.{site_view}
 use Rattle.isle_serialize.specs.PlaceViews.{around_at, set_at}
 use Rattle.isle_serialize.proofs.open_tests.is_at_hand.Goals as goal
 

@@ -1,8 +1,8 @@
 use Rattle.std.proofs.Common.{ap, sym, ◌∙◌}
 use Rattle.std.specs.List.{list_any}
 use Rattle.std.proofs.lemmas.List.{take_all}
-use Rattle.isle_model.specs.trees.Tests.{needs_at, loop_test}
-use Rattle.isle_sets.specs.SiteViews.{set_view}
+use Rattle.model.specs.trees.Tests.{needs_at, loop_test}
+use Rattle.isle_rule_sets.specs.SiteViews.{set_view}
 use Rattle.isle_serialize.proofs.open_tests.some_goes_over.Goals as goal
 
 pub returns : goal.returns

@@ -1,7 +1,7 @@
 use Rattle.std.proofs.Common.{◌≡◌, ℕ, false, take}
 use Rattle.std.specs.List.{list_any}
-use Rattle.isle_model.specs.trees.Tests.{needs_at, loop_test}
-use Rattle.isle_sets.specs.SiteViews.{set_view}
+use Rattle.model.specs.trees.Tests.{needs_at, loop_test}
+use Rattle.isle_rule_sets.specs.SiteViews.{set_view}
 use Rattle.isle_serialize.proofs.open_tests.some_goes_over.Given as goal
 
 abbrev pub invariant-loop-number : goal.invariant-loop-number

@@ -1,5 +1,5 @@
 use Rattle.std.proofs.Common.{◌≡◌}
-use Rattle.isle_model.specs.trees.Tests.{up_to}
+use Rattle.model.specs.trees.Tests.{up_to}
 use Rattle.isle_serialize.proofs.serialize.all_rules.Given as goal
 
 abbrev pub invariant-loop-number : goal.invariant-loop-number

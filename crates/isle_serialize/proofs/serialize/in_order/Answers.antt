@@ -1,7 +1,7 @@
 use Rattle.std.proofs.Common.{rules}
 use Rattle.std.proofs.lemmas.Fn.{always_returns_same}
-use Rattle.isle_laws_trees.proofs.Covers.{prio_at}
-use Rattle.isle_sets.specs.SiteViews.{set_view}
+use Rattle.laws_trees.proofs.Covers.{prio_at}
+use Rattle.isle_rule_sets.specs.SiteViews.{set_view}
 use Rattle.isle_serialize.proofs.EndSteps.{sorted_descend}
 use Rattle.isle_serialize.proofs.serialize.in_order.Goals as goal
 

@@ -1,10 +1,10 @@
 use Rattle.std.proofs.Common.{◌∙◌, ap, length, subst}
 use Rattle.std.specs.Prelude.{IsPermutation}
 use Rattle.std.proofs.lemmas.Result.{IfOk-weaker}
-use Rattle.isle_model.specs.claims.Layers.{IsSerialized}
-use Rattle.isle_laws_trees.specs.OneTree.{IsOnlyBest}
-use Rattle.isle_sets.specs.Listings.{ascends}
-use Rattle.isle_sets.specs.SiteViews.{set_view}
+use Rattle.model.specs.claims.Layers.{IsSerialized}
+use Rattle.laws_trees.specs.OneTree.{IsOnlyBest}
+use Rattle.isle_rule_sets.specs.Listings.{ascends}
+use Rattle.isle_rule_sets.specs.SiteViews.{set_view}
 use Rattle.isle_serialize.specs.AroundViews.{around_view}
 use Rattle.isle_serialize.specs.Growing.{IsBestFrom}
 use Rattle.isle_serialize.specs.TreeViews.{tree_view}

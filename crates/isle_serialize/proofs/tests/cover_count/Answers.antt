@@ -1,4 +1,4 @@
-use Rattle.isle_sets.specs.SiteViews.{set_view}
+use Rattle.isle_rule_sets.specs.SiteViews.{set_view}
 use Rattle.isle_serialize.specs.TestViews.{test_view}
 use Rattle.isle_serialize.proofs.BarSteps.{covered_count}
 use Rattle.isle_serialize.proofs.tests.cover_count.Goals as goal

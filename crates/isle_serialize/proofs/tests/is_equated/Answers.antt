@@ -1,5 +1,5 @@
 use Rattle.std.proofs.Common.{◌∙◌}
-use Rattle.isle_sets.proofs.JoinedSets.{together_joins}
+use Rattle.isle_rule_sets.proofs.JoinedSets.{together_joins}
 use Rattle.isle_serialize.proofs.tests.is_equated.Goals as goal
 
 pub returns : goal.returns

@@ -1,8 +1,8 @@
 use Rattle.std.proofs.Common.{◌≡◌, ◌∙◌, not, sym, subst}
 use Rattle.std.specs.List.{filter}
 use Rattle.std.proofs.lemmas.Result.{IfOk-weaker}
-use Rattle.isle_model.specs.trees.Tests.{cover, is_covered}
-use Rattle.isle_sets.specs.SiteViews.{set_view}
+use Rattle.model.specs.trees.Tests.{cover, is_covered}
+use Rattle.isle_rule_sets.specs.SiteViews.{set_view}
 use Rattle.isle_serialize.specs.Bars.{is_at_bar, IsBar}
 use Rattle.isle_serialize.specs.TestViews.{test_view}
 use Rattle.isle_serialize.proofs.BarSteps.{cover_at_bar, first_is_bar, others_at_bar}

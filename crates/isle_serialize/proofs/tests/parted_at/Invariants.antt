@@ -1,6 +1,6 @@
 use Rattle.std.proofs.Common.{◌≡◌, not, take}
 use Rattle.std.specs.List.{filter}
-use Rattle.isle_sets.specs.SiteViews.{set_view}
+use Rattle.isle_rule_sets.specs.SiteViews.{set_view}
 use Rattle.isle_serialize.specs.TestViews.{test_view}
 use Rattle.isle_serialize.specs.Bars.{is_at_bar}
 use Rattle.isle_serialize.proofs.tests.parted_at.Given as goal

@@ -3,7 +3,7 @@ use mir.Syntax.{w128}
 use mir.Val.{SFits}
 use Rattle.std.proofs.lemmas.Int.{to_z-of_z}
 use Rattle.std.proofs.lemmas.Option.{slice_get-get_or, slice_get-map, slice_get_past}
-use Rattle.isle_model.specs.lists.Ranges.{reduced}
+use Rattle.model.specs.lists.Ranges.{reduced}
 use Rattle.isle_types.specs.TypeViews.{type_view, type_views}
 use Rattle.isle_typed.proofs.checks.literal_number.Goals as goal
 

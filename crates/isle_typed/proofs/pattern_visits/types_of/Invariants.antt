@@ -1,5 +1,5 @@
 use Rattle.std.proofs.Common.{◌≡◌, ◌++◌, drop}
-use Rattle.isle_model.specs.visits.PatternRuns.{part_types}
+use Rattle.model.specs.visits.PatternRuns.{part_types}
 use Rattle.isle_typed.specs.PatternViews.{pattern_views, pattern_parts}
 use Rattle.isle_typed.specs.VisitAnswers.{type_numbers}
 use Rattle.isle_typed.proofs.pattern_visits.types_of.Given as goal

@@ -1,6 +1,6 @@
 use Rattle.std.proofs.Common.{◌≡◌, ◌++◌}
-use Rattle.isle_model.specs.visits.RuleRuns.{ExchangeRun}
-use Rattle.isle_model.specs.visits.Runs.{bound_vars}
+use Rattle.model.specs.visits.RuleRuns.{ExchangeRun}
+use Rattle.model.specs.visits.Runs.{bound_vars}
 use Rattle.isle_typed.specs.VisitorSteps.{by_number, no_memory, rule_steps}
 use Rattle.isle_typed.proofs.ExprRunSteps.{after_these}
 use Rattle.isle_typed.proofs.rule_visits.exchange.Given as goal

@@ -1,7 +1,7 @@
 use Rattle.std.proofs.Common.{sym, arith, get_or, drop, ◌+◌, ◌∙◌}
 use Rattle.isle_typed.specs.PatternViews.{pattern_view, pattern_views}
-use Rattle.isle_model.specs.lists.Visitable.{bound_after}
-use Rattle.isle_model.specs.visits.Runs.{bound_vars}
+use Rattle.model.specs.lists.Visitable.{bound_after}
+use Rattle.model.specs.visits.Runs.{bound_vars}
 use Rattle.isle_typed.specs.VisitorSteps.{by_number, expr_steps, pattern_steps, rule_steps}
 use Rattle.isle_typed.proofs.PatternRunSteps.{err_is}
 use Rattle.isle_typed.proofs.RuleRunSteps.{args_step, args_stop, args_stop_arg, next_arg, list_same, call_binds}

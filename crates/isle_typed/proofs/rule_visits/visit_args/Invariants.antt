@@ -1,9 +1,9 @@
 use Rattle.std.proofs.Common.{[], drop, IsTrue}
 use Rattle.isle_typed.specs.PatternViews.{pattern_views}
-use Rattle.isle_model.specs.visits.RuleRuns.{ArgsRun}
-use Rattle.isle_model.specs.lists.Visitable.{are_visitable_list}
+use Rattle.model.specs.visits.RuleRuns.{ArgsRun}
+use Rattle.model.specs.lists.Visitable.{are_visitable_list}
 use Rattle.isle_typed.specs.VisitAnswers.{type_numbers}
-use Rattle.isle_model.specs.visits.Runs.{bound_vars}
+use Rattle.model.specs.visits.Runs.{bound_vars}
 use Rattle.isle_typed.specs.VisitorSteps.{by_number, expr_steps, no_memory, pattern_steps, rule_steps}
 use Rattle.isle_typed.proofs.rule_visits.visit_args.Given as goal
 

@@ -1,8 +1,8 @@
 use Rattle.std.proofs.Common.{sym, get_or, drop, map, ◌+◌, ◌∙◌}
 use Rattle.isle_typed.specs.PatternViews.{pattern_view}
 use Rattle.isle_typed.specs.RuleViews.{iflet_view}
-use Rattle.isle_model.specs.lists.Visitable.{bound_after}
-use Rattle.isle_model.specs.visits.Runs.{bound_vars}
+use Rattle.model.specs.lists.Visitable.{bound_after}
+use Rattle.model.specs.visits.Runs.{bound_vars}
 use Rattle.isle_typed.specs.VisitorSteps.{by_number, expr_steps, pattern_steps, rule_steps}
 use Rattle.isle_typed.proofs.PatternRunSteps.{err_is}
 use Rattle.isle_typed.proofs.RuleRunSteps.{iflets_step, iflets_stop_value, iflets_stop_input, iflets_stop_pattern, next_iflet, iflets_same, call_binds}

@@ -1,8 +1,8 @@
 use Rattle.std.proofs.Common.{drop, map, IsTrue}
-use Rattle.isle_model.specs.visits.RuleRuns.{IfLetsRun}
+use Rattle.model.specs.visits.RuleRuns.{IfLetsRun}
 use Rattle.isle_typed.specs.RuleViews.{iflet_view}
-use Rattle.isle_model.specs.lists.Visitable.{are_visitable_iflets}
-use Rattle.isle_model.specs.visits.Runs.{bound_vars}
+use Rattle.model.specs.lists.Visitable.{are_visitable_iflets}
+use Rattle.model.specs.visits.Runs.{bound_vars}
 use Rattle.isle_typed.specs.VisitorSteps.{by_number, expr_steps, no_memory, pattern_steps, rule_steps}
 use Rattle.isle_typed.proofs.rule_visits.visit_iflets.Given as goal
 

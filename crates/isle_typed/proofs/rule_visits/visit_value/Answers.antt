@@ -1,7 +1,7 @@
 use Rattle.std.proofs.Common.{ap, ◌∙◌}
-use Rattle.isle_model.specs.trees.Places.{is_in}
+use Rattle.model.specs.trees.Places.{is_in}
 use Rattle.isle_typed.specs.ExprViews.{expr_view}
-use Rattle.isle_model.specs.visits.Runs.{bound_vars}
+use Rattle.model.specs.visits.Runs.{bound_vars}
 use Rattle.isle_typed.specs.VisitorSteps.{by_number, rule_steps}
 use Rattle.isle_typed.proofs.BoundVars.{expr_same}
 use Rattle.isle_typed.proofs.RuleRunSteps.{exchange_binds}

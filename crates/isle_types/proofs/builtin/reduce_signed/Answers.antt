@@ -2,7 +2,7 @@ use Rattle.std.proofs.Common.{rules, ◌≡◌, ◌-◌, ◌^◌, pos, ◌<ℤ�
 use mir.Syntax.{w128}
 use mir.Val.{SFits}
 use Rattle.std.proofs.lemmas.Int.{to_z-of_z}
-use Rattle.isle_model.specs.lists.Ranges.{unsigned, reduce}
+use Rattle.model.specs.lists.Ranges.{unsigned, reduce}
 use Rattle.isle_types.proofs.Reducing.{small_rest, large_rest}
 use Rattle.isle_types.proofs.builtin.reduce_signed.Goals as goal
 

@@ -1,7 +1,7 @@
 use Rattle.std.proofs.Common.{map, drop}
 use Rattle.isle_base.specs.Places.{term_view, HoldsAllBut}
 use Rattle.isle_base.specs.SyntaxViews.{pattern_view, pattern_views}
-use Rattle.isle_model.specs.lists.TermTable.{terms_of, terms_of_all}
+use Rattle.model.specs.lists.TermTable.{terms_of, terms_of_all}
 use Rattle.isle_base.proofs.syntax.Pattern.+terms.Given as goal
 
 abbrev pub invariant-loop-arg : goal.invariant-loop-arg

@@ -1,5 +1,5 @@
 use Rattle.std.proofs.Common.{ap, ◌∙◌}
-use Rattle.isle_model.specs.lists.Syntax.{tuple_fields}
+use Rattle.model.specs.lists.Syntax.{tuple_fields}
 use Rattle.isle_base.specs.SyntaxViews.{position, tuple_field_view}
 use Rattle.isle_making.specs.MakerPositions.{tuple_field_at}
 use Rattle.isle_making.proofs.Steps.{one_more, no_more}

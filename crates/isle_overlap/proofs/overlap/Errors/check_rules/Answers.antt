@@ -1,6 +1,6 @@
 use Rattle.std.proofs.Common.{◌++◌, ap, ◌∙◌, length, arith}
 use Rattle.std.proofs.lemmas.List.{length-map}
-use Rattle.isle_sets.specs.SiteViews.{set_rule_view, set_rule_views}
+use Rattle.isle_rule_sets.specs.SiteViews.{set_rule_view, set_rule_views}
 use Rattle.isle_overlap.specs.Comparisons.{list_views, masked_views, masked_rows, pair_views, shadows_of}
 use Rattle.isle_base.specs.ErrorViews.{error_views}
 use Rattle.isle_overlap.proofs.Rows.{wrong_rows_are, rows_below, masked_below, shadows_found}

@@ -4,7 +4,7 @@ use Rattle.std.proofs.lemmas.List.{length-map}
 use mir.Val.{SFits}
 use mir.Syntax.{w128}
 use Rattle.isle_base.specs.SyntaxViews as S
-use Rattle.isle_model.specs.lists.Syntax.{Position, no_expr, term_expr, let_expr, no_let}
+use Rattle.model.specs.lists.Syntax.{Position, no_expr, term_expr, let_expr, no_let}
 use Rattle.isle_terms.specs.TermViews.{flags_view, term_view}
 use Rattle.isle_types.specs.declared.ids.TypeId.{TypeId}
 use Rattle.isle_rules.specs.ExprReadings.{expected, expr_reading, args_reading, lets_reading}

@@ -3,8 +3,8 @@ use Rattle.std.proofs.lemmas.Int.{to_z-of_z}
 use Rattle.std.proofs.lemmas.List.{length-map}
 use mir.Val.{SFits}
 use mir.Syntax.{w128}
-use Rattle.isle_model.specs.lists.Syntax.{Position, no_pattern, var_pattern, bool_pattern, prim_pattern, macro_arg, bind_pattern, term_pattern, and_pattern}
-use Rattle.isle_model.specs.rules.Typed.{match_and}
+use Rattle.model.specs.lists.Syntax.{Position, no_pattern, var_pattern, bool_pattern, prim_pattern, macro_arg, bind_pattern, term_pattern, and_pattern}
+use Rattle.model.specs.rules.Typed.{match_and}
 use Rattle.isle_types.specs.declared.ids.TypeId.{TypeId}
 use Rattle.isle_base.specs.SyntaxViews as S
 use Rattle.isle_terms.specs.TermViews.{term_view, term_views}

@@ -1,9 +1,9 @@
 use Rattle.std.proofs.Common.{◌≡◌, ℕ, None, refl, ap, subst, ◌∙◌, string_bytes}
-use Rattle.isle_model.specs.lists.Names.{number}
+use Rattle.model.specs.lists.Names.{number}
 use Rattle.isle_types.specs.Envs.{names_of}
 use Rattle.isle_base.specs.SyntaxViews.{name_view, position}
-use Rattle.isle_model.specs.lists.Formed.{pattern_type}
-use Rattle.isle_model.specs.rules.Typed.{match_bind}
+use Rattle.model.specs.lists.Formed.{pattern_type}
+use Rattle.model.specs.rules.Typed.{match_bind}
 use Rattle.isle_typed.specs.Elaborating.{Checks}
 use Rattle.isle_typed.specs.PatternViews.{pattern_view}
 use Rattle.isle_rules.specs.Progress.{newest, BindsNext}

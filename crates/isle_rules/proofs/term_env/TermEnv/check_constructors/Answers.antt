@@ -2,8 +2,8 @@ use Rattle.std.proofs.Common.{IsTrue, refl}
 use Rattle.std.specs.List.{flat_map}
 use Rattle.std.proofs.lemmas.List.{drop_all}
 use Rattle.isle_base.specs.SyntaxViews.{definition_view, definition_views}
-use Rattle.isle_model.specs.lists.Syntax.{Position, Name}
-use Rattle.isle_model.specs.lists.TermTable.{rule_trees}
+use Rattle.model.specs.lists.Syntax.{Position, Name}
+use Rattle.model.specs.lists.TermTable.{rule_trees}
 use Rattle.isle_rules.specs.Constructors.{has_constructor_if_there, uses_of_rule, uses_of_definition}
 use Rattle.isle_rules.specs.PatternUses.{found_term}
 use Rattle.isle_rules.proofs.NamedLimits.{rules_before}

@@ -1,7 +1,7 @@
 use Rattle.std.proofs.Common.{IsTrue, drop}
 use Rattle.std.specs.List.{flat_map}
 use Rattle.isle_base.specs.SyntaxViews.{definition_views}
-use Rattle.isle_model.specs.lists.TermTable.{rule_trees}
+use Rattle.model.specs.lists.TermTable.{rule_trees}
 use Rattle.isle_base.specs.Positions.{NotesAt, positions_of}
 use Rattle.isle_rules.specs.Constructors.{has_constructor_if_there, uses_of_rule}
 use Rattle.isle_rules.specs.PatternUses.{found_term}

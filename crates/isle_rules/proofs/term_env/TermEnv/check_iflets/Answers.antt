@@ -3,7 +3,7 @@ use Rattle.std.specs.List.{flat_map}
 use Rattle.std.proofs.lemmas.List.{drop_all}
 use Rattle.isle_base.specs.Expressions.{terms_of_expr}
 use Rattle.isle_base.specs.SyntaxViews.{expr_view, iflet_view}
-use Rattle.isle_model.specs.lists.Syntax.{Position, Name}
+use Rattle.model.specs.lists.Syntax.{Position, Name}
 use Rattle.isle_rules.specs.Constructors.{has_constructor_if_there}
 use Rattle.isle_rules.specs.PatternUses.{found_term}
 use Rattle.isle_rules.proofs.CheckedUses.{checked_first, checked_next, checked_last, left_at}

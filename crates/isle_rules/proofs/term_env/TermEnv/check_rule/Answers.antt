@@ -2,7 +2,7 @@ use Rattle.std.proofs.Common.{IsTrue, map}
 use Rattle.std.specs.List.{flat_map}
 use Rattle.isle_base.specs.Expressions.{terms_of_expr}
 use Rattle.isle_base.specs.SyntaxViews.{expr_view, iflet_view, rule_view}
-use Rattle.isle_model.specs.lists.Syntax.{Position, Name}
+use Rattle.model.specs.lists.Syntax.{Position, Name}
 use Rattle.isle_rules.specs.Constructors.{has_constructor_if_there, uses_of_rule, AreFoundMade}
 use Rattle.isle_typed.specs.Elaborating.{Checks}
 use Rattle.isle_rules.specs.PatternUses.{found_term}

@@ -1,7 +1,7 @@
 use Rattle.std.proofs.Common.{IsTrue, ◌∷◌, [], map, refl}
 use Rattle.std.proofs.lemmas.List.{drop_all}
 use Rattle.isle_base.specs.Places.{term_view}
-use Rattle.isle_model.specs.lists.Syntax.{Position, Name}
+use Rattle.model.specs.lists.Syntax.{Position, Name}
 use Rattle.isle_rules.specs.Constructors.{has_constructor_if_there}
 use Rattle.isle_rules.specs.PatternUses.{found_term}
 use Rattle.isle_rules.proofs.CheckedUses.{checked_first, checked_next, checked_last, checks_one, left_at}

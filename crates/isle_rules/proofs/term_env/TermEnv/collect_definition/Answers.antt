@@ -1,5 +1,5 @@
 use Rattle.std.proofs.Common.{◌≡◌, [], length, option_map, rules, refl, sym, subst}
-use Rattle.isle_model.specs.lists.TermTable.{rule_of}
+use Rattle.model.specs.lists.TermTable.{rule_of}
 use Rattle.isle_rules.specs.RulesTold.{TellsTyping}
 use Rattle.isle_typed.specs.RuleViews.{rule_view, rule_views}
 use Rattle.isle_rules.proofs.NamedLimits.{rule_named}

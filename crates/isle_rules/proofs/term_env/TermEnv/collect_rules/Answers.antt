@@ -1,7 +1,7 @@
 use Rattle.std.proofs.Common.{◌++◌, refl}
 use Rattle.std.proofs.lemmas.List.{drop_all}
 use Rattle.isle_base.specs.SyntaxViews.{definition_views, definition_view}
-use Rattle.isle_model.specs.lists.TermTable.{rule_trees}
+use Rattle.model.specs.lists.TermTable.{rule_trees}
 use Rattle.isle_rules.proofs.Readings.{keep_none, keep_on}
 use Rattle.isle_rules.proofs.NamedLimits.{rules_before, none_named, next_named, all_named}
 use Rattle.isle_rules.proofs.RuleBreachSteps.{first_begins, next_begins, last_begins}

@@ -1,6 +1,6 @@
 use Rattle.std.proofs.Common.{drop}
 use Rattle.isle_base.specs.SyntaxViews.{definition_views}
-use Rattle.isle_model.specs.lists.TermTable.{rule_trees}
+use Rattle.model.specs.lists.TermTable.{rule_trees}
 use Rattle.isle_base.specs.Positions.{NotesAt, OccurAmong, positions_of}
 use Rattle.isle_typed.specs.RuleViews.{rule_views}
 use Rattle.isle_typed.specs.RuleNaming.{rules_at}

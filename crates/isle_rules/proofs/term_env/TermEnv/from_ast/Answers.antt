@@ -1,6 +1,6 @@
 use Rattle.std.proofs.Common.{◌++◌, All, refl, ◌∙◌}
 use Rattle.isle_base.specs.SyntaxViews.{definition_views}
-use Rattle.isle_model.specs.claims.Refusals.{PassedInReading}
+use Rattle.model.specs.claims.Refusals.{PassedInReading}
 use Rattle.isle_base.specs.Positions.{ErrorStandsAt, positions_of}
 use Rattle.isle_types.specs.EnvViews.{environment_view}
 use Rattle.isle_types.specs.TypePositions.{types_positions}
@@ -10,7 +10,7 @@ use Rattle.isle_rules.proofs.FirstPastLimits.{first_named}
 use Rattle.isle_rules.proofs.RulesRefused.{passed_on, limits_named, named_by_none, past_limits_named, no_rule_to_name, no_first_to_name, refused_by_rules, refused_by_terms, first_broken, broken_by_terms, all_said, terms_said}
 use Rattle.isle_rules.proofs.EnvironmentsAtEnd.{left_in_the_end, all_read, could_be_read, whatever, is_nothing, is_something, wrong_in_the_end, right_in_the_end, read_by_terms}
 use Rattle.isle_rules.proofs.PlacesAtEnd.{stand_in_the_end}
-use Rattle.isle_laws_typing.proofs.NoReadLimits.{elaborated_lists_pass_no_limit_lem}
+use Rattle.laws_typing.proofs.NoReadLimits.{elaborated_lists_pass_no_limit_lem}
 use Rattle.isle_rules.proofs.term_env.TermEnv.from_ast.Goals as goal
 
 pub returns-in_err-errors-clause-left : goal.returns-in_err-errors-clause-left

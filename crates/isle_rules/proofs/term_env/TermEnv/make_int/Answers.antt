@@ -3,8 +3,8 @@ use mir.Syntax.{w128}
 use mir.Val.{SFits}
 use Rattle.std.proofs.lemmas.Int.{to_z-of_z}
 use Rattle.isle_base.specs.SyntaxViews.{position}
-use Rattle.isle_model.specs.lists.Ranges.{reduced}
-use Rattle.isle_model.specs.lists.Syntax.{int_expr}
+use Rattle.model.specs.lists.Ranges.{reduced}
+use Rattle.model.specs.lists.Syntax.{int_expr}
 use Rattle.isle_types.specs.TypeViews.{type_views}
 use Rattle.isle_rules.specs.ExprReadings.{expected, expr_reading}
 use Rattle.isle_rules.specs.Translating.{standing}

@@ -1,7 +1,7 @@
 use Rattle.std.proofs.Common.{ap, subst, ◌∙◌, ◌≡◌, [], ◌++◌, sym, inl, inr}
 use Rattle.isle_base.specs.SyntaxViews.{definition_views}
-use Rattle.isle_model.specs.lists.Elaborated.{named_rules}
-use Rattle.isle_model.specs.lists.TermTable.{rule_trees}
+use Rattle.model.specs.lists.Elaborated.{named_rules}
+use Rattle.model.specs.lists.TermTable.{rule_trees}
 use Rattle.isle_terms.specs.TermViews.{term_views}
 use Rattle.isle_typed.specs.Elaborating.{Checks}
 use Rattle.isle_rules.specs.RuleLists.{CollectsRules}

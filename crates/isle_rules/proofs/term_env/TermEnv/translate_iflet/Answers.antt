@@ -1,7 +1,7 @@
 use Rattle.std.proofs.Common.{◌≡◌, ap, refl}
 use Rattle.isle_base.specs.SyntaxViews as S
-use Rattle.isle_model.specs.lists.Setting.{on_lhs, expr_type}
-use Rattle.isle_model.specs.lists.Elaborated.{typed_iflet}
+use Rattle.model.specs.lists.Setting.{on_lhs, expr_type}
+use Rattle.model.specs.lists.Elaborated.{typed_iflet}
 use Rattle.isle_terms.specs.TermViews.{flags_view}
 use Rattle.isle_rules.specs.ExprReadings.{expr_reading}
 use Rattle.isle_typed.specs.ExprViews.{expr_view}

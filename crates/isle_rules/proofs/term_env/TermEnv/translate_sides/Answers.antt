@@ -8,7 +8,7 @@ use Rattle.isle_rules.specs.Translating.{standing}
 use Rattle.isle_rules.proofs.Readings.{stop_is, stop_keeps, stays_on, may_report}
 use Rattle.isle_rules.proofs.SidesForms.{sides_first_stops, sides_second_stops, sides_third_stops, sides_reported, sides_done}
 use Rattle.std.specs.List.{flat_map}
-use Rattle.isle_model.specs.lists.Syntax.{Position}
+use Rattle.model.specs.lists.Syntax.{Position}
 use Rattle.isle_base.specs.Positions.{OccurAmong, patterns_positions, expr_positions, iflet_positions, rule_positions}
 use Rattle.isle_base.proofs.Positioned.{among_same, notes_parts}
 use Rattle.isle_rules.specs.RulePositions.{with_templates}

@@ -1,6 +1,6 @@
 use Rattle.std.proofs.Common.{◌≡◌, ℕ, Option, None, refl, ap, subst, ◌∙◌}
 use Rattle.isle_base.specs.SyntaxViews.{name_view, position}
-use Rattle.isle_model.specs.rules.Typed.{TypedVar}
+use Rattle.model.specs.rules.Typed.{TypedVar}
 use Rattle.isle_rules.specs.Progress.{newest, BindsNext}
 use Rattle.isle_typed.specs.RuleViews.{var_view}
 use Rattle.isle_rules.specs.Translating.{standing}

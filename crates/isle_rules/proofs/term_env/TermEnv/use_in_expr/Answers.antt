@@ -1,13 +1,13 @@
 use Rattle.std.proofs.Common.{Contains, refl, sym, [], ◌∷◌}
 use Rattle.isle_base.specs.SyntaxViews.{name_view, position, expr_view, expr_views}
-use Rattle.isle_model.specs.lists.Syntax.{term_expr}
+use Rattle.model.specs.lists.Syntax.{term_expr}
 use Rattle.isle_terms.specs.TermViews.{flags_view, term_view}
 use Rattle.isle_rules.specs.ExprReadings.{expected}
 use Rattle.isle_rules.specs.Translating.{standing}
 use Rattle.isle_rules.proofs.Readings.{stop_is}
 use Rattle.isle_rules.proofs.ExprUsing.{list_length, call_unknown, call_converts, converted, conversion_stops, args_used, call_unmade}
 use Rattle.isle_base.proofs.Positioned.{notes_nothing}
-use Rattle.isle_model.proofs.Members.{in_head}
+use Rattle.model.proofs.Members.{in_head}
 use Rattle.isle_base.specs.Positions.{expr_positions, exprs_positions}
 use Rattle.isle_rules.proofs.ErrorPositions.{counted_stop}
 use Rattle.isle_rules.proofs.SubstitutedPlaces.{called_places}

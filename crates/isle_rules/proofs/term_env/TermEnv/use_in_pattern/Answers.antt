@@ -1,13 +1,13 @@
 use Rattle.std.proofs.Common.{Contains, ◌≡◌, Option, None, Some, map, option_map, refl, sym, ap, ◌∙◌, inl, [], ◌∷◌}
 use Rattle.isle_base.specs.SyntaxViews.{name_view, position, pattern_view, pattern_views}
-use Rattle.isle_model.specs.lists.Syntax.{PatternTree}
-use Rattle.isle_model.specs.lists.Expansions.{substituted}
+use Rattle.model.specs.lists.Syntax.{PatternTree}
+use Rattle.model.specs.lists.Expansions.{substituted}
 use Rattle.isle_terms.specs.TermViews.{term_view}
 use Rattle.isle_rules.specs.PatternUses.{name_at}
 use Rattle.isle_rules.specs.Translating.{standing}
 use Rattle.isle_rules.proofs.Readings.{stop_is}
 use Rattle.isle_rules.proofs.PatternUsing.{checks_both, list_is, list_length, unknown_use, converted_use, conversion_stops, parts_used, nothing_made, template_expands, template_made, template_stops}
-use Rattle.isle_model.proofs.Members.{in_head}
+use Rattle.model.proofs.Members.{in_head}
 use Rattle.isle_base.specs.Positions.{pattern_positions, patterns_positions}
 use Rattle.isle_base.proofs.Positioned.{among_same, notes_nothing, notes_both}
 use Rattle.isle_rules.proofs.ErrorPositions.{stop_step, counted_stop}

@@ -1,6 +1,6 @@
 use Rattle.std.proofs.Common.{Contains, refl, [], ◌∷◌}
 use Rattle.isle_base.specs.SyntaxViews.{name_view, position, expr_view}
-use Rattle.isle_model.specs.lists.Syntax.{var_expr}
+use Rattle.model.specs.lists.Syntax.{var_expr}
 use Rattle.isle_terms.specs.TermViews.{term_view}
 use Rattle.isle_rules.specs.ExprReadings.{expected}
 use Rattle.isle_typed.specs.RuleViews.{var_view}
@@ -9,7 +9,7 @@ use Rattle.isle_rules.proofs.Readings.{stop_is}
 use Rattle.isle_rules.proofs.ExprUsing.{var_unknown, var_converts, converted, conversion_stops, var_made, var_unmade}
 use Rattle.isle_base.specs.Positions.{expr_positions}
 use Rattle.isle_base.proofs.Positioned.{notes_nothing}
-use Rattle.isle_model.proofs.Members.{in_head}
+use Rattle.model.proofs.Members.{in_head}
 use Rattle.isle_rules.proofs.ErrorPositions.{counted_stop}
 use Rattle.isle_rules.proofs.SubstitutedPlaces.{called_places}
 use Rattle.isle_rules.proofs.ExprLimits as limits

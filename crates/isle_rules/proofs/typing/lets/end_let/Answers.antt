@@ -1,6 +1,6 @@
 use Rattle.std.proofs.Common.{ℕ, ap, ◌∙◌}
-use Rattle.isle_model.specs.rules.Typed.{make_let}
-use Rattle.isle_model.specs.lists.Setting.{expr_type}
+use Rattle.model.specs.rules.Typed.{make_let}
+use Rattle.model.specs.lists.Setting.{expr_type}
 use Rattle.isle_typed.specs.ExprViews.{expr_view, let_views, let_parts}
 use Rattle.isle_typed.proofs.ExprBridges.{row_lets-hidden}
 use Rattle.isle_rules.proofs.typing.lets.end_let.Goals as goal

@@ -1,8 +1,8 @@
 use Rattle.std.proofs.Common.{◌≡◌, [], ◌∷◌, ◌++◌, ap, ◌∙◌, string_bytes}
 use Rattle.isle_base.specs.SyntaxViews as S
 use Rattle.isle_base.proofs.PatternViews as V
-use Rattle.isle_model.specs.lists.Signatures.{text_of}
-use Rattle.isle_model.specs.lists.Syntax.{no_pattern, pattern_and, term_pattern}
+use Rattle.model.specs.lists.Signatures.{text_of}
+use Rattle.model.specs.lists.Syntax.{no_pattern, pattern_and, term_pattern}
 use Rattle.isle_types.specs.Envs.{names_of}
 use Rattle.isle_rules.proofs.typing.pattern_uses.convert.Goals as goal
 

@@ -1,5 +1,5 @@
 use Rattle.std.proofs.Common.{ℕ, Some, ap, sym, ◌∙◌, string_bytes}
-use Rattle.isle_model.proofs.Names.{number_new}
+use Rattle.model.proofs.Names.{number_new}
 use Rattle.isle_types.specs.Envs.{names_of}
 use Rattle.isle_rules.proofs.typing.rule.meet_name.Goals as goal
 

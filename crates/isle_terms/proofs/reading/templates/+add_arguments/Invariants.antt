@@ -1,5 +1,5 @@
 use Rattle.std.proofs.Common.{◌≡◌, ◌++◌, map, drop}
-use Rattle.isle_model.specs.lists.TermTable.{arguments_in, arguments_in_all}
+use Rattle.model.specs.lists.TermTable.{arguments_in, arguments_in_all}
 use Rattle.isle_base.specs.SyntaxViews.{pattern_view, pattern_views, position}
 use Rattle.isle_terms.specs.TermPositions.{argument_places, argument_places_all}
 use Rattle.isle_terms.proofs.reading.templates.+add_arguments.Given as goal

@@ -1,7 +1,7 @@
 use Rattle.std.proofs.Common.{◌≡◌, map, sym, ap, ◌∙◌, string_bytes}
 use Rattle.std.proofs.lemmas.Result.{IfOk-weaker}
 use Rattle.std.proofs.lemmas.Simd.{map-map}
-use Rattle.isle_model.specs.lists.TermTable.{extractor_template, template}
+use Rattle.model.specs.lists.TermTable.{extractor_template, template}
 use Rattle.isle_base.specs.SyntaxViews.{extractor_view, pattern_view}
 use Rattle.isle_terms.proofs.reading.templates.template_of.Goals as goal
 

@@ -1,9 +1,9 @@
 use Rattle.std.proofs.Common.{◌≡◌, [], ◌∷◌, None, refl, sym, inr, ◌∙◌}
 use Rattle.std.proofs.lemmas.Result.{on_ok_weaker}
-use Rattle.isle_model.proofs.Members.{in_head}
+use Rattle.model.proofs.Members.{in_head}
 use Rattle.isle_base.specs.SyntaxViews.{position}
 use Rattle.isle_types.specs.TypeViews.{fields_view}
-use Rattle.isle_model.specs.lists.TermTable.{struct_as_term}
+use Rattle.model.specs.lists.TermTable.{struct_as_term}
 use Rattle.isle_terms.specs.TermTables.{term_at}
 use Rattle.isle_terms.proofs.PlacesNoted.{placed_pushed, placed_still}
 use Rattle.isle_terms.proofs.Making.{none_mapped, some_mapped, added_one, taken_one}

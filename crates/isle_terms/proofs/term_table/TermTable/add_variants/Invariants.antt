@@ -1,5 +1,5 @@
 use Rattle.std.proofs.Common.{◌≡◌, ◌++◌, take, map}
-use Rattle.isle_model.specs.lists.TermTable.{variant_as_term}
+use Rattle.model.specs.lists.TermTable.{variant_as_term}
 use Rattle.isle_types.specs.TypeViews.{variant_view}
 use Rattle.isle_terms.specs.Reading.{IsWithin}
 use Rattle.isle_terms.specs.TermPositions.{table_positions, variants_positions, IsPlacedAmong}

@@ -1,5 +1,5 @@
 use Rattle.std.proofs.Common.{◌≡◌, map, length, ◌∙◌, rules}
-use Rattle.isle_model.specs.rules.Values.{field_types}
+use Rattle.model.specs.rules.Values.{field_types}
 use Rattle.isle_base.specs.SyntaxViews.{position}
 use Rattle.isle_types.specs.TypeViews.{fields_view}
 use Rattle.isle_terms.specs.TermViews.{kind_view}

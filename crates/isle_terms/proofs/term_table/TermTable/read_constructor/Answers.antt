@@ -1,6 +1,6 @@
 use Rattle.std.proofs.Common.{◌≡◌, ◌<◌, [], length, true, false, get_or, refl, ap, ◌∙◌, rules}
 use Rattle.std.proofs.Math.ListN.{set}
-use Rattle.isle_model.specs.lists.Tables.{external_constructor}
+use Rattle.model.specs.lists.Tables.{external_constructor}
 use Rattle.isle_base.specs.SyntaxViews.{name_view}
 use Rattle.isle_types.specs.Envs.{symbol_of}
 use Rattle.isle_terms.specs.TermViews.{term_view}

@@ -2,7 +2,7 @@ use Rattle.isle_terms.specs.TermBreaches.{FirstStandsAt}
 use Rattle.isle_terms.proofs.Breaches.{begins_among, begins_noted}
 use Rattle.std.proofs.Common.{[], ◌++◌, refl, sym, subst}
 use Rattle.std.proofs.lemmas.Result.{on_ok_weaker}
-use Rattle.isle_model.specs.lists.Tables.{external_constructor, external_extractor}
+use Rattle.model.specs.lists.Tables.{external_constructor, external_extractor}
 use Rattle.isle_base.specs.Positions.{NotesAt, extern_positions}
 use Rattle.isle_base.proofs.Positioned.{notes_among}
 use Rattle.isle_base.specs.SyntaxViews.{extern_view, name_view, position}

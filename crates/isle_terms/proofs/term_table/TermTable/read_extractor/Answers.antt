@@ -2,7 +2,7 @@ use Rattle.std.proofs.lemmas.Result.{on_ok_weaker}
 use Rattle.isle_terms.proofs.Breaches.{begins_noted}
 use Rattle.std.proofs.Common.{◌≡◌, ◌<◌, [], ◌∷◌, length, true, false, get_or, refl, ap, ◌∙◌, rules}
 use Rattle.std.proofs.Math.ListN.{set}
-use Rattle.isle_model.specs.lists.Tables.{external_extractor}
+use Rattle.model.specs.lists.Tables.{external_extractor}
 use Rattle.isle_base.specs.SyntaxViews.{name_view, position}
 use Rattle.isle_base.proofs.Positioned.{among_first, among_same}
 use Rattle.isle_types.specs.Envs.{symbol_of}

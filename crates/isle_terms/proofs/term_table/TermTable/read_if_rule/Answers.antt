@@ -1,7 +1,7 @@
 use Rattle.std.proofs.Common.{[], ◌∷◌, ◌++◌, refl, subst, sym}
 use Rattle.std.specs.List.{flat_map}
 use Rattle.std.proofs.lemmas.Result.{on_ok_weaker}
-use Rattle.isle_model.specs.lists.Syntax.{RuleTree}
+use Rattle.model.specs.lists.Syntax.{RuleTree}
 use Rattle.isle_base.specs.Positions.{NotesAt, OccurAmong, definition_positions, expr_positions, iflet_positions, pattern_positions, rule_name_positions, rule_positions}
 use Rattle.isle_base.specs.SyntaxViews.{definition_view, rule_view}
 use Rattle.isle_base.proofs.Positioned.{among_first, notes_among}

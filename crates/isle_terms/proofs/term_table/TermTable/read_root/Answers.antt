@@ -1,8 +1,8 @@
 use Rattle.std.proofs.Common.{◌≡◌, ◌<◌, [], Some, is_none, true, false, length, get_or, refl, sym, ap, ◌∙◌, inl, inr}
 use Rattle.std.proofs.Math.ListN.{set}
 use Rattle.std.proofs.lemmas.Result.{on_ok_weaker}
-use Rattle.isle_model.specs.rules.Outcome.{then_option}
-use Rattle.isle_model.specs.lists.TermTable.{root_name}
+use Rattle.model.specs.rules.Outcome.{then_option}
+use Rattle.model.specs.lists.TermTable.{root_name}
 use Rattle.isle_base.specs.SyntaxViews.{name_view, rule_view, pattern_view}
 use Rattle.isle_types.specs.Envs.{symbol_of}
 use Rattle.isle_terms.specs.TermViews.{term_view, term_views}

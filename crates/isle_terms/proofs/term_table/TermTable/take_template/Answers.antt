@@ -4,8 +4,8 @@ use Rattle.std.proofs.Common.{◌≡◌, [], ◌∷◌, Some, true, false, not, 
 use Rattle.std.proofs.Math.ListN.{set}
 use Rattle.std.proofs.lemmas.List.{length-map}
 use Rattle.std.proofs.lemmas.Option.{same_Some}
-use Rattle.isle_model.specs.lists.Tables.{TermEntry, internal_extractor}
-use Rattle.isle_model.specs.lists.TermTable.{arguments_in, extractor_template}
+use Rattle.model.specs.lists.Tables.{TermEntry, internal_extractor}
+use Rattle.model.specs.lists.TermTable.{arguments_in, extractor_template}
 use Rattle.isle_base.specs.SyntaxViews.{extractor_view, pattern_view, position}
 use Rattle.isle_base.specs.Positions.{OccurAmong, extractor_positions, pattern_positions}
 use Rattle.isle_base.proofs.Positioned.{among_first, notes_among, notes_both}

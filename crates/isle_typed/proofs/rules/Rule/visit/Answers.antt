@@ -1,18 +1,18 @@
 use Rattle.std.proofs.Common.{ℕ, ◌≡◌, List, Result, Ok, Err, sym, ap, ◌∙◌, length, [], map, subst}
 use Rattle.isle_types.specs.declared.ids.TypeId.{TypeId}
-use Rattle.isle_model.specs.lists.Tables.{TermEntry}
+use Rattle.model.specs.lists.Tables.{TermEntry}
 use Rattle.isle_typed.specs.declared.patterns.Pattern.{Pattern}
 use Rattle.isle_typed.specs.declared.rules.IfLet.{IfLet}
 use Rattle.isle_base.specs.declared.visit_fault.VisitFault.{VisitFault}
-use Rattle.isle_model.specs.visits.Visitors.{PatternSteps, ExprSteps, RuleSteps}
-use Rattle.isle_model.specs.visits.RuleRuns.{ArgsRun, IfLetsRun}
+use Rattle.model.specs.visits.Visitors.{PatternSteps, ExprSteps, RuleSteps}
+use Rattle.model.specs.visits.RuleRuns.{ArgsRun, IfLetsRun}
 use Rattle.std.proofs.lemmas.List.{length-map}
 use Rattle.isle_terms.specs.TermViews.{term_view}
 use Rattle.isle_typed.specs.PatternViews.{pattern_view, pattern_views}
 use Rattle.isle_typed.specs.RuleViews.{iflet_view, rule_view}
-use Rattle.isle_model.specs.lists.Visitable.{bound_after_list, bound_after_iflets}
+use Rattle.model.specs.lists.Visitable.{bound_after_list, bound_after_iflets}
 use Rattle.isle_typed.specs.VisitAnswers.{type_numbers}
-use Rattle.isle_model.specs.visits.Runs.{BoundIds, bound_vars}
+use Rattle.model.specs.visits.Runs.{BoundIds, bound_vars}
 use Rattle.isle_typed.specs.VisitorSteps.{by_number, expr_steps, no_memory, pattern_steps, rule_steps}
 use Rattle.isle_typed.proofs.BoundVars.{expr_same}
 use Rattle.isle_typed.proofs.PatternRunSteps.{err_is}

@@ -4,7 +4,7 @@ use Rattle.std.specs.HashMap.{get_by_text}
 use Rattle.std.proofs.lemmas.List.{map-append, length-map}
 use Rattle.std.proofs.lemmas.Map.Text.{hash_map_updates_text}
 use Rattle.std.proofs.lemmas.Result.{IfOk-at_ok}
-use Rattle.isle_model.specs.lists.Names.{AreNumbersOf}
+use Rattle.model.specs.lists.Names.{AreNumbersOf}
 use Rattle.isle_types.specs.Envs.{names_of, symbol_of}
 use Rattle.isle_types.proofs.Inverse.{inverse_push, update_read}
 use Rattle.isle_types.proofs.type_env.TypeEnv.add_name.Goals as goal

@@ -1,6 +1,6 @@
 use Rattle.std.proofs.Common.{rules, ◌≡◌, IsTrue, [], length, refl, inl}
 use Rattle.std.proofs.lemmas.List.Elements.{All-head}
-use Rattle.isle_model.specs.lists.Names.{has_name}
+use Rattle.model.specs.lists.Names.{has_name}
 use Rattle.isle_base.specs.SyntaxViews as views
 use Rattle.isle_types.specs.Envs.{names_of}
 use Rattle.isle_types.proofs.FillingTypes.{type_pushed}

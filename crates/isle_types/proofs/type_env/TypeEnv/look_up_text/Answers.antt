@@ -1,5 +1,5 @@
 use Rattle.isle_types.specs.Envs.{names_of, symbol_of}
-use Rattle.isle_model.proofs.ByNumber.{looked_up}
+use Rattle.model.proofs.ByNumber.{looked_up}
 use Rattle.isle_types.proofs.type_env.TypeEnv.look_up_text.Goals as goal
 
 pub returns-clause-place : goal.returns-clause-place

@@ -1,6 +1,6 @@
 use Rattle.std.proofs.Common.{◌≡◌, ◌∷◌, [], Some, string_bytes, inr}
 use Rattle.std.proofs.lemmas.Result.{on_ok_weaker}
-use Rattle.isle_model.specs.lists.Names.{number}
+use Rattle.model.specs.lists.Names.{number}
 use Rattle.isle_types.specs.Envs.{names_of, type_at}
 use Rattle.isle_types.specs.Reading.{MeetsNames}
 use Rattle.isle_types.proofs.type_env.TypeEnv.name_definition.Goals as goal

@@ -1,7 +1,7 @@
 use Rattle.std.proofs.Common.{◌≡◌, ◌&&◌, true, false, map, string_bytes, refl, sym, ap, ◌∙◌}
-use Rattle.isle_model.specs.lists.Syntax.{enum_value}
-use Rattle.isle_model.specs.lists.Names.{number}
-use Rattle.isle_model.specs.lists.Tables.{enum_type}
+use Rattle.model.specs.lists.Syntax.{enum_value}
+use Rattle.model.specs.lists.Names.{number}
+use Rattle.model.specs.lists.Tables.{enum_type}
 use Rattle.isle_base.specs.SyntaxViews as views
 use Rattle.isle_types.specs.Envs.{names_of}
 use Rattle.isle_types.specs.TypeViews.{variant_view}

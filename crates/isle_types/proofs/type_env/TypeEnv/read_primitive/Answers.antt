@@ -1,6 +1,6 @@
 use Rattle.std.proofs.Common.{string_bytes, refl, sym, ap, ◌∙◌}
 use Rattle.std.proofs.lemmas.Bool.{false≢true}
-use Rattle.isle_model.specs.lists.Tables.{primitive_type}
+use Rattle.model.specs.lists.Tables.{primitive_type}
 use Rattle.isle_base.specs.SyntaxViews.{name_view, type_view, position}
 use Rattle.isle_types.proofs.NamesMet.{meet_one, ends_here}
 use Rattle.isle_types.proofs.PlacesNoted.{noted_there}

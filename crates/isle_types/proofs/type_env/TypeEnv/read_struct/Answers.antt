@@ -1,8 +1,8 @@
 use Rattle.std.proofs.Common.{◌≡◌, ◌&&◌, true, false, [], string_bytes, refl, sym, ap, ◌∙◌}
 use Rattle.std.proofs.lemmas.List.Elements.{All-head}
-use Rattle.isle_model.specs.lists.Syntax.{struct_value}
-use Rattle.isle_model.specs.lists.Names.{number}
-use Rattle.isle_model.specs.lists.Tables.{struct_type}
+use Rattle.model.specs.lists.Syntax.{struct_value}
+use Rattle.model.specs.lists.Names.{number}
+use Rattle.model.specs.lists.Tables.{struct_type}
 use Rattle.isle_base.specs.SyntaxViews as views
 use Rattle.isle_types.specs.Envs.{names_of}
 use Rattle.isle_types.specs.TypeViews.{fields_view}

@@ -1,7 +1,7 @@
 use Rattle.std.proofs.Common.{map, sym, ap, ◌∙◌}
 use Rattle.std.proofs.lemmas.Result.{IfOk-weaker}
-use Rattle.isle_model.specs.lists.Syntax.{enum_value}
-use Rattle.isle_model.specs.lists.TypeTable.{all_type_names}
+use Rattle.model.specs.lists.Syntax.{enum_value}
+use Rattle.model.specs.lists.TypeTable.{all_type_names}
 use Rattle.isle_base.specs.SyntaxViews as views
 use Rattle.isle_types.proofs.NamesMet.{meet_known, sees_met}
 use Rattle.isle_types.proofs.RightValues.{named_now, type_kept}

@@ -1,6 +1,6 @@
 use Rattle.std.proofs.Common.{◌≡◌, string_bytes, refl, ap, ◌∙◌}
-use Rattle.isle_model.specs.lists.Names.{number}
-use Rattle.isle_model.specs.lists.TypeTable.{full_name, all_type_names}
+use Rattle.model.specs.lists.Names.{number}
+use Rattle.model.specs.lists.TypeTable.{full_name, all_type_names}
 use Rattle.isle_types.specs.Envs.{names_of}
 use Rattle.isle_types.proofs.NamesMet.{meet_one, meet_more}
 use Rattle.isle_types.proofs.VariantSteps.{variant_right, seen_twice, sees_both, both_met}

@@ -1,0 +1,182 @@
+//! Answers to what trees call: an echo's, but for constants of built-in types, and for values that are withheld.
+#![tactic(auto, using(isle_interpreter::proofs::ContentSteps::content_steps, isle_interpreter::proofs::ValueSteps::value_steps))]
+
+ghost use Rattle.std.specs.Prelude.{◌≡◌};
+ghost use Rattle.model.specs.rules.Meaning.{many};
+ghost use Rattle.isle_interpreter.specs.ValueViews.{content_view, content_views, value_view};
+ghost use Rattle.isle_types.specs.Envs.{constant_at};
+ghost use Rattle.isle_types.specs.TypeViews.{type_views};
+ghost use Rattle.isle_terms.specs.TermViews.{term_views};
+ghost use Rattle.check_trials.specs.TrialAnswers.{answer_given, answers_of, constant_answer, gives_withheld, in_place_of, is_answer_withheld, is_withheld};
+
+use isle_calls::echo::{Echo, constant_number};
+use isle_typed::checks::literal_number;
+use isle_interpreter::externs::Externs;
+use isle_interpreter::values::{Content, Value};
+use isle_terms::Term;
+use isle_types::{Sym, TermId, TypeEnv, TypeId};
+use std::alloc::{AllocError, Global};
+
+/// The number that is withheld: what may give nothing, or is multi, gives nothing in its place.
+pub const WITHHELD: i128 = 2;
+
+/// Answers each call as an echo does, but for two things, so that code in Rust can answer so and calls can fail. A constant of
+/// a built-in integer type is the number of the type's range that an echo's stands for. And where an echo's answer is the
+/// number 2, of any type, what may give nothing gives nothing, and what is multi gives no answer.
+pub struct Answers<'a> {
+    /// The names and types.
+    pub tyenv: &'a TypeEnv,
+    /// The terms.
+    pub terms: &'a [Term],
+}
+
+impl<'a> Drop for Answers<'a> {
+    fn drop(self) {
+        let Self { tyenv: _, terms: _ } = self;
+    }
+}
+
+// The value of a named constant.
+fn constant_value(tyenv: &TypeEnv, name: Sym) -> Value
+    ensures { value_view result ≡ constant_answer (type_views tyenv.now.types.items) (constant_at tyenv.now name.0) name.0 }
+{
+    let ty = match tyenv.const_types.get(&name) {
+        Some(ty) => *ty,
+        None => TypeId::BOOL,
+    };
+    Value::Atom(ty, literal_number(tyenv, ty, constant_number(name)))
+}
+
+// Whether a value is withheld.
+fn is_withheld(value: &Value) -> bool
+    ensures { result ≡ is_withheld (value_view value.now) }
+{
+    match value {
+        Value::Atom(_, number) => *number == WITHHELD,
+        Value::Truth(_) => false,
+        Value::Variant(..) => false,
+        Value::Struct(..) => false,
+    }
+}
+
+// Whether the first value of what a call gives is withheld.
+fn gives_withheld(content: &Content) -> bool
+    ensures { result ≡ gives_withheld (content_view content.now) }
+{
+    match content {
+        Content::One(value) => is_withheld(value),
+        Content::Parts(values) => match values.as_slice() {
+            [first, ..] => is_withheld(first),
+            [] => false,
+        },
+        Content::Nothing => false,
+        Content::Just(_) => false,
+        Content::Many(_) => false,
+    }
+}
+
+// Whether an answer that may be none or several is withheld.
+fn is_answer_withheld(content: &Content) -> bool
+    ensures { result ≡ is_answer_withheld (content_view content.now) }
+{
+    match content {
+        Content::One(_) => false,
+        Content::Parts(_) => false,
+        Content::Nothing => false,
+        Content::Just(inner) => gives_withheld(inner),
+        Content::Many(answers) => is_first_withheld(answers),
+    }
+}
+
+// Whether the first of several answers is withheld.
+fn is_first_withheld(answers: &[Content]) -> bool
+    ensures { result ≡ is_answer_withheld (many (content_views answers.now)) }
+{
+    match answers {
+        [first, ..] => gives_withheld(first),
+        [] => false,
+    }
+}
+
+// What is given in the place of a withheld answer: no answer of a multi call, else nothing.
+fn in_place_of(alloc: Global, content: &Content) -> Content
+    ensures { content_view result ≡ in_place_of (content_view content.now) }
+{
+    match content {
+        Content::One(_) => Content::Nothing,
+        Content::Parts(_) => Content::Nothing,
+        Content::Nothing => Content::Nothing,
+        Content::Just(_) => Content::Nothing,
+        Content::Many(_) => Content::Many(Vec::new(alloc)),
+    }
+}
+
+// An answer, but nothing or no answer where it is withheld.
+fn answered(alloc: Global, content: Content) -> Content
+    ensures { content_view result ≡ answer_given (content_view content) }
+{
+    if is_answer_withheld(&content) {
+        in_place_of(alloc, &content)
+    } else {
+        content
+    }
+}
+
+impl<'a> Externs for Answers<'a> {
+    ghost functions = { λ a. answers_of (type_views a.tyenv.now.types.items) (constant_at a.tyenv.now) (term_views a.terms.now) };
+
+    fn bool_literal(&self, alloc: Global, value: bool, ty: TypeId) -> Result<Value, AllocError> {
+        Ok(Value::Truth(value))
+    }
+
+    fn int_literal(&self, alloc: Global, value: i128, ty: TypeId) -> Result<Value, AllocError> {
+        Ok(Value::Atom(ty, value))
+    }
+
+    fn constant(&self, alloc: Global, name: Sym) -> Result<Value, AllocError> {
+        Ok(constant_value(self.tyenv, name))
+    }
+
+    fn extractor(
+        &self,
+        alloc: Global,
+        term: TermId,
+        argument: &Value,
+    ) -> Result<Content, AllocError> {
+        let echo = Echo {
+            tyenv: self.tyenv,
+            terms: self.terms,
+        };
+        let content = echo.extractor(alloc, term, argument)?;
+        Ok(answered(alloc, content))
+    }
+
+    fn pure_call(
+        &self,
+        alloc: Global,
+        term: TermId,
+        arguments: &[Value],
+    ) -> Result<Content, AllocError> {
+        let echo = Echo {
+            tyenv: self.tyenv,
+            terms: self.terms,
+        };
+        let content = echo.pure_call(alloc, term, arguments)?;
+        Ok(answered(alloc, content))
+    }
+
+    fn impure_call(
+        &self,
+        alloc: Global,
+        term: TermId,
+        arguments: &[Value],
+        before: usize,
+    ) -> Result<Content, AllocError> {
+        let echo = Echo {
+            tyenv: self.tyenv,
+            terms: self.terms,
+        };
+        let content = echo.impure_call(alloc, term, arguments, before)?;
+        Ok(answered(alloc, content))
+    }
+}

@@ -1,0 +1,215 @@
+//! The answers of trials in Rust: what generated code calls.
+
+use crate::answers::WITHHELD;
+use crate::fitting::{can_be_extracted, can_be_given, is_of_numbers};
+use crate::rust_names::{push_name, push_part, push_tuple, push_type};
+use cranelift_isle::lower::Lowered;
+use cranelift_isle::sema::{ExternalSig, ReturnKind, Term, TermFlags, TermKind, TypeEnv, TypeId};
+use isle_queries::names::term_name;
+use std::alloc::{AllocError, Global};
+
+/// Adds the functions that answer for what is external, each once.
+pub fn push_context(alloc: Global, out: &mut String, lowered: &Lowered) -> Result<(), AllocError> {
+    out.push_str("impl given::rules::Context for Echo {\n")?;
+    let mut written = Vec::new(alloc);
+    for term in &lowered.termenv.terms {
+        if term.has_external_extractor() {
+            if let Some(signature) = term.extractor_sig(alloc, &lowered.tyenv)? {
+                push_extractor(out, lowered, term, &signature, &written)?;
+                written.push(signature.func_name.clone()?)?;
+            }
+        }
+        if term.has_external_constructor() {
+            if let Some(signature) = term.constructor_sig(alloc, &lowered.tyenv)? {
+                push_constructor(out, lowered, term, &signature, &written)?;
+                written.push(signature.func_name.clone()?)?;
+            }
+        }
+    }
+    out.push_str("}\n")
+}
+
+// Adds the function of an extractor, unless its name is written.
+fn push_extractor(
+    out: &mut String,
+    lowered: &Lowered,
+    term: &Term,
+    signature: &ExternalSig,
+    written: &[String],
+) -> Result<(), AllocError> {
+    if is_written(written, signature) {
+        return Ok(());
+    }
+    push_head(out, &lowered.tyenv, signature)?;
+    if can_be_extracted(term) {
+        if !term.arg_tys.is_empty() {
+            push_withheld(out, lowered, signature.ret_kind, term.ret_ty, "arg0")?;
+        }
+        push_answer(out, signature, "arg0.clone()")?;
+    } else {
+        out.push_str("        panic!(\"left out\")\n")?;
+    }
+    out.push_str("    }\n")
+}
+
+// Adds the function of a constructor, unless its name is written.
+fn push_constructor(
+    out: &mut String,
+    lowered: &Lowered,
+    term: &Term,
+    signature: &ExternalSig,
+    written: &[String],
+) -> Result<(), AllocError> {
+    if is_written(written, signature) {
+        return Ok(());
+    }
+    push_head(out, &lowered.tyenv, signature)?;
+    match &term.kind {
+        TermKind::Decl { flags, .. } if can_be_given(lowered, term, *flags) => {
+            push_given(out, lowered, term, *flags, signature)?;
+        }
+        _ => out.push_str("        panic!(\"left out\")\n")?,
+    }
+    out.push_str("    }\n")
+}
+
+// Whether a function's name is written.
+fn is_written(written: &[String], signature: &ExternalSig) -> bool {
+    for name in written {
+        if name.as_str() == signature.func_name.as_str() {
+            return true;
+        }
+    }
+    false
+}
+
+// Adds a function up to its body, and the type of its answers before it, where it has several.
+fn push_head(out: &mut String, tyenv: &TypeEnv, signature: &ExternalSig) -> Result<(), AllocError> {
+    let name = signature.func_name.as_str();
+    if signature.ret_kind == ReturnKind::Iterator {
+        out.push_str("    type ")?;
+        push_part(out, name)?;
+        out.push_str("_iterator = std::vec::IntoIter<")?;
+        push_tuple(out, tyenv, &signature.ret_tys)?;
+        out.push_str(">;\n")?;
+    }
+    out.push_str("    fn ")?;
+    push_name(out, name)?;
+    out.push_str("(&mut self")?;
+    for (place, ty) in signature.param_tys.iter().enumerate() {
+        write!(out, ", arg{place}: ")?;
+        push_type(out, tyenv, *ty)?;
+    }
+    out.push_str(") -> ")?;
+    push_result(out, tyenv, signature)?;
+    out.push_str(" {\n")
+}
+
+// Adds the type of what a function gives.
+fn push_result(
+    out: &mut String,
+    tyenv: &TypeEnv,
+    signature: &ExternalSig,
+) -> Result<(), AllocError> {
+    match signature.ret_kind {
+        ReturnKind::Plain => push_tuple(out, tyenv, &signature.ret_tys),
+        ReturnKind::Option => {
+            out.push_str("Option<")?;
+            push_tuple(out, tyenv, &signature.ret_tys)?;
+            out.push('>')
+        }
+        ReturnKind::Iterator => {
+            out.push_str("Self::")?;
+            push_part(out, signature.func_name.as_str())?;
+            out.push_str("_iterator")
+        }
+    }
+}
+
+// Adds that nothing is given in the place of a value of numbers that is withheld.
+fn push_withheld(
+    out: &mut String,
+    lowered: &Lowered,
+    kind: ReturnKind,
+    ty: TypeId,
+    value: &str,
+) -> Result<(), AllocError> {
+    let nothing = match kind {
+        ReturnKind::Plain => return Ok(()),
+        ReturnKind::Option => "None",
+        ReturnKind::Iterator => "Vec::new().into_iter()",
+    };
+    if is_of_numbers(lowered, ty) {
+        write!(
+            out,
+            "        if {value} == {WITHHELD} {{ return {nothing}; }}\n"
+        )
+    } else {
+        Ok(())
+    }
+}
+
+// Adds a constructor's answer, which is made of its first argument or of the number of impure calls before.
+fn push_given(
+    out: &mut String,
+    lowered: &Lowered,
+    term: &Term,
+    flags: TermFlags,
+    signature: &ExternalSig,
+) -> Result<(), AllocError> {
+    if !flags.pure {
+        push_noted(out, lowered, term)?;
+        push_withheld(out, lowered, signature.ret_kind, term.ret_ty, "before")?;
+        return push_answer(out, signature, "before");
+    }
+    if term.arg_tys.is_empty() {
+        return push_answer(out, signature, "0");
+    }
+    push_withheld(out, lowered, signature.ret_kind, term.ret_ty, "arg0")?;
+    push_answer(out, signature, "arg0.clone()")
+}
+
+// Adds that an impure call is noted, after the number of those before it.
+fn push_noted(out: &mut String, lowered: &Lowered, term: &Term) -> Result<(), AllocError> {
+    let name = term_name(&lowered.tyenv, &lowered.termenv, term.id).unwrap_or("?");
+    out.push_str("        let before = self.calls.len() as ")?;
+    push_type(out, &lowered.tyenv, term.ret_ty)?;
+    write!(out, ";\n        self.calls.push(composed({name:?}, &[")?;
+    for (place, ty) in term.arg_tys.iter().enumerate() {
+        write!(out, "show{}(&arg{place}), ", ty.index())?;
+    }
+    out.push_str("]));\n")
+}
+
+// Adds an answer: one value as each of the outputs, in the form of the function.
+fn push_answer(out: &mut String, signature: &ExternalSig, value: &str) -> Result<(), AllocError> {
+    out.push_str("        ")?;
+    match signature.ret_kind {
+        ReturnKind::Plain => push_outputs(out, signature, value)?,
+        ReturnKind::Option => {
+            out.push_str("Some(")?;
+            push_outputs(out, signature, value)?;
+            out.push(')')?;
+        }
+        ReturnKind::Iterator => {
+            out.push_str("vec![")?;
+            push_outputs(out, signature, value)?;
+            out.push_str(", ")?;
+            push_outputs(out, signature, value)?;
+            out.push_str("].into_iter()")?;
+        }
+    }
+    out.push('\n')
+}
+
+// Adds a value as each of the outputs: alone where there is one, else in a tuple.
+fn push_outputs(out: &mut String, signature: &ExternalSig, value: &str) -> Result<(), AllocError> {
+    if signature.ret_tys.len() == 1 {
+        return out.push_str(value);
+    }
+    out.push('(')?;
+    for _ in &signature.ret_tys {
+        write!(out, "{value}, ")?;
+    }
+    out.push(')')
+}

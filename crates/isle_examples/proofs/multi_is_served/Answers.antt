@@ -1,5 +1,0 @@
-use Rattle.isle_examples.proofs.Multi.{multi_tree_collects}
-use Rattle.isle_examples.proofs.multi_is_served.Goals as goal
-
-pub returns-clause-best_tree : goal.returns-clause-best_tree
-returns-clause-best_tree c = multi_tree_collects

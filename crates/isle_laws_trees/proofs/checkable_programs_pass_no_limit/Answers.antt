@@ -1,5 +1,0 @@
-use Rattle.isle_laws_trees.proofs.NoLimits.{checkable_programs_pass_no_limit_lem}
-use Rattle.isle_laws_trees.proofs.checkable_programs_pass_no_limit.Goals as goal
-
-pub returns : goal.returns
-returns c = checkable_programs_pass_no_limit_lem

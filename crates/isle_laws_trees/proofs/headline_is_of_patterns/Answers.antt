@@ -1,5 +1,0 @@
-use Rattle.isle_laws_trees.proofs.PatternConstants.{headline_is_of_patterns_lem}
-use Rattle.isle_laws_trees.proofs.headline_is_of_patterns.Goals as goal
-
-pub returns : goal.returns
-returns c = headline_is_of_patterns_lem

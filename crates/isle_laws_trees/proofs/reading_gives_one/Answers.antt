@@ -1,5 +1,0 @@
-use Rattle.isle_laws_trees.proofs.OneAnswer.{reading_gives_one_lem}
-use Rattle.isle_laws_trees.proofs.reading_gives_one.Goals as goal
-
-pub returns : goal.returns
-returns c = reading_gives_one_lem

@@ -1,5 +1,0 @@
-use Rattle.isle_laws_typing.proofs.JudgedReading.{lists_are_elaborated_lem}
-use Rattle.isle_laws_typing.proofs.lists_are_elaborated.Goals as goal
-
-pub returns : goal.returns
-returns c = lists_are_elaborated_lem

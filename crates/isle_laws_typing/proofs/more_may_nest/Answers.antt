@@ -1,5 +1,0 @@
-use Rattle.isle_laws_typing.proofs.TypedRules as rules
-use Rattle.isle_laws_typing.proofs.more_may_nest.Goals as goal
-
-pub returns : goal.returns
-returns c = rules.more_may_nest

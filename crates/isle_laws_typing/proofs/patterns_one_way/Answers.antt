@@ -1,5 +1,0 @@
-use Rattle.isle_laws_typing.proofs.TypedRules as rules
-use Rattle.isle_laws_typing.proofs.patterns_one_way.Goals as goal
-
-pub returns : goal.returns
-returns c = rules.patterns_one_way

@@ -1,5 +1,0 @@
-use Rattle.isle_laws_typing.proofs.ReadAgain.{refused_environments_can_be_read_again_lem}
-use Rattle.isle_laws_typing.proofs.refused_environments_can_be_read_again.Goals as goal
-
-pub returns : goal.returns
-returns c = refused_environments_can_be_read_again_lem

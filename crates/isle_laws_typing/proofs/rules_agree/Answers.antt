@@ -1,5 +1,0 @@
-use Rattle.isle_laws_typing.proofs.TypedRules as rules
-use Rattle.isle_laws_typing.proofs.rules_agree.Goals as goal
-
-pub returns : goal.returns
-returns c = rules.rules_agree

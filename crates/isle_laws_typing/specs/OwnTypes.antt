@@ -1,9 +1,0 @@
--- The types that a list of definitions makes are such that terms and rules can be read with them.
-use Rattle.std.specs.Prelude.{List}
-use Rattle.isle_model.specs.lists.Syntax.{Definition}
-use Rattle.isle_model.specs.lists.TypeTable.{IsValidTypes}
-use Rattle.isle_model.specs.claims.Environments.{types_read, AreReadable}
-
--- the types and constants of a list with valid types can be read
-abbrev pub OwnTypesAreReadable : Type 0
-OwnTypesAreReadable = (defs : List Definition) → IsValidTypes defs → AreReadable (types_read defs)

@@ -1,0 +1,137 @@
+//! What a rule demands of sites, as its visit meets it and its closing goes on.
+ghost use Rattle.std.specs.Prelude.{◌≡◌, ℕ, false, None, Some, length, if◌then◌else◌, IfOk, OnOk, nat_eq};
+ghost use Rattle.std.specs.List.{zip};
+ghost use Rattle.isle_rule_sets.specs.Closings.{KeepsDue};
+ghost use Rattle.isle_rule_sets.specs.SiteDemands.{constraint_held, first_kept, IsConflict, are_equated, equated_too, equated_each};
+ghost use Rattle.isle_rule_sets.specs.SiteViews.{constraint_view};
+
+use crate::equal_sites::EqualSites;
+use crate::overlaps::is_same_constraint;
+use crate::trie_again::{BindingId, Constraint};
+use isle_disjointsets::disjointsets::DisjointSets;
+use std::alloc::{AllocError, Global};
+use std::collections::{BTreeMap, BTreeSet};
+
+/// What a rule demands of sites.
+pub struct Demanded {
+    // Of each site what is asked first, by its number.
+    pub(crate) constraints: BTreeMap<BindingId, Constraint>,
+    // Sites that must be equal.
+    pub(crate) equals: EqualSites,
+    // Sites that the closing has yet to look at: all that have a constraint and must equal another one, and it may be
+    // others.
+    pub(crate) open: BTreeSet<BindingId>,
+}
+
+impl Drop for Demanded {
+    fn drop(self) {
+        let Self {
+            constraints: _,
+            equals: _,
+            open: _,
+        } = self;
+    }
+}
+
+impl Demanded {
+    /// Nothing.
+    pub fn new(alloc: Global) -> Demanded
+        ensures asked { (s : ℕ) → constraint_held result s ≡ None }
+        ensures equated { (a b : ℕ) → are_equated result a b ≡ false }
+        ensures due { KeepsDue result }
+    {
+        Demanded {
+            constraints: BTreeMap::new(alloc),
+            equals: EqualSites::new(alloc),
+            open: BTreeSet::new(alloc),
+        }
+    }
+
+    /// Asks something of a site, which keeps what was asked first: another constraint than this one is answered.
+    ///
+    /// # Errors
+    ///
+    /// Where memory is refused.
+    pub fn ask(
+        &mut self,
+        site: BindingId,
+        constraint: Constraint,
+    ) -> Result<Option<Constraint>, AllocError>
+        ensures conflict { IfOk result (IsConflict (constraint_held self.old site) (constraint_view constraint)) }
+        ensures asked { OnOk result ((s : ℕ) → constraint_held self.new s
+            ≡ (if nat_eq site s then Some (first_kept (constraint_held self.old site) (constraint_view constraint)) else constraint_held self.old s)) }
+        ensures equated { self.new.equals ≡ self.old.equals }
+        ensures due { KeepsDue self.old → OnOk result (KeepsDue self.new) }
+    {
+        match self.constraints.get(&site).copied() {
+            Some(before) => Ok(other_than(before, constraint)),
+            None => {
+                self.open.insert(site)?;
+                self.constraints.insert(site, constraint)?;
+                Ok(None)
+            }
+        }
+    }
+
+    /// Two sites must be equal: nothing new where they are one.
+    ///
+    /// # Errors
+    ///
+    /// Where memory is refused.
+    pub fn equate(&mut self, first: BindingId, second: BindingId) -> Result<(), AllocError>
+        ensures equated { OnOk result ((a b : ℕ) → are_equated self.new a b ≡ equated_too (are_equated self.old) first second a b) }
+        ensures asked { self.new.constraints ≡ self.old.constraints }
+        ensures due { KeepsDue self.old → OnOk result (KeepsDue self.new) }
+    {
+        if first != second {
+            self.open.insert(first)?;
+            self.open.insert(second)?;
+            self.equals.merge(first, second)?;
+        }
+        Ok(())
+    }
+
+    /// The sites of two lists of one length must be equal, place by place.
+    ///
+    /// # Errors
+    ///
+    /// Where memory is refused.
+    pub fn equate_each(
+        &mut self,
+        firsts: &[BindingId],
+        seconds: &[BindingId],
+    ) -> Result<(), AllocError>
+        requires { length firsts.now ≡ length seconds.now }
+        ensures equated { OnOk result ((a b : ℕ) → are_equated self.new a b ≡ equated_each (are_equated self.old) (zip firsts.now seconds.now) a b) }
+        ensures asked { self.new.constraints ≡ self.old.constraints }
+        ensures due { KeepsDue self.old → OnOk result (KeepsDue self.new) }
+    {
+        for i in 0..firsts.len() {
+            self.equate(firsts[i], seconds[i])?;
+        }
+        Ok(())
+    }
+
+    /// The sites that must be equal, by themselves.
+    pub fn into_equals(self) -> DisjointSets<BindingId>
+        ensures { result ≡ self.equals }
+    {
+        let Self {
+            constraints: _,
+            equals,
+            open: _,
+        } = self;
+        equals.into_sets()
+    }
+}
+
+// The constraint that was asked before, where the new one is another.
+fn other_than(before: Constraint, new: Constraint) -> Option<Constraint>
+    ensures { IsConflict (Some (constraint_view before)) (constraint_view new) result }
+{
+    if is_same_constraint(&before, &new) {
+        None
+    } else {
+        Some(before)
+    }
+}

@@ -1,9 +1,0 @@
-use Rattle.std.proofs.Common.{vec_len}
-use Rattle.isle_text.specs.Forms.{FormIsWithin, FormsAreWithin, OpensAreWithin}
-use Rattle.isle_text.proofs.forms.put.Given as goal
-
-abbrev pub invariant-loop-begun : goal.invariant-loop-begun
-invariant-loop-begun l = OpensAreWithin l.at.file l.at.len l.stack.items × FormIsWithin l.at.file l.at.len l.form × FormsAreWithin l.at.file l.at.len l.forms.items
-
-abbrev pub decreases-loop-begun : goal.decreases-loop-begun
-decreases-loop-begun l = vec_len l.stack

@@ -1,8 +1,0 @@
-use Rattle.isle_base.specs.SyntaxViews.{iflet_view}
-use Rattle.isle_text.specs.Within.{IfLetIsWithin}
-use Rattle.isle_text.proofs.Rows.{pushed}
-use Rattle.isle_text.proofs.rules.iflets.Goals as goal
-
-pub loop-form-preserved : goal.loop-form-preserved
-loop-form-preserved c =
-    pushed (λ i. IfLetIsWithin c.args.at.file c.args.at.len (iflet_view i)) c.loop-form.iflets.items c.push.new.self.items c.in_ok-statement.field-0 c.in_ok-push.ensures.items c.loop-form.invariant c.in_ok-statement.ensures

@@ -1,7 +1,0 @@
-use Rattle.std.proofs.Common.{All}
-use Rattle.isle_base.specs.SyntaxViews.{iflet_view}
-use Rattle.isle_text.specs.Within.{IfLetIsWithin}
-use Rattle.isle_text.proofs.rules.iflets.Given as goal
-
-abbrev pub invariant-loop-form : goal.invariant-loop-form
-invariant-loop-form l = All (λ i. IfLetIsWithin l.at.file l.at.len (iflet_view i)) l.iflets.items

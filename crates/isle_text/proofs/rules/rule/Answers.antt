@@ -1,6 +1,0 @@
-use Rattle.isle_text.proofs.Rows.{iflets-viewed}
-use Rattle.isle_text.proofs.rules.rule.Goals as goal
-
-pub returns : goal.returns
-returns c =
-    (c.in_ok-pattern.ensures, iflets-viewed c.args.at.file c.args.at.len c.in_ok-iflets.iflets.items c.in_ok-iflets.ensures, c.in_ok-expr.ensures, c.in_ok-name.ensures.0, c.requires.1)

@@ -1,6 +1,0 @@
-use Rattle.isle_text.proofs.Rows.{names-viewed}
-use Rattle.isle_text.proofs.terms.declaration.Goals as goal
-
-pub returns : goal.returns
-returns c =
-    (c.in_ok-term.ensures, names-viewed c.args.at.file c.args.at.len c.in_ok-arg_tys.arg_tys.items c.in_ok-arg_tys.ensures, c.in_ok-ret_ty.ensures, c.requires.1)

@@ -1,6 +1,0 @@
-use Rattle.isle_text.proofs.Rows.{variants-viewed}
-use Rattle.isle_text.proofs.types.enumeration.Goals as goal
-
-pub returns : goal.returns
-returns c =
-    (variants-viewed c.args.at.file c.args.at.len c.in_ok-variants.variants.items c.in_ok-variants.ensures, c.requires.1)

@@ -1,7 +1,0 @@
-use Rattle.std.proofs.Common.{All}
-use Rattle.isle_base.specs.SyntaxViews.{field_view}
-use Rattle.isle_text.specs.Within.{FieldIsWithin}
-use Rattle.isle_text.proofs.types.named_fields.Given as goal
-
-abbrev pub invariant-loop-form : goal.invariant-loop-form
-invariant-loop-form l = All (λ f. FieldIsWithin l.at.file l.at.len (field_view f)) l.fields.items

@@ -1,8 +1,0 @@
-use Rattle.isle_base.specs.SyntaxViews.{variant_view}
-use Rattle.isle_text.specs.Within.{VariantIsWithin}
-use Rattle.isle_text.proofs.Rows.{pushed}
-use Rattle.isle_text.proofs.types.variants.Goals as goal
-
-pub loop-form-preserved : goal.loop-form-preserved
-loop-form-preserved c =
-    pushed (λ v. VariantIsWithin c.args.at.file c.args.at.len (variant_view v)) c.loop-form.variants.items c.push.new.self.items c.in_ok-variant.field-0 c.in_ok-push.ensures.items c.loop-form.invariant c.in_ok-variant.ensures

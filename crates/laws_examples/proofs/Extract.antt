@@ -1,0 +1,114 @@
+-- The sample with an extractor: a world where the extractor answers serves the tests of its rules; and near sets are not built.
+use Rattle.std.proofs.Common.{◌≡◌, ◌∷◌, [], ◌⊎◌, ◌∙◌, ℕ, pos, zero, suc, false, List, Option, Some, None, length, slice_get, Contains, IsTrue, refl, sym, ap, subst, inl, inr, arith, is_some}
+use Rattle.std.proofs.lemmas.Bool.{cases_Bool, cond-true, cond-false, false≢true}
+use Rattle.std.proofs.lemmas.Option.{none-some, same_Some}
+use Rattle.model.proofs.Members.{in_alone, in_cases}
+use Rattle.model.specs.rules.Meaning.{Content, Meaning, int_literal, literal_value, one}
+use Rattle.model.specs.rules.Values.{Value, value_eq}
+use Rattle.model.specs.sites.RuleSets.{IsBuilt}
+use Rattle.model.specs.sites.Sites.{Constraint, SetRule, is_int, is_present, unfold_site}
+use Rattle.model.specs.trees.Collects.{content_at}
+use Rattle.model.specs.trees.Places.{fields_of, joins_in, waits}
+use Rattle.model.specs.trees.Run.{content_fields, where_constant}
+use Rattle.model.specs.trees.SetRuns.{IsTestedSet, ServesTests}
+use Rattle.laws_runs.proofs.runs.Fields.{present_met}
+use Rattle.laws_examples.proofs.SampleStages.{extract_stages}
+use Rattle.laws_examples.proofs.SetStages.{tested}
+use Rattle.laws_examples.specs.Extract.{ExtractIsServed, NearSetsAreNotBuilt, answer_itself, extract_defs, extract_meaning, extract_program, extract_rules, extract_set, extract_world, less_asked, ten_for_answer_one}
+use Rattle.laws_examples.specs.SetForms.{is_byte}
+
+-- 1. the set goes over no calls, and its rules demand the gates below what they test
+set_tested : IsTestedSet extract_set
+set_tested = tested extract_defs extract_rules 1 extract_set extract_stages.accepted extract_stages.built refl refl
+
+-- 2. the world
+abbrev Asked : ℕ → Constraint → Type 0
+Asked s d = ((s ≡ 1) × (d ≡ is_present)) ⊎ ((s ≡ 2) × (d ≡ is_int (pos 1) 1))
+
+asked : (r : SetRule) → Contains extract_set.rules r → (s : ℕ) (d : Constraint) → Contains r.constraints (s, d) → Asked s d
+asked r k s d c =
+    elim (in_cases ten_for_answer_one r (answer_itself ∷ []) k) [
+      | inl e ↦ first (subst (λ q. Contains q.constraints (s, d)) (sym e) c)
+      | inr b ↦ second (subst (λ q. Contains q.constraints (s, d)) (sym (in_alone answer_itself r b)) c)
+    ]
+  where
+    present : ◌≡◌ {A = ℕ × Constraint} (1, is_present) (s, d) → Asked s d
+    present e = inl (sym (ap (λ (x : ℕ × Constraint). x.0) e), sym (ap (λ (x : ℕ × Constraint). x.1) e))
+
+    number : ◌≡◌ {A = ℕ × Constraint} (2, is_int (pos 1) 1) (s, d) → Asked s d
+    number e = inr (sym (ap (λ (x : ℕ × Constraint). x.0) e), sym (ap (λ (x : ℕ × Constraint). x.1) e))
+
+    second : Contains answer_itself.constraints (s, d) → Asked s d
+    second m = present (in_alone (1, is_present) (s, d) m)
+
+    first : Contains ten_for_answer_one.constraints (s, d) → Asked s d
+    first m = elim (in_cases (1, is_present) (s, d) ((2, is_int (pos 1) 1) ∷ []) m) [ inl e ↦ present e | inr n ↦ number (in_alone (2, is_int (pos 1) 1) (s, d) n) ]
+
+no_classes : (r : SetRule) → Contains extract_set.rules r → r.classes ≡ []
+no_classes r k =
+    elim (in_cases ten_for_answer_one r (answer_itself ∷ []) k) [
+      | inl e ↦ ap (λ q. q.classes) (sym e)
+      | inr b ↦ ap (λ q. q.classes) (sym (in_alone answer_itself r b))
+    ]
+
+no_fields : (o : Option Value) (v : Value) (cs : List Content) → where_constant o v ≡ Some cs → length cs ≡ 0
+no_fields None v cs e = absurd (none-some cs e)
+no_fields (Some u) v cs e =
+    elim (cases_Bool (value_eq u v)) [
+      | inl t ↦ ap length (same_Some cs [] (sym e ∙ cond-true (value_eq u v) (Some []) None t))
+      | inr f ↦ absurd (none-some cs (sym (cond-false (value_eq u v) (Some []) None f) ∙ e))
+    ]
+
+int_fields : (m : Meaning) (x : Content) (cs : List Content) → content_fields m (is_int (pos 1) 1) x ≡ Some cs → length cs ≡ 0
+int_fields m (one v) cs e = no_fields (literal_value m (int_literal (pos 1) 1)) v cs e
+int_fields m _ cs e = absurd (none-some cs e)
+
+field_count : (m : Meaning) (s : ℕ) (d : Constraint) (x : Content) (cs : List Content) → Asked s d → content_fields m d x ≡ Some cs → length cs ≡ length (fields_of extract_set.sites s d)
+field_count m s d x cs (inl a) e =
+    let p = present_met m x cs (subst (λ f. content_fields m f x ≡ Some cs) a.1 e) in
+    ap length p.2 ∙ sym (ap (λ f. length (fields_of extract_set.sites s f)) a.1)
+field_count m s d x cs (inr a) e =
+    int_fields m x cs (subst (λ f. content_fields m f x ≡ Some cs) a.1 e) ∙ sym (ap (λ f. length (fields_of extract_set.sites s f)) a.1)
+
+one_constraint : (s : ℕ) (d f : Constraint) → Asked s d → Asked s f → d ≡ f
+one_constraint s d f (inl a) (inl b) = a.1 ∙ sym b.1
+one_constraint s d f (inr a) (inr b) = a.1 ∙ sym b.1
+one_constraint s d f (inl a) (inr b) = (let e = sym a.0 ∙ b.0 in absurd (omega arith))
+one_constraint s d f (inr a) (inl b) = (let e = sym a.0 ∙ b.0 in absurd (omega arith))
+
+has_content : (c : Content) (s : ℕ) → waits (slice_get extract_set.sites s) ≡ false → IsTrue (is_some (content_at (extract_world c) [] s))
+has_content c zero n = refl
+has_content c (suc zero) n = refl
+has_content c (suc (suc zero)) n = absurd (false≢true (sym n))
+has_content c (suc (suc (suc zero))) n = refl
+has_content c (suc (suc (suc (suc s)))) n = absurd (false≢true (sym n))
+
+tests_served : (c : Content) → ServesTests extract_set (extract_world c)
+tests_served c = record {
+  sites = refl;
+  found = λ s p n all. has_content c s n;
+  values = λ r a b x k j e. absurd (false≢true (sym (ap (λ l. joins_in l a b) (no_classes r k)) ∙ j));
+  fields = λ r s d x cs k m e f. field_count (extract_meaning c) s d x cs (asked r k s d m) f;
+  apart = λ r q s d f k l m n h g. one_constraint s d f (asked r k s d m) (asked q l s f n);
+}
+
+pub extract_is_served_lem : ExtractIsServed
+extract_is_served_lem = (set_tested, tests_served)
+
+-- 3. sets that aren't built
+-- whether a constraint asks for an answer
+asks_answer : Constraint → ℕ
+asks_answer is_present = 0
+asks_answer _ = 1
+
+-- the constraint that is left out is asked of a site that no constraint names
+unasked : IsBuilt extract_program 1 less_asked → ⊥
+unfolding asks_answer
+unasked b =
+    let found = b.rules.0.constraints.all_asked (unfold_site extract_set.sites 2) (is_byte 1) (1, omega arith, refl) in
+    let one = in_alone (1, is_present) (found.0, is_byte 1) found.1 in
+    let other : 0 ≡ 1 = ap (λ x. asks_answer x.1) one in
+    omega (arith, other)
+
+pub near_sets_are_not_built : NearSetsAreNotBuilt
+near_sets_are_not_built = (unasked, (λ b. b.rules.1), (λ b. (let e = b.sites.count in omega (arith, e))))

@@ -1,0 +1,30 @@
+-- The sites of a small set, place by place.
+use Rattle.std.proofs.Common.{◌≡◌, ℕ, pos, zero, suc, Some, None, slice_get, refl, ap, subst, arith}
+use Rattle.std.proofs.lemmas.Option.{none-some, same_Some}
+use Rattle.model.specs.sites.Sites.{Site, int_site}
+use Rattle.laws_examples.specs.Fall.{fall_set}
+use Rattle.laws_examples.specs.FoundSites.{SitesAreFound}
+use Rattle.laws_examples.specs.SetForms.{byte}
+
+-- the number of a literal's site, and 0 of others
+abbrev number_in : Site → ℕ
+number_in (int_site (pos n) ty) = n
+number_in _ = 0
+
+ten_at_one : (s : ℕ) → slice_get fall_set.sites s ≡ Some (byte 10) → Some 1 ≡ Some s
+ten_at_one zero h = (let n = ap number_in (same_Some _ _ h) in absurd (omega (arith, n)))
+ten_at_one (suc zero) h = refl
+ten_at_one (suc (suc s)) h = absurd (none-some (byte 10) h)
+
+nine_nowhere : (s : ℕ) → slice_get fall_set.sites s ≡ Some (byte 9) → None ≡ Some s
+nine_nowhere zero h = (let n = ap number_in (same_Some _ _ h) in absurd (omega (arith, n)))
+nine_nowhere (suc zero) h = (let n = ap number_in (same_Some _ _ h) in absurd (omega (arith, n)))
+nine_nowhere (suc (suc s)) h = absurd (none-some (byte 9) h)
+
+pub sites_are_found : SitesAreFound
+sites_are_found = record {
+  ten = λ s. (λ e. subst (λ k. slice_get fall_set.sites k ≡ Some (byte 10)) (same_Some 1 s e) refl, ten_at_one s);
+  nine = λ s. (λ e. absurd (none-some s e), nine_nowhere s);
+  ten_is_there = λ f. none-some 1 ((f 1).1 refl);
+  ten_not_first = λ f. (let n = ap number_in (same_Some _ _ ((f 0).0 refl)) in omega (arith, n));
+}

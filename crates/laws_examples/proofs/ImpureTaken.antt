@@ -1,0 +1,49 @@
+-- The sample with an impure call is served on 1, and taking its rule gives its right side's outcome.
+use Rattle.std.proofs.Common.{◌≡◌, [], ℕ, pos, zero, suc, true, IsTrue, IsSomeAnd, refl}
+use Rattle.std.proofs.lemmas.Bool.{false≢true}
+use Rattle.model.specs.rules.Meaning.{impure_answer}
+use Rattle.model.specs.rules.Program.{kind, rules_of}
+use Rattle.model.specs.sites.Overlap.{built_rule}
+use Rattle.model.specs.sites.Serves.{Serves, TellsConstantsApart, fits_constructor}
+use Rattle.model.specs.sites.Sites.{SiteTerms, constructor_call}
+use Rattle.model.specs.claims.Layers.{own_program}
+use Rattle.laws_typing.proofs.WellTypedRules.{read_programs_are_well_typed}
+use Rattle.laws_matching.proofs.outcomes.Outcomes.{taken_lem}
+use Rattle.laws_matching.proofs.taken.ServesRuns.{served_sets_serve_tests_lem}
+use Rattle.laws_examples.proofs.Impure.{impure_is_called}
+use Rattle.laws_examples.proofs.SampleStages.{impure_stages}
+use Rattle.laws_examples.proofs.Served.{call_of_g, literals_apart, pure_none, serves_from}
+use Rattle.laws_examples.proofs.SetStages.{tested}
+use Rattle.laws_examples.specs.Impure.{call_on_argument, impure_defs, impure_rule, impure_rules, impure_set}
+use Rattle.laws_examples.specs.ImpureTaken.{ImpureIsServed, ImpureIsTaken, five_at_first, five_called, impure_program}
+use Rattle.laws_examples.specs.MeaningForms.{given, v}
+
+five_answered : (t before : ℕ) (ss : SiteTerms) → call_of_g (constructor_call t ss (suc before)) ≡ true
+    → IsSomeAnd (impure_answer five_at_first t before) (λ c. IsTrue (fits_constructor impure_program t (kind impure_program t) c))
+five_answered zero zero ss h = refl
+five_answered _ _ ss h = absurd (false≢true h)
+
+serves : Serves impure_program five_at_first (given (pos 1)) (rules_of impure_program 1)
+serves =
+    serves_from impure_program five_at_first call_of_g (given (pos 1)) (rules_of impure_program 1) refl refl
+    (λ k t s w h holds. absurd (false≢true h)) (λ k t ss vs h holds. absurd (pure_none t ss h)) (λ k r t before ss i matched made h gave. five_answered t before ss h)
+
+apart : TellsConstantsApart impure_program five_at_first (rules_of impure_program 1)
+apart = literals_apart impure_program five_at_first (rules_of impure_program 1) refl refl
+
+pub impure_is_served : ImpureIsServed
+impure_is_served = (
+  serves,
+  apart,
+  tested impure_defs impure_rules 1 impure_set impure_stages.accepted impure_stages.built refl refl,
+  served_sets_serve_tests_lem (own_program impure_defs impure_rules) 1 impure_set (read_programs_are_well_typed impure_stages.accepted.0.read) impure_stages.built.0 five_at_first (given (pos 1)) refl serves apart,
+)
+
+pub impure_is_taken : ImpureIsTaken
+impure_is_taken =
+    let taken = impure_is_called.can_be_taken five_at_first (v (pos 1)) in (
+      taken,
+      λ e matched.
+          taken_lem (own_program impure_defs impure_rules) 1 impure_set (read_programs_are_well_typed impure_stages.accepted.0.read) impure_stages.built.0 five_at_first (given (pos 1)) refl serves apart
+          (built_rule impure_program [] impure_rule) call_on_argument e five_called (record { place = 0; typed = refl; built = refl }) refl matched taken,
+    )

@@ -1,0 +1,77 @@
+-- A mask and a wrong overlap are each reported once, and multi calls are gone over.
+use Rattle.std.proofs.Common.{◌≡◌, ◌∷◌, [], ◌∙◌, zero, suc, Some, refl, sym, ap, arith}
+use Rattle.std.proofs.lemmas.Bool.{false≢true}
+use Rattle.std.proofs.lemmas.Option.{none-some, same_Some}
+use Rattle.model.specs.lists.Syntax.{Position}
+use Rattle.model.specs.sites.DemandedGates.{HasNoPartialMulti}
+use Rattle.model.specs.sites.Limits.{sites_after_rules}
+use Rattle.model.specs.sites.Overlap.{BuiltRule, HasDistinctPositions, OverlapsWrongly, built_rule}
+use Rattle.model.specs.claims.Layers.{own_program}
+use Rattle.laws_typing.proofs.WellTypedRules.{read_programs_are_well_typed}
+use Rattle.laws_closure.proofs.overlaps.JudgedLists.{well_typed_rules_have_terms_lem}
+use Rattle.laws_closure.proofs.overlaps.ListedOverlaps.{overlaps_are_listed_once_lem}
+use Rattle.laws_closure.proofs.overlaps.Masks.{masks_are_reported_once_lem}
+use Rattle.laws_closure.proofs.overlaps.Overlaps.{overlaps_decides}
+use Rattle.laws_closure.proofs.built.MultiCalls.{multi_calls_are_gone_over_lem}
+use Rattle.laws_examples.proofs.ReadLists.{overlap_read, shadow_read}
+use Rattle.laws_examples.proofs.ToldApart.{shadow_is_told}
+use Rattle.laws_examples.specs.Fall.{fall_any}
+use Rattle.laws_examples.specs.Multi.{each_m, multi_program}
+use Rattle.laws_examples.specs.Overlap.{built_alone, overlap_defs, overlap_one, overlap_program, overlap_rules}
+use Rattle.laws_examples.specs.ReportedOnce.{MultiGoesOverMultiCalls, OverlapIsListedOnce, ShadowIsReportedOnce}
+use Rattle.laws_examples.specs.Shadow.{shadow_defs, shadow_program, shadow_rules}
+use Rattle.laws_examples.specs.ToldApart.{mask, shadowed}
+use Rattle.laws_examples.specs.Written.{at}
+
+-- 1. the mask
+not_both : (x : Position) → Some (at 1) ≡ Some x → Some (at 2) ≡ Some x → ⊥
+not_both x e f =
+    let z = ap (λ (q : Position). q.offset) (same_Some (at 1) x e ∙ sym (same_Some (at 2) x f)) in
+    omega (arith, z)
+
+positions_apart : HasDistinctPositions shadow_program
+positions_apart zero zero x e f = refl
+positions_apart zero (suc zero) x e f = absurd (not_both x e f)
+positions_apart (suc zero) zero x e f = absurd (not_both x f e)
+positions_apart (suc zero) (suc zero) x e f = refl
+positions_apart (suc (suc i)) j x e f = absurd (none-some x e)
+positions_apart zero (suc (suc j)) x e f = absurd (none-some x f)
+positions_apart (suc zero) (suc (suc j)) x e f = absurd (none-some x f)
+
+pub shadow_is_reported_once : ShadowIsReportedOnce
+shadow_is_reported_once = (
+  positions_apart,
+  masks_are_reported_once_lem shadow_program (well_typed_rules_have_terms_lem (own_program shadow_defs shadow_rules) (read_programs_are_well_typed shadow_read.0)) positions_apart 0 mask shadowed refl (0, omega arith, refl)
+      (1, omega arith, refl) shadow_is_told.2,
+)
+
+-- 2. the overlap
+abbrev after_one : BuiltRule
+after_one = built_rule overlap_program (sites_after_rules overlap_program [] (overlap_one ∷ [])) fall_any
+
+abbrev wrong : OverlapsWrongly overlap_program 0 0 1
+wrong = record {
+  first = built_alone overlap_program overlap_one;
+  second = after_one;
+  one_result = refl;
+  here = refl;
+  there = refl;
+  before = omega arith;
+  one_priority = refl;
+  overlap = (overlaps_decides (built_alone overlap_program overlap_one).demands after_one.demands).0 refl;
+}
+
+pub overlap_is_listed_once : OverlapIsListedOnce
+overlap_is_listed_once = (
+  wrong,
+  overlaps_are_listed_once_lem overlap_program (well_typed_rules_have_terms_lem (own_program overlap_defs overlap_rules) (read_programs_are_well_typed overlap_read.0)) 0 0 1 wrong,
+)
+
+-- 3. multi calls
+none_partial : HasNoPartialMulti multi_program
+none_partial zero h k = false≢true k
+none_partial (suc zero) h k = false≢true k
+none_partial (suc (suc t)) h k = false≢true h
+
+pub multi_goes_over_multi_calls : MultiGoesOverMultiCalls
+multi_goes_over_multi_calls = (none_partial, multi_calls_are_gone_over_lem multi_program each_m none_partial)

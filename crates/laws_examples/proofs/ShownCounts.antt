@@ -1,0 +1,135 @@
+-- A visit counts what the patterns of its rule show.
+use Rattle.std.proofs.Common.{◌≡◌, ℕ, suc, Bool, true, false, List, [], ◌∷◌, ◌++◌, map, flat_map, refl, sym, ap, ◌∙◌}
+use Rattle.std.proofs.lemmas.List.{append-nil, append_assoc, map-append}
+use Rattle.model.specs.lists.Tables.{Flags}
+use Rattle.model.specs.rules.Program.{Program, Kind, a_variant, a_struct, a_call, unknown, kind, is_partial}
+use Rattle.model.specs.rules.Typed.{TypedPattern, match_bind, match_var, match_bool, match_int, match_prim, match_term, match_any, match_and, TypedPatterns, no_typed_pattern, typed_pattern_and, TypedIfLet}
+use Rattle.model.specs.sites.Sites.{fields_from, is_present, SiteTerm, SiteTerms, argument, constructor_call, extractor_call, some_part, pick_of, variant_field, struct_field}
+use Rattle.model.specs.visits.Demands.{Count, argument_taken, fields_matched, outputs_taken, Visit, visit_start, making, asking, iterating, taking_argument, site_term_eq, pattern_count, output_sites, outputs_opened, open_call, open_term, visit_pattern, visit_each, visit_all, Valued, ValuedAll, call_sites, visit_call, visit_term, visit_expr, asking_all, unwraps, visit_args, visit_iflets, finished, var_site, value_of_rule}
+use Rattle.model.proofs.Either.{either}
+use Rattle.laws_visits.proofs.VisitInvariants.{KeptByValues, expr_kept}
+use Rattle.laws_visits.proofs.Patterns.{AsManySites, as_many_sites, output_count}
+use Rattle.laws_visits.proofs.AskedSites.{equated}
+use Rattle.laws_examples.specs.ShownCounts.{shown, shown_in, shown_of_args, term_shown, VisitsCountWhatIsShown}
+
+-- what a visit has counted so far
+abbrev counts : Visit → List Count
+counts v = map (λ c. c.0) v.demands.counted
+
+-- 1. terms
+-- one count, and then those of the parts
+one_then : (c : Count) (n : ℕ) (v : Visit) (parts all : List Count) → all ≡ map (λ d. d.0) (v.demands.counted ++ (c, n) ∷ []) ++ parts → all ≡ counts v ++ c ∷ parts
+one_then c n v parts all e = e ∙ ap (λ l. l ++ parts) (map-append (λ d. d.0) v.demands.counted ((c, n) ∷ [])) ∙ append_assoc (counts v) (c ∷ []) parts
+
+module _ (p : Program) (args : TypedPatterns) (each : (ss : List SiteTerm) (v : Visit) → AsManySites ss args → counts (visit_each p args ss v) ≡ counts v ++ shown_in p args) where
+  call_shown : (pure multi partial rec infallible : Bool) (call : SiteTerm) (v : Visit)
+      → (let o = open_call (record { pure = pure; multi = multi; partial = partial; rec = rec }) infallible call args v in counts (visit_each p args o.inputs o.visit) ≡ counts v ++ outputs_taken (pattern_count args) ∷ shown_in p args)
+  call_shown pure true partial rec infallible call v =
+      let w = iterating call (making (call ∷ (pick_of call ∷ [])) v) in
+      one_then (outputs_taken (pattern_count args)) _ v (shown_in p args) _ (each (output_sites (pick_of call) args) (outputs_opened (pick_of call) args w).visit (output_count (pick_of call) args))
+  call_shown pure false partial rec true call v =
+      let w = making (call ∷ []) v in
+      one_then (outputs_taken (pattern_count args)) _ v (shown_in p args) _ (each (output_sites call args) (outputs_opened call args w).visit (output_count call args))
+  call_shown pure false partial rec false call v =
+      let w = asking call is_present (making (call ∷ (some_part call ∷ [])) v) in
+      one_then (outputs_taken (pattern_count args)) _ v (shown_in p args) _ (each (output_sites (some_part call) args) (outputs_opened (some_part call) args w).visit (output_count (some_part call) args))
+
+  nothing_visited : (qs : TypedPatterns) (v : Visit) → visit_each p qs [] v ≡ v
+  nothing_visited no_typed_pattern v = refl
+  nothing_visited (typed_pattern_and q qs) v = refl
+
+  term_counts : (k : Kind) (t : ℕ) (s : SiteTerm) (v : Visit)
+      → (let o = open_term k t s args v in counts (visit_each p args o.inputs o.visit) ≡ counts v ++ term_shown k (pattern_count args) (shown_in p args))
+  term_counts (a_variant ty variant) t s v =
+      one_then (fields_matched (pattern_count args)) _ v (shown_in p args) _ (each (fields_from (variant_field s variant) 0 (pattern_count args)) (open_term (a_variant ty variant) t s args v).visit (as_many_sites (variant_field s variant) 0 args))
+  term_counts (a_struct ty) t s v =
+      one_then (fields_matched (pattern_count args)) _ v (shown_in p args) _ (each (fields_from (struct_field s) 0 (pattern_count args)) (open_term (a_struct ty) t s args v).visit (as_many_sites (struct_field s) 0 args))
+  term_counts (a_call flags infallible) t s v = call_shown flags.pure flags.multi flags.partial flags.rec infallible (extractor_call t s) v
+  term_counts unknown t s v = ap counts (nothing_visited args v) ∙ sym (append-nil (counts v))
+
+-- 2. patterns
+then_more : (a b c : List Count) (x y : List Count) → b ≡ a ++ x → c ≡ b ++ y → c ≡ a ++ (x ++ y)
+then_more a b c x y e f = f ∙ ap (λ l. l ++ y) e ∙ append_assoc a x y
+
+module _ (p : Program) where
+  mutual
+    pattern_counts : (q : TypedPattern) (s : SiteTerm) (v : Visit) → counts (visit_pattern p q s v) ≡ counts v ++ shown p q
+    pattern_counts (match_bind ty x sub) s v = pattern_counts sub s _
+    pattern_counts (match_var ty x) s v =
+        either (λ (w : Visit). counts w ≡ counts v ++ []) (site_term_eq s (var_site v x)) v (equated s (var_site v x) v) (sym (append-nil (counts v))) (sym (append-nil (counts v)))
+    pattern_counts (match_bool ty b) s v = sym (append-nil (counts v))
+    pattern_counts (match_int ty z) s v = sym (append-nil (counts v))
+    pattern_counts (match_prim ty name) s v = sym (append-nil (counts v))
+    pattern_counts (match_term ty t args) s v = term_counts p args (λ ss w m. each_counts args ss w m) (kind p t) t s v
+    pattern_counts (match_any ty) s v = sym (append-nil (counts v))
+    pattern_counts (match_and ty parts) s v = all_count parts s v
+
+    each_counts : (qs : TypedPatterns) (ss : List SiteTerm) (v : Visit) → AsManySites ss qs → counts (visit_each p qs ss v) ≡ counts v ++ shown_in p qs
+    each_counts no_typed_pattern ss v m = sym (append-nil (counts v))
+    each_counts (typed_pattern_and q qs) [] v m = absurd m
+    each_counts (typed_pattern_and q qs) (s ∷ ss) v m =
+        let w = visit_pattern p q s v in
+        then_more (counts v) (counts w) (counts (visit_each p qs ss w)) (shown p q) (shown_in p qs) (pattern_counts q s v) (each_counts qs ss w m)
+
+    all_count : (qs : TypedPatterns) (s : SiteTerm) (v : Visit) → counts (visit_all p qs s v) ≡ counts v ++ shown_in p qs
+    all_count no_typed_pattern s v = sym (append-nil (counts v))
+    all_count (typed_pattern_and q qs) s v =
+        let w = visit_pattern p q s v in
+        then_more (counts v) (counts w) (counts (visit_all p qs s w)) (shown p q) (shown_in p qs) (pattern_counts q s v) (all_count qs s w)
+
+  -- 3. expressions count nothing
+  call_counts : (pure multi partial rec : Bool) (t : ℕ) (us : SiteTerms) (v : Visit) (cs : List Count) → counts v ≡ cs
+      → counts (visit_call (record { pure = pure; multi = multi; partial = partial; rec = rec }) t us v).visit ≡ cs
+  call_counts true multi partial rec t us v cs e =
+      let flags : Flags = record { pure = true; multi = multi; partial = partial; rec = rec } in
+      let w = making (call_sites flags (constructor_call t us 0)) v in
+      either (λ (x : Visit). counts x ≡ cs) multi (iterating (constructor_call t us 0) w) w e e
+  call_counts false multi partial rec t us v cs e =
+      let flags : Flags = record { pure = false; multi = multi; partial = partial; rec = rec } in
+      let call = constructor_call t us (suc v.impure_calls) in
+      let w = making (call_sites flags call) v in
+      either (λ (x : Visit). counts x ≡ cs) multi (iterating call w) w e e
+
+  made_counts : (k : Kind) (t : ℕ) (a : ValuedAll) (cs : List Count) → counts a.visit ≡ cs → counts (visit_term k t a).visit ≡ cs
+  made_counts (a_variant ty variant) t a cs e = e
+  made_counts (a_struct ty) t a cs e = e
+  made_counts (a_call flags infallible) t a cs e = call_counts flags.pure flags.multi flags.partial flags.rec t a.sites a.visit cs e
+  made_counts unknown t a cs e = e
+
+  values_count : (cs : List Count) → KeptByValues p (λ v. counts v ≡ cs)
+  values_count cs = record { bound = λ x s v e. e; made = λ ts v e. e; valued = λ t a e. made_counts (kind p t) t a cs e }
+
+  asking_counts : (ss : List SiteTerm) (v : Visit) → counts (asking_all ss v) ≡ counts v
+  asking_counts [] v = refl
+  asking_counts (s ∷ ss) v = asking_counts ss (asking s is_present v)
+
+  finished_counts : (b : Bool) (a : Valued) → counts (finished b a).visit ≡ counts a.visit
+  finished_counts false a = refl
+  finished_counts true a = refl
+
+  -- 4. arguments and if-lets
+  args_count : (i : ℕ) (qs : List TypedPattern) (v : Visit) → counts (visit_args p i qs v) ≡ counts v ++ shown_of_args p i qs
+  args_count i [] v = sym (append-nil (counts v))
+  args_count i (q ∷ qs) v =
+      let u = taking_argument i v in
+      let w = visit_pattern p q (argument i) u in
+      let first = one_then (argument_taken i) _ v (shown p q) _ (pattern_counts q (argument i) u) in
+      then_more (counts v) (counts w) (counts (visit_args p (suc i) qs w)) (argument_taken i ∷ shown p q) (shown_of_args p (suc i) qs) first (args_count (suc i) qs w)
+
+  iflets_count : (is : List TypedIfLet) (v : Visit) → counts (visit_iflets p is v) ≡ counts v ++ flat_map (λ i. shown p i.lhs) is
+  iflets_count [] v = sym (append-nil (counts v))
+  iflets_count (i ∷ is) v =
+      let a = visit_expr p i.rhs v in
+      let u = asking_all (unwraps a.site) a.visit in
+      let w = visit_pattern p i.lhs a.site u in
+      let same : counts u ≡ counts v = asking_counts (unwraps a.site) a.visit ∙ expr_kept p (λ x. counts x ≡ counts v) (values_count (counts v)) i.rhs v refl in
+      let first : counts w ≡ counts v ++ shown p i.lhs = pattern_counts i.lhs a.site u ∙ ap (λ l. l ++ shown p i.lhs) same in
+      then_more (counts v) (counts w) (counts (visit_iflets p is w)) (shown p i.lhs) (flat_map (λ j. shown p j.lhs) is) first (iflets_count is w)
+
+pub visits_count_what_is_shown_lem : VisitsCountWhatIsShown
+visits_count_what_is_shown_lem p r =
+    let u = visit_args p 0 r.args visit_start in
+    let w = visit_iflets p r.iflets u in
+    finished_counts p (is_partial p r.root_term) (value_of_rule p r)
+    ∙ expr_kept p (λ x. counts x ≡ counts w) (values_count p (counts w)) r.rhs w refl
+    ∙ iflets_count p r.iflets u ∙ ap (λ l. l ++ flat_map (λ i. shown p i.lhs) r.iflets) (args_count p 0 r.args visit_start)

@@ -1,0 +1,53 @@
+-- Where the first of two impure calls answers nothing, the second one isn't asked; where it answers, it is.
+use Rattle.std.proofs.Common.{◌≡◌, ◌∷◌, [], ℕ, pos, zero, suc, Bool, true, false, take, All, Contains, IsSomeAnd, IsTrue, refl, sym, subst, arith}
+use Rattle.std.proofs.lemmas.Bool.{false≢true}
+use Rattle.std.proofs.lemmas.List.Elements.{All-cons, All-contains, All-nil}
+use Rattle.model.proofs.Members.{in_alone, in_head}
+use Rattle.model.specs.rules.Meaning.{impure_answer, nothing}
+use Rattle.model.specs.rules.Picks.{HasContent, Pick}
+use Rattle.model.specs.rules.Program.{kind}
+use Rattle.model.specs.rules.Typed.{TypedRule}
+use Rattle.model.specs.visits.Demands.{demands_of}
+use Rattle.model.specs.sites.Serves.{fits_constructor}
+use Rattle.model.specs.sites.Sites.{SiteTerm, SiteTerms, constructor_call, extractor_call, some_part}
+use Rattle.laws_examples.proofs.Served.{literals_apart, serves_from}
+use Rattle.laws_examples.specs.MeaningForms.{DoesNotServe, alone, given, just_number}
+use Rattle.laws_examples.specs.SetForms.{a0, one_source}
+use Rattle.laws_examples.specs.Unreached.{UnreachedCallsAreNotAsked, first_answers, first_im, unreached_program, unreached_rule, unreached_rules}
+
+-- the two calls
+abbrev call_of_im : SiteTerm → Bool
+call_of_im (constructor_call zero ss (suc zero)) = true
+call_of_im (constructor_call zero ss (suc (suc zero))) = true
+call_of_im (constructor_call t ss i) = false
+call_of_im (extractor_call t s) = false
+call_of_im u = true
+
+pure_none : (t : ℕ) (ss : SiteTerms) → call_of_im (constructor_call t ss 0) ≡ true → ⊥
+pure_none zero ss h = false≢true h
+pure_none (suc t) ss h = false≢true h
+
+-- the first call's answer has no part
+answers : (k : Pick) (r : TypedRule) (t before : ℕ) (ss : SiteTerms) → Contains unreached_rules.rules r → call_of_im (constructor_call t ss (suc before)) ≡ true
+    → All (HasContent (first_answers nothing) (given (pos 1)) k) (take before (demands_of unreached_program r).impure)
+    → IsSomeAnd (impure_answer (first_answers nothing) t before) (λ c. IsTrue (fits_constructor unreached_program t (kind unreached_program t) c))
+answers k r zero zero ss i h gave = refl
+answers k r zero (suc zero) ss i h gave =
+    let of_rule = subst (λ q. All (HasContent (first_answers nothing) (given (pos 1)) k) (take 1 (demands_of unreached_program q).impure)) (sym (in_alone unreached_rule r i)) gave in
+    absurd (false≢true (All-contains (HasContent (first_answers nothing) (given (pos 1)) k) (some_part first_im ∷ []) (some_part first_im) of_rule (in_head (some_part first_im) [])))
+answers k r _ _ ss i h gave = absurd (false≢true h)
+
+pub unreached_calls_are_not_asked : UnreachedCallsAreNotAsked
+unreached_calls_are_not_asked = (
+  refl,
+  refl,
+  serves_from unreached_program (first_answers nothing) call_of_im (given (pos 1)) unreached_rules.rules refl refl
+      (λ k t s w h holds. absurd (false≢true h)) (λ k t ss vs h holds. absurd (pure_none t ss h)) (λ k r t before ss i matched made h gave. answers k r t before ss i h gave),
+  literals_apart unreached_program (first_answers nothing) unreached_rules.rules refl refl,
+)
+
+-- where the first call answers, the second one is reached, and its entry is asked
+pub reached_calls_are_asked : DoesNotServe unreached_program (first_answers (just_number (pos 5))) (pos 1)
+reached_calls_are_asked s =
+    let has = HasContent (first_answers (just_number (pos 5))) (given (pos 1)) [] in
+    s.impures [] unreached_rule 0 1 (one_source a0) (alone (pos 1)) (0, omega arith, refl) refl (3, omega arith, refl) (All-cons has (some_part first_im) [] refl (All-nil has)) refl

@@ -1,0 +1,5 @@
+use Rattle.laws_trees.proofs.WholeSets.{accepted_sets_are_whole_lem}
+use Rattle.laws_trees.proofs.accepted_sets_are_whole.Goals as goal
+
+pub returns : goal.returns
+returns c = accepted_sets_are_whole_lem c.built_demands_are_whole.ensures

@@ -1,0 +1,5 @@
+use Rattle.laws_typing.proofs.TypedRules as rules
+use Rattle.laws_typing.proofs.exprs_agree.Goals as goal
+
+pub returns : goal.returns
+returns c = rules.exprs_agree

@@ -1,0 +1,5 @@
+use Rattle.laws_typing.proofs.JudgedReading.{lists_are_elaborated_lem}
+use Rattle.laws_typing.proofs.lists_are_elaborated.Goals as goal
+
+pub returns : goal.returns
+returns c = lists_are_elaborated_lem

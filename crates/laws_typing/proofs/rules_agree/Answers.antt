@@ -1,0 +1,5 @@
+use Rattle.laws_typing.proofs.TypedRules as rules
+use Rattle.laws_typing.proofs.rules_agree.Goals as goal
+
+pub returns : goal.returns
+returns c = rules.rules_agree

@@ -1,0 +1,214 @@
+-- Names that were met: each stands at its number and keeps it, and which are there once more were met.
+use Rattle.std.proofs.Common.{◌≡◌, ℕ, zero, suc, ◌<◌, ◌==◌, not, ◌&&◌, ◌||◌, Bool, true, false, cond, List, [], ◌∷◌, ◌++◌, length, Some, slice_get, IsTrue, refl, sym, ap, subst, ◌∙◌, inl, inr, eqb-true}
+use Rattle.std.specs.Str.{bytes_eq}
+use Rattle.std.proofs.lemmas.Bool.{false≢true, eq-eqb, cases_Bool}
+use Rattle.std.proofs.lemmas.Option.{same_Some, slice_get_within}
+use Rattle.std.proofs.Math.Bool.{or_assoc}
+use Rattle.model.specs.lists.Names.{number, has_name, with_name, with_names, IsDistinct, all_different}
+use Rattle.model.proofs.Bytes.{same_bytes, same_self, differ}
+use Rattle.model.proofs.Positions.{get_front, get_middle, distinct_push}
+
+or_left : (a b : Bool) → a || b ≡ false → a ≡ false
+or_left true b e = e
+or_left false b e = refl
+
+or_right : (a b : Bool) → a || b ≡ false → b ≡ false
+or_right true b e = absurd (false≢true (sym e))
+or_right false b e = e
+
+pub or_second : (a b : Bool) → b ≡ true → a || b ≡ true
+or_second true b e = refl
+or_second false b e = e
+
+-- a name that was met stands at its number
+pub found : (ns : List (List ℕ)) (x : List ℕ) → has_name ns x ≡ true → slice_get ns (number ns x) ≡ Some x
+found [] x e = absurd (false≢true e)
+found (y ∷ ys) x e =
+    elim (bytes_eq y x) as (λ b. bytes_eq y x ≡ b → b || has_name ys x ≡ true → slice_get (y ∷ ys) (cond b 0 (suc (number ys x))) ≡ Some x) [
+      | true ↦ λ same _. ap Some (same_bytes y x same)
+      | false ↦ λ _ h. found ys x h
+    ] refl e
+
+-- a text that wasn't met stands nowhere
+pub absent : (ns : List (List ℕ)) (x : List ℕ) → has_name ns x ≡ false → (k : ℕ) → slice_get ns k ≡ Some x → ⊥
+absent [] x e k h = cc
+absent (y ∷ ys) x e zero h = differ y x (or_left (bytes_eq y x) (has_name ys x) e) (same_Some y x h)
+absent (y ∷ ys) x e (suc k) h = absent ys x (or_right (bytes_eq y x) (has_name ys x) e) k h
+
+-- and its number is the count of the names
+pub last : (ns : List (List ℕ)) (x : List ℕ) → has_name ns x ≡ false → length ns ≡ number ns x
+last [] x e = refl
+last (y ∷ ys) x e =
+    elim (bytes_eq y x) as (λ b. b || has_name ys x ≡ false → suc (length ys) ≡ cond b 0 (suc (number ys x))) [
+      | true ↦ λ h. absurd (false≢true (sym h))
+      | false ↦ λ none. ap suc (last ys x none)
+    ] e
+
+-- what stands among names was met
+pub has_at : (ns : List (List ℕ)) (k : ℕ) (x : List ℕ) → slice_get ns k ≡ Some x → has_name ns x ≡ true
+has_at ns k x e =
+    elim (cases_Bool (has_name ns x)) [ inl there ↦ there | inr none ↦ absurd (absent ns x none k e) ]
+
+-- the number of a name that was met is below their count
+pub number_below : (ns : List (List ℕ)) (x : List ℕ) → has_name ns x ≡ true → number ns x < length ns
+number_below ns x h = slice_get_within ns (number ns x) x (found ns x h)
+
+-- what stands at a text's number is this text
+pub at_number : (ns : List (List ℕ)) (x z : List ℕ) → slice_get ns (number ns x) ≡ Some z → z ≡ x
+at_number [] x z e = absurd (cc)
+at_number (y ∷ ys) x z e =
+    elim (bytes_eq y x) as (λ b. bytes_eq y x ≡ b → slice_get (y ∷ ys) (cond b 0 (suc (number ys x))) ≡ Some z → z ≡ x) [
+      | true ↦ λ same h. sym (same_Some y z h) ∙ same_bytes y x same
+      | false ↦ λ _ h. at_number ys x z h
+    ] refl e
+
+-- names are told apart by their numbers
+pub same_test : (ns : List (List ℕ)) (y x : List ℕ) → has_name ns y ≡ true → (number ns y == number ns x) ≡ bytes_eq y x
+same_test ns y x h =
+    elim (cases_Bool (number ns y == number ns x)) [
+      | inl t ↦
+          let e = eqb-true (number ns y) (number ns x) t in
+          let same : y ≡ x = at_number ns x y (subst (λ k. slice_get ns k ≡ Some y) e (found ns y h)) in
+          t ∙ sym (subst (λ z. bytes_eq y z ≡ true) same (same_self y))
+      | inr n ↦ elim (cases_Bool (bytes_eq y x)) [
+        | inl t ↦ absurd (false≢true (sym n ∙ eq-eqb (number ns y) (number ns x) (ap (number ns) (same_bytes y x t))))
+        | inr f ↦ n ∙ sym f
+      ]
+    ]
+
+-- names of two lists
+pub has_append : (xs ys : List (List ℕ)) (x : List ℕ) → has_name (xs ++ ys) x ≡ has_name xs x || has_name ys x
+has_append [] ys x = refl
+has_append (z ∷ zs) ys x =
+    ap (λ b. bytes_eq z x || b) (has_append zs ys x) ∙ sym (or_assoc (bytes_eq z x) (has_name zs x) (has_name ys x))
+
+pub has_left : (xs ys : List (List ℕ)) (x : List ℕ) → has_name xs x ≡ true → has_name (xs ++ ys) x ≡ true
+has_left xs ys x h = has_append xs ys x ∙ ap (λ b. b || has_name ys x) h
+
+pub has_right : (xs ys : List (List ℕ)) (x : List ℕ) → has_name ys x ≡ true → has_name (xs ++ ys) x ≡ true
+has_right xs ys x h = has_append xs ys x ∙ or_second (has_name xs x) (has_name ys x) h
+
+-- one more name
+pub known_name : (ns : List (List ℕ)) (x : List ℕ) → has_name ns x ≡ true → with_name ns x ≡ ns
+known_name ns x e = ap (λ b. cond b ns (ns ++ x ∷ [])) e
+
+pub has_with : (ns : List (List ℕ)) (y x : List ℕ) → has_name ns x ≡ true → has_name (with_name ns y) x ≡ true
+has_with ns y x h = elim (has_name ns y) as (λ b. has_name (cond b ns (ns ++ y ∷ [])) x ≡ true) [ true ↦ h | false ↦ has_left ns (y ∷ []) x h ]
+
+has_last : (ns : List (List ℕ)) (x : List ℕ) → has_name (ns ++ x ∷ []) x ≡ true
+has_last ns x = has_right ns (x ∷ []) x (ap (λ b. b || false) (same_self x))
+
+pub has_new : (ns : List (List ℕ)) (x : List ℕ) → has_name (with_name ns x) x ≡ true
+has_new ns x =
+    elim (has_name ns x) as (λ b. has_name ns x ≡ b → has_name (cond b ns (ns ++ x ∷ [])) x ≡ true) [
+      | true ↦ λ e. e
+      | false ↦ λ _. has_last ns x
+    ] refl
+
+pub with_missing : (ns : List (List ℕ)) (x y : List ℕ) → has_name (with_name ns x) y ≡ false → (has_name ns y ≡ false) × (bytes_eq x y ≡ false)
+with_missing ns x y e = (
+  elim (cases_Bool (has_name ns y)) [ inl there ↦ absurd (false≢true (sym e ∙ has_with ns x y there)) | inr none ↦ none ],
+  elim (cases_Bool (bytes_eq x y)) [
+    | inl same ↦ absurd (false≢true (sym e ∙ subst (λ z. has_name (with_name ns x) z ≡ true) (same_bytes x y same) (has_new ns x)))
+    | inr other ↦ other
+  ],
+)
+
+-- a name that is met stands at its number
+pub with_name_at : (ns : List (List ℕ)) (x : List ℕ) → slice_get (with_name ns x) (number ns x) ≡ Some x
+with_name_at ns x =
+    elim (has_name ns x) as (λ b. has_name ns x ≡ b → slice_get (cond b ns (ns ++ x ∷ [])) (number ns x) ≡ Some x) [
+      | true ↦ λ e. found ns x e
+      | false ↦ λ e. subst (λ k. slice_get (ns ++ x ∷ []) k ≡ Some x) (last ns x e) (get_middle ns x [])
+    ] refl
+
+get_with : (ns : List (List ℕ)) (y : List ℕ) (k : ℕ) (x : List ℕ) → slice_get ns k ≡ Some x → slice_get (with_name ns y) k ≡ Some x
+get_with ns y k x h = elim (has_name ns y) as (λ b. slice_get (cond b ns (ns ++ y ∷ [])) k ≡ Some x) [ true ↦ h | false ↦ get_front ns (y ∷ []) k x h ]
+
+number_push : (ns : List (List ℕ)) (y x : List ℕ) → has_name ns x ≡ true → number (ns ++ y ∷ []) x ≡ number ns x
+number_push [] y x e = absurd (false≢true e)
+number_push (z ∷ zs) y x e =
+    elim (bytes_eq z x) as (λ b. b || has_name zs x ≡ true → cond b 0 (suc (number (zs ++ y ∷ []) x)) ≡ cond b 0 (suc (number zs x))) [
+      | true ↦ λ _. refl
+      | false ↦ λ h. ap suc (number_push zs y x h)
+    ] e
+
+number_last : (ns : List (List ℕ)) (x : List ℕ) → number (ns ++ x ∷ []) x ≡ number ns x
+number_last [] x = rw (same_self x) refl
+number_last (y ∷ ys) x =
+    elim (bytes_eq y x) as (λ b. cond b 0 (suc (number (ys ++ x ∷ []) x)) ≡ cond b 0 (suc (number ys x))) [
+      | true ↦ refl
+      | false ↦ ap suc (number_last ys x)
+    ]
+
+number_with : (ns : List (List ℕ)) (y x : List ℕ) → has_name ns x ≡ true → number (with_name ns y) x ≡ number ns x
+number_with ns y x h = elim (has_name ns y) as (λ b. number (cond b ns (ns ++ y ∷ [])) x ≡ number ns x) [ true ↦ refl | false ↦ number_push ns y x h ]
+
+pub number_new : (ns : List (List ℕ)) (x : List ℕ) → number (with_name ns x) x ≡ number ns x
+number_new ns x = elim (has_name ns x) as (λ b. number (cond b ns (ns ++ x ∷ [])) x ≡ number ns x) [ true ↦ refl | false ↦ number_last ns x ]
+
+distinct_with : (ns : List (List ℕ)) (y : List ℕ) → IsDistinct ns → IsDistinct (with_name ns y)
+distinct_with ns y d =
+    elim (has_name ns y) as (λ b. has_name ns y ≡ b → IsDistinct (cond b ns (ns ++ y ∷ []))) [
+      | true ↦ λ _. d
+      | false ↦ λ new. distinct_push ns y d (absent ns y new)
+    ] refl
+
+-- many more names: those that were met stay at their numbers, and each new one is met
+pub with_names_append : (ns xs ys : List (List ℕ)) → with_names ns (xs ++ ys) ≡ with_names (with_names ns xs) ys
+with_names_append ns [] ys = refl
+with_names_append ns (x ∷ xs) ys = with_names_append (with_name ns x) xs ys
+
+pub has_kept : (ns ys : List (List ℕ)) (x : List ℕ) → has_name ns x ≡ true → has_name (with_names ns ys) x ≡ true
+has_kept ns [] x h = h
+has_kept ns (y ∷ ys) x h = has_kept (with_name ns y) ys x (has_with ns y x h)
+
+pub has_met : (ns ys : List (List ℕ)) (x : List ℕ) → has_name ys x ≡ true → has_name (with_names ns ys) x ≡ true
+has_met ns [] x h = absurd (false≢true h)
+has_met ns (y ∷ ys) x h =
+    elim (bytes_eq y x) as (λ b. bytes_eq y x ≡ b → b || has_name ys x ≡ true → has_name (with_names (with_name ns y) ys) x ≡ true) [
+      | true ↦ λ e _. has_kept (with_name ns y) ys x (subst (λ z. has_name (with_name ns y) z ≡ true) (same_bytes y x e) (has_new ns y))
+      | false ↦ λ _ r. has_met (with_name ns y) ys x r
+    ] refl h
+
+pub missing_before : (ns xs : List (List ℕ)) (x : List ℕ) → has_name (with_names ns xs) x ≡ false → has_name ns x ≡ false
+missing_before ns xs x e =
+    elim (cases_Bool (has_name ns x)) [ inl there ↦ absurd (false≢true (sym e ∙ has_kept ns xs x there)) | inr none ↦ none ]
+
+pub get_kept : (ns ys : List (List ℕ)) (k : ℕ) (x : List ℕ) → slice_get ns k ≡ Some x → slice_get (with_names ns ys) k ≡ Some x
+get_kept ns [] k x h = h
+get_kept ns (y ∷ ys) k x h = get_kept (with_name ns y) ys k x (get_with ns y k x h)
+
+pub number_kept : (ns ys : List (List ℕ)) (x : List ℕ) → has_name ns x ≡ true → number (with_names ns ys) x ≡ number ns x
+number_kept ns [] x h = refl
+number_kept ns (y ∷ ys) x h = number_kept (with_name ns y) ys x (has_with ns y x h) ∙ number_with ns y x h
+
+-- a name keeps its number, whatever comes later
+pub number_stays : (ns ys : List (List ℕ)) (x : List ℕ) → number (with_names (with_name ns x) ys) x ≡ number ns x
+number_stays ns ys x = number_kept (with_name ns x) ys x (has_new ns x) ∙ number_new ns x
+
+pub distinct_names : (ns ys : List (List ℕ)) → IsDistinct ns → IsDistinct (with_names ns ys)
+distinct_names ns [] d = d
+distinct_names ns (y ∷ ys) d = distinct_names (with_name ns y) ys (distinct_with ns y d)
+
+-- names that are all different stand once
+first_absent : (x : List ℕ) (xs : List (List ℕ)) → IsTrue (all_different (x ∷ xs)) → has_name xs x ≡ false
+first_absent x xs t =
+    elim (has_name xs x) as (λ b. IsTrue (not b && all_different xs) → b ≡ false) [
+      | true ↦ λ n. absurd (false≢true n)
+      | false ↦ λ _. refl
+    ] t
+
+rest_different : (x : List ℕ) (xs : List (List ℕ)) → IsTrue (all_different (x ∷ xs)) → IsTrue (all_different xs)
+rest_different x xs t =
+    elim (has_name xs x) as (λ b. IsTrue (not b && all_different xs) → IsTrue (all_different xs)) [
+      | true ↦ λ n. absurd (false≢true n)
+      | false ↦ λ r. r
+    ] t
+
+pub distinct_if : (xs : List (List ℕ)) → IsTrue (all_different xs) → IsDistinct xs
+distinct_if [] t j k x p q = absurd (cc)
+distinct_if (y ∷ ys) t zero zero x p q = refl
+distinct_if (y ∷ ys) t zero (suc k) x p q = absurd (absent ys y (first_absent y ys t) k (q ∙ sym p))
+distinct_if (y ∷ ys) t (suc j) zero x p q = absurd (absent ys y (first_absent y ys t) j (p ∙ sym q))
+distinct_if (y ∷ ys) t (suc j) (suc k) x p q = ap suc (distinct_if ys (rest_different y ys t) j k x p q)

@@ -1,0 +1,46 @@
+-- What stands at a position, in a list and in a longer one, and lists in which nothing stands twice.
+use Rattle.std.proofs.Common.{◌≡◌, ℕ, zero, suc, ◌<◌, List, [], ◌∷◌, ◌++◌, length, None, Some, slice_get, refl, sym, ap, subst, ◌∙◌, arith, inl, inr, ◌⊎◌, ⊎_elim}
+use Rattle.model.specs.lists.Names.{IsDistinct}
+
+module _ {X : Type 0} where
+  pub past_end : (xs : List X) → slice_get xs (length xs) ≡ None
+  past_end [] = refl
+  past_end (x ∷ xs) = past_end xs
+
+  pub get_front : (xs ys : List X) (k : ℕ) (z : X) → slice_get xs k ≡ Some z → slice_get (xs ++ ys) k ≡ Some z
+  get_front [] ys k z e = absurd (cc)
+  get_front (x ∷ xs) ys zero z e = e
+  get_front (x ∷ xs) ys (suc k) z e = get_front xs ys k z e
+
+  pub get_middle : (xs : List X) (y : X) (ys : List X) → slice_get (xs ++ y ∷ ys) (length xs) ≡ Some y
+  get_middle [] y ys = refl
+  get_middle (x ∷ xs) y ys = get_middle xs y ys
+
+  -- what stands in a list with one more element stood there before, or is the last
+  pub get_push_cases : (xs : List X) (y z : X) (k : ℕ) → slice_get (xs ++ y ∷ []) k ≡ Some z → (slice_get xs k ≡ Some z) ⊎ ((k ≡ length xs) × (y ≡ z))
+  get_push_cases [] y z zero e = inr (refl, cc)
+  get_push_cases [] y z (suc k) e = absurd (cc)
+  get_push_cases (x ∷ xs) y z zero e = inl e
+  get_push_cases (x ∷ xs) y z (suc k) e = ⊎_elim (λ h. inl h) (λ h. inr (ap suc h.0, h.1)) (get_push_cases xs y z k e)
+
+  pub distinct_nil : IsDistinct {X = X} []
+  distinct_nil j k x p q = absurd (cc)
+
+  pub distinct_one : (y : X) → IsDistinct (y ∷ [])
+  distinct_one y zero zero x p q = refl
+  distinct_one y zero (suc k) x p q = absurd (cc)
+  distinct_one y (suc j) k x p q = absurd (cc)
+
+  pub distinct_push : (xs : List X) (x : X) → IsDistinct xs → ((j : ℕ) → slice_get xs j ≡ Some x → ⊥) → IsDistinct (xs ++ x ∷ [])
+  distinct_push xs x once new j k a p q =
+      ⊎_elim (λ u. ⊎_elim (λ v. once j k a u v) (λ v. absurd (new j (u ∙ ap Some (sym v.1)))) (get_push_cases xs x a k q))
+      (λ u. ⊎_elim (λ v. absurd (new k (v ∙ ap Some (sym u.1)))) (λ v. u.0 ∙ sym v.0) (get_push_cases xs x a k q))
+      (get_push_cases xs x a j p)
+
+  -- what stands before itself stands twice
+  pub twice : (xs rest whole : List X) (x : X) (j : ℕ) → IsDistinct whole → xs ++ x ∷ rest ≡ whole → j < length xs → slice_get xs j ≡ Some x → ⊥
+  twice xs rest whole x j once e before at =
+      let first : slice_get whole j ≡ Some x = subst (λ w. slice_get w j ≡ Some x) e (get_front xs (x ∷ rest) j x at) in
+      let second : slice_get whole (length xs) ≡ Some x = subst (λ w. slice_get w (length xs) ≡ Some x) e (get_middle xs x rest) in
+      let same : j ≡ length xs = once j (length xs) x first second in
+      omega (arith, before, same)

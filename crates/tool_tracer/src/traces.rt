@@ -1,0 +1,98 @@
+//! The returns of trees, each with its rule and the tests on the way to it.
+
+use cranelift_isle::lower::{Lowered, LoweredTerm, lower};
+use cranelift_isle::sema::RuleId;
+use cranelift_isle::syntax::{Def, Fault};
+use cranelift_isle::trie_again::Rule;
+use isle_answers::answers::Answer;
+use isle_answers::texts::syntax_error_line;
+use isle_queries::names::{rule_name, term_name};
+use isle_queries::rules::rule_returned;
+use isle_queries::texts::{Names, Places, error_lines, names_of, turn_text};
+use isle_queries::walk::{Turn, steps};
+use isle_reader::errors::ReadFault;
+use isle_reader::read;
+use std::alloc::{AllocError, Global};
+
+/// The traces of a text's definitions, or one line for each error.
+pub fn answer(alloc: Global, text: &str) -> Result<Answer, AllocError> {
+    match read(alloc, 0, text) {
+        Ok(defs) => answer_to_defs(alloc, text, &defs),
+        Err(ReadFault::Text(error)) => Ok(Answer::Errors(syntax_error_line(alloc, text, &error)?)),
+        Err(ReadFault::Memory(error)) => Err(error),
+    }
+}
+
+// The traces of definitions, or one line for each error.
+fn answer_to_defs(alloc: Global, text: &str, defs: &[Def]) -> Result<Answer, AllocError> {
+    let places = Places::Lines(text);
+    match lower(alloc, defs, true) {
+        Ok(lowered) => Ok(Answer::Trees(traces(alloc, &lowered, places)?)),
+        Err(Fault::Errors(errors)) => Ok(Answer::Errors(error_lines(alloc, &errors, places)?)),
+        Err(Fault::Memory(error)) => Err(error),
+    }
+}
+
+// The traces of all terms.
+fn traces(alloc: Global, lowered: &Lowered, places: Places<'_>) -> Result<String, AllocError> {
+    let mut out = String::new(alloc);
+    for term in &lowered.terms {
+        push_term(alloc, &mut out, lowered, term, places)?;
+    }
+    Ok(out)
+}
+
+// Adds a line for a term, and one for each return of its tree, in the order of the printed tree.
+fn push_term(
+    alloc: Global,
+    out: &mut String,
+    lowered: &Lowered,
+    term: &LoweredTerm,
+    places: Places<'_>,
+) -> Result<(), AllocError> {
+    out.push_str("term ")?;
+    out.push_str(or_nameless(term_name(&lowered.tyenv, &lowered.termenv, term.id)))?;
+    out.push('\n')?;
+    for visit in &steps(alloc, &term.block)? {
+        if let Some(rule) = rule_returned(&term.rules, visit.step) {
+            push_rule(out, lowered, rule)?;
+            places.push(out, rule.pos)?;
+            push_path(alloc, out, names_of(lowered), &visit.path)?;
+        }
+    }
+    Ok(())
+}
+
+// Adds a rule with its result's site.
+fn push_rule(out: &mut String, lowered: &Lowered, rule: &Rule) -> Result<(), AllocError> {
+    let name = name_of(lowered, rule.id);
+    let number = rule.result.index();
+    write!(out, "  rule {name} returns b{number}, at ")
+}
+
+// The name of a rule.
+fn name_of(lowered: &Lowered, id: RuleId) -> &str {
+    or_nameless(rule_name(&lowered.tyenv, &lowered.termenv, id))
+}
+
+// A name, or a sign where there is none.
+fn or_nameless(name: Option<&str>) -> &str {
+    match name {
+        Some(name) => name,
+        None => "_",
+    }
+}
+
+// Adds the tests on the way, outermost first.
+fn push_path(
+    alloc: Global,
+    out: &mut String,
+    names: Names<'_>,
+    path: &[Turn],
+) -> Result<(), AllocError> {
+    for (i, turn) in path.iter().enumerate() {
+        out.push_str(if i == 0 { ", where " } else { " and " })?;
+        out.push_str(&turn_text(alloc, names, turn)?)?;
+    }
+    out.push('\n')
+}

@@ -1,0 +1,60 @@
+-- An entry of an answer of `lower` runs as the chosen rule.
+use Rattle.std.proofs.Common.{◌≡◌, ℕ, Bool, true, false, List, map, None, Some, slice_get, get_or, All, refl, sym, ap, ◌∙◌, subst}
+use Rattle.std.proofs.lemmas.List.Elements.{All-get_or}
+use Rattle.std.proofs.lemmas.Option.{slice_get_within, get_or_from_slice_get}
+use Rattle.model.specs.lists.Elaborated.{TypedRules}
+use Rattle.model.specs.lists.Syntax.{Definition}
+use Rattle.model.specs.lists.Tables.{TermEntry, TypeEntry}
+use Rattle.model.specs.rules.Meaning.{Meaning}
+use Rattle.model.specs.rules.Program.{Program, kind_of, flags_of, unknown, is_multi, rules_of}
+use Rattle.model.specs.rules.Values.{Value}
+use Rattle.model.specs.sites.Serves.{TellsConstantsApart}
+use Rattle.model.specs.claims.Layers.{own_program, IsLoweredTerm}
+use Rattle.model.specs.claims.SetMeanings.{DemandsAreWhole}
+use Rattle.model.proofs.Mapped.{get_map}
+use Rattle.isle_types.specs.TypeViews.{type_views}
+use Rattle.isle_rule_sets.specs.SiteViews.{set_view}
+use Rattle.cranelift_isle.specs.Checks.{env_program}
+use Rattle.cranelift_isle.specs.Lowerings.{lowered_view, lowered_views, DemandWhole, IsLowered, OfAccepted}
+use Rattle.cranelift_isle.specs.declared.lower.LoweredTerm as Code
+use Rattle.cranelift_isle.specs.declared.lower.Lowered.{Lowered}
+use Rattle.isle_queries.specs.Premises.{asks_own_constants}
+use Rattle.tool_verifier.specs.Verified.{CanRun, RunsAsRule, RunsWhereApart, RunsAlways}
+use Rattle.tool_verifier.proofs.OwnConstants.{own_apart}
+
+abbrev multi_among : List TermEntry → ℕ → Bool
+multi_among terms t = (flags_of (elim (slice_get terms t) [ None ↦ unknown | Some e ↦ kind_of e ])).multi
+
+-- what holds of all elements that are mapped holds of the one at a place
+all_at : {X Y : Type 0} (P : Y → Type 0) (f : X → Y) (xs : List X) (i : ℕ) (x : X) → slice_get xs i ≡ Some x → All P (map f xs) → P (f x)
+all_at P f xs i x at all =
+    let e = get_map f xs i x at in
+    subst P (get_or_from_slice_get (map f xs) i (f x) (f x) e) (All-get_or P (map f xs) i (f x) (slice_get_within (map f xs) i (f x) e) all)
+
+module _ (defs : List Definition) (expand : Bool) (l : Lowered) (place : ℕ) (t : Code.LoweredTerm) (h : IsLowered defs expand l)
+    (at : slice_get l.terms.items place ≡ Some t) (single : is_multi (env_program l.termenv) t.id.0 ≡ false) where
+  abbrev p : Program
+  p = own_program defs h.0
+
+  entry : IsLoweredTerm p (lowered_view t)
+  entry = all_at (IsLoweredTerm p) lowered_view l.terms.items place t at h.1.trees.lowered
+
+  one : is_multi p t.id.0 ≡ false
+  one = ap (λ (ts : List TermEntry). multi_among ts t.id.0) (sym h.1.environments.rows.table) ∙ single
+
+  chosen : (m : Meaning) (args : List Value) → CanRun p t.id.0 m args → TellsConstantsApart p m (rules_of p t.id.0) → RunsAsRule p (lowered_view t) m args
+  chosen m args can apart = let r = entry.headline.runs one m args can.typed can.served apart in record { same = r.0; once = r.1 }
+
+  pub runs_apart : RunsWhereApart defs expand (lowered_view t)
+  runs_apart = record { rules = h.0; accepted = h.1.accepted; single = one; runs = chosen }
+
+  pub runs_under_all : OfAccepted defs expand (DemandWhole (lowered_views l.terms.items)) → asks_own_constants (type_views l.tyenv.types.items) (set_view t.rules) ≡ true
+      → RunsAlways defs expand (lowered_view t)
+  runs_under_all whole own = record {
+    rules = h.0;
+    accepted = h.1.accepted;
+    single = one;
+    runs = λ m args can. chosen m args can (own_apart p t.id.0 (set_view t.rules) entry.built
+        (all_at (λ x. DemandsAreWhole p x.term) lowered_view l.terms.items place t at (whole h.0 h.1.accepted)) (h.1.accepted.checkable.built t.id.0)
+        (ap (λ (ts : List TypeEntry). asks_own_constants ts (set_view t.rules)) (sym h.1.environments.types.types) ∙ own) m);
+  }

@@ -1,0 +1,15 @@
+use Rattle.std.proofs.Common.{rules, ◌≡◌, ◌∙◌, false, Some, slice_get, sym, ap}
+use Rattle.std.proofs.lemmas.Option.{slice_get-get_or}
+use Rattle.isle_base.specs.SyntaxViews.{definition_views}
+use Rattle.model.specs.rules.Program.{is_multi}
+use Rattle.cranelift_isle.specs.Checks.{env_program}
+use Rattle.tool_verifier.proofs.Entries.{runs_apart}
+use Rattle.tool_verifier.proofs.verified.runs_where_apart.Goals as goal
+
+pub returns : goal.returns
+returns c =
+    let found = c.in_ok-term.ensures.lookup in
+    let at : slice_get c.args.lowered.now.terms.items c.args.place ≡ Some c.in_ok-term.term.now =
+    ap (λ l. slice_get l c.args.place) (sym c.deref.ensures.value) ∙ slice_get-get_or c.deref.result.now c.args.place c.in_ok-term.term.now found.3.0 ∙ ap Some (sym found.1) in
+    let single : is_multi (env_program c.args.lowered.now.termenv) c.in_ok-term.term.now.id.0 ≡ false = search rules in
+    runs_apart (definition_views c.args.defs.now) c.args.expand c.args.lowered.now c.args.place c.in_ok-term.term.now c.requires at single

@@ -1,0 +1,36 @@
+-- What is known of the tree of one term of an answer of `lower`.
+use Rattle.std.specs.Prelude.{◌≡◌, ℕ, Bool, false, List, IsTrue}
+use Rattle.model.specs.lists.Elaborated.{TypedRules}
+use Rattle.model.specs.lists.Syntax.{Definition}
+use Rattle.model.specs.rules.Choice.{choice, MatchesOnce}
+use Rattle.model.specs.rules.Meaning.{Meaning}
+use Rattle.model.specs.rules.Program.{Program, arg_types, is_multi, rules_of}
+use Rattle.model.specs.rules.Values.{Value, args_well_typed}
+use Rattle.model.specs.sites.Serves.{Serves, TellsConstantsApart}
+use Rattle.model.specs.claims.Layers.{own_program, IsAccepted, LoweredTerm}
+use Rattle.model.specs.trees.Run.{run, world_of}
+
+-- what is asked of a meaning and of arguments: these are well typed, and it has an answer for all that the rules call
+pub record CanRun (p : Program) (t : ℕ) (m : Meaning) (args : List Value) : Type 0 where
+  pub typed : IsTrue (args_well_typed p.types (arg_types p t) args)
+  pub served : Serves p m args (rules_of p t)
+
+-- the run of a term's tree has the outcome of the rule that is chosen, and no second rule of its priority matches
+pub record RunsAsRule (p : Program) (l : LoweredTerm) (m : Meaning) (args : List Value) : Type 0 where
+  pub same : run l.tree (world_of p l.term l.set.sites m args) ≡ choice p m (rules_of p l.term) args
+  pub once : MatchesOnce p m (rules_of p l.term) args
+
+-- so it is for the rules of accepted definitions, where the meaning tells constants apart. That the term isn't multi was decided
+pub record RunsWhereApart (defs : List Definition) (expand : Bool) (l : LoweredTerm) : Type 0 where
+  pub rules : TypedRules
+  pub accepted : IsAccepted defs expand rules
+  pub single : is_multi (own_program defs rules) l.term ≡ false
+  pub runs : (m : Meaning) (args : List Value) → CanRun (own_program defs rules) l.term m args
+      → TellsConstantsApart (own_program defs rules) m (rules_of (own_program defs rules) l.term) → RunsAsRule (own_program defs rules) l m args
+
+-- so it is under every meaning. That it tells constants apart was decided too
+pub record RunsAlways (defs : List Definition) (expand : Bool) (l : LoweredTerm) : Type 0 where
+  pub rules : TypedRules
+  pub accepted : IsAccepted defs expand rules
+  pub single : is_multi (own_program defs rules) l.term ≡ false
+  pub runs : (m : Meaning) (args : List Value) → CanRun (own_program defs rules) l.term m args → RunsAsRule (own_program defs rules) l m args

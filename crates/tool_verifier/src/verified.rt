@@ -1,0 +1,49 @@
+//! What is known of the tree of one term, as contracts that rest on that of `lower`.
+
+ghost use Rattle.std.specs.Prelude.{◌≡◌, IfSome};
+ghost use Rattle.cranelift_isle.specs.Lowerings.{lowered_view, lowered_views, DemandWhole, IsLowered, OfAccepted};
+ghost use Rattle.isle_base.specs.SyntaxViews.{definition_views};
+ghost use Rattle.tool_verifier.specs.Verified.{RunsAlways, RunsWhereApart};
+
+use cranelift_isle::lower::{Lowered, LoweredTerm};
+use cranelift_isle::syntax::Def;
+use isle_queries::premises::{asks_own_constants, is_multi};
+
+/// The entry at a place of `lowered.terms`, where the term isn't `multi`: its tree runs as the chosen rule, on well-typed
+/// arguments and under meanings that serve the term's rules and tell their constants apart. None of another term, and where
+/// there is no such place. Condition: `lowered` is what `lower` answers to these definitions and this choice to expand.
+pub fn runs_where_apart<'a>(
+    defs: &[Def],
+    expand: bool,
+    lowered: &'a Lowered,
+    place: usize,
+) -> Option<&'a LoweredTerm>
+    requires { IsLowered (definition_views defs.now) expand lowered.now }
+    ensures { IfSome result (λ t. RunsWhereApart (definition_views defs.now) expand (lowered_view t.now)) }
+{
+    let term = lowered.terms.get(place)?;
+    if is_multi(&lowered.termenv, term.id) {
+        return None;
+    }
+    Some(term)
+}
+
+/// The entry at a place of `lowered.terms`, where the term isn't `multi` and its rules ask no constant whose value a meaning
+/// may choose: its tree runs as the chosen rule, on well-typed arguments and under every meaning that serves the term's rules.
+/// None as above. Conditions: two of the clauses of `lower`.
+pub fn runs_always<'a>(
+    defs: &[Def],
+    expand: bool,
+    lowered: &'a Lowered,
+    place: usize,
+) -> Option<&'a LoweredTerm>
+    requires lowered { IsLowered (definition_views defs.now) expand lowered.now }
+    requires whole { OfAccepted (definition_views defs.now) expand (DemandWhole (lowered_views lowered.now.terms.items)) }
+    ensures { IfSome result (λ t. RunsAlways (definition_views defs.now) expand (lowered_view t.now)) }
+{
+    let term = lowered.terms.get(place)?;
+    if is_multi(&lowered.termenv, term.id) || !asks_own_constants(&lowered.tyenv, &term.rules) {
+        return None;
+    }
+    Some(term)
+}
