@@ -1,10 +1,10 @@
-pub mod TreesSoFar
-pub mod SharedTrees
+mod TreesSoFar
+mod SharedTrees
 pub mod LoweredAnswers
-pub mod CheckedSets
-pub mod OneAnswer
-pub mod NamedErrors
-pub mod NamedPlaces
-pub mod ErrorsOfReading
-pub mod TermsAscending
-pub mod BuildingLists
+mod CheckedSets
+mod OneAnswer
+mod NamedErrors
+mod NamedPlaces
+mod ErrorsOfReading
+mod TermsAscending
+mod BuildingLists

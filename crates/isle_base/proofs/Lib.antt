@@ -5,4 +5,4 @@ mod Copies
 mod Pairs
 pub mod NotedErrors
 pub mod Positioned
-pub mod Beginnings
+mod Beginnings

@@ -1,15 +1,15 @@
-pub mod CallNumbers
-pub mod BuilderCalls
-pub mod BuilderFields
-pub mod BuilderSteps
-pub mod EndedSteps
-pub mod BuilderFollows
-pub mod EndedRules
-pub mod FollowedRule
-pub mod AskedAnswers
-pub mod UnwrappedSites
-pub mod LendingVisitors
-pub mod GrownSites
-pub mod PassingSites
-pub mod PassedRules
-pub mod RulesReported
+mod CallNumbers
+mod BuilderCalls
+mod BuilderFields
+mod BuilderSteps
+mod EndedSteps
+mod BuilderFollows
+mod EndedRules
+mod FollowedRule
+mod AskedAnswers
+mod UnwrappedSites
+mod LendingVisitors
+mod GrownSites
+mod PassingSites
+mod PassedRules
+mod RulesReported

@@ -1,3 +1,3 @@
-pub mod EchoesFit
-pub mod EchoesApart
-pub mod EchoSteps
+mod EchoesFit
+mod EchoesApart
+mod EchoSteps

@@ -1,11 +1,11 @@
 pub mod ValueSteps
 pub mod ContentSteps
-pub mod EnvSteps
-pub mod BindSteps
-pub mod FieldSteps
-pub mod RunSteps
-pub mod Entries
-pub mod VarSteps
-pub mod PatternSteps
-pub mod ExprSteps
-pub mod ChoiceSteps
+mod EnvSteps
+mod BindSteps
+mod FieldSteps
+mod RunSteps
+mod Entries
+mod VarSteps
+mod PatternSteps
+mod ExprSteps
+mod ChoiceSteps

@@ -1,9 +1,9 @@
-pub mod DistinctKeys
-pub mod Chains
-pub mod ListIteration
-pub mod Rows
-pub mod Ascents
-pub mod Orders
-pub mod SortedErrors
-pub mod Reporting
-pub mod OverlapCounts
+mod DistinctKeys
+mod Chains
+mod ListIteration
+mod Rows
+mod Ascents
+mod Orders
+mod SortedErrors
+mod Reporting
+mod OverlapCounts

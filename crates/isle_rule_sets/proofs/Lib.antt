@@ -1,35 +1,35 @@
-pub mod Ascending
-pub mod ConstraintSearch
-pub mod AskedClasses
-pub mod PartsAdded
-pub mod ClassEndings
+mod Ascending
+mod ConstraintSearch
+mod AskedClasses
+mod PartsAdded
+mod ClassEndings
 pub mod ListTails
-pub mod ClassHeads
-pub mod ClassTests
+mod ClassHeads
+mod ClassTests
 pub mod ClosingNumbers
 pub mod ClosingSteps
 pub mod ClosingClasses
-pub mod ClosureConflicts
-pub mod ClosureCycles
-pub mod ClosureVerdicts
-pub mod DemandsListed
-pub mod DueSites
-pub mod EqualFields
-pub mod EqualityPairs
-pub mod FirstConflicts
-pub mod FieldJoins
-pub mod FieldSites
-pub mod FoundSites
+mod ClosureConflicts
+mod ClosureCycles
+mod ClosureVerdicts
+mod DemandsListed
+mod DueSites
+mod EqualFields
+mod EqualityPairs
+mod FirstConflicts
+mod FieldJoins
+mod FieldSites
+mod FoundSites
 pub mod FullTables
-pub mod NoEqualities
-pub mod NotedSites
+mod NoEqualities
+mod NotedSites
 pub mod JoinedSets
-pub mod ListedConstraints
-pub mod ListedParts
-pub mod SameBindings
-pub mod SetsListed
-pub mod SideBySide
+mod ListedConstraints
+mod ListedParts
+mod SameBindings
+mod SetsListed
+mod SideBySide
 pub mod SitesAdded
 pub mod SitesGrown
 pub mod SitesIn
-pub mod TablesGrown
+mod TablesGrown

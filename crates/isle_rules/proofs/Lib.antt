@@ -1,53 +1,53 @@
 mod UsedTerms
-pub mod LimitErrors
-pub mod ErrorPositions
-pub mod SubstitutedPlaces
-pub mod PartPlaces
-pub mod TermPlaces
-pub mod PlacesAtEnd
-pub mod Readings
-pub mod Bindings
-pub mod Scopes
-pub mod PatternLeaves
+mod LimitErrors
+mod ErrorPositions
+mod SubstitutedPlaces
+mod PartPlaces
+mod TermPlaces
+mod PlacesAtEnd
+mod Readings
+mod Bindings
+mod Scopes
+mod PatternLeaves
 mod TermCopies
-pub mod TermsFound
-pub mod PatternUsing
-pub mod PatternLists
-pub mod PatternSizes
-pub mod PatternForms
-pub mod LimitLists
-pub mod LimitSteps
-pub mod PatternLimits
-pub mod MadeSettings
-pub mod ExprLeaves
-pub mod ExprUsing
-pub mod LetScopes
-pub mod ExprLists
-pub mod ExprSizes
-pub mod LetForms
-pub mod ExprForms
-pub mod IfLetLists
-pub mod SidesForms
-pub mod RuleForms
-pub mod ExprLimits
-pub mod LetLimits
-pub mod RuleLimits
-pub mod RuleEnds
-pub mod RuleListSteps
-pub mod NamesKept
-pub mod ConstructorLaws
-pub mod CheckedUses
-pub mod RulesTyped
+mod TermsFound
+mod PatternUsing
+mod PatternLists
+mod PatternSizes
+mod PatternForms
+mod LimitLists
+mod LimitSteps
+mod PatternLimits
+mod MadeSettings
+mod ExprLeaves
+mod ExprUsing
+mod LetScopes
+mod ExprLists
+mod ExprSizes
+mod LetForms
+mod ExprForms
+mod IfLetLists
+mod SidesForms
+mod RuleForms
+mod ExprLimits
+mod LetLimits
+mod RuleLimits
+mod RuleEnds
+mod RuleListSteps
+mod NamesKept
+mod ConstructorLaws
+mod CheckedUses
+mod RulesTyped
 pub mod RuleErrorSteps
-pub mod NamedLimits
-pub mod RulesTold
-pub mod FirstPastLimits
-pub mod RuleBreachSteps
-pub mod RuleBreaches
-pub mod NamedTerms
-pub mod TemplateUses
-pub mod DefinedTerms
-pub mod ShownSettings
-pub mod RulesAtEnd
-pub mod EnvironmentsAtEnd
-pub mod RulesRefused
+mod NamedLimits
+mod RulesTold
+mod FirstPastLimits
+mod RuleBreachSteps
+mod RuleBreaches
+mod NamedTerms
+mod TemplateUses
+mod DefinedTerms
+mod ShownSettings
+mod RulesAtEnd
+mod EnvironmentsAtEnd
+mod RulesRefused

@@ -1,23 +1,23 @@
 pub mod TreeLaws
-pub mod Tables
-pub mod SiteSets
-pub mod AroundSteps
-pub mod TestSteps
-pub mod BarSteps
-pub mod OpenTestLists
-pub mod AvailableSites
-pub mod EqualSurroundings
-pub mod Growth
-pub mod ListedSites
-pub mod FieldSteps
-pub mod FieldLists
-pub mod Ascents
-pub mod Descents
-pub mod StepsJoined
-pub mod BodySteps
-pub mod EndSteps
-pub mod UntriedTests
-pub mod PlaceSteps
-pub mod ArmRuns
-pub mod ArmSteps
-pub mod WholeTrees
+mod Tables
+mod SiteSets
+mod AroundSteps
+mod TestSteps
+mod BarSteps
+mod OpenTestLists
+mod AvailableSites
+mod EqualSurroundings
+mod Growth
+mod ListedSites
+mod FieldSteps
+mod FieldLists
+mod Ascents
+mod Descents
+mod StepsJoined
+mod BodySteps
+mod EndSteps
+mod UntriedTests
+mod PlaceSteps
+mod ArmRuns
+mod ArmSteps
+mod WholeTrees

@@ -1,25 +1,25 @@
-pub mod Finding
-pub mod Rooting
-pub mod TermMaps
-pub mod Arguments
+mod Finding
+mod Rooting
+mod TermMaps
+mod Arguments
 pub mod TypesStaying
-pub mod Breaches
-pub mod ErrorSteps
-pub mod Declaring
-pub mod Making
-pub mod Changing
-pub mod Standing
-pub mod FirstOfTerm
-pub mod RootSteps
-pub mod ConverterSteps
-pub mod KindChanges
-pub mod ExternSteps
-pub mod Callees
-pub mod TemplateNames
-pub mod TemplateSteps
-pub mod TemplateParts
-pub mod Marks
-pub mod Recursion
-pub mod GroupSteps
+mod Breaches
+mod ErrorSteps
+mod Declaring
+mod Making
+mod Changing
+mod Standing
+mod FirstOfTerm
+mod RootSteps
+mod ConverterSteps
+mod KindChanges
+mod ExternSteps
+mod Callees
+mod TemplateNames
+mod TemplateSteps
+mod TemplateParts
+mod Marks
+mod Recursion
+mod GroupSteps
 pub mod PlacesNoted
-pub mod Broken
+mod Broken

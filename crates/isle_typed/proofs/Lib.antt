@@ -1,14 +1,14 @@
 pub mod PatternBridges
 pub mod ExprBridges
 pub mod Copies
-pub mod BoundVars
+mod BoundVars
 pub mod PatternRunSteps
-pub mod VisitSizes
+mod VisitSizes
 pub mod PatternRunForms
-pub mod ExprRunSteps
+mod ExprRunSteps
 pub mod ExprRunForms
-pub mod NumberedVars
-pub mod OrderedVars
+mod NumberedVars
+mod OrderedVars
 pub mod RuleRunSteps
 pub mod Defaults
 pub mod FirstErrors

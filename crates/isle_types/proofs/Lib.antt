@@ -1,29 +1,29 @@
-pub mod FieldTypes
+mod FieldTypes
 pub mod Inverse
-pub mod Places
-pub mod EnvironmentSteps
-pub mod Booting
-pub mod Naming
-pub mod TypeMaps
-pub mod SeenNames
-pub mod ReadingSteps
-pub mod FieldSteps
-pub mod LastTypes
-pub mod TypingConstants
+mod Places
+mod EnvironmentSteps
+mod Booting
+mod Naming
+mod TypeMaps
+mod SeenNames
+mod ReadingSteps
+mod FieldSteps
+mod LastTypes
+mod TypingConstants
 pub mod RightTypes
-pub mod TypesAtEnd
+mod TypesAtEnd
 pub mod WellFormedEnvs
-pub mod EntriesStay
-pub mod NamesMet
-pub mod NumbersSeen
-pub mod VariantSteps
-pub mod VariantRuns
-pub mod RightValues
-pub mod FillingTypes
-pub mod Reducing
-pub mod PlacesNoted
+mod EntriesStay
+mod NamesMet
+mod NumbersSeen
+mod VariantSteps
+mod VariantRuns
+mod RightValues
+mod FillingTypes
+mod Reducing
+mod PlacesNoted
 pub mod TablePositions
-pub mod FirstBreaches
+mod FirstBreaches
 pub mod ToldErrors
-pub mod KnownTypes
-pub mod TypeErrors
+mod KnownTypes
+mod TypeErrors

@@ -1,19 +1,19 @@
-pub mod BuiltRules
+mod BuiltRules
 pub mod BuiltWithinLimits
 pub mod Classes
 pub mod Closing
 pub mod ClosingGates
 pub mod ConstrainedOnce
-pub mod ClosingEnds
+mod ClosingEnds
 pub mod GivenFields
 pub mod LimitsReported
 pub mod Names
-pub mod Owners
+mod Owners
 pub mod Reports
 pub mod Settled
 pub mod Verdict
 pub mod FollowingDemands
-pub mod WholeClosing
+mod WholeClosing
 pub mod building
 pub mod built
 pub mod overlaps

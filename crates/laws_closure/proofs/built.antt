@@ -2,7 +2,7 @@
 pub mod BuiltGates
 pub mod BuiltSets
 pub mod CollectedSets
-pub mod ConstrainedOrEquated
+mod ConstrainedOrEquated
 pub mod MultiCalls
 pub mod Priorities
 pub mod ServedSets

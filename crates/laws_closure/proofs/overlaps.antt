@@ -1,9 +1,9 @@
 -- Rules that overlap or are shadowed, and what is reported of them.
-pub mod CheckedPrograms
-pub mod Errors
+mod CheckedPrograms
+mod Errors
 pub mod JudgedLists
-pub mod LeftOut
-pub mod LeftOutErrors
+mod LeftOut
+mod LeftOutErrors
 pub mod ListedOverlaps
 pub mod MaskErrors
 pub mod Masks
@@ -14,4 +14,4 @@ pub mod SetChecks
 pub mod SetReports
 pub mod SetRules
 pub mod ShadowTest
-pub mod Totals
+mod Totals

@@ -1,43 +1,43 @@
-pub mod Chosen
-pub mod Expansions
-pub mod Extract
-pub mod FallOverlap
-pub mod FoundSites
-pub mod HandedIn
-pub mod Hiding
-pub mod Impure
-pub mod ImpureTaken
-pub mod LeftOver
-pub mod ListStages
-pub mod Mended
-pub mod Multi
-pub mod MultiCalls
-pub mod NamedConstants
-pub mod NearRefusals
-pub mod OneOrTwo
-pub mod PickedAnswers
-pub mod PickedNumber
-pub mod Refused
-pub mod ReportedOnce
-pub mod SampleStages
-pub mod Served
-pub mod SetStages
-pub mod TreeStages
-pub mod ToldApart
-pub mod Tried
-pub mod Unasked
-pub mod Unreached
-pub mod Used
-pub mod VariantIds
-pub mod Wrapped
-pub mod LookUps
-pub mod ConstEqRespected
-pub mod PickOrders
-pub mod Answered
-pub mod RulesPassed
-pub mod LoopPlaces
-pub mod TotalMeanings
-pub mod NearTrees
-pub mod ReadLists
-pub mod VisitedRules
-pub mod ShownCounts
+mod Chosen
+mod Expansions
+mod Extract
+mod FallOverlap
+mod FoundSites
+mod HandedIn
+mod Hiding
+mod Impure
+mod ImpureTaken
+mod LeftOver
+mod ListStages
+mod Mended
+mod Multi
+mod MultiCalls
+mod NamedConstants
+mod NearRefusals
+mod OneOrTwo
+mod PickedAnswers
+mod PickedNumber
+mod Refused
+mod ReportedOnce
+mod SampleStages
+mod Served
+mod SetStages
+mod TreeStages
+mod ToldApart
+mod Tried
+mod Unasked
+mod Unreached
+mod Used
+mod VariantIds
+mod Wrapped
+mod LookUps
+mod ConstEqRespected
+mod PickOrders
+mod Answered
+mod RulesPassed
+mod LoopPlaces
+mod TotalMeanings
+mod NearTrees
+mod ReadLists
+mod VisitedRules
+mod ShownCounts

@@ -1,22 +1,22 @@
-pub mod Answered
+mod Answered
 pub mod BuiltMatches
-pub mod ClosedAlike
-pub mod ClosedDemands
-pub mod Contents
-pub mod Demanded
-pub mod Exprs
-pub mod FormedDemands
-pub mod NeverChosen
+mod ClosedAlike
+mod ClosedDemands
+mod Contents
+mod Demanded
+mod Exprs
+mod FormedDemands
+mod NeverChosen
 pub mod NeverMatches
 pub mod NoMulti
-pub mod Numbers
-pub mod Patterns
-pub mod Rules
+mod Numbers
+mod Patterns
+mod Rules
 pub mod SetsAnswered
-pub mod Shapes
+mod Shapes
 pub mod ToldApart
-pub mod Unreachable
-pub mod Variables
+mod Unreachable
+mod Variables
 pub mod Visits
 pub mod outcomes
 pub mod results

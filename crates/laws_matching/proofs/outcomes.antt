@@ -1,5 +1,5 @@
 -- Taking a rule gives its right side's outcome.
-pub mod Evals
-pub mod Ordered
+mod Evals
+mod Ordered
 pub mod Outcomes
-pub mod RightSides
+mod RightSides

@@ -1,3 +1,3 @@
 -- What the results of rules hold.
 pub mod Held
-pub mod PureRuns
+mod PureRuns

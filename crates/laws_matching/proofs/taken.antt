@@ -1,8 +1,8 @@
 -- From what a meaning has to what runs, and the collecting of results, rest on.
 pub mod BuiltSites
-pub mod Fits
+mod Fits
 pub mod Forms
 pub mod NumbersInRange
 pub mod ServesRuns
 pub mod ServesSets
-pub mod SitesKnown
+mod SitesKnown

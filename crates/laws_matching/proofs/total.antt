@@ -1,4 +1,4 @@
 -- Total meanings serve.
-pub mod Shaped
-pub mod ShapedSites
+mod Shaped
+mod ShapedSites
 pub mod Total

@@ -1,3 +1,3 @@
 -- What the choice by priority doesn't depend on.
 pub mod OtherRules
-pub mod Terms
+mod Terms

@@ -1,9 +1,9 @@
 -- Runs of sound trees in terms that are not multi.
-pub mod AddedResults
-pub mod Arms
-pub mod AvailableSites
+mod AddedResults
+mod Arms
+mod AvailableSites
 pub mod Below
-pub mod Binding
+mod Binding
 pub mod BindOrders
 pub mod Choice
 pub mod ChosenRules
@@ -13,15 +13,15 @@ pub mod Collection
 pub mod Contents
 pub mod Fields
 pub mod FieldSites
-pub mod Finding
+mod Finding
 pub mod HoldsOnce
 pub mod Listing
-pub mod Loops
+mod Loops
 pub mod Order
-pub mod PureBindings
-pub mod ResultsLeft
-pub mod Returns
+mod PureBindings
+mod ResultsLeft
+mod Returns
 pub mod RuleDemands
-pub mod RunPlaces
-pub mod Standing
-pub mod Steps
+mod RunPlaces
+mod Standing
+mod Steps

@@ -1,39 +1,39 @@
-pub mod Availability
+mod Availability
 pub mod binding
 pub mod Constraints
 pub mod ConstraintsTotal
-pub mod Counting
+mod Counting
 pub mod Covers
-pub mod Ends
+mod Ends
 pub mod JudgeExactness
-pub mod StepCounts
-pub mod Gates
+mod StepCounts
+mod Gates
 pub mod headline
 pub mod JudgedSets
 pub mod Marking
-pub mod TreeMeanings
-pub mod SingleTests
-pub mod NoLimits
-pub mod NoLimitsLowered
-pub mod NoLoops
+mod TreeMeanings
+mod SingleTests
+mod NoLimits
+mod NoLimitsLowered
+mod NoLoops
 pub mod OneAnswer
-pub mod OneTree
-pub mod OnlyTrees
-pub mod OpenTests
-pub mod Pairs
+mod OneTree
+mod OnlyTrees
+mod OpenTests
+mod Pairs
 pub mod Passing
 pub mod PicksMade
 pub mod Scores
 pub mod SerializedSteps
 pub mod Shares
-pub mod SameSets
-pub mod SameTrees
+mod SameSets
+mod SameTrees
 pub mod Soundness
-pub mod DistinctSources
+mod DistinctSources
 pub mod WellBuilt
-pub mod WholeDemandsLowered
-pub mod WholeSets
-pub mod FiniteAndTotal
-pub mod PatternConstants
-pub mod SetsServed
-pub mod Uses
+mod WholeDemandsLowered
+mod WholeSets
+mod FiniteAndTotal
+mod PatternConstants
+mod SetsServed
+mod Uses

@@ -1,8 +1,8 @@
 -- Best trees bind sites before they use them.
 pub mod BindingJudge
-pub mod BroughtSites
-pub mod PlacedSites
-pub mod Scope
-pub mod ScopedOrders
-pub mod Scopes
-pub mod Trees
+mod BroughtSites
+mod PlacedSites
+mod Scope
+mod ScopedOrders
+mod Scopes
+mod Trees

@@ -1,6 +1,6 @@
 -- Best trees keep the headline.
-pub mod AcceptedTrees
+mod AcceptedTrees
 pub mod Choosing
 pub mod Collecting
-pub mod NoCalls
-pub mod Places
+mod NoCalls
+mod Places

@@ -1,10 +1,10 @@
-pub mod Converters
-pub mod ElaboratedCalls
-pub mod EnvironmentsRead
+mod Converters
+mod ElaboratedCalls
+mod EnvironmentsRead
 pub mod EnvironmentsShown
 pub mod FormedParts
 pub mod FormedRules
-pub mod FurtherNames
+mod FurtherNames
 pub mod JudgedKnown
 pub mod JudgedReading
 pub mod JudgedTerms
@@ -16,8 +16,8 @@ pub mod OwnTypes
 pub mod Ranges
 pub mod RefusedTerms
 pub mod TermLaws
-pub mod TermTypes
-pub mod DistinctLists
+mod TermTypes
+mod DistinctLists
 pub mod TwoTables
 pub mod TypeLaws
 pub mod TypedExprs
@@ -26,13 +26,13 @@ pub mod TypedResults
 pub mod TypedRules
 pub mod TypesStay
 pub mod Typings
-pub mod UsesFound
+mod UsesFound
 pub mod VariantTerms
 pub mod VisitableRules
-pub mod WellFormed
+mod WellFormed
 pub mod WellTypedPrograms
 pub mod WellTypedRules
-pub mod WellTypedTerms
-pub mod ReadAgain
-pub mod RefusedAgain
-pub mod RulesAgain
+mod WellTypedTerms
+mod ReadAgain
+mod RefusedAgain
+mod RulesAgain

@@ -1,11 +1,11 @@
-pub mod AskedNothingElse
+mod AskedNothingElse
 pub mod AskedSites
 pub mod BoundSites
-pub mod Calls
+mod Calls
 pub mod Continued
 pub mod Exprs
-pub mod FittingPatterns
-pub mod FollowedExprs
+mod FittingPatterns
+mod FollowedExprs
 pub mod FollowedPatterns
 pub mod FollowedRules
 pub mod Gates
@@ -13,8 +13,8 @@ pub mod GoneOver
 pub mod GrowingVisits
 pub mod ImpureCallsMet
 pub mod VisitInvariants
-pub mod KnownVars
-pub mod LentVisits
+mod KnownVars
+mod LentVisits
 pub mod Limits
 pub mod LimitsPassed
 pub mod PatternParts
@@ -24,11 +24,11 @@ pub mod RightSides
 pub mod RuleParts
 pub mod Rules
 pub mod SameExprs
-pub mod ScopeOfPatterns
+mod ScopeOfPatterns
 pub mod SiteRuns
 pub mod SiteRunsMade
 pub mod SitesAlike
-pub mod VisitedRules
-pub mod VisitsAlike
+mod VisitedRules
+mod VisitsAlike
 pub mod WithSites
 pub mod WithTypes

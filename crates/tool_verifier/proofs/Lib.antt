@@ -1,2 +1,2 @@
-pub mod Entries
-pub mod OwnConstants
+mod Entries
+mod OwnConstants
