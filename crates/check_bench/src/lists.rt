@@ -1,6 +1,6 @@
 //! Texts of definitions, read.
 
-use isle_base::syntax::Def;
+use cranelift_isle::syntax::Def;
 use check_lists::long::{Kind, list};
 use isle_reader::errors::ReadFault;
 use isle_reader::read;

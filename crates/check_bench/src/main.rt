@@ -11,7 +11,7 @@ mod stages;
 mod tables;
 mod text;
 
-use isle_base::syntax::Def;
+use cranelift_isle::syntax::Def;
 use check_lists::long::Kind;
 use lists::definitions_of;
 use std::alloc::{AllocError, Global};

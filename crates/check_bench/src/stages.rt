@@ -1,17 +1,14 @@
 //! Lists at the stages from definitions to trees. What a stage was made of is kept beside it.
-ghost use Rattle.isle_base.specs.SyntaxViews.{definition_views};
+ghost use Rattle.cranelift_isle.specs.SyntaxViews.{definition_views};
 ghost use Rattle.cranelift_isle.specs.BuiltSets.{IsOfElaborated};
-ghost use Rattle.model.specs.claims.Environments.{AreTypesOf};
-ghost use Rattle.isle_types.specs.EnvViews.{environment_view};
+ghost use Rattle.cranelift_isle.specs.ElaboratedLists.{AreTypesOf};
+ghost use Rattle.cranelift_isle.specs.EnvViews.{environment_view};
 
 use cranelift_isle::lower::{Lowered, lower};
 use cranelift_isle::overlap::check;
-use isle_base::syntax::{Def, Error, Fault};
-use cranelift_isle::trie_again::build;
-use isle_rules::TermEnv;
-use isle_rule_sets::trie_again::RuleSet;
-use isle_terms::TermTable;
-use isle_types::{TermId, TypeEnv};
+use cranelift_isle::syntax::{Def, Error, Fault};
+use cranelift_isle::trie_again::{RuleSet, build};
+use cranelift_isle::sema::{TermEnv, TermId, TermTable, TypeEnv};
 use std::alloc::Global;
 use std::marker::Model;
 

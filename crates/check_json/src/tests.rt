@@ -3,7 +3,7 @@ mod forms;
 
 use forms::check_document;
 use isle_answers::samples::SAMPLES;
-use isle_base::syntax::Files;
+use cranelift_isle::syntax::Files;
 use isle_command::answers::answer_to;
 use isle_command::words::{Asked, asked_by};
 use serde_json::Value;

@@ -1,6 +1,6 @@
 //! Rows that ask the command `isle`.
 
-use isle_base::syntax::Files;
+use cranelift_isle::syntax::Files;
 use isle_command::answers::answer_to;
 use isle_command::words::{Asked, Request, Unasked, asked_by};
 use std::alloc::{AllocError, Global};

@@ -2,7 +2,7 @@
 
 use crate::command::push_command;
 use crate::texts::push_text;
-use isle_base::syntax::Files;
+use cranelift_isle::syntax::Files;
 use std::alloc::{AllocError, Global};
 
 // A row: its line, which is empty before the first row, and the files below it.

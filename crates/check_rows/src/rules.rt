@@ -2,14 +2,12 @@
 
 use isle_answers::answers::Answer;
 use isle_answers::texts::syntax_error_line;
-use isle_base::syntax::{Def, Fault};
+use cranelift_isle::syntax::{Def, Fault};
 use isle_printing::errors::error_lines;
 use isle_printing::places::Places;
-use isle_rules::TermEnv;
+use cranelift_isle::sema::{Rule, TermEnv, TypeEnv};
 use isle_reader::errors::ReadFault;
 use isle_reader::read;
-use isle_typed::Rule;
-use isle_types::TypeEnv;
 use std::alloc::{AllocError, Global};
 
 /// A line with the number of the terms of a text's definitions and a line for each rule, with its name and its variables, and

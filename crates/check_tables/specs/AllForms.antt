@@ -5,7 +5,7 @@
 -- Types: bool is 0, u8 1, T 13, S 14, P 15. Terms: f is 0, T.A 1, S 2, e 3, g 4. The constant $K, of P, is 20. Variables: x is
 -- 0, y 1, z 2, a 3, b 4.
 use Rattle.std.specs.Prelude.{ℕ, true, false, pos, List, [], ◌∷◌}
-use Rattle.model.specs.rules.Typed.{TypedPattern, match_bind, match_var, match_bool, match_int, match_prim, match_term, match_any, match_and, TypedPatterns, no_typed_pattern, typed_pattern_and, TypedExpr, make_term, make_var, make_bool, make_int, make_prim, make_let, TypedExprs, no_typed_expr, typed_expr_and, no_typed_let, typed_let_and, TypedIfLet}
+use Rattle.cranelift_isle.specs.Typed.{TypedPattern, match_bind, match_var, match_bool, match_int, match_prim, match_term, match_any, match_and, TypedPatterns, no_typed_pattern, typed_pattern_and, TypedExpr, make_term, make_var, make_bool, make_int, make_prim, make_let, TypedExprs, no_typed_expr, typed_expr_and, no_typed_let, typed_let_and, TypedIfLet}
 
 abbrev pub two_patterns : TypedPattern → TypedPattern → TypedPatterns
 two_patterns p q = typed_pattern_and p (typed_pattern_and q no_typed_pattern)

@@ -3,10 +3,8 @@
 ghost use Rattle.std.specs.Prelude.{IfOk};
 ghost use Rattle.cranelift_isle.specs.BuiltSets.{IsOfElaborated};
 
-use isle_base::syntax::{Def, Fault};
-use isle_rules::TermEnv;
-use isle_terms::TermTable;
-use isle_types::TypeEnv;
+use cranelift_isle::syntax::{Def, Fault};
+use cranelift_isle::sema::{TermEnv, TermTable, TypeEnv};
 use std::alloc::Global;
 
 /// The types and the terms of definitions.

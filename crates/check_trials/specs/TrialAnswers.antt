@@ -2,10 +2,10 @@
 -- number 2 would be given, what may give nothing gives nothing.
 use Rattle.std.specs.Prelude.{ℕ, ℤ, pos, Bool, true, false, List, Option, Some, None, slice_get, if◌then◌else◌}
 use Rattle.std.specs.Ordering.{int_eq}
-use Rattle.model.specs.lists.Ranges.{reduced}
-use Rattle.model.specs.lists.Tables.{TermEntry, TypeEntry}
-use Rattle.model.specs.rules.Values.{Value, truth, atom, of_variant, of_struct, Values, no_value, value_and}
-use Rattle.model.specs.rules.Meaning.{Content, one, parts, nothing, just, many, no_content, content_and, TotalMeaning}
+use Rattle.cranelift_isle.specs.Ranges.{reduced}
+use Rattle.cranelift_isle.specs.Tables.{TermEntry, TypeEntry}
+use Rattle.cranelift_isle.specs.Values.{Value, truth, atom, of_variant, of_struct, Values, no_value, value_and}
+use Rattle.cranelift_isle.specs.Meaning.{Content, one, parts, nothing, just, many, no_content, content_and, TotalMeaning}
 use Rattle.isle_calls.specs.Echoes.{as_written, constant_number, impure_echo, extracted_echo, pure_echo}
 
 -- a value is withheld

@@ -1,6 +1,6 @@
 -- What the program's status says of the definitions that were lowered.
 use Rattle.std.specs.Prelude.{ℕ, ◌≡◌, Bool, List}
-use Rattle.model.specs.lists.Syntax.{Definition}
+use Rattle.cranelift_isle.specs.Syntax.{Definition}
 use Rattle.cranelift_isle.specs.Lowerings.{AreAccepted}
 use Rattle.isle_answers.specs.declared.answers.Answer.{Answer}
 use Rattle.isle_answers.specs.declared.answers.Answer.TheVariants.{Trees, Errors}

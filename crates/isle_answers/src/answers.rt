@@ -1,13 +1,13 @@
 //! What is answered to definitions: the text of their trees, or of what is wrong with them.
 
 ghost use Rattle.std.specs.Prelude.{◌≡◌, ◌≢◌, ◌≤◌, ◌⊎◌, IfOk, Bool, List};
-ghost use Rattle.isle_base.specs.SyntaxViews.{definition_views};
-ghost use Rattle.model.specs.lists.Syntax.{Definition};
+ghost use Rattle.cranelift_isle.specs.SyntaxViews.{definition_views};
+ghost use Rattle.cranelift_isle.specs.Syntax.{Definition};
 ghost use Rattle.isle_answers.specs.Statuses.{IsAnswerTo, IsStatusOf};
 
 use crate::trees::trees;
 use cranelift_isle::lower::lower;
-use isle_base::syntax::{Def, Fault};
+use cranelift_isle::syntax::{Def, Fault};
 use isle_printing::errors::error_lines;
 use isle_printing::places::Places;
 use std::alloc::{AllocError, Global};

@@ -2,10 +2,10 @@
 
 ghost use Rattle.std.specs.Prelude.{IfOk};
 ghost use Rattle.isle_answers.specs.Statuses.{IsAnswerTo};
-ghost use Rattle.isle_base.specs.SyntaxViews.{definition_views};
+ghost use Rattle.cranelift_isle.specs.SyntaxViews.{definition_views};
 
 use crate::answers::{Answer, answer_to};
-use isle_base::syntax::Def;
+use cranelift_isle::syntax::Def;
 use isle_printing::places::Places;
 use isle_reader::errors::{Problem, ReadFault, TextError};
 use isle_reader::read;

@@ -2,7 +2,7 @@
 use Rattle.std.proofs.Common.{◌≡◌, ℕ, ◌+◌, ◌<◌, ◌≤◌, List, [], ◌∷◌, ◌++◌, length, drop, map}
 use Rattle.std.proofs.lemmas.List.{at_drop_more, at_drop_all}
 use Rattle.model.specs.rules.Values as Values
-use Rattle.model.specs.rules.Values.{Values, value_and}
+use Rattle.cranelift_isle.specs.Values.{Values, value_and}
 use Rattle.isle_types.specs.declared.ids.TypeId.{TypeId}
 use Rattle.isle_interpreter.specs.declared.values.Value.{Value}
 use Rattle.isle_interpreter.specs.ValueViews.{value_view, value_views}

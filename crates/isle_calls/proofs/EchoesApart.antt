@@ -2,14 +2,14 @@
 use Rattle.std.proofs.Common.{◌≡◌, ℕ, ℤ, pos, ◌+ℤ◌, Bool, true, false, List, Option, Some, None, slice_get, Contains, refl, sym, ap, ◌∙◌, subst, arith}
 use Rattle.std.proofs.lemmas.Bool.{false≢true, true≢false}
 use Rattle.std.proofs.lemmas.Int.{ints}
-use Rattle.model.specs.lists.Tables.{TypeEntry, builtin_type, primitive_type, enum_type, struct_type}
-use Rattle.model.specs.rules.Values.{Value, truth, atom, is_atom_type}
-use Rattle.model.specs.rules.Meaning.{total}
-use Rattle.model.specs.rules.Program.{Program, rules_of}
-use Rattle.model.specs.rules.Typed.{TypedRule}
-use Rattle.model.specs.sites.Sites.{SiteTerm, bool_term, int_term, prim_term, argument, extractor_call, constructor_call, pick_of, variant_made, variant_field, struct_made, struct_field, some_made, some_part, tuple_part, no_site}
-use Rattle.model.specs.sites.Serves.{constant_type, is_type_with_parts, tested_constants, written_type, written_value}
-use Rattle.model.specs.claims.Environments.{program_of}
+use Rattle.cranelift_isle.specs.Tables.{TypeEntry, builtin_type, primitive_type, enum_type, struct_type}
+use Rattle.cranelift_isle.specs.Values.{Value, truth, atom, is_atom_type}
+use Rattle.cranelift_isle.specs.Meaning.{total}
+use Rattle.cranelift_isle.specs.Program.{Program, rules_of}
+use Rattle.cranelift_isle.specs.Typed.{TypedRule}
+use Rattle.cranelift_isle.specs.Sites.{SiteTerm, bool_term, int_term, prim_term, argument, extractor_call, constructor_call, pick_of, variant_made, variant_field, struct_made, struct_field, some_made, some_part, tuple_part, no_site}
+use Rattle.cranelift_isle.specs.Serves.{constant_type, is_type_with_parts, tested_constants, written_type, written_value}
+use Rattle.cranelift_isle.specs.ElaboratedLists.{program_of}
 use Rattle.model.proofs.Elements.{some_is, none_some}
 use Rattle.laws_typing.proofs.WellTypedRules.{elaborated_programs_are_well_typed_lem}
 use Rattle.laws_matching.specs.TotalLaws.{matched_by, called_by}

@@ -2,11 +2,11 @@
 use Rattle.std.proofs.Common.{◌≡◌, ◌==◌, ℕ, ℤ, pos, Bool, true, false, List, [], ◌∷◌, Option, Some, None, slice_get, refl, sym, ap, ◌∙◌, subst, eqb-true, eq-eqb}
 use Rattle.std.specs.List.{list_all}
 use Rattle.std.proofs.lemmas.Bool.{and_parts, false≢true}
-use Rattle.model.specs.lists.Tables.{Flags, TypeEntry, TermEntry, TermKindEntry, variant_term, struct_term, declared_term}
-use Rattle.model.specs.rules.Values.{Value, atom, Values, no_value, value_and, is_atom_type, well_typed, all_well_typed}
-use Rattle.model.specs.rules.Meaning.{Content, one}
-use Rattle.model.specs.rules.Program.{Program, Kind, a_variant, a_struct, a_call, unknown, kind, kind_of, always_answers}
-use Rattle.model.specs.sites.Serves.{fits_one, fits_answer, fits_extractor, fits_constructor, term_args, term_results}
+use Rattle.cranelift_isle.specs.Tables.{Flags, TypeEntry, TermEntry, TermKindEntry, variant_term, struct_term, declared_term}
+use Rattle.cranelift_isle.specs.Values.{Value, atom, Values, no_value, value_and, is_atom_type, well_typed, all_well_typed}
+use Rattle.cranelift_isle.specs.Meaning.{Content, one}
+use Rattle.cranelift_isle.specs.Program.{Program, Kind, a_variant, a_struct, a_call, unknown, kind, kind_of, always_answers}
+use Rattle.cranelift_isle.specs.Serves.{fits_one, fits_answer, fits_extractor, fits_constructor, term_args, term_results}
 use Rattle.laws_matching.specs.TotalLaws.{can_be_matched, can_be_called}
 use Rattle.isle_calls.specs.Echoes.{constant_number, named_value, in_form, for_each_type, outputs_of, extracted_by, extracted_echo, given_by, first_or_zero, pure_echo, impure_echo}
 use Rattle.isle_calls.specs.EchoLaws.{CanGiveFirst, EchoesAreWellTyped}

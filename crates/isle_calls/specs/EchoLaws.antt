@@ -2,18 +2,18 @@
 use Rattle.std.specs.Prelude.{◌≡◌, ◌++◌, ℕ, ℤ, Bool, true, false, List, [], ◌∷◌, Option, Some, slice_get, Contains, IsTrue}
 use Rattle.std.specs.Bool.{◌==◌}
 use Rattle.std.specs.List.{list_all}
-use Rattle.model.specs.lists.Syntax.{Definition}
-use Rattle.model.specs.lists.Tables.{TermEntry}
-use Rattle.model.specs.lists.Elaborated.{TypedRules}
-use Rattle.model.specs.rules.Values.{Value, is_atom_type, args_well_typed}
-use Rattle.model.specs.rules.Meaning.{total}
-use Rattle.model.specs.rules.Program.{Program, arg_types, is_multi, is_pure, rules_of}
-use Rattle.model.specs.rules.Typed.{TypedRule}
-use Rattle.model.specs.sites.Sites.{Site, int_term, prim_term}
-use Rattle.model.specs.sites.Serves.{constant_type, tested_constants, TellsConstantsApart}
-use Rattle.model.specs.trees.Trees.{Tree}
-use Rattle.model.specs.claims.Environments.{TypesRead, IsElaborated, program_of}
-use Rattle.model.specs.claims.Headline.{RunsAsChosen}
+use Rattle.cranelift_isle.specs.Syntax.{Definition}
+use Rattle.cranelift_isle.specs.Tables.{TermEntry}
+use Rattle.cranelift_isle.specs.Elaborated.{TypedRules}
+use Rattle.cranelift_isle.specs.Values.{Value, is_atom_type, args_well_typed}
+use Rattle.cranelift_isle.specs.Meaning.{total}
+use Rattle.cranelift_isle.specs.Program.{Program, arg_types, is_multi, is_pure, rules_of}
+use Rattle.cranelift_isle.specs.Typed.{TypedRule}
+use Rattle.cranelift_isle.specs.Sites.{Site, int_term, prim_term}
+use Rattle.cranelift_isle.specs.Serves.{constant_type, tested_constants, TellsConstantsApart}
+use Rattle.cranelift_isle.specs.Trees.{Tree}
+use Rattle.cranelift_isle.specs.ElaboratedLists.{TypesRead, IsElaborated, program_of}
+use Rattle.cranelift_isle.specs.Headline.{RunsAsChosen}
 use Rattle.laws_typing.specs.WellTypedPrograms.{IsWellTypedProgram}
 use Rattle.laws_visits.specs.RuleUses.{Use, a_term, a_constant}
 use Rattle.laws_matching.specs.TotalLaws.{IsWellTyped, ChoosesUnder, can_be_matched, can_be_called, matched_by, called_by}

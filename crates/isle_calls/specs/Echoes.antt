@@ -1,9 +1,9 @@
 -- What echoes answer: functions of what is called that a person works out by hand.
 use Rattle.std.specs.Prelude.{ℕ, ℤ, pos, neg_ℤ, ◌+ℤ◌, ◌^◌, Bool, true, false, not, List, [], ◌∷◌, Option, Some, None, slice_get}
-use Rattle.model.specs.lists.Tables.{TermEntry}
-use Rattle.model.specs.rules.Values.{Value, truth, atom, Values, no_value, value_and}
-use Rattle.model.specs.rules.Meaning.{Content, one, parts, nothing, just, many, no_content, content_and, Literal, bool_literal, int_literal, TotalMeaning}
-use Rattle.model.specs.rules.Program.{Kind, a_call, kind_of}
+use Rattle.cranelift_isle.specs.Tables.{TermEntry}
+use Rattle.cranelift_isle.specs.Values.{Value, truth, atom, Values, no_value, value_and}
+use Rattle.cranelift_isle.specs.Meaning.{Content, one, parts, nothing, just, many, no_content, content_and, Literal, bool_literal, int_literal, TotalMeaning}
+use Rattle.cranelift_isle.specs.Program.{Kind, a_call, kind_of}
 
 -- a literal is the value that it writes
 abbrev pub as_written : Literal → Value

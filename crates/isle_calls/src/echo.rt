@@ -2,17 +2,16 @@
 #![tactic(auto, using(isle_interpreter::proofs::ContentSteps::content_steps, isle_interpreter::proofs::ValueSteps::value_steps))]
 
 ghost use Rattle.std.specs.Prelude.{◌≡◌, IfOk, map, not, option_map};
-ghost use Rattle.model.specs.rules.Meaning.{content_and, many, no_content};
-ghost use Rattle.model.specs.rules.Program.{always_answers, kind_of};
-ghost use Rattle.isle_terms.specs.TermViews.{extractor_view, flags_view, term_view, term_views};
-ghost use Rattle.isle_types.specs.Envs.{constant_at};
+ghost use Rattle.cranelift_isle.specs.Meaning.{content_and, many, no_content};
+ghost use Rattle.cranelift_isle.specs.Program.{always_answers, kind_of};
+ghost use Rattle.cranelift_isle.specs.TermViews.{extractor_view, flags_view, term_view, term_views};
+ghost use Rattle.cranelift_isle.specs.Envs.{constant_at};
 ghost use Rattle.isle_interpreter.specs.ValueViews.{content_view, value_view, value_views};
 ghost use Rattle.isle_calls.specs.Echoes.{constant_number, impure_echo, echoes, extracted_by, first_or_zero, for_each_type, given_by, in_form, pure_echo, named_value, outputs_of};
 
 use isle_interpreter::externs::Externs;
 use isle_interpreter::values::{Content, Value};
-use isle_terms::{ExtractorKind, Term, TermFlags, TermKind};
-use isle_types::{Sym, TermId, TypeEnv, TypeId};
+use cranelift_isle::sema::{ExtractorKind, Sym, Term, TermFlags, TermId, TermKind, TypeEnv, TypeId};
 use std::alloc::{AllocError, Global};
 
 /// Answers each call by one rule. A literal is the value that it writes, and a named constant a value that no other

@@ -9,7 +9,7 @@ ghost use Rattle.isle_capi.specs.Told.{command_format, command_task, status_of, 
 use crate::options::{Asked, Format, Task};
 use crate::output::{Sizes, hand_over};
 use crate::statuses::{DONE, ERRORS, NO_CODE, NO_MEMORY};
-use isle_base::syntax::Files;
+use cranelift_isle::syntax::Files;
 use isle_command::answers::{Answer, answer_to_reading};
 use isle_command::code::{Code, code_of};
 use isle_command::progress::Teller;

@@ -5,7 +5,7 @@ ghost use Rattle.std.specs.Str.{is_utf8};
 ghost use Rattle.isle_capi.specs.Calls.{are_texts, length_of, texts_in, total_length, AddUp, AreOther};
 ghost use Rattle.isle_capi.specs.declared.inputs.Unread.TheVariants.{Memory, Text};
 
-use isle_base::syntax::Files;
+use cranelift_isle::syntax::Files;
 use std::alloc::{AllocError, AllocFailed, Global};
 
 /// How many bytes a file's name and its text take.

@@ -1,7 +1,7 @@
 -- What the status of an answer says, and what lowered definitions are answered.
 use Rattle.std.proofs.Common.{◌≡◌, ◌≤◌, ◌⊎◌, ℕ, Bool, true, false, List, inl, inr, refl, subst, arith, Result, Ok, Err, IfOk, MatchResult}
 use Rattle.std.specs.declared.alloc.AllocError.{AllocError}
-use Rattle.model.specs.lists.Syntax.{Definition}
+use Rattle.cranelift_isle.specs.Syntax.{Definition}
 use Rattle.cranelift_isle.specs.declared.lower.Lowered.{Lowered}
 use Rattle.cranelift_isle.specs.Lowerings.{IsLowered}
 use Rattle.isle_command.specs.declared.answers.Answer.{Answer}

@@ -1,7 +1,7 @@
 -- What is read of one text more.
 use Rattle.std.proofs.Common.{◌≡◌, ◌⊎◌, ℕ, List, ◌++◌, All, Some, length, slice_get, sym, subst, inl, inr}
 use Rattle.std.proofs.lemmas.List.Elements.{All-append, All-weaker}
-use Rattle.model.specs.lists.Syntax.{Definition}
+use Rattle.cranelift_isle.specs.Syntax.{Definition}
 use Rattle.isle_reader.specs.Within.{AreWithin, DefinitionIsWithin}
 use Rattle.isle_command.specs.Readings.{IsUnread, LiesInSome, SomeIsUnread}
 

@@ -1,8 +1,8 @@
 -- What the texts of files are read as. It says no more than the reader does: that what it gives lies in the texts, and not that
 -- it is what they spell.
 use Rattle.std.specs.Prelude.{Bool, ℕ, ◌≡◌, ◌≢◌, List, [], All, length, slice_get, Some}
-use Rattle.isle_base.specs.SyntaxViews.{definition_views}
-use Rattle.model.specs.lists.Syntax.{Definition}
+use Rattle.cranelift_isle.specs.SyntaxViews.{definition_views}
+use Rattle.cranelift_isle.specs.Syntax.{Definition}
 use Rattle.cranelift_isle.specs.Lowerings.{AreAccepted}
 use Rattle.isle_reader.specs.declared.errors.ReadFault.TheVariants.{Text}
 use Rattle.isle_reader.specs.declared.errors.TextError.{TextError}

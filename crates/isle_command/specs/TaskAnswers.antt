@@ -1,10 +1,10 @@
 -- What the command answers to definitions, by what it is asked.
 use Rattle.std.specs.Prelude.{ℕ, ◌≡◌, ◌≢◌, ◌≤◌, ◌⊎◌, true, List, [], is_none, is_some, length, map, string_bytes}
-use Rattle.isle_base.specs.SyntaxViews.{definition_views}
-use Rattle.model.specs.claims.Layers.{own_program, IsAccepted}
-use Rattle.model.specs.lists.Elaborated.{TypedRules}
-use Rattle.model.specs.lists.Syntax.{Definition}
-use Rattle.model.specs.rules.Program.{terms_with_rules}
+use Rattle.cranelift_isle.specs.SyntaxViews.{definition_views}
+use Rattle.cranelift_isle.specs.Layers.{own_program, IsAccepted}
+use Rattle.cranelift_isle.specs.Elaborated.{TypedRules}
+use Rattle.cranelift_isle.specs.Syntax.{Definition}
+use Rattle.cranelift_isle.specs.Program.{terms_with_rules}
 use Rattle.cranelift_isle.specs.declared.lower.Lowered.{Lowered}
 use Rattle.cranelift_isle.specs.Lowerings.{lowered_views, AreAccepted}
 use Rattle.isle_command.specs.declared.answers.Answer.{Answer}

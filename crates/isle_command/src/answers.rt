@@ -1,7 +1,7 @@
 //! What the command answers to texts.
 
 ghost use Rattle.std.specs.Prelude.{◌≡◌, ◌≢◌, ◌⊎◌, ◌≤◌, ◌<◌, true, [], length, is_none, map, string_bytes, string_len, IfOk};
-ghost use Rattle.isle_base.specs.SyntaxViews.{definition_views};
+ghost use Rattle.cranelift_isle.specs.SyntaxViews.{definition_views};
 ghost use Rattle.isle_command.specs.declared.code.Code.{Code};
 ghost use Rattle.isle_command.specs.declared.words.Task.TheVariants.{Lower};
 ghost use Rattle.isle_command.specs.Codes.{IsAnswerOfCode, IsCode};
@@ -17,7 +17,7 @@ use crate::progress::Teller;
 use crate::reading::{Reading, reading_of};
 use crate::words::{Format, Request, Task};
 use cranelift_isle::lower::{Lowered, LoweredTerm, lower};
-use isle_base::syntax::{Def, Fault, Files};
+use cranelift_isle::syntax::{Def, Fault, Files};
 use isle_calls::calls::answer_to_call;
 use isle_calls::values::Unanswered;
 use isle_diagnostics::diagnosis::reports_of;

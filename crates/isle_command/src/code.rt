@@ -1,14 +1,14 @@
 //! The Rust code of files.
 
 ghost use Rattle.std.specs.Prelude.{◌≡◌, ◌≢◌, [], string_bytes, IfErr, IfOk, Ok};
-ghost use Rattle.isle_base.specs.SyntaxViews.{definition_views};
+ghost use Rattle.cranelift_isle.specs.SyntaxViews.{definition_views};
 ghost use Rattle.cranelift_isle.specs.Lowerings.{AreAccepted};
 ghost use Rattle.isle_command.specs.declared.code.Code.TheVariants.{Text};
 ghost use Rattle.isle_command.specs.Codes.{IsCode, IsCodedBy, IsCodeOf, IsNames};
 
 use crate::reading::Reading;
 use cranelift_isle::lower::{Lowered, lower};
-use isle_base::syntax::{Def, Fault, Files};
+use cranelift_isle::syntax::{Def, Fault, Files};
 use isle_rust::code::{CodeError, rust_code};
 use std::alloc::{AllocError, Global};
 

@@ -1,7 +1,7 @@
 //! The files that the command reads.
 
 use crate::words::Request;
-use isle_base::syntax::Files;
+use cranelift_isle::syntax::Files;
 use std::alloc::{AllocError, AllocFailed, Global};
 use std::io::{ErrorKind, Read};
 use std::{fs, io};

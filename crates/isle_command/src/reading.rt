@@ -1,14 +1,14 @@
 //! What the texts of files are read as.
 
 ghost use Rattle.std.specs.Prelude.{◌≡◌, ◌≢◌, ◌++◌, ◌⊎◌, [], List, length, map, string_bytes, IfOk, OnOk};
-ghost use Rattle.isle_base.specs.SyntaxViews.{definition_views};
-ghost use Rattle.model.specs.lists.Syntax.{Definition};
+ghost use Rattle.cranelift_isle.specs.SyntaxViews.{definition_views};
+ghost use Rattle.cranelift_isle.specs.Syntax.{Definition};
 ghost use Rattle.isle_reader.specs.Within.{AreWithin};
 ghost use Rattle.isle_command.specs.Readings.{IsReadingOf, IsUnread};
 
 use crate::progress::Teller;
 use crate::words::Request;
-use isle_base::syntax::{Def, Files};
+use cranelift_isle::syntax::{Def, Files};
 use isle_printing::lines::file_name;
 use isle_printing::report::{Label, Level, Report};
 use isle_reader::errors::{Problem, ReadFault, TextError};

@@ -12,7 +12,7 @@ use crate::words::{Asked, Request, Task, Unasked, asked_by};
 use isle_answers::answers::{end, no_memory, write_text};
 use isle_answers::sample_run::run_sample;
 use isle_answers::samples::sample_names;
-use isle_base::syntax::Files;
+use cranelift_isle::syntax::Files;
 use std::alloc::{AllocError, Global};
 use std::env::{Env, FillError};
 use std::io::{Read, Write};

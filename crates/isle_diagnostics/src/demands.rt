@@ -1,7 +1,7 @@
 //! Sites and demands in words.
 
 use crate::names::Names;
-use isle_rule_sets::trie_again::{Binding, BindingId, Constraint};
+use cranelift_isle::trie_again::{Binding, BindingId, Constraint};
 use std::alloc::{AllocError, Global};
 
 // The longest text of a site, in bytes. A longer one is cut short, since a site may stand in a text many times.

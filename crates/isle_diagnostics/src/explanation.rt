@@ -4,10 +4,10 @@ use crate::demands::{push_demand, push_equals, site_texts, text_at};
 use crate::names::Names;
 use crate::trees::{Search, push_returns};
 use cranelift_isle::lower::{Lowered, LoweredTerm};
-use isle_base::syntax::{Files, Pos};
+use cranelift_isle::syntax::{Files, Pos};
 use isle_printing::layout::push_place;
 use isle_printing::lines::{file_name, file_text, line_at};
-use isle_rule_sets::trie_again::{Constraint, Overlap, Rule};
+use cranelift_isle::trie_again::{Constraint, Overlap, Rule};
 use std::alloc::{AllocError, Global};
 
 /// What is said of a rule that is called by its name, by the number of its line, or by the name of its file, a colon and

@@ -1,8 +1,7 @@
 //! What names, types, terms and rules are called.
 
-use isle_base::syntax::{Def, Pos, Rule};
-use isle_terms::Term;
-use isle_types::{Sym, TermId, Type, TypeEnv, TypeId, VariantId};
+use cranelift_isle::syntax::{Def, Pos, Rule};
+use cranelift_isle::sema::{Sym, Term, TermId, Type, TypeEnv, TypeId, VariantId};
 
 /// What names are looked up in.
 #[derive(Clone, Copy)]

@@ -1,10 +1,8 @@
 //! The rule sets of definitions that may be refused for what their rules demand.
 
-use isle_base::syntax::{Def, Fault};
-use cranelift_isle::trie_again::build;
-use isle_rules::TermEnv;
-use isle_rule_sets::trie_again::RuleSet;
-use isle_types::{TermId, TypeEnv};
+use cranelift_isle::syntax::{Def, Fault};
+use cranelift_isle::trie_again::{RuleSet, build};
+use cranelift_isle::sema::{TermEnv, TermId, TypeEnv};
 use std::alloc::Global;
 
 /// The environments of definitions, and the rule set of each term with rules, of those rules that can match.

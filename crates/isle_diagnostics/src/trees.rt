@@ -2,9 +2,9 @@
 
 use crate::demands::{push_head, text_at};
 use crate::names::Names;
-use isle_base::syntax::Pos;
-use isle_serialize::serialize::{Block, ControlFlow, EvalStep, MatchArm};
-use isle_rule_sets::trie_again::{BindingId, Constraint};
+use cranelift_isle::syntax::Pos;
+use cranelift_isle::serialize::{Block, ControlFlow, EvalStep, MatchArm};
+use cranelift_isle::trie_again::{BindingId, Constraint};
 use std::alloc::{AllocError, Global};
 
 /// How large a tree is.

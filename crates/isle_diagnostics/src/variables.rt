@@ -2,7 +2,7 @@
 
 use crate::diagnosis::add_help;
 use crate::lints::begun;
-use isle_base::syntax::{Expr, Ident, IfLet, Pattern, Pos, Rule};
+use cranelift_isle::syntax::{Expr, Ident, IfLet, Pattern, Pos, Rule};
 use isle_printing::report::{Label, Report};
 use std::alloc::{AllocError, Global};
 use std::collections::BTreeMap;

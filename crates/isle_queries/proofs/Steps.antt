@@ -2,11 +2,11 @@
 use Rattle.std.proofs.Common.{◌≡◌, ℕ, ◌+◌, ◌<◌, List, [], ◌∷◌, ◌++◌, length, get_or, drop, sym, ap, subst, ◌∙◌}
 use Rattle.std.specs.Prelude.{Result, OnOk}
 use Rattle.std.proofs.lemmas.List.{append-nil, append_assoc, at_drop_more}
-use Rattle.model.specs.trees.Trees.{Arms, no_arm, arm}
-use Rattle.isle_rule_sets.specs.SiteViews.{constraint_view}
+use Rattle.cranelift_isle.specs.Trees.{Arms, no_arm, arm}
+use Rattle.cranelift_isle.specs.SiteViews.{constraint_view}
 use Rattle.isle_serialize.proofs.TreeLaws.{arm_seen}
 use Rattle.isle_serialize.specs.declared.serialize.MatchArm.{MatchArm, MatchArm', out-MatchArm, roll-out-MatchArm}
-use Rattle.isle_serialize.specs.TreeViews.{tree_view, arm_view, arms_view}
+use Rattle.cranelift_isle.specs.TreeViews.{tree_view, arm_view, arms_view}
 use Rattle.isle_queries.specs.Walks.{Passed, met, Place, steps_from, steps_of_arms}
 
 -- an arm before others

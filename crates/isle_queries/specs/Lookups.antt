@@ -1,12 +1,12 @@
 -- The entry of a term, the rules at a position, and the rule behind a return.
 use Rattle.std.specs.Prelude.{ℕ, Bool, ◌==◌, ◌&&◌, List, [], ◌∷◌, ◌++◌, map, Option, None}
 use Rattle.std.specs.List.{filter, find, flat_map}
-use Rattle.model.specs.claims.Layers.{LoweredTerm}
-use Rattle.model.specs.claims.Refusals.{Refusal, ill_typed, unreachable, overlapping, shadowing, past_limit}
-use Rattle.model.specs.lists.Syntax.{Position}
-use Rattle.model.specs.rules.Typed.{TypedRule}
-use Rattle.model.specs.sites.Sites.{SetRule}
-use Rattle.model.specs.trees.Trees.{Check, return_at}
+use Rattle.cranelift_isle.specs.Layers.{LoweredTerm}
+use Rattle.cranelift_isle.specs.Refusals.{Refusal, ill_typed, unreachable, overlapping, shadowing, past_limit}
+use Rattle.cranelift_isle.specs.Syntax.{Position}
+use Rattle.cranelift_isle.specs.Typed.{TypedRule}
+use Rattle.cranelift_isle.specs.Sites.{SetRule}
+use Rattle.cranelift_isle.specs.Trees.{Check, return_at}
 
 -- whether two positions are one
 abbrev pub is_at : Position → Position → Bool

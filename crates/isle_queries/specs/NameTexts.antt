@@ -1,10 +1,10 @@
 -- The texts of names, by the ids of what they name.
 use Rattle.std.specs.Prelude.{ℕ, List, Option, slice_get}
-use Rattle.model.specs.claims.Questions.{variant_by_id}
-use Rattle.model.specs.lists.Tables.{TermEntry, TypeEntry}
-use Rattle.model.specs.rules.Outcome.{then_option}
-use Rattle.model.specs.rules.Typed.{TypedRule}
-use Rattle.isle_types.specs.Types.{type_text}
+use Rattle.cranelift_isle.specs.Questions.{variant_by_id}
+use Rattle.cranelift_isle.specs.Tables.{TermEntry, TypeEntry}
+use Rattle.cranelift_isle.specs.Outcome.{then_option}
+use Rattle.cranelift_isle.specs.Typed.{TypedRule}
+use Rattle.cranelift_isle.specs.Types.{type_text}
 
 abbrev pub name_of_term : List (List ℕ) → List TermEntry → ℕ → Option (List ℕ)
 name_of_term names terms id = then_option (slice_get terms id) (λ t. slice_get names t.name)

@@ -1,9 +1,9 @@
 -- Which premises of the headline a lowered term meets whatever the called terms mean.
 use Rattle.std.specs.Prelude.{Bool, true, false, List, slice_get}
 use Rattle.std.specs.List.{list_all}
-use Rattle.model.specs.lists.Tables.{TypeEntry}
-use Rattle.model.specs.sites.Sites.{Constraint, is_variant, is_struct, is_bool, is_int, is_prim, is_present, SetRule, SiteSet}
-use Rattle.model.specs.sites.Serves.{is_own_type}
+use Rattle.cranelift_isle.specs.Tables.{TypeEntry}
+use Rattle.cranelift_isle.specs.Sites.{Constraint, is_variant, is_struct, is_bool, is_int, is_prim, is_present, SetRule, SiteSet}
+use Rattle.cranelift_isle.specs.Serves.{is_own_type}
 
 -- whether a constraint asks no constant whose value a meaning may choose: no named one, and no integer of a type that isn't
 -- built in

@@ -1,10 +1,10 @@
 -- The steps of a tree in reading order, each with the tests on the way to it.
 use Rattle.std.specs.Prelude.{ℕ, List, [], ◌∷◌, ◌++◌, map}
-use Rattle.model.specs.sites.Sites.{Constraint}
-use Rattle.model.specs.trees.Trees.{Tree, no_step, step, Check, match_at, equal_at, loop_at, return_at, Arms, no_arm, arm}
-use Rattle.isle_rule_sets.specs.SiteViews.{constraint_view}
+use Rattle.cranelift_isle.specs.Sites.{Constraint}
+use Rattle.cranelift_isle.specs.Trees.{Tree, no_step, step, Check, match_at, equal_at, loop_at, return_at, Arms, no_arm, arm}
+use Rattle.cranelift_isle.specs.SiteViews.{constraint_view}
 use Rattle.isle_serialize.specs.declared.serialize.EvalStep.{EvalStep}
-use Rattle.isle_serialize.specs.TreeViews.{check_view}
+use Rattle.cranelift_isle.specs.TreeViews.{check_view}
 use Rattle.isle_queries.specs.declared.walk.Turn.{Turn}
 use Rattle.isle_queries.specs.declared.walk.Turn.TheVariants as T
 use Rattle.isle_queries.specs.declared.walk.Visit.{Visit}

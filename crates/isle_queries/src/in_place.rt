@@ -1,8 +1,8 @@
 //! What a reader of a tree never finds in a bind order.
 
 ghost use Rattle.std.specs.Prelude.{◌≡◌, Some, slice_get};
-ghost use Rattle.model.specs.trees.Places.{is_in_place};
-ghost use Rattle.isle_rule_sets.specs.SiteViews.{set_view, site_view};
+ghost use Rattle.cranelift_isle.specs.Places.{is_in_place};
+ghost use Rattle.cranelift_isle.specs.SiteViews.{set_view, site_view};
 
 use cranelift_isle::trie_again::{Binding, BindingId, RuleSet};
 

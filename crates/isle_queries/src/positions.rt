@@ -1,9 +1,9 @@
 //! The positions that an error names, and the rules there.
 
 ghost use Rattle.std.specs.Prelude.{◌≡◌, ◌++◌, map, IfOk, OnOk};
-ghost use Rattle.isle_base.specs.ErrorViews.{error_view, span_starts};
-ghost use Rattle.isle_base.specs.SyntaxViews.{position};
-ghost use Rattle.isle_typed.specs.RuleViews.{rule_views};
+ghost use Rattle.cranelift_isle.specs.ErrorViews.{error_view, span_starts};
+ghost use Rattle.cranelift_isle.specs.SyntaxViews.{position};
+ghost use Rattle.cranelift_isle.specs.RuleViews.{rule_views};
 ghost use Rattle.isle_queries.specs.Lookups.{refusal_positions, rule_numbers_at, rule_numbers_at_each};
 
 use cranelift_isle::sema::{RuleId, TermEnv};

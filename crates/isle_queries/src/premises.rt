@@ -3,9 +3,9 @@
 ghost use Rattle.std.specs.Prelude.{◌≡◌};
 ghost use Rattle.std.specs.List.{list_all};
 ghost use Rattle.cranelift_isle.specs.Checks.{env_program};
-ghost use Rattle.model.specs.rules.Program.{is_multi};
-ghost use Rattle.isle_types.specs.TypeViews.{type_views};
-ghost use Rattle.isle_rule_sets.specs.SiteViews.{constraint_view, constraint_views, set_rule_view, set_view};
+ghost use Rattle.cranelift_isle.specs.Program.{is_multi};
+ghost use Rattle.cranelift_isle.specs.TypeViews.{type_views};
+ghost use Rattle.cranelift_isle.specs.SiteViews.{constraint_view, constraint_views, set_rule_view, set_view};
 ghost use Rattle.isle_queries.specs.Premises.{asks_own_constant, asks_own_constants, rule_asks_own};
 
 use cranelift_isle::sema::{TermEnv, TermId, TermKind, Type, TypeEnv};

@@ -3,9 +3,9 @@
 ghost use Rattle.std.specs.Prelude.{◌≡◌, option_map, slice_get};
 ghost use Rattle.std.specs.List.{find};
 ghost use Rattle.cranelift_isle.specs.Lowerings.{lowered_view, lowered_views};
-ghost use Rattle.isle_base.specs.SyntaxViews.{position};
-ghost use Rattle.isle_rule_sets.specs.SiteViews.{set_rule_view, set_view};
-ghost use Rattle.isle_serialize.specs.TreeViews.{check_view};
+ghost use Rattle.cranelift_isle.specs.SyntaxViews.{position};
+ghost use Rattle.cranelift_isle.specs.SiteViews.{set_rule_view, set_view};
+ghost use Rattle.cranelift_isle.specs.TreeViews.{check_view};
 ghost use Rattle.isle_queries.specs.Lookups.{entry_of, is_behind, returned_rule};
 
 use cranelift_isle::lower::{Lowered, LoweredTerm};

@@ -1,8 +1,8 @@
 //! A walk over a tree: each step once, in the order in which the printed tree has them.
 
 ghost use Rattle.std.specs.Prelude.{◌≡◌, ◌++◌, ◌∷◌, [], length, IfOk, OnOk};
-ghost use Rattle.model.specs.trees.Trees.{no_arm};
-ghost use Rattle.isle_serialize.specs.TreeViews.{arm_view, check_view, tree_view};
+ghost use Rattle.cranelift_isle.specs.Trees.{no_arm};
+ghost use Rattle.cranelift_isle.specs.TreeViews.{arm_view, check_view, tree_view};
 ghost use Rattle.isle_queries.specs.Walks.{step_place, steps_from, steps_inside, steps_from_root, steps_of_arms, turn_view, turn_views, visit_view, visit_views};
 
 use cranelift_isle::serialize::{Block, ControlFlow, EvalStep, MatchArm};

@@ -9,7 +9,7 @@ use crate::program::Program;
 use crate::taken::check_names;
 use crate::types::push_types;
 use cranelift_isle::lower::{Lowered, LoweredTerm};
-use isle_base::syntax::Files;
+use cranelift_isle::syntax::Files;
 use std::alloc::{AllocError, AllocFailed, Global};
 
 /// Why a program has no code.

@@ -1,6 +1,6 @@
 //! The lines of files.
 
-use isle_base::syntax::{Files, Pos};
+use cranelift_isle::syntax::{Files, Pos};
 use std::alloc::{AllocError, Global};
 
 /// Files, with where the lines of each begin.

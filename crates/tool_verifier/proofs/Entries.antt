@@ -2,18 +2,18 @@
 use Rattle.std.proofs.Common.{◌≡◌, ℕ, Bool, true, false, List, map, None, Some, slice_get, get_or, All, refl, sym, ap, ◌∙◌, subst}
 use Rattle.std.proofs.lemmas.List.Elements.{All-get_or}
 use Rattle.std.proofs.lemmas.Option.{slice_get_within, get_or_from_slice_get}
-use Rattle.model.specs.lists.Elaborated.{TypedRules}
-use Rattle.model.specs.lists.Syntax.{Definition}
-use Rattle.model.specs.lists.Tables.{TermEntry, TypeEntry}
-use Rattle.model.specs.rules.Meaning.{Meaning}
-use Rattle.model.specs.rules.Program.{Program, kind_of, flags_of, unknown, is_multi, rules_of}
-use Rattle.model.specs.rules.Values.{Value}
-use Rattle.model.specs.sites.Serves.{TellsConstantsApart}
-use Rattle.model.specs.claims.Layers.{own_program, IsLoweredTerm}
-use Rattle.model.specs.claims.SetMeanings.{DemandsAreWhole}
+use Rattle.cranelift_isle.specs.Elaborated.{TypedRules}
+use Rattle.cranelift_isle.specs.Syntax.{Definition}
+use Rattle.cranelift_isle.specs.Tables.{TermEntry, TypeEntry}
+use Rattle.cranelift_isle.specs.Meaning.{Meaning}
+use Rattle.cranelift_isle.specs.Program.{Program, kind_of, flags_of, unknown, is_multi, rules_of}
+use Rattle.cranelift_isle.specs.Values.{Value}
+use Rattle.cranelift_isle.specs.Serves.{TellsConstantsApart}
+use Rattle.cranelift_isle.specs.Layers.{own_program, IsLoweredTerm}
+use Rattle.cranelift_isle.specs.SetMeanings.{DemandsAreWhole}
 use Rattle.model.proofs.Mapped.{get_map}
-use Rattle.isle_types.specs.TypeViews.{type_views}
-use Rattle.isle_rule_sets.specs.SiteViews.{set_view}
+use Rattle.cranelift_isle.specs.TypeViews.{type_views}
+use Rattle.cranelift_isle.specs.SiteViews.{set_view}
 use Rattle.cranelift_isle.specs.Checks.{env_program}
 use Rattle.cranelift_isle.specs.Lowerings.{lowered_view, lowered_views, DemandWhole, IsLowered, OfAccepted}
 use Rattle.cranelift_isle.specs.declared.lower.LoweredTerm as Code

@@ -1,17 +1,17 @@
 -- Rules whose sets ask no constant that a meaning may choose have their constants told apart by every meaning.
 use Rattle.std.proofs.Common.{◌≡◌, ◌||◌, not, ℕ, Bool, true, false, List, [], ◌∷◌, map, Contains, filter, flat_map, refl, sym, ap, ◌∙◌, subst, inl, inr}
 use Rattle.std.proofs.lemmas.Bool.{false≢true}
-use Rattle.model.specs.lists.Tables.{TypeEntry}
-use Rattle.model.specs.rules.Meaning.{Meaning}
-use Rattle.model.specs.rules.Program.{Program, rules_of}
-use Rattle.model.specs.rules.Typed.{TypedRule}
-use Rattle.model.specs.sites.Closure.{itself, HasConstraint}
-use Rattle.model.specs.visits.Demands.{demands_of}
-use Rattle.model.specs.sites.Overlap.{BuiltRule, built_rules}
-use Rattle.model.specs.sites.RuleSets.{IsBuilt, IsRuleOf, AreRulesOfSet}
-use Rattle.model.specs.sites.Serves.{TellsConstantsApart, constant_site, tested_constants, is_open_constant, is_own_type}
-use Rattle.model.specs.sites.Sites.{Site, SiteTerm, Constraint, is_variant, is_struct, is_bool, is_int, is_prim, is_present, SetRule, SiteSet}
-use Rattle.model.specs.claims.SetMeanings.{DemandsAreWhole}
+use Rattle.cranelift_isle.specs.Tables.{TypeEntry}
+use Rattle.cranelift_isle.specs.Meaning.{Meaning}
+use Rattle.cranelift_isle.specs.Program.{Program, rules_of}
+use Rattle.cranelift_isle.specs.Typed.{TypedRule}
+use Rattle.cranelift_isle.specs.Closure.{itself, HasConstraint}
+use Rattle.cranelift_isle.specs.Demands.{demands_of}
+use Rattle.cranelift_isle.specs.Overlap.{BuiltRule, built_rules}
+use Rattle.cranelift_isle.specs.RuleSets.{IsBuilt, IsRuleOf, AreRulesOfSet}
+use Rattle.cranelift_isle.specs.Serves.{TellsConstantsApart, constant_site, tested_constants, is_open_constant, is_own_type}
+use Rattle.cranelift_isle.specs.Sites.{Site, SiteTerm, Constraint, is_variant, is_struct, is_bool, is_int, is_prim, is_present, SetRule, SiteSet}
+use Rattle.cranelift_isle.specs.SetMeanings.{DemandsAreWhole}
 use Rattle.model.proofs.Members.{nothing_in, in_head, in_tail, in_cases, in_alone, each_passes, from_map, from_flat_map}
 use Rattle.isle_queries.specs.Premises.{asks_own_constant, rule_asks_own, asks_own_constants}
 

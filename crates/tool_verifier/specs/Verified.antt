@@ -1,14 +1,14 @@
 -- What is known of the tree of one term of an answer of `lower`.
 use Rattle.std.specs.Prelude.{◌≡◌, ℕ, Bool, false, List, IsTrue}
-use Rattle.model.specs.lists.Elaborated.{TypedRules}
-use Rattle.model.specs.lists.Syntax.{Definition}
-use Rattle.model.specs.rules.Choice.{choice, MatchesOnce}
-use Rattle.model.specs.rules.Meaning.{Meaning}
-use Rattle.model.specs.rules.Program.{Program, arg_types, is_multi, rules_of}
-use Rattle.model.specs.rules.Values.{Value, args_well_typed}
-use Rattle.model.specs.sites.Serves.{Serves, TellsConstantsApart}
-use Rattle.model.specs.claims.Layers.{own_program, IsAccepted, LoweredTerm}
-use Rattle.model.specs.trees.Run.{run, world_of}
+use Rattle.cranelift_isle.specs.Elaborated.{TypedRules}
+use Rattle.cranelift_isle.specs.Syntax.{Definition}
+use Rattle.cranelift_isle.specs.Choice.{choice, MatchesOnce}
+use Rattle.cranelift_isle.specs.Meaning.{Meaning}
+use Rattle.cranelift_isle.specs.Program.{Program, arg_types, is_multi, rules_of}
+use Rattle.cranelift_isle.specs.Values.{Value, args_well_typed}
+use Rattle.cranelift_isle.specs.Serves.{Serves, TellsConstantsApart}
+use Rattle.cranelift_isle.specs.Layers.{own_program, IsAccepted, LoweredTerm}
+use Rattle.cranelift_isle.specs.Run.{run, world_of}
 
 -- what is asked of a meaning and of arguments: these are well typed, and it has an answer for all that the rules call
 pub record CanRun (p : Program) (t : ℕ) (m : Meaning) (args : List Value) : Type 0 where

@@ -2,7 +2,7 @@
 
 ghost use Rattle.std.specs.Prelude.{true};
 ghost use Rattle.cranelift_isle.specs.Lowerings.{lowered_views, DemandWhole, IsLowered, OfAccepted};
-ghost use Rattle.isle_base.specs.SyntaxViews.{definition_views};
+ghost use Rattle.cranelift_isle.specs.SyntaxViews.{definition_views};
 
 use crate::verified::{runs_always, runs_where_apart};
 use cranelift_isle::lower::{Lowered, lower};

@@ -2,7 +2,7 @@
 
 ghost use Rattle.std.specs.Prelude.{◌≡◌, IfSome};
 ghost use Rattle.cranelift_isle.specs.Lowerings.{lowered_view, lowered_views, DemandWhole, IsLowered, OfAccepted};
-ghost use Rattle.isle_base.specs.SyntaxViews.{definition_views};
+ghost use Rattle.cranelift_isle.specs.SyntaxViews.{definition_views};
 ghost use Rattle.tool_verifier.specs.Verified.{RunsAlways, RunsWhereApart};
 
 use cranelift_isle::lower::{Lowered, LoweredTerm};

@@ -1,6 +1,6 @@
 // The places that errors name: each begins and ends at one position.
 use cranelift_isle::lower::lower;
-use isle_base::syntax::{Error, Fault, Pos, Span};
+use cranelift_isle::syntax::{Error, Fault, Pos, Span};
 use isle_reader::read;
 use std::alloc::{AllocError, Global};
 use std::process::Abort;

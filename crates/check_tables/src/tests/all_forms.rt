@@ -1,19 +1,16 @@
 // What a recorder is shown of a rule with each form of pattern and of expression, with if-lets and a let.
 ghost use Rattle.std.specs.Prelude.{◌≡◌, IfOk, IsTrue, map};
 ghost use Rattle.check_tables.specs.AllForms.{two_exprs, two_patterns, variable_binding, forms_args, forms_iflets, forms_value};
-ghost use Rattle.model.specs.lists.Setting.{has_constructor, has_extractor};
-ghost use Rattle.model.specs.rules.Typed.{match_and, match_prim, match_term, match_var, make_term};
-ghost use Rattle.isle_typed.specs.ExprViews.{expr_view};
-ghost use Rattle.isle_typed.specs.PatternViews.{pattern_view, pattern_views};
-ghost use Rattle.isle_typed.specs.RuleViews.{iflet_view, rule_view};
-ghost use Rattle.model.specs.lists.Visitable.{is_visitable_rule};
-ghost use Rattle.isle_terms.specs.TermViews.{kind_view, term_views};
+ghost use Rattle.cranelift_isle.specs.Setting.{has_constructor, has_extractor};
+ghost use Rattle.cranelift_isle.specs.Typed.{match_and, match_prim, match_term, match_var, make_term};
+ghost use Rattle.cranelift_isle.specs.ExprViews.{expr_view};
+ghost use Rattle.cranelift_isle.specs.PatternViews.{pattern_view, pattern_views};
+ghost use Rattle.cranelift_isle.specs.RuleViews.{iflet_view, rule_view};
+ghost use Rattle.cranelift_isle.specs.Visitable.{is_visitable_rule};
+ghost use Rattle.cranelift_isle.specs.TermViews.{kind_view, term_views};
 
 use crate::tests::visits::{NO_FLAGS, NOWHERE, RULED, env, expect_calls, rule, term};
-use isle_rules::TermEnv;
-use isle_terms::{ConstructorKind, ExtractorKind, TermFlags, TermKind};
-use isle_typed::{Expr, IfLet, Pattern, Rule};
-use isle_types::{Sym, TermId, TypeId, VarId, VariantId};
+use cranelift_isle::sema::{ConstructorKind, Expr, ExtractorKind, IfLet, Pattern, Rule, Sym, TermEnv, TermFlags, TermId, TermKind, TypeId, VarId, VariantId};
 use std::alloc::{AllocError, Global};
 use std::test::Fail;
 

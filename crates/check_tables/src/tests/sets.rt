@@ -1,21 +1,19 @@
 // The sets that are built of typed rules, and what is asked of them.
 ghost use Rattle.std.specs.Prelude.{IsSome, IsTrue};
 ghost use Rattle.cranelift_isle.specs.BuiltSets.{IsOfElaborated};
-ghost use Rattle.model.specs.claims.Questions.{variant_by_id};
-ghost use Rattle.isle_rules.specs.TermEnvs.{term_in_env, variant_term_in};
-ghost use Rattle.isle_rule_sets.specs.SiteViews.{site_view};
-ghost use Rattle.isle_rule_sets.specs.VariantTerms.{HasTermIfMade};
-ghost use Rattle.isle_types.specs.TypeViews.{type_views};
+ghost use Rattle.cranelift_isle.specs.Questions.{variant_by_id};
+ghost use Rattle.cranelift_isle.specs.TermEnvs.{term_in_env, variant_term_in};
+ghost use Rattle.cranelift_isle.specs.SiteViews.{site_view};
+ghost use Rattle.cranelift_isle.specs.TermsOfVariants.{HasTermIfMade};
+ghost use Rattle.cranelift_isle.specs.TypeViews.{type_views};
 
 use crate::readings::types_and_rules;
-use isle_base::syntax::{Error, Limit};
-use cranelift_isle::trie_again::build;
+use cranelift_isle::syntax::{Error, Limit};
+use cranelift_isle::trie_again::{Binding, BindingId, Constraint, Overlap, Rule, RuleSet, TupleIndex, build};
 use isle_printing::errors::error_lines;
 use isle_printing::places::Places;
-use isle_rules::TermEnv;
-use isle_rule_sets::trie_again::{Binding, BindingId, Constraint, Overlap, Rule, RuleSet, TupleIndex};
+use cranelift_isle::sema::{TermEnv, TermId, Type, TypeEnv, TypeId, VariantId};
 use isle_reader::read;
-use isle_types::{TermId, Type, TypeEnv, TypeId, VariantId};
 use std::alloc::{AllocError, Global};
 use std::process::Abort;
 use std::test::Fail;

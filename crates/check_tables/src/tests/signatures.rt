@@ -1,10 +1,8 @@
 // The signatures of the functions that stand for terms.
 use crate::readings::types_and_rules;
-use isle_base::syntax::{Ident, Pos};
-use isle_rules::TermEnv;
-use isle_terms::{ExternalSig, ReturnKind};
+use cranelift_isle::syntax::{Ident, Pos};
+use cranelift_isle::sema::{ExternalSig, ReturnKind, TermEnv, TypeEnv, TypeId};
 use isle_reader::read;
-use isle_types::{TypeEnv, TypeId};
 use std::alloc::{AllocError, Global};
 use std::process::Abort;
 use std::test::Fail;

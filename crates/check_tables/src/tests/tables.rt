@@ -1,17 +1,12 @@
 // The type tables, term tables and typed rules of lists, and each public call on them once.
 ghost use Rattle.std.specs.Prelude.{IfOk, IsSome};
-ghost use Rattle.isle_types.specs.TypeViews.{type_views};
-ghost use Rattle.model.specs.claims.Questions.{variant_by_id};
+ghost use Rattle.cranelift_isle.specs.TypeViews.{type_views};
+ghost use Rattle.cranelift_isle.specs.Questions.{variant_by_id};
 
 use crate::readings::{types_and_rules, types_and_terms};
-use isle_base::syntax::{Def, Error, Ident, Pos, TypeValue};
-use isle_rules::TermEnv;
+use cranelift_isle::syntax::{Def, Error, Ident, Pos, TypeValue};
+use cranelift_isle::sema::{BuiltinType, Expr, FieldId, Fields, Pattern, RuleId, StructField, StructFields, Sym, TermEnv, TermId, Type, TypeEnv, TypeId, VarId, Variant, VariantId};
 use isle_reader::read;
-use isle_typed::{Expr, Pattern};
-use isle_types::{
-    BuiltinType, FieldId, Fields, RuleId, StructField, StructFields, Sym, TermId, Type, TypeEnv,
-    TypeId, VarId, Variant, VariantId,
-};
 use std::alloc::{AllocError, Global};
 use std::process::Abort;
 use std::test::Fail;
@@ -223,7 +218,7 @@ fn numbers_of_fields(rt: HostRuntime) -> Result<(), Fail> {
     let mut defs = read(alloc, 0, "(type T (struct nope))")?;
     for def in &mut defs {
         if let Def::TypeDef(ty) = def
-            && let TypeValue::Struct(isle_base::syntax::Fields::Tuple(fields), _) = &mut ty.ty
+            && let TypeValue::Struct(cranelift_isle::syntax::Fields::Tuple(fields), _) = &mut ty.ty
         {
             for field in &mut fields.fields {
                 field.index = 4;
@@ -231,7 +226,7 @@ fn numbers_of_fields(rt: HostRuntime) -> Result<(), Fail> {
         }
     }
     let errors = match TypeEnv::from_ast(alloc, &defs) {
-        Err(isle_base::syntax::Fault::Errors(errors)) => errors,
+        Err(cranelift_isle::syntax::Fault::Errors(errors)) => errors,
         _ => return Err(Fail::from("no error")),
     };
     let [Error::TypeError { msg, span }] = errors.as_slice() else {

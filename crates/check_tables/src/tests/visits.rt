@@ -1,17 +1,14 @@
 // What visitors are shown of typed rules. Types are named by their numbers, as u8 by 1.
 ghost use Rattle.std.specs.Prelude.{◌≡◌, IfOk, IsTrue, None};
-ghost use Rattle.isle_typed.specs.RuleViews.{rule_view};
-ghost use Rattle.model.specs.lists.Visitable.{is_visitable_rule};
-ghost use Rattle.isle_terms.specs.TermViews.{term_views};
+ghost use Rattle.cranelift_isle.specs.RuleViews.{rule_view};
+ghost use Rattle.cranelift_isle.specs.Visitable.{is_visitable_rule};
+ghost use Rattle.cranelift_isle.specs.TermViews.{term_views};
 
-use isle_base::stablemapset::StableMap;
-use isle_base::syntax::Pos;
+use cranelift_isle::stablemapset::StableMap;
+use cranelift_isle::syntax::Pos;
 use check_recorders::counter::{Counter, ExprPlace};
 use check_recorders::recorder::Recorder;
-use isle_rules::TermEnv;
-use isle_terms::{ConstructorKind, Term, TermFlags, TermKind};
-use isle_typed::{Expr, IfLet, Pattern, Rule, VisitFault};
-use isle_types::{RuleId, Sym, TermId, TypeId, VarId};
+use cranelift_isle::sema::{ConstructorKind, Expr, IfLet, Pattern, Rule, RuleId, Sym, Term, TermEnv, TermFlags, TermId, TermKind, TypeId, VarId, VisitFault};
 use std::alloc::{AllocError, Global};
 use std::process::Abort;
 use std::test::Fail;

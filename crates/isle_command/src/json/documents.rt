@@ -8,11 +8,11 @@ use crate::json::tables::{push_head, push_types};
 use crate::json::trees::Sources;
 use crate::json::writer::Json;
 use cranelift_isle::lower::{Lowered, LoweredTerm};
-use isle_base::syntax::Files;
+use cranelift_isle::syntax::Files;
 use isle_diagnostics::names::Names;
 use isle_queries::walk::steps;
 use isle_printing::report::Report;
-use isle_rule_sets::trie_again::{BindingId, Rule};
+use cranelift_isle::trie_again::{BindingId, Rule};
 use std::alloc::{AllocError, Global};
 
 // The number of the form. It grows where something is taken away or means something else.

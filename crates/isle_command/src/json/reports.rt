@@ -2,7 +2,7 @@
 
 use crate::json::sets::push_place;
 use crate::json::writer::Json;
-use isle_base::syntax::Files;
+use cranelift_isle::syntax::Files;
 use isle_printing::report::{Label, Note, Report};
 use std::alloc::AllocError;
 

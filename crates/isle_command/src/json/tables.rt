@@ -2,8 +2,7 @@
 
 use crate::json::writer::Json;
 use isle_diagnostics::names::Names;
-use isle_terms::{Term, TermFlags, TermKind};
-use isle_types::{Fields, Type, TypeId, Variant};
+use cranelift_isle::sema::{Fields, Term, TermFlags, TermKind, Type, TypeId, Variant};
 use std::alloc::AllocError;
 
 /// Adds the types that definitions make, by their ids.

@@ -2,11 +2,11 @@
 
 use crate::json::sets::{push_constraint, push_ids};
 use crate::json::writer::Json;
-use isle_base::syntax::Pos;
+use cranelift_isle::syntax::Pos;
 use isle_diagnostics::names::Names;
 use isle_queries::rules::rule_behind;
-use isle_serialize::serialize::{Block, ControlFlow, EvalStep, MatchArm};
-use isle_rule_sets::trie_again::{BindingId, RuleSet};
+use cranelift_isle::serialize::{Block, ControlFlow, EvalStep, MatchArm};
+use cranelift_isle::trie_again::{BindingId, RuleSet};
 use std::alloc::AllocError;
 
 /// What a tree speaks of.

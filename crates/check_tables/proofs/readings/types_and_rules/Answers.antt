@@ -1,7 +1,7 @@
 use Rattle.std.proofs.Common.{true}
-use Rattle.isle_base.specs.SyntaxViews.{definition_views}
+use Rattle.cranelift_isle.specs.SyntaxViews.{definition_views}
 use Rattle.laws_typing.proofs.OwnTypes.{own_types_read}
-use Rattle.model.specs.claims.Environments.{types_read}
+use Rattle.cranelift_isle.specs.ElaboratedLists.{types_read}
 use Rattle.check_tables.proofs.readings.types_and_rules.Goals as goal
 
 -- valid types can be read, and the type table is read as them

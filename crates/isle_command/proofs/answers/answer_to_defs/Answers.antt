@@ -1,5 +1,5 @@
 use Rattle.std.proofs.lemmas.Result.{IfOk-weaker}
-use Rattle.isle_base.specs.SyntaxViews.{definition_views}
+use Rattle.cranelift_isle.specs.SyntaxViews.{definition_views}
 use Rattle.isle_command.proofs.TaskStatuses.{answer_of_lowered}
 use Rattle.isle_command.proofs.answers.answer_to_defs.Goals as goal
 

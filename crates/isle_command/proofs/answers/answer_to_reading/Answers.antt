@@ -1,6 +1,6 @@
 use Rattle.std.proofs.Common.{subst, sym}
 use Rattle.std.proofs.lemmas.Result.{IfOk-weaker}
-use Rattle.isle_base.specs.SyntaxViews.{definition_views}
+use Rattle.cranelift_isle.specs.SyntaxViews.{definition_views}
 use Rattle.isle_command.specs.TaskAnswers.{IsAnswerToDefinitions, IsAnswerToReading}
 use Rattle.isle_command.proofs.TaskStatuses.{status_of_answer}
 use Rattle.isle_command.proofs.answers.answer_to_reading.Goals as goal

@@ -1,6 +1,6 @@
 use Rattle.std.proofs.Common.{rules, ◌≡◌, ◌++◌, ap, ◌∙◌}
 use Rattle.std.proofs.lemmas.List.{map-append}
-use Rattle.isle_base.specs.SyntaxViews.{definition_view, definition_views}
+use Rattle.cranelift_isle.specs.SyntaxViews.{definition_view, definition_views}
 use Rattle.isle_command.proofs.reading.read_text.Goals as goal
 
 pub returns-in_ok-append-in-Ok-clause-read : goal.returns-in_ok-append-in-Ok-clause-read

@@ -1,6 +1,6 @@
 use Rattle.std.proofs.Common.{rules, ◌≡◌, ◌≢◌, [], All, Some, length, map, refl, slice_get, string_bytes, subst, sym}
 use Rattle.std.proofs.lemmas.Option.{slice_get_read}
-use Rattle.isle_base.specs.SyntaxViews.{definition_views}
+use Rattle.cranelift_isle.specs.SyntaxViews.{definition_views}
 use Rattle.model.proofs.Mapped.{get_map}
 use Rattle.isle_command.specs.Readings.{LiesInSome, SomeIsUnread}
 use Rattle.isle_command.proofs.TextsRead.{all_lie_in_some, is_one_of}

@@ -1,6 +1,6 @@
 -- The definitions so far lie in the texts, and where there are reports some text can't be read.
 use Rattle.std.proofs.Common.{◌≢◌, [], All, map, string_bytes}
-use Rattle.isle_base.specs.SyntaxViews.{definition_views}
+use Rattle.cranelift_isle.specs.SyntaxViews.{definition_views}
 use Rattle.isle_command.specs.Readings.{LiesInSome, SomeIsUnread}
 use Rattle.isle_command.proofs.reading.reading_of.Given as goal
 

@@ -1,4 +1,4 @@
-use Rattle.isle_base.specs.SyntaxViews.{definition_views}
+use Rattle.cranelift_isle.specs.SyntaxViews.{definition_views}
 use Rattle.laws_typing.proofs.OwnTypes.{own_types_read}
 use Rattle.cranelift_isle.proofs.LoweredAnswers.{were_read, of_elaborated}
 use Rattle.isle_diagnostics.proofs.sets.sets_of.Goals as goal

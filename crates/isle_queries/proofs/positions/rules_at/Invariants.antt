@@ -1,6 +1,6 @@
 use Rattle.std.proofs.Common.{◌≡◌, ◌++◌, drop, map}
-use Rattle.isle_base.specs.SyntaxViews.{position}
-use Rattle.isle_typed.specs.RuleViews.{rule_views}
+use Rattle.cranelift_isle.specs.SyntaxViews.{position}
+use Rattle.cranelift_isle.specs.RuleViews.{rule_views}
 use Rattle.isle_queries.specs.Lookups.{rule_numbers_at}
 use Rattle.isle_queries.proofs.positions.rules_at.Given as goal
 

@@ -1,6 +1,6 @@
 use Rattle.std.proofs.Common.{◌≡◌, ◌++◌, drop, map}
-use Rattle.isle_base.specs.ErrorViews.{span_starts}
-use Rattle.isle_base.specs.SyntaxViews.{position}
+use Rattle.cranelift_isle.specs.ErrorViews.{span_starts}
+use Rattle.cranelift_isle.specs.SyntaxViews.{position}
 use Rattle.isle_queries.proofs.positions.starts.Given as goal
 
 abbrev pub invariant-loop-span : goal.invariant-loop-span

@@ -1,8 +1,8 @@
 use Rattle.std.proofs.Common.{◌≡◌}
 use Rattle.std.specs.List.{list_all}
 use Rattle.std.proofs.Common.{drop}
-use Rattle.isle_types.specs.TypeViews.{type_views}
-use Rattle.isle_rule_sets.specs.SiteViews.{constraint_views}
+use Rattle.cranelift_isle.specs.TypeViews.{type_views}
+use Rattle.cranelift_isle.specs.SiteViews.{constraint_views}
 use Rattle.isle_queries.specs.Premises.{asks_own_constant}
 use Rattle.isle_queries.proofs.premises.all_own.Given as goal
 

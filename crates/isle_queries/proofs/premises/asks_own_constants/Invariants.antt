@@ -1,7 +1,7 @@
 use Rattle.std.proofs.Common.{◌≡◌, drop}
 use Rattle.std.specs.List.{list_all}
-use Rattle.isle_types.specs.TypeViews.{type_views}
-use Rattle.isle_rule_sets.specs.SiteViews.{set_rule_views}
+use Rattle.cranelift_isle.specs.TypeViews.{type_views}
+use Rattle.cranelift_isle.specs.SiteViews.{set_rule_views}
 use Rattle.isle_queries.specs.Premises.{rule_asks_own}
 use Rattle.isle_queries.proofs.premises.asks_own_constants.Given as goal
 

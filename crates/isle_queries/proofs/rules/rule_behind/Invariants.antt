@@ -1,7 +1,7 @@
 use Rattle.std.proofs.Common.{◌≡◌, drop}
 use Rattle.std.specs.List.{find}
-use Rattle.isle_base.specs.SyntaxViews.{position}
-use Rattle.isle_rule_sets.specs.SiteViews.{set_rule_views}
+use Rattle.cranelift_isle.specs.SyntaxViews.{position}
+use Rattle.cranelift_isle.specs.SiteViews.{set_rule_views}
 use Rattle.isle_queries.specs.Lookups.{is_behind}
 use Rattle.isle_queries.proofs.rules.rule_behind.Given as goal
 

@@ -1,6 +1,6 @@
 use Rattle.std.proofs.Common.{◌≡◌, List, [], ◌∷◌, ◌++◌, rules, refl, sym, ap, ◌∙◌}
-use Rattle.model.specs.trees.Trees.{equal_at, loop_at}
-use Rattle.isle_serialize.specs.TreeViews.{check_view, tree_view}
+use Rattle.cranelift_isle.specs.Trees.{equal_at, loop_at}
+use Rattle.cranelift_isle.specs.TreeViews.{check_view, tree_view}
 use Rattle.std.proofs.lemmas.List.{append-nil}
 use Rattle.isle_serialize.proofs.TreeLaws.{block_steps, match_seen, equal_seen, loop_seen, return_seen}
 use Rattle.isle_queries.specs.Walks.{Passed, equal, one_of, steps_from, steps_inside, turn_views, visit_views}

@@ -1,5 +1,5 @@
 use Rattle.std.proofs.Common.{◌≡◌, ◌++◌, drop}
-use Rattle.isle_serialize.specs.TreeViews.{arms_view, check_view, steps_view, tree_view}
+use Rattle.cranelift_isle.specs.TreeViews.{arms_view, check_view, steps_view, tree_view}
 use Rattle.isle_queries.specs.Walks.{steps_from, steps_inside, steps_of_arms, turn_views, visit_views}
 use Rattle.isle_queries.proofs.walk.+walk.Given as goal
 

@@ -1,9 +1,9 @@
 use Rattle.std.proofs.Common.{rules, ◌≡◌, ◌∙◌, true, false, Some, slice_get, sym, ap}
 use Rattle.std.proofs.lemmas.Option.{slice_get-get_or}
-use Rattle.isle_base.specs.SyntaxViews.{definition_views}
-use Rattle.model.specs.rules.Program.{is_multi}
-use Rattle.isle_types.specs.TypeViews.{type_views}
-use Rattle.isle_rule_sets.specs.SiteViews.{set_view}
+use Rattle.cranelift_isle.specs.SyntaxViews.{definition_views}
+use Rattle.cranelift_isle.specs.Program.{is_multi}
+use Rattle.cranelift_isle.specs.TypeViews.{type_views}
+use Rattle.cranelift_isle.specs.SiteViews.{set_view}
 use Rattle.cranelift_isle.specs.Checks.{env_program}
 use Rattle.isle_queries.specs.Premises.{asks_own_constants}
 use Rattle.tool_verifier.proofs.Entries.{runs_under_all}

@@ -1,7 +1,7 @@
 use Rattle.std.proofs.Common.{rules, ◌≡◌, ◌∙◌, false, Some, slice_get, sym, ap}
 use Rattle.std.proofs.lemmas.Option.{slice_get-get_or}
-use Rattle.isle_base.specs.SyntaxViews.{definition_views}
-use Rattle.model.specs.rules.Program.{is_multi}
+use Rattle.cranelift_isle.specs.SyntaxViews.{definition_views}
+use Rattle.cranelift_isle.specs.Program.{is_multi}
 use Rattle.cranelift_isle.specs.Checks.{env_program}
 use Rattle.tool_verifier.proofs.Entries.{runs_apart}
 use Rattle.tool_verifier.proofs.verified.runs_where_apart.Goals as goal
