@@ -1,7 +1,7 @@
 //! Texts of definitions, read.
 
-use cranelift_isle::syntax::Def;
 use check_lists::long::{Kind, list};
+use cranelift_isle::syntax::Def;
 use isle_reader::errors::ReadFault;
 use isle_reader::read;
 use std::alloc::Global;

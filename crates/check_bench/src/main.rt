@@ -11,8 +11,8 @@ mod stages;
 mod tables;
 mod text;
 
-use cranelift_isle::syntax::Def;
 use check_lists::long::Kind;
+use cranelift_isle::syntax::Def;
 use lists::definitions_of;
 use std::alloc::{AllocError, Global};
 use std::io::ErrorKind;

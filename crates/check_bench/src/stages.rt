@@ -6,9 +6,9 @@ ghost use Rattle.cranelift_isle.specs.EnvViews.{environment_view};
 
 use cranelift_isle::lower::{Lowered, lower};
 use cranelift_isle::overlap::check;
+use cranelift_isle::sema::{TermEnv, TermId, TermTable, TypeEnv};
 use cranelift_isle::syntax::{Def, Error, Fault};
 use cranelift_isle::trie_again::{RuleSet, build};
-use cranelift_isle::sema::{TermEnv, TermId, TermTable, TypeEnv};
 use std::alloc::Global;
 use std::marker::Model;
 

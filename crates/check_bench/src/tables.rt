@@ -4,9 +4,9 @@
 
 use crate::stages::{ListWithRules, ListWithSets, ListWithTerms, ListWithTrees, ListWithTypes};
 use cranelift_isle::lower::Lowered;
+use cranelift_isle::sema::TermId;
 use cranelift_isle::syntax::{Def, Fault};
 use cranelift_isle::trie_again::RuleSet;
-use cranelift_isle::sema::TermId;
 use std::alloc::{AllocError, Global};
 use std::io;
 use std::io::ErrorKind;

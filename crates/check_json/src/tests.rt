@@ -1,9 +1,9 @@
 // The JSON that is answered to each sample, read back.
 mod forms;
 
+use cranelift_isle::syntax::Files;
 use forms::check_document;
 use isle_answers::samples::SAMPLES;
-use cranelift_isle::syntax::Files;
 use isle_command::answers::answer_to;
 use isle_command::words::{Asked, asked_by};
 use serde_json::Value;

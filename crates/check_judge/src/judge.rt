@@ -3,8 +3,8 @@ use crate::places::{
     Around, Place, Test, bind_order, cover, is_greater, open_tests, place_in, score_of, sources_of,
 };
 use isle_base::syntax::Pos;
-use isle_serialize::serialize::{Block, ControlFlow, EvalStep, MatchArm};
 use isle_rule_sets::trie_again::{Binding, BindingId, Constraint, Rule, RuleSet};
+use isle_serialize::serialize::{Block, ControlFlow, EvalStep, MatchArm};
 use std::alloc::{AllocError, AllocFailed, Global};
 
 /// What is wrong with a tree.

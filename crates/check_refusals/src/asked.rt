@@ -4,8 +4,10 @@ use crate::environments::{ACCEPTED, defs_of, read_rules};
 use isle_base::stablemapset::{StableMap, StableSet};
 use isle_base::syntax::{Def, Fault, Ident, Pos, Span};
 use isle_disjointsets::disjointsets::DisjointSets;
+use isle_rule_sets::trie_again::{
+    Binding, BindingId, Constraint, Overlap, Rule, RuleSet, TupleIndex,
+};
 use isle_rules::TermEnv;
-use isle_rule_sets::trie_again::{Binding, BindingId, Constraint, Overlap, Rule, RuleSet, TupleIndex};
 use isle_types::{BuiltinType, IntType, RuleId, Sym, TermId, TypeEnv, TypeId};
 use std::alloc::{AllocError, Global};
 use std::collections::HashMap;

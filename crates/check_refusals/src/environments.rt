@@ -8,9 +8,9 @@ ghost use Rattle.check_refusals.specs.TypesAfterRefusal.{IsLeftOf};
 
 use isle_base::stablemapset::StableMap;
 use isle_base::syntax::{Def, Error, Fault};
-use isle_rules::TermEnv;
 use isle_reader::errors::ReadFault;
 use isle_reader::read;
+use isle_rules::TermEnv;
 use isle_types::{Sym, Type, TypeEnv, TypeId};
 use std::alloc::{AllocError, Global};
 

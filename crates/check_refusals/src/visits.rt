@@ -5,9 +5,9 @@ ghost use Rattle.model.specs.lists.Visitable.{is_visitable_rule};
 ghost use Rattle.isle_terms.specs.TermViews.{term_views};
 ghost use Rattle.isle_typed.specs.RuleViews.{rule_view};
 
+use check_recorders::recorder::{Call, Recorder};
 use isle_base::stablemapset::StableMap;
 use isle_base::syntax::Pos;
-use check_recorders::recorder::{Call, Recorder};
 use isle_rules::TermEnv;
 use isle_terms::{ConstructorKind, Term, TermFlags, TermKind};
 use isle_typed::{Expr, Pattern, Rule, VisitFault};

@@ -1,11 +1,11 @@
 //! Rules as they are read, without trees.
 
+use cranelift_isle::sema::{Rule, TermEnv, TypeEnv};
+use cranelift_isle::syntax::{Def, Fault};
 use isle_answers::answers::Answer;
 use isle_answers::texts::syntax_error_line;
-use cranelift_isle::syntax::{Def, Fault};
 use isle_printing::errors::error_lines;
 use isle_printing::places::Places;
-use cranelift_isle::sema::{Rule, TermEnv, TypeEnv};
 use isle_reader::errors::ReadFault;
 use isle_reader::read;
 use std::alloc::{AllocError, Global};

@@ -3,8 +3,8 @@
 ghost use Rattle.std.specs.Prelude.{IfOk};
 ghost use Rattle.cranelift_isle.specs.BuiltSets.{IsOfElaborated};
 
-use cranelift_isle::syntax::{Def, Fault};
 use cranelift_isle::sema::{TermEnv, TermTable, TypeEnv};
+use cranelift_isle::syntax::{Def, Fault};
 use std::alloc::Global;
 
 /// The types and the terms of definitions.

@@ -9,11 +9,11 @@ ghost use Rattle.cranelift_isle.specs.TypeViews.{type_views};
 ghost use Rattle.cranelift_isle.specs.TermViews.{term_views};
 ghost use Rattle.check_trials.specs.TrialAnswers.{answer_given, answers_of, constant_answer, gives_withheld, in_place_of, is_answer_withheld, is_withheld};
 
+use cranelift_isle::sema::{Sym, Term, TermId, TypeEnv, TypeId};
 use isle_calls::echo::{Echo, constant_number};
-use isle_typed::checks::literal_number;
 use isle_interpreter::externs::Externs;
 use isle_interpreter::values::{Content, Value};
-use cranelift_isle::sema::{Sym, Term, TermId, TypeEnv, TypeId};
+use isle_typed::checks::literal_number;
 use std::alloc::{AllocError, Global};
 
 /// The number that is withheld: what may give nothing, or is multi, gives nothing in its place.

@@ -4,9 +4,9 @@ use crate::fitting::why_left_out;
 use crate::trial::Trial;
 use crate::type_sizes::has_endless;
 use crate::values::Makings;
+use check_lists::chance::Chance;
 use cranelift_isle::lower::LoweredTerm;
 use cranelift_isle::sema::TypeId;
-use check_lists::chance::Chance;
 use isle_interpreter::values::Value;
 use std::alloc::{AllocError, Global};
 

@@ -7,10 +7,10 @@ use crate::value_texts::push_composed;
 use cranelift_isle::lower::LoweredTerm;
 use isle_calls::outcomes::outcome_text;
 use isle_interpreter::choose::choose;
-use isle_queries::premises::is_multi;
 use isle_interpreter::run::run;
 use isle_interpreter::state::{Ending, Outcome};
 use isle_interpreter::values::Value;
+use isle_queries::premises::is_multi;
 use std::alloc::{AllocError, Global};
 
 /// A line for each call of each term: the call, and its outcome.

@@ -8,8 +8,8 @@ use crate::trial::Trial;
 use crate::value_texts::push_showing;
 use cranelift_isle::sema::Term;
 use cranelift_isle::syntax::Files;
-use isle_queries::premises::is_multi;
 use isle_interpreter::values::Value;
+use isle_queries::premises::is_multi;
 use isle_rust::code::{CodeError, rust_code};
 use std::alloc::{AllocError, Global};
 

@@ -3,16 +3,16 @@
 use crate::outcomes::outcomes;
 use crate::source::source;
 use crate::trial::{Trial, trials};
+use check_lists::{one_term, two_terms};
 use cranelift_isle::lower::lower;
 use cranelift_isle::syntax::{Def, Error, Fault, Files};
 use isle_answers::answers::Answer;
 use isle_answers::samples::sample_text;
 use isle_answers::texts::syntax_error_line;
-use check_lists::{one_term, two_terms};
 use isle_queries::texts::{Places, error_lines};
-use isle_rust::code::CodeError;
 use isle_reader::errors::ReadFault;
 use isle_reader::read;
+use isle_rust::code::CodeError;
 use std::alloc::{AllocError, Global};
 
 /// What is asked for.

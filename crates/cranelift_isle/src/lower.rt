@@ -19,15 +19,15 @@ ghost use Rattle.cranelift_isle.specs.Lowerings.{lowered_views, set_of_term, Are
 use crate::environments::{Environments, environments_of};
 use crate::overlap::check;
 use isle_base::syntax::{Def, Fault};
+use isle_rule_sets::trie_again::RuleSet;
+use isle_rules::TermEnv;
+use isle_serialize::serialize::{Block, serialize};
+use isle_types::{TermId, TypeEnv};
 use laws_trees::{
     accepted_demands_are_whole, accepted_pass_no_limit, accepted_sets_are_whole,
     best_trees_bind_before_use, best_trees_keep_the_headline, best_trees_share_most,
     lowered_trees_are_only_best,
 };
-use isle_rules::TermEnv;
-use isle_serialize::serialize::{Block, serialize};
-use isle_rule_sets::trie_again::RuleSet;
-use isle_types::{TermId, TypeEnv};
 use std::alloc::{AllocError, Global};
 
 /// A term with rules: its rule set, and the tree of tests that picks one of the rules.

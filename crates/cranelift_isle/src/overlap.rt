@@ -16,17 +16,15 @@ ghost use Rattle.isle_builder.specs.AddedRules.{report_views};
 ghost use Rattle.cranelift_isle.specs.BuiltSets.{IsOfElaborated, ShowsElaborated, WereBuilt, term_set_views};
 ghost use Rattle.cranelift_isle.specs.Checks.{IsChecked, NamesRules, OfErrors, OfProgram, env_program};
 
-use isle_base::syntax::{Error, Fault};
 use crate::trie_again::build;
-use laws_closure::{
-    check_errors_name_left_out, check_errors_name_masks, check_errors_name_pairs,
-};
-use laws_trees::checkable_programs_pass_no_limit;
+use isle_base::syntax::{Error, Fault};
 use isle_overlap::overlap::Errors;
-use isle_rules::TermEnv;
 use isle_rule_sets::trie_again::RuleSet;
+use isle_rules::TermEnv;
 use isle_terms::TermKind;
 use isle_types::TermId;
+use laws_closure::{check_errors_name_left_out, check_errors_name_masks, check_errors_name_pairs};
+use laws_trees::checkable_programs_pass_no_limit;
 use std::alloc::{AllocError, Global};
 
 // Whether a term may give many values: then no rule stands in the way of another.

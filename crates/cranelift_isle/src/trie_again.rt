@@ -16,18 +16,17 @@ ghost use Rattle.isle_builder.specs.AddedRules.{HasTable, set_so_far};
 ghost use Rattle.cranelift_isle.specs.SetsSoFar.{AreTables, MayGoOn, StandAfter, term_set_at, sets_so_far};
 ghost use Rattle.cranelift_isle.specs.BuiltSets.{IsOfElaborated, ShowsElaborated, WereBuilt, term_set_views};
 
+use isle_base::syntax::Error;
+use isle_builder::TermSet;
 pub use isle_rule_sets::trie_again::{
     Binding, BindingId, Constraint, OutOfRange, Overlap, Rule, RuleSet, TupleIndex,
 };
-pub use isle_types::VariantTerms;
-
-use isle_base::syntax::Error;
-use laws_matching::built_sets_are_answered;
-use laws_typing::elaborated_programs_are_well_typed;
 use isle_rules::TermEnv;
-use isle_builder::TermSet;
 use isle_typed::{Rule, UsedTerms};
 use isle_types::TermId;
+pub use isle_types::VariantTerms;
+use laws_matching::built_sets_are_answered;
+use laws_typing::elaborated_programs_are_well_typed;
 use std::alloc::{AllocError, Global};
 use std::collections::BTreeMap;
 

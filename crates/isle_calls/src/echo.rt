@@ -9,9 +9,11 @@ ghost use Rattle.cranelift_isle.specs.Envs.{constant_at};
 ghost use Rattle.isle_interpreter.specs.ValueViews.{content_view, value_view, value_views};
 ghost use Rattle.isle_calls.specs.Echoes.{constant_number, impure_echo, echoes, extracted_by, first_or_zero, for_each_type, given_by, in_form, pure_echo, named_value, outputs_of};
 
+use cranelift_isle::sema::{
+    ExtractorKind, Sym, Term, TermFlags, TermId, TermKind, TypeEnv, TypeId,
+};
 use isle_interpreter::externs::Externs;
 use isle_interpreter::values::{Content, Value};
-use cranelift_isle::sema::{ExtractorKind, Sym, Term, TermFlags, TermId, TermKind, TypeEnv, TypeId};
 use std::alloc::{AllocError, Global};
 
 /// Answers each call by one rule. A literal is the value that it writes, and a named constant a value that no other

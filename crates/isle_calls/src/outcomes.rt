@@ -3,9 +3,9 @@
 use crate::echo::constant_number;
 use cranelift_isle::lower::Lowered;
 use cranelift_isle::sema::{Sym, TypeId};
-use isle_queries::names::{full_variant_name, sym_name, term_name, type_name};
 use isle_interpreter::state::{Call, Ending, Outcome};
 use isle_interpreter::values::{Content, Value};
+use isle_queries::names::{full_variant_name, sym_name, term_name, type_name};
 use std::alloc::{AllocError, Global};
 
 /// An outcome in one line: `some` and the result, `none` where no rule matches, of a multi term `all` and its results in

@@ -4,8 +4,8 @@ use crate::echo::named_value;
 use cranelift_isle::lower::Lowered;
 use cranelift_isle::sema::{BuiltinType, Term, TermKind, Type, TypeId};
 use cranelift_isle::syntax::{Expr, Ident};
-use isle_queries::names::{term_name, type_name};
 use isle_interpreter::values::Value;
+use isle_queries::names::{term_name, type_name};
 use std::alloc::{AllocError, AllocFailed, Global};
 
 /// Why a call has no outcome.

@@ -3,12 +3,12 @@
 ghost use Rattle.std.specs.Prelude.{◌<◌, string_len, IfOk};
 
 use cranelift_isle::lower::{Lowered, LoweredTerm};
+use cranelift_isle::serialize::{Block, ControlFlow, EvalStep, MatchArm};
 use cranelift_isle::syntax::{Files, Pos};
+use cranelift_isle::trie_again::{BindingId, Rule};
 use isle_diagnostics::demands::{push_head, site_texts, text_at};
 use isle_diagnostics::names::Names;
 use isle_printing::lines::{file_name, file_text, line_at};
-use cranelift_isle::serialize::{Block, ControlFlow, EvalStep, MatchArm};
-use cranelift_isle::trie_again::{BindingId, Rule};
 use std::alloc::{AllocError, Global};
 
 /// The tree of a term as a directed graph: a node for the term and for each step, with what it binds and what it looks at in

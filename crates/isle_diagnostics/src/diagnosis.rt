@@ -3,10 +3,10 @@
 use crate::names::{Names, name_of, priority_of, rule_at};
 use crate::sets::{Sets, sets_of};
 use crate::witness::witness;
-use cranelift_isle::syntax::{Def, Error, Fault, Limit, Pos, Span};
-use isle_printing::report::{Label, Level, Note, Report};
-use cranelift_isle::trie_again::{Rule, RuleSet};
 use cranelift_isle::sema::TermId;
+use cranelift_isle::syntax::{Def, Error, Fault, Limit, Pos, Span};
+use cranelift_isle::trie_again::{Rule, RuleSet};
+use isle_printing::report::{Label, Level, Note, Report};
 use std::alloc::{AllocError, Global};
 
 // How many of the rules that overlap one are told with a value that both match.

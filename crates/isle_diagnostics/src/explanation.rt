@@ -5,9 +5,9 @@ use crate::names::Names;
 use crate::trees::{Search, push_returns};
 use cranelift_isle::lower::{Lowered, LoweredTerm};
 use cranelift_isle::syntax::{Files, Pos};
+use cranelift_isle::trie_again::{Constraint, Overlap, Rule};
 use isle_printing::layout::push_place;
 use isle_printing::lines::{file_name, file_text, line_at};
-use cranelift_isle::trie_again::{Constraint, Overlap, Rule};
 use std::alloc::{AllocError, Global};
 
 /// What is said of a rule that is called by its name, by the number of its line, or by the name of its file, a colon and

@@ -4,12 +4,12 @@ use crate::diagnosis::{add_help, add_rule};
 use crate::literals::add_outside;
 use crate::variables::add_unused;
 use cranelift_isle::lower::Lowered;
+use cranelift_isle::serialize::ControlFlow;
 use cranelift_isle::syntax::{Def, Pos};
+use cranelift_isle::trie_again::{Overlap, Rule};
+use isle_printing::report::{Label, Level, Report};
 use isle_queries::premises::is_multi;
 use isle_queries::walk::{Visit, steps};
-use isle_printing::report::{Label, Level, Report};
-use cranelift_isle::serialize::ControlFlow;
-use cranelift_isle::trie_again::{Overlap, Rule};
 use std::alloc::{AllocError, Global};
 
 /// The warnings of accepted definitions, term by term: rules that never run, since the return of another one stands before

@@ -3,9 +3,9 @@
 use crate::diagnosis::add_help;
 use crate::lints::begun;
 use cranelift_isle::lower::Lowered;
+use cranelift_isle::sema::{BuiltinType, IntType, TermId, Type, TypeId};
 use cranelift_isle::syntax::{Def, Expr, Ident, IfLet, Pattern, Pos, Rule};
 use isle_printing::report::{Label, Report};
-use cranelift_isle::sema::{BuiltinType, IntType, TermId, Type, TypeId};
 use std::alloc::{AllocError, Global};
 
 /// Adds a warning for each integer literal of a definition that is outside the range of its built-in type: it stands for

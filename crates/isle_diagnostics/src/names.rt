@@ -1,7 +1,7 @@
 //! What names, types, terms and rules are called.
 
-use cranelift_isle::syntax::{Def, Pos, Rule};
 use cranelift_isle::sema::{Sym, Term, TermId, Type, TypeEnv, TypeId, VariantId};
+use cranelift_isle::syntax::{Def, Pos, Rule};
 
 /// What names are looked up in.
 #[derive(Clone, Copy)]

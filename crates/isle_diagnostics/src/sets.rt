@@ -1,8 +1,8 @@
 //! The rule sets of definitions that may be refused for what their rules demand.
 
+use cranelift_isle::sema::{TermEnv, TermId, TypeEnv};
 use cranelift_isle::syntax::{Def, Fault};
 use cranelift_isle::trie_again::{RuleSet, build};
-use cranelift_isle::sema::{TermEnv, TermId, TypeEnv};
 use std::alloc::Global;
 
 /// The environments of definitions, and the rule set of each term with rules, of those rules that can match.

@@ -2,8 +2,8 @@
 
 use crate::demands::{push_head, text_at};
 use crate::names::Names;
-use cranelift_isle::syntax::Pos;
 use cranelift_isle::serialize::{Block, ControlFlow, EvalStep, MatchArm};
+use cranelift_isle::syntax::Pos;
 use cranelift_isle::trie_again::{BindingId, Constraint};
 use std::alloc::{AllocError, Global};
 

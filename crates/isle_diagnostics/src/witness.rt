@@ -2,8 +2,8 @@
 
 use crate::demands::{push_demand, push_equals, push_head, site_texts, text_at};
 use crate::names::Names;
-use cranelift_isle::trie_again::{Binding, BindingId, Constraint, Rule, RuleSet, TupleIndex};
 use cranelift_isle::sema::TermId;
+use cranelift_isle::trie_again::{Binding, BindingId, Constraint, Rule, RuleSet, TupleIndex};
 use std::alloc::{AllocError, Global};
 
 // How many sites a set may have for a value to be looked for: each field is looked up among all of them.

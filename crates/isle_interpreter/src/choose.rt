@@ -16,9 +16,9 @@ ghost use Rattle.model.specs.rules.Meaning.{total};
 ghost use Rattle.isle_interpreter.specs.SourceViews.{of_terms, source_program, meaning_in, evaluated_view, if_held, vars_view};
 
 use crate::exprs::{Evaluated, eval, pure_value};
+use crate::externs::Externs;
 use crate::patterns::{each_holds, holds};
 use crate::source::Source;
-use crate::externs::Externs;
 use crate::state::{Call, Ending, Outcome, Trace};
 use crate::values::{Content, Value};
 use isle_terms::{Term, TermKind};

@@ -13,11 +13,11 @@ ghost use Rattle.model.specs.rules.Meaning.{total};
 ghost use Rattle.isle_interpreter.specs.SourceViews.{of_terms, source_program, meaning_in, evaluated_all_view, evaluated_view, lets_view, purity, vars_view, with_value};
 
 use crate::answers::single;
-use crate::source::Source;
-use crate::vars::{copied, value_of};
 use crate::externs::Externs;
+use crate::source::Source;
 use crate::state::Call;
 use crate::values::Value;
+use crate::vars::{copied, value_of};
 use isle_terms::{Term, TermKind};
 use isle_typed::Expr;
 use isle_types::{TermId, TypeId, VarId};

@@ -9,10 +9,10 @@ ghost use Rattle.model.specs.rules.Meaning.{total};
 ghost use Rattle.isle_interpreter.specs.SourceViews.{of_terms, source_program, meaning_in, if_held, vars_view};
 
 use crate::answers::answered_outputs;
-use crate::source::Source;
-use crate::vars::var_value;
 use crate::externs::Externs;
+use crate::source::Source;
 use crate::values::{Value, same_type, same_value, same_variant, value_clones};
+use crate::vars::var_value;
 use isle_terms::TermKind;
 use isle_typed::Pattern;
 use isle_types::{TermId, TypeId, VarId, VariantId};

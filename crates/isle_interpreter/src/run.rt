@@ -19,8 +19,8 @@ use crate::externs::Externs;
 use crate::fields::{bind_fields, content_fields};
 use crate::state::{Bound, Ending, Outcome, Stage, Trace};
 use crate::values::{Content, Value, same_value};
-use isle_serialize::serialize::{Block, ControlFlow, EvalStep, MatchArm};
 use isle_rule_sets::trie_again::{Binding, BindingId, RuleSet};
+use isle_serialize::serialize::{Block, ControlFlow, EvalStep, MatchArm};
 use std::alloc::{AllocError, Global};
 
 // Whether two sites hold equal values, where each holds a value.

@@ -1,7 +1,7 @@
 //! The printed form of trees: each term with its sites and its steps, one a line.
 
-use isle_serialize::serialize::{Block, ControlFlow, EvalStep, MatchArm};
 use isle_rule_sets::trie_again::{Binding, BindingId, Constraint};
+use isle_serialize::serialize::{Block, ControlFlow, EvalStep, MatchArm};
 use isle_terms::Term;
 use isle_types::{Sym, TermId, Type, TypeId, VariantId};
 use std::alloc::AllocError;

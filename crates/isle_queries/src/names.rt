@@ -8,7 +8,9 @@ ghost use Rattle.cranelift_isle.specs.TermViews.{term_views};
 ghost use Rattle.cranelift_isle.specs.RuleViews.{rule_views};
 ghost use Rattle.isle_queries.specs.NameTexts.{full_name_of_variant, name_of_rule, name_of_term, name_of_type, name_of_variant};
 
-use cranelift_isle::sema::{RuleId, Sym, TermEnv, TermId, Type, TypeEnv, TypeId, Variant, VariantId};
+use cranelift_isle::sema::{
+    RuleId, Sym, TermEnv, TermId, Type, TypeEnv, TypeId, Variant, VariantId,
+};
 
 /// The text of a name, or None where the id is no name's.
 pub fn sym_name(tyenv: &TypeEnv, sym: Sym) -> Option<&str>

@@ -2,7 +2,10 @@
 
 use crate::names::{push_name, push_part};
 use crate::program::Program;
-use cranelift_isle::sema::{BuiltinType, ConstructorKind, ExtractorKind, Fields, IntType, StructField, Sym, TermId, TermKind, Type, TypeId, VariantId};
+use cranelift_isle::sema::{
+    BuiltinType, ConstructorKind, ExtractorKind, Fields, IntType, StructField, Sym, TermId,
+    TermKind, Type, TypeId, VariantId,
+};
 use cranelift_isle::trie_again::{Binding, BindingId, TupleIndex};
 use isle_queries::names::variant_of;
 use std::alloc::AllocError;

@@ -4,7 +4,9 @@ use crate::code::CodeError;
 use crate::names::push_name;
 use crate::program::Program;
 use cranelift_isle::lower::LoweredTerm;
-use cranelift_isle::sema::{ConstructorKind, ExtractorKind, Fields, StructField, Sym, Term, TermKind, Type, Variant};
+use cranelift_isle::sema::{
+    ConstructorKind, ExtractorKind, Fields, StructField, Sym, Term, TermKind, Type, Variant,
+};
 use std::alloc::{AllocError, Global};
 use std::collections::HashMap;
 

@@ -17,8 +17,8 @@ use crate::fields::fields_by_source;
 use crate::place::IndexedSet;
 use crate::tests::priority;
 use isle_base::syntax::Pos;
-use laws_trees::{best_trees_mean_their_sets, built_sets_have_one_best_tree};
 use isle_rule_sets::trie_again::{BindingId, Constraint, RuleSet};
+use laws_trees::{best_trees_mean_their_sets, built_sets_have_one_best_tree};
 use std::alloc::{AllocError, Global};
 use std::cmp::Reverse;
 

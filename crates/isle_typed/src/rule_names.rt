@@ -10,11 +10,11 @@ ghost use Rattle.isle_typed.specs.FirstErrors.{MayBegin};
 ghost use Rattle.isle_typed.specs.RuleNaming.{AreCounts, MapsNames, NamesRule, TakesName, is_defined_term, AreDefined, IsLeftUndefined, rules_at, terms_at};
 ghost use Rattle.isle_typed.specs.RuleViews.{rule_view, rule_views};
 
+use crate::Rule;
 use crate::reports::report;
 use isle_base::stablemapset::StableMap;
 use isle_base::syntax::Error;
 use isle_terms::Term;
-use crate::Rule;
 use isle_types::{RuleId, Sym, TermId, TypeEnv};
 use std::alloc::{AllocError, Global};
 

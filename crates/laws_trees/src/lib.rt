@@ -26,9 +26,9 @@ use laws_closure::{
     built_sets_are_well_built, multi_terms_have_one_priority, no_rule_asks_and_goes_over,
 };
 use laws_matching::{
-    built_rules_are_told_apart, built_sets_match_by_demands, built_sets_mean_their_rules, results_are_held,
-    rules_without_multi_go_over_no_calls, served_multi_sets_serve, served_sets_serve_tests,
-    taken_rules_give_their_outcome,
+    built_rules_are_told_apart, built_sets_match_by_demands, built_sets_mean_their_rules,
+    results_are_held, rules_without_multi_go_over_no_calls, served_multi_sets_serve,
+    served_sets_serve_tests, taken_rules_give_their_outcome,
 };
 
 /// The list of a place's open tests holds exactly the tests that are open there.

@@ -1,14 +1,14 @@
 // Trees of generated definitions and of samples, judged; and trees that the judge refuses.
-use cranelift_isle::lower::{Lowered, LoweredTerm, lower};
-use isle_answers::samples::SAMPLES;
-use cranelift_isle::syntax;
-use cranelift_isle::syntax::Pos;
 use check_judge::judge::{Fault, judge};
 use check_lists::one_term::list;
-use cranelift_isle::serialize::{Block, ControlFlow, EvalStep, MatchArm};
-use cranelift_isle::trie_again::{BindingId, Constraint};
-use isle_reader::read;
+use cranelift_isle::lower::{Lowered, LoweredTerm, lower};
 use cranelift_isle::sema::TypeId;
+use cranelift_isle::serialize::{Block, ControlFlow, EvalStep, MatchArm};
+use cranelift_isle::syntax;
+use cranelift_isle::syntax::Pos;
+use cranelift_isle::trie_again::{BindingId, Constraint};
+use isle_answers::samples::SAMPLES;
+use isle_reader::read;
 use std::alloc::{AllocError, Global};
 use std::process::Abort;
 use std::test::Fail;

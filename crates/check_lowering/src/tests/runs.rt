@@ -1,13 +1,13 @@
 //! A tree that returns its argument, run.
 
+use cranelift_isle::sema::{TypeEnv, TypeId};
+use cranelift_isle::serialize::{Block, ControlFlow, EvalStep};
 use cranelift_isle::syntax::Pos;
+use cranelift_isle::trie_again::{Binding, BindingId, RuleSet, TupleIndex};
 use isle_calls::echo::Echo;
 use isle_interpreter::run::run;
 use isle_interpreter::state::Ending;
 use isle_interpreter::values::{Content, Value};
-use cranelift_isle::serialize::{Block, ControlFlow, EvalStep};
-use cranelift_isle::trie_again::{Binding, BindingId, RuleSet, TupleIndex};
-use cranelift_isle::sema::{TypeEnv, TypeId};
 use std::alloc::{AllocError, Global};
 use std::process::Abort;
 

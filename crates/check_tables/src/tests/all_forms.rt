@@ -10,7 +10,10 @@ ghost use Rattle.cranelift_isle.specs.Visitable.{is_visitable_rule};
 ghost use Rattle.cranelift_isle.specs.TermViews.{kind_view, term_views};
 
 use crate::tests::visits::{NO_FLAGS, NOWHERE, RULED, env, expect_calls, rule, term};
-use cranelift_isle::sema::{ConstructorKind, Expr, ExtractorKind, IfLet, Pattern, Rule, Sym, TermEnv, TermFlags, TermId, TermKind, TypeId, VarId, VariantId};
+use cranelift_isle::sema::{
+    ConstructorKind, Expr, ExtractorKind, IfLet, Pattern, Rule, Sym, TermEnv, TermFlags, TermId,
+    TermKind, TypeId, VarId, VariantId,
+};
 use std::alloc::{AllocError, Global};
 use std::test::Fail;
 

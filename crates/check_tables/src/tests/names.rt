@@ -1,9 +1,9 @@
 // What rules are called.
 use crate::readings::types_and_rules;
 use crate::tests::visits::rule;
+use cranelift_isle::sema::{Expr, RuleId, Sym, TypeEnv, TypeId, VarId};
 use cranelift_isle::syntax::{Files, Ident, Pos};
 use isle_reader::read;
-use cranelift_isle::sema::{Expr, RuleId, Sym, TypeEnv, TypeId, VarId};
 use std::test::Fail;
 
 const NAMED: &str = "(decl f (u8) u8) (rule n (f 1) 10) (rule (f x) x) (decl g () u8) (rule (g) 1)";

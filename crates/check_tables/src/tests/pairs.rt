@@ -3,11 +3,11 @@
 ghost use Rattle.std.specs.Prelude.{IfOk};
 
 use crate::readings::types_and_rules;
+use check_lists::one_term::list;
+use cranelift_isle::sema::TermId;
 use cranelift_isle::stablemapset::StableMap;
 use cranelift_isle::trie_again::{BindingId, Constraint, Overlap, Rule, RuleSet, build};
-use check_lists::one_term::list;
 use isle_reader::read;
-use cranelift_isle::sema::TermId;
 use std::alloc::{AllocError, Global};
 use std::process::Abort;
 use std::test::Fail;

@@ -1,13 +1,13 @@
 // The printed form of each form of binding, step and error.
 use crate::readings::types_and_rules;
+use cranelift_isle::sema::{Sym, TermId, TypeId, VariantId};
+use cranelift_isle::serialize::{Block, ControlFlow, EvalStep, MatchArm};
 use cranelift_isle::syntax::{Error, Limit, Pos, Span};
+use cranelift_isle::trie_again::{Binding, BindingId, Constraint, TupleIndex};
 use isle_printing::errors::error_lines;
 use isle_printing::places::Places;
 use isle_printing::print::{Names, print_bindings, print_block};
-use cranelift_isle::serialize::{Block, ControlFlow, EvalStep, MatchArm};
-use cranelift_isle::trie_again::{Binding, BindingId, Constraint, TupleIndex};
 use isle_reader::read;
-use cranelift_isle::sema::{Sym, TermId, TypeId, VariantId};
 use std::alloc::{AllocError, Global};
 use std::test::Fail;
 

@@ -8,11 +8,13 @@ ghost use Rattle.cranelift_isle.specs.TermsOfVariants.{HasTermIfMade};
 ghost use Rattle.cranelift_isle.specs.TypeViews.{type_views};
 
 use crate::readings::types_and_rules;
+use cranelift_isle::sema::{TermEnv, TermId, Type, TypeEnv, TypeId, VariantId};
 use cranelift_isle::syntax::{Error, Limit};
-use cranelift_isle::trie_again::{Binding, BindingId, Constraint, Overlap, Rule, RuleSet, TupleIndex, build};
+use cranelift_isle::trie_again::{
+    Binding, BindingId, Constraint, Overlap, Rule, RuleSet, TupleIndex, build,
+};
 use isle_printing::errors::error_lines;
 use isle_printing::places::Places;
-use cranelift_isle::sema::{TermEnv, TermId, Type, TypeEnv, TypeId, VariantId};
 use isle_reader::read;
 use std::alloc::{AllocError, Global};
 use std::process::Abort;

@@ -1,7 +1,7 @@
 // The signatures of the functions that stand for terms.
 use crate::readings::types_and_rules;
-use cranelift_isle::syntax::{Ident, Pos};
 use cranelift_isle::sema::{ExternalSig, ReturnKind, TermEnv, TypeEnv, TypeId};
+use cranelift_isle::syntax::{Ident, Pos};
 use isle_reader::read;
 use std::alloc::{AllocError, Global};
 use std::process::Abort;

@@ -4,8 +4,11 @@ ghost use Rattle.cranelift_isle.specs.TypeViews.{type_views};
 ghost use Rattle.cranelift_isle.specs.Questions.{variant_by_id};
 
 use crate::readings::{types_and_rules, types_and_terms};
+use cranelift_isle::sema::{
+    BuiltinType, Expr, FieldId, Fields, Pattern, RuleId, StructField, StructFields, Sym, TermEnv,
+    TermId, Type, TypeEnv, TypeId, VarId, Variant, VariantId,
+};
 use cranelift_isle::syntax::{Def, Error, Ident, Pos, TypeValue};
-use cranelift_isle::sema::{BuiltinType, Expr, FieldId, Fields, Pattern, RuleId, StructField, StructFields, Sym, TermEnv, TermId, Type, TypeEnv, TypeId, VarId, Variant, VariantId};
 use isle_reader::read;
 use std::alloc::{AllocError, Global};
 use std::process::Abort;
@@ -218,7 +221,10 @@ fn numbers_of_fields(rt: HostRuntime) -> Result<(), Fail> {
     let mut defs = read(alloc, 0, "(type T (struct nope))")?;
     for def in &mut defs {
         if let Def::TypeDef(ty) = def
-            && let TypeValue::Struct(cranelift_isle::syntax::Fields::Tuple(fields), _) = &mut ty.ty
+            && let TypeValue::Struct(
+                cranelift_isle::syntax::Fields::Tuple(fields),
+                _,
+            ) = &mut ty.ty
         {
             for field in &mut fields.fields {
                 field.index = 4;

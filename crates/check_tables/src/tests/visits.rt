@@ -4,11 +4,14 @@ ghost use Rattle.cranelift_isle.specs.RuleViews.{rule_view};
 ghost use Rattle.cranelift_isle.specs.Visitable.{is_visitable_rule};
 ghost use Rattle.cranelift_isle.specs.TermViews.{term_views};
 
-use cranelift_isle::stablemapset::StableMap;
-use cranelift_isle::syntax::Pos;
 use check_recorders::counter::{Counter, ExprPlace};
 use check_recorders::recorder::Recorder;
-use cranelift_isle::sema::{ConstructorKind, Expr, IfLet, Pattern, Rule, RuleId, Sym, Term, TermEnv, TermFlags, TermId, TermKind, TypeId, VarId, VisitFault};
+use cranelift_isle::sema::{
+    ConstructorKind, Expr, IfLet, Pattern, Rule, RuleId, Sym, Term, TermEnv, TermFlags, TermId,
+    TermKind, TypeId, VarId, VisitFault,
+};
+use cranelift_isle::stablemapset::StableMap;
+use cranelift_isle::syntax::Pos;
 use std::alloc::{AllocError, Global};
 use std::process::Abort;
 use std::test::Fail;

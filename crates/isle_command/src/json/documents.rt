@@ -9,10 +9,10 @@ use crate::json::trees::Sources;
 use crate::json::writer::Json;
 use cranelift_isle::lower::{Lowered, LoweredTerm};
 use cranelift_isle::syntax::Files;
-use isle_diagnostics::names::Names;
-use isle_queries::walk::steps;
-use isle_printing::report::Report;
 use cranelift_isle::trie_again::{BindingId, Rule};
+use isle_diagnostics::names::Names;
+use isle_printing::report::Report;
+use isle_queries::walk::steps;
 use std::alloc::{AllocError, Global};
 
 // The number of the form. It grows where something is taken away or means something else.

@@ -1,12 +1,12 @@
 //! Sites and rules.
 
 use crate::json::writer::Json;
-use cranelift_isle::syntax::{Files, Pos};
-use isle_diagnostics::names::Names;
-use isle_queries::in_place::is_in_place;
-use isle_printing::lines::{file_name, file_text, line_at};
-use cranelift_isle::trie_again::{Binding, BindingId, Constraint, Rule};
 use cranelift_isle::sema::TypeId;
+use cranelift_isle::syntax::{Files, Pos};
+use cranelift_isle::trie_again::{Binding, BindingId, Constraint, Rule};
+use isle_diagnostics::names::Names;
+use isle_printing::lines::{file_name, file_text, line_at};
+use isle_queries::in_place::is_in_place;
 use std::alloc::AllocError;
 
 /// Adds the sites of a set, by their numbers. Those are marked that some step of the tree binds.

@@ -1,8 +1,8 @@
 //! Types, and the heads of terms.
 
 use crate::json::writer::Json;
-use isle_diagnostics::names::Names;
 use cranelift_isle::sema::{Fields, Term, TermFlags, TermKind, Type, TypeId, Variant};
+use isle_diagnostics::names::Names;
 use std::alloc::AllocError;
 
 /// Adds the types that definitions make, by their ids.

@@ -2,11 +2,11 @@
 
 use crate::json::sets::{push_constraint, push_ids};
 use crate::json::writer::Json;
+use cranelift_isle::serialize::{Block, ControlFlow, EvalStep, MatchArm};
 use cranelift_isle::syntax::Pos;
+use cranelift_isle::trie_again::{BindingId, RuleSet};
 use isle_diagnostics::names::Names;
 use isle_queries::rules::rule_behind;
-use cranelift_isle::serialize::{Block, ControlFlow, EvalStep, MatchArm};
-use cranelift_isle::trie_again::{BindingId, RuleSet};
 use std::alloc::AllocError;
 
 /// What a tree speaks of.

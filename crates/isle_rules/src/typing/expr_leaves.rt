@@ -19,9 +19,9 @@ use crate::term_env::TermEnv;
 use crate::typing::expr_uses::meets_expected;
 use crate::typing::progress::{Progress, Stop};
 use isle_base::syntax::{Error, Ident, Pos};
+use isle_typed::Expr;
 use isle_typed::checks::{check_bool, check_integer, constant_type, literal_number};
 use isle_typed::reports::{expected_text, report, type_text};
-use isle_typed::Expr;
 use isle_types::{TypeEnv, TypeId};
 use std::alloc::AllocError;
 

@@ -21,10 +21,10 @@ ghost use Rattle.isle_rules.specs.RulePositions.{StaysPlaced, ConvertsAmong, Cal
 use crate::term_env::TermEnv;
 use crate::typing::progress::{Progress, Stop};
 use isle_base::syntax::{Error, Expr, Ident, Pos};
-use isle_typed::checks::check_count;
-use isle_typed::reports::{check, expected_text, report, report_unmade, type_text};
 use isle_terms::{Term, TermFlags, TermKind};
 use isle_typed::BoundVar;
+use isle_typed::checks::check_count;
+use isle_typed::reports::{check, expected_text, report, report_unmade, type_text};
 use isle_types::{TypeEnv, TypeId};
 use std::alloc::AllocError;
 

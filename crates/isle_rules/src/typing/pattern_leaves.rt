@@ -16,9 +16,9 @@ ghost use Rattle.isle_rules.specs.RulePositions.{StaysPlaced};
 use crate::term_env::TermEnv;
 use crate::typing::progress::{Progress, Stop};
 use isle_base::syntax::{Error, Ident, Pos};
+use isle_typed::Pattern;
 use isle_typed::checks::{check_bool, check_integer, check_same, constant_type, literal_number};
 use isle_typed::reports::{report, type_text};
-use isle_typed::Pattern;
 use isle_types::{Sym, TypeEnv, TypeId};
 use std::alloc::AllocError;
 

@@ -19,9 +19,9 @@ ghost use Rattle.isle_rules.specs.RulePositions.{with_templates, StaysPlaced, Ex
 use crate::term_env::TermEnv;
 use crate::typing::progress::{Progress, Stop};
 use isle_base::syntax::{Error, Ident, Pattern, Pos};
+use isle_terms::{ExtractorKind, Term, TermKind};
 use isle_typed::checks::check_count;
 use isle_typed::reports::{report, type_text};
-use isle_terms::{ExtractorKind, Term, TermKind};
 use isle_types::{TypeEnv, TypeId};
 use std::alloc::AllocError;
 
