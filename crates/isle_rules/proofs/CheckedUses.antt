@@ -9,7 +9,7 @@ use Rattle.isle_base.specs.SyntaxViews.{definition_view, definition_views}
 use Rattle.model.specs.lists.Syntax.{Definition, type_definition, declaration, extractor_definition, converter_definition, rule_definition, extern_definition, other_definition}
 use Rattle.model.specs.lists.TermTable.{rule_trees}
 use Rattle.isle_base.specs.NotedErrors.{NotesMore}
-use Rattle.isle_rules.proofs.LimitErrors.{both}
+use Rattle.isle_base.proofs.NotedErrors.{both}
 use Rattle.isle_rules.specs.Constructors.{uses_of_rule, uses_of_definition}
 use Rattle.isle_typed.specs.Elaborating.{Checks}
 use Rattle.isle_types.proofs.RightTypes.{all_left, all_right}

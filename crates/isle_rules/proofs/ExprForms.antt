@@ -13,6 +13,7 @@ use Rattle.model.specs.rules.Typed.{TypedExpr, make_term}
 use Rattle.model.specs.lists.Typings.{Typing, made_into}
 use Rattle.laws_typing.proofs.Typings.{made_gives}
 use Rattle.isle_base.specs.NotedErrors.{NotesMore, MayNoteMore}
+use Rattle.isle_base.proofs.NotedErrors.{may_both}
 use Rattle.isle_typed.specs.declared.exprs.Expr.{Expr}
 use Rattle.isle_rules.specs.declared.term_env.TermEnv.{TermEnv}
 use Rattle.isle_rules.specs.declared.typing.progress.Stop.{Stop}
@@ -21,7 +22,6 @@ use Rattle.isle_rules.specs.ExprReadings.{expr_reading, args_reading}
 use Rattle.isle_rules.specs.ExprUses.{TakesArgs}
 use Rattle.isle_typed.specs.ExprViews.{expr_views, expr_parts}
 use Rattle.isle_rules.specs.Translating.{Standing, IsSettingOf, IsTranslated, IsReported, KeepsNoted, Stops}
-use Rattle.isle_rules.proofs.LimitErrors.{may_both}
 use Rattle.isle_rules.proofs.Readings.{made_as, becomes_same, becomes_made, reported_then, reported_stops}
 use Rattle.isle_rules.proofs.ExprUsing.{list_length}
 

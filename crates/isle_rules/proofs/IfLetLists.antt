@@ -18,6 +18,7 @@ use Rattle.model.specs.lists.Setting.{Setting, Scope}
 use Rattle.model.specs.lists.Typings.{Typing, plain, made_into, joined_typing, followed}
 use Rattle.isle_types.specs.Envs.{names_of}
 use Rattle.isle_base.specs.NotedErrors.{NotesMore, MayNoteMore}
+use Rattle.isle_base.proofs.NotedErrors.{may_both}
 use Rattle.isle_typed.specs.declared.rules.IfLet as R
 use Rattle.isle_rules.specs.declared.term_env.TermEnv.{TermEnv}
 use Rattle.isle_rules.specs.declared.typing.progress.Stop.{Stop}
@@ -28,7 +29,6 @@ use Rattle.isle_rules.specs.RuleReadings.{iflet_reading, iflets_reading}
 use Rattle.isle_typed.specs.RuleViews.{iflet_view}
 use Rattle.isle_rules.specs.Translating.{Standing, Keeps, Reading, IsSettingOf, IsTranslated, IsReported, KeepsNoted, StaysNoted, Stops, MayTranslate, Translates}
 use Rattle.isle_rules.proofs.PatternLists.{same_typing}
-use Rattle.isle_rules.proofs.LimitErrors.{may_both}
 use Rattle.isle_rules.proofs.Readings.{made_done, made_reported, made_stops, reported_then, reported_stops, then_done, then_reported, then_stops, first_stops}
 use Rattle.isle_rules.proofs.Scopes.{still, plain_made}
 

@@ -23,6 +23,7 @@ use Rattle.isle_types.specs.declared.ids.TypeId.{TypeId}
 use Rattle.isle_types.specs.declared.ids.VarId.{VarId}
 use Rattle.isle_types.specs.Envs.{names_of, symbol_of, type_at, type_of_name, IsInterned}
 use Rattle.isle_base.specs.NotedErrors.{NotesMore, MayNoteMore}
+use Rattle.isle_base.proofs.NotedErrors.{may_both}
 use Rattle.laws_typing.proofs.TypesStay.{number_front}
 use Rattle.isle_typed.specs.declared.exprs.Expr.{Expr}
 use Rattle.isle_typed.specs.declared.rules.BoundVar.{BoundVar}
@@ -35,7 +36,6 @@ use Rattle.isle_rules.specs.Lets.{with_let, before_all, HidesAs, Defines, BindsD
 use Rattle.isle_rules.specs.Progress.{newest, BindsNext, Remains}
 use Rattle.isle_rules.specs.Translating.{Standing, Keeps, IsSettingOf, Shows, Reading, Wherever, IsOnlyTyping, IsTranslated, IsReported, Stops}
 use Rattle.isle_rules.proofs.PatternLists.{same_typing}
-use Rattle.isle_rules.proofs.LimitErrors.{may_both}
 use Rattle.isle_rules.proofs.Readings.{becomes_same, keep_setting, reported_then, then_done, then_reported, then_stops, first_stops, may_report}
 use Rattle.isle_rules.proofs.Scopes.{met_shows, bound_shows, as_many, plain_made}
 use Rattle.isle_rules.proofs.LetScopes.{names_stay, hide_bound}

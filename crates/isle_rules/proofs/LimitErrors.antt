@@ -1,4 +1,4 @@
--- Errors noted after errors.
+-- An error that says that a limit is passed, noted after others.
 use Rattle.std.proofs.Common.{List, ◌∷◌, ◌++◌, ◌≡◌, [], String, ap}
 use Rattle.std.specs.declared.alloc.Global.{Global}
 use Rattle.model.specs.claims.Refusals.{past_limit}
@@ -10,8 +10,6 @@ use Rattle.isle_base.specs.declared.syntax.Pos.{Pos}
 use Rattle.isle_base.specs.declared.syntax.Span.{Span}
 use Rattle.isle_base.specs.ErrorViews.{limit_view}
 use Rattle.isle_rules.specs.RuleLists.{NotesLimit}
-pub use Rattle.isle_base.proofs.NotedErrors.{some_noted, both, may_both, still_plain}
-pub use Rattle.isle_typed.proofs.FirstErrors.{may_check}
 
 -- a limit that is noted
 pub limit_noted : (l : Limit) (at : Pos) (msg : String Global) (span : Span) → span.from ≡ at → (old new : List Error) → new ≡ old ++ LimitError l msg span ∷ [] → NotesLimit l at old new

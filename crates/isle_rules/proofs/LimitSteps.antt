@@ -4,6 +4,7 @@ use Rattle.std.proofs.lemmas.List.{length-append}
 use Rattle.std.proofs.lemmas.Option.{none-some}
 use Rattle.isle_base.specs.declared.syntax.Error.{Error}
 use Rattle.isle_base.specs.NotedErrors.{NotesMore, MayNoteMore}
+use Rattle.isle_base.proofs.NotedErrors.{some_noted}
 use Rattle.model.specs.claims.Refusals.{NamedLimit, of_nesting, of_expansions}
 use Rattle.model.specs.lists.Setting.{Setting, Scope}
 use Rattle.model.specs.lists.Typings.{Typing, followed}
@@ -13,7 +14,6 @@ use Rattle.isle_rules.specs.declared.typing.progress.Stop.TheVariants.{Memory, N
 use Rattle.isle_rules.specs.ReachedLimits.{Limits, or_after}
 use Rattle.isle_rules.specs.LimitStops.{ComesTo, EndsByLimit, StopEnds, MeetsLimits, NotLimited, LeadsTo}
 use Rattle.isle_rules.specs.Translating.{Standing, Keeps, IsSettingOf, Shows, Reading, Wherever, IsTranslated, IsReported, KeepsNoted, StaysNoted, Stops}
-use Rattle.isle_rules.proofs.LimitErrors.{some_noted}
 use Rattle.isle_rules.proofs.Readings.{keep_setting, reported_then, then_reported, first_reported, stop_keeps}
 
 -- what was noted wasn't there before

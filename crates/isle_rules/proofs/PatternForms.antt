@@ -17,6 +17,7 @@ use Rattle.laws_typing.proofs.TypedPatterns as patterns
 use Rattle.laws_typing.proofs.TypedResults.{types_are_expected}
 use Rattle.laws_typing.proofs.Typings.{made_gives}
 use Rattle.isle_base.specs.NotedErrors.{NotesMore, MayNoteMore}
+use Rattle.isle_base.proofs.NotedErrors.{may_both}
 use Rattle.isle_typed.specs.declared.patterns.Pattern.{Pattern}
 use Rattle.isle_rules.specs.declared.term_env.TermEnv.{TermEnv}
 use Rattle.isle_rules.specs.declared.typing.progress.Stop.{Stop}
@@ -25,7 +26,6 @@ use Rattle.isle_typed.specs.PatternViews.{pattern_view, pattern_views, pattern_p
 use Rattle.isle_rules.specs.PatternReadings.{pattern_reading, parts_reading, binding_reading, BindsAround}
 use Rattle.isle_rules.specs.PatternUses.{TakesParts}
 use Rattle.isle_rules.specs.Translating.{Standing, Keeps, IsSettingOf, IsTranslated, IsReported, KeepsNoted, Stops, MayTranslate}
-use Rattle.isle_rules.proofs.LimitErrors.{may_both}
 use Rattle.isle_rules.proofs.Readings.{made_as, becomes_same, becomes_made, reported_then, reported_stops, then_done, then_stops, first_reported, first_stops}
 use Rattle.isle_rules.proofs.PatternUsing.{list_length}
 use Rattle.isle_rules.proofs.Scopes.{plain_made}

@@ -18,6 +18,8 @@ use Rattle.model.proofs.Options.{then_some}
 use Rattle.laws_typing.proofs.Typings.{ne-eqb, counted_gives}
 use Rattle.isle_types.specs.Envs.{names_of, symbol_of, IsInterned}
 use Rattle.isle_base.specs.NotedErrors.{NotesMore, MayNoteMore}
+use Rattle.isle_base.proofs.NotedErrors.{both}
+use Rattle.isle_typed.proofs.FirstErrors.{may_check}
 use Rattle.isle_terms.specs.Terms.{has_extractor_kind}
 use Rattle.isle_terms.specs.TermViews.{term_views}
 use Rattle.isle_rules.specs.declared.term_env.TermEnv.{TermEnv}
@@ -29,7 +31,6 @@ use Rattle.isle_rules.specs.TermEnvs.{term_in_env}
 use Rattle.isle_rules.specs.PatternReadings.{pattern_reading, parts_reading}
 use Rattle.isle_rules.specs.PatternUses.{found_term, found_converter, found_template, inside_term, IsExpansionOf, TakesParts}
 use Rattle.isle_rules.specs.Translating.{Standing, Reading, IsSettingOf, Shows, Wherever, IsReported, Stops, ExpandsTo, converter_in, expanding}
-use Rattle.isle_rules.proofs.LimitErrors.{both, may_check}
 use Rattle.isle_rules.proofs.Scopes.{still}
 use Rattle.isle_rules.proofs.TermsFound.{found_named}
 

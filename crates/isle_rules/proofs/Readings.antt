@@ -12,8 +12,8 @@ use Rattle.isle_types.specs.declared.type_env.TypeEnv.{TypeEnv}
 use Rattle.isle_types.specs.Envs.{names_of, symbol, same_symbol, IsInterned}
 use Rattle.isle_types.specs.TypeViews.{type_views}
 use Rattle.isle_base.specs.NotedErrors.{NotesMore, MayNoteMore}
-use Rattle.isle_rules.proofs.LimitErrors.{both, may_both}
 use Rattle.isle_base.specs.declared.syntax.Error.{Error}
+use Rattle.isle_base.proofs.NotedErrors.{both, may_both}
 use Rattle.isle_rules.specs.declared.term_env.TermEnv.{TermEnv}
 use Rattle.isle_rules.specs.declared.typing.progress.Stop.{Stop}
 use Rattle.isle_rules.specs.declared.typing.progress.Stop.TheVariants.{Memory, Nesting, Expansions}

@@ -17,6 +17,7 @@ use Rattle.model.specs.lists.Elaborated.{few_enough, most_nested, most_expansion
 use Rattle.isle_types.specs.declared.type_env.TypeEnv.{TypeEnv}
 use Rattle.isle_types.specs.Envs.{names_of}
 use Rattle.isle_base.specs.NotedErrors.{NotesMore, MayNoteMore}
+use Rattle.isle_base.proofs.NotedErrors.{some_noted}
 use Rattle.isle_typed.specs.declared.rules.Rule.{Rule}
 use Rattle.isle_rules.specs.declared.term_env.TermEnv.{TermEnv}
 use Rattle.isle_rules.specs.declared.typing.progress.Progress.{Progress}
@@ -27,7 +28,6 @@ use Rattle.isle_rules.specs.RuleLists.{NotesLimit, NotesStop, EndsRule, is_typed
 use Rattle.isle_rules.specs.RuleReadings.{rule_reading}
 use Rattle.isle_typed.specs.RuleViews.{var_view, rule_view, rule_views}
 use Rattle.isle_rules.specs.Translating.{Standing, standing, Reading, Shows, IsTranslated, IsReported, Stops, MayTranslate}
-use Rattle.isle_rules.proofs.LimitErrors.{some_noted}
 
 pub few_some : {X : Type 0} (o : Option (Typing X)) (a : Typing X) → o ≡ Some a → a.expansions ≤ most_expansions → few_enough o ≡ Some a
 few_some o a h few = ap few_enough h ∙ ap (λ b. cond b (Some a) None) (le-leb a.expansions most_expansions few)

@@ -12,8 +12,9 @@ use Rattle.model.specs.rules.Typed.{TypedRule}
 use Rattle.isle_types.specs.declared.type_env.TypeEnv.{TypeEnv}
 use Rattle.isle_types.specs.Envs.{names_of}
 use Rattle.isle_base.specs.NotedErrors.{NotesMore}
+use Rattle.isle_base.proofs.NotedErrors.{some_noted}
+use Rattle.isle_typed.proofs.FirstErrors.{may_check}
 use Rattle.isle_rules.proofs.RulesRefused.{mapped_noted}
-use Rattle.isle_rules.proofs.LimitErrors.{may_check, some_noted}
 use Rattle.isle_terms.specs.TermViews.{term_views}
 use Rattle.isle_rules.specs.declared.term_env.TermEnv.{TermEnv}
 use Rattle.isle_typed.specs.declared.rules.Rule.{Rule}

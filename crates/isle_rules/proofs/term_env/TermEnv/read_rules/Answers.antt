@@ -8,16 +8,16 @@ use Rattle.isle_rules.specs.RuleLists.{CollectsRules}
 use Rattle.isle_typed.specs.RuleNaming.{MapsNames, TakesName, AreDefined, IsLeftUndefined, rules_at, terms_at}
 use Rattle.isle_typed.specs.RuleViews.{rule_views}
 use Rattle.isle_typed.specs.FirstErrors.{MayBegin}
-use Rattle.isle_typed.proofs.FirstErrors.{goes_on}
+use Rattle.isle_typed.proofs.FirstErrors.{goes_on, may_check}
 use Rattle.isle_rules.specs.RuleBreaches.{BeginsUntyped}
 use Rattle.isle_rules.proofs.RuleBreaches.{stages, once_mapped, right_checked}
 use Rattle.isle_rules.specs.RuleErrors.{NotesOfRules}
 use Rattle.isle_rules.proofs.NamedLimits.{named_to_the_end}
 use Rattle.isle_rules.proofs.RulesRefused.{mapped_noted, noted_to_the_end}
-use Rattle.isle_rules.proofs.LimitErrors.{may_both, may_check}
 use Rattle.isle_rules.proofs.RulesAtEnd.{rules_end}
 use Rattle.isle_base.specs.Positions.{NotesAt, OccurAmong, positions_of}
 use Rattle.isle_base.proofs.Positioned.{among_same, among_both, among_left, among_right, among_join, notes_parts}
+use Rattle.isle_base.proofs.NotedErrors.{may_both}
 use Rattle.isle_rules.specs.RulePositions.{templates_positions, with_templates}
 use Rattle.isle_terms.specs.TermPositions.{terms_positions}
 use Rattle.isle_rules.proofs.SubstitutedPlaces.{templates_inside}
