@@ -1,6 +1,6 @@
 // Compiles a rule file, and prints the trees of its terms: ./example rules.isle
 //
-// Built in this folder, where KIT is the toolchain's folder, after `rt lib` in crates/isle_capi:
+// To build it, run `rt lib` in crates/isle_capi, and then this in the present folder, where KIT is the toolchain's folder:
 //   gcc -std=c11 -Wall -Wextra -o example example.c ../../crates/isle_capi/out/libisle_capi.a $KIT/c/liblibc_c.a
 #include "isle.h"
 
@@ -8,19 +8,19 @@
 #include <stdlib.h>
 #include <string.h>
 
-// What the library is handed: the bytes of a file's name, and then those of its text.
+// A file in the library's form: the bytes of its name, followed by those of its text.
 struct input {
     uint8_t *bytes;
     struct isle_file file;
 };
 
-// Says what went wrong, and ends the program.
+// Prints what went wrong, and ends the program.
 static void fail(const char *what) {
     fprintf(stderr, "example: %s\n", what);
     exit(4);
 }
 
-// Memory of this many bytes, and one more, so that it is never null.
+// Memory of this many bytes, plus one, so that the pointer is never null.
 static uint8_t *room_for(size_t size) {
     uint8_t *room = malloc(size + 1);
     if (room == NULL)
@@ -52,7 +52,7 @@ int main(int count, char **words) {
     size_t length = input.file.name_length + input.file.text_length;
     struct isle_options options = {.task = ISLE_TREES, .format = ISLE_TEXT, .expand = 1};
 
-    // The first call says how much room is needed, unless there is no text at all. The second one has it.
+    // The first call says how much room the text needs, if there is a text. The second call has this room.
     struct isle_sizes sizes;
     uint8_t *out = room_for(0);
     uint32_t status = isle_capi_lower(input.bytes, length, &input.file, 1, &options, out, 0, &sizes);

@@ -10,16 +10,16 @@ fn main() {
     link(
         "isle_capi",
         &library_folders(),
-        "make it by `rt lib` in crates/isle_capi, or name the folder that it is in by ISLE_CAPI",
+        "build it by `rt lib` in crates/isle_capi, or set ISLE_CAPI to the folder that has it",
     );
     link(
         "libc_c",
         &heap_folders(),
-        "it is in the toolchain's folder c: name the toolchain's folder by RATTLE_KIT",
+        "it is in the folder c of the toolchain: set RATTLE_KIT to the toolchain's folder",
     );
 }
 
-// Where the library may be: the folder that ISLE_CAPI names, else where `rt lib` puts it.
+// The folders that may have the library: the one that ISLE_CAPI names, or else the one where `rt lib` builds it.
 fn library_folders() -> Vec<PathBuf> {
     match env::var_os("ISLE_CAPI") {
         Some(folder) => vec![folder.into()],
@@ -32,8 +32,8 @@ fn library_folders() -> Vec<PathBuf> {
     }
 }
 
-// Where the archive of requests for memory may be: beside the library where ISLE_CAPI names its folder, or in the toolchain,
-// which RATTLE_KIT names, else the command `rt` is part of.
+// The folders that may have the archive for requests for memory: the one that ISLE_CAPI names, and the folder c of the
+// toolchain. RATTLE_KIT names the toolchain. If it isn't set, the toolchain is the one that has the command `rt`.
 fn heap_folders() -> Vec<PathBuf> {
     let mut folders: Vec<PathBuf> = env::var_os("ISLE_CAPI")
         .map(PathBuf::from)
@@ -62,7 +62,7 @@ fn toolchain() -> Option<PathBuf> {
     )
 }
 
-// Links the archive of this name, from the first of these folders that has it. Where none has, the build ends with what to do.
+// Links the archive of this name, from the first of these folders that has it. If none has it, the build stops and says what to do.
 fn link(name: &str, folders: &[PathBuf], what_to_do: &str) {
     let file = format!("lib{name}.a");
     let Some(folder) = folders.iter().find(|folder| folder.join(&file).is_file()) else {

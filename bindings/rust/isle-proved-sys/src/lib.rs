@@ -1,17 +1,17 @@
-//! The static library of the ISLE compiler as it is: one unsafe function. `isle-proved` makes it safe, and
-//! `bindings/c/isle.h` says what the numbers mean and what the caller owes. Nothing compares these declarations with the library.
+//! The static library of the ISLE compiler: one unsafe function. `isle-proved` makes it safe. `bindings/c/isle.h` says what the
+//! numbers mean and what the caller must ensure. Nothing compares these declarations with the library.
 
-/// How many bytes a file's name takes, and its text.
+/// The lengths in bytes of a file's name and text.
 #[repr(C)]
 #[derive(Clone, Copy, Debug, PartialEq, Eq)]
 pub struct File {
-    /// How many bytes its name takes.
+    /// The length of its name.
     pub name_length: usize,
-    /// How many bytes its text takes, behind its name.
+    /// The length of its text, which follows its name.
     pub text_length: usize,
 }
 
-/// What is wanted.
+/// What a call does, and in which form it answers.
 #[repr(C)]
 #[derive(Clone, Copy, Debug, PartialEq, Eq)]
 pub struct Options {
@@ -19,43 +19,43 @@ pub struct Options {
     pub task: u32,
     /// `TEXT`, `LINE`, `COLORED` or `JSON`.
     pub format: u32,
-    /// Whether uses of internal extractors are replaced by their templates: 1, as `CODE` wants it, or 0.
+    /// 1: uses of internal extractors are replaced by their templates, as `CODE` requires. 0: they aren't.
     pub expand: u32,
 }
 
-/// How large a text is.
+/// The size of a text in bytes.
 #[repr(C)]
 #[derive(Clone, Copy, Debug, Default, PartialEq, Eq)]
 pub struct Sizes {
-    /// How many bytes were written: all of the text, or none.
+    /// The bytes that were written: the whole text, or none of it.
     pub written: usize,
-    /// How many bytes the text has.
+    /// The bytes of the text.
     pub needed: usize,
 }
 
 /// A task: the trees of the terms.
 pub const TREES: u32 = 0;
-/// A task: nothing but what is likely not meant.
+/// A task: warnings.
 pub const CHECK: u32 = 1;
 /// A task: the Rust code of the terms.
 pub const CODE: u32 = 2;
 
-/// A format: for a person, with the lines that are spoken of.
+/// A format: for a person, with source lines.
 pub const TEXT: u32 = 0;
-/// A format: each error or warning in one line.
+/// A format: each error or warning is one line.
 pub const LINE: u32 = 1;
 /// A format: as `TEXT`, in a terminal's colours.
 pub const COLORED: u32 = 2;
 /// A format: one JSON object.
 pub const JSON: u32 = 3;
 
-/// A status: what is wanted is written.
+/// A status: the text is the answer.
 pub const DONE: u32 = 0;
-/// A status: something is wrong with the definitions.
+/// A status: the definitions are wrong.
 pub const ERRORS: u32 = 1;
-/// A status: an option means nothing, or two don't go together.
+/// A status: an option has an undefined value, or two options don't fit together.
 pub const WRONG_OPTION: u32 = 2;
-/// A status: memory was refused.
+/// A status: an allocation failed.
 pub const NO_MEMORY: u32 = 3;
 /// A status: the lengths of the files don't add up to the bytes.
 pub const WRONG_LENGTHS: u32 = 5;
@@ -63,17 +63,17 @@ pub const WRONG_LENGTHS: u32 = 5;
 pub const NOT_UTF8: u32 = 6;
 /// A status: the buffer is too small.
 pub const NO_ROOM: u32 = 7;
-/// A status: two names would be one in Rust.
+/// A status: two names would be the same in Rust.
 pub const NO_CODE: u32 = 8;
 
 unsafe extern "C" {
-    /// Does what is asked of files of ISLE text, and answers a status.
+    /// Compiles files of ISLE text, and returns a status.
     ///
     /// # Safety
     ///
-    /// Each pointer is that of a slice of as many items as the length behind it says, `options` and `sizes` are those of one
-    /// value. `out` and `sizes` overlap nothing, and are this call's alone while it runs; nobody writes the others meanwhile.
-    /// There is as much stack as `isle.h` says.
+    /// Each pointer is that of a slice with as many items as the length after it says. `options` and `sizes` each point to one
+    /// value. `out` and `sizes` overlap nothing, and no one else uses them during the call. No one writes the others during the
+    /// call. There is as much stack as `isle.h` says.
     pub fn isle_capi_lower(
         bytes: *const u8,
         bytes_length: usize,

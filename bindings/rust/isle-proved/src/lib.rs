@@ -1,7 +1,8 @@
 //! The compiler of ISLE definitions, for build scripts and tools.
 //!
-//! The trees that definitions become are proved, and that there are errors exactly where definitions aren't accepted; which
-//! errors, in part. Which definitions a text gives, and what is printed of trees (Rust code too), is tested, and not proved.
+//! Two things are proved: what the trees of definitions do, and that there are errors exactly if the definitions aren't accepted.
+//! Which errors there are is proved in part. Which definitions a text gives, and everything that is printed (Rust code too), is
+//! only tested.
 //!
 //! A build script of three lines compiles rules to Rust code:
 //!
@@ -11,11 +12,10 @@
 //! }
 //! ```
 //!
-//! A module takes the code in by `include!(concat!(env!("OUT_DIR"), "/rules.rs"));`. `docs/RUST-CODE.md` says what the code
-//! has, what it wants from the module above, and what a `Context` owes.
+//! A module includes the code by `include!(concat!(env!("OUT_DIR"), "/rules.rs"));`. `docs/RUST-CODE.md` describes the code,
+//! what the module above must have, and what a `Context` must guarantee.
 //!
-//! All files of a call are one list of definitions. Each is handed in by its name, which stands in what is told of it, and its
-//! text.
+//! All files of a call together are one list of definitions. A file is a name, which messages contain, and a text.
 
 // A build script is shown whole.
 #![allow(clippy::needless_doctest_main)]
@@ -24,17 +24,17 @@ use isle_proved_sys as sys;
 use std::path::Path;
 use std::{env, fmt, fs, process, thread};
 
-/// How something is written.
+/// The form of an answer.
 #[derive(Clone, Copy, Debug, PartialEq, Eq)]
 pub struct Options {
-    /// How errors and warnings are written.
+    /// The form of errors and warnings.
     pub format: Format,
-    /// Whether uses of internal extractors are replaced by their templates. Rust code is always made so.
+    /// Whether uses of internal extractors are replaced by their templates. For Rust code they always are.
     pub expand: bool,
 }
 
 impl Default for Options {
-    /// Errors with the lines that they speak of, and extractors expanded.
+    /// Errors are shown with their source lines, and extractors are expanded.
     fn default() -> Options {
         Options {
             format: Format::Text,
@@ -43,12 +43,12 @@ impl Default for Options {
     }
 }
 
-/// How errors and warnings are written.
+/// The form of errors and warnings.
 #[derive(Clone, Copy, Debug, PartialEq, Eq)]
 pub enum Format {
-    /// For a person, with the lines that they speak of.
+    /// For a person, with source lines.
     Text,
-    /// Each in one line.
+    /// Each error or warning is one line.
     Line,
     /// As `Text`, in a terminal's colours.
     Colored,
@@ -56,14 +56,14 @@ pub enum Format {
     Json,
 }
 
-/// Why there is no answer. It shows as its text, also where a program ends with it.
+/// Why there is no answer. `Display` and `Debug` print its text, so a program that ends with it shows the text too.
 #[derive(Clone, PartialEq, Eq)]
 pub enum Errors {
-    /// What is wrong with the definitions.
+    /// The definitions are wrong, and the text says why.
     Definitions(String),
-    /// Which names of accepted definitions would be one in Rust.
+    /// The definitions are accepted, but two names would be the same in Rust. The text says which.
     Names(String),
-    /// Memory was refused, which says nothing of the definitions.
+    /// An allocation failed. This says nothing about the definitions.
     Memory,
 }
 
@@ -84,9 +84,9 @@ impl fmt::Debug for Errors {
 
 impl std::error::Error for Errors {}
 
-/// For a build script: compiles the files at these paths to Rust code, and writes it to the file of this name in cargo's
-/// `OUT_DIR`. Cargo is told to run the script anew where one of them changes. Where something is wrong, says what it is, and ends
-/// the process with status 1.
+/// For a build script: compiles the files at these paths to Rust code, and writes the code to the file `name` in cargo's
+/// `OUT_DIR`. Cargo runs the script again if one of the files changes. If something is wrong, this prints it and ends the process
+/// with status 1.
 pub fn build(paths: &[&str], name: &str) {
     if let Err(why) = try_build(paths, name) {
         eprint!("{why}");
@@ -94,7 +94,7 @@ pub fn build(paths: &[&str], name: &str) {
     }
 }
 
-// The same, with what is wrong in words.
+// The same, but gives the error as text.
 fn try_build(paths: &[&str], name: &str) -> Result<(), String> {
     let mut texts = Vec::new();
     for path in paths {
@@ -115,7 +115,7 @@ fn try_build(paths: &[&str], name: &str) -> Result<(), String> {
     fs::write(&file, code).map_err(|error| format!("cannot write {}: {error}\n", file.display()))
 }
 
-/// The Rust code of all terms with rules, as `docs/RUST-CODE.md` has it. `files` are their names and texts.
+/// The Rust code of all terms with rules, as `docs/RUST-CODE.md` describes it. `files` are names and texts.
 pub fn compile(files: &[(&str, &str)], options: Options) -> Result<String, Errors> {
     answer(
         sys::CODE,
@@ -127,12 +127,12 @@ pub fn compile(files: &[(&str, &str)], options: Options) -> Result<String, Error
     )
 }
 
-/// The trees of all terms with rules, as `./isle lower` prints them. With `Format::Json` they are what `json` answers.
+/// The trees of all terms with rules, as `./isle lower` prints them. With `Format::Json` this is the same as `json`.
 pub fn lower(files: &[(&str, &str)], options: Options) -> Result<String, Errors> {
     answer(sys::TREES, files, options)
 }
 
-/// Types, terms, rules and trees as one JSON object (`docs/JSON.md`). Errors are one too, whatever `options.format` says.
+/// Types, terms, rules and trees as one JSON object (`docs/JSON.md`). Errors are such an object too, for any `options.format`.
 pub fn json(files: &[(&str, &str)], options: Options) -> Result<String, Errors> {
     answer(
         sys::TREES,
@@ -144,13 +144,13 @@ pub fn json(files: &[(&str, &str)], options: Options) -> Result<String, Errors> 
     )
 }
 
-/// What is likely not meant in accepted definitions, as `./isle check` tells it: the empty text where there is nothing, but with
+/// The warnings about accepted definitions, as `./isle check` prints them. Without warnings it is the empty text, or with
 /// `Format::Json` an object without warnings.
 pub fn check(files: &[(&str, &str)], options: Options) -> Result<String, Errors> {
     answer(sys::CHECK, files, options)
 }
 
-// What the library answers to a task.
+// The library's answer to a task.
 fn answer(task: u32, files: &[(&str, &str)], options: Options) -> Result<String, Errors> {
     let input = Input::of(files);
     let options = sys::Options {
@@ -173,11 +173,11 @@ fn answer(task: u32, files: &[(&str, &str)], options: Options) -> Result<String,
     }
 }
 
-// The stack of a call: internal extractors that use one another may nest so deep that they take half of it (docs/SPEED.md). What
-// isn't used costs no memory.
+// The stack of a call. Internal extractors that use one another may nest so deep that they take half of it (docs/SPEED.md).
+// Unused stack costs no memory.
 const STACK: usize = 1 << 30;
 
-// Calls a function with a stack of that size, or where there is none, on the stack that is there.
+// Calls a function on a stack of that size, or on the present stack if such a thread can't be started.
 fn on_deep_stack<T: Send>(call: impl Fn() -> T + Sync) -> T {
     thread::scope(|scope| {
         match thread::Builder::new()
@@ -192,7 +192,7 @@ fn on_deep_stack<T: Send>(call: impl Fn() -> T + Sync) -> T {
     })
 }
 
-// Files as the library takes them.
+// Files in the library's form.
 struct Input {
     bytes: Vec<u8>,
     files: Vec<sys::File>,
@@ -215,7 +215,7 @@ impl Input {
         input
     }
 
-    // The status and the text of a call. A second one is made where the text is larger than most.
+    // The status and the text of a call. If the text is unusually large, there is a second call with more room.
     fn answer(&self, options: &sys::Options) -> (u32, String) {
         let mut out = vec![0; self.bytes.len().saturating_mul(16).max(1 << 16)];
         let (mut status, mut sizes) = self.call(options, &mut out);
@@ -232,8 +232,8 @@ impl Input {
 
     fn call(&self, options: &sys::Options, out: &mut [u8]) -> (u32, sys::Sizes) {
         let mut sizes = sys::Sizes::default();
-        // SAFETY: the pointers and lengths are those of slices and of single values, which are borrowed for the call: `out` and
-        // `sizes` mutably, so that they overlap nothing and are this call's alone.
+        // SAFETY: the pointers and lengths are those of slices and of single values, which are borrowed during the call. `out` and
+        // `sizes` are borrowed mutably, so they overlap nothing, and no one else uses them.
         let status = unsafe {
             sys::isle_capi_lower(
                 self.bytes.as_ptr(),
