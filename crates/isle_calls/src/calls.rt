@@ -56,7 +56,10 @@ pub fn read_call<'a>(
     match read(alloc, 0, &text) {
         Ok(defs) => match call_in(&defs) {
             Some((name, args)) => call_of(alloc, lowered, name, args),
-            None => Err(wrong(String::from_str(alloc, "this is no call of a term, as (f 1 2)"))),
+            None => Err(wrong(String::from_str(
+                alloc,
+                "this isn't a call of a term, such as (f 1 2)",
+            ))),
         },
         Err(ReadFault::Text(error)) => Err(unread(alloc, call, &error)),
         Err(ReadFault::Memory(_)) => Err(Unanswered::Memory),

@@ -68,7 +68,7 @@ pub fn values_of(
 fn wrong_count(alloc: Global, lowered: &Lowered, term: &Term, given: usize) -> Unanswered {
     let name = term_name(&lowered.tyenv, &lowered.termenv, term.id).unwrap_or("?");
     let wanted = term.arg_tys.len();
-    wrong(format!(in alloc; "wrong number of arguments of `{name}`: {given} in place of {wanted}"))
+    wrong(format!(in alloc; "wrong number of arguments of `{name}`: {given} instead of {wanted}"))
 }
 
 // The value of a type that an expression writes: an integer, a truth value, a constant, a variant or a struct.
@@ -158,5 +158,5 @@ fn constant(
 // That something is no value of a type.
 fn no_value(alloc: Global, lowered: &Lowered, text: &str, ty: TypeId) -> Unanswered {
     let name = type_name(&lowered.tyenv, ty).unwrap_or("?");
-    wrong(format!(in alloc; "`{text}` is no value of type `{name}`"))
+    wrong(format!(in alloc; "`{text}` isn't a value of type `{name}`"))
 }

@@ -261,7 +261,7 @@ fn missing(alloc: Global, what: &str, name: &str) -> Result<Answer, AllocError>
     Ok(Answer {
         status: 1,
         out: String::new(alloc),
-        err: format!(in alloc; "error: there is no {what} `{name}`\n")?,
+        err: format!(in alloc; "error: no {what} is called `{name}`\n")?,
     })
 }
 

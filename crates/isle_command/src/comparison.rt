@@ -22,13 +22,13 @@ pub fn difference(
         let line = said(line);
         let Some(other) = lines.next() else {
             return format!(in alloc;
-                "{name}:{number}: error[tree]: in `{term}` the text ends, and the tree has `{line}`\n"
+                "{name}:{number}: error[tree]: in `{term}` the file ends, but the tree continues with `{line}`\n"
             );
         };
         let other = said(other);
         if other != line {
             return format!(in alloc;
-                "{name}:{number}: error[tree]: in `{term}` the text has `{other}`, and the tree `{line}`\n"
+                "{name}:{number}: error[tree]: in `{term}` the file has `{other}`, but the tree has `{line}`\n"
             );
         }
     }
@@ -37,7 +37,7 @@ pub fn difference(
         Some(other) => {
             let other = said(other);
             format!(in alloc;
-                "{name}:{number}: error[tree]: the trees end, and the text has `{other}`\n"
+                "{name}:{number}: error[tree]: the trees end, but the file continues with `{other}`\n"
             )
         }
         None => Ok(String::new(alloc)),

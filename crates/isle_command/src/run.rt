@@ -59,7 +59,7 @@ fn has_variable(env: &impl Env, name: &str) -> bool {
 fn wrong_words<E: Write>(alloc: Global, why: &str, err: &mut E) -> u8
     ensures { (result ≡ 2) ⊎ (result ≡ 3) }
 {
-    match format!(in alloc; "isle: {why} (isle --help says how it is used)\n") {
+    match format!(in alloc; "isle: {why} (see isle --help)\n") {
         Ok(line) => end(err, &line, 2),
         Err(AllocError) => no_memory(err),
     }

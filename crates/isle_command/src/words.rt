@@ -275,10 +275,10 @@ impl<'a> Request<'a> {
         match awaited {
             Awaited::Task => Some("no task"),
             Awaited::Rule => Some("no rule to explain"),
-            Awaited::Terms => Some("nothing behind '--terms'"),
-            Awaited::Folder => Some("nothing behind '-C'"),
-            Awaited::Format => Some("nothing behind '--format'"),
-            Awaited::Color => Some("nothing behind '--color'"),
+            Awaited::Terms => Some("nothing after '--terms'"),
+            Awaited::Folder => Some("nothing after '-C'"),
+            Awaited::Format => Some("nothing after '--format'"),
+            Awaited::Color => Some("nothing after '--color'"),
             Awaited::Any | Awaited::Call => match self.wrong_files() {
                 Some(why) => Some(why),
                 None => self.missing_call(awaited),
@@ -311,9 +311,9 @@ impl<'a> Request<'a> {
             return None;
         }
         if awaited == Awaited::Call {
-            Some("nothing behind '--'")
+            Some("nothing after '--'")
         } else {
-            Some("no call behind the files, as -- f 1 2")
+            Some("no call after the files, such as -- f 1 2")
         }
     }
 
@@ -399,7 +399,9 @@ impl<'a> Request<'a> {
             "auto" => given.colors,
             _ => {
                 let alloc = given.alloc;
-                return Err(wrong(format!(in alloc; "no colours are called '{word}'")));
+                return Err(wrong(format!(in alloc;
+                    "--color is always, never or auto, not '{word}'"
+                )));
             }
         };
         Ok(Awaited::Any)

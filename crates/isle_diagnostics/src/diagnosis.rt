@@ -63,7 +63,7 @@ fn report_of(
             defs,
             ("unreachable", msg),
             *span,
-            "take one of the two demands away, or the rule: no value meets both",
+            "no value meets all conditions of the rule: change one of them, or remove the rule",
         ),
         Error::LimitError { limit, msg, span } => {
             of_rule(alloc, defs, ("limit", msg), *span, way_below(*limit))
@@ -118,14 +118,15 @@ fn of_rule(
 fn way_below(limit: Limit) -> &'static str {
     match limit {
         Limit::Fields =>
-            "split the type: a variant or a struct that patterns look into may have 255 fields",
-        Limit::Outputs => "split the extractor, or have it give a struct",
-        Limit::Arguments => "split the term, or hand some of the arguments over as a struct",
-        Limit::Sites => "split the term, or the rule: all rules of a term share its sites",
+            "split the type: a variant or struct that patterns match may have at most 255 fields",
+        Limit::Outputs => "split the extractor, or let it return a struct",
+        Limit::Arguments => "split the term, or pass some of its arguments in a struct",
+        Limit::Sites =>
+            "split the term or the rule: the limit is on the sites of all rules of a term together",
         Limit::Nesting => {
-            "nest fewer uses of internal extractors; a converter whose extractor converts again never ends"
+            "nest fewer internal extractors; if the extractor of a converter needs this converter again, expansion never ends"
         }
-        Limit::Expansions => "use fewer internal extractors, or external ones",
+        Limit::Expansions => "use fewer internal extractors, or make some of them external",
     }
 }
 
@@ -139,7 +140,7 @@ fn overlap(
     let mut report = begun(
         alloc,
         "overlap",
-        "rules of one priority match the same values",
+        "rules of the same priority match the same values",
     )?;
     for (i, span) in rules.iter().enumerate() {
         let before = if i == 0 { "" } else { "overlaps " };
@@ -148,7 +149,7 @@ fn overlap(
     add_values(alloc, &mut report, sets, rules)?;
     let above = priority_above(defs, rules);
     let help = format!(in alloc;
-        "give the rule that is to come first a greater priority, as (rule {above} ..), or one of them a narrower pattern"
+        "give one of the rules a greater priority, as (rule {above} ..), or make one of the patterns narrower"
     )?;
     add_note(&mut report, "help", help)?;
     Ok(report)
@@ -182,12 +183,12 @@ fn shadow(
         defs,
         mask.from,
         "",
-        " comes first wherever it matches",
+        " matches these values too, and comes first",
     )?;
     add_help(
         alloc,
         &mut report,
-        "give the rule that is never taken the greater priority, or take it away",
+        "give the rule that is never taken a greater priority, or remove it",
     )?;
     Ok(report)
 }
@@ -291,7 +292,7 @@ fn value_text(alloc: Global, found: Option<String>) -> Result<String, AllocError
         Some(value) => format!(in alloc; "both match {value}"),
         None => String::from_str(
             alloc,
-            "no value that both match was found: what they demand to be equal isn't compared",
+            "no value that both match was found: the check for overlaps doesn't compare values that must be equal",
         ),
     }
 }

@@ -162,7 +162,7 @@ fn push_firsts(
     if !has_first(term, rule) {
         return Ok(());
     }
-    out.push_str("  where they match too, these come first\n")?;
+    out.push_str("  these rules come first where they match too\n")?;
     for other in &term.rules.rules {
         push_first(files, lowered, rule, other, out)?;
     }

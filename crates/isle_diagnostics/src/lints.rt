@@ -102,12 +102,12 @@ fn dead(alloc: Global, defs: &[Def], pos: Pos, first: Pos) -> Result<Report, All
         defs,
         first,
         "",
-        " returns first wherever it matches",
+        " matches these values too, and returns first",
     )?;
     add_help(
         alloc,
         &mut report,
-        "give the rule that never runs the greater priority, or take it away",
+        "give the rule that never runs a greater priority, or remove it",
     )?;
     Ok(report)
 }
@@ -134,11 +134,11 @@ fn meet(rule: &Rule, other: &Rule) -> bool {
 
 // The warning of a rule whose priority changes nothing.
 fn idle(alloc: Global, defs: &[Def], pos: Pos) -> Result<Report, AllocError> {
-    let message = String::from_str(alloc, "a priority changes nothing")?;
+    let message = String::from_str(alloc, "a priority has no effect")?;
     let mut report = begun(alloc, "priority", message);
-    let after = " matches together with no other rule of its term";
+    let after = " never matches together with another rule of its term";
     add_rule(alloc, &mut report, defs, pos, "", after)?;
-    add_help(alloc, &mut report, "take the priority away")?;
+    add_help(alloc, &mut report, "remove the priority")?;
     Ok(report)
 }
 
@@ -152,7 +152,7 @@ fn add_pointed(
     if !name.contains('.') {
         return Ok(());
     }
-    let message = format!(in alloc; "`{name}` is a variable here, which matches any value")?;
+    let message = format!(in alloc; "`{name}` is a variable here, and matches any value")?;
     let mut report = begun(alloc, "name", message);
     report.labels.push(Label {
         pos,

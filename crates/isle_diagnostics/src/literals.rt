@@ -172,13 +172,13 @@ fn add_literal(
         return Ok(());
     }
     let name = ty.name();
-    let message = format!(in alloc; "{val} is no number of {name}")?;
+    let message = format!(in alloc; "{val} is out of range for {name}")?;
     let mut report = begun(alloc, "literal", message);
     report.labels.push(Label {
         pos,
-        text: format!(in alloc; "stands for {number}")?,
+        text: format!(in alloc; "means {number}")?,
     })?;
-    let help = format!(in alloc; "write {number}, if that is meant")?;
+    let help = format!(in alloc; "write {number} if you mean that")?;
     add_help(alloc, &mut report, &help)?;
     reports.push(report)?;
     Ok(())

@@ -65,9 +65,9 @@ fn unused(alloc: Global, name: &str, pos: Pos) -> Result<Report, AllocError> {
     let mut report = begun(alloc, "unused", message);
     report.labels.push(Label {
         pos,
-        text: String::from_str(alloc, "bound here alone")?,
+        text: String::from_str(alloc, "bound here, and used nowhere")?,
     })?;
-    let help = format!(in alloc; "write _ in its place, or _{name} where a name is wanted")?;
+    let help = format!(in alloc; "write _ instead, or _{name} to keep the name")?;
     add_help(alloc, &mut report, &help)?;
     Ok(report)
 }

@@ -71,7 +71,7 @@ impl fmt::Display for Mistake {
         let expected = match self {
             Mistake::CommentEnd => "`;)` after this comment",
             Mistake::ListBegin => "no `)`, since no list is open",
-            Mistake::Depth => "at most 1000 forms in one another",
+            Mistake::Depth => "at most 1000 levels of nesting",
             Mistake::Digits => "an integer",
             Mistake::NumberRange => "an integer from -2^127 to 2^128 - 1",
             Mistake::ConstantName => "a name after `$`",
@@ -85,7 +85,7 @@ impl fmt::Display for Mistake {
             Mistake::Field => "a field (NAME TYPE)",
             Mistake::Declaration => "(decl FLAGS NAME (TYPES) TYPE)",
             Mistake::Flag => "pure, multi, partial or rec",
-            Mistake::OtherFlag => "no flag for the second time",
+            Mistake::OtherFlag => "each flag only once",
             Mistake::Names => "names in parentheses",
             Mistake::Extern => "constructor, extractor or const",
             Mistake::Constant => "a constant, as $NAME",

@@ -14,7 +14,7 @@ const OWED: &str = "
 /// Extractors and `pure` constructors must be functions of their arguments, without effect: the
 /// code shares such calls, makes them early and repeats them. Different constants of one type that
 /// patterns name must differ in value. No pattern may name a constant of an enum or struct type.
-/// What is proved of the trees rests on this. The compiler checks none of it.
+/// The proof of the trees depends on this. The compiler doesn't check it.
 ";
 
 /// Adds the trait: a function for each external constructor and extractor, each name once.
@@ -87,7 +87,7 @@ fn same_as(program: Program<'_>, sig: &ExternalSig, is_same: bool) -> Result<(),
     }
     let name = sig.func_name.as_str();
     Err(CodeError::Names(format!(in program.alloc;
-        "the function `{name}` from outside has two signatures"
+        "the external function `{name}` has two signatures"
     )?))
 }
 

@@ -51,7 +51,7 @@ fn no_files_have_no_trees() {
 
 #[test]
 fn errors_for_a_person_and_in_a_line() {
-    let told = "error[overlap]: rules of one priority match the same values
+    let told = "error[overlap]: rules of the same priority match the same values
  --> b.isle:2:1
   |
 2 | (rule second (f 1) 11)
@@ -62,16 +62,16 @@ fn errors_for_a_person_and_in_a_line() {
   | --------------------- overlaps rule `first` (priority 0)
   |
   = note: both match `(f 1)`
-  = help: give the rule that is to come first a greater priority, as (rule 1 ..), or one of them a narrower pattern
+  = help: give one of the rules a greater priority, as (rule 1 ..), or make one of the patterns narrower
 
 ";
     assert_eq!(lower(&OVERLAP, Options::default()), wrong(told));
     assert_eq!(check(&OVERLAP, Options::default()), wrong(told));
     assert_eq!(compile(&OVERLAP, Options::default()), wrong(told));
-    let line = "b.isle:2:1: error[overlap]: rules of one priority match the same values; \
+    let line = "b.isle:2:1: error[overlap]: rules of the same priority match the same values; \
         overlaps rule `first` (priority 0) at a.isle:2:1; note: both match `(f 1)`; \
-        help: give the rule that is to come first a greater priority, as (rule 1 ..), \
-        or one of them a narrower pattern\n";
+        help: give one of the rules a greater priority, as (rule 1 ..), \
+        or make one of the patterns narrower\n";
     assert_eq!(lower(&OVERLAP, written(Format::Line)), wrong(line));
     assert_eq!(compile(&OVERLAP, written(Format::Line)), wrong(line));
 }
