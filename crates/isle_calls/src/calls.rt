@@ -1,24 +1,17 @@
 //! Calls of terms with rules.
 
 ghost use Rattle.std.specs.Prelude.{◌≡◌, IfOk};
-ghost use Rattle.std.specs.Bool.{◌==◌};
-ghost use Rattle.std.specs.List.{filter};
-ghost use Rattle.cranelift_isle.specs.Choice.{choice};
-ghost use Rattle.cranelift_isle.specs.Meaning.{total};
 ghost use Rattle.cranelift_isle.specs.Run.{run};
 ghost use Rattle.cranelift_isle.specs.TreeViews.{tree_view};
 ghost use Rattle.cranelift_isle.specs.TermViews.{term_views};
 ghost use Rattle.cranelift_isle.specs.Envs.{constant_at};
-ghost use Rattle.cranelift_isle.specs.RuleViews.{rule_views};
-ghost use Rattle.isle_interpreter.specs.RunViews.{arg_views, outcome_view, stage_of};
-ghost use Rattle.isle_interpreter.specs.SourceViews.{of_terms};
+ghost use Rattle.isle_interpreter.specs.RunViews.{outcome_view, stage_of};
 ghost use Rattle.isle_calls.specs.Echoes.{echoes};
 
 use crate::echo::Echo;
 use crate::outcomes::outcome_text;
 use crate::values::{Unanswered, term_of, values_of, wrong};
 use cranelift_isle::lower::{Lowered, LoweredTerm};
-use cranelift_isle::sema::TermId;
 use cranelift_isle::syntax::{Def, Expr, Ident};
 use isle_interpreter::choose::choose;
 use isle_interpreter::run::run;
@@ -90,12 +83,33 @@ fn push_choice(
     lowered: &Lowered,
     called: &ReadCall<'_>,
 ) -> Result<(), AllocError> {
-    let outcome = choice_of(alloc, lowered, called.entry.id, &called.args)?;
+    let outcome = choice_of(alloc, lowered, called)?;
     let chosen = outcome_text(alloc, lowered, false, &outcome)?;
     if chosen.as_str() == told.as_str() {
         return Ok(());
     }
     write!(told, "; by the source rules {chosen}")
+}
+
+// The outcome of a call of a term that isn't multi by its source rules, by echoes.
+fn choice_of(
+    alloc: Global,
+    lowered: &Lowered,
+    called: &ReadCall<'_>,
+) -> Result<Outcome, AllocError> {
+    let env = &lowered.termenv;
+    let echo = Echo {
+        tyenv: &lowered.tyenv,
+        terms: &env.terms,
+    };
+    choose(
+        alloc,
+        &echo,
+        &env.terms,
+        &env.rules,
+        called.entry.id,
+        &called.args,
+    )
 }
 
 // That a call can't be read.
@@ -155,27 +169,4 @@ pub fn outcome_of(
         terms: &lowered.termenv.terms,
     };
     run(alloc, &echo, &entry.rules, &entry.block, args, multi)
-}
-
-/// The outcome of a term on values by its source rules, by echoes. Of a multi term it is that of the first rule that matches.
-///
-/// # Errors
-///
-/// Where memory is refused.
-pub fn choice_of(
-    alloc: Global,
-    lowered: &Lowered,
-    term: TermId,
-    args: &[Value],
-) -> Result<Outcome, AllocError>
-    ensures { IfOk result (λ o. outcome_view o ≡ choice (of_terms lowered.now.termenv.terms.items)
-        (total (echoes (constant_at lowered.now.tyenv) (term_views lowered.now.termenv.terms.items)))
-        (filter (λ r. r.root_term == term.0) (rule_views lowered.now.termenv.rules.items)) (arg_views args.now)) }
-{
-    let env = &lowered.termenv;
-    let echo = Echo {
-        tyenv: &lowered.tyenv,
-        terms: &env.terms,
-    };
-    choose(alloc, &echo, &env.terms, &env.rules, term, args)
 }

@@ -1,5 +1,5 @@
 -- What a call answers to what the texts of files were read as, and with which text.
-use Rattle.std.specs.Prelude.{ℕ, ◌+◌, ◌<◌, ◌≤◌, ◌≡◌, ◌≢◌, ◌⊎◌, ◌++◌, false, true, List, [], ◌∷◌, codes, is_none, length, nat_eq, string_bytes, take, if◌then◌else◌}
+use Rattle.std.specs.Prelude.{ℕ, ◌<◌, ◌≤◌, ◌≡◌, ◌≢◌, ◌⊎◌, false, true, List, [], ◌∷◌, is_none, length, nat_eq, string_bytes, take, if◌then◌else◌}
 use Rattle.isle_command.specs.declared.answers.Answer.{Answer}
 use Rattle.isle_command.specs.declared.reading.Reading.{Reading}
 use Rattle.isle_command.specs.declared.words.Format as CommandFormat
