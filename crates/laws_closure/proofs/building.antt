@@ -1,5 +1,5 @@
 -- Building rule by rule.
 pub mod Listed
-mod Ordered
+pub mod Ordered
 pub mod RulesPassed
 pub mod SetsSoFar

@@ -2,7 +2,7 @@
 pub mod BuiltGates
 pub mod BuiltSets
 pub mod CollectedSets
-mod ConstrainedOrEquated
+pub mod ConstrainedOrEquated
 pub mod MultiCalls
 pub mod Priorities
 pub mod ServedSets

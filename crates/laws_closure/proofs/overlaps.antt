@@ -1,8 +1,8 @@
 -- Rules that overlap or are shadowed, and what is reported of them.
-mod CheckedPrograms
-mod Errors
+pub mod CheckedPrograms
+pub mod Errors
 pub mod JudgedLists
-mod LeftOut
+pub mod LeftOut
 mod LeftOutErrors
 pub mod ListedOverlaps
 pub mod MaskErrors
@@ -14,4 +14,4 @@ pub mod SetChecks
 pub mod SetReports
 pub mod SetRules
 pub mod ShadowTest
-mod Totals
+pub mod Totals

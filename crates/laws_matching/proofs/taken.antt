@@ -1,6 +1,6 @@
 -- From what a meaning has to what runs, and the collecting of results, rest on.
 pub mod BuiltSites
-mod Fits
+pub mod Fits
 pub mod Forms
 pub mod NumbersInRange
 pub mod ServesRuns

@@ -1,4 +1,4 @@
 -- Total meanings serve.
-mod Shaped
-mod ShapedSites
+pub mod Shaped
+pub mod ShapedSites
 pub mod Total

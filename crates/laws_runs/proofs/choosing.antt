@@ -1,3 +1,3 @@
 -- What the choice by priority doesn't depend on.
 pub mod OtherRules
-mod Terms
+pub mod Terms

@@ -3,7 +3,7 @@ pub mod CallOrders
 pub mod Calls
 pub mod FirstCall
 pub mod HeldContents
-mod LongerPicks
+pub mod LongerPicks
 pub mod NoIterators
 pub mod OnePick
 pub mod PickLists

@@ -3,7 +3,7 @@ mod AddedResults
 mod Arms
 mod AvailableSites
 pub mod Below
-mod Binding
+pub mod Binding
 pub mod BindOrders
 pub mod Choice
 pub mod ChosenRules
@@ -18,7 +18,7 @@ pub mod HoldsOnce
 pub mod Listing
 mod Loops
 pub mod Order
-mod PureBindings
+pub mod PureBindings
 mod ResultsLeft
 mod Returns
 pub mod RuleDemands

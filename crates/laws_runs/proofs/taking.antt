@@ -4,7 +4,7 @@ mod CallAnswers
 pub mod CallsIn
 pub mod FollowedCalls
 mod ImpureCalls
-mod OneOutcome
+pub mod OneOutcome
 mod PureSites
 mod SettledSites
 mod SitesBelow

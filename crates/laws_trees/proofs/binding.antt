@@ -1,8 +1,8 @@
 -- Best trees bind sites before they use them.
 pub mod BindingJudge
 mod BroughtSites
-mod PlacedSites
+pub mod PlacedSites
 mod Scope
 mod ScopedOrders
 mod Scopes
-mod Trees
+pub mod Trees

@@ -1,6 +1,6 @@
 -- Best trees keep the headline.
-mod AcceptedTrees
+pub mod AcceptedTrees
 pub mod Choosing
 pub mod Collecting
-mod NoCalls
-mod Places
+pub mod NoCalls
+pub mod Places
