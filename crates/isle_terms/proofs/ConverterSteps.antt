@@ -289,7 +289,7 @@ module _ (e : TypesRead) (readable : AreReadable e) (defs before : List Definiti
         }
 
     -- one that is refused
-    refused : T.NotesIfWrong 1 (converter_positions c) es es' → table' ≡ table → IsWrongConverter c env table → ConvertsUpTo e defs (before ++ here ∷ []) env start table' es'
+    refused : T.Notes 1 (converter_positions c) es es' → table' ≡ table → IsWrongConverter c env table → ConvertsUpTo e defs (before ++ here ∷ []) env start table' es'
     refused n same wrong =
         let why = converter_wrong e readable defs u.kept c env table left u.reads wrong in
         record {

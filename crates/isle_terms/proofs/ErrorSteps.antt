@@ -67,7 +67,7 @@ pub reads_next : (e : TypesRead) (group next : TermGroup) (defs : List Definitio
 reads_next e group next defs A B env table es none f s = record { left = s.left; within = s.within; ill_typed = s.ill_typed; so_far = inl (none, ⊎_elim (λ r. f r.1) (λ w. absurd (let some = sym none ∙ w.is in cc)) s.so_far) }
 
 -- something was noted, where so much was
-pub some_noted : (n : ℕ) (ps : List Position) (es es' : List Error) → T.NotesIfWrong (suc n) ps es es' → NotesMore es es'
+pub some_noted : (n : ℕ) (ps : List Position) (es es' : List Error) → T.Notes (suc n) ps es es' → NotesMore es es'
 some_noted n ps es es' r = record {
   more = r.more;
   added = r.added;
