@@ -122,7 +122,7 @@ fn rules(rt: HostRuntime) -> Result<(), Fail> {
     )
 }
 
-// The definitions of `docs/USING.md`.
+// The definitions of `docs/LIBRARY.md`.
 #[test]
 fn fall(rt: HostRuntime) -> Result<(), Fail> {
     let alloc = rt.alloc();
