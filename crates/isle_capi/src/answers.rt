@@ -11,11 +11,10 @@ use crate::output::{Sizes, hand_over};
 use crate::statuses::{DONE, ERRORS, NO_CODE, NO_MEMORY};
 use cranelift_isle::syntax::Files;
 use isle_command::answers::{Answer, answer_to_reading};
-use isle_command::code::{Code, code_of};
 use isle_command::progress::Teller;
 use isle_command::reading::{Reading, reading_of};
-use isle_command::words;
 use isle_command::words::Request;
+use isle_command::{code, words};
 use std::alloc::{AllocError, Global};
 use std::io::sink;
 
@@ -69,9 +68,9 @@ fn coded(
     ensures left { LeavesBehind out.old out.new sizes.new result }
     ensures told { asked.task ≡ Code → IsToldOf asked reading.now out.old out.new sizes.new result }
 {
-    match code_of(alloc, asked.expand, files, reading) {
-        Ok(Some(Code::Text(code))) => hand_over(DONE, &code, out, sizes),
-        Ok(Some(Code::Names(why))) => hand_over(NO_CODE, &why, out, sizes),
+    match code::code_of(alloc, asked.expand, files, reading) {
+        Ok(Some(code::Code::Text(text))) => hand_over(DONE, &text, out, sizes),
+        Ok(Some(code::Code::Names(why))) => hand_over(NO_CODE, &why, out, sizes),
         Ok(None) => said(alloc, asked, files, reading, out, sizes),
         Err(AllocError) => refused(sizes),
     }
