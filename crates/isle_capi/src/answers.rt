@@ -69,8 +69,10 @@ fn coded(
     ensures told { asked.task ≡ Code → IsToldOf asked reading.now out.old out.new sizes.new result }
 {
     match code::code_of(alloc, asked.expand, files, reading) {
-        Ok(Some(code::Code::Text(text))) => hand_over(DONE, &text, out, sizes),
-        Ok(Some(code::Code::Names(why))) => hand_over(NO_CODE, &why, out, sizes),
+        Ok(Some(made)) => match made {
+            code::Code::Text(text) => hand_over(DONE, &text, out, sizes),
+            code::Code::Names(why) => hand_over(NO_CODE, &why, out, sizes),
+        },
         Ok(None) => said(alloc, asked, files, reading, out, sizes),
         Err(AllocError) => refused(sizes),
     }

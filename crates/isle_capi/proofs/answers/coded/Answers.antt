@@ -1,13 +1,13 @@
 use Rattle.std.proofs.Common.{◌≢◌, [], subst, sym}
-use Rattle.isle_command.specs.Codes.{IsCodeOf, IsNamesLine}
+use Rattle.isle_command.specs.Codes.{IsCode, IsCodeOf, IsNamesLine}
 use Rattle.isle_capi.proofs.Telling.{told_of_code, told_of_names, told_of_wrong}
 use Rattle.isle_capi.proofs.answers.coded.Goals as goal
 
-pub returns-in-Ok-Some-Text-clause-told : goal.returns-in-Ok-Some-Text-clause-told
-returns-in-Ok-Some-Text-clause-told c code =
-    let made = subst (IsCodeOf c.args.asked.expand c.args.reading.now) c.in-Ok-Some-Text.field-0-is c.in-Ok-Some-Text.ensures in
+pub returns-in-Text-clause-told : goal.returns-in-Text-clause-told
+returns-in-Text-clause-told c code =
+    let made = subst (IsCodeOf c.args.asked.expand c.args.reading.now) c.in-Ok-Some.field-0-is c.in-Ok-Some.ensures in
     told_of_code c.args.asked c.args.reading.now c.args.out.now c.hand_over.new.out c.hand_over.new.sizes c.hand_over.result
-    c.deref.result.now code made.0 (subst (λ t. t ≢ []) (sym c.deref.ensures) made.1)
+    c.deref.result.now code made.0 (subst (λ t. t ≢ []) (sym c.deref.ensures) (subst IsCode c.in-Text.is made.1))
     (record {
       needed = c.hand_over.ensures.needed;
       room = c.hand_over.ensures.room;
@@ -15,16 +15,17 @@ returns-in-Ok-Some-Text-clause-told c code =
       short = c.hand_over.ensures.short;
     })
 
-pub returns-in-Ok-Some-Names-clause-told : goal.returns-in-Ok-Some-Names-clause-told
-returns-in-Ok-Some-Names-clause-told c code =
-    let made = subst (IsCodeOf c.args.asked.expand c.args.reading.now) c.in-Ok-Some-Names.field-0-is c.in-Ok-Some-Names.ensures in
-    told_of_names c.args.asked c.args.reading.now c.args.out.now c.hand_over-in-Ok-Some-Names.new.out c.hand_over-in-Ok-Some-Names.new.sizes
-    c.hand_over-in-Ok-Some-Names.result c.deref-in-Ok-Some-Names.result.now code made.0 (subst IsNamesLine (sym c.deref-in-Ok-Some-Names.ensures) made.1)
+pub returns-in-Names-clause-told : goal.returns-in-Names-clause-told
+returns-in-Names-clause-told c code =
+    let made = subst (IsCodeOf c.args.asked.expand c.args.reading.now) c.in-Ok-Some.field-0-is c.in-Ok-Some.ensures in
+    told_of_names c.args.asked c.args.reading.now c.args.out.now c.hand_over-in-Names.new.out c.hand_over-in-Names.new.sizes
+    c.hand_over-in-Names.result c.deref-in-Names.result.now code made.0
+    (subst IsNamesLine (sym c.deref-in-Names.ensures) (subst IsCode c.in-Names.is made.1))
     (record {
-      needed = c.hand_over-in-Ok-Some-Names.ensures.needed;
-      room = c.hand_over-in-Ok-Some-Names.ensures.room;
-      written = c.hand_over-in-Ok-Some-Names.ensures.written;
-      short = c.hand_over-in-Ok-Some-Names.ensures.short;
+      needed = c.hand_over-in-Names.ensures.needed;
+      room = c.hand_over-in-Names.ensures.room;
+      written = c.hand_over-in-Names.ensures.written;
+      short = c.hand_over-in-Names.ensures.short;
     })
 
 pub returns-in-Ok-None-clause-told : goal.returns-in-Ok-None-clause-told
