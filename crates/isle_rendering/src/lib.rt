@@ -4,3 +4,4 @@
 pub mod layout;
 pub mod lines;
 pub mod report;
+pub mod wrapping;
