@@ -90,16 +90,17 @@ pub fn answer_to_reading<E: Write>(
 {
     match reading {
         Reading::Defs(defs) => answer_to_defs(alloc, asked, files, defs, teller),
-        Reading::Unread(reports) => refusal(alloc, asked, files, reports),
+        Reading::Unread(reports) => refusal(alloc, asked, files, reports, 0),
     }
 }
 
-// The answer where something is wrong.
+// The answer where something is wrong: these reports, and that there are so many more.
 fn refusal(
     alloc: Global,
     asked: &Request<'_>,
     files: &Files,
     reports: &[Report],
+    untold: usize,
 ) -> Result<Answer, AllocError>
     ensures { IfOk result (IsRefusal asked.now) }
 {
@@ -113,11 +114,20 @@ fn refusal(
     }
     let mut err = String::new(alloc);
     push_reports(&mut err, files, reports, asked.layout())?;
+    push_untold(&mut err, untold)?;
     Ok(Answer {
         status: 1,
         out: String::new(alloc),
         err,
     })
+}
+
+// Adds that there are so many more errors.
+fn push_untold(err: &mut String, count: usize) -> Result<(), AllocError> {
+    if count == 0 {
+        return Ok(());
+    }
+    write!(err, "and {count} more, `--all` shows them\n")
 }
 
 // What is answered to definitions.
@@ -135,8 +145,9 @@ fn answer_to_defs<E: Write>(
         Ok(lowered) => answer_to_lowered(alloc, asked, files, defs, &lowered, teller),
         Err(Fault::Errors(errors)) => {
             teller.tell("explaining", "errors");
-            let reports = reports_of(alloc, defs, asked.expand, &errors)?;
-            refusal(alloc, asked, files, &reports)
+            let reports = reports_of(alloc, defs, asked.expand, &errors, asked.wants_all())?;
+            let untold = errors.len().saturating_sub(reports.len());
+            refusal(alloc, asked, files, &reports, untold)
         }
         Err(Fault::Memory(error)) => Err(error),
     }
@@ -163,7 +174,7 @@ fn answer_to_lowered<E: Write>(
         Task::Stats => Ok(accepted(alloc, stats(alloc, lowered)?)),
         Task::Compare => compared(alloc, asked, files, lowered, teller),
         Task::Run => ran(alloc, asked, lowered),
-        Task::Explain => explained(alloc, asked, files, lowered),
+        Task::Explain => explained(alloc, asked, files, defs, lowered),
     }
 }
 
@@ -172,13 +183,14 @@ fn explained(
     alloc: Global,
     asked: &Request<'_>,
     files: &Files,
+    defs: &[Def],
     lowered: &Lowered,
 ) -> Result<Answer, AllocError>
     ensures { IfOk result (λ a. IsDoneWithText a ⊎ IsFailed a) }
 {
-    let text = explanation(alloc, files, lowered, asked.rule)?;
+    let text = explanation(alloc, files, defs, lowered, asked.rule)?;
     if text.is_empty() {
-        missing(alloc, "rule", asked.rule)
+        missing(alloc, "rule or term with rules", asked.rule)
     } else {
         Ok(accepted(alloc, text))
     }

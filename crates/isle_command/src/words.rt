@@ -54,6 +54,8 @@ pub struct Request<'a> {
     pub expand: bool,
     /// Whether warnings count as errors.
     pub deny: bool,
+    /// Whether all errors are told to a person, and not the first ones alone.
+    pub all: bool,
     /// The form of the answer.
     pub format: Format,
     /// Whether what is told to a person has a terminal's colours.
@@ -62,7 +64,8 @@ pub struct Request<'a> {
     pub terms: Option<&'a str>,
     /// Where files are looked for whose names don't begin with `/`; the empty text for where the command runs.
     pub folder: &'a str,
-    /// The rule that is to be explained, by its name, its line, or its file, a colon and its line.
+    /// The rules that are to be explained, by their name, that of their term, a line that they stand in, or the end of their
+    /// file's path, a colon and such a line.
     pub rule: &'a str,
     /// Whether it is told what is being done.
     pub progress: bool,
@@ -78,6 +81,7 @@ impl<'a> Drop for Request<'a> {
             task: _,
             expand: _,
             deny: _,
+            all: _,
             format: _,
             colored: _,
             terms: _,
@@ -107,13 +111,14 @@ enum Awaited {
 
 /// What these words ask, or None where they ask for nothing. They are the name of a task; for `explain` the rule; then
 /// files, the last of `compare` with trees, or for `samples` at most one sample; for `run` then `--` and the words of a call, the
-/// term and its arguments. Everywhere behind the task, and before `--`, there may be `--no-expand`, `--progress`, `--terms NAMES`,
+/// term and its arguments. Everywhere behind the task, and before `--`, there may be `--no-expand`, `--progress`, `--all`, `--terms NAMES`,
 /// `--format text`, `--format line`, `--color always`, `--color never` and `-C FOLDER`; `--deny` for `check`, `--format json` for `lower` and `check`, `--format dot` for `lower`.
 pub fn asked_by<'a>(alloc: Global, words: &'a [String]) -> Result<Option<Request<'a>>, AllocError> {
     let mut asked = Request {
         task: Task::Lower,
         expand: true,
         deny: false,
+        all: false,
         format: Format::Text,
         colored: false,
         terms: None,
@@ -167,6 +172,14 @@ impl<'a> Request<'a> {
     // Whether there is a call exactly where the task wants one.
     fn has_call(&self) -> bool {
         self.call.is_empty() != (self.task == Task::Run)
+    }
+
+    /// Whether all errors are told: where that is asked for, and to programs.
+    pub fn wants_all(&self) -> bool {
+        match self.format {
+            Format::Line | Format::Json => true,
+            Format::Text | Format::Dot => self.all,
+        }
     }
 
     /// Whether the file of a number has printed trees, and no definitions.
@@ -255,6 +268,10 @@ impl<'a> Request<'a> {
             }
             "--progress" => {
                 self.progress = true;
+                Ok(Some(Awaited::Any))
+            }
+            "--all" => {
+                self.all = true;
                 Ok(Some(Awaited::Any))
             }
             "--" => Ok(if self.task == Task::Run {

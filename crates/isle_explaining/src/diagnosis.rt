@@ -1,76 +1,158 @@
 //! What is wrong with definitions, as reports.
 
-use crate::names::{Names, name_of, priority_of, rule_at};
-use crate::sets::{Sets, sets_of};
-use crate::witness::witness;
-use isle_base::syntax::{Def, Error, Fault, Limit, Pos, Span};
+use crate::forms::{Form, push_form};
+use crate::names::{name_of, priority_of, rule_at};
+use crate::numbered::by_names;
+use crate::witness::{Conflict, conflict_in, witness};
+use isle_base::syntax::{Def, Error, Limit, Pos, Span};
 use isle_rendering::report::{Label, Level, Note, Report};
-use isle_sets::trie_again::{Rule, RuleSet};
-use isle_types::TermId;
 use std::alloc::{AllocError, Global};
 
-// How many of the rules that overlap one are told with a value that both match.
+// How many errors are told, and how many of the rules that overlap one, where not all are wanted.
+const MOST_ERRORS: usize = 20;
+
+const MOST_RULES: usize = 5;
+
+// How many of the rules that overlap one are told with what both match.
 const MOST_VALUES: usize = 3;
 
-/// A report for each error of lowering these definitions, in order. Of rules that overlap it tells a value that both match.
+// What is told of definitions.
+#[derive(Clone, Copy)]
+struct Telling<'a> {
+    alloc: Global,
+    defs: &'a [Def],
+    // Whether uses of internal extractors are replaced by their templates.
+    expand: bool,
+    // How many of the rules that overlap one are told.
+    most_rules: usize,
+}
+
+/// A report for each error of lowering these definitions, in order: for each of the first ones alone, and with the first of
+/// the rules that overlap one alone, where not all are wanted. Of rules that overlap it tells what both match.
 pub fn reports_of(
     alloc: Global,
     defs: &[Def],
     expand: bool,
     errors: &[Error],
+    all: bool,
 ) -> Result<Vec<Report>, AllocError> {
-    let sets = sets_where_overlap(alloc, defs, expand, errors)?;
+    let telling = Telling {
+        alloc,
+        defs,
+        expand,
+        most_rules: if all { usize::MAX } else { MOST_RULES },
+    };
+    let most = if all { usize::MAX } else { MOST_ERRORS };
     let mut reports = Vec::new(alloc);
-    for error in errors {
-        reports.push(report_of(alloc, defs, &sets, error)?)?;
+    for (i, error) in errors.iter().enumerate() {
+        if i >= most {
+            break;
+        }
+        let before = times_before(errors, i, error);
+        reports.push(report_of(telling, error, before)?)?;
     }
     Ok(reports)
 }
 
-// The rule sets of definitions, where rules overlap.
-fn sets_where_overlap(
-    alloc: Global,
-    defs: &[Def],
-    expand: bool,
-    errors: &[Error],
-) -> Result<Option<Sets>, AllocError> {
-    if !errors.iter().any(is_overlap) {
-        return Ok(None);
-    }
-    match sets_of(alloc, defs, expand) {
-        Ok(sets) => Ok(Some(sets)),
-        Err(Fault::Errors(_)) => Ok(None),
-        Err(Fault::Memory(error)) => Err(error),
-    }
+// How many of so many errors say of the rule of an error that it can't match.
+fn times_before(errors: &[Error], count: usize, error: &Error) -> usize {
+    let Error::UnreachableError { span, .. } = error else {
+        return 0;
+    };
+    errors
+        .iter()
+        .take(count)
+        .filter(|other| is_unreachable(other, *span))
+        .count()
 }
 
-// Whether an error is of rules that overlap.
-fn is_overlap(error: &Error) -> bool {
-    matches!(error, Error::OverlapError { .. })
-}
-
-// The report of an error.
-fn report_of(
-    alloc: Global,
-    defs: &[Def],
-    sets: &Option<Sets>,
-    error: &Error,
-) -> Result<Report, AllocError> {
+// Whether an error says that the rule there can't match.
+fn is_unreachable(error: &Error, place: Span) -> bool {
     match error {
-        Error::TypeError { msg, span } => simple(alloc, "type", msg, *span),
-        Error::UnreachableError { msg, span } => of_rule(
-            alloc,
-            defs,
-            ("unreachable", msg),
-            *span,
-            "take one of the two demands away, or the rule: no value meets both",
-        ),
-        Error::LimitError { limit, msg, span } => {
-            of_rule(alloc, defs, ("limit", msg), *span, way_below(*limit))
-        }
-        Error::OverlapError { rules, .. } => overlap(alloc, defs, sets, rules),
-        Error::ShadowedError { shadowed, mask } => shadow(alloc, defs, shadowed, *mask),
+        Error::UnreachableError { span, .. } => *span == place,
+        _ => false,
     }
+}
+
+// The report of an error, of which so many of the same rule came before.
+fn report_of(telling: Telling<'_>, error: &Error, before: usize) -> Result<Report, AllocError> {
+    match error {
+        Error::TypeError { msg, span } => simple(telling.alloc, "type", msg, *span),
+        Error::UnreachableError { msg, span } => unreachable(telling, msg, *span, before),
+        Error::LimitError { limit, msg, span } => of_rule(
+            telling,
+            ("limit", msg),
+            *span,
+            way_below(*limit),
+        ),
+        Error::OverlapError { rules, .. } => overlap(telling, rules),
+        Error::ShadowedError { shadowed, mask } => {
+            shadow(telling.alloc, telling.defs, shadowed, *mask)
+        }
+    }
+}
+
+// The report of a rule that can't match.
+fn unreachable(
+    telling: Telling<'_>,
+    msg: &str,
+    span: Span,
+    before: usize,
+) -> Result<Report, AllocError> {
+    let found = match rule_at(telling.defs, span.from) {
+        Some(rule) => conflict_in(telling.alloc, telling.defs, telling.expand, rule, before)?,
+        None => None,
+    };
+    match found {
+        Some(conflict) => of_conflict(telling, span, conflict),
+        None => {
+            let message = by_names(telling.alloc, telling.defs, telling.expand, msg)?;
+            of_rule(telling, ("unreachable", &message), span, WAY_OUT)
+        }
+    }
+}
+
+// What makes a rule match that can't.
+const WAY_OUT: &str = "take one of the two demands away, or the rule: no value meets both";
+
+// The report of a rule that asks a value for two forms, with the places of both.
+fn of_conflict(
+    telling: Telling<'_>,
+    span: Span,
+    conflict: Conflict<'_>,
+) -> Result<Report, AllocError> {
+    let alloc = telling.alloc;
+    let mut message = String::new(alloc);
+    push_rule(&mut message, telling.defs, span.from)?;
+    message.push_str(" can never match: no value is both ")?;
+    push_quoted(&mut message, conflict.first.0)?;
+    message.push_str(" and ")?;
+    push_quoted(&mut message, conflict.second.0)?;
+    let mut report = begun(alloc, "unreachable", &message)?;
+    add_form(alloc, &mut report, "must be ", conflict.first)?;
+    add_form(alloc, &mut report, "must be ", conflict.second)?;
+    add_help(alloc, &mut report, WAY_OUT)?;
+    Ok(report)
+}
+
+// Adds the place where a rule asks for a form.
+fn add_form(
+    alloc: Global,
+    report: &mut Report,
+    before: &str,
+    (form, pos): (Form<'_>, Pos),
+) -> Result<(), AllocError> {
+    let mut text = String::from_str(alloc, before)?;
+    push_quoted(&mut text, form)?;
+    report.labels.push(Label { pos, text })?;
+    Ok(())
+}
+
+// Adds a form as a quotation.
+fn push_quoted(out: &mut String, form: Form<'_>) -> Result<(), AllocError> {
+    out.push('`')?;
+    push_form(out, form)?;
+    out.push('`')
 }
 
 // A report with these words and places to come.
@@ -102,14 +184,14 @@ fn simple(
 
 // A report of one rule, with what helps.
 fn of_rule(
-    alloc: Global,
-    defs: &[Def],
+    telling: Telling<'_>,
     (kind, message): (&'static str, &str),
     span: Span,
     help: &str,
 ) -> Result<Report, AllocError> {
+    let alloc = telling.alloc;
     let mut report = begun(alloc, kind, message)?;
-    add_rule(alloc, &mut report, defs, span.from, "", "")?;
+    add_rule(alloc, &mut report, telling.defs, span.from, "", "")?;
     add_help(alloc, &mut report, help)?;
     Ok(report)
 }
@@ -130,28 +212,45 @@ fn way_below(limit: Limit) -> &'static str {
 }
 
 // A report of rules of one priority of which the first overlaps each of the others.
-fn overlap(
-    alloc: Global,
-    defs: &[Def],
-    sets: &Option<Sets>,
-    rules: &[Span],
-) -> Result<Report, AllocError> {
+fn overlap(telling: Telling<'_>, rules: &[Span]) -> Result<Report, AllocError> {
+    let alloc = telling.alloc;
     let mut report = begun(
         alloc,
         "overlap",
         "rules of one priority match the same values",
     )?;
+    let told = telling.most_rules.saturating_add(1);
     for (i, span) in rules.iter().enumerate() {
+        if i >= told {
+            break;
+        }
         let before = if i == 0 { "" } else { "overlaps " };
-        add_rule(alloc, &mut report, defs, span.from, before, "")?;
+        add_rule(alloc, &mut report, telling.defs, span.from, before, "")?;
     }
-    add_values(alloc, &mut report, sets, rules)?;
-    let above = priority_above(defs, rules);
+    add_values(telling, &mut report, rules)?;
+    add_untold(alloc, &mut report, rules.len().saturating_sub(told))?;
+    let above = priority_above(telling.defs, rules);
     let help = format!(in alloc;
         "give the rule that is to come first a greater priority, as (rule {above} ..), or one of them a narrower pattern"
     )?;
     add_note(&mut report, "help", help)?;
+    if !telling.expand {
+        add_help(alloc, &mut report, NO_TEMPLATES)?;
+    }
     Ok(report)
+}
+
+// Why more rules overlap where internal extractors aren't expanded.
+const NO_TEMPLATES: &str =
+    "by --no-expand the templates of internal extractors tell no values apart: check without it";
+
+// Adds how many of the rules that overlap one aren't told.
+fn add_untold(alloc: Global, report: &mut Report, count: usize) -> Result<(), AllocError> {
+    if count == 0 {
+        return Ok(());
+    }
+    let text = format!(in alloc; "it overlaps {count} more, `--all` shows them")?;
+    add_note(report, "help", text)
 }
 
 // A priority above that of rules of one priority, where there is one.
@@ -234,61 +333,38 @@ fn add_note(report: &mut Report, word: &'static str, text: String) -> Result<(),
     Ok(())
 }
 
-// Adds a value that the first of some rules and each of the others match.
-fn add_values(
-    alloc: Global,
-    report: &mut Report,
-    sets: &Option<Sets>,
-    rules: &[Span],
-) -> Result<(), AllocError> {
-    let Some(sets) = sets else {
-        return Ok(());
-    };
+// Adds what the first of some rules and each of the others match.
+fn add_values(telling: Telling<'_>, report: &mut Report, rules: &[Span]) -> Result<(), AllocError> {
     let Some(first) = rules.first() else {
         return Ok(());
     };
     for span in rules.iter().skip(1).take(MOST_VALUES) {
-        add_value(alloc, report, sets, first.from, span.from)?;
+        add_value(telling, report, first.from, span.from)?;
     }
     Ok(())
 }
 
-// Adds a value that two rules match.
+// Adds what two rules match.
 fn add_value(
-    alloc: Global,
+    telling: Telling<'_>,
     report: &mut Report,
-    sets: &Sets,
     left: Pos,
     right: Pos,
 ) -> Result<(), AllocError> {
-    let names = Names {
-        tyenv: &sets.tyenv,
-        terms: &sets.termenv.terms,
+    let alloc = telling.alloc;
+    let (Some(left), Some(right)) = (rule_at(telling.defs, left), rule_at(telling.defs, right))
+    else {
+        return Ok(());
     };
-    for (term, set) in &sets.sets {
-        if let (Some(left), Some(right)) = (rule_in(set, left), rule_in(set, right)) {
-            let found = witness(alloc, names, *term, set, left, right)?;
-            let text = value_text(alloc, found)?;
-            return add_note(report, "note", text);
-        }
-    }
-    Ok(())
-}
-
-// The rule of a set that is defined at a position.
-fn rule_in(set: &RuleSet, pos: Pos) -> Option<&Rule> {
-    for rule in &set.rules {
-        if rule.pos == pos {
-            return Some(rule);
-        }
-    }
-    None
+    let found = witness(alloc, telling.defs, left, right)?;
+    let text = value_text(alloc, found)?;
+    add_note(report, "note", text)
 }
 
 // What is said of a value that two rules match, or that none was found.
 fn value_text(alloc: Global, found: Option<String>) -> Result<String, AllocError> {
     match found {
-        Some(value) => format!(in alloc; "both match {value}"),
+        Some(value) => format!(in alloc; "both match `{value}`"),
         None => String::from_str(
             alloc,
             "no value that both match was found: what they demand to be equal isn't compared",

@@ -1,7 +1,0 @@
--- Terms and rules are read with the types of the same definitions.
-use Rattle.isle_base.specs.SyntaxViews.{definition_views}
-use Rattle.isle_model.specs.claims.Environments.{types_read}
-use Rattle.isle_explaining.proofs.sets.sets_of.Given as goal
-
-abbrev pub ghost-from_ast : goal.ghost-from_ast
-ghost-from_ast a = types_read (definition_views a.defs.now)
