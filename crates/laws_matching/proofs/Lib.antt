@@ -13,7 +13,7 @@ mod Numbers
 mod Patterns
 mod Rules
 pub mod SetsAnswered
-mod Shapes
+pub mod Shapes
 pub mod ToldApart
 mod Unreachable
 mod Variables

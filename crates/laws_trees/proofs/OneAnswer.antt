@@ -62,7 +62,7 @@ term_environment_one e defs expand rules a b c d x y =
     λ i. record { terms = terms i; rules = typed i; rule_of = λ k. looked_up k i; expand = flag i }
 
 -- the same typed rules, from the same list
-typed_one : (e : TypesRead) (defs : List Definition) (expand : Bool) (l k : TypedRules) → IsElaborated e defs expand l → IsElaborated e defs expand k → l ≡ k
+pub typed_one : (e : TypesRead) (defs : List Definition) (expand : Bool) (l k : TypedRules) → IsElaborated e defs expand l → IsElaborated e defs expand k → l ≡ k
 typed_one e defs expand l k x y = same_Some l k (sym x.elaborate.typed ∙ y.elaborate.typed)
 
 pub reading_gives_one_lem : ReadingGivesOne
