@@ -1,4 +1,4 @@
-//! Compiles the rules, or takes the code of them in the file that ISLE_CODE names.
+//! Compiles the rules. If ISLE_CODE is set, it names a file whose code is used instead.
 
 use std::{env, fs, path::Path};
 

@@ -1,7 +1,7 @@
-//! A `Context` for rules whose code the original doesn't compile, or whose form isn't sure there: partial calls of enums on a
-//! right side, a tuple with an enum in it that two tests look at, equal variables of an enum whose `PartialEq` is written
-//! outside, values that go to two places, results of two rules, loops over enums, structs as parameters, a primitive that is
-//! neither Copy nor Clone, words of Rust and paths as names, and tests so deep that blocks have labels. The crate has no std.
+//! A `Context` for rules whose code in the original's form isn't sure to compile. They have partial calls of enums on a right
+//! side, a tuple with an enum that two tests look at, equal variables of an enum with a `PartialEq` of its own, values that go to
+//! two places, results of two rules, loops over enums, structs as parameters, a primitive that is neither Copy nor Clone, keywords
+//! and paths as names, and tests so deep that blocks have labels. The crate has no std.
 #![no_std]
 extern crate alloc;
 
@@ -24,7 +24,7 @@ pub const R0: Reg = Reg(0);
 #[derive(Debug, PartialEq)]
 pub struct Name(pub u32);
 
-/// What the rules name by a path.
+/// The rules name these by a path.
 pub mod machine {
     #[derive(Clone, Copy, Debug, PartialEq, Eq)]
     pub struct Width(pub u8);
@@ -39,7 +39,7 @@ pub enum Cond {
     Lt,
 }
 
-// The code may not derive it beside this.
+// The code must not derive it, because it is written here.
 impl PartialEq for Tree {
     fn eq(&self, other: &Tree) -> bool {
         match (self, other) {

@@ -1,5 +1,5 @@
-//! The code of the rules. Nothing else stands here, so that each name which the code doesn't declare has to come from the
-//! module above. Its lints are allowed here: code that a module takes in can't have attributes of its file.
+//! The code of the rules, and nothing else: each name that the code doesn't declare comes from the module above. Its lints are
+//! allowed here, because included code can't have attributes of its file.
 #![allow(
     dead_code,
     unreachable_code,

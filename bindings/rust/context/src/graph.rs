@@ -13,7 +13,7 @@ pub struct Value(pub u32);
 
 pub type ValueArray2 = [Value; 2];
 
-/// Not Copy, as `Cond` isn't: code that takes one by value wouldn't compile.
+/// Not Copy, because `Cond` isn't. Code that took one by value wouldn't compile.
 #[derive(Clone, Debug, PartialEq, Eq)]
 pub enum Opcode {
     Iadd,
@@ -95,7 +95,7 @@ impl Graph {
         }
     }
 
-    /// The instruction behind a value: of a union the first, and for a parameter a load without an offset.
+    /// The instruction that makes a value. For a union it is the first one, and for a parameter a load without an offset.
     pub fn first_data(&self, value: Value) -> InstData {
         match self.def(value) {
             Def::Param(_) => InstData::Load {

@@ -1,5 +1,5 @@
-//! A `Context` as one is written for the original's code: what `docs/RUST-CODE.md` says of the form, seen from the side of who
-//! implements the trait. It is written by the form alone: where new code doesn't fit it, the code is wrong.
+//! A `Context` as it is written for the original's code. It follows the form in `docs/RUST-CODE.md`, and nothing else: if the
+//! code of the rules doesn't fit it, that code is wrong.
 #![deny(warnings)]
 
 pub mod generated_code;
@@ -17,11 +17,11 @@ use std::marker::PhantomData;
 
 pub type Unit = ();
 
-/// How many results a call of a multi term gives at most, and the list that holds those of a call between terms.
+/// A call of a multi term gives at most so many results. If a term makes the call, they go into the list below.
 pub const MAX_ISLE_RETURNS: usize = 8;
 pub type ConstructorVec<T> = Few<T>;
 
-/// No `Vec`, so that the code can't take it for one.
+/// A list that isn't a `Vec`, because the code may not require one.
 #[derive(Clone, Debug)]
 pub struct Few<T>(Vec<T>);
 
@@ -68,7 +68,8 @@ impl<'a, 'b> IsleContext<'a, 'b> {
     }
 }
 
-/// The instructions behind a value. A union is followed when it is met, so the context is asked between two answers.
+/// The instructions that make a value. The iterator follows a union when it comes to it, so it uses the context between two
+/// answers.
 #[derive(Default)]
 pub struct InstDataIter<'a, 'b> {
     stack: Vec<Value>,

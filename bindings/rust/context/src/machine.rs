@@ -13,14 +13,14 @@ pub struct WritableReg(pub Reg);
 #[derive(Clone, Copy, Debug, PartialEq, Eq)]
 pub struct Imm12(pub u16);
 
-/// May be cloned, and is neither Copy nor compared.
+/// Clone, but neither Copy nor compared.
 #[derive(Clone, Debug)]
 pub enum Operand {
     Reg(Reg),
     Mem(Box<Amode>),
 }
 
-/// A primitive that is neither Copy nor compared: each rule uses it once.
+/// A primitive that is neither Copy nor compared. Each rule uses it once.
 pub type BoxInfo = Box<CallInfo>;
 
 #[derive(Clone, Debug)]
@@ -29,7 +29,7 @@ pub struct CallInfo {
     pub clobbers: Vec<u32>,
 }
 
-/// Has no Debug, so a type that holds it can't have one; and is neither Copy nor compared.
+/// Neither Debug, nor Copy, nor compared. So a type that holds it can't be Debug.
 #[derive(Clone)]
 pub struct Blob(pub i64);
 
@@ -40,7 +40,7 @@ fn size(size: Size) -> &'static str {
     }
 }
 
-/// An instruction as text. `size` is copied out of a reference, so the code has to declare `Size` as Copy.
+/// An instruction as text. It copies `size` from behind a reference, so the code must declare `Size` as Copy.
 pub fn text(inst: &MInst) -> String {
     match inst {
         MInst::Nop => "nop".into(),
