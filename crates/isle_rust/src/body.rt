@@ -86,18 +86,12 @@ struct Place {
     depth: usize,
     // the number of the block around it that a test may leave where it isn't met, since nothing follows it in there
     label: Option<usize>,
-    // what each turn brings, where a block is the body of a loop
-    each: Option<BindingId>,
 }
 
 impl Place {
     // A block within braces of its own.
     fn nested(depth: usize) -> Place {
-        Place {
-            depth,
-            label: None,
-            each: None,
-        }
+        Place { depth, label: None }
     }
 
     // A block with a label.
@@ -105,25 +99,6 @@ impl Place {
         Place {
             depth,
             label: Some(label),
-            each: None,
-        }
-    }
-
-    // The body of a loop that stands here, of which each turn brings this site.
-    fn of_loop(self, each: BindingId) -> Place {
-        Place {
-            depth: self.depth,
-            label: self.label,
-            each: Some(each),
-        }
-    }
-
-    // A block that stands here without braces of its own, within another.
-    fn within(self) -> Place {
-        Place {
-            depth: self.depth,
-            label: self.label,
-            each: None,
         }
     }
 
@@ -148,7 +123,7 @@ struct Body<'a> {
 impl<'a> Body<'a> {
     // Adds the whole body, and the function's end.
     fn push_whole(self, out: &mut String, block: &Block) -> Result<(), AllocError> {
-        self.push_block(out, Place::nested(1), block)?;
+        self.push_block(out, Place::nested(1), &None, block)?;
         if !self.is_closed(block) {
             self.push_end(out)?;
         }
@@ -206,16 +181,22 @@ impl<'a> Body<'a> {
         )
     }
 
-    // Adds the steps of a block, up to one that nothing follows.
+    // Adds the steps of a block, up to one that nothing follows. `each` is what each turn brings, where the block is a loop's body.
     #[cycle(code)]
-    fn push_block(self, out: &mut String, at: Place, block: &Block) -> Result<(), AllocError> {
+    fn push_block(
+        self,
+        out: &mut String,
+        at: Place,
+        each: &Option<BindingId>,
+        block: &Block,
+    ) -> Result<(), AllocError> {
         let mut left = block.steps.len();
         for (number, step) in block.steps.iter().enumerate() {
             left = left.saturating_sub(1);
             let spot = Spot {
                 steps: &block.steps,
                 number,
-                each: at.each,
+                each: *each,
             };
             self.push_begin(out, at.depth, &spot, step)?;
             if !self.is_never_reached(step) {
@@ -258,12 +239,12 @@ impl<'a> Body<'a> {
             ControlFlow::Match { source, arms } => self.push_arms(out, at, *source, arms),
             ControlFlow::Equal { a, b, body } => {
                 let inside = self.open_equal(out, at, *a, *b, body)?;
-                self.push_block(out, inside, body)?;
+                self.push_block(out, inside, &None, body)?;
                 close(out, at, inside)
             }
             ControlFlow::Loop { result, body } => {
                 let inside = self.open_loop(out, at, *result, body)?;
-                self.push_block(out, inside, body)?;
+                self.push_block(out, inside, &Some(*result), body)?;
                 close(out, at, inside)
             }
             ControlFlow::Return { .. } => Ok(()),
@@ -298,7 +279,7 @@ impl<'a> Body<'a> {
         arm: &MatchArm,
     ) -> Result<(), AllocError> {
         let inside = self.open_arm(out, at, source, is_alone, arm)?;
-        self.push_block(out, inside, &arm.body)?;
+        self.push_block(out, inside, &None, &arm.body)?;
         close(out, at, inside)
     }
 
@@ -333,7 +314,7 @@ impl<'a> Body<'a> {
             out.push_str(" => {\n")?;
         } else if let Some(label) = at.label {
             self.sites.push_unless(out, label, source, arm)?;
-            return Ok(at.within());
+            return Ok(at);
         } else {
             self.sites.push_if(out, source, arm)?;
         }
@@ -354,7 +335,7 @@ impl<'a> Body<'a> {
             self.sites.push_comparison(out, a, " != ", b)?;
             push_break(out, label)?;
             out.push('\n')?;
-            return Ok(at.within());
+            return Ok(at);
         }
         self.sites.push_comparison(out, a, " == ", b)?;
         out.push_str(" {\n")?;
@@ -373,8 +354,7 @@ impl<'a> Body<'a> {
         self.sites.push_iterator(out, each)?;
         push_indent(out, at.depth)?;
         self.sites.push_while(out, each)?;
-        let inside = open_body(out, at.depth, body)?;
-        Ok(inside.of_loop(each))
+        open_body(out, at.depth, body)
     }
 
     // Adds the lines of a return.
