@@ -1,6 +1,8 @@
 //! What is answered to files: trees, JSON, Rust code, warnings and errors.
 
-use isle_proved::{check, compile, json, lower, Errors, Format, Options};
+use isle_proved::{
+    check, compile, compile_with, json, lower, CodegenOptions, Errors, Format, Options, Prefix,
+};
 use std::thread;
 
 const FALL: [(&str, &str); 1] = [(
@@ -153,6 +155,31 @@ fn rust_code() {
 }
 
 #[test]
+fn rust_code_by_its_options() {
+    let files = [("out/a.isle", FALL[0].1)];
+    let prefix = |prefix: &str, name: &str| Prefix {
+        prefix: prefix.to_string(),
+        name: name.to_string(),
+    };
+    let code = CodegenOptions {
+        exclude_global_allow_pragmas: false,
+        prefixes: vec![prefix("src", "<SRC>"), prefix("out", "<OUT>")],
+        emit_logging: true,
+    };
+    let code = compile_with(&files, Options::default(), &code).unwrap();
+    assert!(code.contains("// - <OUT>/a.isle\n"), "{code}");
+    assert!(code.contains("// Rule at <OUT>/a.isle line 2.\n"), "{code}");
+    assert!(code.contains("\n#![allow("), "{code}");
+    assert!(code.contains("log::debug!("), "{code}");
+    let plain = compile(&files, Options::default()).unwrap();
+    assert!(plain.contains("// Rule at out/a.isle line 2.\n"), "{plain}");
+    assert!(
+        !plain.contains("#![") && !plain.contains("log::"),
+        "{plain}"
+    );
+}
+
+#[test]
 fn names_that_are_one_in_rust() {
     let files = [(
         "a.isle",
@@ -227,13 +254,16 @@ fn a_rule_of_six_thousand_levels() {
     assert!(answer.is_ok(), "{answer:?}");
 }
 
+// A program is started anew for each call.
+const ROUNDS: usize = if cfg!(isle_program) { 10 } else { 1000 };
+
 #[test]
 fn four_threads_at_once() {
     let told = lower(&OVERLAP, Options::default());
     thread::scope(|scope| {
         for _ in 0..4 {
             scope.spawn(|| {
-                for _ in 0..1000 {
+                for _ in 0..ROUNDS {
                     assert_eq!(lower(&FALL, Options::default()), Ok(FALL_TREE.to_string()));
                     assert_eq!(lower(&OVERLAP, Options::default()), told);
                 }
