@@ -1,11 +1,13 @@
 //! The lines of files.
 
+use crate::options::Prefix;
 use cranelift_isle::syntax::{Files, Pos};
 use std::alloc::{AllocError, Global};
 
-/// Files, with where the lines of each begin.
-pub(crate) struct Lines<'a> {
+/// Files, with where the lines of each begin, and what stands in the place of the beginnings of their names.
+pub struct Lines<'a> {
     files: &'a Files,
+    prefixes: &'a [Prefix],
     // for each file the offsets of its lines, ascending, the first of them 0
     begins: Vec<Vec<usize>>,
 }
@@ -14,6 +16,7 @@ impl<'a> Drop for Lines<'a> {
     fn drop(self) {
         let Lines {
             files: _,
+            prefixes: _,
             begins: _,
         } = self;
     }
@@ -21,22 +24,51 @@ impl<'a> Drop for Lines<'a> {
 
 impl<'a> Lines<'a> {
     /// The lines of files.
-    pub(crate) fn new(alloc: Global, files: &'a Files) -> Result<Lines<'a>, AllocError> {
+    pub fn new(
+        alloc: Global,
+        files: &'a Files,
+        prefixes: &'a [Prefix],
+    ) -> Result<Lines<'a>, AllocError> {
         let mut begins = Vec::new(alloc);
         for text in &files.texts {
             begins.push(begins_of(alloc, text)?)?;
         }
-        Ok(Lines { files, begins })
+        Ok(Lines {
+            files,
+            prefixes,
+            begins,
+        })
     }
 
-    /// Adds the name of the file that a place is in, and the number of its line, from 1, with a colon between them.
-    pub(crate) fn push(&self, out: &mut String, pos: Pos) -> Result<(), AllocError> {
+    /// Adds a line of a comment for each file, with its name.
+    pub fn push_files(&self, out: &mut String) -> Result<(), AllocError> {
+        for name in &self.files.names {
+            out.push_str("// - ")?;
+            self.push_file(out, name)?;
+            out.push('\n')?;
+        }
+        Ok(())
+    }
+
+    /// Adds the name of the file that a place is in, the word `line`, and the number of its line, from 1.
+    pub fn push(&self, out: &mut String, pos: Pos) -> Result<(), AllocError> {
         match self.files.names.get(pos.file) {
-            Some(name) => push_on_line(out, name)?,
+            Some(name) => self.push_file(out, name)?,
             None => out.push('?')?,
         }
         let line = self.number(pos);
-        write!(out, ":{line}")
+        write!(out, " line {line}")
+    }
+
+    // Adds the name of a file, with what stands in the place of its beginning.
+    fn push_file(&self, out: &mut String, name: &str) -> Result<(), AllocError> {
+        for prefix in self.prefixes {
+            if let Some(rest) = name.strip_prefix(prefix.prefix.as_str()) {
+                push_on_line(out, &prefix.name)?;
+                return push_on_line(out, rest);
+            }
+        }
+        push_on_line(out, name)
     }
 
     // The number of the line that a place is in, or 0 where there is no such file.

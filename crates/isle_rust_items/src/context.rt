@@ -1,9 +1,10 @@
 //! The trait of the functions that come from outside.
 
-use crate::code::CodeError;
 use crate::names::{push_name, push_part};
+use crate::options::CodeError;
 use crate::program::{ALLOWED, Program};
 use cranelift_isle::sema::{ExternalSig, ReturnKind, Term};
+use cranelift_isle::syntax::Pos;
 use std::alloc::AllocError;
 use std::collections::HashMap;
 
@@ -17,15 +18,27 @@ const OWED: &str = "
 /// The proof of the trees depends on this. The compiler doesn't check it.
 ";
 
+// A function that was added: its lines, and where a term that has it is declared.
+struct Added {
+    text: String,
+    pos: Pos,
+}
+
+impl Drop for Added {
+    fn drop(self) {
+        let Added { text: _, pos: _ } = self;
+    }
+}
+
 /// Adds the trait: a function for each external constructor and extractor, each name once.
-pub(crate) fn push_context(out: &mut String, program: Program<'_>) -> Result<(), CodeError> {
+pub fn push_context(out: &mut String, program: Program<'_>) -> Result<(), CodeError> {
     out.push_str(OWED)?;
     out.push_str(ALLOWED)?;
     out.push_str("pub trait Context {\n")?;
-    let mut seen = HashMap::new(program.alloc);
+    let mut added = HashMap::new(program.alloc);
     for term in program.terms {
-        push_extractor(out, program, &mut seen, term)?;
-        push_constructor(out, program, &mut seen, term)?;
+        push_extractor(out, program, &mut added, term)?;
+        push_constructor(out, program, &mut added, term)?;
     }
     out.push_str("}\n")?;
     Ok(())
@@ -35,14 +48,14 @@ pub(crate) fn push_context(out: &mut String, program: Program<'_>) -> Result<(),
 fn push_extractor(
     out: &mut String,
     program: Program<'_>,
-    seen: &mut HashMap<String, String>,
+    added: &mut HashMap<String, Added>,
     term: &Term,
 ) -> Result<(), CodeError> {
     if !term.has_external_extractor() {
         return Ok(());
     }
     match term.extractor_sig(program.alloc, program.tyenv)? {
-        Some(sig) => push_once(out, program, seen, &sig),
+        Some(sig) => push_once(out, program, added, &sig, term.decl_pos),
         None => Ok(()),
     }
 }
@@ -51,14 +64,14 @@ fn push_extractor(
 fn push_constructor(
     out: &mut String,
     program: Program<'_>,
-    seen: &mut HashMap<String, String>,
+    added: &mut HashMap<String, Added>,
     term: &Term,
 ) -> Result<(), CodeError> {
     if !term.has_external_constructor() {
         return Ok(());
     }
     match term.constructor_sig(program.alloc, program.tyenv)? {
-        Some(sig) => push_once(out, program, seen, &sig),
+        Some(sig) => push_once(out, program, added, &sig, term.decl_pos),
         None => Ok(()),
     }
 }
@@ -67,31 +80,40 @@ fn push_constructor(
 fn push_once(
     out: &mut String,
     program: Program<'_>,
-    seen: &mut HashMap<String, String>,
+    added: &mut HashMap<String, Added>,
     sig: &ExternalSig,
+    pos: Pos,
 ) -> Result<(), CodeError> {
     let mut text = String::new(program.alloc);
     push_signature(&mut text, program, sig)?;
-    if let Some(earlier) = seen.get(sig.func_name.as_str()) {
-        return same_as(program, sig, earlier.as_str() == text.as_str());
+    if let Some(earlier) = added.get(sig.func_name.as_str()) {
+        if earlier.text.as_str() == text.as_str() {
+            return Ok(());
+        }
+        return Err(two_signatures(program, &sig.func_name, earlier.pos, pos)?);
     }
     out.push_str(&text)?;
-    seen.insert(sig.func_name.clone()?, text)?;
+    added.insert(sig.func_name.clone()?, Added { text, pos })?;
     Ok(())
 }
 
-// Whether a function that was added before is this one; else the name of both stands for two.
-fn same_as(program: Program<'_>, sig: &ExternalSig, is_same: bool) -> Result<(), CodeError> {
-    if is_same {
-        return Ok(());
-    }
-    let name = sig.func_name.as_str();
-    Err(CodeError::Names(format!(in program.alloc;
-        "the external function `{name}` has two signatures"
-    )?))
+// That a function would have two signatures, by the terms that are declared at these places.
+fn two_signatures(
+    program: Program<'_>,
+    name: &str,
+    earlier: Pos,
+    later: Pos,
+) -> Result<CodeError, AllocError> {
+    let mut why = format!(in program.alloc;
+        "the external function `{name}` has two signatures, by the terms at "
+    )?;
+    program.lines.push(&mut why, earlier)?;
+    why.push_str(" and at ")?;
+    program.lines.push(&mut why, later)?;
+    Ok(CodeError::Names(why))
 }
 
-// Adds the lines of a function, with the type of what it goes over where it gives many values.
+// Adds the lines of a function. One that gives many values is handed what it puts them into, whose type is its own.
 fn push_signature(
     out: &mut String,
     program: Program<'_>,
@@ -100,7 +122,7 @@ fn push_signature(
     if sig.ret_kind == ReturnKind::Iterator {
         out.push_str("    type ")?;
         push_part(out, &sig.func_name)?;
-        out.push_str("_iterator: Iterator<Item = ")?;
+        out.push_str("_returns: Default + IntoContextIter<Context = Self, Output = ")?;
         program.push_outputs(out, &sig.ret_tys)?;
         out.push_str(">;\n")?;
     }
@@ -108,28 +130,30 @@ fn push_signature(
     push_name(out, &sig.func_name)?;
     out.push_str("(&mut self")?;
     program.push_parameters(out, &sig.param_tys)?;
-    out.push_str(") -> ")?;
     push_result(out, program, sig)?;
     out.push_str(";\n")
 }
 
-// Adds what a function gives.
+// Adds the rest of a signature: what a function gives, or puts its values into.
 fn push_result(
     out: &mut String,
     program: Program<'_>,
     sig: &ExternalSig,
 ) -> Result<(), AllocError> {
     match sig.ret_kind {
-        ReturnKind::Plain => program.push_outputs(out, &sig.ret_tys),
+        ReturnKind::Plain => {
+            out.push_str(") -> ")?;
+            program.push_outputs(out, &sig.ret_tys)
+        }
         ReturnKind::Option => {
-            out.push_str("Option<")?;
+            out.push_str(") -> Option<")?;
             program.push_outputs(out, &sig.ret_tys)?;
             out.push('>')
         }
         ReturnKind::Iterator => {
-            out.push_str("Self::")?;
+            out.push_str(", returns: &mut Self::")?;
             push_part(out, &sig.func_name)?;
-            out.push_str("_iterator")
+            out.push_str("_returns) -> ()")
         }
     }
 }

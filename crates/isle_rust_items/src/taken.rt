@@ -1,7 +1,7 @@
 //! Names that can't be told apart in Rust.
 
-use crate::code::CodeError;
-use crate::names::push_name;
+use crate::names::{push_constant, push_name, push_path};
+use crate::options::CodeError;
 use crate::program::Program;
 use cranelift_isle::lower::LoweredTerm;
 use cranelift_isle::sema::{
@@ -37,10 +37,15 @@ impl Kind {
         }
     }
 
-    // Notes a name, and what has it. The same may have it again.
+    // Notes an identifier, and what has it. The same may have it again.
     fn claim(&mut self, name: &str, owner: &str) -> Result<(), CodeError> {
         let mut written = String::new(self.alloc);
         push_name(&mut written, name)?;
+        self.claim_written(written, owner)
+    }
+
+    // Notes a name as it is written, and what has it. The same may have it again.
+    fn claim_written(&mut self, written: String, owner: &str) -> Result<(), CodeError> {
         if let Some(earlier) = self.owners.get(written.as_str()) {
             return self.shared(earlier.as_str(), owner, &written);
         }
@@ -62,7 +67,7 @@ impl Kind {
 }
 
 /// Looks for names that would fall together in Rust, or that the code itself uses.
-pub(crate) fn check_names(program: Program<'_>, terms: &[LoweredTerm]) -> Result<(), CodeError> {
+pub fn check_names(program: Program<'_>, terms: &[LoweredTerm]) -> Result<(), CodeError> {
     check_types(program)?;
     check_functions(program)?;
     check_constants(program)?;
@@ -82,38 +87,53 @@ fn check_types(program: Program<'_>) -> Result<(), CodeError> {
 fn check_type(program: Program<'_>, kind: &mut Kind, ty: &Type) -> Result<(), CodeError> {
     match ty {
         Type::Builtin(_) => Ok(()),
-        Type::Primitive(_, name, _) => check_type_name(program, kind, "primitive ", *name),
+        Type::Primitive(_, name, _) => check_primitive(program, kind, *name),
         Type::Enum { name, variants, .. } => {
-            check_type_name(program, kind, "", *name)?;
+            check_type_name(program, kind, *name)?;
             check_variants(program, variants)
         }
         Type::Struct { name, fields, .. } => {
-            check_type_name(program, kind, "", *name)?;
+            check_type_name(program, kind, *name)?;
             check_fields(program, fields)
         }
     }
 }
 
-// The name of a type, which is told with a word before it.
-fn check_type_name(
-    program: Program<'_>,
-    kind: &mut Kind,
-    word: &str,
-    name: Sym,
-) -> Result<(), CodeError> {
+// The name of a primitive type, which is told as one.
+fn check_primitive(program: Program<'_>, kind: &mut Kind, name: Sym) -> Result<(), CodeError> {
     let name = program.tyenv.text_of(name);
-    if is_used_type(name) || is_variable(name) {
+    if is_used_type(name) || is_used_value(name) {
         return Err(taken(program.alloc, "type", name)?);
     }
-    let owner = format!(in program.alloc; "{word}{name}")?;
-    kind.claim(name, &owner)
+    let owner = format!(in program.alloc; "primitive {name}")?;
+    let mut written = String::new(program.alloc);
+    push_path(&mut written, name)?;
+    kind.claim_written(written, &owner)
 }
 
-// Whether a name is that of a type or a trait that the code uses.
+// The name of an enum or a struct, which may be that of a value too.
+fn check_type_name(program: Program<'_>, kind: &mut Kind, name: Sym) -> Result<(), CodeError> {
+    let name = program.tyenv.text_of(name);
+    if is_used_type(name) || is_used_value(name) {
+        return Err(taken(program.alloc, "type", name)?);
+    }
+    kind.claim(name, name)
+}
+
+// Whether a name is that of a type, a trait or a crate that the code uses.
 fn is_used_type(name: &str) -> bool {
     matches!(
         name,
-        "C" | "Context" | "Option" | "Vec" | "Iterator" | "Clone" | "Debug" | "PartialEq"
+        "C" | "Context"
+            | "ContextIter"
+            | "IntoContextIter"
+            | "ContextIterWrapper"
+            | "ConstructorVec"
+            | "Length"
+            | "Option"
+            | "Default"
+            | "Extend"
+            | "isle_alloc"
     )
 }
 
@@ -213,16 +233,20 @@ fn check_constants(program: Program<'_>) -> Result<(), CodeError> {
 
 // The name of a constant.
 fn check_constant(program: Program<'_>, kind: &mut Kind, name: &str) -> Result<(), CodeError> {
-    if is_variable(name) {
+    if is_used_value(name) {
         return Err(taken(program.alloc, "constant", name)?);
     }
-    kind.claim(name, name)
+    let mut written = String::new(program.alloc);
+    push_constant(&mut written, name)?;
+    kind.claim_written(written, name)
 }
 
-// Whether a name is that of a variable of the code, or of a variant that it uses.
-fn is_variable(name: &str) -> bool {
-    matches!(name, "ctx" | "results" | "Some" | "None")
-        || is_numbered(name, "v")
+// Whether a name is that of a variable of the code, or of a variant or a constant that it uses.
+fn is_used_value(name: &str) -> bool {
+    matches!(
+        name,
+        "ctx" | "returns" | "Some" | "None" | "MAX_ISLE_RETURNS"
+    ) || is_numbered(name, "v")
         || is_numbered(name, "arg")
 }
 

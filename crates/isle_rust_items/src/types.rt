@@ -3,10 +3,11 @@
 use crate::names::push_name;
 use crate::program::{ALLOWED, Program};
 use cranelift_isle::sema::{Fields, StructField, Sym, TupleField, Type, Variant};
+use cranelift_isle::syntax::Pos;
 use std::alloc::AllocError;
 
 /// Adds the enums and structs that aren't declared outside.
-pub(crate) fn push_types(out: &mut String, program: Program<'_>) -> Result<(), AllocError> {
+pub fn push_types(out: &mut String, program: Program<'_>) -> Result<(), AllocError> {
     for ty in &program.tyenv.types {
         push_declaration(out, program, ty)?;
     }
@@ -21,9 +22,14 @@ fn push_declaration(out: &mut String, program: Program<'_>, ty: &Type) -> Result
             is_extern: false,
             is_nodebug,
             variants,
+            pos,
             ..
         } => {
-            push_head(out, program, *is_nodebug, "enum ", *name)?;
+            let has_fields = variants
+                .iter()
+                .any(|variant| !is_without_fields(&variant.fields));
+            push_attributes(out, program, has_fields, *is_nodebug, *pos)?;
+            push_head(out, program, "enum ", *name)?;
             push_variants(out, program, variants)
         }
         Type::Struct {
@@ -31,29 +37,50 @@ fn push_declaration(out: &mut String, program: Program<'_>, ty: &Type) -> Result
             is_extern: false,
             is_nodebug,
             fields,
+            pos,
             ..
         } => {
-            push_head(out, program, *is_nodebug, "struct ", *name)?;
+            push_attributes(out, program, !is_without_fields(fields), *is_nodebug, *pos)?;
+            push_head(out, program, "struct ", *name)?;
             push_struct(out, program, fields)
         }
         Type::Builtin(_) | Type::Primitive(..) | Type::Enum { .. } | Type::Struct { .. } => Ok(()),
     }
 }
 
-// Adds a type's attributes and its name.
+// Whether there are no fields.
+fn is_without_fields(fields: &Fields) -> bool {
+    matches!(fields, Fields::Unit)
+}
+
+// Adds what stands above a type: where it is defined, and what is derived. Nothing else may be: the types of fields may lack
+// it, and what is written outside would be there twice.
+fn push_attributes(
+    out: &mut String,
+    program: Program<'_>,
+    has_fields: bool,
+    is_nodebug: bool,
+    pos: Pos,
+) -> Result<(), AllocError> {
+    out.push_str("\n/// Defined at ")?;
+    program.lines.push(out, pos)?;
+    out.push_str(".\n#[derive(")?;
+    out.push_str(if has_fields {
+        "Clone"
+    } else {
+        "Copy, Clone, PartialEq, Eq"
+    })?;
+    out.push_str(if is_nodebug { ")]\n" } else { ", Debug)]\n" })?;
+    out.push_str(ALLOWED)
+}
+
+// Adds the name of a type, after what it is.
 fn push_head(
     out: &mut String,
     program: Program<'_>,
-    is_nodebug: bool,
     word: &str,
     name: Sym,
 ) -> Result<(), AllocError> {
-    out.push_str(if is_nodebug {
-        "\n#[derive(Clone, PartialEq)]\n"
-    } else {
-        "\n#[derive(Clone, Debug, PartialEq)]\n"
-    })?;
-    out.push_str(ALLOWED)?;
     out.push_str("pub ")?;
     out.push_str(word)?;
     push_name(out, program.tyenv.text_of(name))
