@@ -14,7 +14,7 @@ mod Patterns
 mod Rules
 pub mod SetsAnswered
 pub mod Shapes
-pub mod ToldApart
+pub mod DisjointRules
 mod Unreachable
 mod Variables
 pub mod Visits

@@ -15,7 +15,7 @@ use Rattle.model.specs.claims.Refusals.{Refusal}
 use Rattle.model.specs.claims.Layers.{own_program, IsCheckable, LoweredTerm, IsLoweredTerm, AreLowered, RefusedBy, by_types, by_rules, by_check}
 use Rattle.model.proofs.Elements.{In}
 use Rattle.model.proofs.Options.{options_one}
-use Rattle.laws_closure.proofs.built.SitesOnce.{sites_stand_once_lem}
+use Rattle.laws_closure.proofs.built.DistinctSites.{sites_stand_once_lem}
 use Rattle.laws_closure.specs.ShadowLaws.{check_errors}
 use Rattle.laws_closure.proofs.overlaps.MaskErrors.{check_errors_are_answered_lem}
 use Rattle.laws_trees.specs.OneAnswer.{EachTwo, BecameSame, SameTermsShowSame, ReadingGivesOne, SerializingGivesOne, BuildingGivesOne, LoweringGivesOne, NoneIsAcceptedAndRefused, RefusingGivesOne}

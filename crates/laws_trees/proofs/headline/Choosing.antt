@@ -30,7 +30,7 @@ use Rattle.laws_runs.proofs.runs.ChosenRules.{Chosen, no_match, matching, chosen
 use Rattle.laws_matching.specs.MatchLaws.{BuiltSetsMatchByDemands, BuiltRulesAreToldApart, RulesWithoutMultiGoOverNoCalls}
 use Rattle.laws_matching.specs.ServeLaws.{ServedSetsServeTests}
 use Rattle.laws_closure.proofs.built.BuiltGates.{one_rule}
-use Rattle.laws_matching.proofs.ToldApart.{empty_pick, same_match}
+use Rattle.laws_matching.proofs.DisjointRules.{empty_pick, same_match}
 use Rattle.laws_trees.specs.BuiltLaws.{BestTreesOfBuiltSetsAreSound}
 use Rattle.laws_trees.proofs.headline.NoCalls.{rule_goes_over_none, pair_goes_over_none, set_goes_over_none}
 use Rattle.laws_trees.proofs.headline.Places.{Pair, of_set_rule, of_typed_rule, typed_here}

@@ -18,7 +18,7 @@ use Rattle.laws_examples.proofs.Served.{literals_apart, serves_without_calls}
 use Rattle.laws_examples.specs.ConstEq.{const_eq_defs, const_eq_program, const_eq_rule, const_eq_rules}
 use Rattle.laws_examples.specs.Cycle.{one_step_defs, one_step_program, one_step_rule, one_step_rules}
 use Rattle.laws_examples.specs.MeaningForms.{blank}
-use Rattle.laws_examples.specs.Tried.{ConstEqHolds, ConstEqHoldsAlike, ConstEqIsTried, OneStepDoesNotMatch, OneStepIsTried, VariantEqHolds, VariantEqHoldsAlike, VariantEqIsTried, five_twice, just_this, plain_variant, two_and}
+use Rattle.laws_examples.specs.UnmatchedRules.{ConstEqHolds, ConstEqHoldsAlike, ConstEqIsTried, OneStepDoesNotMatch, OneStepIsTried, VariantEqHolds, VariantEqHoldsAlike, VariantEqIsTried, five_twice, just_this, plain_variant, two_and}
 use Rattle.laws_examples.specs.VariantEq.{variant_eq_defs, variant_eq_program, variant_eq_rule, variant_eq_rules}
 
 whole : BuiltDemandsAreWhole

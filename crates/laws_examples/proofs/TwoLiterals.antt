@@ -6,12 +6,12 @@ use Rattle.model.specs.claims.Layers.{own_program}
 use Rattle.laws_typing.proofs.WellTypedRules.{read_programs_are_well_typed}
 use Rattle.laws_matching.proofs.taken.ServesRuns.{served_sets_serve_tests_lem}
 use Rattle.laws_runs.proofs.runs.HoldsOnce.{rules_hold_once_lem}
-use Rattle.laws_examples.proofs.Mended.{overlaps_may_hold_twice_lem}
+use Rattle.laws_examples.proofs.SmallestInputs.{overlaps_may_hold_twice_lem}
 use Rattle.laws_examples.proofs.SampleStages.{stages}
 use Rattle.laws_examples.proofs.Served.{literals_apart, serves_without_calls}
 use Rattle.laws_examples.specs.MeaningForms.{given}
-use Rattle.laws_examples.specs.Mended.{one_or_two_world}
-use Rattle.laws_examples.specs.OneOrTwo.{OneOrTwoHoldsOnce, OneOrTwoIsServed, one_or_two_defs, one_or_two_program, one_or_two_rules, one_or_two_sample, one_or_two_set}
+use Rattle.laws_examples.specs.SmallestInputs.{one_or_two_world}
+use Rattle.laws_examples.specs.TwoLiterals.{OneOrTwoHoldsOnce, OneOrTwoIsServed, one_or_two_defs, one_or_two_program, one_or_two_rules, one_or_two_sample, one_or_two_set}
 use Rattle.laws_examples.specs.Stages.{HasStages}
 
 pub one_or_two_stages : HasStages one_or_two_sample

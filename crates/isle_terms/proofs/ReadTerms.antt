@@ -20,7 +20,7 @@ use Rattle.isle_terms.specs.TermViews.{term_views}
 use Rattle.isle_terms.specs.Reading.{Interns, term_of_name}
 use Rattle.isle_terms.specs.Stages.{place_among}
 use Rattle.isle_terms.specs.Signing.{declared_so_far}
-use Rattle.isle_terms.specs.Standing.{Stand, is_declared_kind, change, Changes}
+use Rattle.isle_terms.specs.ReadTerms.{Stand, is_declared_kind, change, Changes}
 use Rattle.isle_terms.proofs.Changing.{changed, entry_of, all_made, place_split, place_at}
 use Rattle.isle_terms.proofs.Declaring.{with_names_push}
 use Rattle.isle_terms.proofs.Finding.{by_name, finds_more}

@@ -12,7 +12,7 @@ use Rattle.model.specs.lists.Syntax.{Definition, ExprTree, declaration}
 use Rattle.model.specs.rules.Program.{Program}
 use Rattle.model.specs.rules.Typed.{TypedExpr, TypedRule, make_int, make_term, match_any, match_int}
 use Rattle.model.specs.sites.Serves.{Serves, TellsConstantsApart}
-use Rattle.laws_examples.specs.Mended.{wrapped_meaning}
+use Rattle.laws_examples.specs.SmallestInputs.{wrapped_meaning}
 use Rattle.laws_examples.specs.MeaningForms.{given}
 use Rattle.laws_examples.specs.TypedForms.{e_list, own, rules_and_names, typed, u8}
 use Rattle.laws_examples.specs.Written.{any, call, constructor_by, declared, enum_of_one, field, int, number, numbers, of_f, rule_first, rule_to}

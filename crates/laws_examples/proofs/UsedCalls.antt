@@ -8,7 +8,7 @@ use Rattle.model.specs.trees.Trees.{Tree}
 use Rattle.laws_trees.specs.BestLaws.{binds_as_marked}
 use Rattle.laws_trees.proofs.binding.BindingJudge.{binding_judge_is_exact_lem}
 use Rattle.laws_examples.specs.Dropped.{CallsAreBoundToo, dropped_set, dropped_with}
-use Rattle.laws_examples.specs.Used.{NearTreesDoNotBind, used_set, used_with}
+use Rattle.laws_examples.specs.UsedCalls.{NearTreesDoNotBind, used_set, used_with}
 
 pub does_not_bind : (set : SiteSet) (multi : Bool) (tree : Tree) → returns_apart set.rules ≡ true → binds_as_marked set multi tree ≡ false → BindsBeforeUse set multi tree → ⊥
 does_not_bind set multi tree apart fails = not_from_Decides (binds_as_marked set multi tree) (binding_judge_is_exact_lem set multi tree apart) fails

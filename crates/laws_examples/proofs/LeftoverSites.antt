@@ -25,7 +25,7 @@ use Rattle.laws_examples.proofs.ReadLists.{left_over_read}
 use Rattle.laws_examples.proofs.Served.{literals_apart, serves_from}
 use Rattle.laws_examples.proofs.SetStages.{built_multi, collected}
 use Rattle.laws_examples.proofs.TreeStages.{judged_multi}
-use Rattle.laws_examples.specs.LeftOver.{LeftOverCollects, LeftOverIsCollected, LeftOverIsServed, LeftOverLacksACall, any_rule, kept_rule, left_over_defs, left_over_meaning, left_over_program, left_over_rules, left_over_set, left_over_tree, left_over_world, never_rule}
+use Rattle.laws_examples.specs.LeftoverSites.{LeftOverCollects, LeftOverIsCollected, LeftOverIsServed, LeftOverLacksACall, any_rule, kept_rule, left_over_defs, left_over_meaning, left_over_program, left_over_rules, left_over_set, left_over_tree, left_over_world, never_rule}
 use Rattle.laws_examples.specs.MeaningForms.{each, given}
 use Rattle.laws_examples.specs.SetForms.{a0}
 use Rattle.laws_examples.specs.Stages.{IsBuiltOf, IsJudged}

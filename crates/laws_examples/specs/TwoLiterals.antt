@@ -13,7 +13,7 @@ use Rattle.model.specs.sites.Sites.{SiteSet}
 use Rattle.model.specs.trees.SetRuns.{HasNoWrongOverlap, HoldsOnce, ServesTests}
 use Rattle.model.specs.trees.Trees.{Tree, arm, match_at, no_step, step}
 use Rattle.laws_examples.specs.MeaningForms.{given}
-use Rattle.laws_examples.specs.Mended.{at_one, at_two, one_or_two_world}
+use Rattle.laws_examples.specs.SmallestInputs.{at_one, at_two, one_or_two_world}
 use Rattle.laws_examples.specs.SetForms.{is_byte, one_arm, returning}
 use Rattle.laws_examples.specs.Stages.{Sample}
 use Rattle.laws_examples.specs.TypedForms.{rules_and_names, typed, u8}

@@ -16,7 +16,7 @@ use Rattle.model.proofs.Elements.{In, contains_from_in, in_left, in_right, in_ei
 use Rattle.model.proofs.Members.{all_members, get_within}
 use Rattle.model.proofs.Names.{has_left}
 use Rattle.model.proofs.Positions.{get_front}
-use Rattle.laws_typing.specs.ReadAgain.{with_more, RefusedEnvironmentsCanBeReadAgain}
+use Rattle.laws_typing.specs.AfterRefusals.{with_more, RefusedEnvironmentsCanBeReadAgain}
 
 -- 1. the names of the terms that types make are read alike
 made_inside : (t : TypeEntry) (n : ℕ) → In (made_by t) n → In (entry_numbers t) n

@@ -27,7 +27,7 @@ use Rattle.laws_typing.proofs.JudgedTerms.{terms_are_judged_lem}
 use Rattle.laws_examples.specs.MeaningForms.{v}
 use Rattle.laws_examples.specs.SetForms.{is_byte}
 use Rattle.laws_examples.specs.TypedForms.{own}
-use Rattle.laws_examples.specs.Mended.{wrapped_call, wrapped_two, wrapped_sites, wrapped_set, wrapped_meaning, wrapped_world, AboveCallsNothingIsAsked, at_one, at_any, at_two, OverlapsMayHoldTwice, NamelessIsNotAnswered, LookUpsHaveNoList, LimitsAreNamedWherePassed, two_unbound, SecondIsReadAlone, EmptySetsAreBuilt, EnvironmentsOfLists, VariantHasItsTerm}
+use Rattle.laws_examples.specs.SmallestInputs.{wrapped_call, wrapped_two, wrapped_sites, wrapped_set, wrapped_meaning, wrapped_world, AboveCallsNothingIsAsked, at_one, at_any, at_two, OverlapsMayHoldTwice, NamelessIsNotAnswered, LookUpsHaveNoList, LimitsAreNamedWherePassed, two_unbound, SecondIsReadAlone, EmptySetsAreBuilt, EnvironmentsOfLists, VariantHasItsTerm}
 use Rattle.laws_examples.specs.Written.{at}
 use Rattle.laws_examples.specs.Fall.{fall_defs, fall_rules}
 use Rattle.laws_examples.specs.Refused.{two_of_one_name}

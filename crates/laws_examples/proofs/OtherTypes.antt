@@ -3,7 +3,7 @@ use Rattle.std.proofs.Common.{[], ◌++◌, refl}
 use Rattle.model.specs.lists.KnownTypes.{types_of}
 use Rattle.laws_typing.proofs.JudgedKnown.{known_types_are_judged_lem, not_well_formed}
 use Rattle.laws_typing.proofs.JudgedTerms.{defined_are_judged_lem, no_terms, terms_are_judged_lem}
-use Rattle.laws_examples.specs.HandedIn.{IllFormed, NamesGoOn, OwnTypesDoNotCount, TypesHandedIn, of_that_type, one_type, plain, with_g}
+use Rattle.laws_examples.specs.OtherTypes.{IllFormed, NamesGoOn, OwnTypesDoNotCount, TypesHandedIn, of_that_type, one_type, plain, with_g}
 
 pub types_handed_in_lem : TypesHandedIn
 types_handed_in_lem = (

@@ -12,9 +12,9 @@ use Rattle.model.specs.sites.Sites.{SiteTerm, bool_term, constructor_call, extra
 use Rattle.laws_examples.proofs.Served.{literals_apart, some_and, some_and_first, some_and_is, some_and_means}
 use Rattle.laws_examples.proofs.SetStages.{built}
 use Rattle.laws_examples.specs.MeaningForms.{given}
-use Rattle.laws_examples.specs.Mended.{wrapped_meaning, wrapped_set}
+use Rattle.laws_examples.specs.SmallestInputs.{wrapped_meaning, wrapped_set}
 use Rattle.laws_examples.specs.Stages.{IsBuiltOf}
-use Rattle.laws_examples.specs.Wrapped.{NothingIsAskedAboveCalls, first_wrapped, second_wrapped, wrapped_defs, wrapped_program, wrapped_rules}
+use Rattle.laws_examples.specs.WrappedCalls.{NothingIsAskedAboveCalls, first_wrapped, second_wrapped, wrapped_defs, wrapped_program, wrapped_rules}
 
 pub wrapped_built : IsBuiltOf wrapped_defs wrapped_rules 1 wrapped_set
 wrapped_built = built wrapped_defs wrapped_rules 1 wrapped_set refl refl refl refl refl refl refl refl
