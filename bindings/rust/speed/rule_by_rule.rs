@@ -1,5 +1,6 @@
 //! Code that tests each rule alone. Each rule becomes the only rule of a term of its own, so that its code is that of its tree.
-//! The function of a term then has the bodies of its rules one after the other, from the greatest priority to the least.
+//! The function of a term then has the bodies of its rules one after the other, from the greatest priority to the least. That of a
+//! `multi` term calls their functions, because rustc takes minutes for hundreds of loops in one function.
 
 use std::collections::{HashMap, HashSet};
 
@@ -65,8 +66,9 @@ impl Alone {
             let name = function_name(item).unwrap_or("");
             let function_of = |name: &String| functions[name.as_str()];
             match self.by_term.get(name) {
-                _ if alone.contains(name) => None,
+                Some(rules) if is_multi(item) => Some(calling_function(item, rules)),
                 Some(rules) => Some(joined_function(item, rules.iter().map(function_of))),
+                None if alone.contains(name) && !is_multi(item) => None,
                 None => Some(item.to_string()),
             }
         });
@@ -127,6 +129,29 @@ fn function_name(item: &str) -> Option<&str> {
     Some(behind.split_once('<')?.0)
 }
 
+/// Whether an item is the function of a `multi` term.
+fn is_multi(item: &str) -> bool {
+    item.contains("returns: &mut (impl ")
+}
+
+/// The head of a function, then a call of each of the others, up to the bound of results.
+fn calling_function(item: &str, rules: &[String]) -> String {
+    let head = &item[..body_start(item)];
+    let names = (0..).map(|number| format!("arg{number}"));
+    let arguments: Vec<String> = names
+        .take_while(|name| head.contains(&format!("{name}: ")))
+        .collect();
+    let mut text = head.to_owned();
+    for rule in rules {
+        text += &format!(
+            "    constructor_{rule}(ctx, {}, returns);\n",
+            arguments.join(", ")
+        );
+        text += "    if returns.len() >= MAX_ISLE_RETURNS {\n        return;\n    }\n";
+    }
+    text + "}"
+}
+
 /// The head of a function, then the bodies of the others, each in braces and without what it does if its rule doesn't match.
 fn joined_function<'a>(item: &str, rules: impl Iterator<Item = &'a str>) -> String {
     let head = &item[..body_start(item)];
@@ -143,10 +168,10 @@ fn joined_function<'a>(item: &str, rules: impl Iterator<Item = &'a str>) -> Stri
             if falls_through { before } else { body }
         );
     }
-    let end = match head {
-        head if head.contains("returns: &mut") => "",
-        head if head.contains("-> Option<") => "    None\n",
-        _ => "    unreachable!()\n",
+    let end = if head.contains("-> Option<") {
+        "    None\n"
+    } else {
+        "    unreachable!()\n"
     };
     text + end + "}"
 }
