@@ -92,6 +92,39 @@ fn results_stop_at_the_bound() {
     assert_eq!(seven, ["p0"; MAX_ISLE_RETURNS]);
 }
 
+/// Lists that hold so many values before a call, and how many of three results they get. The bound is eight.
+const ROOM_FOR: [(usize, usize); 6] = [(0, 3), (5, 3), (6, 2), (7, 1), (8, 1), (9, 1)];
+
+#[test]
+fn below_the_bound_are_all_results_and_at_it_a_beginning() {
+    let mut v = Values::default();
+    let (x, y) = (v.param(I64), v.param(I64));
+    let both = v.union(x, y);
+    // The tree of `related` goes over the candidates, and then gives the value itself.
+    let all = ["p0", "p1", "{p0 | p1}"];
+    for (held, given) in ROOM_FOR {
+        let added = v.added(held, |ctx, results| constructor_related(ctx, both, results));
+        assert_eq!(added, all[..given], "{held} before");
+    }
+}
+
+#[test]
+fn at_the_bound_no_more_calls_are_made() {
+    for (held, given) in ROOM_FOR {
+        let mut v = Values::default();
+        let (x, y) = (v.param(I32), v.param(I32));
+        let both = v.union(x, y);
+        let before = v.graph.0.len();
+        // Of an I32 the tree of `rewrites` first makes an `Ineg` of each related value.
+        let all = ["(Ineg.64 p0)", "(Ineg.64 p1)", "(Ineg.64 {p0 | p1})"];
+        let added = v.added(held, |ctx, results| {
+            constructor_rewrites(ctx, both, results)
+        });
+        assert_eq!(added, all[..given], "{held} before");
+        assert_eq!(v.graph.0.len() - before, given, "{held} before");
+    }
+}
+
 #[test]
 fn multi_terms_that_call_multi_terms() {
     let mut v = Values::default();

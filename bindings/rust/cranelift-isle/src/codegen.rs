@@ -10,7 +10,8 @@ pub struct CodegenOptions {
     pub prefixes: Vec<Prefix>,
     /// Whether the code logs each result, by the crate `log`.
     pub emit_logging: bool,
-    /// Has no effect: no function is split. Without splitting, rustc compiles terms of 600 rules with its default stack.
+    /// Has no effect: no function is split. rustc's default stack is enough for a term of 600 rules, unless its tests nest some 400
+    /// deep (`docs/RUST-CODE.md`, "Nesting").
     pub split_match_arms: bool,
     /// Has no effect.
     pub match_arm_split_threshold: Option<usize>,

@@ -85,6 +85,23 @@ impl Values {
         texts
     }
 
+    /// What a multi term adds to a list that holds so many values already, in the order in which it is added.
+    pub fn added(
+        &mut self,
+        held: usize,
+        term: impl Fn(&mut IsleContext, &mut Few<Value>),
+    ) -> Vec<String> {
+        let mut code = Vec::new();
+        let mut results = Few::default();
+        results.extend(vec![Value(0); held]);
+        term(
+            &mut IsleContext::new(&mut self.graph, &mut code),
+            &mut results,
+        );
+        let added = results.into_iter().skip(held);
+        added.map(|value| self.graph.text(value)).collect()
+    }
+
     pub fn simplified(&mut self, value: Value) -> Vec<String> {
         self.bag(|ctx, results| constructor_simplify(ctx, value, results))
     }
