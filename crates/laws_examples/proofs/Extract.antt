@@ -1,17 +1,17 @@
 -- The sample with an extractor: a world where the extractor answers serves the tests of its rules; and near sets are not built.
-use Rattle.std.proofs.Common.{◌≡◌, ◌∷◌, [], ◌⊎◌, ◌∙◌, ℕ, pos, zero, suc, false, List, Option, Some, None, length, slice_get, Contains, IsTrue, refl, sym, ap, subst, inl, inr, arith, is_some}
-use Rattle.std.proofs.lemmas.Bool.{cases_Bool, cond-true, cond-false, false≢true}
-use Rattle.std.proofs.lemmas.Option.{none-some, same_Some}
+use Rattle.std.proofs.Common.{◌≡◌, ◌∷◌, [], ◌⊎◌, ◌∙◌, ℕ, pos, zero, suc, false, List, Some, length, slice_get, Contains, IsTrue, refl, sym, ap, subst, inl, inr, arith, is_some}
+use Rattle.std.proofs.lemmas.Bool.{false≢true}
+use Rattle.std.proofs.lemmas.Option.{none-some}
 use Rattle.model.proofs.Members.{in_alone, in_cases}
 use Rattle.model.specs.rules.Meaning.{Content, Meaning, int_literal, literal_value, one}
-use Rattle.model.specs.rules.Values.{Value, value_eq}
 use Rattle.model.specs.sites.RuleSets.{IsBuilt}
 use Rattle.model.specs.sites.Sites.{Constraint, SetRule, is_int, is_present, unfold_site}
 use Rattle.model.specs.trees.Collects.{content_at}
 use Rattle.model.specs.trees.Places.{fields_of, joins_in, waits}
-use Rattle.model.specs.trees.Run.{content_fields, where_constant}
+use Rattle.model.specs.trees.Run.{content_fields}
 use Rattle.model.specs.trees.SetRuns.{IsTestedSet, ServesTests}
 use Rattle.laws_runs.proofs.runs.Fields.{present_met}
+use Rattle.laws_matching.proofs.taken.ServesRuns.{constant_count}
 use Rattle.laws_examples.proofs.SampleStages.{extract_stages}
 use Rattle.laws_examples.proofs.SetStages.{tested}
 use Rattle.laws_examples.specs.Extract.{ExtractIsServed, NearSetsAreNotBuilt, answer_itself, extract_defs, extract_meaning, extract_program, extract_rules, extract_set, extract_world, less_asked, ten_for_answer_one}
@@ -51,16 +51,8 @@ no_classes r k =
       | inr b ↦ ap (λ q. q.classes) (sym (in_alone answer_itself r b))
     ]
 
-no_fields : (o : Option Value) (v : Value) (cs : List Content) → where_constant o v ≡ Some cs → length cs ≡ 0
-no_fields None v cs e = absurd (none-some cs e)
-no_fields (Some u) v cs e =
-    elim (cases_Bool (value_eq u v)) [
-      | inl t ↦ ap length (same_Some cs [] (sym e ∙ cond-true (value_eq u v) (Some []) None t))
-      | inr f ↦ absurd (none-some cs (sym (cond-false (value_eq u v) (Some []) None f) ∙ e))
-    ]
-
 int_fields : (m : Meaning) (x : Content) (cs : List Content) → content_fields m (is_int (pos 1) 1) x ≡ Some cs → length cs ≡ 0
-int_fields m (one v) cs e = no_fields (literal_value m (int_literal (pos 1) 1)) v cs e
+int_fields m (one v) cs e = constant_count (literal_value m (int_literal (pos 1) 1)) v cs e
 int_fields m _ cs e = absurd (none-some cs e)
 
 field_count : (m : Meaning) (s : ℕ) (d : Constraint) (x : Content) (cs : List Content) → Asked s d → content_fields m d x ≡ Some cs → length cs ≡ length (fields_of extract_set.sites s d)
