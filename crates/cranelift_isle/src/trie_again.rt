@@ -22,7 +22,7 @@ pub use isle_rule_sets::trie_again::{
     Binding, BindingId, Constraint, OutOfRange, Overlap, Rule, RuleSet, TupleIndex,
 };
 use isle_rules::TermEnv;
-use isle_typed::{Rule, UsedTerms};
+use isle_typed::UsedTerms;
 use isle_types::TermId;
 pub use isle_types::VariantTerms;
 use laws_matching::built_sets_are_answered;
@@ -77,7 +77,7 @@ fn take_set(alloc: Global, sets: &mut BTreeMap<usize, TermSet>, term: usize) -> 
 fn add_rule<E: UsedTerms>(
     alloc: Global,
     sets: &mut BTreeMap<usize, TermSet>,
-    rule: &Rule,
+    rule: &isle_typed::Rule,
     termenv: &E,
     errors: &mut Vec<Error>,
 ) -> Result<(), AllocError>
