@@ -5,7 +5,7 @@ use crate::parts::Parts;
 use crate::parts_text::Writing;
 use crate::rule_parts::parts_of;
 use crate::witness::term_of;
-use isle_base::syntax::{Expr, Rule};
+use isle_base::syntax::{Expr, LetDef, Rule};
 use std::alloc::{AllocError, Global};
 
 // How many parts below one get their conditions.
@@ -132,13 +132,20 @@ impl<'p, 'a> Lines<'p, 'a> {
         for part in parts.arguments() {
             self.add_part(*part)?;
         }
+        self.add_calls()?;
+        self.add_variables()
+    }
+
+    // Adds the further conditions.
+    fn add_calls(&mut self) -> Result<(), AllocError> {
+        let parts = self.parts;
         for (number, call) in parts.calls().iter().enumerate() {
             if call.asked && !is_constant(call.form) {
                 self.add_call(number, call.part)?;
                 self.add_part(call.part)?;
             }
         }
-        self.add_variables()
+        Ok(())
     }
 
     // Adds the conditions of a part, and of the parts that it is made of.
@@ -161,16 +168,20 @@ impl<'p, 'a> Lines<'p, 'a> {
             return Ok(());
         }
         self.set_done(part);
-        for (number, _) in parts.heads(part).iter().enumerate() {
+        self.add_heads(part)?;
+        for head in parts.heads(part).iter().rev() {
+            push_reversed(&head.parts, waiting)?;
+        }
+        Ok(())
+    }
+
+    // Adds the forms of a part.
+    fn add_heads(&mut self, part: usize) -> Result<(), AllocError> {
+        for number in 0..self.parts.heads(part).len() {
             let mut line = String::from_str(self.alloc, self.writing.names.name(part))?;
             line.push_str(" is ")?;
             self.writing.push_taken(part, number, &mut line)?;
             self.lines.push(line)?;
-        }
-        for head in parts.heads(part).iter().rev() {
-            for part in head.parts.iter().rev() {
-                waiting.push(*part)?;
-            }
         }
         Ok(())
     }
@@ -247,10 +258,7 @@ fn push_expr(expr: &Expr, out: &mut String) -> Result<(), AllocError> {
         Expr::Term { sym, args, .. } => {
             out.push('(')?;
             out.push_str(&sym.0)?;
-            for arg in args {
-                out.push(' ')?;
-                push_expr(arg, out)?;
-            }
+            push_arguments(args, out)?;
             out.push(')')
         }
         Expr::Var { name, pos: _ } => out.push_str(&name.0),
@@ -262,18 +270,43 @@ fn push_expr(expr: &Expr, out: &mut String) -> Result<(), AllocError> {
         }
         Expr::Let { defs, body, .. } => {
             out.push_str("(let (")?;
-            for (i, def) in defs.iter().enumerate() {
-                out.push_str(if i == 0 { "(" } else { " (" })?;
-                out.push_str(&def.var.0)?;
-                out.push(' ')?;
-                out.push_str(&def.ty.0)?;
-                out.push(' ')?;
-                push_expr(&def.val, out)?;
-                out.push(')')?;
-            }
+            push_lets(defs, out)?;
             out.push_str(") ")?;
             push_expr(body, out)?;
             out.push(')')
         }
     }
+}
+
+// Adds the arguments of a call.
+#[cycle(exprs)]
+fn push_arguments(args: &[Expr], out: &mut String) -> Result<(), AllocError> {
+    for arg in args {
+        out.push(' ')?;
+        push_expr(arg, out)?;
+    }
+    Ok(())
+}
+
+// Adds the definitions of a let.
+#[cycle(exprs)]
+fn push_lets(defs: &[LetDef], out: &mut String) -> Result<(), AllocError> {
+    for (i, def) in defs.iter().enumerate() {
+        out.push_str(if i == 0 { "(" } else { " (" })?;
+        out.push_str(&def.var.0)?;
+        out.push(' ')?;
+        out.push_str(&def.ty.0)?;
+        out.push(' ')?;
+        push_expr(&def.val, out)?;
+        out.push(')')?;
+    }
+    Ok(())
+}
+
+// Adds numbers, the last one first.
+fn push_reversed(numbers: &[usize], out: &mut Vec<usize>) -> Result<(), AllocError> {
+    for number in numbers.iter().rev() {
+        out.push(*number)?;
+    }
+    Ok(())
 }

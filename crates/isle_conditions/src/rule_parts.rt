@@ -2,7 +2,7 @@
 
 use crate::forms::Form;
 use crate::parts::Parts;
-use isle_base::syntax::{Def, Expr, Extractor, Ident, IfLet, Pattern, Pos, Rule};
+use isle_base::syntax::{Def, Expr, Extractor, Ident, IfLet, LetDef, Pattern, Pos, Rule};
 use std::alloc::{AllocError, Global};
 
 // How many patterns are read below one, templates included. Rules within the limits on expansions have fewer.
@@ -135,11 +135,7 @@ impl<'a> Reader<'a> {
     fn add_expr(&mut self, expr: &'a Expr, scope: usize) -> Result<usize, AllocError> {
         match expr {
             Expr::Term { sym, args, .. } => {
-                let mut parts = Vec::new(self.alloc);
-                for arg in args {
-                    let part = self.add_expr(arg, scope)?;
-                    parts.push(part)?;
-                }
+                let parts = self.add_exprs(args, scope)?;
                 self.parts.call(Form::Term(&sym.0), parts)
             }
             Expr::Var { name, pos: _ } => self.var(&name.0, scope),
@@ -147,13 +143,31 @@ impl<'a> Reader<'a> {
             Expr::ConstInt { val, pos } => self.constant(Form::Int(*val), *pos),
             Expr::ConstPrim { val, pos } => self.constant(Form::Const(&val.0), *pos),
             Expr::Let { defs, body, .. } => {
-                for def in defs {
-                    let part = self.add_expr(&def.val, scope)?;
-                    self.parts.bind(&def.var.0, scope, part)?;
-                }
+                self.add_lets(defs, scope)?;
                 self.add_expr(body, scope)
             }
         }
+    }
+
+    // The parts that expressions give.
+    #[cycle(exprs)]
+    fn add_exprs(&mut self, exprs: &'a [Expr], scope: usize) -> Result<Vec<usize>, AllocError> {
+        let mut parts = Vec::new(self.alloc);
+        for expr in exprs {
+            let part = self.add_expr(expr, scope)?;
+            parts.push(part)?;
+        }
+        Ok(parts)
+    }
+
+    // Binds the variables of a let.
+    #[cycle(exprs)]
+    fn add_lets(&mut self, defs: &'a [LetDef], scope: usize) -> Result<(), AllocError> {
+        for def in defs {
+            let part = self.add_expr(&def.val, scope)?;
+            self.parts.bind(&def.var.0, scope, part)?;
+        }
+        Ok(())
     }
 
     // The part that a variable is bound to. An unbound one gets a new part.

@@ -70,14 +70,22 @@ fn conflict_of<'a>(defs: &[Def], parts: &Parts<'a>, number: usize) -> Option<Con
     let mut left = number;
     for part in 0..parts.count() {
         if parts.class_of(part) == part {
-            for (i, head) in parts.heads(part).iter().enumerate() {
-                if let Some(conflict) = conflict_with(defs, parts.heads(part), i, head) {
-                    if left == 0 {
-                        return Some(conflict);
-                    }
-                    left = left.saturating_sub(1);
-                }
+            if let Some(conflict) = conflict_at(defs, parts.heads(part), &mut left) {
+                return Some(conflict);
             }
+        }
+    }
+    None
+}
+
+// The conflict among forms of one value behind so many others, which are counted down.
+fn conflict_at<'a>(defs: &[Def], heads: &[Head<'a>], left: &mut usize) -> Option<Conflict<'a>> {
+    for (i, head) in heads.iter().enumerate() {
+        if let Some(conflict) = conflict_with(defs, heads, i, head) {
+            if *left == 0 {
+                return Some(conflict);
+            }
+            *left = left.saturating_sub(1);
         }
     }
     None
