@@ -51,16 +51,17 @@ int main(int count, char **words) {
     struct input input = read_file(words[1]);
     size_t length = input.file.name_length + input.file.text_length;
     struct isle_options options = {.task = ISLE_TREES, .format = ISLE_TEXT, .expand = 1};
+    struct isle_prefix no_prefix = {0};
 
     // The first call says how much room the text needs, if there is a text. The second call has this room.
     struct isle_sizes sizes;
     uint8_t *out = room_for(0);
-    uint32_t status = isle_capi_lower(input.bytes, length, &input.file, 1, &options, out, 0, &sizes);
+    uint32_t status = isle_capi_lower(input.bytes, length, &input.file, 1, &options, input.bytes, 0, &no_prefix, 0, out, 0, &sizes);
     if (status == ISLE_NO_ROOM) {
         free(out);
         size_t room = sizes.needed;
         out = room_for(room);
-        status = isle_capi_lower(input.bytes, length, &input.file, 1, &options, out, room, &sizes);
+        status = isle_capi_lower(input.bytes, length, &input.file, 1, &options, input.bytes, 0, &no_prefix, 0, out, room, &sizes);
     }
 
     // Trees go to standard output, and errors to standard error.

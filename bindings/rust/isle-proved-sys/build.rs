@@ -1,49 +1,87 @@
-//! Finds the two archives, and links them.
+//! Finds the compiler: the archives, which it links, or else the program `isle`.
 
 use std::env;
 use std::path::{Path, PathBuf};
+use std::process::Command;
+
+const WHAT_TO_DO: &str = "prove and build the compiler, by `rt lib` in crates/isle_capi or by `rt ci` at the top of joshuapool, \
+    or set ISLE_CAPI to the folder that has libisle_capi.a, or ISLE_PROGRAM to a program isle";
 
 fn main() {
-    println!("cargo::rerun-if-env-changed=ISLE_CAPI");
-    println!("cargo::rerun-if-env-changed=RATTLE_KIT");
-    println!("cargo::rerun-if-env-changed=PATH");
-    link(
-        "isle_capi",
-        &library_folders(),
-        "build it by `rt lib` in crates/isle_capi, or set ISLE_CAPI to the folder that has it",
-    );
-    link(
-        "libc_c",
-        &heap_folders(),
-        "it is in the folder c of the toolchain: set RATTLE_KIT to the toolchain's folder",
-    );
-}
-
-// The folders that may have the library: the one that ISLE_CAPI names, or else the one where `rt lib` builds it.
-fn library_folders() -> Vec<PathBuf> {
-    match env::var_os("ISLE_CAPI") {
-        Some(folder) => vec![folder.into()],
-        None => Path::new(env!("CARGO_MANIFEST_DIR"))
-            .ancestors()
-            .nth(3)
-            .map(|top| top.join("crates/isle_capi/out"))
-            .into_iter()
-            .collect(),
+    for name in ["ISLE_CAPI", "ISLE_PROGRAM", "RATTLE_KIT", "PATH"] {
+        println!("cargo::rerun-if-env-changed={name}");
+    }
+    println!("cargo::rustc-check-cfg=cfg(isle_program)");
+    if let Err(why) = find() {
+        println!("cargo::error={why}");
     }
 }
 
-// The folders that may have the archive for requests for memory: the one that ISLE_CAPI names, and the folder c of the
-// toolchain. RATTLE_KIT names the toolchain. If it isn't set, the toolchain is the one that has the command `rt`.
-fn heap_folders() -> Vec<PathBuf> {
-    let mut folders: Vec<PathBuf> = env::var_os("ISLE_CAPI")
-        .map(PathBuf::from)
-        .into_iter()
-        .collect();
-    folders.extend(toolchain().map(|kit| kit.join("c")));
-    folders
+// Links the archive, or says where the program is. What a variable names comes first, then the archive, then the program that
+// was proved and built here.
+fn find() -> Result<(), String> {
+    if let Some(program) = env::var_os("ISLE_PROGRAM") {
+        return take_program(Path::new(&program));
+    }
+    if let Some(folder) = env::var_os("ISLE_CAPI") {
+        return link(Path::new(&folder));
+    }
+    let top = Path::new(env!("CARGO_MANIFEST_DIR"))
+        .ancestors()
+        .nth(3)
+        .ok_or("isle-proved-sys is in no copy of joshuapool")?;
+    let folder = top.join("crates/isle_capi/out");
+    if folder.join("libisle_capi.a").is_file() {
+        return link(&folder);
+    }
+    let program =
+        proved_program(top).ok_or_else(|| format!("there is no compiler: {WHAT_TO_DO}"))?;
+    take_program(&program)
 }
 
-// The toolchain's folder.
+// The program that was proved and built of the sources as they are now.
+fn proved_program(top: &Path) -> Option<PathBuf> {
+    let found = Command::new(top.join("run-program"))
+        .args(["--where", "isle", "rt run -- lower fall.isle"])
+        .output()
+        .ok()?;
+    if !found.status.success() {
+        return None;
+    }
+    Some(String::from_utf8(found.stdout).ok()?.trim_end().into())
+}
+
+// Says where the program is, to this crate and to the build script of `isle-proved`.
+fn take_program(program: &Path) -> Result<(), String> {
+    if !program.is_file() {
+        return Err(format!(
+            "there is no program {}: {WHAT_TO_DO}",
+            program.display()
+        ));
+    }
+    let program = program
+        .canonicalize()
+        .map_err(|error| format!("{}: {error}", program.display()))?;
+    println!("cargo::rerun-if-changed={}", program.display());
+    println!("cargo::rustc-cfg=isle_program");
+    println!("cargo::rustc-env=ISLE_PROGRAM_FOUND={}", program.display());
+    println!("cargo::metadata=program={}", program.display());
+    Ok(())
+}
+
+// Links the archive in this folder, and the archive for requests for memory in this folder or the toolchain's.
+fn link(folder: &Path) -> Result<(), String> {
+    link_one("isle_capi", &[folder.to_path_buf()], WHAT_TO_DO)?;
+    let mut folders = vec![folder.to_path_buf()];
+    folders.extend(toolchain().map(|kit| kit.join("c")));
+    link_one(
+        "libc_c",
+        &folders,
+        "it is in the folder c of the toolchain: set RATTLE_KIT to the toolchain's folder",
+    )
+}
+
+// The toolchain's folder: RATTLE_KIT names it, or else it is the one that has the command `rt`.
 fn toolchain() -> Option<PathBuf> {
     if let Some(kit) = env::var_os("RATTLE_KIT") {
         return Some(kit.into());
@@ -62,23 +100,21 @@ fn toolchain() -> Option<PathBuf> {
     )
 }
 
-// Links the archive of this name, from the first of these folders that has it. If none has it, the build stops and says what to do.
-fn link(name: &str, folders: &[PathBuf], what_to_do: &str) {
+// Links the archive of this name, from the first of these folders that has it.
+fn link_one(name: &str, folders: &[PathBuf], what_to_do: &str) -> Result<(), String> {
     let file = format!("lib{name}.a");
     let Some(folder) = folders.iter().find(|folder| folder.join(&file).is_file()) else {
         let places: Vec<String> = folders
             .iter()
             .map(|folder| folder.display().to_string())
             .collect();
-        let place = if places.is_empty() {
-            "no folder to look in".into()
-        } else {
+        return Err(format!(
+            "there is no {file} in {}: {what_to_do}",
             places.join(" or ")
-        };
-        println!("cargo::error=there is no {file} ({place}): {what_to_do}");
-        return;
+        ));
     };
     println!("cargo::rerun-if-changed={}", folder.join(&file).display());
     println!("cargo::rustc-link-search=native={}", folder.display());
     println!("cargo::rustc-link-lib=static={name}");
+    Ok(())
 }

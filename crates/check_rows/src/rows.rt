@@ -1,5 +1,6 @@
 //! Rows: words that ask, and texts of files.
 
+use crate::code::push_code;
 use crate::command::push_command;
 use crate::texts::push_text;
 use cranelift_isle::syntax::Files;
@@ -21,7 +22,8 @@ impl<'a> Drop for Row<'a> {
 ///
 /// A row is a line that begins with `# `, behind it the row's name and its words, and the text of the file `a.isle` below it.
 /// A line that begins with `## ` and a name begins another file. What stands before the first row is passed over. The words
-/// are those of the command, or the first one is `tree` or `rules`: then only the first file is looked at.
+/// are those of the command, or the first one is `code`, `tree` or `rules`. For `tree` and `rules` only the first file is
+/// looked at.
 pub fn answers(alloc: Global, text: &str) -> Result<String, AllocError> {
     let mut out = String::new(alloc);
     let mut row = begun(alloc, "")?;
@@ -79,6 +81,7 @@ fn push_row(alloc: Global, row: &Row<'_>, out: &mut String) -> Result<(), AllocE
     push_line(out, row.line)?;
     let words = words_of(alloc, row.line)?;
     match first_of(&words) {
+        "code" => push_code(alloc, &words, &row.files, out),
         "tree" | "rules" => push_text(alloc, &words, first_of(&row.files.texts), out),
         _ => push_command(alloc, &words, &row.files, out),
     }

@@ -56,7 +56,12 @@ fn push_answer(
     text: &str,
     out: &mut String,
 ) -> Result<(), AllocError> {
-    match answer_by(alloc, words, text)? {
+    push_told(answer_by(alloc, words, text)?, out)
+}
+
+/// Adds an answer, below its status.
+pub fn push_told(answer: Answer, out: &mut String) -> Result<(), AllocError> {
+    match answer {
         Answer::Trees(text) => write!(out, "status 0\n{text}"),
         Answer::Errors(text) => write!(out, "status 1\n{text}"),
     }

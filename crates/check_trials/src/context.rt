@@ -2,14 +2,43 @@
 
 use crate::answers::WITHHELD;
 use crate::fitting::{can_be_extracted, can_be_given, is_of_numbers};
-use crate::rust_names::{push_name, push_part, push_tuple, push_type};
+use crate::rust_names::{is_composed, push_name, push_part, push_tuple, push_type};
 use cranelift_isle::lower::Lowered;
 use cranelift_isle::sema::{ExternalSig, ReturnKind, Term, TermFlags, TermKind, TypeEnv, TypeId};
 use isle_queries::names::term_name;
 use std::alloc::{AllocError, Global};
 
+// What a call with many answers gives them by: one after the other, each after a look at the context.
+const WALK: &str = r##"pub struct Walk<T> {
+    left: std::collections::VecDeque<T>,
+    looked_at: usize,
+}
+impl<T> Default for Walk<T> {
+    fn default() -> Self {
+        Walk { left: Default::default(), looked_at: 0 }
+    }
+}
+impl<T> given::rules::ContextIter for Walk<T> {
+    type Context = Echo;
+    type Output = T;
+    fn next(&mut self, ctx: &mut Echo) -> Option<T> {
+        self.looked_at += ctx.calls.len();
+        self.left.pop_front()
+    }
+}
+impl<T> given::rules::IntoContextIter for Walk<T> {
+    type Context = Echo;
+    type Output = T;
+    type IntoIter = Self;
+    fn into_context_iter(self) -> Self {
+        self
+    }
+}
+"##;
+
 /// Adds the functions that answer for what is external, each once.
 pub fn push_context(alloc: Global, out: &mut String, lowered: &Lowered) -> Result<(), AllocError> {
+    out.push_str(WALK)?;
     out.push_str("impl given::rules::Context for Echo {\n")?;
     let mut written = Vec::new(alloc);
     for term in &lowered.termenv.terms {
@@ -89,7 +118,7 @@ fn push_head(out: &mut String, tyenv: &TypeEnv, signature: &ExternalSig) -> Resu
     if signature.ret_kind == ReturnKind::Iterator {
         out.push_str("    type ")?;
         push_part(out, name)?;
-        out.push_str("_iterator = std::vec::IntoIter<")?;
+        out.push_str("_returns = Walk<")?;
         push_tuple(out, tyenv, &signature.ret_tys)?;
         out.push_str(">;\n")?;
     }
@@ -98,30 +127,33 @@ fn push_head(out: &mut String, tyenv: &TypeEnv, signature: &ExternalSig) -> Resu
     out.push_str("(&mut self")?;
     for (place, ty) in signature.param_tys.iter().enumerate() {
         write!(out, ", arg{place}: ")?;
+        out.push_str(if is_composed(tyenv, *ty) { "&" } else { "" })?;
         push_type(out, tyenv, *ty)?;
     }
-    out.push_str(") -> ")?;
     push_result(out, tyenv, signature)?;
     out.push_str(" {\n")
 }
 
-// Adds the type of what a function gives.
+// Adds the rest of a signature: the type of what a function gives, or of what it puts its answers into.
 fn push_result(
     out: &mut String,
     tyenv: &TypeEnv,
     signature: &ExternalSig,
 ) -> Result<(), AllocError> {
     match signature.ret_kind {
-        ReturnKind::Plain => push_tuple(out, tyenv, &signature.ret_tys),
+        ReturnKind::Plain => {
+            out.push_str(") -> ")?;
+            push_tuple(out, tyenv, &signature.ret_tys)
+        }
         ReturnKind::Option => {
-            out.push_str("Option<")?;
+            out.push_str(") -> Option<")?;
             push_tuple(out, tyenv, &signature.ret_tys)?;
             out.push('>')
         }
         ReturnKind::Iterator => {
-            out.push_str("Self::")?;
+            out.push_str(", returns: &mut Self::")?;
             push_part(out, signature.func_name.as_str())?;
-            out.push_str("_iterator")
+            out.push_str("_returns)")
         }
     }
 }
@@ -136,13 +168,13 @@ fn push_withheld(
 ) -> Result<(), AllocError> {
     let nothing = match kind {
         ReturnKind::Plain => return Ok(()),
-        ReturnKind::Option => "None",
-        ReturnKind::Iterator => "Vec::new().into_iter()",
+        ReturnKind::Option => " None",
+        ReturnKind::Iterator => "",
     };
     if is_of_numbers(lowered, ty) {
         write!(
             out,
-            "        if {value} == {WITHHELD} {{ return {nothing}; }}\n"
+            "        if {value} == {WITHHELD} {{ return{nothing}; }}\n"
         )
     } else {
         Ok(())
@@ -192,11 +224,11 @@ fn push_answer(out: &mut String, signature: &ExternalSig, value: &str) -> Result
             out.push(')')?;
         }
         ReturnKind::Iterator => {
-            out.push_str("vec![")?;
+            out.push_str("returns.left = [")?;
             push_outputs(out, signature, value)?;
             out.push_str(", ")?;
             push_outputs(out, signature, value)?;
-            out.push_str("].into_iter()")?;
+            out.push_str("].into();")?;
         }
     }
     out.push('\n')

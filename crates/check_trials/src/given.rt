@@ -8,9 +8,18 @@ use isle_calls::echo::constant_number;
 use isle_typed::checks::literal_number;
 use std::alloc::{AllocError, Global};
 
-/// Adds the items that generated code takes from outside.
-pub fn push_given(alloc: Global, out: &mut String, lowered: &Lowered) -> Result<(), AllocError> {
-    out.push_str("    use super::given;\n")?;
+/// Adds the items that generated code takes from outside, with how many results a call gives at most.
+pub fn push_given(
+    alloc: Global,
+    out: &mut String,
+    lowered: &Lowered,
+    bound: Option<usize>,
+) -> Result<(), AllocError> {
+    out.push_str("    use super::given;\n    pub const MAX_ISLE_RETURNS: usize = ")?;
+    match bound {
+        Some(bound) => write!(out, "{bound};\n")?,
+        None => out.push_str("usize::MAX;\n")?,
+    }
     for ty in &lowered.tyenv.types {
         push_type_item(alloc, out, &lowered.tyenv, ty)?;
     }

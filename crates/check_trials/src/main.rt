@@ -5,6 +5,7 @@
 #![tactic(auto)]
 
 mod answers;
+mod bound;
 mod calls;
 mod context;
 mod fitting;

@@ -1,6 +1,7 @@
 //! What calls come to by the run of the terms' trees, beside what the source rules come to.
 
 use crate::answers::Answers;
+use crate::bound::bound_of;
 use crate::calls::{Called, calls_of};
 use crate::trial::Trial;
 use crate::value_texts::push_composed;
@@ -27,7 +28,7 @@ pub fn outcomes(
     let mut out = String::new(alloc);
     for trial in trials {
         if let Called::With(calls) = calls_of(alloc, trial, seed, count)? {
-            push_outcomes(alloc, &mut out, trial, &calls)?;
+            push_outcomes(alloc, &mut out, trial, &calls, bound_of(trial, seed))?;
         }
     }
     Ok(out)
@@ -39,12 +40,13 @@ fn push_outcomes(
     out: &mut String,
     trial: &Trial,
     calls: &[Vec<Value>],
+    bound: Option<usize>,
 ) -> Result<(), AllocError> {
     if let Some(entry) = trial.entry() {
         for args in calls {
             push_composed(out, &trial.lowered, trial.name(), args)?;
             out.push_str(": ")?;
-            push_outcome(alloc, out, trial, entry, args)?;
+            push_outcome(alloc, out, trial, entry, args, bound)?;
             out.push('\n')?;
         }
     }
@@ -58,6 +60,7 @@ fn push_outcome(
     trial: &Trial,
     entry: &LoweredTerm,
     args: &[Value],
+    bound: Option<usize>,
 ) -> Result<(), AllocError> {
     let answers = Answers {
         tyenv: &trial.lowered.tyenv,
@@ -65,6 +68,7 @@ fn push_outcome(
     };
     let multi = is_multi(&trial.lowered.termenv, trial.term);
     let outcome = run(alloc, &answers, &entry.rules, &entry.block, args, multi)?;
+    let outcome = cut(outcome, bound);
     let told = told(alloc, trial, outcome, multi)?;
     out.push_str(&told)?;
     if multi {
@@ -89,9 +93,17 @@ fn chosen(
     told(alloc, trial, outcome, false)
 }
 
+// An outcome with as many results as are wanted at most: the first ones.
+fn cut(mut outcome: Outcome, bound: Option<usize>) -> Outcome {
+    if let Some(bound) = bound {
+        outcome.trace.results.truncate(bound);
+    }
+    outcome
+}
+
 // An outcome in words, as Rust tells it.
 fn told(alloc: Global, trial: &Trial, outcome: Outcome, multi: bool) -> Result<String, AllocError> {
-    let told = as_in_rust(outcome, is_partial(trial), multi);
+    let told = as_in_rust(outcome, is_partial(trial));
     outcome_text(alloc, &trial.lowered, multi, &told)
 }
 
@@ -104,15 +116,9 @@ fn is_partial(trial: &Trial) -> bool {
 }
 
 // An outcome as Rust tells it, where one function answers alike for what differs here: a partial term that fails gives
-// nothing, as one of which no rule matches does, and a multi term that fails gives no results.
-fn as_in_rust(mut outcome: Outcome, partial: bool, multi: bool) -> Outcome {
-    if outcome.ending != Ending::Failed {
-        return outcome;
-    }
-    if multi {
-        outcome.trace.results.clear();
-    }
-    if partial || multi {
+// nothing, as one of which no rule matches does.
+fn as_in_rust(mut outcome: Outcome, partial: bool) -> Outcome {
+    if partial && outcome.ending == Ending::Failed {
         outcome.ending = Ending::RanThrough;
     }
     outcome

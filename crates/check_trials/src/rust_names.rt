@@ -43,6 +43,14 @@ pub fn push_type(out: &mut String, tyenv: &TypeEnv, ty: TypeId) -> Result<(), Al
     }
 }
 
+/// Whether a type is an enum or a struct, whose values are handed on by reference.
+pub fn is_composed(tyenv: &TypeEnv, ty: TypeId) -> bool {
+    matches!(
+        tyenv.types.get(ty.index()),
+        Some(Type::Enum { .. } | Type::Struct { .. })
+    )
+}
+
 // Adds a name from outside, or from the generated code.
 fn push_from(
     out: &mut String,

@@ -1,9 +1,10 @@
 //! A program in Rust that calls generated code, and tells what the calls come to.
 
+use crate::bound::bound_of;
 use crate::calls::{Called, calls_of};
 use crate::context::push_context;
 use crate::given::push_given;
-use crate::rust_names::{push_part, push_types, push_values};
+use crate::rust_names::{is_composed, push_part, push_types, push_values};
 use crate::trial::Trial;
 use crate::value_texts::push_showing;
 use cranelift_isle::sema::Term;
@@ -56,18 +57,15 @@ fn said(panic: Box<dyn std::any::Any + Send>) -> String {
     }
 }
 
-/// Makes a call, and tells its outcome. A plain term panics where no rule matches, or a call
-/// fails.
+/// Makes a call, and tells its outcome. A plain term panics where no rule matches.
 fn tell(call: String, plain: bool, run: &mut dyn FnMut(&mut Echo) -> String) {
     let mut echo = Echo { calls: Vec::new() };
     let mut line = match catch_unwind(AssertUnwindSafe(|| run(&mut echo))) {
         Ok(text) => text,
         Err(panic) => {
             let text = said(panic);
-            if plain && text.starts_with("no rule of") {
+            if plain && text.contains("no rule matched for term") {
                 String::from("none")
-            } else if plain && text.starts_with("a call in") {
-                String::from("failed")
             } else {
                 format!("panic: {text}")
             }
@@ -102,7 +100,7 @@ pub fn source(
         match calls_of(alloc, trial, seed, count)? {
             Called::With(calls) => {
                 write!(out, "\nmod trial{place} {{\n")?;
-                push_trial(alloc, &mut out, trial, files, &calls)?;
+                push_trial(alloc, &mut out, trial, files, &calls, bound_of(trial, seed))?;
                 out.push_str("}\n")?;
                 write!(runs, "    trial{place}::run();\n")?;
             }
@@ -123,9 +121,10 @@ fn push_trial(
     trial: &Trial,
     files: &Files,
     calls: &[Vec<Value>],
+    bound: Option<usize>,
 ) -> Result<(), CodeError> {
     out.push_str("use super::{Echo, all, composed, tell};\npub mod given {\n")?;
-    push_given(alloc, out, &trial.lowered)?;
+    push_given(alloc, out, &trial.lowered, bound)?;
     out.push_str("    pub mod rules {\n")?;
     out.push_str(&rust_code(alloc, &trial.lowered, files)?)?;
     out.push_str("    }\n}\n")?;
@@ -170,11 +169,8 @@ fn push_told(out: &mut String, trial: &Trial, term: &Term) -> Result<(), AllocEr
     for (place, ty) in term.arg_tys.iter().enumerate() {
         write!(out, "show{}(&arg{place}), ", ty.index())?;
     }
-    write!(
-        out,
-        "]);\n        tell(call, {plain}, &mut |echo| {{\n            let result = "
-    )?;
-    push_call(out, trial, term)?;
+    write!(out, "]);\n        tell(call, {plain}, &mut |echo| {{\n")?;
+    push_call(out, trial, term, multi)?;
     let shown = term.ret_ty.index();
     if multi {
         write!(
@@ -195,13 +191,22 @@ fn push_told(out: &mut String, trial: &Trial, term: &Term) -> Result<(), AllocEr
     out.push_str("        });\n")
 }
 
-// Adds the call.
-fn push_call(out: &mut String, trial: &Trial, term: &Term) -> Result<(), AllocError> {
+// Adds the call, whose result is then `result`: a list of the results of a multi term.
+fn push_call(out: &mut String, trial: &Trial, term: &Term, multi: bool) -> Result<(), AllocError> {
+    out.push_str(if multi {
+        "            let mut result = Vec::new();\n            "
+    } else {
+        "            let result = "
+    })?;
     out.push_str("given::rules::constructor_")?;
     push_part(out, trial.name())?;
     out.push_str("(echo")?;
-    for place in 0..term.arg_tys.len() {
-        write!(out, ", arg{place}.clone()")?;
+    for (place, ty) in term.arg_tys.iter().enumerate() {
+        if is_composed(&trial.lowered.tyenv, *ty) {
+            write!(out, ", &arg{place}")?;
+        } else {
+            write!(out, ", arg{place}")?;
+        }
     }
-    out.push_str(");\n")
+    out.push_str(if multi { ", &mut result);\n" } else { ");\n" })
 }

@@ -1,4 +1,4 @@
-//! How values are told in Rust, as `isle_calls` tells them, and here.
+//! How values are told in Rust, as `isle_calls` tells them, and here; and when two are equal.
 
 use crate::rust_names::{labels, push_sym, push_type};
 use cranelift_isle::lower::Lowered;
@@ -16,8 +16,47 @@ pub fn push_showing(alloc: Global, out: &mut String, lowered: &Lowered) -> Resul
         out.push_str(") -> String {\n")?;
         push_body(alloc, out, lowered, TypeId(place), ty)?;
         out.push_str("}\n")?;
+        if is_without_equality(ty) {
+            push_equality(out, &lowered.tyenv, TypeId(place))?;
+        }
     }
     Ok(())
+}
+
+// Whether generated code declares a type, and doesn't say what equal values of it are.
+fn is_without_equality(ty: &Type) -> bool {
+    match ty {
+        Type::Builtin(_) | Type::Primitive(..) => false,
+        Type::Enum {
+            is_extern,
+            variants,
+            ..
+        } => !is_extern && variants.iter().any(|variant| has_fields(&variant.fields)),
+        Type::Struct {
+            is_extern,
+            fields,
+            ..
+        } => !is_extern && has_fields(fields),
+    }
+}
+
+// Whether there are fields.
+fn has_fields(fields: &Fields) -> bool {
+    match fields {
+        Fields::Unit => false,
+        Fields::Struct(_) | Fields::Tuple(_) => true,
+    }
+}
+
+// Adds that values of a type are equal where they are told alike.
+fn push_equality(out: &mut String, tyenv: &TypeEnv, id: TypeId) -> Result<(), AllocError> {
+    out.push_str("impl PartialEq for ")?;
+    push_type(out, tyenv, id)?;
+    let place = id.index();
+    write!(
+        out,
+        " {{\n    fn eq(&self, other: &Self) -> bool {{ show{place}(self) == show{place}(other) }}\n}}\n"
+    )
 }
 
 // Adds the body of such a function.

@@ -24,7 +24,7 @@ use Rattle.laws_closure.specs.RuleByRule.{AreBuiltSoFar, GoesPast, of_one_term, 
 use Rattle.laws_matching.specs.AnswerLaws.{BuiltSetsAreAnswered}
 use Rattle.laws_closure.proofs.building.SetsSoFar.{building_ends_lem, building_goes_on_lem, building_starts_lem, stands}
 use Rattle.laws_closure.proofs.overlaps.JudgedLists.{well_typed_rules_have_terms_lem}
-use Rattle.laws_closure.proofs.built.SitesOnce.{once_after}
+use Rattle.laws_closure.proofs.built.DistinctSites.{once_after}
 use Rattle.laws_typing.specs.WellTypedPrograms.{ElaboratedProgramsAreWellTyped}
 use Rattle.isle_base.specs.declared.syntax.Error.{Error}
 use Rattle.isle_types.specs.declared.ids.TermId.{TermId}

@@ -4,7 +4,7 @@ use Rattle.std.specs.Str.{IsUtf8, is_utf8}
 use Rattle.isle_capi.specs.declared.inputs.FileLengths.{FileLengths}
 use Rattle.isle_capi.specs.declared.output.Sizes.{Sizes}
 use Rattle.isle_capi.specs.declared.statuses.TheConstants.{DONE, ERRORS, WRONG_OPTION, NO_MEMORY}
-use Rattle.isle_capi.specs.declared.statuses.TheConstants.{WRONG_LENGTHS, NOT_UTF8, NO_ROOM, NO_CODE}
+use Rattle.isle_capi.specs.declared.statuses.TheConstants.{WRONG_LENGTHS, NOT_UTF8, NO_ROOM, NO_CODE, WRONG_PREFIX}
 
 -- how many bytes a file's name and text take
 abbrev pub length_of : FileLengths → ℕ
@@ -46,6 +46,14 @@ AreOther files bytes = are_texts files bytes ≡ false
 abbrev pub TellsOther : ℕ → Type 0
 TellsOther status = (status ≡ NOT_UTF8) ⊎ (status ≡ NO_MEMORY)
 
+-- the lengths of prefixes, which are handed in as files are, add up to their bytes, which are UTF-8
+abbrev pub ArePrefixes : List FileLengths → List ℕ → Type 0
+ArePrefixes prefixes bytes = AddUp prefixes bytes × (are_texts prefixes bytes ≡ true)
+
+-- what a call answers where they don't, or aren't
+abbrev pub TellsPrefixes : ℕ → Type 0
+TellsPrefixes status = (status ≡ WRONG_PREFIX) ⊎ (status ≡ NO_MEMORY)
+
 -- the statuses that come with a text
 abbrev pub HasText : ℕ → Type 0
 HasText status = (status ≡ DONE) ⊎ ((status ≡ ERRORS) ⊎ (status ≡ NO_CODE))
@@ -65,4 +73,5 @@ IsAnswered status = HasText status ⊎ ((status ≡ NO_MEMORY) ⊎ (status ≡ N
 
 -- and of every call
 abbrev pub IsStatus : ℕ → Type 0
-IsStatus status = IsAnswered status ⊎ ((status ≡ WRONG_OPTION) ⊎ ((status ≡ WRONG_LENGTHS) ⊎ (status ≡ NOT_UTF8)))
+IsStatus status =
+    IsAnswered status ⊎ ((status ≡ WRONG_OPTION) ⊎ ((status ≡ WRONG_LENGTHS) ⊎ ((status ≡ NOT_UTF8) ⊎ (status ≡ WRONG_PREFIX))))

@@ -21,7 +21,9 @@ abbrev pub go_together : Options → Bool
 go_together o = not (nat_eq o.task 2) || nat_eq o.expand 1
 
 abbrev pub are_options : Options → Bool
-are_options o = go_together o && (is_task o.task && (is_format o.format && is_truth o.expand))
+are_options o =
+    go_together o
+    && (is_task o.task && (is_format o.format && (is_truth o.expand && (is_truth o.exclude_global_allow_pragmas && is_truth o.emit_logging))))
 
 abbrev pub AreOptions : Options → Type 0
 AreOptions o = are_options o ≡ true
@@ -47,3 +49,5 @@ pub record IsAskedBy (options : Options) (asked : Asked) : Type 0 where
   pub task : options.task ≡ task_number asked.task
   pub format : options.format ≡ format_number asked.format
   pub expand : options.expand ≡ truth_number asked.expand
+  pub exclude_global_allow_pragmas : options.exclude_global_allow_pragmas ≡ truth_number asked.exclude_global_allow_pragmas
+  pub emit_logging : options.emit_logging ≡ truth_number asked.emit_logging

@@ -15,13 +15,27 @@ use isle_command::progress::Teller;
 use isle_command::reading::{Reading, reading_of};
 use isle_command::words::Request;
 use isle_command::{code, words};
+use isle_rust::code::{CodegenOptions, Prefix};
 use std::alloc::{AllocError, Global};
 use std::io::sink;
+
+// How Rust code is written.
+pub(crate) fn codegen_options(asked: Asked, prefixes: Vec<Prefix>) -> CodegenOptions
+    ensures attributes { result.exclude_global_allow_pragmas ≡ asked.exclude_global_allow_pragmas }
+    ensures logging { result.emit_logging ≡ asked.emit_logging }
+{
+    CodegenOptions {
+        exclude_global_allow_pragmas: asked.exclude_global_allow_pragmas,
+        prefixes,
+        emit_logging: asked.emit_logging,
+    }
+}
 
 // Writes what is asked of these files, or what is wrong with them, and answers the status of it.
 pub(crate) fn told(
     alloc: Global,
     asked: Asked,
+    options: &CodegenOptions,
     files: &Files,
     out: &mut [u8],
     sizes: &mut Sizes,
@@ -31,7 +45,7 @@ pub(crate) fn told(
     ensures told { IsToldOfTexts asked (map string_bytes files.now.texts.items) out.old out.new sizes.new result }
 {
     match read_silently(alloc, asked, files) {
-        Ok(reading) => told_of(alloc, asked, files, &reading, out, sizes),
+        Ok(reading) => told_of(alloc, asked, options, files, &reading, out, sizes),
         Err(AllocError) => refused(sizes),
     }
 }
@@ -40,6 +54,7 @@ pub(crate) fn told(
 fn told_of(
     alloc: Global,
     asked: Asked,
+    options: &CodegenOptions,
     files: &Files,
     reading: &Reading,
     out: &mut [u8],
@@ -50,7 +65,7 @@ fn told_of(
     ensures told { IsToldOf asked reading.now out.old out.new sizes.new result }
 {
     match asked.task {
-        Task::Code => coded(alloc, asked, files, reading, out, sizes),
+        Task::Code => coded(alloc, asked, options, files, reading, out, sizes),
         Task::Trees | Task::Check => said(alloc, asked, files, reading, out, sizes),
     }
 }
@@ -59,6 +74,7 @@ fn told_of(
 fn coded(
     alloc: Global,
     asked: Asked,
+    options: &CodegenOptions,
     files: &Files,
     reading: &Reading,
     out: &mut [u8],
@@ -68,7 +84,7 @@ fn coded(
     ensures left { LeavesBehind out.old out.new sizes.new result }
     ensures told { asked.task ≡ Code → IsToldOf asked reading.now out.old out.new sizes.new result }
 {
-    match code::code_of(alloc, asked.expand, files, reading) {
+    match code::code_of(alloc, asked.expand, files, reading, options) {
         Ok(Some(made)) => match made {
             code::Code::Text(text) => hand_over(DONE, &text, out, sizes),
             code::Code::Names(why) => hand_over(NO_CODE, &why, out, sizes),
@@ -146,6 +162,7 @@ fn request_of<'a>(alloc: Global, asked: Asked) -> Request<'a>
         terms: None,
         folder: "",
         rule: "",
+        code: CodegenOptions::included(alloc),
         progress: false,
         files: Vec::new(alloc),
         call: Vec::new(alloc),

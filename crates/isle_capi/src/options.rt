@@ -14,6 +14,10 @@ pub struct Options {
     pub format: u32,
     /// Whether uses of internal extractors are replaced by their templates: 1, as Rust code wants it, or 0.
     pub expand: u32,
+    /// Whether Rust code begins without attributes of its file: 1, as `include!` wants it, or 0.
+    pub exclude_global_allow_pragmas: u32,
+    /// Whether Rust code logs each result, by the crate `log`: 1 or 0.
+    pub emit_logging: u32,
 }
 
 /// What is to be done.
@@ -49,6 +53,10 @@ pub struct Asked {
     pub format: Format,
     /// Whether uses of internal extractors are replaced by their templates.
     pub expand: bool,
+    /// Whether Rust code begins without attributes of its file.
+    pub exclude_global_allow_pragmas: bool,
+    /// Whether Rust code logs each result.
+    pub emit_logging: bool,
 }
 
 /// What these options ask for, or None where a number means nothing or they don't go together.
@@ -62,10 +70,14 @@ pub fn asked_by(options: &Options) -> Option<Asked>
     let task = task_of(options.task)?;
     let format = format_of(options.format)?;
     let expand = truth_of(options.expand)?;
+    let exclude_global_allow_pragmas = truth_of(options.exclude_global_allow_pragmas)?;
+    let emit_logging = truth_of(options.emit_logging)?;
     Some(Asked {
         task,
         format,
         expand,
+        exclude_global_allow_pragmas,
+        emit_logging,
     })
 }
 

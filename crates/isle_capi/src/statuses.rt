@@ -23,3 +23,6 @@ pub const NO_ROOM: u32 = 7;
 
 /// The definitions are accepted, but have no Rust code, since two of their names would be one: what is written says which.
 pub const NO_CODE: u32 = 8;
+
+/// The lengths of prefixes don't add up to their bytes, or the bytes of one aren't UTF-8.
+pub const WRONG_PREFIX: u32 = 9;

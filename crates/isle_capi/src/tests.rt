@@ -29,6 +29,8 @@ fn trees() -> Options {
         task: 0,
         format: 0,
         expand: 1,
+        exclude_global_allow_pragmas: 1,
+        emit_logging: 0,
     }
 }
 
@@ -39,7 +41,16 @@ fn a_tree_is_written(rt: HostRuntime) -> Result<(), Fail> {
     let mut sizes = Sizes::none();
     let bytes = DECLARED.as_bytes();
     let files = [file(30)];
-    let status = isle_capi_lower(alloc, bytes, &files, &trees(), &mut out, &mut sizes);
+    let status = isle_capi_lower(
+        alloc,
+        bytes,
+        &files,
+        &trees(),
+        &[],
+        &[],
+        &mut out,
+        &mut sizes,
+    );
     assert_eq!(rt; status, DONE);
     assert_eq!(rt; sizes.written, 52);
     assert_eq!(rt; sizes.needed, 52);
@@ -55,7 +66,16 @@ fn a_buffer_without_room_stays(rt: HostRuntime) -> Result<(), Fail> {
     let mut sizes = Sizes::none();
     let bytes = DECLARED.as_bytes();
     let files = [file(30)];
-    let status = isle_capi_lower(alloc, bytes, &files, &trees(), &mut out, &mut sizes);
+    let status = isle_capi_lower(
+        alloc,
+        bytes,
+        &files,
+        &trees(),
+        &[],
+        &[],
+        &mut out,
+        &mut sizes,
+    );
     assert_eq!(rt; status, NO_ROOM);
     assert_eq!(rt; sizes.written, 0);
     assert_eq!(rt; sizes.needed, 52);
@@ -75,8 +95,19 @@ fn what_is_wrong_is_written(rt: HostRuntime) -> Result<(), Fail> {
         task: 0,
         format: 1,
         expand: 1,
+        exclude_global_allow_pragmas: 1,
+        emit_logging: 0,
     };
-    let status = isle_capi_lower(alloc, bytes, &files, &options, &mut out, &mut sizes);
+    let status = isle_capi_lower(
+        alloc,
+        bytes,
+        &files,
+        &options,
+        &[],
+        &[],
+        &mut out,
+        &mut sizes,
+    );
     assert_eq!(rt; status, ERRORS);
     assert_eq!(rt; sizes.written, sizes.needed);
     assert!(rt; out.starts_with(b"a.isle:1:1: error[type]: "));

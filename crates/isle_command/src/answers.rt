@@ -171,7 +171,7 @@ fn answer_to_lowered<E: Write>(
         Task::Lower => trees(alloc, asked, files, lowered, teller),
         Task::Rust => {
             teller.tell("printing", "all terms");
-            coded(alloc, files, lowered)
+            coded(alloc, asked, files, lowered)
         }
         Task::Check => {
             teller.tell("checking", "all rules");
@@ -186,10 +186,15 @@ fn answer_to_lowered<E: Write>(
 }
 
 // The Rust code of lowered definitions, or why there is none.
-fn coded(alloc: Global, files: &Files, lowered: &Lowered) -> Result<Answer, AllocError>
+fn coded(
+    alloc: Global,
+    asked: &Request<'_>,
+    files: &Files,
+    lowered: &Lowered,
+) -> Result<Answer, AllocError>
     ensures { IfOk result (λ a. (code : Code) × IsCode code × IsAnswerOfCode code a) }
 {
-    let code = code_of_lowered(alloc, files, lowered)?;
+    let code = code_of_lowered(alloc, files, lowered, &asked.code)?;
     Ok(answer_of_code(alloc, code))
 }
 

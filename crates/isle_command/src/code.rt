@@ -9,7 +9,7 @@ ghost use Rattle.isle_command.specs.Codes.{IsCode, IsCodedBy, IsCodeOf, IsNames}
 use crate::reading::Reading;
 use cranelift_isle::lower::{Lowered, lower};
 use cranelift_isle::syntax::{Def, Fault, Files};
-use isle_rust::code::{CodeError, rust_code};
+use isle_rust::code::{CodeError, CodegenOptions, rust_code_with};
 use std::alloc::{AllocError, Global};
 
 /// What comes of accepted definitions whose Rust code is wanted.
@@ -21,8 +21,8 @@ pub enum Code {
     Names(String),
 }
 
-/// The Rust code of what was read, or None where the texts or the definitions are wrong. Code has no form for internal
-/// extractors, so ask with `expand`.
+/// The Rust code of what was read, written as the options say, or None where the texts or the definitions are wrong. Code has
+/// no form for internal extractors, so ask with `expand`.
 ///
 /// # Errors
 ///
@@ -32,11 +32,12 @@ pub fn code_of(
     expand: bool,
     files: &Files,
     reading: &Reading,
+    options: &CodegenOptions,
 ) -> Result<Option<Code>, AllocError>
     ensures { IfOk result (IsCodeOf expand reading.now) }
 {
     match reading {
-        Reading::Defs(defs) => code_of_defs(alloc, expand, files, defs),
+        Reading::Defs(defs) => code_of_defs(alloc, expand, files, defs, options),
         Reading::Unread(_) => Ok(None),
     }
 }
@@ -47,25 +48,31 @@ fn code_of_defs(
     expand: bool,
     files: &Files,
     defs: &[Def],
+    options: &CodegenOptions,
 ) -> Result<Option<Code>, AllocError>
     ensures { IfOk result (IsCodedBy (AreAccepted (definition_views defs.now) expand)) }
 {
     match lower(alloc, defs, expand) {
-        Ok(lowered) => Ok(Some(code_of_lowered(alloc, files, &lowered)?)),
+        Ok(lowered) => Ok(Some(code_of_lowered(alloc, files, &lowered, options)?)),
         Err(Fault::Errors(_)) => Ok(None),
         Err(Fault::Memory(error)) => Err(error),
     }
 }
 
-/// The Rust code of lowered definitions.
+/// The Rust code of lowered definitions, written as the options say.
 ///
 /// # Errors
 ///
 /// Where memory is refused.
-pub fn code_of_lowered(alloc: Global, files: &Files, lowered: &Lowered) -> Result<Code, AllocError>
+pub fn code_of_lowered(
+    alloc: Global,
+    files: &Files,
+    lowered: &Lowered,
+    options: &CodegenOptions,
+) -> Result<Code, AllocError>
     ensures { IfOk result IsCode }
 {
-    code_by(alloc, rust_code(alloc, lowered, files))
+    code_by(alloc, rust_code_with(alloc, lowered, files, options))
 }
 
 // What comes of making code.

@@ -19,6 +19,9 @@ definitions. Tasks:
   samples [NAME]         lists the built-in samples, or prints the tree of one
 Options:
   --terms NAME,..        lower, compare: only these terms
+  --prefix FROM=TO       rust: shows TO in place of FROM where a file name begins with FROM. May be given many times.
+  --log                  rust: the code logs each result, by the crate log
+  --with-allows          rust: the code begins with attributes #![allow(..)], so it can be a file of its own
   --no-expand            does not expand internal extractors. The task rust always expands them.
   --deny                 check: warnings are errors
   --all                  shows all errors. Otherwise only the first 20 are shown.

@@ -2,6 +2,7 @@
 
 use isle_answers::samples::sample_text;
 use isle_printing::layout::Layout;
+use isle_rust::code::{CodegenOptions, Prefix};
 use std::alloc::{AllocError, AllocFailed, Global};
 
 /// What is to be done.
@@ -119,6 +120,8 @@ pub struct Request<'a> {
     /// The rules that are to be explained: the name of a rule or of a term, the number of a line in the rules, or the end of a
     /// file's path, a colon and such a number.
     pub rule: &'a str,
+    /// How Rust code is written.
+    pub code: CodegenOptions,
     /// Whether it is told what is being done.
     pub progress: bool,
     /// The files, where `-` is standard input, or the sample. The last one has printed trees where they are compared.
@@ -139,6 +142,7 @@ impl<'a> Drop for Request<'a> {
             terms: _,
             folder: _,
             rule: _,
+            code: _,
             progress: _,
             files: _,
             call: _,
@@ -200,6 +204,7 @@ enum Awaited {
     Folder,
     Format,
     Color,
+    Prefix,
     // An option or a file.
     Any,
     // A word of a call.
@@ -260,6 +265,7 @@ fn request_by<'a>(given: Given, words: &'a [String]) -> Result<Request<'a>, Unas
         terms: None,
         folder: "",
         rule: "",
+        code: CodegenOptions::included(given.alloc),
         progress: false,
         files: Vec::new(given.alloc),
         call: Vec::new(given.alloc),
@@ -284,6 +290,7 @@ impl<'a> Request<'a> {
             Awaited::Folder => Some("nothing after '-C'"),
             Awaited::Format => Some("nothing after '--format'"),
             Awaited::Color => Some("nothing after '--color'"),
+            Awaited::Prefix => Some("nothing after '--prefix'"),
             Awaited::Any | Awaited::Call => match self.wrong_files() {
                 Some(why) => Some(why),
                 None => self.missing_call(awaited),
@@ -355,6 +362,7 @@ impl<'a> Request<'a> {
             Awaited::Task => self.read_task(given.alloc, word),
             Awaited::Format => self.read_format(given.alloc, word),
             Awaited::Color => self.read_color(given, word),
+            Awaited::Prefix => self.read_prefix(given.alloc, word),
             Awaited::Any => self.read_any(given.alloc, word),
             Awaited::Rule => {
                 self.rule = word;
@@ -420,6 +428,17 @@ impl<'a> Request<'a> {
         Ok(Awaited::Any)
     }
 
+    // Reads what is shown in place of the beginning of a file's name: the beginning, `=`, and what is shown.
+    fn read_prefix(&mut self, alloc: Global, word: &str) -> Result<Awaited, Unasked> {
+        let Some((prefix, name)) = word.split_once('=') else {
+            return Err(wrong(format!(in alloc; "--prefix is FROM=TO, not '{word}'")));
+        };
+        let prefix = String::from_str(alloc, prefix)?;
+        let name = String::from_str(alloc, name)?;
+        self.code.prefixes.push(Prefix { prefix, name })?;
+        Ok(Awaited::Any)
+    }
+
     // Reads an option or a file.
     fn read_any(&mut self, alloc: Global, word: &'a str) -> Result<Awaited, Unasked> {
         match word {
@@ -433,6 +452,9 @@ impl<'a> Request<'a> {
                 self.progress = true;
                 Ok(Awaited::Any)
             }
+            "--with-allows" => self.read_with_allows(alloc),
+            "--log" => self.read_log(alloc),
+            "--prefix" => self.begin_prefix(alloc),
             "--" => self.begin_call(alloc),
             "--terms" => Ok(Awaited::Terms),
             "--format" => Ok(Awaited::Format),
@@ -449,6 +471,35 @@ impl<'a> Request<'a> {
         }
         self.expand = false;
         Ok(Awaited::Any)
+    }
+
+    // Code of a file of its own begins with attributes.
+    fn read_with_allows(&mut self, alloc: Global) -> Result<Awaited, Unasked> {
+        self.needs_code(alloc)?;
+        self.code.exclude_global_allow_pragmas = false;
+        Ok(Awaited::Any)
+    }
+
+    // Code may log each result.
+    fn read_log(&mut self, alloc: Global) -> Result<Awaited, Unasked> {
+        self.needs_code(alloc)?;
+        self.code.emit_logging = true;
+        Ok(Awaited::Any)
+    }
+
+    // Code names its files.
+    fn begin_prefix(&self, alloc: Global) -> Result<Awaited, Unasked> {
+        self.needs_code(alloc)?;
+        Ok(Awaited::Prefix)
+    }
+
+    // Only `rust` writes code.
+    fn needs_code(&self, alloc: Global) -> Result<(), Unasked> {
+        if self.task != Task::Rust {
+            let task = self.task.word();
+            return Err(wrong(format!(in alloc; "{task} writes no Rust code")));
+        }
+        Ok(())
     }
 
     // Only `check` has warnings.

@@ -13,7 +13,7 @@ use Rattle.model.specs.lists.TermTable.{ExternalTree, decl_of, decl_trees, extra
 use Rattle.model.proofs.Members.{nothing_in, in_head, in_tail, in_alone, in_map, from_map, from_flat_map}
 use Rattle.isle_base.specs.Positions.{OccurAmong, pattern_positions, name_positions, extractor_positions, definition_positions, positions_of}
 use Rattle.isle_base.proofs.Positioned.{among_same, among_both, among_left, among_right, among_rest, among_first, among_one, among_each, among_none, among_join}
-use Rattle.isle_terms.proofs.PlacesNoted.{template_among, pattern_in_extractor}
+use Rattle.isle_terms.proofs.NotedPositions.{template_among, pattern_in_extractor}
 use Rattle.isle_terms.specs.TermPositions.{taken_positions, entry_positions, terms_positions}
 use Rattle.isle_types.specs.TypePositions.{entry_positions as type_entry_positions, types_positions}
 

@@ -1,41 +1,46 @@
 //! The function of a term with rules: what its tree does.
 
-use crate::expressions::{Sites, push_variable};
+use crate::expressions::{Bind, Sites, push_variable};
+use crate::held::held_by;
 use crate::layout::{DEEPEST, push_indent, push_line};
-use crate::names::push_part;
+use crate::moves::Spot;
 use crate::patterns::push_break;
-use crate::program::{ALLOWED, Program};
 use cranelift_isle::lower::LoweredTerm;
-use cranelift_isle::sema::{ExternalSig, ReturnKind};
+use cranelift_isle::sema::{ExternalSig, ReturnKind, Term};
 use cranelift_isle::serialize::{Block, ControlFlow, EvalStep, MatchArm};
 use cranelift_isle::syntax::Pos;
 use cranelift_isle::trie_again::{Binding, BindingId};
 use isle_queries::in_place::is_in_place;
+use isle_rust_items::names::{push_part, push_quoted};
+use isle_rust_items::program::{ALLOWED, Program};
 use std::alloc::AllocError;
 
 /// Adds the function of a term.
 pub(crate) fn push_function(
     out: &mut String,
     program: Program<'_>,
-    term: &LoweredTerm,
+    lowered: &LoweredTerm,
 ) -> Result<(), AllocError> {
-    let Some(of) = program.terms.get(term.id.index()) else {
+    let Some(term) = program.terms.get(lowered.id.index()) else {
         return Ok(());
     };
-    let Some(sig) = of.constructor_sig(program.alloc, program.tyenv)? else {
+    let Some(sig) = term.constructor_sig(program.alloc, program.tyenv)? else {
         return Ok(());
     };
-    let name = program.tyenv.text_of(of.name);
-    push_head(out, program, name, &sig)?;
+    push_head(out, program, program.tyenv.text_of(term.name), &sig)?;
+    let bindings = &lowered.rules.bindings;
+    let held = held_by(program, term, bindings)?;
     let body = Body {
         sites: Sites {
             program,
-            bindings: &term.rules.bindings,
+            bindings,
+            block: &lowered.block,
+            held: &held,
         },
         gives: sig.ret_kind,
-        name,
+        term,
     };
-    body.push_whole(out, &term.block)
+    body.push_whole(out, &lowered.block)
 }
 
 // Adds a function's lines up to its body.
@@ -51,26 +56,26 @@ fn push_head(
     push_part(out, name)?;
     out.push_str("<C: Context>(ctx: &mut C")?;
     program.push_parameters(out, &sig.param_tys)?;
-    out.push_str(") -> ")?;
     push_result(out, program, sig)?;
     out.push_str(" {\n")
 }
 
-// Adds what a function gives.
+// Adds the rest of a signature: what a function gives, or puts its results into.
 fn push_result(
     out: &mut String,
     program: Program<'_>,
     sig: &ExternalSig,
 ) -> Result<(), AllocError> {
     out.push_str(match sig.ret_kind {
-        ReturnKind::Plain => "",
-        ReturnKind::Option => "Option<",
-        ReturnKind::Iterator => "Vec<",
+        ReturnKind::Plain => ") -> ",
+        ReturnKind::Option => ") -> Option<",
+        ReturnKind::Iterator => ", returns: &mut (impl Extend<",
     })?;
     program.push_outputs(out, &sig.ret_tys)?;
     out.push_str(match sig.ret_kind {
         ReturnKind::Plain => "",
-        ReturnKind::Option | ReturnKind::Iterator => ">",
+        ReturnKind::Option => ">",
+        ReturnKind::Iterator => "> + Length)) -> ()",
     })
 }
 
@@ -107,21 +112,18 @@ impl Place {
     }
 }
 
-// What the body of a function is made of: the term's sites, how many values it gives, and its name.
+// What the body of a function is made of: the term's sites, how many values it gives, and the term.
 #[derive(Clone, Copy)]
 struct Body<'a> {
     sites: Sites<'a>,
     gives: ReturnKind,
-    name: &'a str,
+    term: &'a Term,
 }
 
 impl<'a> Body<'a> {
     // Adds the whole body, and the function's end.
     fn push_whole(self, out: &mut String, block: &Block) -> Result<(), AllocError> {
-        if self.gives == ReturnKind::Iterator {
-            out.push_str("    let mut results = Vec::new();\n")?;
-        }
-        self.push_block(out, Place::nested(1), block)?;
+        self.push_block(out, Place::nested(1), &None, block)?;
         if !self.is_closed(block) {
             self.push_end(out)?;
         }
@@ -132,13 +134,23 @@ impl<'a> Body<'a> {
     fn push_end(self, out: &mut String) -> Result<(), AllocError> {
         match self.gives {
             ReturnKind::Plain => {
-                out.push_str("    panic!(\"no rule of `")?;
-                push_quoted(out, self.name)?;
-                out.push_str("` matches\")\n")
+                out.push_str(
+                    "    unreachable!(\"no rule matched for term {} at {}; should it be partial?\", ",
+                )?;
+                self.push_quoted_name(out)?;
+                out.push_str(", ")?;
+                let program = self.sites.program;
+                program.push_quoted_place(out, self.term.decl_pos)?;
+                out.push_str(")\n")
             }
             ReturnKind::Option => out.push_str("    None\n"),
-            ReturnKind::Iterator => out.push_str("    results\n"),
+            ReturnKind::Iterator => Ok(()),
         }
+    }
+
+    // Adds the term's name within quotes.
+    fn push_quoted_name(self, out: &mut String) -> Result<(), AllocError> {
+        push_quoted(out, self.sites.program.tyenv.text_of(self.term.name))
     }
 
     // Whether a block ends by a return wherever its last step is reached.
@@ -148,12 +160,8 @@ impl<'a> Body<'a> {
 
     // Whether nothing follows a step in its block: it returns, or no run comes to it.
     fn is_end(self, step: &EvalStep) -> bool {
-        match &step.check {
-            ControlFlow::Return { .. } => self.gives != ReturnKind::Iterator,
-            ControlFlow::Match { .. } | ControlFlow::Equal { .. } | ControlFlow::Loop { .. } => {
-                self.is_never_reached(step)
-            }
-        }
+        let is_result = matches!(step.check, ControlFlow::Return { .. });
+        self.is_never_reached(step) || (is_result && self.gives != ReturnKind::Iterator)
     }
 
     // Whether no run comes to a step: it would bind what an arm or a loop alone can bind.
@@ -173,13 +181,27 @@ impl<'a> Body<'a> {
         )
     }
 
-    // Adds the steps of a block, up to one that nothing follows.
+    // Adds the steps of a block, up to one that nothing follows. `each` is what each turn brings, where the block is a loop's body.
     #[cycle(code)]
-    fn push_block(self, out: &mut String, at: Place, block: &Block) -> Result<(), AllocError> {
+    fn push_block(
+        self,
+        out: &mut String,
+        at: Place,
+        each: &Option<BindingId>,
+        block: &Block,
+    ) -> Result<(), AllocError> {
         let mut left = block.steps.len();
-        for step in &block.steps {
+        for (number, step) in block.steps.iter().enumerate() {
             left = left.saturating_sub(1);
-            self.push_step(out, at.of_step(left == 0), step)?;
+            let spot = Spot {
+                steps: &block.steps,
+                number,
+                each: *each,
+            };
+            self.push_begin(out, at.depth, &spot, step)?;
+            if !self.is_never_reached(step) {
+                self.push_check(out, at.of_step(left == 0), &step.check)?;
+            }
             if self.is_end(step) {
                 return Ok(());
             }
@@ -187,17 +209,25 @@ impl<'a> Body<'a> {
         Ok(())
     }
 
-    // Adds a step.
-    #[cycle(code)]
-    fn push_step(self, out: &mut String, at: Place, step: &EvalStep) -> Result<(), AllocError> {
+    // Adds a step but for its test: what it binds, and the result that it ends with.
+    fn push_begin(
+        self,
+        out: &mut String,
+        depth: usize,
+        spot: &Spot<'_>,
+        step: &EvalStep,
+    ) -> Result<(), AllocError> {
         if self.is_never_reached(step) {
-            return push_line(out, at.depth, "unreachable!();");
+            return push_line(out, depth, "unreachable!();");
         }
-        self.push_binds(out, at.depth, &step.bind_order)?;
-        self.push_check(out, at, &step.check)
+        self.push_binds(out, depth, spot, &step.bind_order)?;
+        if let ControlFlow::Return { pos, result } = &step.check {
+            return self.push_return(out, depth, spot, *pos, *result);
+        }
+        Ok(())
     }
 
-    // Adds a test with what follows it, or an end.
+    // Adds a test with what follows it.
     #[cycle(code)]
     fn push_check(
         self,
@@ -209,15 +239,15 @@ impl<'a> Body<'a> {
             ControlFlow::Match { source, arms } => self.push_arms(out, at, *source, arms),
             ControlFlow::Equal { a, b, body } => {
                 let inside = self.open_equal(out, at, *a, *b, body)?;
-                self.push_block(out, inside, body)?;
+                self.push_block(out, inside, &None, body)?;
                 close(out, at, inside)
             }
             ControlFlow::Loop { result, body } => {
                 let inside = self.open_loop(out, at, *result, body)?;
-                self.push_block(out, inside, body)?;
+                self.push_block(out, inside, &Some(*result), body)?;
                 close(out, at, inside)
             }
-            ControlFlow::Return { pos, result } => self.push_return(out, at.depth, *pos, *result),
+            ControlFlow::Return { .. } => Ok(()),
         }
     }
 
@@ -249,7 +279,7 @@ impl<'a> Body<'a> {
         arm: &MatchArm,
     ) -> Result<(), AllocError> {
         let inside = self.open_arm(out, at, source, is_alone, arm)?;
-        self.push_block(out, inside, &arm.body)?;
+        self.push_block(out, inside, &None, &arm.body)?;
         close(out, at, inside)
     }
 
@@ -321,7 +351,9 @@ impl<'a> Body<'a> {
         body: &Block,
     ) -> Result<Place, AllocError> {
         push_indent(out, at.depth)?;
-        self.sites.push_for(out, each)?;
+        self.sites.push_iterator(out, each)?;
+        push_indent(out, at.depth)?;
+        self.sites.push_while(out, each)?;
         open_body(out, at.depth, body)
     }
 
@@ -330,45 +362,82 @@ impl<'a> Body<'a> {
         self,
         out: &mut String,
         depth: usize,
+        spot: &Spot<'_>,
         pos: Pos,
         value: BindingId,
     ) -> Result<(), AllocError> {
         push_indent(out, depth)?;
-        out.push_str("// ")?;
+        out.push_str("// Rule at ")?;
         self.sites.program.lines.push(out, pos)?;
-        out.push('\n')?;
+        out.push_str(".\n")?;
+        if self.sites.program.is_logged {
+            self.push_log(out, depth, pos)?;
+        }
         push_indent(out, depth)?;
         if self.gives == ReturnKind::Iterator {
-            out.push_str("results.push(")?;
-            self.sites.push_value(out, value)?;
-            out.push_str(");\n")
-        } else {
-            out.push_str("return ")?;
-            self.sites.push_last_value(out, value)?;
-            out.push_str(";\n")
+            return self.push_extended(out, depth, spot, value);
         }
+        out.push_str("return ")?;
+        self.sites.push_last_value(out, value)?;
+        out.push_str(";\n")
     }
 
-    // Adds a line for each site of a bind order.
+    // Adds a line that tells the log which rule is taken.
+    fn push_log(self, out: &mut String, depth: usize, pos: Pos) -> Result<(), AllocError> {
+        push_indent(out, depth)?;
+        out.push_str("log::debug!(\"ISLE: {} by the rule at {}\", ")?;
+        self.push_quoted_name(out)?;
+        out.push_str(", ")?;
+        self.sites.program.push_quoted_place(out, pos)?;
+        out.push_str(");\n")
+    }
+
+    // Adds the rest of the lines that add a result, and end the function where there are as many as are wanted.
+    fn push_extended(
+        self,
+        out: &mut String,
+        depth: usize,
+        spot: &Spot<'_>,
+        value: BindingId,
+    ) -> Result<(), AllocError> {
+        let is_composed = self.sites.held(value).is_composed(self.sites.program);
+        let may_move = is_composed && self.sites.may_move_in_result(spot, value);
+        out.push_str("returns.extend(Some(")?;
+        self.sites.push_kept(out, value, may_move)?;
+        out.push_str("));\n")?;
+        push_line(
+            out,
+            depth,
+            "if returns.len() >= MAX_ISLE_RETURNS { return; }",
+        )
+    }
+
+    // Adds the lines of each site of a bind order.
     fn push_binds(
         self,
         out: &mut String,
         depth: usize,
+        spot: &Spot<'_>,
         sites: &[BindingId],
     ) -> Result<(), AllocError> {
-        for site in sites {
+        for (place, site) in sites.iter().enumerate() {
             if let Some(binding) = self.sites.bindings.get(site.index()) {
-                self.push_bind(out, depth, *site, binding)?;
+                let bind = Bind {
+                    spot: &*spot,
+                    place,
+                };
+                self.push_bind(out, depth, bind, *site, binding)?;
             }
         }
         Ok(())
     }
 
-    // Adds the line that binds a site, where it isn't written in place.
+    // Adds the lines that bind a site, where it isn't written in place.
     fn push_bind(
         self,
         out: &mut String,
         depth: usize,
+        bind: Bind<'_>,
         site: BindingId,
         binding: &Binding,
     ) -> Result<(), AllocError> {
@@ -376,28 +445,49 @@ impl<'a> Body<'a> {
             return Ok(());
         }
         push_indent(out, depth)?;
+        if self.sites.has_many(binding) {
+            return self.push_many(out, depth, site, binding);
+        }
         out.push_str("let ")?;
         let unwraps = matches!(binding, Binding::MatchSome { .. });
         push_bound_name(out, site, unwraps)?;
-        out.push_str(" = ")?;
-        self.sites.push_bound(out, binding)?;
+        let is_reference = self.sites.held(site).is_reference && !unwraps;
+        out.push_str(if is_reference { " = &" } else { " = " })?;
+        self.sites.push_bound(out, bind, binding)?;
         if unwraps {
             self.push_failure(out)?;
         }
         out.push_str(";\n")
     }
 
-    // Adds what follows where there is nothing in an answer: the term fails.
+    // Adds the rest of the lines of a call with many answers, which are put into what is there before.
+    fn push_many(
+        self,
+        out: &mut String,
+        depth: usize,
+        site: BindingId,
+        binding: &Binding,
+    ) -> Result<(), AllocError> {
+        out.push_str("let mut ")?;
+        push_variable(out, site)?;
+        out.push_str(" = ")?;
+        self.sites.push_empty(out, binding)?;
+        out.push_str(";\n")?;
+        push_indent(out, depth)?;
+        self.sites.push_call(out, binding)?;
+        out.push_str(", &mut ")?;
+        push_variable(out, site)?;
+        out.push_str(");\n")
+    }
+
+    // Adds what follows where there is nothing in an answer: a partial term gives nothing. No other asks such an answer of a
+    // right side.
     fn push_failure(self, out: &mut String) -> Result<(), AllocError> {
-        match self.gives {
-            ReturnKind::Plain => {
-                out.push_str(" else { panic!(\"a call in `")?;
-                push_quoted(out, self.name)?;
-                out.push_str("` fails\") }")
-            }
-            ReturnKind::Option => out.push_str(" else { return None }"),
-            ReturnKind::Iterator => out.push_str(" else { return Vec::new() }"),
-        }
+        out.push_str(match self.gives {
+            ReturnKind::Plain => " else { unreachable!() }",
+            ReturnKind::Option => " else { return None }",
+            ReturnKind::Iterator => " else { return }",
+        })
     }
 }
 
@@ -457,18 +547,4 @@ fn push_bound_name(out: &mut String, site: BindingId, unwraps: bool) -> Result<(
     }
     push_variable(out, site)?;
     out.push_str(if unwraps { ")" } else { "" })
-}
-
-// Adds a name within a text that is formatted.
-fn push_quoted(out: &mut String, name: &str) -> Result<(), AllocError> {
-    for c in name.chars() {
-        match c {
-            '"' => out.push_str("\\\"")?,
-            '\\' => out.push_str("\\\\")?,
-            '{' => out.push_str("{{")?,
-            '}' => out.push_str("}}")?,
-            _ => out.push(c)?,
-        }
-    }
-    Ok(())
 }

@@ -1,28 +1,46 @@
 //! What sites are written as.
 
-use crate::names::{push_name, push_part};
-use crate::program::Program;
+use crate::held::{Held, held_at, is_multi};
+use crate::looks::looks_of_block;
+use crate::moves::Spot;
 use cranelift_isle::sema::{
-    BuiltinType, ConstructorKind, ExtractorKind, Fields, IntType, StructField, Sym, TermId,
+    BuiltinType, ConstructorKind, ExtractorKind, Fields, IntType, StructField, Sym, Term, TermId,
     TermKind, Type, TypeId, VariantId,
 };
+use cranelift_isle::serialize::Block;
 use cranelift_isle::trie_again::{Binding, BindingId, TupleIndex};
 use isle_queries::names::variant_of;
+use isle_rust_items::names::{push_constant, push_name, push_part};
+use isle_rust_items::program::Program;
 use std::alloc::AllocError;
 
-/// The sites of a term's tree in a program.
+/// The sites of a term's tree in a program, the tree, and what the sites' variables hold.
 #[derive(Clone, Copy)]
 pub(crate) struct Sites<'a> {
     pub(crate) program: Program<'a>,
     pub(crate) bindings: &'a [Binding],
+    pub(crate) block: &'a Block,
+    pub(crate) held: &'a [Held<'a>],
+}
+
+/// A bind of a step: the step, and the bind's place in its order.
+#[derive(Clone, Copy)]
+pub(crate) struct Bind<'a> {
+    pub(crate) spot: &'a Spot<'a>,
+    pub(crate) place: usize,
 }
 
 impl<'a> Sites<'a> {
+    /// What the variable of a site holds.
+    pub(crate) fn held(self, site: BindingId) -> Held<'a> {
+        held_at(self.held, site)
+    }
+
     /// Adds a site as it is looked at: the variable that it is bound to, or what is written in place.
     pub(crate) fn push_place(self, out: &mut String, site: BindingId) -> Result<(), AllocError> {
         match self.bindings.get(site.index()) {
             Some(Binding::ConstInt { val, ty }) => self.push_int(out, *val, *ty),
-            Some(Binding::ConstPrim { val }) => self.push_sym(out, *val),
+            Some(Binding::ConstPrim { val }) => self.push_constant(out, *val),
             Some(Binding::Argument { index }) => push_argument(out, *index),
             Some(Binding::MatchTuple { source, field }) => push_tuple_part(out, *source, *field),
             Some(
@@ -39,54 +57,115 @@ impl<'a> Sites<'a> {
         }
     }
 
-    /// Adds a site as a value of its own.
-    pub(crate) fn push_value(self, out: &mut String, site: BindingId) -> Result<(), AllocError> {
-        self.push_place(out, site)?;
-        if self.is_written_out(site) {
-            return Ok(());
-        }
-        out.push_str(".clone()")
+    /// Adds a site as what may be looked at as a reference: one itself, or after `&` where it is a value.
+    pub(crate) fn push_borrowed(self, out: &mut String, site: BindingId) -> Result<(), AllocError> {
+        out.push_str(if self.held(site).is_reference {
+            ""
+        } else {
+            "&"
+        })?;
+        self.push_place(out, site)
     }
 
-    /// Adds a site as the value that a function ends with: its variable isn't used again.
+    /// Adds a site as what is compared with a value: after `*` where it is a reference.
+    pub(crate) fn push_compared(self, out: &mut String, site: BindingId) -> Result<(), AllocError> {
+        out.push_str(if self.held(site).is_reference {
+            "*"
+        } else {
+            ""
+        })?;
+        self.push_place(out, site)
+    }
+
+    /// Adds a site as a value that is kept. A composed one is cloned, unless it may be moved.
+    pub(crate) fn push_kept(
+        self,
+        out: &mut String,
+        site: BindingId,
+        may_move: bool,
+    ) -> Result<(), AllocError> {
+        self.push_place(out, site)?;
+        let is_cloned = self.held(site).is_composed(self.program)
+            && !may_move
+            && !self.is_written_out(site);
+        out.push_str(if is_cloned { ".clone()" } else { "" })
+    }
+
+    /// Adds a site as the value that a function ends with. Nothing is used later, so it is moved unless it is a reference.
     pub(crate) fn push_last_value(
         self,
         out: &mut String,
         site: BindingId,
     ) -> Result<(), AllocError> {
+        let may_move = !self.held(site).is_reference && !self.is_part_of_reference(site);
+        self.push_kept(out, site, may_move)
+    }
+
+    // Whether a site is a part of a tuple that is looked at by reference.
+    fn is_part_of_reference(self, site: BindingId) -> bool {
         match self.bindings.get(site.index()) {
-            Some(Binding::ConstPrim { .. }) => self.push_value(out, site),
-            _ => self.push_place(out, site),
+            Some(Binding::MatchTuple { source, .. }) => self.is_inside_a_reference(*source),
+            _ => false,
         }
     }
 
-    // Whether a site is a literal, or a variant or a struct without fields.
+    // Whether a site is what is within an answer that is looked into by reference.
+    fn is_inside_a_reference(self, site: BindingId) -> bool {
+        match self.bindings.get(site.index()) {
+            Some(Binding::MatchSome { source }) => self.is_looked_into_by_reference(*source),
+            _ => false,
+        }
+    }
+
+    // Whether the code looks by reference into an answer that may be nothing: into a tuple with composed parts, if it looks there
+    // more than once.
+    fn is_looked_into_by_reference(self, answer: BindingId) -> bool {
+        self.held(answer).has_composed_parts(self.program) && looks_of_block(self.block, answer) > 1
+    }
+
+    // Whether a site is a constant, or a variant or a struct without fields. Each use makes the value anew.
     fn is_written_out(self, site: BindingId) -> bool {
         match self.bindings.get(site.index()) {
-            Some(Binding::ConstInt { .. }) => true,
+            Some(Binding::ConstPrim { .. }) => true,
             Some(Binding::MakeVariant { fields, .. } | Binding::MakeStruct { fields, .. }) =>
                 fields.is_empty(),
             _ => false,
         }
     }
 
-    // Adds values, with commas between them, each after a comma too where `first` isn't true.
-    fn push_values(
-        self,
-        out: &mut String,
-        sites: &[BindingId],
-        first: bool,
-    ) -> Result<(), AllocError> {
-        for (i, site) in sites.iter().enumerate() {
-            out.push_str(if first && i == 0 { "" } else { ", " })?;
-            self.push_value(out, *site)?;
+    // Adds what is handed to a call, each after a comma: composed values by reference.
+    fn push_handed(self, out: &mut String, sites: &[BindingId]) -> Result<(), AllocError> {
+        for site in sites {
+            out.push_str(", ")?;
+            if self.held(*site).is_composed(self.program) {
+                self.push_borrowed(out, *site)?;
+            } else {
+                self.push_place(out, *site)?;
+            }
         }
         Ok(())
+    }
+
+    // Adds a value that a bind keeps.
+    fn push_taken(
+        self,
+        out: &mut String,
+        bind: Bind<'_>,
+        site: BindingId,
+    ) -> Result<(), AllocError> {
+        let may_move = self.held(site).is_composed(self.program)
+            && self.may_move_in_bind(bind.spot, bind.place, site);
+        self.push_kept(out, site, may_move)
     }
 
     // Adds a name.
     fn push_sym(self, out: &mut String, name: Sym) -> Result<(), AllocError> {
         push_name(out, self.program.tyenv.text_of(name))
+    }
+
+    /// Adds a constant.
+    pub(crate) fn push_constant(self, out: &mut String, name: Sym) -> Result<(), AllocError> {
+        push_constant(out, self.program.tyenv.text_of(name))
     }
 
     /// Adds an integer of a type: at a built-in type with the type's name behind it.
@@ -134,33 +213,36 @@ impl<'a> Sites<'a> {
     }
 
     /// Adds what a bind order binds a site to, or nothing where it binds no such site.
-    pub(crate) fn push_bound(self, out: &mut String, binding: &Binding) -> Result<(), AllocError> {
+    pub(crate) fn push_bound(
+        self,
+        out: &mut String,
+        bind: Bind<'_>,
+        binding: &Binding,
+    ) -> Result<(), AllocError> {
         match binding {
             Binding::ConstBool { val, .. } => out.push_str(if *val { "true" } else { "false" }),
-            Binding::Extractor { term, parameter } => self.push_extraction(out, *term, *parameter),
-            Binding::Constructor {
-                term,
-                parameters,
-                ..
-            } => self.push_call(out, *term, parameters),
+            Binding::Extractor { .. } | Binding::Constructor { .. } => {
+                self.push_call(out, binding)?;
+                out.push(')')
+            }
             Binding::MakeVariant {
                 ty,
                 variant,
                 fields,
             } => {
                 self.push_variant(out, *ty, *variant)?;
-                self.push_made(out, self.variant_fields(*ty, *variant), fields)
+                self.push_made(out, bind, self.variant_fields(*ty, *variant), fields)
             }
             Binding::MakeStruct { ty, fields } => {
                 self.program.push_type(out, *ty)?;
-                self.push_made(out, self.struct_fields(*ty), fields)
+                self.push_made(out, bind, self.struct_fields(*ty), fields)
             }
             Binding::MakeSome { inner } => {
                 out.push_str("Some(")?;
-                self.push_value(out, *inner)?;
+                self.push_taken(out, bind, *inner)?;
                 out.push(')')
             }
-            Binding::MatchSome { source } => self.push_value(out, *source),
+            Binding::MatchSome { source } => self.push_unwrapped(out, *source),
             Binding::ConstInt { .. }
             | Binding::ConstPrim { .. }
             | Binding::Argument { .. }
@@ -171,20 +253,28 @@ impl<'a> Sites<'a> {
         }
     }
 
+    /// Adds an answer that may be nothing, as it is looked into.
+    pub(crate) fn push_unwrapped(
+        self,
+        out: &mut String,
+        answer: BindingId,
+    ) -> Result<(), AllocError> {
+        let by_reference = self.is_looked_into_by_reference(answer);
+        out.push_str(if by_reference { "&" } else { "" })?;
+        self.push_place(out, answer)
+    }
+
     // Adds the values of the fields of what is made.
     fn push_made(
         self,
         out: &mut String,
+        bind: Bind<'_>,
         fields: Option<&Fields>,
         sites: &[BindingId],
     ) -> Result<(), AllocError> {
         match fields {
-            Some(Fields::Struct(named)) => self.push_named(out, &named.fields, sites),
-            Some(Fields::Tuple(_)) => {
-                out.push('(')?;
-                self.push_values(out, sites, true)?;
-                out.push(')')
-            }
+            Some(Fields::Struct(named)) => self.push_named(out, bind, &named.fields, sites),
+            Some(Fields::Tuple(_)) => self.push_unnamed(out, bind, sites),
             Some(Fields::Unit) | None => Ok(()),
         }
     }
@@ -193,6 +283,7 @@ impl<'a> Sites<'a> {
     fn push_named(
         self,
         out: &mut String,
+        bind: Bind<'_>,
         fields: &[StructField],
         sites: &[BindingId],
     ) -> Result<(), AllocError> {
@@ -201,66 +292,83 @@ impl<'a> Sites<'a> {
             out.push_str(if i == 0 { " " } else { ", " })?;
             self.push_sym(out, field.name)?;
             out.push_str(": ")?;
-            self.push_value(out, *site)?;
+            self.push_taken(out, bind, *site)?;
         }
         out.push_str(" }")
     }
 
-    // Adds a call of an extractor.
-    fn push_extraction(
+    // Adds the values of fields without names.
+    fn push_unnamed(
         self,
         out: &mut String,
-        term: TermId,
-        parameter: BindingId,
+        bind: Bind<'_>,
+        sites: &[BindingId],
     ) -> Result<(), AllocError> {
-        match self.extractor_name(term) {
-            Some(name) => self.push_method(out, name, &[parameter]),
+        out.push('(')?;
+        for (i, site) in sites.iter().enumerate() {
+            out.push_str(if i == 0 { "" } else { ", " })?;
+            self.push_taken(out, bind, *site)?;
+        }
+        out.push(')')
+    }
+
+    /// Adds a call up to the parenthesis that ends it, or nothing where a binding is no call.
+    pub(crate) fn push_call(self, out: &mut String, binding: &Binding) -> Result<(), AllocError> {
+        self.push_function(out, binding)?;
+        out.push_str("(ctx")?;
+        self.push_handed(out, binding.sources())
+    }
+
+    // Adds the function that a call is of.
+    fn push_function(self, out: &mut String, binding: &Binding) -> Result<(), AllocError> {
+        if let Some(name) = self.outside_name(binding) {
+            out.push_str("C::")?;
+            return self.push_sym(out, name);
+        }
+        out.push_str("constructor_")?;
+        match self.called(binding) {
+            Some(term) => push_part(out, self.program.tyenv.text_of(term.name)),
             None => Ok(()),
         }
     }
 
-    // Adds a call of a constructor.
-    fn push_call(
-        self,
-        out: &mut String,
-        term: TermId,
-        parameters: &[BindingId],
-    ) -> Result<(), AllocError> {
-        match self.constructor_name(term) {
-            Some(name) => self.push_method(out, name, parameters),
-            None => self.push_own_call(out, term, parameters),
+    /// Adds what the answers of a call with many are put into, before there is one.
+    pub(crate) fn push_empty(self, out: &mut String, binding: &Binding) -> Result<(), AllocError> {
+        match self.outside_name(binding) {
+            Some(name) => {
+                out.push_str("C::")?;
+                push_part(out, self.program.tyenv.text_of(name))?;
+                out.push_str("_returns::default()")
+            }
+            None => out.push_str("ContextIterWrapper::<ConstructorVec<_>, _>::default()"),
         }
     }
 
-    // Adds a call of a function from outside.
-    fn push_method(
-        self,
-        out: &mut String,
-        name: Sym,
-        parameters: &[BindingId],
-    ) -> Result<(), AllocError> {
-        out.push_str("ctx.")?;
-        self.push_sym(out, name)?;
-        out.push('(')?;
-        self.push_values(out, parameters, true)?;
-        out.push(')')
+    /// Whether a binding is a call with many answers.
+    pub(crate) fn has_many(self, binding: &Binding) -> bool {
+        match self.called(binding) {
+            Some(term) => is_multi(term),
+            None => false,
+        }
     }
 
-    // Adds a call of the function of a term with rules.
-    fn push_own_call(
-        self,
-        out: &mut String,
-        term: TermId,
-        parameters: &[BindingId],
-    ) -> Result<(), AllocError> {
-        out.push_str("constructor_")?;
-        match self.program.terms.get(term.index()) {
-            Some(term) => push_part(out, self.program.tyenv.text_of(term.name))?,
-            None => {}
+    // The term that a call is of.
+    fn called(self, binding: &Binding) -> Option<&'a Term> {
+        match binding {
+            Binding::Extractor { term, .. } | Binding::Constructor { term, .. } => {
+                self.program.terms.get(term.index())
+            }
+            _ => None,
         }
-        out.push_str("(ctx")?;
-        self.push_values(out, parameters, false)?;
-        out.push(')')
+    }
+
+    // The name of the function from outside that a call is of, where it is of one.
+    fn outside_name(self, binding: &Binding) -> Option<Sym> {
+        match binding {
+            Binding::Extractor { term, .. } => self.extractor_name(*term),
+            Binding::Constructor { term, .. } => self.constructor_name(*term),
+            _ => None,
+        }
     }
 
     // The function from outside that takes a term's values apart, where there is one.
@@ -317,14 +425,18 @@ fn push_tuple_part(
     write!(out, ".{place}")
 }
 
-// Adds an integer of a built-in type. Of `u128` a negative number stands for the one with the same bits.
+// Adds an integer of a built-in type, one without sign in hexadecimal digits. Of `u128` a negative number stands for the one
+// with the same bits.
 fn push_int_of(out: &mut String, val: i128, ty: IntType) -> Result<(), AllocError> {
-    if val < 0 && !ty.is_signed() {
+    if ty.is_signed() {
+        write!(out, "{val}")?;
+    } else if val < 0 {
         let below = val.unsigned_abs().saturating_sub(1);
         let number = u128::MAX.saturating_sub(below);
-        write!(out, "{number}")?;
+        write!(out, "{number:#x}")?;
     } else {
-        write!(out, "{val}")?;
+        write!(out, "{val:#x}")?;
     }
+    out.push('_')?;
     out.push_str(ty.name())
 }

@@ -3,12 +3,9 @@
 
 mod body;
 pub mod code;
-mod context;
 mod expressions;
+mod held;
 mod layout;
-mod lines;
-mod names;
+mod looks;
+mod moves;
 mod patterns;
-mod program;
-mod taken;
-mod types;

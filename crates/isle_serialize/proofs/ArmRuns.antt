@@ -19,7 +19,7 @@ use Rattle.laws_runs.proofs.runs.Order.{before_chain, before_itself}
 use Rattle.laws_trees.proofs.Constraints.{that_exact}
 use Rattle.laws_trees.proofs.ConstraintsTotal.{before_total}
 use Rattle.isle_serialize.specs.declared.arms.Asked.{Asked}
-use Rattle.isle_serialize.specs.Turns.{asked_at, asks, asks_some, asked_constraint, asks_that, asked_numbers, AreAsked, is_ahead, Ascend, AreTurns, AreInTurn, IsLeastAsked}
+use Rattle.isle_serialize.specs.ArmOrder.{asked_at, asks, asks_some, asked_constraint, asks_that, asked_numbers, AreAsked, is_ahead, Ascend, AreTurns, AreInTurn, IsLeastAsked}
 use Rattle.isle_serialize.proofs.Descents.{none_kept}
 use Rattle.isle_serialize.proofs.Growth.{all_kept}
 

@@ -22,7 +22,7 @@ use Rattle.isle_serialize.specs.declared.serialize.MatchArm.{MatchArm}
 use Rattle.isle_serialize.specs.AroundViews.{around_view}
 use Rattle.isle_serialize.specs.declared.arms.Asked.{Asked}
 use Rattle.isle_serialize.specs.Growing.{IsBestFrom, AreBestArms, IsStepOf}
-use Rattle.isle_serialize.specs.Turns.{constraint_asked, asked_at, asks, asks_some, asked_constraint, asked_numbers, AreTurns, AreInTurn, IsNextArm}
+use Rattle.isle_serialize.specs.ArmOrder.{constraint_asked, asked_at, asks, asks_some, asked_constraint, asked_numbers, AreTurns, AreInTurn, IsNextArm}
 use Rattle.isle_serialize.specs.TreeViews.{arm_view, arms_view}
 use Rattle.isle_serialize.proofs.Descents.{descend_kept}
 use Rattle.isle_serialize.proofs.Growth as Growth

@@ -6,4 +6,4 @@ pub mod Bars
 pub mod NeededTests
 pub mod Growing
 pub mod FieldTests
-pub mod Turns
+pub mod ArmOrder

@@ -9,8 +9,8 @@ ghost use Rattle.isle_rule_sets.specs.SiteViews.{constraint_view, set_view};
 ghost use Rattle.isle_serialize.specs.AroundViews.{around_view};
 ghost use Rattle.isle_serialize.specs.Growing.{AreEmittedBy};
 ghost use Rattle.isle_serialize.specs.PlaceViews.{set_in};
-ghost use Rattle.isle_serialize.specs.Turns as Turns;
-ghost use Rattle.isle_serialize.specs.Turns.{asked_numbers, asks_that, AreInTurn, AreTurns, IsNextArmOf};
+ghost use Rattle.isle_serialize.specs.ArmOrder as Turns;
+ghost use Rattle.isle_serialize.specs.ArmOrder.{asked_numbers, asks_that, AreInTurn, AreTurns, IsNextArmOf};
 
 use crate::around::Around;
 use crate::bodies::in_arm;

@@ -17,7 +17,7 @@ use Rattle.isle_terms.specs.declared.term.Term.{Term}
 use Rattle.isle_terms.specs.TermViews.{term_view, term_views}
 use Rattle.isle_terms.specs.Stages.{place_among}
 use Rattle.isle_terms.specs.Signing.{with_ids}
-use Rattle.isle_terms.specs.Standing.{is_declared_kind, change}
+use Rattle.isle_terms.specs.ReadTerms.{is_declared_kind, change}
 use Rattle.isle_terms.proofs.Rooting.{distinct_rest, distinct_first, one_before}
 
 -- a write of one term

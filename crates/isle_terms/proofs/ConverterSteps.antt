@@ -41,7 +41,7 @@ use Rattle.isle_types.proofs.ToldErrors.{noted_none, noted_more}
 use Rattle.isle_terms.specs.Converting.{type_by_id, converter_at, pair_of, converter_entry, template_after, ConvertersRead, Converts, IsWrongConverter, ReadsIfConverter}
 use Rattle.isle_terms.proofs.Declaring.{taken_next, around}
 use Rattle.isle_terms.proofs.ErrorSteps.{some_noted, step}
-use Rattle.isle_terms.proofs.Standing.{term_is}
+use Rattle.isle_terms.proofs.ReadTerms.{term_is}
 use Rattle.isle_terms.proofs.TemplateSteps.{one_name}
 use Rattle.isle_terms.proofs.TypesStaying.{left_interned, type_is}
 

@@ -27,14 +27,14 @@ use Rattle.isle_terms.specs.TermBreaches.{of_externs, FirstStandsAt, BreaksConst
 use Rattle.isle_terms.specs.TermTables.{same_types}
 use Rattle.isle_terms.specs.Reading.{IsWithin, Interns, MayIntern, term_of_name}
 use Rattle.isle_terms.specs.Signing.{ReadsTerms, declared_so_far}
-use Rattle.isle_terms.specs.Standing.{Stand, is_declared_kind}
+use Rattle.isle_terms.specs.ReadTerms.{Stand, is_declared_kind}
 use Rattle.isle_terms.specs.Converting.{type_by_id}
 use Rattle.isle_terms.specs.Externing.{lacks_constructor, lacks_extractor, made_by_this, taken_by_this, with_kind, ChangesKind, HasOtherKind}
 use Rattle.isle_terms.specs.ExternStages.{function_after, external_after, AreRightConstructors, AreRightExternals, ExternsRead, ReadsIfExtern}
 use Rattle.isle_terms.proofs.Declaring.{taken_next, around}
 use Rattle.isle_terms.proofs.FirstOfTerm.{known_other, known_new, not_known, was_known, none_stands}
 use Rattle.isle_terms.proofs.ErrorSteps.{step}
-use Rattle.isle_terms.proofs.Standing.{entry_found, nothing_found, stands_on, stands_named}
+use Rattle.isle_terms.proofs.ReadTerms.{entry_found, nothing_found, stands_on, stands_named}
 use Rattle.isle_terms.proofs.TypesStaying.{left_interned, left_more}
 
 -- a definition that says nothing of this kind adds nothing

@@ -36,7 +36,7 @@ use Rattle.isle_terms.specs.TermViews.{term_view}
 use Rattle.isle_terms.specs.Reading.{IsWithin}
 use Rattle.isle_terms.specs.Stages.{HasNoConverter, constructor_after, place_among}
 use Rattle.isle_terms.specs.Signing.{with_ids, declared_so_far, declared_alone, texts_at, AddsAllMade, Declaring, GrowsBy, NumbersAreMet, ReadsTerms, TakesNames}
-use Rattle.isle_terms.specs.Standing.{RootsRead}
+use Rattle.isle_terms.specs.ReadTerms.{RootsRead}
 use Rattle.isle_terms.specs.Converting.{type_by_id, ConvertersRead, template_after}
 use Rattle.isle_terms.specs.ExternStages.{external_after, function_after, ExternsRead}
 use Rattle.isle_terms.specs.Recursion.{ExtractorsRead}

@@ -8,7 +8,7 @@ mod ErrorSteps
 mod Declaring
 mod Making
 mod Changing
-mod Standing
+mod ReadTerms
 mod FirstOfTerm
 mod RootSteps
 mod ConverterSteps
@@ -21,5 +21,5 @@ mod TemplateParts
 mod Marks
 mod Recursion
 mod GroupSteps
-pub mod PlacesNoted
+pub mod NotedPositions
 mod Broken

@@ -33,7 +33,7 @@ use Rattle.isle_terms.specs.Recursion.{all_end, AreWithin, by_one, by_more, Come
 use Rattle.isle_base.proofs.NotedErrors.{both}
 use Rattle.isle_terms.proofs.Breaches.{begins_before, Breach}
 use Rattle.isle_terms.proofs.ErrorSteps.{step}
-use Rattle.isle_terms.proofs.Standing.{entry_found, no_place, term_is}
+use Rattle.isle_terms.proofs.ReadTerms.{entry_found, no_place, term_is}
 use Rattle.isle_terms.proofs.TemplateSteps.{one_name}
 use Rattle.isle_terms.proofs.TypesStaying.{left_interned}
 

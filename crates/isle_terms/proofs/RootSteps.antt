@@ -22,11 +22,11 @@ use Rattle.isle_terms.specs.Reading.{IsWithin, internal_entry, root_term_id, ter
 use Rattle.isle_terms.specs.TermBreaches.{of_definitions, FirstStandsAt, by_rule}
 use Rattle.isle_terms.specs.Stages.{constructor_after}
 use Rattle.isle_terms.specs.Signing.{ReadsTerms, declared_so_far}
-use Rattle.isle_terms.specs.Standing.{Stand, RootsRead, IsOfDeclared, IsOfMade, ReadsIfRule}
+use Rattle.isle_terms.specs.ReadTerms.{Stand, RootsRead, IsOfDeclared, IsOfMade, ReadsIfRule}
 use Rattle.isle_terms.proofs.Declaring.{taken_next, around}
 use Rattle.isle_terms.proofs.ErrorSteps.{step}
 use Rattle.isle_terms.proofs.Rooting.{same_constructor, new_constructor}
-use Rattle.isle_terms.proofs.Standing.{declared_found, made_found, nothing_found, stands_on}
+use Rattle.isle_terms.proofs.ReadTerms.{declared_found, made_found, nothing_found, stands_on}
 use Rattle.isle_terms.proofs.TypesStaying.{left_interned}
 
 module _ (e : TypesRead) (defs read rest : List Definition) (r : RuleTree) (whole : defs ≡ read ++ rule_definition r ∷ rest) (env : TypeEnv) (old : TermTable) (left : IsLeftByRefusal e (environment_view env)) (readable : AreReadable e) (s : RootsRead e defs read env old) where

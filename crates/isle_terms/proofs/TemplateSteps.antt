@@ -33,7 +33,7 @@ use Rattle.isle_terms.specs.Reading.{IsWithin, term_of_name}
 use Rattle.isle_terms.specs.TermBreaches.{of_definitions, FirstStandsAt, BreaksExtractor, extractor_of_none, second_extractor, extractor_of_multi, unknown_term, holds_macro_arg, argument_past, by_extractor}
 use Rattle.isle_terms.specs.Stages.{constructor_after, place_among}
 use Rattle.isle_terms.specs.Signing.{ReadsTerms, declared_so_far}
-use Rattle.isle_terms.specs.Standing.{Stand, is_declared_kind}
+use Rattle.isle_terms.specs.ReadTerms.{Stand, is_declared_kind}
 use Rattle.isle_terms.specs.Converting.{template_after}
 use Rattle.isle_terms.specs.Externing.{taken_by_this, with_kind}
 use Rattle.isle_terms.specs.Templating.{callees_of, may_have_template, AreArguments, AreRightExtractors, CallsAreOf, IsCall, IsExtractor, IsFoundTerm, IsWrongOfTerm, ReadsIfTemplate, TemplatesRead}
@@ -42,7 +42,7 @@ use Rattle.isle_terms.proofs.Declaring.{taken_next, around}
 use Rattle.isle_terms.proofs.FirstOfTerm.{known_other, known_new, not_known, was_known, none_stands}
 use Rattle.isle_terms.proofs.ErrorSteps.{step}
 use Rattle.isle_terms.proofs.Rooting.{one_before}
-use Rattle.isle_terms.proofs.Standing.{entry_found, nothing_found, stands_on, term_is}
+use Rattle.isle_terms.proofs.ReadTerms.{entry_found, nothing_found, stands_on, term_is}
 use Rattle.isle_terms.proofs.TemplateNames.{found_all, found_one, name_found}
 use Rattle.isle_terms.proofs.TypesStaying.{left_interned}
 

@@ -21,7 +21,7 @@ use Rattle.isle_terms.specs.declared.term_table.TermTable.{TermTable}
 use Rattle.isle_terms.specs.TermTables.{same_types}
 use Rattle.isle_terms.specs.Reading.{term_of_name}
 use Rattle.isle_terms.specs.Stages.{constructor_after}
-use Rattle.isle_terms.specs.Standing.{Stand}
+use Rattle.isle_terms.specs.ReadTerms.{Stand}
 
 -- a type by its id
 abbrev pub type_by_id : ℕ → TypeId

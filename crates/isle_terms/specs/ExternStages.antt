@@ -14,7 +14,7 @@ use Rattle.isle_types.specs.declared.type_env.TypeEnv.{TypeEnv}
 use Rattle.isle_types.specs.Envs.{names_of}
 use Rattle.isle_terms.specs.declared.term_table.TermTable.{TermTable}
 use Rattle.isle_terms.specs.Reading.{Interns}
-use Rattle.isle_terms.specs.Standing.{Stand}
+use Rattle.isle_terms.specs.ReadTerms.{Stand}
 use Rattle.isle_terms.specs.Converting.{converter_at}
 use Rattle.isle_terms.specs.Externing.{lacks_constructor, lacks_extractor, made_by_this, taken_by_this, ReadsKind}
 

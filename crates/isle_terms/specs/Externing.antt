@@ -8,7 +8,7 @@ use Rattle.isle_terms.specs.declared.term_table.TermTable.{TermTable}
 use Rattle.isle_terms.specs.TermViews.{term_views}
 use Rattle.isle_terms.specs.Reading.{term_of_name}
 use Rattle.isle_terms.specs.Signing.{NotesIfWrong}
-use Rattle.isle_terms.specs.Standing.{Changes}
+use Rattle.isle_terms.specs.ReadTerms.{Changes}
 
 -- whether a term is a declared one that nothing makes yet
 abbrev pub lacks_constructor : TermKindEntry → Bool

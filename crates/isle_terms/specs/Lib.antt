@@ -5,7 +5,7 @@ pub mod Reading
 pub mod Stages
 pub mod SignatureViews
 pub mod Signing
-pub mod Standing
+pub mod ReadTerms
 pub mod Converting
 pub mod Externing
 pub mod ExternStages

@@ -16,7 +16,7 @@ use Rattle.isle_terms.specs.TermBreaches.{FirstStandsAt}
 use Rattle.isle_terms.specs.TermPositions.{template_place}
 use Rattle.isle_terms.specs.TermViews.{term_views}
 use Rattle.isle_terms.specs.Stages.{HasNoConverter, constructor_after}
-use Rattle.isle_terms.specs.Standing.{Stand}
+use Rattle.isle_terms.specs.ReadTerms.{Stand}
 use Rattle.isle_terms.specs.Converting.{template_after}
 use Rattle.isle_terms.specs.Templating.{callees_of, AreRightExtractors}
 

@@ -15,7 +15,7 @@ use Rattle.isle_terms.specs.TermViews.{term_views}
 use Rattle.isle_terms.specs.Reading.{term_of_name}
 use Rattle.isle_terms.specs.Stages.{HasNoConverter, constructor_after}
 use Rattle.isle_terms.specs.Signing.{NotesIfWrong}
-use Rattle.isle_terms.specs.Standing.{Stand, Changes}
+use Rattle.isle_terms.specs.ReadTerms.{Stand, Changes}
 use Rattle.isle_terms.specs.Converting.{template_after}
 use Rattle.isle_terms.specs.Externing.{taken_by_this, with_kind}
 

@@ -16,4 +16,4 @@ mod MapSteps
 mod NameSteps
 mod CountSteps
 mod DefinedSteps
-mod PlacesNoted
+mod NotedPositions

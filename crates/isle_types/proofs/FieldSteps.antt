@@ -29,7 +29,7 @@ use Rattle.model.proofs.ByNumber.{by_text}
 use Rattle.model.proofs.FirstPlaces.{distinct_push, twice}
 use Rattle.model.proofs.Names.{number_stays, with_names_append}
 use Rattle.isle_types.proofs.NamesMet.{meet_more}
-use Rattle.isle_types.proofs.PlacesNoted.{noted_first}
+use Rattle.isle_types.proofs.NotedPositions.{noted_first}
 use Rattle.isle_types.proofs.EnvironmentSteps.{sees_name}
 use Rattle.isle_types.proofs.SeenNames.{none_seen, not_seen, seen_text, one_seen}
 

@@ -21,7 +21,7 @@ mod VariantRuns
 mod RightValues
 mod FillingTypes
 mod Reducing
-mod PlacesNoted
+mod NotedPositions
 pub mod TablePositions
 mod FirstBreaches
 pub mod ToldErrors

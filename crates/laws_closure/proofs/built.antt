@@ -6,7 +6,7 @@ pub mod ConstrainedOrEquated
 pub mod MultiCalls
 pub mod Priorities
 pub mod ServedSets
-pub mod SitesOnce
+pub mod DistinctSites
 pub mod Unfolding
 pub mod WellBuiltSets
 pub mod WholeDemands

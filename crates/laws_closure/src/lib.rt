@@ -154,7 +154,7 @@ pub fn plain_closing_ends()
 {}
 
 /// In a built set no site stands twice.
-#[tactic(auto, using(crate::proofs::built::SitesOnce::sites_stand_once_lem))]
+#[tactic(auto, using(crate::proofs::built::DistinctSites::sites_stand_once_lem))]
 pub fn sites_stand_once()
     ensures { SitesStandOnce }
 {}

@@ -11,7 +11,7 @@ use Rattle.model.specs.sites.RuleSets.{IsBuilt}
 use Rattle.model.specs.sites.Sites.{SiteSet}
 use Rattle.laws_matching.proofs.SetsAnswered.{built_sets_are_answered_lem}
 use Rattle.laws_matching.proofs.BuiltMatches.{built_sets_match_by_demands_lem}
-use Rattle.laws_matching.proofs.ToldApart.{built_rules_are_told_apart_lem}
+use Rattle.laws_matching.proofs.DisjointRules.{built_rules_are_told_apart_lem}
 use Rattle.laws_matching.proofs.outcomes.Outcomes.{taken_lem, taken_under_picks_lem}
 use Rattle.laws_matching.proofs.results.Held.{results_are_held_lem}
 use Rattle.laws_matching.proofs.taken.NumbersInRange.{built_sets_have_numbers_in_range_lem}
@@ -19,11 +19,11 @@ use Rattle.laws_typing.proofs.WellTypedRules.{elaborated_programs_are_well_typed
 use Rattle.laws_closure.proofs.built.ServedSets.{can_be_served_lem}
 use Rattle.laws_closure.proofs.built.WholeDemands.{built_demands_are_whole_lem}
 use Rattle.laws_examples.proofs.ReadLists.{left_over_read}
-use Rattle.laws_examples.proofs.LeftOver.{left_over_built}
+use Rattle.laws_examples.proofs.LeftoverSites.{left_over_built}
 use Rattle.laws_examples.proofs.SampleStages.{extract_stages}
 use Rattle.laws_examples.specs.Answered.{ExtractIsAnswered, LeftOverIsAnswered}
 use Rattle.laws_examples.specs.Extract.{extract_defs, extract_rules, extract_set}
-use Rattle.laws_examples.specs.LeftOver.{left_over_defs, left_over_rules, left_over_set}
+use Rattle.laws_examples.specs.LeftoverSites.{left_over_defs, left_over_rules, left_over_set}
 
 -- of a list with one term with rules
 answered : (defs : List Definition) (rules : TypedRules) (t : ℕ) (set : SiteSet) → IsElaborated (types_read defs) defs true rules → t ∷ [] ≡ terms_with_rules (own_program defs rules)

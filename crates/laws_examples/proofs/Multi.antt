@@ -34,7 +34,7 @@ use Rattle.laws_examples.proofs.SampleStages.{multi_stages}
 use Rattle.laws_examples.proofs.SetStages.{collected}
 use Rattle.laws_examples.specs.MeaningForms.{all_of, answers, each, given, v}
 use Rattle.laws_trees.proofs.binding.BindingJudge.{binding_judge_is_exact_lem}
-use Rattle.laws_examples.proofs.Used.{does_not_bind}
+use Rattle.laws_examples.proofs.UsedCalls.{does_not_bind}
 use Rattle.laws_examples.specs.Multi.{looped_with, LoopsMayBindAgain, MultiCollects, MultiIsCollected, MultiIsNot, MultiResultsAreHeld, MultiIsTaken, MultiSetCollects, MultiTakenGives, MultiTreeCollects, each_m, each_of_m, first_answer, multi_defs, multi_meaning, multi_program, multi_rules, multi_set, multi_tree, multi_world, nine, nine_for_one}
 
 -- 1. collected

@@ -5,13 +5,13 @@ use Rattle.model.specs.trees.Judge.{is_best_tree, returns_apart}
 use Rattle.laws_trees.proofs.WellBuilt.{set_passes}
 use Rattle.laws_trees.specs.BestLaws.{binds_as_marked}
 use Rattle.laws_examples.proofs.TreeStages.{has_no_priorities, judged_with, no_priorities, refused}
-use Rattle.laws_examples.specs.Between.{between_sample}
+use Rattle.laws_examples.specs.RulesBetween.{between_sample}
 use Rattle.laws_examples.specs.Dropped.{dropped_sample}
 use Rattle.laws_examples.specs.EmittedFirst.{emitted_first_sample}
 use Rattle.laws_examples.specs.Equal.{equal_sample}
 use Rattle.laws_examples.specs.Hiding.{hidden_sample}
 use Rattle.laws_examples.specs.Prio.{prio_sample}
-use Rattle.laws_examples.specs.Surplus.{surplus_sample}
+use Rattle.laws_examples.specs.UntestedRules.{surplus_sample}
 use Rattle.laws_examples.specs.Ties.{ties_sample}
 use Rattle.laws_examples.specs.Stages.{OneIsBest, TreeSample}
 

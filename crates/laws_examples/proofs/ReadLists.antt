@@ -3,7 +3,7 @@ use Rattle.std.proofs.Common.{refl}
 use Rattle.laws_examples.proofs.ListStages.{read_both}
 use Rattle.laws_examples.specs.ConstEq.{const_eq_defs, const_eq_rules}
 use Rattle.laws_examples.specs.Cycle.{one_step_defs, one_step_rules}
-use Rattle.laws_examples.specs.LeftOver.{left_over_defs, left_over_rules}
+use Rattle.laws_examples.specs.LeftoverSites.{left_over_defs, left_over_rules}
 use Rattle.laws_examples.specs.Overlap.{overlap_defs, overlap_rules}
 use Rattle.laws_examples.specs.Shadow.{shadow_defs, shadow_rules}
 use Rattle.laws_examples.specs.Stages.{IsReadBoth}

@@ -14,13 +14,13 @@ use Rattle.laws_closure.proofs.overlaps.Masks.{masks_are_reported_once_lem}
 use Rattle.laws_closure.proofs.overlaps.Overlaps.{overlaps_decides}
 use Rattle.laws_closure.proofs.built.MultiCalls.{multi_calls_are_gone_over_lem}
 use Rattle.laws_examples.proofs.ReadLists.{overlap_read, shadow_read}
-use Rattle.laws_examples.proofs.ToldApart.{shadow_is_told}
+use Rattle.laws_examples.proofs.ShadowedRules.{shadow_is_told}
 use Rattle.laws_examples.specs.Fall.{fall_any}
 use Rattle.laws_examples.specs.Multi.{each_m, multi_program}
 use Rattle.laws_examples.specs.Overlap.{built_alone, overlap_defs, overlap_one, overlap_program, overlap_rules}
 use Rattle.laws_examples.specs.ReportedOnce.{MultiGoesOverMultiCalls, OverlapIsListedOnce, ShadowIsReportedOnce}
 use Rattle.laws_examples.specs.Shadow.{shadow_defs, shadow_program, shadow_rules}
-use Rattle.laws_examples.specs.ToldApart.{mask, shadowed}
+use Rattle.laws_examples.specs.ShadowedRules.{mask, shadowed}
 use Rattle.laws_examples.specs.Written.{at}
 
 -- 1. the mask

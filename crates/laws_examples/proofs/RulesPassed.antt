@@ -13,7 +13,7 @@ use Rattle.laws_trees.proofs.JudgedSets.{only_sites, stand}
 use Rattle.laws_trees.proofs.WellBuilt.{passes_well_built}
 use Rattle.laws_examples.proofs.SetStages.{rule_stands}
 use Rattle.laws_examples.specs.Answered.{one_or_two_asked}
-use Rattle.laws_examples.specs.LeftOver.{any_rule, kept_rule, left_over_program, left_over_set, never_rule}
+use Rattle.laws_examples.specs.LeftoverSites.{any_rule, kept_rule, left_over_program, left_over_set, never_rule}
 use Rattle.laws_examples.specs.RulesPassed.{LeftOverGoesOn, ReportsAreNotDropped, WideRuleIsPassed, after_never, arguments_made, set_of_f}
 
 -- a term that isn't f has no set, whatever f's is

@@ -4,7 +4,7 @@ use Rattle.model.specs.claims.Layers.{BuildAnswers}
 use Rattle.model.specs.sites.Closure.{conflict}
 use Rattle.model.specs.sites.Overlap.{RuleReport, not_reached}
 use Rattle.laws_examples.specs.Extract.{extract_program, extract_set}
-use Rattle.laws_examples.specs.LeftOver.{left_over_program, left_over_set}
+use Rattle.laws_examples.specs.LeftoverSites.{left_over_program, left_over_set}
 use Rattle.laws_examples.specs.SetForms.{is_byte}
 use Rattle.laws_examples.specs.Written.{at}
 

@@ -9,7 +9,7 @@ use Rattle.model.specs.lists.TermTable.{converters}
 use Rattle.model.specs.lists.TypeTable.{builtin_from, builtin_names}
 use Rattle.laws_typing.specs.FurtherNames.{SpeaksOfNames}
 use Rattle.laws_examples.specs.Fall.{fall_defs, fall_rules}
-use Rattle.laws_examples.specs.HandedIn.{one_type}
+use Rattle.laws_examples.specs.OtherTypes.{one_type}
 use Rattle.laws_examples.specs.Stages.{own_setting}
 use Rattle.laws_examples.specs.TypedForms.{own, u8}
 use Rattle.laws_examples.specs.Written.{at, constructor_by, conversion, declared, primitive}

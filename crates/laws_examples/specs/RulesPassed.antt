@@ -10,7 +10,7 @@ use Rattle.model.specs.trees.Tests.{up_to}
 use Rattle.laws_closure.specs.RuleByRule.{AreBuiltSoFar, BuildsRule, GoesPast, nothing_built}
 use Rattle.laws_examples.specs.Answered.{one_or_two_asked}
 use Rattle.laws_examples.specs.FormedRules.{f_alone, wide_rule}
-use Rattle.laws_examples.specs.LeftOver.{any_rule, left_over_program, left_over_rules, left_over_set, never_rule}
+use Rattle.laws_examples.specs.LeftoverSites.{any_rule, left_over_program, left_over_rules, left_over_set, never_rule}
 use Rattle.laws_examples.specs.TypedForms.{no_flags}
 use Rattle.laws_examples.specs.Written.{at}
 

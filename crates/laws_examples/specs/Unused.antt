@@ -16,7 +16,7 @@ use Rattle.laws_examples.specs.MeaningForms.{given}
 use Rattle.laws_examples.specs.SetForms.{a_rule, returning}
 use Rattle.laws_examples.specs.Stages.{Sample, Ends}
 use Rattle.laws_examples.specs.TypedForms.{e_list, make_let_one, typed_iflet, u8}
-use Rattle.laws_examples.specs.Used.{ending_with, pp_answers, used_rule, used_rules, used_set, used_tree}
+use Rattle.laws_examples.specs.UsedCalls.{ending_with, pp_answers, used_rule, used_rules, used_set, used_tree}
 
 abbrev pub unused_defs : List Definition
 unused_defs = ending_with (codes "x")

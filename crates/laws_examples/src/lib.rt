@@ -9,7 +9,7 @@ ghost use Rattle.model.specs.rules.Meaning.{nothing, one};
 ghost use Rattle.model.specs.rules.Outcome.{ended, failed, no_rule};
 ghost use Rattle.model.specs.trees.Collects.{LeavesNoCallUnused};
 ghost use Rattle.laws_examples.specs.Answered.{ExtractIsAnswered, LeftOverIsAnswered};
-ghost use Rattle.laws_examples.specs.Between.{between_sample};
+ghost use Rattle.laws_examples.specs.RulesBetween.{between_sample};
 ghost use Rattle.laws_examples.specs.Chosen.{ExtractIsChosen, ExtractIsWithoutMulti};
 ghost use Rattle.laws_examples.specs.ConstEq.{ConstEqIsRespected, const_eq_sample};
 ghost use Rattle.laws_examples.specs.Dropped.{CallsAreBoundToo, dropped_sample};
@@ -23,18 +23,18 @@ ghost use Rattle.laws_examples.specs.FormedRules.{ArgumentsAreLimited, FormedRul
 ghost use Rattle.laws_examples.specs.ShownCounts.{VisitsCountWhatIsShown};
 ghost use Rattle.laws_examples.specs.VisitedRules.{LimitsAreMetInOrder, RunsAnswerOneSite, VisitsCount};
 ghost use Rattle.laws_examples.specs.FoundSites.{SitesAreFound};
-ghost use Rattle.laws_examples.specs.HandedIn.{IllFormed, NamesGoOn, OwnTypesDoNotCount, TypesHandedIn};
+ghost use Rattle.laws_examples.specs.OtherTypes.{IllFormed, NamesGoOn, OwnTypesDoNotCount, TypesHandedIn};
 ghost use Rattle.laws_examples.specs.Hiding.{BetterTestsAreNotHidden, hidden_sample};
 ghost use Rattle.laws_examples.specs.Impure.{ImpureIsCalled, impure_sample};
 ghost use Rattle.laws_examples.specs.ImpureTaken.{ImpureIsServed, ImpureIsTaken};
-ghost use Rattle.laws_examples.specs.LeftOver.{LeftOverCollects, LeftOverIsCollected, LeftOverIsServed, LeftOverLacksACall, left_over_defs, left_over_rules, left_over_set, left_over_tree};
+ghost use Rattle.laws_examples.specs.LeftoverSites.{LeftOverCollects, LeftOverIsCollected, LeftOverIsServed, LeftOverLacksACall, left_over_defs, left_over_rules, left_over_set, left_over_tree};
 ghost use Rattle.laws_examples.specs.LookUps.{ConvertersAreLookedUp, FallSpeaksOfNames, FlagIsKept, NearEnvironments};
 ghost use Rattle.laws_examples.specs.MeaningForms.{DoesNotServe, alone, answers, blank, ends_with, just_number, v};
 ghost use Rattle.laws_examples.specs.Multi.{LoopsMayBindAgain, MultiCollects, MultiGives, MultiIsCollected, MultiIsNot, MultiIsServed, MultiIsTaken, MultiResultsAreHeld, MultiSetCollects, MultiTakenGives, MultiTreeCollects, multi_mute, multi_program, multi_sample};
 ghost use Rattle.laws_examples.specs.MultiCalls.{DemandsGatesThough, Gives, LeavesACallUnused, OneCallIsServed, UnusedGateGives, call_in_call, calls_program, extracted_twice, impure_twice, pure_twice, unused_condition, unused_let, used_condition};
 ghost use Rattle.laws_examples.specs.NamedConstants.{ConstantsAreServed};
 ghost use Rattle.laws_examples.specs.NearRefusals.{NoOverlapOfAcceptedRules, OnlyPassedLimitsAreNamed, TermsAreRefused};
-ghost use Rattle.laws_examples.specs.OneOrTwo.{OneOrTwoHoldsOnce, OneOrTwoIsServed, one_or_two_sample};
+ghost use Rattle.laws_examples.specs.TwoLiterals.{OneOrTwoHoldsOnce, OneOrTwoIsServed, one_or_two_sample};
 ghost use Rattle.laws_examples.specs.Partial.{PartialEnds, PartialIsServed, g_of_one, partial_mute, partial_program};
 ghost use Rattle.laws_examples.specs.PickOrders.{OrderDoesNotMatter, OuterCallDoesNot, ResultIsOfPlaces, SecondCallComesFirst};
 ghost use Rattle.laws_examples.specs.PickedAnswers.{HoldUnderNoPick, HoldUnderOnePick};
@@ -44,24 +44,24 @@ ghost use Rattle.laws_examples.specs.ReportedOnce.{MultiGoesOverMultiCalls, Over
 ghost use Rattle.laws_examples.specs.RulesPassed.{LeftOverGoesOn, ReportsAreNotDropped, WideRuleIsPassed};
 ghost use Rattle.laws_examples.specs.Shared.{SharedGives, SharedIsStuck};
 ghost use Rattle.laws_examples.specs.Stages.{HasStages, IsBuiltOf, IsJudged, OneIsBest};
-ghost use Rattle.laws_examples.specs.Surplus.{surplus_sample};
+ghost use Rattle.laws_examples.specs.UntestedRules.{surplus_sample};
 ghost use Rattle.laws_examples.specs.Ties.{ties_sample};
-ghost use Rattle.laws_examples.specs.ToldApart.{MasksMatchToo, ShadowIsServed, ShadowIsTold};
+ghost use Rattle.laws_examples.specs.ShadowedRules.{MasksMatchToo, ShadowIsServed, ShadowIsTold};
 ghost use Rattle.laws_examples.specs.TotalMeanings.{EchoIsTotal, EchoIsTotalWithAConstant, EchoGives, EchoServes, MisfitIsNotTotal};
-ghost use Rattle.laws_examples.specs.Tried.{ConstEqHolds, ConstEqHoldsAlike, ConstEqIsTried, OneStepDoesNotMatch, OneStepIsTried, VariantEqHolds, VariantEqHoldsAlike, VariantEqIsTried};
+ghost use Rattle.laws_examples.specs.UnmatchedRules.{ConstEqHolds, ConstEqHoldsAlike, ConstEqIsTried, OneStepDoesNotMatch, OneStepIsTried, VariantEqHolds, VariantEqHoldsAlike, VariantEqIsTried};
 ghost use Rattle.laws_examples.specs.Unasked.{UnaskedIsNotDemanded, unasked_defs, unasked_rules, unasked_sample, unasked_set};
 ghost use Rattle.laws_examples.specs.Unreached.{UnreachedCallsAreNotAsked, UnreachedEnds, first_answers, one_im_of_one, unreached_program, unreached_sample};
 ghost use Rattle.laws_examples.specs.Unused.{UnusedEnds, unused_sample};
-ghost use Rattle.laws_examples.specs.Used.{NearTreesDoNotBind, UsedEnds, used_sample};
+ghost use Rattle.laws_examples.specs.UsedCalls.{NearTreesDoNotBind, UsedEnds, used_sample};
 ghost use Rattle.laws_examples.specs.VariantEq.{variant_eq_sample};
 ghost use Rattle.laws_examples.specs.VariantIds.{VariantsStandAtTheirIds};
 ghost use Rattle.laws_examples.specs.VisitableRules.{OthersAreNotVisitable, RulesAreVisitable};
 ghost use Rattle.laws_examples.specs.Ranges.{NumbersAreReduced};
-ghost use Rattle.laws_examples.specs.Wrapped.{NothingIsAskedAboveCalls, wrapped_defs, wrapped_rules};
+ghost use Rattle.laws_examples.specs.WrappedCalls.{NothingIsAskedAboveCalls, wrapped_defs, wrapped_rules};
 
 /// A list may name a type that is handed in, and its names go on after all that were met before; a type that a list
 /// defines isn't known to its terms unless it is handed in. Types that break one demand each are not well formed.
-#[tactic(auto, using(crate::proofs::HandedIn::types_handed_in_lem, crate::proofs::HandedIn::own_types_do_not_count_lem, crate::proofs::HandedIn::names_go_on_lem, crate::proofs::HandedIn::ill_formed_lem))]
+#[tactic(auto, using(crate::proofs::OtherTypes::types_handed_in_lem, crate::proofs::OtherTypes::own_types_do_not_count_lem, crate::proofs::OtherTypes::names_go_on_lem, crate::proofs::OtherTypes::ill_formed_lem))]
 pub fn handed_in()
     ensures types { TypesHandedIn }
     ensures own_types { OwnTypesDoNotCount }
@@ -239,7 +239,7 @@ pub fn hidden_sample()
 {}
 
 /// A partial call that an if-let's value takes is bound once, before it is used.
-#[tactic(auto, using(crate::proofs::Used::near_trees_do_not_bind))]
+#[tactic(auto, using(crate::proofs::UsedCalls::near_trees_do_not_bind))]
 pub fn used_sample()
     ensures near_trees { NearTreesDoNotBind }
 {}
@@ -287,7 +287,7 @@ pub fn impure_sample()
 {}
 
 /// An impure call whose answer nothing takes is a call of its rule all the same: it is bound before the rule returns.
-#[tactic(auto, using(crate::proofs::NearTrees::dropped_is_best, crate::proofs::Used::calls_are_bound_too))]
+#[tactic(auto, using(crate::proofs::NearTrees::dropped_is_best, crate::proofs::UsedCalls::calls_are_bound_too))]
 pub fn dropped_sample()
     ensures best { OneIsBest dropped_sample }
     ensures bound { CallsAreBoundToo }
@@ -302,7 +302,7 @@ pub fn named_constants()
 /// A set with an impure call that none of its rules uses, and a pure one above it. A meaning in which the first answers what
 /// is no number serves the rules, so its world, which lacks the second, serves the set, and the run of its tree collects
 /// the bag.
-#[tactic(auto, using(crate::proofs::LeftOver::left_over_built, crate::proofs::LeftOver::left_over_judged, crate::proofs::LeftOver::left_over_is_served, crate::proofs::LeftOver::left_over_is_collected, crate::proofs::LeftOver::left_over_lacks_a_call, crate::proofs::LeftOver::left_over_collects))]
+#[tactic(auto, using(crate::proofs::LeftoverSites::left_over_built, crate::proofs::LeftoverSites::left_over_judged, crate::proofs::LeftoverSites::left_over_is_served, crate::proofs::LeftoverSites::left_over_is_collected, crate::proofs::LeftoverSites::left_over_lacks_a_call, crate::proofs::LeftoverSites::left_over_collects))]
 pub fn left_over_sample()
     ensures built { IsBuiltOf left_over_defs left_over_rules 2 left_over_set }
     ensures tree { IsJudged left_over_set true left_over_tree }
@@ -381,10 +381,10 @@ pub fn visits_count_what_is_shown()
     ensures { VisitsCountWhatIsShown }
 {}
 
-ghost use Rattle.laws_examples.specs.Mended.{wrapped_set, AboveCallsNothingIsAsked, ReturnsOfMultiTermsGoOn, OverlapsMayHoldTwice, NamelessIsNotAnswered, LookUpsHaveNoList, LimitsAreNamedWherePassed, SecondIsReadAlone, EmptySetsAreBuilt, SignaturesOfW, SitesAreBrought, OverlapsAreTold, TermsOfSites, IdentifiersOfRules, EnvironmentsOfLists, VariantHasItsTerm};
+ghost use Rattle.laws_examples.specs.SmallestInputs.{wrapped_set, AboveCallsNothingIsAsked, ReturnsOfMultiTermsGoOn, OverlapsMayHoldTwice, NamelessIsNotAnswered, LookUpsHaveNoList, LimitsAreNamedWherePassed, SecondIsReadAlone, EmptySetsAreBuilt, SignaturesOfW, SitesAreBrought, OverlapsAreTold, TermsOfSites, IdentifiersOfRules, EnvironmentsOfLists, VariantHasItsTerm};
 
 /// A world that has what tests ask may have no content for a construction above an impure call that is never made.
-#[tactic(auto, using(crate::proofs::Mended::above_calls_nothing_is_asked_lem))]
+#[tactic(auto, using(crate::proofs::SmallestInputs::above_calls_nothing_is_asked_lem))]
 pub fn above_calls_nothing_is_asked()
     ensures { AboveCallsNothingIsAsked }
 {}
@@ -395,37 +395,37 @@ pub fn returns_of_multi_terms_go_on()
 {}
 
 /// The demands of two rules of one priority may both hold where they overlap.
-#[tactic(auto, using(crate::proofs::Mended::overlaps_may_hold_twice_lem))]
+#[tactic(auto, using(crate::proofs::SmallestInputs::overlaps_may_hold_twice_lem))]
 pub fn overlaps_may_hold_twice()
     ensures { OverlapsMayHoldTwice }
 {}
 
 /// What lowering gives has the names that were met.
-#[tactic(auto, using(crate::proofs::Mended::nameless_is_not_answered_lem))]
+#[tactic(auto, using(crate::proofs::SmallestInputs::nameless_is_not_answered_lem))]
 pub fn nameless_is_not_answered()
     ensures { NamelessIsNotAnswered }
 {}
 
 /// One look-up answers by two lists.
-#[tactic(auto, using(crate::proofs::Mended::look_ups_have_no_list_lem))]
+#[tactic(auto, using(crate::proofs::SmallestInputs::look_ups_have_no_list_lem))]
 pub fn look_ups_have_no_list()
     ensures { LookUpsHaveNoList }
 {}
 
 /// No error names a limit of a list whose types aren't valid, and nothing is reported of rules that can be told apart.
-#[tactic(auto, using(crate::proofs::Mended::limits_are_named_where_passed_lem))]
+#[tactic(auto, using(crate::proofs::SmallestInputs::limits_are_named_where_passed_lem))]
 pub fn limits_are_named_where_passed()
     ensures { LimitsAreNamedWherePassed }
 {}
 
 /// A rule behind one that has no typed rule is read from the names of the terms.
-#[tactic(auto, using(crate::proofs::Mended::second_is_read_alone_lem))]
+#[tactic(auto, using(crate::proofs::SmallestInputs::second_is_read_alone_lem))]
 pub fn second_is_read_alone()
     ensures { SecondIsReadAlone }
 {}
 
 /// A set without rules is built for some list.
-#[tactic(auto, using(crate::proofs::Mended::empty_sets_are_built_lem))]
+#[tactic(auto, using(crate::proofs::SmallestInputs::empty_sets_are_built_lem))]
 pub fn empty_sets_are_built()
     ensures { EmptySetsAreBuilt }
 {}
@@ -457,20 +457,20 @@ pub fn identifiers_of_rules()
 {}
 
 /// The types of a list are shown by a well-formed environment; where all names are mapped to one type it isn't such.
-#[tactic(auto, using(crate::proofs::Mended::environments_of_lists))]
+#[tactic(auto, using(crate::proofs::SmallestInputs::environments_of_lists))]
 pub fn environments_of_lists()
     ensures { EnvironmentsOfLists }
 {}
 
 /// The variant of a list has its term.
-#[tactic(auto, using(crate::proofs::Mended::variant_has_its_term))]
+#[tactic(auto, using(crate::proofs::SmallestInputs::variant_has_its_term))]
 pub fn variant_has_its_term()
     ensures { VariantHasItsTerm }
 {}
 
 /// A meaning serves rules though it has nothing for an impure call of a rule that doesn't match, and the set is built of them
 /// whose world has no content above that call.
-#[tactic(auto, using(crate::proofs::Wrapped::wrapped_built, crate::proofs::Wrapped::nothing_is_asked_above_calls))]
+#[tactic(auto, using(crate::proofs::WrappedCalls::wrapped_built, crate::proofs::WrappedCalls::nothing_is_asked_above_calls))]
 pub fn nothing_is_asked_above_calls()
     ensures built { IsBuiltOf wrapped_defs wrapped_rules 1 wrapped_set }
     ensures served { NothingIsAskedAboveCalls }
@@ -505,7 +505,7 @@ pub fn extract_is_chosen()
 {}
 
 /// Where a shadowed rule matches, its mask does.
-#[tactic(auto, using(crate::proofs::ToldApart::shadow_is_told, crate::proofs::ToldApart::shadow_is_served, crate::proofs::ToldApart::masks_match_too))]
+#[tactic(auto, using(crate::proofs::ShadowedRules::shadow_is_told, crate::proofs::ShadowedRules::shadow_is_served, crate::proofs::ShadowedRules::masks_match_too))]
 pub fn rules_are_told_apart()
     ensures shadow { ShadowIsTold }
     ensures served { ShadowIsServed }
@@ -513,7 +513,7 @@ pub fn rules_are_told_apart()
 {}
 
 /// Two rules of one priority for different numbers: no two overlap wrongly, and the demands of one alone hold.
-#[tactic(auto, using(crate::proofs::OneOrTwo::one_or_two_stages, crate::proofs::OneOrTwo::one_or_two_is_served, crate::proofs::OneOrTwo::one_or_two_holds_once))]
+#[tactic(auto, using(crate::proofs::TwoLiterals::one_or_two_stages, crate::proofs::TwoLiterals::one_or_two_is_served, crate::proofs::TwoLiterals::one_or_two_holds_once))]
 pub fn one_or_two_sample()
     ensures stages { HasStages one_or_two_sample }
     ensures served { OneOrTwoIsServed }
@@ -522,7 +522,7 @@ pub fn one_or_two_sample()
 
 /// Demands with an equality hold on 2 twice and not on 2 and 3, and on one variant twice, and their closed demands hold
 /// alike. A rule whose demands no values meet is tried on a value, and doesn't match.
-#[tactic(auto, using(crate::proofs::Tried::two_is_tried, crate::proofs::Tried::three_is_tried, crate::proofs::Tried::two_holds, crate::proofs::Tried::three_does_not, crate::proofs::Tried::two_holds_alike, crate::proofs::Tried::three_holds_alike, crate::proofs::Tried::variant_is_tried, crate::proofs::Tried::variant_holds, crate::proofs::Tried::variant_holds_alike, crate::proofs::Tried::one_step_is_tried, crate::proofs::Tried::one_step_does_not_match))]
+#[tactic(auto, using(crate::proofs::UnmatchedRules::two_is_tried, crate::proofs::UnmatchedRules::three_is_tried, crate::proofs::UnmatchedRules::two_holds, crate::proofs::UnmatchedRules::three_does_not, crate::proofs::UnmatchedRules::two_holds_alike, crate::proofs::UnmatchedRules::three_holds_alike, crate::proofs::UnmatchedRules::variant_is_tried, crate::proofs::UnmatchedRules::variant_holds, crate::proofs::UnmatchedRules::variant_holds_alike, crate::proofs::UnmatchedRules::one_step_is_tried, crate::proofs::UnmatchedRules::one_step_does_not_match))]
 pub fn rules_are_tried()
     ensures two { ConstEqIsTried (pos 2) }
     ensures three { ConstEqIsTried (pos 3) }

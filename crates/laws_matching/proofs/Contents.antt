@@ -2,16 +2,17 @@
 use Rattle.std.proofs.Common.{◌≡◌, ◌⊎◌, ℕ, ℤ, suc, ◌+◌, Bool, true, false, List, [], ◌∷◌, Option, Some, None, slice_get, refl, sym, ap, subst, inl, inr, ◌∙◌, arith}
 use Rattle.std.proofs.lemmas.Bool.{and_parts, false≢true}
 use Rattle.std.specs.List.{list_all}
+use Rattle.model.specs.lists.Tables.{Flags, TermEntry}
 use Rattle.model.specs.rules.Values.{Value, Values, no_value, value_and, listed, well_typed, all_well_typed}
 use Rattle.model.specs.rules.Meaning.{Content, one, parts, nothing, just, many, contents, Meaning, bool_literal, int_literal, literal_value, constant_value, extractor_answer, pure_answer, outputs, answered_outputs}
 use Rattle.model.specs.rules.Outcome.{then_option}
-use Rattle.model.specs.rules.Program.{Program, kind}
+use Rattle.model.specs.rules.Program.{Program, a_call, kind}
 use Rattle.model.specs.rules.Typed.{TypedPatterns, no_typed_pattern, typed_pattern_and}
 use Rattle.model.specs.rules.Picks.{Pick, place_of, picked, site_content, site_values}
 use Rattle.model.specs.trees.Run.{as_value, from_value, part_at}
 use Rattle.model.specs.sites.Sites.{SiteTerm, bool_term, int_term, prim_term, extractor_call, constructor_call, pick_of, tuple_part, SiteTerms, fields_from}
 use Rattle.model.specs.visits.Demands.{Demands, output_sites, pattern_count}
-use Rattle.model.specs.sites.Serves.{constant_type, fits_one, fits_answer, fits_extractor, fits_constructor}
+use Rattle.model.specs.sites.Serves.{constant_type, term_results, fits_one, fits_answer, fits_extractor, fits_constructor}
 use Rattle.laws_visits.proofs.PatternParts.{AsMany}
 use Rattle.model.proofs.Elements.{In, in_slice, all_in, some_is, none_some}
 
@@ -103,6 +104,12 @@ picked_fits p optional tys k s (one v) d h e = absurd (none_some d e)
 picked_fits p optional tys k s (parts vs) d h e = absurd (none_some d e)
 picked_fits p optional tys k s nothing d h e = absurd (none_some d e)
 picked_fits p optional tys k s (just c) d h e = absurd (none_some d e)
+
+-- what fits a term's constructor fits its flags and its result
+pub constructor_fits : (p : Program) (t : ℕ) (x : TermEntry) → slice_get p.terms t ≡ Some x → (flags : Flags) (infallible : Bool) (c : Content) → kind p t ≡ a_call flags infallible
+    → fits_constructor p t (kind p t) c ≡ true → fits_answer p flags.multi flags.partial (x.ret_ty ∷ []) c ≡ true
+constructor_fits p t x there flags infallible c q f =
+    subst (λ o. fits_answer p flags.multi flags.partial (term_results o) c ≡ true) there (subst (λ k. fits_constructor p t k c ≡ true) q f)
 
 -- what fits is answered as what it puts out
 pub fits_answered : (p : Program) (tys : List ℕ) (d : Content) → fits_one p tys d ≡ true → answered_outputs d ≡ outputs d

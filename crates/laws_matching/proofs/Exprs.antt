@@ -12,7 +12,7 @@ use Rattle.model.specs.rules.Picks.{picked, taken_answer, part_of_some, SitedVar
 use Rattle.model.specs.trees.Run.{as_value, from_value}
 use Rattle.model.specs.sites.Sites.{SiteTerm, bool_term, int_term, prim_term, constructor_call, pick_of, variant_made, struct_made, some_part, SiteTerms}
 use Rattle.model.specs.visits.Demands.{Visit, binding, ValuedAll, visit_term, visit_expr, visit_exprs, visit_lets, unwraps, unwraps_all}
-use Rattle.model.specs.sites.Serves.{constant_type, term_results, fits_answer, fits_constructor}
+use Rattle.model.specs.sites.Serves.{constant_type, fits_constructor}
 use Rattle.model.specs.sites.DemandedGates.{IsPureExpr, ArePureExprs, ArePureLets}
 use Rattle.model.specs.lists.Setting.{expr_type}
 use Rattle.model.specs.lists.Formed.{var_type, is_formed_expr, are_formed_args, formed_lets}
@@ -20,7 +20,7 @@ use Rattle.model.proofs.Elements.{In, in_left, in_right, some_is, none_some}
 use Rattle.model.proofs.Options.{is_there}
 use Rattle.laws_visits.proofs.AskedSites.{Same}
 use Rattle.laws_visits.proofs.Patterns.{its_kind, from_then, term_known}
-use Rattle.laws_matching.proofs.Contents.{Given, content_of, value_of, values_of, IsValueOf, Fits, IsAnswered, one_fits, maybe_fits, picked_fits}
+use Rattle.laws_matching.proofs.Contents.{Given, content_of, value_of, values_of, IsValueOf, Fits, IsAnswered, one_fits, maybe_fits, picked_fits, constructor_fits}
 use Rattle.laws_visits.proofs.GrowingVisits.{Grown, then_grown, grown_binding, expr_adds, exprs_add, lets_add, term_adds}
 use Rattle.laws_visits.proofs.SameExprs.{from_let, from_term, from_args, from_body, expr_keeps, term_site, pure_site, expr_alike, exprs_alike}
 use Rattle.laws_typing.specs.WellTypedPrograms.{IsWellTypedProgram}
@@ -105,11 +105,6 @@ module _ (g : Given) (z : Visit) (h : IsAnswered g z.demands) (well : IsWellType
   call_value multi t ss o = then_option o (λ vs. then_option (then_option (pure_answer g.meaning t vs) (taken_answer multi g.pick (call_of t ss))) single)
 
   module _ (t : ℕ) (x : TermEntry) (there : slice_get p.terms t ≡ Some x) where
-    -- an answer of a call
-    answer_fits : (flags : Flags) (infallible : Bool) (c : Content) → kind p t ≡ a_call flags infallible → fits_constructor p t (kind p t) c ≡ true → fits_answer p flags.multi flags.partial (x.ret_ty ∷ []) c ≡ true
-    answer_fits flags infallible c q f =
-        subst (λ o. fits_answer p flags.multi flags.partial (term_results o) c ≡ true) there (subst (λ k. fits_constructor p t k c ≡ true) q f)
-
     call_answers : (ss : SiteTerms) (vs : Values) → In z.demands.made (call_of t ss) → AreValued g ss (Some vs) x.arg_tys ss → Fits (pure_answer g.meaning t vs) (fits_constructor p t (kind p t))
     call_answers ss vs i a = h.pures t ss vs i (sym a.values)
 
@@ -126,7 +121,7 @@ module _ (g : Given) (z : Visit) (h : IsAnswered g z.demands) (well : IsWellType
         let d = h.picks (call_of t ss) j in
         let e = call_content ss vs c.answer a c.there in
         let taken : picked g.pick (call_of t ss) c.answer ≡ Some d.0 = sym (ap (λ o. then_option o (picked g.pick (call_of t ss))) e) ∙ d.1 in
-        let f = one_fits p x.ret_ty d.0 (picked_fits p false (x.ret_ty ∷ []) g.pick (call_of t ss) c.answer d.0 (answer_fits (flags_with true false rec) infallible c.answer q c.right) taken) in
+        let f = one_fits p x.ret_ty d.0 (picked_fits p false (x.ret_ty ∷ []) g.pick (call_of t ss) c.answer d.0 (constructor_fits p t x there (flags_with true false rec) infallible c.answer q c.right) taken) in
         one_valued (pick_of (call_of t ss)) (call_value true t ss (Some vs)) x.ret_ty d.0 f.0 d.1 f.1
         (ap (λ o. then_option (then_option o (taken_answer true g.pick (call_of t ss))) single) c.there ∙ ap (λ o. then_option o single) taken) f.2
 
@@ -138,7 +133,7 @@ module _ (g : Given) (z : Visit) (h : IsAnswered g z.demands) (well : IsWellType
     part_valued rec infallible ss (Some vs) q i a =
         let c = call_answers ss vs i a in
         let e = call_content ss vs c.answer a c.there in
-        elim (maybe_fits p (x.ret_ty ∷ []) c.answer (answer_fits (flags_with false true rec) infallible c.answer q c.right)) [
+        elim (maybe_fits p (x.ret_ty ∷ []) c.answer (constructor_fits p t x there (flags_with false true rec) infallible c.answer q c.right)) [
           | inl n ↦
               let none : call_value false t ss (Some vs) ≡ None = ap (λ o. then_option (then_option o (taken_answer false g.pick (call_of t ss))) single) (c.there ∙ ap Some n) in
               record {
@@ -164,7 +159,7 @@ module _ (g : Given) (z : Visit) (h : IsAnswered g z.demands) (well : IsWellType
     plain_valued rec infallible ss (Some vs) q i a =
         let c = call_answers ss vs i a in
         let e = call_content ss vs c.answer a c.there in
-        let f = one_fits p x.ret_ty c.answer (answer_fits (flags_with false false rec) infallible c.answer q c.right) in
+        let f = one_fits p x.ret_ty c.answer (constructor_fits p t x there (flags_with false false rec) infallible c.answer q c.right) in
         one_valued (call_of t ss) (call_value false t ss (Some vs)) x.ret_ty c.answer f.0 e f.1
         (ap (λ o. then_option (then_option o (taken_answer false g.pick (call_of t ss))) single) c.there) f.2
 

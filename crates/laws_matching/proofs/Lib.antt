@@ -13,8 +13,8 @@ mod Numbers
 mod Patterns
 mod Rules
 pub mod SetsAnswered
-mod Shapes
-pub mod ToldApart
+pub mod Shapes
+pub mod DisjointRules
 mod Unreachable
 mod Variables
 pub mod Visits

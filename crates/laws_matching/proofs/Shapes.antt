@@ -54,7 +54,8 @@ no_struct types (Some (primitive_type id name at)) vs h t = false≢true (sym (n
 no_struct types (Some (enum_type name id a b ws at)) vs h t = false≢true (sym h)
 no_struct types (Some (struct_type name id a b fs at)) vs h t = false≢true (sym h)
 
-atom_without_parts : (o : Option TypeEntry) → is_atom_type o ≡ true → is_type_with_parts o ≡ false
+-- a type of numbers has no parts
+pub atom_without_parts : (o : Option TypeEntry) → is_atom_type o ≡ true → is_type_with_parts o ≡ false
 atom_without_parts None h = absurd (false≢true h)
 atom_without_parts (Some (builtin_type n)) h = refl
 atom_without_parts (Some (primitive_type id name at)) h = refl

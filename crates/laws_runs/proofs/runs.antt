@@ -23,5 +23,5 @@ mod ResultsLeft
 mod Returns
 pub mod RuleDemands
 mod RunPlaces
-mod Standing
+mod PickedPlaces
 mod Steps

@@ -15,7 +15,7 @@ use Rattle.model.specs.claims.Refusals.{Refusal}
 use Rattle.model.specs.claims.Layers.{own_program, IsCheckable, LoweredTerm, IsLoweredTerm, AreLowered, RefusedBy, by_types, by_rules, by_check}
 use Rattle.model.proofs.Elements.{In}
 use Rattle.model.proofs.Options.{options_one}
-use Rattle.laws_closure.proofs.built.SitesOnce.{sites_stand_once_lem}
+use Rattle.laws_closure.proofs.built.DistinctSites.{sites_stand_once_lem}
 use Rattle.laws_closure.specs.ShadowLaws.{check_errors}
 use Rattle.laws_closure.proofs.overlaps.MaskErrors.{check_errors_are_answered_lem}
 use Rattle.laws_trees.specs.OneAnswer.{EachTwo, BecameSame, SameTermsShowSame, ReadingGivesOne, SerializingGivesOne, BuildingGivesOne, LoweringGivesOne, NoneIsAcceptedAndRefused, RefusingGivesOne}
@@ -62,7 +62,7 @@ term_environment_one e defs expand rules a b c d x y =
     λ i. record { terms = terms i; rules = typed i; rule_of = λ k. looked_up k i; expand = flag i }
 
 -- the same typed rules, from the same list
-typed_one : (e : TypesRead) (defs : List Definition) (expand : Bool) (l k : TypedRules) → IsElaborated e defs expand l → IsElaborated e defs expand k → l ≡ k
+pub typed_one : (e : TypesRead) (defs : List Definition) (expand : Bool) (l k : TypedRules) → IsElaborated e defs expand l → IsElaborated e defs expand k → l ≡ k
 typed_one e defs expand l k x y = same_Some l k (sym x.elaborate.typed ∙ y.elaborate.typed)
 
 pub reading_gives_one_lem : ReadingGivesOne

@@ -21,7 +21,7 @@ use Rattle.laws_closure.proofs.Closing.{closing_keeps}
 use Rattle.laws_closure.proofs.BuiltWithinLimits.{reached_closed, few_made}
 use Rattle.laws_closure.proofs.built.BuiltGates.{rule_at}
 use Rattle.laws_typing.proofs.WellTypedRules.{elaborated_programs_are_well_typed_lem}
-use Rattle.laws_closure.proofs.built.SitesOnce.{one_number}
+use Rattle.laws_closure.proofs.built.DistinctSites.{one_number}
 use Rattle.laws_closure.proofs.built.Unfolding.{unfolds}
 use Rattle.laws_visits.proofs.VisitInvariants.{rule_kept}
 

@@ -15,7 +15,7 @@ use Rattle.model.proofs.Elements.{In, contains_from_in}
 use Rattle.model.proofs.Members.{get_within, in_head, in_tail, member_found, member_is_in, constraint_in}
 use Rattle.model.proofs.SameSites.{term_means, same_term}
 use Rattle.model.proofs.Options.{options_one}
-use Rattle.laws_closure.proofs.built.SitesOnce.{once_of_term, one_number}
+use Rattle.laws_closure.proofs.built.DistinctSites.{once_of_term, one_number}
 use Rattle.laws_closure.proofs.built.Unfolding.{unfolds}
 use Rattle.laws_trees.specs.OneAnswer.{EachTwo, ShowSame, BuiltSetsShowSame}
 use Rattle.laws_runs.proofs.runs.Contents.{StandApart}

@@ -23,7 +23,7 @@ use Rattle.laws_matching.specs.ServeLaws.{ServedSetsServeTests, ServedMultiSetsS
 use Rattle.laws_closure.specs.GateLaws.{MultiTermsHaveOnePriority}
 use Rattle.laws_closure.proofs.built.BuiltGates.{one_rule}
 use Rattle.laws_matching.proofs.BuiltMatches.{built_listed}
-use Rattle.laws_closure.proofs.built.SitesOnce.{sites_stand_once_lem}
+use Rattle.laws_closure.proofs.built.DistinctSites.{sites_stand_once_lem}
 use Rattle.laws_trees.specs.TreeMeanings.{BestTreesMeanTheirSets}
 use Rattle.laws_trees.proofs.headline.NoCalls.{set_goes_over_none}
 use Rattle.laws_trees.proofs.headline.Places.{Pair, of_set_rule}

@@ -33,6 +33,6 @@ mod WellFormed
 pub mod WellTypedPrograms
 pub mod WellTypedRules
 mod WellTypedTerms
-mod ReadAgain
+mod AfterRefusals
 mod RefusedAgain
 mod RulesAgain

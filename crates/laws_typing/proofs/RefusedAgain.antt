@@ -10,8 +10,8 @@ use Rattle.model.specs.claims.Environments.{setting_of}
 use Rattle.model.specs.claims.Refusals.{NamedLimit, Refusal, PassedInReading, nesting_passes, expansions_pass, RefusesRules}
 use Rattle.laws_typing.specs.FurtherNames.{AreThereAlike}
 use Rattle.laws_typing.proofs.TwoTables.{few_alike}
-use Rattle.laws_typing.specs.ReadAgain.{RulesAreRefusedAgain}
-use Rattle.laws_typing.proofs.ReadAgain.{TypesReadAgain, later, valid_alike, left_again}
+use Rattle.laws_typing.specs.AfterRefusals.{RulesAreRefusedAgain}
+use Rattle.laws_typing.proofs.AfterRefusals.{TypesReadAgain, later, valid_alike, left_again}
 use Rattle.laws_typing.proofs.RulesAgain.{rules_there, rules_again, rules_before}
 
 -- where two answers are alike, both are none or neither is

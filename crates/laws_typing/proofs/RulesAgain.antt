@@ -23,10 +23,10 @@ use Rattle.model.proofs.Positions.{get_front}
 use Rattle.laws_typing.specs.FurtherNames.{AreThereAlike}
 use Rattle.laws_typing.proofs.TypesStay.{number_front}
 use Rattle.laws_typing.proofs.TypedRules.{lists_agree}
-use Rattle.laws_typing.specs.ReadAgain.{RulesAreTypedAgain}
+use Rattle.laws_typing.specs.AfterRefusals.{RulesAreTypedAgain}
 use Rattle.laws_typing.proofs.DistinctLists.{has_name_decides}
 use Rattle.laws_typing.proofs.TwoTables.{OfOneText, same_kind, declared_alike, EntryAlike, EntriesAlike, NumbersAlike, RuleAlike, RulesAlike, numbers_kept, TwoTables, other_setting, turned, Alike, names_alike, rules_found, typings_alike}
-use Rattle.laws_typing.proofs.ReadAgain.{TypesReadAgain, later, still_readable, made_below, names_stay, valid_alike, left_again}
+use Rattle.laws_typing.proofs.AfterRefusals.{TypesReadAgain, later, still_readable, made_below, names_stay, valid_alike, left_again}
 
 -- 1. two choices, by one test
 either_two : {X : Type 0} (P : X → X → Type 0) (a b : Bool) (x y z w : X) → a ≡ b → P x z → P y w → P (cond a x y) (cond b z w)

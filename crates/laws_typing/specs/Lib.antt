@@ -10,4 +10,4 @@ pub mod TableLaws
 pub mod TypingLaws
 pub mod TypingResults
 pub mod WellTypedPrograms
-pub mod ReadAgain
+pub mod AfterRefusals

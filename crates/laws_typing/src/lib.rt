@@ -16,7 +16,7 @@ ghost use Rattle.laws_typing.specs.RangeLaws.{ReducedNumbersAreInRange, NumbersI
 ghost use Rattle.laws_typing.specs.ReadEnvironments.{TypesAreShown, TypesStay};
 ghost use Rattle.laws_typing.specs.ReadLimits.{ElaboratedRulesAreWithinLimits, ElaboratedListsPassNoLimit};
 ghost use Rattle.laws_typing.specs.RefusedTerms.{RefusedTermsRefuseRules};
-ghost use Rattle.laws_typing.specs.ReadAgain.{RefusedEnvironmentsCanBeReadAgain, RulesAreRefusedAgain, RulesAreTypedAgain};
+ghost use Rattle.laws_typing.specs.AfterRefusals.{RefusedEnvironmentsCanBeReadAgain, RulesAreRefusedAgain, RulesAreTypedAgain};
 
 /// A pattern becomes by the rules of typing what the function gives, and nothing where it gives nothing.
 pub fn patterns_agree()

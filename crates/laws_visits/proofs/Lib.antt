@@ -9,7 +9,7 @@ mod FollowedExprs
 pub mod FollowedPatterns
 pub mod FollowedRules
 pub mod Gates
-pub mod GoneOver
+pub mod LoopedCalls
 pub mod GrowingVisits
 pub mod ImpureCallsMet
 pub mod VisitInvariants

@@ -12,6 +12,12 @@ pub mod memory;
 use input::{Condition, Instruction, Operation, Value};
 use machine::{Register, ZERO};
 
+/// How many results a call of a `multi` term gives at most: the cheapest of so many addresses is cheap enough.
+const MAX_ISLE_RETURNS: usize = 64;
+
+/// The list that holds the results where one term with rules calls another that is `multi`.
+type ConstructorVec<T> = Vec<T>;
+
 /// Made by build.rs from the files of `rules/`.
 pub mod rules {
     include!(concat!(env!("OUT_DIR"), "/rules.rs"));

@@ -22,7 +22,9 @@ pub fn lower(program: &Program) -> Code {
 
 /// All ways that the rules know to say an address.
 pub fn addresses(program: &Program, address: Value) -> Vec<Address> {
-    rules::constructor_addresses(&mut Lowering::new(program), address)
+    let mut ways = vec![];
+    rules::constructor_addresses(&mut Lowering::new(program), address, &mut ways);
+    ways
 }
 
 struct Lowering<'a> {
@@ -78,6 +80,13 @@ impl Lowering<'_> {
     }
 }
 
+/// Addresses are equal where they show alike, as instructions are.
+impl PartialEq for Address {
+    fn eq(&self, other: &Address) -> bool {
+        format!("{self:?}") == format!("{other:?}")
+    }
+}
+
 /// The functions that rules/types.isle and its neighbours declare as `extern`, under the same names.
 impl Context for Lowering<'_> {
     fn definition(&mut self, value: Value) -> Instruction {
@@ -104,15 +113,15 @@ impl Context for Lowering<'_> {
         (value as u64).is_power_of_two().then_some(value.trailing_zeros() as u8)
     }
 
-    fn commutative(&mut self, operation: Operation) -> Option<()> {
+    fn commutative(&mut self, operation: &Operation) -> Option<()> {
         operation.is_commutative().then_some(())
     }
 
-    fn fold(&mut self, operation: Operation, left: i64, right: i64) -> i64 {
+    fn fold(&mut self, operation: &Operation, left: i64, right: i64) -> i64 {
         operation.of(left, right)
     }
 
-    fn fold_compare(&mut self, condition: Condition, left: i64, right: i64) -> i64 {
+    fn fold_compare(&mut self, condition: &Condition, left: i64, right: i64) -> i64 {
         condition.holds(left, right) as i64
     }
 
@@ -128,13 +137,13 @@ impl Context for Lowering<'_> {
         Register(1 + number)
     }
 
-    fn emit(&mut self, instruction: Machine) -> Register {
+    fn emit(&mut self, instruction: &Machine) -> Register {
         let destination = match instruction {
             Machine::Store { .. } => ZERO,
             _ => self.fresh_register(),
         };
         let made_for = *self.asked.last().expect("rules run for a value alone");
-        self.lines.push(Line { destination, instruction, made_for });
+        self.lines.push(Line { destination, instruction: instruction.clone(), made_for });
         destination
     }
 
@@ -159,7 +168,8 @@ impl Context for Lowering<'_> {
     }
 
     fn cheapest_address(&mut self, address: Value) -> Address {
-        let ways = rules::constructor_addresses(self, address);
+        let mut ways = vec![];
+        rules::constructor_addresses(self, address, &mut ways);
         ways.into_iter().min_by_key(|way| self.cost(way)).expect("there is always the value itself")
     }
 }

@@ -22,6 +22,14 @@ pub struct Line {
     pub made_for: Value,
 }
 
+/// The rules' code doesn't say when two instructions are equal, since fields may be of types that can't be compared. They are
+/// where they show alike.
+impl PartialEq for Machine {
+    fn eq(&self, other: &Machine) -> bool {
+        format!("{self:?}") == format!("{other:?}")
+    }
+}
+
 #[derive(Clone, Debug, PartialEq)]
 pub struct Code {
     pub lines: Vec<Line>,

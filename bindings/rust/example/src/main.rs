@@ -12,7 +12,7 @@ type Number = i64;
 /// An expression by its place among all of them.
 type Value = usize;
 
-#[derive(Clone, Copy, Debug, PartialEq)]
+#[derive(Clone, Copy, Debug)]
 enum Expr {
     Const { value: Number },
     Var { name: char },
@@ -28,8 +28,8 @@ impl rules::Context for Exprs {
         self.0[value]
     }
 
-    fn make(&mut self, expr: Expr) -> Value {
-        self.0.push(expr);
+    fn make(&mut self, expr: &Expr) -> Value {
+        self.0.push(*expr);
         self.0.len() - 1
     }
 
@@ -52,9 +52,9 @@ impl Exprs {
             },
             expr => expr,
         };
-        match rules::constructor_simplify(self, expr) {
+        match rules::constructor_simplify(self, &expr) {
             Some(value) => value,
-            None => rules::Context::make(self, expr),
+            None => rules::Context::make(self, &expr),
         }
     }
 }

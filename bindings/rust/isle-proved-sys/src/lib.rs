@@ -1,5 +1,7 @@
-//! The static library of the ISLE compiler: one unsafe function. `isle-proved` makes it safe. `bindings/c/isle.h` says what the
-//! numbers mean and what the caller must ensure. Nothing compares these declarations with the library.
+//! The compiler of ISLE definitions as a static library: one unsafe function. `isle-proved` makes it safe. `bindings/c/isle.h`
+//! says what the numbers mean and what the caller must ensure. Nothing compares these declarations with the library.
+//!
+//! If there is no library, but a program `isle` that was proved and built, this crate has the place of the program instead.
 
 /// The lengths in bytes of a file's name and text.
 #[repr(C)]
@@ -9,6 +11,16 @@ pub struct File {
     pub name_length: usize,
     /// The length of its text, which follows its name.
     pub text_length: usize,
+}
+
+/// The lengths in bytes of a prefix. Where the name of a file begins with it, Rust code shows its name in its place.
+#[repr(C)]
+#[derive(Clone, Copy, Debug, PartialEq, Eq)]
+pub struct Prefix {
+    /// The length of the prefix.
+    pub prefix_length: usize,
+    /// The length of its name, which follows the prefix.
+    pub name_length: usize,
 }
 
 /// What a call does, and in which form it answers.
@@ -21,6 +33,10 @@ pub struct Options {
     pub format: u32,
     /// 1: uses of internal extractors are replaced by their templates, as `CODE` requires. 0: they aren't.
     pub expand: u32,
+    /// Of `CODE`: 0: the code begins with attributes `#![allow(..)]`. 1: it doesn't, as `include!` requires.
+    pub exclude_global_allow_pragmas: u32,
+    /// Of `CODE`: 1: the code logs each result, by the crate `log`. 0: it doesn't.
+    pub emit_logging: u32,
 }
 
 /// The size of a text in bytes.
@@ -65,7 +81,14 @@ pub const NOT_UTF8: u32 = 6;
 pub const NO_ROOM: u32 = 7;
 /// A status: two names would be the same in Rust.
 pub const NO_CODE: u32 = 8;
+/// A status: the lengths of the prefixes don't add up to their bytes, or a prefix isn't UTF-8.
+pub const WRONG_PREFIX: u32 = 9;
 
+/// The place of the program `isle`, which is used because there is no archive.
+#[cfg(isle_program)]
+pub const PROGRAM: &str = env!("ISLE_PROGRAM_FOUND");
+
+#[cfg(not(isle_program))]
 unsafe extern "C" {
     /// Compiles files of ISLE text, and returns a status.
     ///
@@ -80,6 +103,10 @@ unsafe extern "C" {
         files: *const File,
         files_length: usize,
         options: *const Options,
+        prefix_bytes: *const u8,
+        prefix_bytes_length: usize,
+        prefixes: *const Prefix,
+        prefixes_length: usize,
         out: *mut u8,
         out_length: usize,
         sizes: *mut Sizes,

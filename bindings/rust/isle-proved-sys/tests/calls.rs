@@ -1,5 +1,8 @@
 //! Calls of the library as C makes them: statuses, sizes and what is left in the buffer.
 
+// Without the library there is nothing to call.
+#![cfg(not(isle_program))]
+
 use isle_proved_sys::*;
 
 // The file `a.isle` with two rules, and its tree.
@@ -17,6 +20,14 @@ const TREES_FOR_A_PERSON: Options = Options {
     task: TREES,
     format: TEXT,
     expand: 1,
+    exclude_global_allow_pragmas: 1,
+    emit_logging: 0,
+};
+
+// Rust code for `include!`.
+const CODE_TO_INCLUDE: Options = Options {
+    task: CODE,
+    ..TREES_FOR_A_PERSON
 };
 
 // What the buffer has where nothing was written.
@@ -32,6 +43,17 @@ struct Left {
 
 // A call over bytes, with this much room.
 fn call(bytes: &[u8], files: &[File], options: &Options, room: usize) -> Left {
+    call_with(bytes, files, options, (&[], &[]), room)
+}
+
+// A call over bytes and prefixes, with this much room.
+fn call_with(
+    bytes: &[u8],
+    files: &[File],
+    options: &Options,
+    (prefix_bytes, prefixes): (&[u8], &[Prefix]),
+    room: usize,
+) -> Left {
     let mut out = vec![UNTOUCHED; room];
     let mut sizes = Sizes {
         written: 1234,
@@ -44,6 +66,10 @@ fn call(bytes: &[u8], files: &[File], options: &Options, room: usize) -> Left {
             files.as_ptr(),
             files.len(),
             options,
+            prefix_bytes.as_ptr(),
+            prefix_bytes.len(),
+            prefixes.as_ptr(),
+            prefixes.len(),
             out.as_mut_ptr(),
             room,
             &mut sizes,
@@ -170,6 +196,7 @@ fn wrong_options_are_told() {
             task,
             format,
             expand,
+            ..TREES_FOR_A_PERSON
         };
         assert_eq!(
             call_on(FALL, &options, 1000),
@@ -188,6 +215,7 @@ fn all_other_options_are_right() {
                     task,
                     format,
                     expand,
+                    ..TREES_FOR_A_PERSON
                 };
                 let status = if task == CODE && expand == 0 {
                     WRONG_OPTION
@@ -253,8 +281,7 @@ fn bytes_that_are_not_utf8_are_told() {
 fn options_are_tested_before_lengths_and_lengths_before_bytes() {
     let wrong = Options {
         task: 3,
-        format: 0,
-        expand: 0,
+        ..TREES_FOR_A_PERSON
     };
     let too_few = [File {
         name_length: 0,
@@ -270,15 +297,92 @@ fn options_are_tested_before_lengths_and_lengths_before_bytes() {
 #[test]
 fn names_that_are_one_in_rust_are_told() {
     let text = "(decl a.b (u8) u8)\n(rule (a.b x) x)\n(decl a_b (u8) u8)\n(rule (a_b x) x)\n";
-    let left = call_on(
-        text,
-        &Options {
-            task: CODE,
-            format: TEXT,
-            expand: 1,
-        },
-        1000,
-    );
+    let left = call_on(text, &CODE_TO_INCLUDE, 1000);
     assert_eq!(left.status, NO_CODE);
     assert!(left.out.starts_with(b"error[names]: "), "{left:?}");
+}
+
+#[test]
+fn options_of_code_are_0_or_1() {
+    for (exclude_global_allow_pragmas, emit_logging, status) in [
+        (0, 0, DONE),
+        (0, 1, DONE),
+        (1, 0, DONE),
+        (1, 1, DONE),
+        (2, 0, WRONG_OPTION),
+        (0, 2, WRONG_OPTION),
+        (u32::MAX, u32::MAX, WRONG_OPTION),
+    ] {
+        for task in [TREES, CHECK, CODE] {
+            let options = Options {
+                task,
+                exclude_global_allow_pragmas,
+                emit_logging,
+                ..TREES_FOR_A_PERSON
+            };
+            assert_eq!(
+                call_on(FALL, &options, 10_000).status,
+                status,
+                "{options:?}"
+            );
+        }
+    }
+}
+
+#[test]
+fn code_shows_the_name_of_a_prefix() {
+    let (bytes, files) = handed_in(&[(b"out/a.isle", FALL.as_bytes())]);
+    let prefixes = [
+        Prefix {
+            prefix_length: 2,
+            name_length: 3,
+        },
+        Prefix {
+            prefix_length: 3,
+            name_length: 5,
+        },
+    ];
+    let left = call_with(
+        &bytes,
+        &files,
+        &CODE_TO_INCLUDE,
+        (b"ab<1>out<OUT>", &prefixes),
+        10_000,
+    );
+    assert_eq!(left.status, DONE);
+    let code = String::from_utf8(left.out).unwrap();
+    assert!(code.contains("// - <OUT>/a.isle\n"), "{code}");
+    assert!(code.contains("// Rule at <OUT>/a.isle line 2.\n"), "{code}");
+}
+
+#[test]
+fn wrong_prefixes_are_told_after_wrong_bytes() {
+    let (bytes, files) = handed_in(&[(b"a.isle", FALL.as_bytes())]);
+    let one = |prefix_length, name_length| {
+        [Prefix {
+            prefix_length,
+            name_length,
+        }]
+    };
+    for (text, prefixes) in [
+        (&b"ab"[..], &one(1, 2)[..]),
+        (b"ab", &one(0, 1)),
+        (b"ab", &one(usize::MAX, 3)),
+        (b"ab", &[]),
+        (b"a\xff", &one(1, 1)),
+        // a character that is cut in two
+        (b"\xc3\xa4", &one(1, 1)),
+    ] {
+        assert_eq!(
+            call_with(&bytes, &files, &TREES_FOR_A_PERSON, (text, prefixes), 10),
+            without_text(WRONG_PREFIX, 10),
+            "{prefixes:?}"
+        );
+    }
+    let (bytes, files) = handed_in(&[(b"a.isle", b"; \xff")]);
+    let wrong: (&[u8], &[Prefix]) = (b"ab", &[]);
+    assert_eq!(
+        call_with(&bytes, &files, &TREES_FOR_A_PERSON, wrong, 10).status,
+        NOT_UTF8
+    );
 }

@@ -20,9 +20,18 @@
 // A build script is shown whole.
 #![allow(clippy::needless_doctest_main)]
 
-use isle_proved_sys as sys;
 use std::path::Path;
-use std::{env, fmt, fs, process, thread};
+use std::{env, fmt, fs, process};
+
+#[cfg(not(isle_program))]
+use archive::answer;
+#[cfg(isle_program)]
+use program::answer;
+
+#[cfg(not(isle_program))]
+mod archive;
+#[cfg(isle_program)]
+mod program;
 
 /// The form of an answer.
 #[derive(Clone, Copy, Debug, PartialEq, Eq)]
@@ -56,6 +65,56 @@ pub enum Format {
     Json,
 }
 
+/// How Rust code is written. The original's `CodegenOptions`.
+#[derive(Clone, Debug, PartialEq, Eq)]
+pub struct CodegenOptions {
+    /// Whether the code begins without attributes `#![allow(..)]`. `include!` refuses code that has them.
+    pub exclude_global_allow_pragmas: bool,
+    /// What to show in place of the beginnings of file names. If a name has several of these beginnings, the first one counts.
+    pub prefixes: Vec<Prefix>,
+    /// Whether the code logs each result, by the crate `log`.
+    pub emit_logging: bool,
+}
+
+/// The beginning of a file name, and what Rust code shows in its place. The original's `Prefix`.
+#[derive(Clone, Debug, PartialEq, Eq)]
+pub struct Prefix {
+    /// The beginning.
+    pub prefix: String,
+    /// What to show.
+    pub name: String,
+}
+
+impl Default for CodegenOptions {
+    /// Code for `include!`: no attributes, whole file names, no logging.
+    fn default() -> CodegenOptions {
+        CodegenOptions {
+            exclude_global_allow_pragmas: true,
+            prefixes: Vec::new(),
+            emit_logging: false,
+        }
+    }
+}
+
+impl CodegenOptions {
+    // The prefixes as pairs.
+    #[cfg(not(isle_program))]
+    fn pairs(&self) -> Vec<(&str, &str)> {
+        self.prefixes
+            .iter()
+            .map(|prefix| (prefix.prefix.as_str(), prefix.name.as_str()))
+            .collect()
+    }
+}
+
+// What a call does.
+#[derive(Clone, Copy, Debug, PartialEq, Eq)]
+enum Task {
+    Trees,
+    Check,
+    Code,
+}
+
 /// Why there is no answer. `Display` and `Debug` print its text, so a program that ends with it shows the text too.
 #[derive(Clone, PartialEq, Eq)]
 pub enum Errors {
@@ -65,12 +124,16 @@ pub enum Errors {
     Names(String),
     /// An allocation failed. This says nothing about the definitions.
     Memory,
+    /// The program `isle`, which is used if there is no archive, can't be run, or can't be given these files. The text says why.
+    Program(String),
 }
 
 impl fmt::Display for Errors {
     fn fmt(&self, out: &mut fmt::Formatter<'_>) -> fmt::Result {
         match self {
-            Errors::Definitions(text) | Errors::Names(text) => out.write_str(text),
+            Errors::Definitions(text) | Errors::Names(text) | Errors::Program(text) => {
+                out.write_str(text)
+            }
             Errors::Memory => out.write_str("error: out of memory\n"),
         }
     }
@@ -117,25 +180,34 @@ fn try_build(paths: &[&str], name: &str) -> Result<(), String> {
 
 /// The Rust code of all terms with rules, as `docs/RUST-CODE.md` describes it. `files` are names and texts.
 pub fn compile(files: &[(&str, &str)], options: Options) -> Result<String, Errors> {
+    compile_with(files, options, &CodegenOptions::default())
+}
+
+/// The same, written as `code` says.
+pub fn compile_with(
+    files: &[(&str, &str)],
+    options: Options,
+    code: &CodegenOptions,
+) -> Result<String, Errors> {
     answer(
-        sys::CODE,
+        Task::Code,
         files,
         Options {
             expand: true,
             ..options
         },
+        code,
     )
 }
 
 /// The trees of all terms with rules, as `./isle lower` prints them. With `Format::Json` this is the same as `json`.
 pub fn lower(files: &[(&str, &str)], options: Options) -> Result<String, Errors> {
-    answer(sys::TREES, files, options)
+    answer(Task::Trees, files, options, &CodegenOptions::default())
 }
 
 /// Types, terms, rules and trees as one JSON object (`docs/JSON.md`). Errors are such an object too, for any `options.format`.
 pub fn json(files: &[(&str, &str)], options: Options) -> Result<String, Errors> {
-    answer(
-        sys::TREES,
+    lower(
         files,
         Options {
             format: Format::Json,
@@ -147,105 +219,5 @@ pub fn json(files: &[(&str, &str)], options: Options) -> Result<String, Errors> 
 /// The warnings about accepted definitions, as `./isle check` prints them. Without warnings it is the empty text, or with
 /// `Format::Json` an object without warnings.
 pub fn check(files: &[(&str, &str)], options: Options) -> Result<String, Errors> {
-    answer(sys::CHECK, files, options)
-}
-
-// The library's answer to a task.
-fn answer(task: u32, files: &[(&str, &str)], options: Options) -> Result<String, Errors> {
-    let input = Input::of(files);
-    let options = sys::Options {
-        task,
-        format: match options.format {
-            Format::Text => sys::TEXT,
-            Format::Line => sys::LINE,
-            Format::Colored => sys::COLORED,
-            Format::Json => sys::JSON,
-        },
-        expand: u32::from(options.expand),
-    };
-    let (status, text) = on_deep_stack(|| input.answer(&options));
-    match status {
-        sys::DONE => Ok(text),
-        sys::ERRORS => Err(Errors::Definitions(text)),
-        sys::NO_CODE => Err(Errors::Names(text)),
-        sys::NO_MEMORY => Err(Errors::Memory),
-        _ => unreachable!("status {status}: options, lengths and texts are right"),
-    }
-}
-
-// The stack of a call. Internal extractors that use one another may nest so deep that they take half of it (docs/SPEED.md).
-// Unused stack costs no memory.
-const STACK: usize = 1 << 30;
-
-// Calls a function on a stack of that size, or on the present stack if such a thread can't be started.
-fn on_deep_stack<T: Send>(call: impl Fn() -> T + Sync) -> T {
-    thread::scope(|scope| {
-        match thread::Builder::new()
-            .stack_size(STACK)
-            .spawn_scoped(scope, &call)
-        {
-            Ok(thread) => thread
-                .join()
-                .unwrap_or_else(|panic| std::panic::resume_unwind(panic)),
-            Err(_) => call(),
-        }
-    })
-}
-
-// Files in the library's form.
-struct Input {
-    bytes: Vec<u8>,
-    files: Vec<sys::File>,
-}
-
-impl Input {
-    fn of(files: &[(&str, &str)]) -> Input {
-        let mut input = Input {
-            bytes: Vec::new(),
-            files: Vec::new(),
-        };
-        for (name, text) in files {
-            input.bytes.extend_from_slice(name.as_bytes());
-            input.bytes.extend_from_slice(text.as_bytes());
-            input.files.push(sys::File {
-                name_length: name.len(),
-                text_length: text.len(),
-            });
-        }
-        input
-    }
-
-    // The status and the text of a call. If the text is unusually large, there is a second call with more room.
-    fn answer(&self, options: &sys::Options) -> (u32, String) {
-        let mut out = vec![0; self.bytes.len().saturating_mul(16).max(1 << 16)];
-        let (mut status, mut sizes) = self.call(options, &mut out);
-        if status == sys::NO_ROOM {
-            out = vec![0; sizes.needed];
-            (status, sizes) = self.call(options, &mut out);
-        }
-        out.truncate(sizes.written);
-        (
-            status,
-            String::from_utf8(out).expect("the library writes UTF-8"),
-        )
-    }
-
-    fn call(&self, options: &sys::Options, out: &mut [u8]) -> (u32, sys::Sizes) {
-        let mut sizes = sys::Sizes::default();
-        // SAFETY: the pointers and lengths are those of slices and of single values, which are borrowed during the call. `out` and
-        // `sizes` are borrowed mutably, so they overlap nothing, and no one else uses them.
-        let status = unsafe {
-            sys::isle_capi_lower(
-                self.bytes.as_ptr(),
-                self.bytes.len(),
-                self.files.as_ptr(),
-                self.files.len(),
-                options,
-                out.as_mut_ptr(),
-                out.len(),
-                &mut sizes,
-            )
-        };
-        (status, sizes)
-    }
+    answer(Task::Check, files, options, &CodegenOptions::default())
 }

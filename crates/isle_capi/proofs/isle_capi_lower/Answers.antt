@@ -2,8 +2,8 @@ use Rattle.std.proofs.Common.{subst}
 use Rattle.isle_capi.specs.Told.{IsToldOfTexts}
 use Rattle.isle_capi.proofs.isle_capi_lower.Goals as goal
 
-pub returns-in-Ok-clause-told : goal.returns-in-Ok-clause-told
-returns-in-Ok-clause-told c _ _ _ = (
+pub returns-in-Ok-Some-clause-told : goal.returns-in-Ok-Some-clause-told
+returns-in-Ok-Some-clause-told c _ _ _ _ = (
   c.in-Some.asked,
   c.in-Some.ensures.asked,
   subst (λ texts. IsToldOfTexts c.in-Some.asked texts c.args.out.now c.told.new.out c.told.new.sizes c.told.result)

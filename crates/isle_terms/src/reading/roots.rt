@@ -7,7 +7,7 @@ ghost use Rattle.isle_base.specs.SyntaxViews.{definition_view, definition_views,
 ghost use Rattle.isle_terms.specs.Reading.{IsWithin};
 ghost use Rattle.isle_terms.specs.TermBreaches.{of_definitions};
 ghost use Rattle.isle_terms.specs.Signing.{ReadsTerms};
-ghost use Rattle.isle_terms.specs.Standing.{is_declared_kind, RootsRead, ReadsRuleRoot, ReadsIfRule};
+ghost use Rattle.isle_terms.specs.ReadTerms.{is_declared_kind, RootsRead, ReadsRuleRoot, ReadsIfRule};
 ghost use Rattle.isle_terms.specs.TermViews.{term_view};
 ghost use Rattle.isle_terms.specs.TermPositions.{table_positions, IsPlacedAmong};
 

@@ -12,7 +12,7 @@ ghost use Rattle.isle_types.specs.EnvViews.{environment_view};
 ghost use Rattle.isle_terms.specs.Recursion.{ExtractorsRead};
 ghost use Rattle.isle_terms.specs.Signing.{Declaring, ReadsTerms};
 ghost use Rattle.isle_terms.specs.Stages.{HasNoConverter};
-ghost use Rattle.isle_terms.specs.Standing.{RootsRead};
+ghost use Rattle.isle_terms.specs.ReadTerms.{RootsRead};
 ghost use Rattle.isle_terms.specs.TermBreaches.{of_signatures, of_definitions, FirstBreaksTerms};
 ghost use Rattle.isle_terms.specs.TermErrors.{AreErrorsOfTerms};
 ghost use Rattle.isle_terms.specs.TermTables.{term_at};

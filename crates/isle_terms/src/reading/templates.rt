@@ -10,7 +10,7 @@ ghost use Rattle.isle_types.specs.VariantReading.{ReportsIf};
 ghost use Rattle.isle_terms.specs.Reading.{IsWithin, term_of_name};
 ghost use Rattle.isle_terms.specs.Signing.{NotesIfWrong, ReadsTerms};
 ghost use Rattle.isle_terms.specs.Recursion.{ExtractorsRead};
-ghost use Rattle.isle_terms.specs.Standing.{RootsRead};
+ghost use Rattle.isle_terms.specs.ReadTerms.{RootsRead};
 ghost use Rattle.isle_terms.specs.TermBreaches.{of_definitions, FirstStandsAt};
 ghost use Rattle.isle_terms.specs.TermViews.{term_view};
 ghost use Rattle.isle_terms.specs.Templating.{AddsFound, AreArguments, AreCallees, AreFound, CantTakeTemplate, HaveUnknown, IsTemplate, IsWrongTemplate, NameNothing, ReadsIfTemplate, ReadsExtractor, SetsCallees, TakesTemplate, TemplatesRead, may_have_template};

@@ -21,7 +21,7 @@ use Rattle.laws_closure.proofs.built.Unfolding.{unfolds}
 use Rattle.laws_typing.specs.WellTypedPrograms.{IsWellTypedRule, IsWellTypedProgram}
 use Rattle.laws_typing.proofs.WellTypedPrograms.{pure_iflets}
 use Rattle.laws_closure.proofs.built.BuiltSets.{BuiltSet, RuleOfSet, of_term, typed_rule}
-use Rattle.laws_closure.proofs.built.SitesOnce.{one_number}
+use Rattle.laws_closure.proofs.built.DistinctSites.{one_number}
 use Rattle.laws_visits.proofs.Gates.{asking_of, gates_stay}
 use Rattle.laws_closure.proofs.ClosingGates.{closing_keeps_gates_lem}
 use Rattle.laws_visits.proofs.Rules.{formed_rules_demand_gates_lem}

@@ -14,8 +14,8 @@ use Rattle.laws_typing.specs.WellTypedPrograms.{IsWellTypedProgram}
 use Rattle.model.proofs.Elements.{In, in_from_contains, contains_from_in, in_either, from_flat_map}
 use Rattle.laws_closure.proofs.built.BuiltGates.{root_of_built, IsGood, below_good}
 use Rattle.laws_closure.proofs.built.BuiltSets.{BuiltSet, RuleOfSet}
-use Rattle.laws_visits.proofs.GoneOver.{none_left, pure_right_side}
-use Rattle.laws_closure.proofs.built.SitesOnce.{sites_stand_once_lem}
+use Rattle.laws_visits.proofs.LoopedCalls.{none_left, pure_right_side}
+use Rattle.laws_closure.proofs.built.DistinctSites.{sites_stand_once_lem}
 use Rattle.laws_closure.proofs.built.ServedSets.{built_calls, built_result, gate_at}
 use Rattle.laws_closure.proofs.built.WellBuiltSets.{all_from_in, in_from_all, each_tested, each_of_set, gates_of}
 use Rattle.model.proofs.Mapped.{nothing_mapped}

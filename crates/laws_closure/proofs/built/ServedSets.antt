@@ -22,8 +22,8 @@ use Rattle.laws_closure.proofs.ClosingGates.{closing_keeps_gates_lem}
 use Rattle.laws_closure.proofs.built.ConstrainedOrEquated.{built_rules_constrain_or_equate_lem}
 use Rattle.laws_visits.proofs.Exprs.{IsTotal}
 use Rattle.laws_visits.proofs.Gates.{asking_of, AllIn, gates_stay}
-use Rattle.laws_visits.proofs.GoneOver.{rule_calls, rule_result}
-use Rattle.laws_closure.proofs.built.SitesOnce.{sites_stand_once_lem}
+use Rattle.laws_visits.proofs.LoopedCalls.{rule_calls, rule_result}
+use Rattle.laws_closure.proofs.built.DistinctSites.{sites_stand_once_lem}
 use Rattle.laws_closure.proofs.built.Priorities.{one_priority_lem}
 use Rattle.laws_visits.proofs.RightSides.{IsSingle}
 use Rattle.laws_visits.proofs.Rules.{formed_rules_demand_gates_lem}

@@ -19,7 +19,7 @@ use Rattle.model.specs.claims.SetMeanings.{DemandsItsGates}
 use Rattle.model.proofs.Elements.{In, in_from_contains, contains_from_in, in_either, in_slice, slice_in, any_in, in_any, in_map, map_in, from_flat_map, or_split}
 use Rattle.model.specs.sites.DemandedGates.{GatesDemanded}
 use Rattle.laws_closure.specs.GateLaws.{BuiltRulesDemandGates, BuiltSetsAreWellBuilt}
-use Rattle.laws_closure.proofs.built.SitesOnce.{sites_stand_once_lem}
+use Rattle.laws_closure.proofs.built.DistinctSites.{sites_stand_once_lem}
 use Rattle.laws_closure.proofs.built.BuiltGates.{set_rule, BuiltGates, built_gates, IsGood, below_good}
 use Rattle.laws_closure.proofs.built.BuiltSets.{BuiltSet, RuleOfSet}
 use Rattle.model.proofs.Options.{is_there}

@@ -16,7 +16,7 @@ use Rattle.laws_closure.specs.SetOverlapLaws.{SetRulesOverlapAsTheirDemands, Ove
 use Rattle.laws_closure.proofs.overlaps.Overlaps.{bool_same, none_listed}
 use Rattle.laws_closure.proofs.built.BuiltGates.{stands_for, was_built}
 use Rattle.laws_closure.proofs.built.BuiltSets.{BuiltSet, RuleOfSet}
-use Rattle.laws_closure.proofs.built.SitesOnce.{one_number}
+use Rattle.laws_closure.proofs.built.DistinctSites.{one_number}
 
 -- 1. the tests
 -- two constraints of one site that differ

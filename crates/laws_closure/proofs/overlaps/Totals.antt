@@ -25,7 +25,7 @@ use Rattle.laws_closure.proofs.FollowingDemands.{IsApart, class_cases, class_fou
 use Rattle.laws_closure.proofs.built.BuiltGates.{stands_for}
 use Rattle.laws_closure.proofs.built.BuiltSets.{BuiltSet, RuleOfSet}
 use Rattle.laws_closure.proofs.ConstrainedOnce.{StandOnce, closed_once}
-use Rattle.laws_closure.proofs.built.SitesOnce.{once_closed, once_after_rule, one_number}
+use Rattle.laws_closure.proofs.built.DistinctSites.{once_closed, once_after_rule, one_number}
 
 -- 1. classes in which no site stands twice
 -- no site of a class stands in others

@@ -1,4 +1,4 @@
-use Rattle.laws_matching.proofs.ToldApart.{built_rules_are_told_apart_lem}
+use Rattle.laws_matching.proofs.DisjointRules.{built_rules_are_told_apart_lem}
 use Rattle.laws_matching.proofs.built_rules_are_told_apart.Goals as goal
 
 pub returns : goal.returns

@@ -4,7 +4,7 @@ use Rattle.std.proofs.lemmas.Bool.{cases_Bool, cond-true, cond-false, false≢tr
 use Rattle.std.proofs.lemmas.List.{length_push, length-append}
 use Rattle.std.proofs.lemmas.List.Elements.{All-append}
 use Rattle.std.proofs.Math.Seq.{take-append_seam}
-use Rattle.model.specs.lists.Tables.{Flags, TermEntry}
+use Rattle.model.specs.lists.Tables.{TermEntry}
 use Rattle.model.specs.rules.Values.{Value, of_variant, of_struct, Values, value_and}
 use Rattle.model.specs.rules.Meaning.{Content, one, just, look, pure_answer, impure_answer}
 use Rattle.model.specs.rules.Outcome.{Call, then_option}
@@ -18,17 +18,18 @@ use Rattle.model.specs.trees.Run.{as_value, from_value}
 use Rattle.model.specs.sites.Sites.{SiteTerm, constructor_call, pick_of, some_made, some_part, SiteTerms, site_term_and}
 use Rattle.model.specs.visits.Demands.{Visit, binding, or_no_site, Valued, ValuedAll, call_result, visit_call, visit_term, visit_expr, visit_exprs, visit_lets, finished}
 use Rattle.model.specs.sites.DemandedGates.{HasNoPartialMulti}
-use Rattle.model.specs.sites.Serves.{term_results, fits_answer, fits_constructor}
+use Rattle.model.specs.sites.Serves.{fits_answer, fits_constructor}
 use Rattle.model.specs.lists.Formed.{var_type, is_formed_expr, are_formed_args, formed_lets}
 use Rattle.model.proofs.Elements.{In, in_right, some_is}
 use Rattle.model.proofs.Options.{is_there}
 use Rattle.laws_runs.proofs.taking.FollowedCalls.{Followed, goes_on, stops, then_follow, follow_with, follow, follow_there, follow_append, result_after}
 use Rattle.laws_visits.proofs.AskedSites.{Same}
 use Rattle.laws_visits.proofs.Patterns.{term_known}
-use Rattle.laws_matching.proofs.Contents.{Given, content_of, values_of, Fits, IsAnswered, one_fits, maybe_fits, picked_fits}
+use Rattle.laws_matching.proofs.Contents.{Given, content_of, values_of, Fits, IsAnswered, one_fits, maybe_fits, picked_fits, constructor_fits}
 use Rattle.laws_visits.proofs.GrowingVisits.{Grown, then_grown, grown_binding, expr_adds, exprs_add, lets_add, term_adds}
 use Rattle.laws_visits.proofs.SameExprs.{from_let, from_term, from_args, from_body, expr_keeps}
 use Rattle.laws_matching.proofs.Variables.{named}
+use Rattle.laws_matching.proofs.outcomes.Ordered.{CountsCalls}
 use Rattle.laws_visits.proofs.ImpureCallsMet.{AddsCalls, adds_kept, then_adds_calls, term_adds_calls, expr_adds_calls, exprs_add_calls, lets_add_calls}
 use Rattle.laws_visits.proofs.SitesAlike.{expr_sited, exprs_sited}
 use Rattle.laws_typing.proofs.FormedParts.{type_is}
@@ -107,7 +108,7 @@ GaveAll g us = All (HasContent g.meaning g.args g.pick) us
 
 pub record IsFollowed (g : Given) (v : Visit) (calls : List Call) : Type 0 where
   pub made : length calls ≡ v.impure_calls
-  pub count : length v.demands.impure ≡ v.impure_calls
+  pub count : CountsCalls v
   pub gave : GaveAll g v.demands.impure
 
 followed_on : (g : Given) (v w : Visit) (calls after : List Call) (adds : AddsCalls v w) → IsFollowed g v calls → follow_in g adds.new calls ≡ goes_on after → length after ≡ w.impure_calls → IsFollowed g w after
@@ -244,10 +245,6 @@ module _ (g : Given) (z : Visit) (h : IsAnswered g z.demands) (neither : HasNoPa
   TermCame a b f ev = (adds : AddsCalls a.visit b.visit) × Comes g b.site b.visit.impure_calls (then_follow f (follow_in g adds.new)) ev
 
   module _ (t : ℕ) (x : TermEntry) (there : slice_get p.terms t ≡ Some x) where
-    fits_here : (flags : Flags) (infallible : Bool) (c : Content) → kind p t ≡ a_call flags infallible → fits_constructor p t (kind p t) c ≡ true → fits_answer p flags.multi flags.partial (x.ret_ty ∷ []) c ≡ true
-    fits_here flags infallible c q f =
-        subst (λ o. fits_answer p flags.multi flags.partial (term_results o) c ≡ true) there (subst (λ k. fits_constructor p t k c ≡ true) q f)
-
     not_both : (pure multi partial rec infallible : Bool) → kind p t ≡ a_call (record { pure = pure; multi = multi; partial = partial; rec = rec }) infallible → multi ≡ true → partial ≡ true → ⊥
     not_both pure multi partial rec infallible q m n = neither t (ap (λ k. (flags_of k).multi) q ∙ m) (ap (λ k. (flags_of k).partial) q ∙ n)
 
@@ -258,7 +255,7 @@ module _ (g : Given) (z : Visit) (h : IsAnswered g z.demands) (neither : HasNoPa
     pure_holds multi partial rec infallible q ss (Some vs) e i =
         let c = h.pures t ss vs i e in
         answer_holds g true multi partial rec x.ret_ty (constructor_call t ss 0) c.answer (not_both true multi partial rec infallible q) (ap (λ r. then_option r (pure_answer g.meaning t)) e ∙ c.there)
-        (fits_here (record { pure = true; multi = multi; partial = partial; rec = rec }) infallible c.answer q c.right)
+        (constructor_fits p t x there (record { pure = true; multi = multi; partial = partial; rec = rec }) infallible c.answer q c.right)
         ∙ ap (λ r. from_value (then_option (then_option r (taken_answer multi g.pick (constructor_call t ss 0))) single)) (sym c.there)
 
     impure_comes : (partial rec infallible : Bool) → kind p t ≡ a_call (record { pure = false; multi = false; partial = partial; rec = rec }) infallible → IsServedCall g z t → (ss own : SiteTerms) (n : ℕ) (o : Option Values) → values_of g ss ≡ o
@@ -275,7 +272,7 @@ module _ (g : Given) (z : Visit) (h : IsAnswered g z.demands) (neither : HasNoPa
         let after = calls ++ record { term = t; args = vs } ∷ [] in
         let holds : content_of g u ≡ from_value (single c.answer) =
         answer_holds g false false partial rec x.ret_ty (constructor_call t ss (suc n)) c.answer (not_both false false partial rec infallible q) (ap (λ r. then_option r (call_answer g.meaning t (suc n))) e ∙ c.there)
-        (fits_here (record { pure = false; multi = false; partial = partial; rec = rec }) infallible c.answer q c.right) in
+        (constructor_fits p t x there (record { pure = false; multi = false; partial = partial; rec = rec }) infallible c.answer q c.right) in
         let answered : impure_answer g.meaning t (length calls) ≡ Some c.answer = ap (impure_answer g.meaning t) len ∙ c.there in
         subst (λ r. Comes g u (suc n) (then_follow (follow_with t r (content_of g u) calls) goes_on) (impure_under false g.meaning g.pick t own (Some vs) calls)) (sym e)
         (subst (λ r. Comes g u (suc n) (then_follow (follow_with t (Some vs) r calls) goes_on) (impure_under false g.meaning g.pick t own (Some vs) calls)) (sym holds)

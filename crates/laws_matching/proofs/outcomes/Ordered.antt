@@ -44,10 +44,14 @@ known_on v w a s h =
 vars_on : (vars : List (ℕ × ℕ)) (v w : Visit) → AddsCalls v w → Same vars v w → VarsKnownTo vars v → VarsKnownTo vars w
 vars_on vars v w a same f x h = subst (KnownTo w) (sym (same x h)) (known_on v w a (named v.vars x) (f x h))
 
+-- a visit counts its impure calls
+abbrev pub CountsCalls : Visit → Type 0
+CountsCalls v = length v.demands.impure ≡ v.impure_calls
+
 module _ (p : Program) (z : Visit) where
   -- a visit counts its impure calls, which come in order
   pub record IsOrderly (v : Visit) : Type 0 where
-    pub count : length v.demands.impure ≡ v.impure_calls
+    pub count : CountsCalls v
     pub order : InOrder z.demands.made [] v.demands.impure
 
   pub record IsOrdered (a : Valued) : Type 0 where

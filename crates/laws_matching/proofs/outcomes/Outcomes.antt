@@ -39,7 +39,7 @@ use Rattle.laws_typing.specs.WellTypedPrograms.{IsWellTypedProgram}
 use Rattle.laws_typing.proofs.WellTypedPrograms.{pure_iflets}
 use Rattle.laws_closure.proofs.built.BuiltGates.{stands_for, one_rule}
 use Rattle.laws_closure.proofs.built.BuiltSets.{BuiltSet, RuleOfSet, ServingMeaning}
-use Rattle.laws_closure.proofs.built.SitesOnce.{one_number}
+use Rattle.laws_closure.proofs.built.DistinctSites.{one_number}
 use Rattle.laws_visits.proofs.RightSides.{expr_quiet}
 use Rattle.laws_closure.proofs.built.WellBuiltSets.{in_from_all}
 use Rattle.laws_matching.proofs.Answered.{fits_there}

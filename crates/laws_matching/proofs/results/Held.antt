@@ -17,7 +17,7 @@ use Rattle.model.specs.lists.Formed.{is_formed_rule}
 use Rattle.model.specs.lists.Setting.{expr_type}
 use Rattle.model.proofs.Elements.{contains_from_in, in_slice}
 use Rattle.laws_matching.specs.MatchLaws.{IsTried, BuiltSetsHoldResults}
-use Rattle.laws_visits.proofs.GoneOver.{pure_right_side}
+use Rattle.laws_visits.proofs.LoopedCalls.{pure_right_side}
 use Rattle.laws_closure.proofs.built.BuiltGates.{one_rule}
 use Rattle.laws_matching.proofs.BuiltMatches.{built_listed}
 use Rattle.laws_matching.proofs.Contents.{Given, content_of, IsAnswered, is_value}

@@ -13,7 +13,7 @@ use Rattle.laws_typing.specs.WellTypedPrograms.{IsWellTypedProgram}
 use Rattle.laws_typing.proofs.Ranges.{literal_in_range}
 use Rattle.laws_runs.proofs.runs.Contents.{unfolded_layer}
 use Rattle.laws_matching.proofs.FormedDemands.{rule_formed}
-use Rattle.laws_matching.proofs.ToldApart.{built_follows}
+use Rattle.laws_matching.proofs.DisjointRules.{built_follows}
 use Rattle.laws_matching.proofs.taken.BuiltSites.{sites_stand}
 use Rattle.laws_matching.proofs.taken.Forms.{HasSomeForm}
 use Rattle.laws_closure.proofs.built.BuiltGates.{typed_built}

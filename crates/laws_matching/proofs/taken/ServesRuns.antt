@@ -32,7 +32,7 @@ use Rattle.laws_matching.proofs.Unreachable.{IsConstant, MustBe, Shape, same_sha
 use Rattle.laws_matching.proofs.Visits.{given}
 use Rattle.laws_matching.proofs.taken.BuiltSites.{rules_known, sites_stand}
 use Rattle.laws_matching.proofs.taken.Fits.{IsWhole, AsManyFields, typed_whole, FitsAs, FitsForm, the_value, IsServed, ServedWorld, fits, found}
-use Rattle.laws_matching.proofs.taken.Forms.{Form, a_value, AreKnown}
+use Rattle.laws_matching.proofs.taken.Forms.{Form, a_value}
 use Rattle.laws_matching.proofs.taken.SitesKnown.{Stands, made_stands, closed_known, before_stands}
 use Rattle.laws_runs.proofs.runs.RuleDemands.{joined_itself}
 
@@ -65,6 +65,15 @@ meets_some : (m : Meaning) (c : Constraint) (o : Option Content) → IsTrue (mee
 meets_some m c None h = absurd (false≢true h)
 meets_some m c (Some x) h = (x, refl, h)
 
+-- a constant has no fields
+pub constant_count : (o : Option Value) (v : Value) (cs : List Content) → where_constant o v ≡ Some cs → length cs ≡ 0
+constant_count None v cs e = absurd (none_some cs e)
+constant_count (Some u) v cs e =
+    elim (cases_Bool (value_eq u v)) [
+      | inl t ↦ ap length (some_is cs [] (sym e ∙ cond-true (value_eq u v) (Some []) None t))
+      | inr f ↦ absurd (none_some cs (sym (cond-false (value_eq u v) (Some []) None f) ∙ e))
+    ]
+
 module _ (b : BuiltSet) (h : IsWellTypedProgram b.program) (serving : ServingMeaning b.program b.term) (k : Pick) where
   abbrev p : Program
   p = b.program
@@ -92,9 +101,6 @@ module _ (b : BuiltSet) (h : IsWellTypedProgram b.program) (serving : ServingMea
 
   abbrev apart : TellsConstantsApart p m rs
   apart = serving.apart
-
-  known : (r : TypedRule) → In rs r → AreKnown p n (demands_of p r)
-  known = rules_known b h
 
   stands : (s : ℕ) → s < length set.sites → Stands p n rs (unfold_site set.sites s)
   stands = sites_stand b h
@@ -130,7 +136,7 @@ module _ (b : BuiltSet) (h : IsWellTypedProgram b.program) (serving : ServingMea
   is_asked r i s c j =
       let o = at r i in
       let a = o.is.constraints.asked s c j in
-      let f = before_stands p n rs [] (λ u y. absurd y) rs (λ q y. (y, known q y)) o.typed o.listed in
+      let f = before_stands p n rs [] (λ u y. absurd y) rs (λ q y. (y, rules_known b h q y)) o.typed o.listed in
       record {
         known_site = a.0;
         pure = pure_tested o s (constrained_tested b o (gates_of b h o) s c (in_from_contains r.constraints (s, c) j));
@@ -146,14 +152,6 @@ module _ (b : BuiltSet) (h : IsWellTypedProgram b.program) (serving : ServingMea
 
   whole_here : (s : ℕ) (c : Constraint) → IsAsked s c → (v : Value) → content_at w k s ≡ Some (one v) → IsWhole p.types v
   whole_here s c a v x = (let f = is_served.forms s a.known_site in value_whole p.types f.0 v (fits stage k s a.pure f.0 f.1 (one v) x))
-
-  constant_count : (o : Option Value) (v : Value) (cs : List Content) → where_constant o v ≡ Some cs → length cs ≡ 0
-  constant_count None v cs e = absurd (none_some cs e)
-  constant_count (Some u) v cs e =
-      elim (cases_Bool (value_eq u v)) [
-        | inl t ↦ ap length (some_is cs [] (sym e ∙ cond-true (value_eq u v) (Some []) None t))
-        | inr f ↦ absurd (none_some cs (sym (cond-false (value_eq u v) (Some []) None f) ∙ e))
-      ]
 
   -- as many values as the constraint has fields
   same_count : (o : Option (List ℕ)) (vs : Values) (c : ℕ) → AsManyFields o vs → (tys : List ℕ) × (o ≡ Some tys) × (length tys ≡ c) → length (listed vs) ≡ c
@@ -260,7 +258,7 @@ module _ (b : BuiltSet) (h : IsWellTypedProgram b.program) (serving : ServingMea
   equal_value r i a c j x z =
       let o = at r i in
       let q = o.is.classes.joined a c j in
-      let f = before_stands p n rs [] (λ u y. absurd y) rs (λ s y. (y, known s y)) o.typed o.listed in
+      let f = before_stands p n rs [] (λ u y. absurd y) rs (λ s y. (y, rules_known b h s y)) o.typed o.listed in
       let l = closed_known p n rs f.0 f.2 (demands_of p f.1) (made_stands p n rs f.1 f.3 f.4) f.4 in
       let v = l.members q.2 (unfold_site set.sites a) (in_from_contains (closed f.0 (demands_of p f.1)).classes q.2 (subst (λ (y : BuiltRule). Contains y.demands.classes q.2) (sym f.5) q.3)) (in_from_contains q.2 (unfold_site set.sites a) q.4) in
       let g = the_value p.types x (fits stage k a (pure_tested o a (joined_tested b o (gates_of b h o) a (joined_itself r.classes a c j))) a_value v x z) in

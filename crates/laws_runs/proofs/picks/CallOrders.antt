@@ -6,14 +6,14 @@ use Rattle.std.proofs.lemmas.List.Sorted.{IsPermutation-refl, IsPermutation-tran
 use Rattle.model.specs.lists.Names.{IsDistinct}
 use Rattle.model.specs.rules.Values.{Value}
 use Rattle.model.specs.rules.Meaning.{Content, Meaning}
-use Rattle.model.specs.rules.Picks.{Pick, site_content, places_in, picks_over}
+use Rattle.model.specs.rules.Picks.{Pick, site_content, places_in}
 use Rattle.model.specs.sites.Sites.{SiteTerm}
-use Rattle.model.proofs.Bags.{flat_flat, each_moved}
+use Rattle.model.proofs.Bags.{each_moved}
 use Rattle.model.proofs.DistinctJoined.{distinct_cons, distinct_tail, not_in_tail}
 use Rattle.model.proofs.Members.{nothing_in, in_head, in_tail, in_cases}
 use Rattle.laws_runs.specs.Orders.{Within, OrderedFrom, IsOfPlaces}
 use Rattle.laws_runs.proofs.picks.Calls.{ordered_prefix}
-use Rattle.laws_runs.proofs.picks.FirstCall.{calls_can_come_first_lem}
+use Rattle.laws_runs.proofs.picks.FirstCall.{made_by, made_each, calls_can_come_first_lem}
 use Rattle.laws_runs.proofs.picks.LongerPicks.{keys, keys_push}
 
 -- 1. one element of a list, and the others
@@ -76,10 +76,7 @@ others_ordered ls c (x ∷ before) after h = (
 -- 3. what is made of all the picks
 module _ (m : Meaning) (args : List Value) (f : Pick → List Content) (g : IsOfPlaces f) where
   abbrev made : Pick → List SiteTerm → List Content
-  made k calls = flat_map f (picks_over m args k calls)
-
-  made_each : (k : Pick) (c : SiteTerm) (calls : List SiteTerm) → made k (c ∷ calls) ≡ flat_map (λ n. made (k ++ (c, n) ∷ []) calls) (places_in (site_content m args k c))
-  made_each k c calls = flat_flat f (λ n. picks_over m args (k ++ (c, n) ∷ []) calls) (places_in (site_content m args k c))
+  made k calls = made_by m args f g k calls
 
   -- calls in another such order make the same bag
   abbrev MakesAlike : List SiteTerm → Type 0
@@ -116,4 +113,4 @@ module _ (m : Meaning) (args : List Value) (f : Pick → List Content) (g : IsOf
             ]
           ])) in
           IsPermutation-trans (made k xs) (made k (c ∷ rest)) (made k (c ∷ cs)) moved
-          (subst₂ IsPermutation (sym (made_each k c rest)) (sym (made_each k c cs)) each)
+          (subst₂ IsPermutation (sym (made_each m args f g k c rest)) (sym (made_each m args f g k c cs)) each)

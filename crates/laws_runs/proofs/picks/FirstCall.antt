@@ -50,15 +50,15 @@ two_same k a b n i h c =
     ∙ ap (λ o. or_else o (place_of ((a, n) ∷ []) c)) (sym (place_after k ((b, i) ∷ []) c))
     ∙ sym (place_after (k ++ (b, i) ∷ []) ((a, n) ∷ []) c)
 
--- 2. picks
+-- 2. what is made of all picks of some calls
 module _ (m : Meaning) (args : List Value) (f : Pick → List Content) (g : IsOfPlaces f) where
-  abbrev made : Pick → List SiteTerm → List Content
-  made k calls = flat_map f (picks_over m args k calls)
+  abbrev pub made_by : Pick → List SiteTerm → List Content
+  made_by k calls = flat_map f (picks_over m args k calls)
 
-  made_each : (k : Pick) (c : SiteTerm) (calls : List SiteTerm) → made k (c ∷ calls) ≡ flat_map (λ n. made (k ++ (c, n) ∷ []) calls) (places_in (site_content m args k c))
+  pub made_each : (k : Pick) (c : SiteTerm) (calls : List SiteTerm) → made_by k (c ∷ calls) ≡ flat_map (λ n. made_by (k ++ (c, n) ∷ []) calls) (places_in (site_content m args k c))
   made_each k c calls = flat_flat f (λ n. picks_over m args (k ++ (c, n) ∷ []) calls) (places_in (site_content m args k c))
 
-  made_same : (calls : List SiteTerm) (k l : Pick) → GiveSamePlaces k l → made k calls ≡ made l calls
+  made_same : (calls : List SiteTerm) (k l : Pick) → GiveSamePlaces k l → made_by k calls ≡ made_by l calls
   made_same [] k l h = ap (λ u. u ++ []) (g k l h)
   made_same (c ∷ calls) k l h =
       let e = content_same m k l h args c in
@@ -67,33 +67,33 @@ module _ (m : Meaning) (args : List Value) (f : Pick → List Content) (g : IsOf
       ∙ sym (made_each l c calls)
 
   made_two : (k : Pick) (a b : SiteTerm) (n : ℕ) (calls : List SiteTerm) → Covered (keys k) b
-      → made (k ++ (a, n) ∷ []) (b ∷ calls) ≡ flat_map (λ i. made ((k ++ (a, n) ∷ []) ++ (b, i) ∷ []) calls) (places_in (site_content m args k b))
+      → made_by (k ++ (a, n) ∷ []) (b ∷ calls) ≡ flat_map (λ i. made_by ((k ++ (a, n) ∷ []) ++ (b, i) ∷ []) calls) (places_in (site_content m args k b))
   made_two k a b n calls h =
       made_each (k ++ (a, n) ∷ []) b calls
-      ∙ ap (λ o. flat_map (λ i. made ((k ++ (a, n) ∷ []) ++ (b, i) ∷ []) calls) (places_in o)) (content_kept m args k ((a, n) ∷ []) b h)
+      ∙ ap (λ o. flat_map (λ i. made_by ((k ++ (a, n) ∷ []) ++ (b, i) ∷ []) calls) (places_in o)) (content_kept m args k ((a, n) ∷ []) b h)
 
   first : (before after : List SiteTerm) (k : Pick) (c : SiteTerm) → OrderedFrom (keys k) before → Covered (keys k) c → (Contains before c → ⊥)
-      → IsPermutation (made k (before ++ c ∷ after)) (made k (c ∷ (before ++ after)))
+      → IsPermutation (made_by k (before ++ c ∷ after)) (made_by k (c ∷ (before ++ after)))
   first [] after k c o v d = IsPermutation-refl _
   first (x ∷ before) after k c o v d =
       let rest = before ++ after in
       let here = places_in (site_content m args k x) in
       let there = places_in (site_content m args k c) in
-      let moved : IsPermutation (flat_map (λ n. made (k ++ (x, n) ∷ []) (before ++ c ∷ after)) here) (flat_map (λ n. made (k ++ (x, n) ∷ []) (c ∷ rest)) here)
+      let moved : IsPermutation (flat_map (λ n. made_by (k ++ (x, n) ∷ []) (before ++ c ∷ after)) here) (flat_map (λ n. made_by (k ++ (x, n) ∷ []) (c ∷ rest)) here)
       = each_moved _ _ here (λ n.
       first before after (k ++ (x, n) ∷ []) c
       (subst (λ l. OrderedFrom l before) (keys_push k (x, n)) o.1)
       (subst (λ l. Covered l c) (keys_push k (x, n)) (λ a h. Contains-append_left (keys k) (x ∷ []) a (v a h)))
       (λ h. d (in_tail x c before h))) in
-      let left : flat_map (λ n. made (k ++ (x, n) ∷ []) (c ∷ rest)) here ≡ flat_map (λ n. flat_map (λ i. made ((k ++ (x, n) ∷ []) ++ (c, i) ∷ []) rest) there) here
+      let left : flat_map (λ n. made_by (k ++ (x, n) ∷ []) (c ∷ rest)) here ≡ flat_map (λ n. flat_map (λ i. made_by ((k ++ (x, n) ∷ []) ++ (c, i) ∷ []) rest) there) here
       = λ j. flat_map (λ n. made_two k x c n rest v j) here in
-      let right : flat_map (λ i. flat_map (λ n. made ((k ++ (x, n) ∷ []) ++ (c, i) ∷ []) rest) here) there ≡ flat_map (λ i. made (k ++ (c, i) ∷ []) (x ∷ rest)) there
+      let right : flat_map (λ i. flat_map (λ n. made_by ((k ++ (x, n) ∷ []) ++ (c, i) ∷ []) rest) here) there ≡ flat_map (λ i. made_by (k ++ (c, i) ∷ []) (x ∷ rest)) there
       = (λ j. flat_map (λ i. flat_map (λ n. made_same rest ((k ++ (x, n) ∷ []) ++ (c, i) ∷ []) ((k ++ (c, i) ∷ []) ++ (x, n) ∷ []) (two_same k x c n i (λ e. d (subst (Contains (x ∷ before)) e (in_head x before)))) j) here) there)
       ∙ (λ j. flat_map (λ i. sym (made_two k c x i rest o.0) j) there) in
       subst₂ IsPermutation (sym (made_each k x (before ++ c ∷ after))) (right ∙ sym (made_each k c (x ∷ rest)))
       (IsPermutation-trans _ _ _ moved
-      (subst (λ l. IsPermutation l (flat_map (λ i. flat_map (λ n. made ((k ++ (x, n) ∷ []) ++ (c, i) ∷ []) rest) here) there)) (sym left)
-      (exchanged (λ n i. made ((k ++ (x, n) ∷ []) ++ (c, i) ∷ []) rest) here there)))
+      (subst (λ l. IsPermutation l (flat_map (λ i. flat_map (λ n. made_by ((k ++ (x, n) ∷ []) ++ (c, i) ∷ []) rest) here) there)) (sym left)
+      (exchanged (λ n i. made_by ((k ++ (x, n) ∷ []) ++ (c, i) ∷ []) rest) here there)))
 
 pub calls_can_come_first_lem : CallsCanComeFirst
 calls_can_come_first_lem m args f k before after call g o v d = first m args f g before after k call o v d

@@ -17,7 +17,7 @@ use Rattle.model.proofs.Members.{nothing_in, member_from_get, get_from_member, m
 use Rattle.laws_runs.proofs.runs.Below.{pure_alone}
 use Rattle.laws_runs.proofs.runs.BindOrders.{Finds}
 use Rattle.laws_runs.proofs.runs.RunPlaces.{IsClear, ClearWorld, ServesUnder, IsGoneOver, set_of}
-use Rattle.laws_runs.proofs.runs.Standing.{holds_here}
+use Rattle.laws_runs.proofs.runs.PickedPlaces.{holds_here}
 use Rattle.laws_runs.proofs.runs.Finding.{Found, found_left, found_right, next_found, rule_found}
 use Rattle.laws_runs.proofs.runs.Returns.{taken_ends, taken_here}
 use Rattle.laws_runs.proofs.runs.Claims.{NeverHold, IsKept, says_of_run}

@@ -23,7 +23,7 @@ use Rattle.laws_runs.proofs.runs.Contents.{sources_in}
 use Rattle.laws_runs.proofs.runs.Below.{IsPureBelow}
 use Rattle.laws_runs.proofs.runs.RuleDemands.{joined_back, demand_met, demand_equal}
 use Rattle.laws_runs.proofs.runs.RunPlaces.{ClearWorld, ServesUnder, IsGoneOver, Kept, At, Place, NextCall, wider, set_in, constraint_tested, class_tested, call_known}
-use Rattle.laws_runs.proofs.runs.Standing.{at_equal}
+use Rattle.laws_runs.proofs.runs.PickedPlaces.{at_equal}
 use Rattle.laws_runs.proofs.runs.Loops.{Loop, after_loop, loop_around, grown, meets_grown, at_after_loop, at_loop}
 use Rattle.laws_runs.proofs.runs.Steps.{trace, values_cases, fields_cases, match_step, equal_step, loop_step, arm_step, arm_unmet}
 

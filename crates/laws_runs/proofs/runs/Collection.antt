@@ -26,7 +26,7 @@ use Rattle.laws_runs.proofs.runs.Below.{pure_alone}
 use Rattle.laws_runs.proofs.runs.BindOrders.{Finds}
 use Rattle.laws_runs.proofs.runs.RunPlaces.{IsClear, ClearWorld, ServesUnder, At, Place, IsReady, wider, set_of}
 use Rattle.laws_runs.proofs.runs.AvailableSites.{found_at, binds_at}
-use Rattle.laws_runs.proofs.runs.Standing.{ready_here, holds_here}
+use Rattle.laws_runs.proofs.runs.PickedPlaces.{ready_here, holds_here}
 use Rattle.laws_runs.proofs.runs.Steps.{trace, step_runs}
 use Rattle.laws_runs.proofs.runs.Claims.{IsKept, says_of_run}
 use Rattle.laws_runs.proofs.runs.AddedResults.{Adds, adds_none, adds_then, adds_as, each_adds}

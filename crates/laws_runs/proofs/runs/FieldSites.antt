@@ -2,7 +2,7 @@
 use Rattle.std.proofs.Common.{◌≡◌, ◌⊎◌, ℕ, zero, suc, ◌+◌, ◌<◌, ◌≤◌, ◌==◌, Bool, true, ◌&&◌, List, [], ◌∷◌, Option, Some, None, slice_get, Contains, IsTrue, nat_lt, ltb-true, refl, sym, ap, ◌∙◌, subst, inl, inr, arith, eqb-true, eq-eqb}
 use Rattle.std.proofs.lemmas.Bool.{cases_Bool, cond-true, cond-false, and_parts, and_from, false≢true, cases_lt}
 use Rattle.std.proofs.lemmas.Option.{none-some, same_Some}
-use Rattle.std.proofs.Math.Nat.{zero-add}
+use Rattle.std.proofs.Math.Nat.{zero-add, add-zero, suc_inj, suc-ne-zero}
 use Rattle.model.specs.lists.Names.{IsDistinct}
 use Rattle.model.specs.sites.Sites.{Site, iterator_site, match_variant_site, extract_struct_site, match_some_site, Constraint, is_variant, is_struct, is_present, SetRule}
 use Rattle.model.specs.trees.Places.{waits, is_variant_field, is_struct_field, is_part_of, site_from, each_field, fields_of, field_sites}
@@ -11,9 +11,6 @@ use Rattle.model.specs.sites.Gates.{asks_answer, asks_struct, asks_variant, gate
 use Rattle.model.proofs.SameSites.{parts_mean}
 
 -- 1. the first site that passes
-plus_zero : (n : ℕ) → n ≡ n + 0
-plus_zero n = omega arith
-
 plus_suc : (n k : ℕ) → suc n + k ≡ n + suc k
 plus_suc n k = omega arith
 
@@ -22,7 +19,7 @@ module _ (p : Site → Bool) where
   site_from_is [] n x e = absurd (none-some x e)
   site_from_is (b ∷ sites) n x e =
       elim (cases_Bool (p b)) [
-        | inl t ↦ (0, b, sym (same_Some n x (sym (cond-true (p b) (Some n) (site_from (suc n) p sites) t) ∙ e)) ∙ plus_zero n, refl, t)
+        | inl t ↦ (0, b, sym (same_Some n x (sym (cond-true (p b) (Some n) (site_from (suc n) p sites) t) ∙ e)) ∙ sym (add-zero n), refl, t)
         | inr f ↦
             let r = site_from_is sites (suc n) x (sym (cond-false (p b) (Some n) (site_from (suc n) p sites) f) ∙ e) in
             (suc r.0, r.1, r.2 ∙ plus_suc n r.0, r.3, r.4)
@@ -39,21 +36,15 @@ module _ (p : Site → Bool) where
   site_found [] n s b e h only = absurd (none-some b e)
   site_found (x ∷ xs) n zero b e h only =
       let q : p x ≡ true = ap p (same_Some x b e) ∙ h in
-      cond-true (p x) (Some n) (site_from (suc n) p xs) q ∙ ap Some (plus_zero n)
+      cond-true (p x) (Some n) (site_from (suc n) p xs) q ∙ ap Some (sym (add-zero n))
   site_found (x ∷ xs) n (suc k) b e h only =
       elim (cases_Bool (p x)) [
-        | inl t ↦ absurd (apart k (only 0 x refl t))
+        | inl t ↦ absurd (suc-ne-zero k (sym (only 0 x refl t)))
         | inr f ↦
             cond-false (p x) (Some n) (site_from (suc n) p xs) f
-            ∙ site_found xs (suc n) k b e h (λ j y at t. down j k (only (suc j) y at t))
+            ∙ site_found xs (suc n) k b e h (λ j y at t. suc_inj (only (suc j) y at t))
             ∙ ap Some (plus_suc n k)
       ]
-    where
-      apart : (k : ℕ) → 0 ≡ suc k → ⊥
-      apart k e = omega arith
-
-      down : (j k : ℕ) → suc j ≡ suc k → j ≡ k
-      down j k e = omega arith
 
 -- 2. which site a field's is
 pub variant_field_same : (s v i : ℕ) (b : Site) → is_variant_field s v i b ≡ true → b ≡ match_variant_site s v i

@@ -16,7 +16,7 @@ use Rattle.model.proofs.Members.{in_alone, get_within, all_members, from_flat_ma
 use Rattle.laws_runs.proofs.runs.Below.{below_within}
 use Rattle.laws_runs.proofs.runs.Binding.{kept_below, reads}
 use Rattle.laws_runs.proofs.runs.RunPlaces.{ClearWorld, IsGoneOver, Kept, Place}
-use Rattle.laws_runs.proofs.runs.Standing.{gate_kept}
+use Rattle.laws_runs.proofs.runs.PickedPlaces.{gate_kept}
 
 -- 1. a return ends a run
 module _ (w : World) (single : w.multi ≡ false) where

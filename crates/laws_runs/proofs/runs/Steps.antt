@@ -18,7 +18,7 @@ use Rattle.laws_runs.proofs.runs.RuleDemands.{joined_back}
 use Rattle.laws_runs.proofs.runs.Fields.{FieldsHold, fields_hold, fields_bound, fields_pure}
 use Rattle.laws_runs.proofs.runs.RunPlaces.{ClearWorld, Kept, At, Place, IsReady, wider, set_in}
 use Rattle.laws_runs.proofs.runs.AvailableSites.{found_at, binds_at}
-use Rattle.laws_runs.proofs.runs.Standing.{at_arm}
+use Rattle.laws_runs.proofs.runs.PickedPlaces.{at_arm}
 
 -- where a run stands that made no impure call
 abbrev pub trace : List Content → Trace

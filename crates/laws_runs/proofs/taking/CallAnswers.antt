@@ -16,7 +16,7 @@ use Rattle.laws_runs.proofs.runs.Listing.{stays_here, last_here, unlisted}
 use Rattle.laws_runs.proofs.taking.CallsIn.{CallOnly, Known, IsNext, each_only, IsImpureAt, below_only, call_number, unwrap_number}
 use Rattle.laws_runs.proofs.taking.FollowedCalls.{Followed, goes_on, stops, follow_with, answered_call, follow_call}
 use Rattle.laws_runs.proofs.taking.ImpureCalls.{one_more, ImpureCall, values_of, CallMade, CallGone, call_fresh, not_listed, call_goes}
-use Rattle.laws_runs.proofs.taking.TakingProgress.{GaveValues, Emitted, Here, content, bound_so_far, BoundSites, fails_on, not_emitted}
+use Rattle.laws_runs.proofs.taking.TakingProgress.{GaveValues, Emitted, Here, StaysHere, content, bound_so_far, BoundSites, fails_on, not_emitted}
 use Rattle.laws_runs.proofs.taking.PureSites.{calls_nothing}
 use Rattle.laws_runs.proofs.taking.SitesBelow.{ReturnSites, Below, CallsReady, put_pure}
 use Rattle.laws_runs.proofs.taking.Taking.{Taking}
@@ -58,7 +58,7 @@ module _ (taking : Taking) (uses : ReturnSites taking) where
     pub followed : follow_one (U x) calls ≡ goes_on after
     pub there : IsTrue (is_some (content taking x))
     pub count : length after ≡ suc (length calls)
-    pub grows : (u : ℕ) → Here taking done u → Here taking more u
+    pub grows : StaysHere taking done more
     pub here : Here taking more x
     pub call_here : (c : ℕ) → c < length taking.world.sites → U c ≡ answered_call (U x) → Here taking more c
 

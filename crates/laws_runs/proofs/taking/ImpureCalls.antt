@@ -16,7 +16,7 @@ use Rattle.laws_runs.proofs.runs.Binding.{content_of}
 use Rattle.laws_runs.proofs.runs.Contents.{sources_in, content_layer}
 use Rattle.laws_runs.proofs.runs.Listing.{stays_here, last_here, unlisted}
 use Rattle.laws_runs.proofs.runs.PureBindings.{values_read}
-use Rattle.laws_runs.proofs.taking.TakingProgress.{GaveValues, Emitted, Here, Next, content, bound_so_far, BoundSites, fails_on, not_emitted, comes_after, put_bound}
+use Rattle.laws_runs.proofs.taking.TakingProgress.{GaveValues, Emitted, Here, StaysHere, Next, content, bound_so_far, BoundSites, fails_on, not_emitted, comes_after, put_bound}
 use Rattle.laws_runs.proofs.taking.SettledSites.{values_there}
 use Rattle.laws_runs.proofs.taking.SitesBelow.{ReturnSites, is_none, Below, AllListed, OneFailed, CallsReady, sites_go}
 use Rattle.laws_runs.proofs.taking.Taking.{Taking}
@@ -44,7 +44,7 @@ module _ (taking : Taking) (uses : ReturnSites taking) where
     pub held : values_of c.args ≡ Some values
     pub there : content taking c.site ≡ Some answer
     pub listed : BoundSites taking more (calls ++ record { term = c.term; args = values } ∷ [])
-    pub grows : (u : ℕ) → Here taking done u → Here taking more u
+    pub grows : StaysHere taking done more
     pub here : Here taking more c.site
 
   -- or an argument has no value

@@ -15,7 +15,7 @@ use Rattle.laws_runs.proofs.runs.Contents.{sources_in, content_layer}
 use Rattle.laws_runs.proofs.runs.Listing.{stays_here, Walk, all_listed}
 use Rattle.laws_runs.proofs.runs.PureBindings.{binds_content}
 use Rattle.laws_runs.proofs.taking.CallsIn.{IsImpureAt}
-use Rattle.laws_runs.proofs.taking.TakingProgress.{GaveValues, Emitted, Here, Next, content, bound_so_far, BoundSites, fails_on, bind_next, comes_after, fresh, read_sources, put_bound, put_placed}
+use Rattle.laws_runs.proofs.taking.TakingProgress.{GaveValues, Emitted, Here, StaysHere, Next, content, bound_so_far, BoundSites, fails_on, bind_next, comes_after, fresh, read_sources, put_bound, put_placed}
 use Rattle.laws_runs.proofs.taking.PureSites.{calls_nothing, pure_site}
 use Rattle.laws_runs.proofs.taking.SettledSites.{below_there}
 use Rattle.laws_runs.proofs.taking.Taking.{Taking, ComesAfterValues}
@@ -97,7 +97,7 @@ module _ (taking : Taking) (uses : ReturnSites taking) where
   -- 2. sites were listed with all below them, or one of them has no content
   pub record AllListed (done more : List ℕ) (calls : List Call) (xs : List ℕ) : Type 0 where
     pub listed : BoundSites taking more calls
-    pub grows : (t : ℕ) → Here taking done t → Here taking more t
+    pub grows : StaysHere taking done more
     pub now : (s : ℕ) → Contains xs s → Here taking more s
 
   pub record OneFailed (more : List ℕ) (calls : List Call) (xs : List ℕ) : Type 0 where
@@ -116,7 +116,7 @@ module _ (taking : Taking) (uses : ReturnSites taking) where
   module _ (done : List ℕ) (calls : List Call) (xs : List ℕ) (ready : CallsReady done xs) where
     -- so far, or a site below these has no content
     record IsWalked (more : List ℕ) : Type 0 where
-      grows : (t : ℕ) → Here taking done t → Here taking more t
+      grows : StaysHere taking done more
       reached : BoundSites taking more calls ⊎ OneFailed more calls (all_below taking.world.sites xs)
 
     pure_next : (more : List ℕ) → BoundSites taking more calls → IsWalked more → (n : Next taking more) → Contains (all_below taking.world.sites xs) n.site → calls_nothing (slice_get taking.world.sites n.site) ≡ true

@@ -31,6 +31,10 @@ module _ (taking : Taking) where
   abbrev pub Here : List ℕ → ℕ → Type 0
   Here done s = IsHere Emitted done s
 
+  -- what is here after these sites is here after more of them
+  abbrev pub StaysHere : List ℕ → List ℕ → Type 0
+  StaysHere done more = (s : ℕ) → Here done s → Here more s
+
   -- the site that is listed next
   abbrev pub Next : List ℕ → Type 0
   Next done = NextSite taking.world.sites taking.place.around.emitted Emitted done

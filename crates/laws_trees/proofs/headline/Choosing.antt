@@ -1,5 +1,5 @@
 -- In a term that isn't multi, the run of a best tree is the choice by priority.
-use Rattle.std.proofs.Common.{◌≡◌, ◌<◌, ℕ, false, List, [], map, Some, is_some, slice_get, Contains, All, IsTrue, ◌≤ℤ◌, sym, ap, subst, ◌∙◌, inl, inr, arith}
+use Rattle.std.proofs.Common.{◌≡◌, ◌<◌, ℕ, false, List, [], Some, is_some, slice_get, Contains, All, IsTrue, ◌≤ℤ◌, sym, ap, subst, ◌∙◌, inl, inr, arith}
 use Rattle.std.proofs.lemmas.Bool.{both_ways, false≢true, cases_lt}
 use Rattle.model.specs.rules.Values.{Value}
 use Rattle.model.specs.rules.Meaning.{Meaning}
@@ -9,7 +9,7 @@ use Rattle.model.specs.rules.Matching.{matches}
 use Rattle.model.specs.rules.Choice.{with_vars, outcome_of_rule, choice, MatchesOnce}
 use Rattle.model.specs.rules.Typed.{TypedRule}
 use Rattle.model.specs.sites.Sites.{SetRule, SiteSet}
-use Rattle.model.specs.sites.Overlap.{BuiltRule, built_rules}
+use Rattle.model.specs.sites.Overlap.{built_rules}
 use Rattle.model.specs.trees.Trees.{Tree}
 use Rattle.model.specs.trees.Run.{World, run, world_of}
 use Rattle.model.specs.trees.Collects.{demands_hold}
@@ -30,7 +30,7 @@ use Rattle.laws_runs.proofs.runs.ChosenRules.{Chosen, no_match, matching, chosen
 use Rattle.laws_matching.specs.MatchLaws.{BuiltSetsMatchByDemands, BuiltRulesAreToldApart, RulesWithoutMultiGoOverNoCalls}
 use Rattle.laws_matching.specs.ServeLaws.{ServedSetsServeTests}
 use Rattle.laws_closure.proofs.built.BuiltGates.{one_rule}
-use Rattle.laws_matching.proofs.ToldApart.{empty_pick, same_match}
+use Rattle.laws_matching.proofs.DisjointRules.{empty_pick, same_match}
 use Rattle.laws_trees.specs.BuiltLaws.{BestTreesOfBuiltSetsAreSound}
 use Rattle.laws_trees.proofs.headline.NoCalls.{rule_goes_over_none, pair_goes_over_none, set_goes_over_none}
 use Rattle.laws_trees.proofs.headline.Places.{Pair, of_set_rule, of_typed_rule, typed_here}
@@ -96,9 +96,6 @@ module _ (laws : ChoosingLaws) (b : BuiltSet) (of : IsChosenFrom b) (serving : S
   prio_same : (i : ℕ) (x : Pair p t set i) → x.built.prio ≡ x.typed.rule.prio
   prio_same i x = (one_rule p t set x.typed x.built b.built x.one).prio
 
-  all : map (λ (k : BuiltRule). k.rule) (built_rules p t) ≡ rs
-  all = of.checkable.built t
-
   -- 3. of two rules of one priority one matches at most
   never_both : (i j : ℕ) (x : Pair p t set i) (y : Pair p t set j) → i < j → x.typed.rule.prio ≡ y.typed.rule.prio → Matches x.typed.rule → Matches y.typed.rule → ⊥
   never_both i j x y l same mx my =
@@ -108,8 +105,8 @@ module _ (laws : ChoosingLaws) (b : BuiltSet) (of : IsChosenFrom b) (serving : S
 
   pub once : MatchesOnce p m rs args
   once i j r q ri qj same mr mq =
-      let x = of_typed_rule p t set b.built all i r ri in
-      let y = of_typed_rule p t set b.built all j q qj in
+      let x = of_typed_rule p t set b.built (of.checkable.built t) i r ri in
+      let y = of_typed_rule p t set b.built (of.checkable.built t) j q qj in
       let mx = subst Matches (sym x.1) mr in
       let my = subst Matches (sym y.1) mq in
       let prios : x.0.typed.rule.prio ≡ y.0.typed.rule.prio = ap (λ (k : TypedRule). k.prio) x.1 ∙ same ∙ sym (ap (λ (k : TypedRule). k.prio) y.1) in
@@ -133,7 +130,7 @@ module _ (laws : ChoosingLaws) (b : BuiltSet) (of : IsChosenFrom b) (serving : S
   chosen_here i x mx most = by (chosen_is p m args rs)
     where
       here : slice_get rs i ≡ Some x.typed.rule
-      here = typed_here p t set b.built all i x
+      here = typed_here p t set b.built (of.checkable.built t) i x
 
       by : Chosen p m rs args → choice p m rs args ≡ with_vars p m x.typed.rule (matches p m x.typed.rule args)
       by (no_match q never) = absurd (never x.typed.rule (in_slice rs i x.typed.rule here) mx)
@@ -149,7 +146,7 @@ module _ (laws : ChoosingLaws) (b : BuiltSet) (of : IsChosenFrom b) (serving : S
       by : Chosen p m rs args → choice p m rs args ≡ no_rule
       by (no_match q n) = ap (outcome_of_rule p m args) q
       by (matching s j q at ms top) =
-          let x = of_typed_rule p t set b.built all j s at in
+          let x = of_typed_rule p t set b.built (of.checkable.built t) j s at in
           let member = member_from_get set.rules j x.0.built x.0.there in
           absurd (both_ways (demands_hold w [] x.0.built) (never x.0.built member) (sym (alike j x.0) ∙ subst Matches (sym x.1) ms))
 
@@ -162,7 +159,7 @@ module _ (laws : ChoosingLaws) (b : BuiltSet) (of : IsChosenFrom b) (serving : S
       taken_gives g.0 x.0 o mx (subst (λ q. IsTaken w q o) (sym x.1) taken)
       ∙ sym (chosen_here g.0 x.0 mx (λ q i mq.
       let k = get_from_member rs q (contains_from_in rs q i) in
-      let y = of_typed_rule p t set b.built all k.0 q k.1 in
+      let y = of_typed_rule p t set b.built (of.checkable.built t) k.0 q k.1 in
       let member = member_from_get set.rules k.0 y.0.built y.0.there in
       let less = most y.0.built member (sym (alike k.0 y.0) ∙ subst Matches (sym y.1) mq) in
       let mine : y.0.built.prio ≡ q.prio = prio_same k.0 y.0 ∙ ap (λ (z : TypedRule). z.prio) y.1 in

@@ -239,9 +239,6 @@ module _ (laws : CollectingLaws) (b : BuiltSet) (of : IsCollectedFrom b) (servin
         (calls_ordered p x.typed.rule) ordered (once_with [] (demands_of p x.typed.rule).iterators distinct_nil) distinct of_rule of_set)
 
   -- 5. those of all rules
-  all : map (λ (k : BuiltRule). k.rule) (built_rules p t) ≡ rs
-  all = of.checkable.built t
-
   abbrev typed_results : TypedRule → List Content
   typed_results r = flat_map (results_under p m args r) (picks p m args r)
 
@@ -252,9 +249,9 @@ module _ (laws : CollectingLaws) (b : BuiltSet) (of : IsCollectedFrom b) (servin
   same_bag =
       same_bags typed_results built_results rs set.rules
       (λ i r at.
-      let x = of_typed_rule p t set b.built all i r at in
+      let x = of_typed_rule p t set b.built (of.checkable.built t) i r at in
       (x.0.built, x.0.there, subst (λ q. IsPermutation (typed_results q) (built_results x.0.built)) x.1 (rule_bag i x.0)))
-      (λ i r at. let x = of_set_rule p t set b.built i r at in (x.0.typed.rule, typed_here p t set b.built all i x.0))
+      (λ i r at. let x = of_set_rule p t set b.built i r at in (x.0.typed.rule, typed_here p t set b.built (of.checkable.built t) i x.0))
 
   pub collects : (tree : Tree) → IsBestTree set tree → Collects (run tree w) (bag p m rs args)
   collects tree best =

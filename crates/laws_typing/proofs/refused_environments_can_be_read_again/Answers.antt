@@ -1,4 +1,4 @@
-use Rattle.laws_typing.proofs.ReadAgain.{refused_environments_can_be_read_again_lem}
+use Rattle.laws_typing.proofs.AfterRefusals.{refused_environments_can_be_read_again_lem}
 use Rattle.laws_typing.proofs.refused_environments_can_be_read_again.Goals as goal
 
 pub returns : goal.returns

@@ -1,7 +1,7 @@
 use Rattle.std.proofs.Common.{◌≡◌, ◌+◌, ◌∙◌, ap, get_or, option_map, sym, subst, take}
 use Rattle.std.specs.List.{filter}
 use Rattle.isle_rule_sets.specs.SiteViews.{constraint_view, set_view}
-use Rattle.isle_serialize.specs.Turns.{asks_some, asked_numbers, AreAsked}
+use Rattle.isle_serialize.specs.ArmOrder.{asks_some, asked_numbers, AreAsked}
 use Rattle.isle_serialize.proofs.ArmRuns.{asked_more, asked_none}
 use Rattle.isle_serialize.proofs.arms.all_asked.Goals.{in-Some+in_ok-push, in_default}
 use Rattle.isle_serialize.proofs.arms.all_asked.Goals as goal

@@ -1,7 +1,7 @@
 use Rattle.std.proofs.Common.{◌≡◌, take}
 use Rattle.std.specs.List.{filter}
 use Rattle.isle_rule_sets.specs.SiteViews.{set_view}
-use Rattle.isle_serialize.specs.Turns.{asks_some, asked_numbers, AreAsked}
+use Rattle.isle_serialize.specs.ArmOrder.{asks_some, asked_numbers, AreAsked}
 use Rattle.isle_serialize.proofs.arms.all_asked.Given as goal
 
 abbrev pub invariant-loop-number : goal.invariant-loop-number

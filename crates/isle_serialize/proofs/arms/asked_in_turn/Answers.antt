@@ -1,7 +1,7 @@
 use Rattle.std.proofs.Common.{rules}
 use Rattle.std.proofs.lemmas.Fn.{always_returns_same}
 use Rattle.isle_rule_sets.specs.SiteViews.{set_view}
-use Rattle.isle_serialize.specs.Turns.{is_ahead}
+use Rattle.isle_serialize.specs.ArmOrder.{is_ahead}
 use Rattle.isle_serialize.proofs.ArmRuns.{in_turn, order}
 use Rattle.isle_serialize.proofs.arms.asked_in_turn.Goals as goal
 

@@ -1,5 +1,5 @@
 use Rattle.std.proofs.Common.{◌≡◌, take}
-use Rattle.isle_serialize.specs.Turns.{asked_numbers}
+use Rattle.isle_serialize.specs.ArmOrder.{asked_numbers}
 use Rattle.isle_serialize.proofs.arms.numbers_of.Given as goal
 
 abbrev pub invariant-loop-asked : goal.invariant-loop-asked

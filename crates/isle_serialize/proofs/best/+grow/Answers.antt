@@ -4,7 +4,7 @@ use Rattle.isle_serialize.specs.declared.serialize.MatchArm.{roll-MatchArm}
 use Rattle.isle_serialize.specs.AroundViews.{around_view, AreEmitted}
 use Rattle.isle_serialize.specs.Growing.{IsBestFrom, IsBestBody, IsStepOf, test_emits, IsNextTest, IsNext}
 use Rattle.isle_serialize.specs.TestViews.{test_view, IsChosen}
-use Rattle.isle_serialize.specs.Turns.{asked_numbers, AreInTurn, IsNextArmOf}
+use Rattle.isle_serialize.specs.ArmOrder.{asked_numbers, AreInTurn, IsNextArmOf}
 use Rattle.isle_serialize.specs.TreeViews.{tree_view, arms_view, check_view}
 use Rattle.isle_serialize.specs.PlaceViews.{set_in}
 use Rattle.isle_serialize.proofs.ArmSteps.{ArmsGrow, arms_start, fewer_left, asking_ordered, arms_more, arms_whole}

@@ -3,7 +3,7 @@ use Rattle.isle_base.specs.NotedErrors.{NotesMore}
 use Rattle.isle_base.specs.Positions.{NotesAt, name_positions}
 use Rattle.isle_base.specs.SyntaxViews.{name_view}
 use Rattle.isle_base.proofs.Positioned.{notes_among, notes_nothing}
-use Rattle.isle_terms.proofs.PlacesNoted.{name_among}
+use Rattle.isle_terms.proofs.NotedPositions.{name_among}
 use Rattle.isle_terms.proofs.Arguments.{next_type, unknown_type}
 use Rattle.isle_terms.proofs.reading.arg_types.Goals as goal
 

@@ -6,7 +6,7 @@ use Rattle.isle_terms.specs.TermViews.{term_view, term_views}
 use Rattle.isle_typed.specs.RuleNaming.{is_defined_term, AreDefined, IsLeftUndefined}
 use Rattle.isle_typed.proofs.FirstErrors.{begins_first, may_begin}
 use Rattle.isle_typed.proofs.DefinedSteps.{first_defined, next_defined, last_defined, next_begins, terms_before}
-use Rattle.isle_typed.proofs.PlacesNoted.{next_placed}
+use Rattle.isle_typed.proofs.NotedPositions.{next_placed}
 use Rattle.isle_typed.proofs.rule_names.check_defined.Goals as goal
 
 pub loop-term-init : goal.loop-term-init

@@ -5,7 +5,7 @@ use Rattle.isle_typed.specs.RuleViews.{rule_view, rule_views}
 use Rattle.isle_typed.specs.RuleNaming.{TakesName}
 use Rattle.isle_typed.proofs.FirstErrors.{begins_first, may_begin}
 use Rattle.isle_typed.proofs.MapSteps.{first_named, next_named, last_named, next_begins}
-use Rattle.isle_typed.proofs.PlacesNoted.{next_placed}
+use Rattle.isle_typed.proofs.NotedPositions.{next_placed}
 use Rattle.isle_typed.proofs.rule_names.map_names.Goals as goal
 
 pub loop-rule-init : goal.loop-rule-init

@@ -1,7 +1,7 @@
 use Rattle.isle_terms.proofs.Breaches.{begins_noted}
 use Rattle.std.proofs.Common.{rules}
 use Rattle.isle_terms.specs.TermViews.{term_view}
-use Rattle.isle_terms.proofs.PlacesNoted.{entry_taken, entry_first}
+use Rattle.isle_terms.proofs.NotedPositions.{entry_taken, entry_first}
 use Rattle.isle_terms.proofs.reading.externs.may_have_external.Goals as goal
 
 pub returns-in_ok-report_second-in-Decl-default-default-Some-clause-places :

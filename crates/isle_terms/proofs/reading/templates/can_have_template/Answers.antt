@@ -1,6 +1,6 @@
 use Rattle.std.proofs.Common.{rules}
 use Rattle.isle_terms.specs.TermViews.{term_view}
-use Rattle.isle_terms.proofs.PlacesNoted.{entry_taken, entry_first}
+use Rattle.isle_terms.proofs.NotedPositions.{entry_taken, entry_first}
 use Rattle.isle_terms.proofs.reading.templates.can_have_template.Goals as goal
 
 pub returns-in_ok-report_again-in-Decl-default-default-Some-clause-places :

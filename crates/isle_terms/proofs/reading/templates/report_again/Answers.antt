@@ -3,7 +3,7 @@ use Rattle.std.proofs.Common.{inr}
 use Rattle.std.proofs.lemmas.Result.{on_ok_weaker}
 use Rattle.isle_base.proofs.NotedErrors.{both}
 use Rattle.isle_terms.specs.TermPositions.{taker_places}
-use Rattle.isle_terms.proofs.PlacesNoted.{notes_earlier}
+use Rattle.isle_terms.proofs.NotedPositions.{notes_earlier}
 use Rattle.isle_terms.proofs.reading.templates.report_again.Goals as goal
 
 pub returns-clause-noted : goal.returns-clause-noted

@@ -4,7 +4,7 @@ use Rattle.isle_base.specs.Positions.{NotesAt, declaration_positions, name_posit
 use Rattle.isle_base.specs.SyntaxViews.{decl_view, name_view}
 use Rattle.isle_terms.specs.Reading.{signature_entry}
 use Rattle.isle_terms.proofs.Making.{within_push}
-use Rattle.isle_terms.proofs.PlacesNoted.{arguments_noted, declaration_there, noted_before, placed_pushed, placed_same, placed_still, types_noted}
+use Rattle.isle_terms.proofs.NotedPositions.{arguments_noted, declaration_there, noted_before, placed_pushed, placed_same, placed_still, types_noted}
 use Rattle.isle_terms.proofs.ErrorSteps.{both_ok}
 use Rattle.isle_terms.proofs.term_table.TermTable.add_decl.Goals as goal
 

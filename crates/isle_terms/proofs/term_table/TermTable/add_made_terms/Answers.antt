@@ -5,7 +5,7 @@ use Rattle.isle_types.specs.TypeViews.{type_views}
 use Rattle.isle_types.specs.TypePositions.{types_positions}
 use Rattle.isle_terms.specs.Signing.{AddsAllMade}
 use Rattle.isle_terms.proofs.Breaches.{begins_noted}
-use Rattle.isle_terms.proofs.PlacesNoted.{placed_same, type_noted, type_placed}
+use Rattle.isle_terms.proofs.NotedPositions.{placed_same, type_noted, type_placed}
 use Rattle.isle_terms.proofs.Making.{grows_nothing, next_made}
 use Rattle.isle_terms.proofs.term_table.TermTable.add_made_terms.Goals as goal
 

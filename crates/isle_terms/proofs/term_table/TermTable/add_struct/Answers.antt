@@ -5,7 +5,7 @@ use Rattle.isle_base.specs.SyntaxViews.{position}
 use Rattle.isle_types.specs.TypeViews.{fields_view}
 use Rattle.model.specs.lists.TermTable.{struct_as_term}
 use Rattle.isle_terms.specs.TermTables.{term_at}
-use Rattle.isle_terms.proofs.PlacesNoted.{placed_pushed, placed_still}
+use Rattle.isle_terms.proofs.NotedPositions.{placed_pushed, placed_still}
 use Rattle.isle_terms.proofs.Making.{none_mapped, some_mapped, added_one, taken_one}
 use Rattle.isle_terms.proofs.term_table.TermTable.add_struct.Goals as goal
 

@@ -1,6 +1,6 @@
 use Rattle.isle_base.specs.SyntaxViews.{position}
 use Rattle.isle_base.proofs.Positioned.{among_first, among_rest}
-use Rattle.isle_terms.proofs.PlacesNoted.{noted_among, placed_on, placed_same}
+use Rattle.isle_terms.proofs.NotedPositions.{noted_among, placed_on, placed_same}
 use Rattle.std.proofs.Common.{refl}
 use Rattle.isle_types.specs.TypeViews.{type_view}
 use Rattle.isle_types.specs.TypePositions.{entry_positions as type_entry_positions}

@@ -5,7 +5,7 @@ use Rattle.isle_terms.specs.TermTables.{term_at}
 use Rattle.isle_base.specs.Positions.{NotesAt}
 use Rattle.isle_base.specs.SyntaxViews.{position}
 use Rattle.isle_base.proofs.Positioned.{notes_nothing}
-use Rattle.isle_terms.proofs.PlacesNoted.{placed_same, variant_placed}
+use Rattle.isle_terms.proofs.NotedPositions.{placed_same, variant_placed}
 use Rattle.isle_types.specs.TypeViews.{variant_view}
 use Rattle.isle_terms.specs.TermPositions.{variants_positions}
 use Rattle.isle_base.specs.NotedErrors.{NotesMore}

@@ -5,7 +5,7 @@ use Rattle.isle_base.proofs.Positioned.{among_one}
 use Rattle.isle_base.specs.Positions.{declaration_positions}
 use Rattle.isle_terms.proofs.Breaches.{begins_among, begins_before, begins_noted}
 use Rattle.isle_base.specs.SyntaxViews.{decl_view}
-use Rattle.isle_terms.proofs.PlacesNoted.{declaration_there, declared_before}
+use Rattle.isle_terms.proofs.NotedPositions.{declaration_there, declared_before}
 use Rattle.isle_terms.specs.TermTables.{term_at}
 use Rattle.isle_terms.proofs.term_table.TermTable.check_free.Goals as goal
 

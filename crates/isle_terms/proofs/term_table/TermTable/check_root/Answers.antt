@@ -5,7 +5,7 @@ use Rattle.isle_terms.proofs.Changing.{view_at}
 use Rattle.isle_base.specs.SyntaxViews.{position}
 use Rattle.isle_terms.proofs.Breaches.{begins_noted}
 use Rattle.isle_terms.proofs.ErrorSteps.{both_ok}
-use Rattle.isle_terms.proofs.PlacesNoted.{noted_among, template_there}
+use Rattle.isle_terms.proofs.NotedPositions.{noted_among, template_there}
 use Rattle.isle_terms.proofs.Marks.{said_of_some}
 use Rattle.isle_terms.proofs.Recursion.{within_all, no_some, back_calls}
 use Rattle.isle_terms.proofs.term_table.TermTable.check_root.Goals as goal

@@ -3,7 +3,7 @@ use Rattle.std.proofs.lemmas.Result.{on_ok_weaker}
 use Rattle.isle_base.specs.SyntaxViews.{definition_views}
 use Rattle.isle_terms.specs.Signing.{NotesIfWrong}
 use Rattle.isle_terms.specs.Recursion.{EndsBelow, NotesReturn}
-use Rattle.isle_terms.proofs.PlacesNoted.{recursion_noted}
+use Rattle.isle_terms.proofs.NotedPositions.{recursion_noted}
 use Rattle.isle_terms.proofs.Recursion.{searched}
 use Rattle.isle_terms.proofs.term_table.TermTable.collect_extractor_templates.Goals as goal
 

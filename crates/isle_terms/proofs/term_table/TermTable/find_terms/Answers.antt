@@ -1,6 +1,6 @@
 use Rattle.std.proofs.Common.{rules}
 use Rattle.isle_base.specs.SyntaxViews.{name_view, position}
-use Rattle.isle_terms.proofs.PlacesNoted.{next_place}
+use Rattle.isle_terms.proofs.NotedPositions.{next_place}
 use Rattle.isle_terms.proofs.TemplateNames.{next_found}
 use Rattle.isle_terms.proofs.term_table.TermTable.find_terms.Goals as goal
 

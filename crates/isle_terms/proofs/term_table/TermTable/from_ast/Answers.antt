@@ -9,7 +9,7 @@ use Rattle.isle_terms.specs.TermErrors.{in_signatures, in_definitions, in_conver
 use Rattle.isle_terms.specs.Recursion.{ExtractorsRead}
 use Rattle.isle_base.proofs.Positioned.{all_stand, among_left}
 use Rattle.isle_types.specs.TypePositions.{types_positions}
-use Rattle.isle_terms.proofs.PlacesNoted.{begun, converters_so_far, step_so_far}
+use Rattle.isle_terms.proofs.NotedPositions.{begun, converters_so_far, step_so_far}
 use Rattle.isle_terms.proofs.ConverterSteps.{all_new}
 use Rattle.isle_terms.proofs.GroupSteps.{signatures_right, definitions_right, converters_right, first_of_group, first_definition, first_converter, first_declared, first_extern, first_broken, not_read, right_now, all_read, why_refused}
 use Rattle.isle_terms.proofs.term_table.TermTable.from_ast.Goals as goal

@@ -4,7 +4,7 @@ use Rattle.model.specs.lists.Tables.{external_constructor}
 use Rattle.isle_base.specs.SyntaxViews.{name_view}
 use Rattle.isle_types.specs.Envs.{symbol_of}
 use Rattle.isle_terms.specs.TermViews.{term_view}
-use Rattle.isle_terms.proofs.PlacesNoted.{made_among, placed_same, placed_set, placed_still}
+use Rattle.isle_terms.proofs.NotedPositions.{made_among, placed_same, placed_set, placed_still}
 use Rattle.isle_terms.proofs.Rooting.{is_within}
 use Rattle.isle_terms.proofs.KindChanges.{kind_refused, kind_changed}
 use Rattle.isle_terms.proofs.term_table.TermTable.read_constructor.Goals as goal

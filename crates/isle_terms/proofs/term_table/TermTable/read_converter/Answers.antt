@@ -3,7 +3,7 @@ use Rattle.std.proofs.lemmas.Result.{on_ok_weaker}
 use Rattle.isle_base.specs.SyntaxViews.{converter_view}
 use Rattle.isle_terms.specs.Converting.{converter_at}
 use Rattle.isle_terms.proofs.ConverterSteps.{read_conversions}
-use Rattle.isle_terms.proofs.PlacesNoted.{noted_among, converter_first, converter_inner, converter_outer, converter_term}
+use Rattle.isle_terms.proofs.NotedPositions.{noted_among, converter_first, converter_inner, converter_outer, converter_term}
 use Rattle.isle_types.proofs.ToldErrors.{noted_among as told_among}
 use Rattle.isle_terms.proofs.Making.{none_mapped, some_mapped}
 use Rattle.isle_terms.proofs.term_table.TermTable.read_converter.Goals as goal

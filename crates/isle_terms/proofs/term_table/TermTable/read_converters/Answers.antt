@@ -2,7 +2,7 @@ use Rattle.std.proofs.Common.{refl, ◌∙◌, rules}
 use Rattle.isle_base.proofs.Positioned.{notes_nothing}
 use Rattle.isle_terms.proofs.ConverterSteps.{next_converter, told_converter, told_start}
 use Rattle.isle_terms.proofs.Breaches.{begins_noted}
-use Rattle.isle_terms.proofs.PlacesNoted.{next_noted}
+use Rattle.isle_terms.proofs.NotedPositions.{next_noted}
 use Rattle.isle_terms.proofs.term_table.TermTable.read_converters.Goals as goal
 
 pub loop-def-preserved : goal.loop-def-preserved

@@ -7,7 +7,7 @@ use Rattle.std.proofs.lemmas.Result.{on_ok_weaker}
 use Rattle.isle_base.specs.SyntaxViews.{decl_view}
 use Rattle.isle_terms.specs.Reading.{IsFreeOrReported, AddsOrReports}
 use Rattle.isle_terms.specs.TermPositions.{table_positions}
-use Rattle.isle_terms.proofs.PlacesNoted.{declaration_noted, declaration_there}
+use Rattle.isle_terms.proofs.NotedPositions.{declaration_noted, declaration_there}
 use Rattle.isle_terms.proofs.Declaring.{declaration_begins, declaration_read}
 use Rattle.isle_terms.proofs.term_table.TermTable.read_declaration.Goals as goal
 

@@ -4,7 +4,7 @@ use Rattle.isle_base.specs.SyntaxViews.{definition_views}
 use Rattle.isle_terms.specs.TermBreaches.{of_signatures}
 use Rattle.isle_terms.specs.Signing.{ReadsTerms, Declaring}
 use Rattle.isle_terms.specs.TermPositions.{table_positions}
-use Rattle.isle_terms.proofs.PlacesNoted.{PlacedSoFar}
+use Rattle.isle_terms.proofs.NotedPositions.{PlacedSoFar}
 use Rattle.isle_terms.proofs.term_table.TermTable.read_declarations.Given as goal
 
 abbrev pub invariant-loop-def : goal.invariant-loop-def

@@ -3,7 +3,7 @@ use Rattle.isle_base.specs.Positions.{positions_of}
 use Rattle.isle_base.specs.SyntaxViews.{definition_views}
 use Rattle.isle_base.proofs.Positioned.{among_left}
 use Rattle.isle_terms.specs.TermPositions.{table_positions}
-use Rattle.isle_terms.proofs.PlacesNoted.{rules_so_far, step_so_far}
+use Rattle.isle_terms.proofs.NotedPositions.{rules_so_far, step_so_far}
 use Rattle.isle_terms.proofs.ErrorSteps.{both_ok}
 use Rattle.isle_terms.proofs.term_table.TermTable.read_definitions.Goals as goal
 

@@ -8,7 +8,7 @@ use Rattle.isle_base.proofs.Positioned.{notes_among}
 use Rattle.isle_base.specs.SyntaxViews.{extern_view, name_view, position}
 use Rattle.isle_terms.specs.Externing.{lacks_constructor, lacks_extractor, made_by_this, taken_by_this, ReadsKind}
 use Rattle.isle_terms.specs.TermPositions.{table_positions, IsPlacedAmong}
-use Rattle.isle_terms.proofs.PlacesNoted.{extern_among, extern_at, extern_rest, placed_among, placed_same}
+use Rattle.isle_terms.proofs.NotedPositions.{extern_among, extern_at, extern_rest, placed_among, placed_same}
 use Rattle.isle_terms.specs.ExternStages.{ReadsExtern}
 use Rattle.isle_terms.proofs.term_table.TermTable.read_extern.Goals as goal
 

@@ -1,6 +1,6 @@
 use Rattle.std.proofs.Common.{rules}
 use Rattle.isle_terms.proofs.ExternSteps.{next_extern}
-use Rattle.isle_terms.proofs.PlacesNoted.{not_begun, next_so_far}
+use Rattle.isle_terms.proofs.NotedPositions.{not_begun, next_so_far}
 use Rattle.isle_terms.proofs.TypesStaying.{left_more}
 use Rattle.isle_terms.proofs.term_table.TermTable.read_externs.Goals as goal
 

@@ -5,7 +5,7 @@ use Rattle.isle_terms.specs.TermBreaches.{of_externs}
 use Rattle.isle_terms.specs.Signing.{ReadsTerms}
 use Rattle.isle_terms.specs.ExternStages.{ExternsRead}
 use Rattle.isle_terms.specs.TermPositions.{table_positions}
-use Rattle.isle_terms.proofs.PlacesNoted.{PlacedSoFar}
+use Rattle.isle_terms.proofs.NotedPositions.{PlacedSoFar}
 use Rattle.isle_terms.proofs.term_table.TermTable.read_externs.Given as goal
 
 abbrev pub invariant-loop-def : goal.invariant-loop-def

@@ -8,7 +8,7 @@ use Rattle.isle_base.proofs.Positioned.{among_first, among_same}
 use Rattle.isle_types.specs.Envs.{symbol_of}
 use Rattle.isle_terms.specs.TermPositions.{table_positions}
 use Rattle.isle_terms.specs.TermViews.{term_view}
-use Rattle.isle_terms.proofs.PlacesNoted.{noted_among, notes_at_term, placed_same, placed_set, placed_still, taken_entry_among}
+use Rattle.isle_terms.proofs.NotedPositions.{noted_among, notes_at_term, placed_same, placed_set, placed_still, taken_entry_among}
 use Rattle.isle_terms.proofs.Rooting.{is_within}
 use Rattle.isle_terms.proofs.KindChanges.{kind_refused, kind_changed}
 use Rattle.isle_terms.proofs.term_table.TermTable.read_extractor.Goals as goal

@@ -5,7 +5,7 @@ use Rattle.model.specs.lists.Syntax.{RuleTree}
 use Rattle.isle_base.specs.Positions.{NotesAt, OccurAmong, definition_positions, expr_positions, iflet_positions, pattern_positions, rule_name_positions, rule_positions}
 use Rattle.isle_base.specs.SyntaxViews.{definition_view, rule_view}
 use Rattle.isle_base.proofs.Positioned.{among_first, notes_among}
-use Rattle.isle_terms.proofs.PlacesNoted.{placed_same}
+use Rattle.isle_terms.proofs.NotedPositions.{placed_same}
 use Rattle.isle_terms.proofs.term_table.TermTable.read_if_rule.Goals as goal
 
 rule_at : (r : RuleTree) → OccurAmong (r.at ∷ []) (rule_positions r)

@@ -1,7 +1,7 @@
 use Rattle.std.proofs.Common.{refl}
 use Rattle.isle_base.specs.Positions.{definition_positions}
 use Rattle.isle_base.specs.SyntaxViews.{definition_view}
-use Rattle.isle_terms.proofs.PlacesNoted.{placed_same}
+use Rattle.isle_terms.proofs.NotedPositions.{placed_same}
 use Rattle.isle_terms.proofs.term_table.TermTable.read_if_template.Goals as goal
 
 pub returns-in_default-clause-placed : goal.returns-in_default-clause-placed

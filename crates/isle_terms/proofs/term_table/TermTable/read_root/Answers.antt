@@ -7,9 +7,9 @@ use Rattle.isle_base.specs.SyntaxViews.{name_view, rule_view, pattern_view}
 use Rattle.isle_types.specs.Envs.{symbol_of}
 use Rattle.isle_terms.specs.TermViews.{term_view, term_views}
 use Rattle.isle_terms.specs.Reading.{internal_entry, root_term_id, term_of_name}
-use Rattle.isle_terms.specs.Standing.{is_declared_kind}
+use Rattle.isle_terms.specs.ReadTerms.{is_declared_kind}
 use Rattle.isle_terms.proofs.Changing.{changes_one, view_at, not_there}
-use Rattle.isle_terms.proofs.PlacesNoted.{internal_among, placed_set, placed_still}
+use Rattle.isle_terms.proofs.NotedPositions.{internal_among, placed_set, placed_still}
 use Rattle.isle_terms.proofs.Rooting.{is_within}
 use Rattle.isle_terms.proofs.term_table.TermTable.read_root.Goals as goal
 

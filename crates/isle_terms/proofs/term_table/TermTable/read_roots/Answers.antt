@@ -1,7 +1,7 @@
 use Rattle.std.proofs.Common.{[], refl, rules}
 use Rattle.isle_base.proofs.Positioned.{notes_nothing}
 use Rattle.isle_terms.proofs.Breaches.{begins_noted}
-use Rattle.isle_terms.proofs.PlacesNoted.{next_noted, placed_among, placed_same}
+use Rattle.isle_terms.proofs.NotedPositions.{next_noted, placed_among, placed_same}
 use Rattle.isle_terms.proofs.RootSteps.{next_rule_root}
 use Rattle.isle_terms.proofs.term_table.TermTable.read_roots.Goals as goal
 

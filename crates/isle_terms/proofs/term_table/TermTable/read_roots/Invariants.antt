@@ -3,7 +3,7 @@ use Rattle.isle_base.specs.Positions.{NotesAt, positions_of}
 use Rattle.isle_base.specs.SyntaxViews.{definition_views}
 use Rattle.isle_terms.specs.TermBreaches.{of_definitions}
 use Rattle.isle_terms.specs.Signing.{ReadsTerms}
-use Rattle.isle_terms.specs.Standing.{RootsRead}
+use Rattle.isle_terms.specs.ReadTerms.{RootsRead}
 use Rattle.isle_terms.specs.TermPositions.{table_positions, IsPlacedAmong}
 use Rattle.isle_terms.proofs.term_table.TermTable.read_roots.Given as goal
 

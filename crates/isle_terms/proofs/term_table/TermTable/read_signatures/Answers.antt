@@ -2,7 +2,7 @@ use Rattle.std.proofs.Common.{ap}
 use Rattle.isle_base.specs.Positions.{positions_of}
 use Rattle.isle_base.specs.SyntaxViews.{definition_views}
 use Rattle.isle_types.specs.TypePositions.{types_positions}
-use Rattle.isle_terms.proofs.PlacesNoted.{made_so_far}
+use Rattle.isle_terms.proofs.NotedPositions.{made_so_far}
 use Rattle.isle_terms.proofs.ErrorSteps.{both_ok}
 use Rattle.isle_terms.proofs.GroupSteps.{made_after}
 use Rattle.isle_terms.proofs.term_table.TermTable.read_signatures.Goals as goal

@@ -3,7 +3,7 @@ use Rattle.isle_base.specs.Positions.{extractor_positions}
 use Rattle.isle_base.specs.SyntaxViews.{extractor_view}
 use Rattle.isle_base.proofs.Positioned.{notes_among}
 use Rattle.isle_terms.specs.TermPositions.{table_positions}
-use Rattle.isle_terms.proofs.PlacesNoted.{extractor_at, placed_same}
+use Rattle.isle_terms.proofs.NotedPositions.{extractor_at, placed_same}
 use Rattle.isle_terms.proofs.term_table.TermTable.read_template.Goals as goal
 
 pub returns-in_default-clause-places : goal.returns-in_default-clause-places

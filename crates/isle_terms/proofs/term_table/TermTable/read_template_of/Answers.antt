@@ -4,7 +4,7 @@ use Rattle.std.proofs.Common.{map, refl, sym, ap, ◌∙◌}
 use Rattle.isle_base.specs.SyntaxViews.{extractor_view, position}
 use Rattle.isle_base.specs.Positions.{extractor_positions}
 use Rattle.isle_terms.specs.TermPositions.{table_positions}
-use Rattle.isle_terms.proofs.PlacesNoted.{argument_there, extractor_there, pattern_in_extractor, argument_noted, extractor_noted, noted_among, placed_still}
+use Rattle.isle_terms.proofs.NotedPositions.{argument_there, extractor_there, pattern_in_extractor, argument_noted, extractor_noted, noted_among, placed_still}
 use Rattle.isle_terms.proofs.TemplateParts.{parts_noted, no_first}
 use Rattle.std.proofs.lemmas.Result.{on_ok_weaker}
 use Rattle.isle_terms.proofs.Callees.{still_callees}

@@ -1,7 +1,7 @@
 use Rattle.std.proofs.Common.{◌≡◌, false, sym, ◌∙◌, rules}
 use Rattle.std.proofs.lemmas.Bool.{false≢true}
 use Rattle.isle_terms.proofs.ErrorSteps.{reads_as}
-use Rattle.isle_terms.proofs.PlacesNoted.{not_begun, next_so_far}
+use Rattle.isle_terms.proofs.NotedPositions.{not_begun, next_so_far}
 use Rattle.isle_terms.proofs.TemplateSteps.{next_template}
 use Rattle.isle_terms.proofs.term_table.TermTable.read_templates.Goals as goal
 

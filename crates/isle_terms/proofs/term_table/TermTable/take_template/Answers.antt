@@ -10,12 +10,12 @@ use Rattle.isle_base.specs.SyntaxViews.{extractor_view, pattern_view, position}
 use Rattle.isle_base.specs.Positions.{OccurAmong, extractor_positions, pattern_positions}
 use Rattle.isle_base.proofs.Positioned.{among_first, notes_among, notes_both}
 use Rattle.isle_terms.specs.TermPositions.{table_positions}
-use Rattle.isle_terms.proofs.PlacesNoted.{notes_at_term, placed_same, placed_set, taken_entry_among, template_in_extractor}
+use Rattle.isle_terms.proofs.NotedPositions.{notes_at_term, placed_same, placed_set, taken_entry_among, template_in_extractor}
 use Rattle.isle_base.specs.NotedErrors.{NotesMore}
 use Rattle.isle_types.specs.VariantReading.{ReportsIf}
 use Rattle.isle_terms.specs.TermViews.{term_view, term_views}
 use Rattle.isle_terms.specs.Externing.{taken_by_this, with_kind}
-use Rattle.isle_terms.specs.Standing.{change}
+use Rattle.isle_terms.specs.ReadTerms.{change}
 use Rattle.isle_terms.specs.Templating.{AreArguments}
 use Rattle.isle_terms.proofs.Changing.{changes_one, view_at}
 use Rattle.isle_terms.proofs.term_table.TermTable.take_template.Goals as goal

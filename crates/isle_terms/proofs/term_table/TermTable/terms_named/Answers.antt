@@ -3,7 +3,7 @@ use Rattle.std.proofs.lemmas.Result.{IfOk-weaker, on_ok_weaker}
 use Rattle.isle_base.specs.SyntaxViews.{name_view, pattern_view, position}
 use Rattle.isle_base.specs.Positions.{NotesAt, pattern_positions}
 use Rattle.isle_base.proofs.Positioned.{notes_among}
-use Rattle.isle_terms.proofs.PlacesNoted.{named_among}
+use Rattle.isle_terms.proofs.NotedPositions.{named_among}
 use Rattle.isle_terms.specs.Signing.{NotesIfWrong}
 use Rattle.isle_terms.specs.Templating.{AreFound, HaveUnknown}
 use Rattle.isle_terms.proofs.TemplateNames.{named_terms}

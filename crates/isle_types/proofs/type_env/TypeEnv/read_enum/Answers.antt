@@ -8,7 +8,7 @@ use Rattle.isle_types.specs.TypeViews.{variant_view}
 use Rattle.isle_types.specs.VariantReading.{of_value}
 use Rattle.isle_types.proofs.NamesMet.{ends_here, ends_inside}
 use Rattle.isle_types.proofs.RightValues.{number_later, enum_right, two_marks}
-use Rattle.isle_types.proofs.PlacesNoted.{noted_there, value_among}
+use Rattle.isle_types.proofs.NotedPositions.{noted_there, value_among}
 use Rattle.isle_types.proofs.type_env.TypeEnv.read_enum.Goals as goal
 
 pub returns-clause-reads : goal.returns-clause-reads

@@ -3,7 +3,7 @@ use Rattle.std.proofs.lemmas.Bool.{false≢true}
 use Rattle.model.specs.lists.Tables.{primitive_type}
 use Rattle.isle_base.specs.SyntaxViews.{name_view, type_view, position}
 use Rattle.isle_types.proofs.NamesMet.{meet_one, ends_here}
-use Rattle.isle_types.proofs.PlacesNoted.{noted_there}
+use Rattle.isle_types.proofs.NotedPositions.{noted_there}
 use Rattle.isle_types.proofs.RightValues.{named_now, primitive_right}
 use Rattle.isle_types.proofs.type_env.TypeEnv.read_primitive.Goals as goal
 

@@ -1,6 +1,6 @@
 use Rattle.std.proofs.Common.{◌≡◌, true, false, refl, sym, inl, inr, rules}
 use Rattle.isle_types.specs.FieldReading.{was_seen}
-use Rattle.isle_types.proofs.PlacesNoted.{noted_there, field_type_among}
+use Rattle.isle_types.proofs.NotedPositions.{noted_there, field_type_among}
 use Rattle.isle_types.proofs.ToldErrors.{noted_among}
 use Rattle.isle_base.specs.SyntaxViews.{field_view}
 use Rattle.isle_types.proofs.type_env.TypeEnv.read_struct_field.Goals as goal

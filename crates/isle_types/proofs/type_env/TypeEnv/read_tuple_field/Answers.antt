@@ -1,5 +1,5 @@
 use Rattle.std.proofs.Common.{rules}
-use Rattle.isle_types.proofs.PlacesNoted.{tuple_type_among}
+use Rattle.isle_types.proofs.NotedPositions.{tuple_type_among}
 use Rattle.isle_types.proofs.ToldErrors.{noted_among}
 use Rattle.isle_base.specs.SyntaxViews.{tuple_field_view}
 use Rattle.isle_types.proofs.type_env.TypeEnv.read_tuple_field.Goals as goal

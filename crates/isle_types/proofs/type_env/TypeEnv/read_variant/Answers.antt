@@ -4,7 +4,7 @@ use Rattle.model.specs.lists.TypeTable.{full_name, all_type_names}
 use Rattle.isle_types.specs.Envs.{names_of}
 use Rattle.isle_types.proofs.NamesMet.{meet_one, meet_more}
 use Rattle.isle_types.proofs.VariantSteps.{variant_right, seen_twice, sees_both, both_met}
-use Rattle.isle_types.proofs.PlacesNoted.{noted_there, variant_fields_among}
+use Rattle.isle_types.proofs.NotedPositions.{noted_there, variant_fields_among}
 use Rattle.isle_types.proofs.ToldErrors.{noted_among}
 use Rattle.isle_base.specs.SyntaxViews.{variant_view}
 use Rattle.isle_types.proofs.type_env.TypeEnv.read_variant.Goals as goal

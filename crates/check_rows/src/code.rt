@@ -1,0 +1,112 @@
+//! Rows that ask for Rust code, which may be written otherwise than the command writes it.
+
+use crate::texts::push_told;
+use cranelift_isle::lower::{Lowered, lower};
+use cranelift_isle::syntax::{Def, Fault, Files};
+use isle_answers::answers::Answer;
+use isle_answers::texts::syntax_error_line;
+use isle_printing::errors::error_lines;
+use isle_printing::places::Places;
+use isle_reader::errors::ReadFault;
+use isle_reader::read;
+use isle_rust::code::{CodeError, CodegenOptions, Prefix, rust_code_with};
+use isle_rust_items::beside::BESIDE;
+use std::alloc::{AllocError, Global};
+
+/// Adds the Rust code of a row's files, or what is wrong with them, below the status.
+///
+/// The first of the row's words is `code`. Words behind it are options of the code: `--with-allows`, `--log` and
+/// `--prefix=FROM=TO`. In place of the traits that all code has behind `Context`, the answer has a line of two points.
+pub fn push_code(
+    alloc: Global,
+    words: &[String],
+    files: &Files,
+    out: &mut String,
+) -> Result<(), AllocError> {
+    push_told(answer_by(alloc, words, files)?, out)
+}
+
+// What is answered to files.
+fn answer_by(alloc: Global, words: &[String], files: &Files) -> Result<Answer, AllocError> {
+    let mut defs = Vec::new(alloc);
+    for (number, text) in files.texts.iter().enumerate() {
+        match read(alloc, number, text) {
+            Ok(mut read) => defs.append(&mut read)?,
+            Err(ReadFault::Text(error)) => {
+                return Ok(Answer::Errors(syntax_error_line(alloc, text, &error)?));
+            }
+            Err(ReadFault::Memory(error)) => return Err(error),
+        }
+    }
+    answer_to_defs(alloc, words, files, &defs)
+}
+
+// What is answered to definitions.
+fn answer_to_defs(
+    alloc: Global,
+    words: &[String],
+    files: &Files,
+    defs: &[Def],
+) -> Result<Answer, AllocError> {
+    match lower(alloc, defs, true) {
+        Ok(lowered) => code_of(alloc, words, files, &lowered),
+        Err(Fault::Errors(errors)) => {
+            let lines = error_lines(alloc, &errors, Places::Files)?;
+            Ok(Answer::Errors(lines))
+        }
+        Err(Fault::Memory(error)) => Err(error),
+    }
+}
+
+// The code of a program, or why it has none.
+fn code_of(
+    alloc: Global,
+    words: &[String],
+    files: &Files,
+    lowered: &Lowered,
+) -> Result<Answer, AllocError> {
+    let options = options_by(alloc, words)?;
+    match rust_code_with(alloc, lowered, files, &options) {
+        Ok(code) => Ok(Answer::Trees(shortened(alloc, &code)?)),
+        Err(CodeError::Names(why)) => {
+            let line = format!(in alloc; "error[names]: {why}\n")?;
+            Ok(Answer::Errors(line))
+        }
+        Err(CodeError::Memory) => Err(AllocError),
+    }
+}
+
+// Code, with two points in place of what all code has.
+fn shortened(alloc: Global, code: &str) -> Result<String, AllocError> {
+    match code.split_once(BESIDE) {
+        Some((before, behind)) => format!(in alloc; "{before}..\n{behind}"),
+        None => String::from_str(alloc, code),
+    }
+}
+
+// The options by a row's words.
+fn options_by(alloc: Global, words: &[String]) -> Result<CodegenOptions, AllocError> {
+    let mut options = CodegenOptions::included(alloc);
+    for word in words {
+        match word.as_str() {
+            "--with-allows" => options.exclude_global_allow_pragmas = false,
+            "--log" => options.emit_logging = true,
+            _ => add_prefix(alloc, &mut options, word)?,
+        }
+    }
+    Ok(options)
+}
+
+// Adds the prefix of a word, where it has one.
+fn add_prefix(alloc: Global, options: &mut CodegenOptions, word: &str) -> Result<(), AllocError> {
+    let Some(both) = word.strip_prefix("--prefix=") else {
+        return Ok(());
+    };
+    let Some((prefix, name)) = both.split_once('=') else {
+        return Ok(());
+    };
+    let prefix = String::from_str(alloc, prefix)?;
+    let name = String::from_str(alloc, name)?;
+    options.prefixes.push(Prefix { prefix, name })?;
+    Ok(())
+}

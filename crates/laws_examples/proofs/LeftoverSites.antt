@@ -1,0 +1,100 @@
+-- The set with left-over sites: a meaning whose call answers what is no number serves its rules, so its world serves the set,
+-- and the run of its tree collects the bag.
+use Rattle.std.proofs.Common.{◌≡◌, ◌∷◌, [], ◌∙◌, ℕ, pos, zero, suc, Bool, true, false, Option, Some, None, Contains, IsSomeAnd, IsTrue, is_some, refl, sym, ap, subst, inl, inr}
+use Rattle.std.proofs.lemmas.Bool.{false≢true}
+use Rattle.std.proofs.lemmas.List.Elements.{All-cons, All-nil}
+use Rattle.std.proofs.lemmas.List.Sorted.{IsPermutation-refl}
+use Rattle.std.proofs.lemmas.Option.{none-some}
+use Rattle.model.proofs.Members.{in_alone, in_cases}
+use Rattle.model.specs.rules.Matching.{matches}
+use Rattle.model.specs.rules.Meaning.{pure_answer}
+use Rattle.model.specs.rules.Outcome.{then_option}
+use Rattle.model.specs.rules.Picks.{Pick, call_answer, site_values}
+use Rattle.model.specs.rules.Program.{kind}
+use Rattle.model.specs.rules.Typed.{TypedRule}
+use Rattle.model.specs.rules.Values.{Values, no_value, value_and}
+use Rattle.model.specs.visits.Demands.{demands_of}
+use Rattle.model.specs.sites.Serves.{Serves, TellsConstantsApart, fits_constructor}
+use Rattle.model.specs.sites.Sites.{SetRule, SiteTerm, SiteTerms, constructor_call, constructor_site, extractor_call, no_site_term, site_term_and}
+use Rattle.model.specs.trees.Collects.{content_at}
+use Rattle.model.specs.trees.Run.{as_value}
+use Rattle.model.specs.claims.Layers.{own_program}
+use Rattle.laws_typing.proofs.WellTypedRules.{read_programs_are_well_typed}
+use Rattle.laws_matching.proofs.taken.ServesSets.{served_multi_sets_serve_lem}
+use Rattle.laws_examples.proofs.ReadLists.{left_over_read}
+use Rattle.laws_examples.proofs.Served.{literals_apart, serves_from}
+use Rattle.laws_examples.proofs.SetStages.{built_multi, collected}
+use Rattle.laws_examples.proofs.TreeStages.{judged_multi}
+use Rattle.laws_examples.specs.LeftoverSites.{LeftOverCollects, LeftOverIsCollected, LeftOverIsServed, LeftOverLacksACall, any_rule, kept_rule, left_over_defs, left_over_meaning, left_over_program, left_over_rules, left_over_set, left_over_tree, left_over_world, never_rule}
+use Rattle.laws_examples.specs.MeaningForms.{each, given}
+use Rattle.laws_examples.specs.SetForms.{a0}
+use Rattle.laws_examples.specs.Stages.{IsBuiltOf, IsJudged}
+
+pub left_over_built : IsBuiltOf left_over_defs left_over_rules 2 left_over_set
+left_over_built = built_multi left_over_defs left_over_rules 2 left_over_set refl refl refl refl refl refl refl refl
+
+pub left_over_judged : IsJudged left_over_set true left_over_tree
+left_over_judged = judged_multi left_over_set left_over_tree refl refl refl refl refl
+
+-- 1. the meaning serves the rules
+-- the calls of im and of pu
+abbrev left_over_call : SiteTerm → Bool
+left_over_call (constructor_call zero ss (suc zero)) = true
+left_over_call (constructor_call (suc zero) (site_term_and (constructor_call zero ss (suc zero)) no_site_term) zero) = true
+left_over_call (constructor_call t ss i) = false
+left_over_call (extractor_call t s) = false
+left_over_call u = true
+
+-- what im answers is no value
+no_number : (o : Option Values) → then_option (then_option o (call_answer left_over_meaning 0 1)) as_value ≡ None
+no_number None = refl
+no_number (Some vs) = refl
+
+pures : (k : Pick) (t : ℕ) (ss : SiteTerms) (vs : Values) → left_over_call (constructor_call t ss 0) ≡ true → site_values left_over_meaning (given (pos 7)) k ss ≡ Some vs
+    → IsSomeAnd (pure_answer left_over_meaning t vs) (λ c. IsTrue (fits_constructor left_over_program t (kind left_over_program t) c))
+pures k (suc zero) (site_term_and (constructor_call zero ss (suc zero)) no_site_term) vs h e =
+    absurd (none-some vs (sym (ap (λ o. then_option o (λ y. Some (value_and y no_value))) (no_number (site_values left_over_meaning (given (pos 7)) k ss))) ∙ e))
+pures k _ _ vs h e = absurd (false≢true h)
+
+-- the rule that calls im doesn't match, and the other one makes no impure call
+none_called : (r : TypedRule) (t before : ℕ) (ss : SiteTerms) → Contains left_over_rules.rules r → IsTrue (is_some (matches left_over_program left_over_meaning r (given (pos 7))))
+    → Contains (demands_of left_over_program r).made (constructor_call t ss (suc before)) → ⊥
+none_called r t before ss i matched made =
+    elim (in_cases never_rule r (any_rule ∷ []) i) [
+      | inl e ↦ false≢true (subst (λ q. IsTrue (is_some (matches left_over_program left_over_meaning q (given (pos 7))))) (sym e) matched)
+      | inr j ↦ argument_is_no_call t ss (suc before) (in_alone a0 (constructor_call t ss (suc before)) (subst (λ q. Contains (demands_of left_over_program q).made (constructor_call t ss (suc before))) (sym (in_alone any_rule r j)) made))
+    ]
+  where
+    argument_is_no_call : (t : ℕ) (ss : SiteTerms) (n : ℕ) → a0 ≡ constructor_call t ss n → ⊥
+    argument_is_no_call t ss n e = cc
+
+serves : Serves left_over_program left_over_meaning (given (pos 7)) left_over_rules.rules
+serves =
+    serves_from left_over_program left_over_meaning left_over_call (given (pos 7)) left_over_rules.rules refl refl
+    (λ k t s w h holds. absurd (false≢true h)) pures (λ k r t before ss i matched made h gave. absurd (none_called r t before ss i matched made))
+
+tells_apart : TellsConstantsApart left_over_program left_over_meaning left_over_rules.rules
+tells_apart = literals_apart left_over_program left_over_meaning left_over_rules.rules refl refl
+
+pub left_over_is_served : LeftOverIsServed
+left_over_is_served = (serves, tells_apart)
+
+-- 2. so its world serves the set, whose one rule makes no impure call
+pub left_over_is_collected : LeftOverIsCollected
+left_over_is_collected = (
+  collected left_over_set refl refl,
+  served_multi_sets_serve_lem (own_program left_over_defs left_over_rules) 2 left_over_set (read_programs_are_well_typed left_over_read.0) left_over_built.0
+      (All-cons (λ (r : SetRule). r.impure ≡ []) kept_rule [] refl (All-nil (λ (r : SetRule). r.impure ≡ [])))
+      left_over_meaning (given (pos 7)) refl serves tells_apart,
+)
+
+pub left_over_lacks_a_call : LeftOverLacksACall
+left_over_lacks_a_call = (
+  (constructor_site 1 (2 ∷ []) 0, refl, tt),
+  refl,
+  All-cons (λ a. IsTrue (is_some (content_at left_over_world [] a))) 2 [] refl (All-nil (λ a. IsTrue (is_some (content_at left_over_world [] a)))),
+  refl,
+)
+
+pub left_over_collects : LeftOverCollects
+left_over_collects = (refl, record { calls = refl; ending = refl; same = IsPermutation-refl (each (pos 7 ∷ [])) })

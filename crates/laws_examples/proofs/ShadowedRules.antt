@@ -1,0 +1,33 @@
+-- The laws on rules that are told apart, on samples.
+use Rattle.std.proofs.Common.{pos, refl, arith}
+use Rattle.model.specs.claims.SetMeanings.{TellsRulesApart}
+use Rattle.model.specs.rules.Program.{rules_of}
+use Rattle.model.specs.claims.Layers.{own_program}
+use Rattle.laws_typing.proofs.WellTypedRules.{read_programs_are_well_typed}
+use Rattle.laws_matching.proofs.DisjointRules.{built_rules_are_told_apart_lem}
+use Rattle.laws_closure.proofs.overlaps.ShadowTest.{shadows_decides}
+use Rattle.laws_closure.proofs.built.WholeDemands.{built_demands_are_whole_lem}
+use Rattle.laws_examples.proofs.ReadLists.{shadow_read}
+use Rattle.laws_examples.proofs.Served.{literals_apart, serves_without_calls}
+use Rattle.laws_examples.specs.MeaningForms.{given}
+use Rattle.laws_examples.specs.Shadow.{shadow_defs, shadow_program, shadow_rules}
+use Rattle.laws_examples.specs.ShadowedRules.{MasksMatchToo, ShadowIsServed, ShadowIsTold, mask, one_and_ten, shadowed}
+
+pub shadow_is_told : ShadowIsTold
+shadow_is_told = (
+  shadow_read,
+  record { one_of = (0, omega arith, refl); other_of = (1, omega arith, refl); one_result = refl },
+  (shadows_decides mask shadowed).0 refl,
+)
+
+pub shadow_is_served : ShadowIsServed
+shadow_is_served = (
+  serves_without_calls shadow_program one_and_ten (given (pos 1)) (rules_of shadow_program 0) refl refl,
+  literals_apart shadow_program one_and_ten (rules_of shadow_program 0) refl refl,
+)
+
+shadow_apart : TellsRulesApart shadow_program 0
+shadow_apart = built_rules_are_told_apart_lem built_demands_are_whole_lem (own_program shadow_defs shadow_rules) 0 (read_programs_are_well_typed shadow_is_told.0.0)
+
+pub masks_match_too : MasksMatchToo
+masks_match_too = (refl, shadow_apart.shadow one_and_ten (given (pos 1)) refl shadow_is_served.0 shadow_is_served.1 mask shadowed shadow_is_told.1 shadow_is_told.2 refl)
