@@ -414,10 +414,8 @@ impl<'a> Parts<'a> {
 
     /// The forms that a part must have.
     pub fn heads(&self, part: usize) -> &[Head<'a>] {
-        match self.parts.get(self.class_of(part)) {
-            Some(part) => &part.heads,
-            None => &[],
-        }
+        let part = self.parts.get(self.class_of(part));
+        listed(part.map(|part| &part.heads))
     }
 
     /// The rule's name for a part, or the empty text.
@@ -454,4 +452,12 @@ fn copied(alloc: Global, numbers: &[usize]) -> Result<Vec<usize>, AllocError> {
         copy.push(*number)?;
     }
     Ok(copy)
+}
+
+// A list, or else an empty one.
+fn listed<T>(list: Option<&Vec<T>>) -> &[T] {
+    match list {
+        Some(list) => list,
+        None => &[],
+    }
 }
