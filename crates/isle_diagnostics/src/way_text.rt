@@ -8,9 +8,11 @@ use std::alloc::{AllocError, Global};
 
 /// A test on the way to a return.
 #[derive(Clone, Copy)]
-pub(crate) enum Test<'a> {
-    /// A value meets a constraint, which makes these fields.
-    Is(BindingId, Constraint, &'a [Option<BindingId>]),
+pub(crate) enum Test {
+    /// A value meets a constraint.
+    Is(BindingId, Constraint),
+    /// A call gives a value. The value's site, if it is looked at.
+    Gives(BindingId, Option<BindingId>),
     /// Two values are equal.
     Equal(BindingId, BindingId),
     /// A loop over the results of a call. This is one result.
@@ -31,15 +33,15 @@ pub(crate) struct Sites<'a> {
 }
 
 /// The text of a way, as far as it is written.
-pub(crate) struct Way<'a> {
-    sites: Sites<'a>,
+pub(crate) struct Way<'s, 'a> {
+    sites: &'s Sites<'a>,
     // The name of each site, or the empty text.
     texts: Vec<String>,
     // The number of the next name.
     next: u64,
 }
 
-impl<'a> Drop for Way<'a> {
+impl<'s, 'a> Drop for Way<'s, 'a> {
     fn drop(self) {
         let Way {
             sites: _,
@@ -49,9 +51,9 @@ impl<'a> Drop for Way<'a> {
     }
 }
 
-impl<'a> Way<'a> {
+impl<'s, 'a> Way<'s, 'a> {
     /// Nothing is written.
-    pub fn new(sites: Sites<'a>) -> Result<Way<'a>, AllocError> {
+    pub fn new(sites: &'s Sites<'a>) -> Result<Way<'s, 'a>, AllocError> {
         let mut texts = Vec::new(sites.alloc);
         for _ in sites.bindings {
             texts.push(String::new(sites.alloc))?;
@@ -63,29 +65,38 @@ impl<'a> Way<'a> {
         })
     }
 
-    /// Adds a test. A struct's own form is no test.
-    pub fn push_test(&mut self, test: Test<'_>, out: &mut String) -> Result<(), AllocError> {
+    /// Adds a test.
+    pub fn push_test(&mut self, test: &Test, out: &mut String) -> Result<(), AllocError> {
         match test {
-            Test::Is(source, Constraint::Some, fields) => self.push_given(source, fields, out),
-            Test::Is(_, Constraint::Struct { .. }, _) => Ok(()),
-            Test::Is(source, constraint, _) => self.push_is(source, constraint, out),
-            Test::Equal(left, right) => self.push_equal(left, right, out),
-            Test::Each(each) => self.push_each(each, out),
+            Test::Is(source, constraint) => self.push_is(*source, constraint, out),
+            Test::Gives(source, value) => self.push_given(*source, *value, out),
+            Test::Equal(left, right) => self.push_equal(*left, *right, out),
+            Test::Each(each) => self.push_each(*each, out),
         }
     }
 
-    // Adds that a value meets a constraint.
+    // Adds that a value meets a constraint. A struct's own form is no test.
     fn push_is(
         &mut self,
         source: BindingId,
-        constraint: Constraint,
+        constraint: &Constraint,
         out: &mut String,
     ) -> Result<(), AllocError> {
+        if is_struct(constraint) {
+            return Ok(());
+        }
         self.name(source, out)?;
-        let source = text_at(&self.texts, source);
-        let mut line = format!(in self.sites.alloc; "test {source} is ")?;
-        push_head(&mut line, self.sites.names, constraint)?;
+        let line = self.line_of(source, constraint)?;
         push_line(out, 4, &line)
+    }
+
+    // The line that says that a value meets a constraint.
+    fn line_of(&self, source: BindingId, constraint: &Constraint) -> Result<String, AllocError> {
+        let mut line = String::from_str(self.sites.alloc, "test ")?;
+        line.push_str(text_at(&self.texts, source))?;
+        line.push_str(" is ")?;
+        push_head(&mut line, self.sites.names, *constraint)?;
+        Ok(line)
     }
 
     // Adds that two values are equal.
@@ -107,22 +118,18 @@ impl<'a> Way<'a> {
     fn push_given(
         &mut self,
         source: BindingId,
-        fields: &[Option<BindingId>],
+        value: Option<BindingId>,
         out: &mut String,
     ) -> Result<(), AllocError> {
         let call = self.call(source, out)?;
-        match fields {
-            [Some(field)] => {
-                let name = self.new_name()?;
-                let line = format!(in self.sites.alloc; "test {call} gives {name}")?;
-                self.set_text(*field, name);
-                push_line(out, 4, &line)
-            }
-            _ => {
-                let line = format!(in self.sites.alloc; "test {call} gives a value")?;
-                push_line(out, 4, &line)
-            }
-        }
+        let Some(value) = value else {
+            let line = format!(in self.sites.alloc; "test {call} gives a value")?;
+            return push_line(out, 4, &line);
+        };
+        let name = self.new_name()?;
+        let line = format!(in self.sites.alloc; "test {call} gives {name}")?;
+        self.set_text(value, name);
+        push_line(out, 4, &line)
     }
 
     // Adds that each answer of a call is gone on with.
@@ -266,6 +273,14 @@ impl<'a> Way<'a> {
 
 // How many steps the naming of a site may take: more than twice as many as there may be sites.
 const MOST_SITES: usize = 1 << 18;
+
+// Whether a constraint is a struct's own form.
+fn is_struct(constraint: &Constraint) -> bool {
+    match constraint {
+        Constraint::Struct { .. } => true,
+        _ => false,
+    }
+}
 
 // Whether a site is something that is called, or made of parts.
 fn is_call(binding: &Binding) -> bool {

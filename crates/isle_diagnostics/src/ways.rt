@@ -3,7 +3,7 @@
 use crate::way_text::{Sites, Test, Way};
 use cranelift_isle::serialize::{Block, ControlFlow, EvalStep, MatchArm};
 use cranelift_isle::syntax::Pos;
-use cranelift_isle::trie_again::BindingId;
+use cranelift_isle::trie_again::{BindingId, Constraint};
 use std::alloc::AllocError;
 
 /// A rule whose returns are looked for in a tree.
@@ -25,10 +25,10 @@ impl<'a> Search<'a> {
 
     // The same, behind these tests.
     #[cycle(ways)]
-    fn push_ways_in<'b>(
+    fn push_ways_in(
         &self,
-        block: &'b Block,
-        tests: &mut Vec<Test<'b>>,
+        block: &Block,
+        tests: &mut Vec<Test>,
         out: &mut String,
     ) -> Result<(), AllocError> {
         for step in &block.steps {
@@ -39,10 +39,10 @@ impl<'a> Search<'a> {
 
     // The same of a step.
     #[cycle(ways)]
-    fn push_ways_of_step<'b>(
+    fn push_ways_of_step(
         &self,
-        step: &'b EvalStep,
-        tests: &mut Vec<Test<'b>>,
+        step: &EvalStep,
+        tests: &mut Vec<Test>,
         out: &mut String,
     ) -> Result<(), AllocError> {
         match &step.check {
@@ -72,15 +72,15 @@ impl<'a> Search<'a> {
 
     // The same of arms.
     #[cycle(ways)]
-    fn push_ways_of_arms<'b>(
+    fn push_ways_of_arms(
         &self,
         source: BindingId,
-        arms: &'b [MatchArm],
-        tests: &mut Vec<Test<'b>>,
+        arms: &[MatchArm],
+        tests: &mut Vec<Test>,
         out: &mut String,
     ) -> Result<(), AllocError> {
         for arm in arms {
-            tests.push(Test::Is(source, arm.constraint, &arm.bindings))?;
+            tests.push(test_of(source, arm))?;
             self.push_ways_in(&arm.body, tests, out)?;
             tests.pop();
         }
@@ -88,11 +88,27 @@ impl<'a> Search<'a> {
     }
 
     // Adds a line for each of these tests, and one for the return.
-    fn push_way(&self, tests: &[Test<'_>], out: &mut String) -> Result<(), AllocError> {
-        let mut way = Way::new(self.sites)?;
+    fn push_way(&self, tests: &[Test], out: &mut String) -> Result<(), AllocError> {
+        let mut way = Way::new(&self.sites)?;
         for test in tests {
-            way.push_test(*test, out)?;
+            way.push_test(test, out)?;
         }
         out.push_str("    return\n")
+    }
+}
+
+// The test that a match makes for an arm.
+fn test_of(source: BindingId, arm: &MatchArm) -> Test {
+    match arm.constraint {
+        Constraint::Some => Test::Gives(source, value_in(arm)),
+        _ => Test::Is(source, arm.constraint),
+    }
+}
+
+// The site of the value that an arm takes out, if it is looked at.
+fn value_in(arm: &MatchArm) -> Option<BindingId> {
+    match arm.bindings.as_slice() {
+        [Some(value)] => Some(*value),
+        _ => None,
     }
 }
