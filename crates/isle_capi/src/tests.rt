@@ -125,27 +125,30 @@ fn code() -> Options {
     }
 }
 
+// Asks for the Rust code of one file, with a prefix for `a` that is said to stand for so many bytes.
+fn code_by_prefix(alloc: Global, text_length: usize, out: &mut [u8], sizes: &mut Sizes) -> u32 {
+    let prefix = FileLengths {
+        name_length: 1,
+        text_length,
+    };
+    isle_capi_lower(
+        alloc,
+        DECLARED.as_bytes(),
+        &[file(30)],
+        &code(),
+        b"arules/a",
+        &[prefix],
+        out,
+        sizes,
+    )
+}
+
 #[test]
 fn code_shows_what_a_prefix_stands_for(rt: HostRuntime) -> Result<(), Fail> {
     let alloc = rt.alloc();
     let mut out = vec![in alloc; 35u8; 4000]?;
     let mut sizes = Sizes::none();
-    let bytes = DECLARED.as_bytes();
-    let files = [file(30)];
-    let prefixes = [FileLengths {
-        name_length: 1,
-        text_length: 7,
-    }];
-    let status = isle_capi_lower(
-        alloc,
-        bytes,
-        &files,
-        &code(),
-        b"arules/a",
-        &prefixes,
-        &mut out,
-        &mut sizes,
-    );
+    let status = code_by_prefix(alloc, 7, &mut out, &mut sizes);
     assert_eq!(rt; status, DONE);
     assert!(rt;
         out.starts_with(
@@ -160,22 +163,7 @@ fn prefixes_have_the_lengths_that_are_said(rt: HostRuntime) -> Result<(), Fail> 
     let alloc = rt.alloc();
     let mut out = vec![in alloc; 35u8; 4000]?;
     let mut sizes = Sizes::none();
-    let bytes = DECLARED.as_bytes();
-    let files = [file(30)];
-    let prefixes = [FileLengths {
-        name_length: 1,
-        text_length: 8,
-    }];
-    let status = isle_capi_lower(
-        alloc,
-        bytes,
-        &files,
-        &code(),
-        b"arules/a",
-        &prefixes,
-        &mut out,
-        &mut sizes,
-    );
+    let status = code_by_prefix(alloc, 8, &mut out, &mut sizes);
     assert_eq!(rt; status, WRONG_PREFIX);
     assert_eq!(rt; sizes.written, 0);
     Ok(())
