@@ -1,5 +1,5 @@
 -- The trees of checked sets, and the errors that there are in place of them, as answers to definitions.
-use Rattle.std.proofs.Common.{◌≡◌, Bool, List, [], ◌∷◌, map, Some, option_map, Ok, Err, refl, sym, ap, ◌∙◌, subst}
+use Rattle.std.proofs.Common.{◌≡◌, Bool, List, [], ◌∷◌, map, option_map, Ok, Err, refl, sym, ap, ◌∙◌, subst}
 use Rattle.std.specs.Prelude.{All, Result, slice_index_or}
 use Rattle.std.specs.Global.{Vec}
 use Rattle.std.proofs.lemmas.List.Elements.{All-nil, All-cons, All-head, All-tail}
@@ -21,6 +21,7 @@ use Rattle.model.proofs.Mapped.{nothing_mapped}
 use Rattle.laws_trees.specs.NoLimits.{PassedInLowering, in_building}
 use Rattle.laws_trees.specs.OneTree.{IsOnlyBest, LoweredTreesAreOnlyBest}
 use Rattle.laws_trees.specs.OneAnswer.{AreCheckErrors}
+use Rattle.laws_trees.proofs.OneAnswer.{typed_one}
 use Rattle.laws_trees.specs.WholeDemands.{AcceptedDemandsAreWhole, AcceptedSetsAreWhole}
 use Rattle.laws_typing.proofs.NoReadLimits.{elaborated_rules_are_within_limits_lem}
 use Rattle.laws_closure.specs.ShadowLaws.{check_errors}
@@ -35,13 +36,6 @@ use Rattle.cranelift_isle.proofs.NamedPlaces.{rules_stand}
 use Rattle.cranelift_isle.specs.declared.lower.Lowered.{Lowered}
 use Rattle.cranelift_isle.specs.Lowerings.{set_of_term, AreAccepted, IsLowered, OfAccepted, ChooseAsSource, CollectBags, SharesTests, DemandWhole, SetsAreWhole}
 use Rattle.cranelift_isle.specs.Environments.{BreaksWhereRefused, NamesLackedLimits, TellsOfEach}
-
-same_rules : (a b : TypedRules) → Some a ≡ Some b → a ≡ b
-same_rules a b e = cc
-
--- a list has one list of typed rules at most
-one_typing : (e : TypesRead) (defs : List Definition) (expand : Bool) (a b : TypedRules) → IsElaborated e defs expand a → IsElaborated e defs expand b → a ≡ b
-one_typing e defs expand a b x y = same_rules a b (sym x.elaborate.typed ∙ y.elaborate.typed)
 
 all_unmap : {X Y : Type 0} (P : Y → Type 0) (f : X → Y) (xs : List X) → All P (map f xs) → All (λ x. P (f x)) xs
 all_unmap P f [] a = All-nil (λ x. P (f x))
@@ -96,7 +90,7 @@ module _ {defs : List Definition} {expand : Bool} {env : TermEnv} {types : TypeE
 
   -- 1. with whatever typed rules the definitions are accepted, they are these
   same_typing : (other : TypedRules) → IsAccepted defs expand other → other ≡ rules
-  same_typing other is = one_typing (types_read defs) defs expand other rules is.read.elaborated elaborated
+  same_typing other is = typed_one (types_read defs) defs expand other rules is.read.elaborated elaborated
 
   -- 2. sets that were checked
   module _ (sets : Vec (TermId × RuleSet)) (check : AnswersCheck env (Ok sets)) where
@@ -165,7 +159,7 @@ module _ {defs : List Definition} {expand : Bool} {env : TermEnv} {types : TypeE
   -- with whatever typed rules the definitions are read, they are these
   exactly : (es : List Error) → ReportsAreErrors p es → AreCheckErrors defs expand (error_views es)
   exactly es wrong other also =
-      subst (λ (r : TypedRules). error_views es ≡ check_errors (own_program defs r)) (one_typing (types_read defs) defs expand rules other elaborated also.elaborated) wrong.exact
+      subst (λ (r : TypedRules). error_views es ≡ check_errors (own_program defs r)) (typed_one (types_read defs) defs expand rules other elaborated also.elaborated) wrong.exact
 
   -- no rule lacks the limits alone
   none_lacked : (errors : List Refusal) → NamesLackedLimits defs expand errors

@@ -45,9 +45,6 @@ names_none (LimitError limit msg span) h = absurd h
 pub name_no_limit : (es : List Error) → AreIllTyped es → All (λ e. limit_of e ≡ None) es
 name_no_limit es h = All-weaker (λ e. IsIllTyped (error_view e)) (λ e. limit_of e ≡ None) names_none es h
 
-pub still_plain : {a b : List Error} → NotesMore a b → All (λ e. limit_of e ≡ None) a → All (λ e. limit_of e ≡ None) b
-still_plain {a} {b} r h = subst (All (λ e. limit_of e ≡ None)) (sym r.added) (All-append (λ e. limit_of e ≡ None) a r.more h (name_no_limit r.more r.forms))
-
 -- what such errors say
 pub forms_of : (es : List Error) → AreIllTyped es → All IsIllTyped (error_views es)
 forms_of es h = All-map IsIllTyped error_view es h

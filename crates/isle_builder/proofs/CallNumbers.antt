@@ -2,6 +2,7 @@
 use Rattle.std.proofs.Common.{◌≡◌, ◌⊎◌, ℕ, zero, suc, ◌≤◌, ◌<◌, Bool, true, false, if◌then◌else◌, List, [], ◌∷◌, ◌++◌, length, map, Some, slice_get, All, refl, sym, ap, ◌∙◌, subst, inl, inr, arith}
 use Rattle.std.proofs.lemmas.List.{length-map}
 use Rattle.std.proofs.lemmas.List.Elements.{All-head, All-tail}
+use Rattle.std.proofs.Math.Nat.{suc_inj}
 use Rattle.model.specs.lists.Tables.{Flags}
 use Rattle.model.specs.sites.Sites.{SiteTerm, pick_of, some_part, unfold_site}
 use Rattle.model.specs.visits.Demands.{Visit, call_result}
@@ -49,7 +50,7 @@ module _ (before : List SiteTerm) (b : RuleSetBuilder) (v : Visit) (h : StandsAt
   calls_fit =
       let made = (before_closing before v.demands).made in
       let l = no_more_distinct v.demands.impure made
-      (λ j k u x y. suc_same j k (sym (h.numbered j u x) ∙ h.numbered k u y))
+      (λ j k u x y. suc_inj (sym (h.numbered j u x) ∙ h.numbered k u y))
       (λ u i. each_among (unfold_site (built_sites b)) made (length (built_sites b)) (λ s m. in_slice made s _ (h.demands.stand.exact s m)) b.impure.items h.impure.within u
       (subst (λ us. In us u) (sym h.impure.numbers) i)) in
       let same = calls_met in
@@ -57,6 +58,3 @@ module _ (before : List SiteTerm) (b : RuleSetBuilder) (v : Visit) (h : StandsAt
       let count = h.demands.stand.count in
       let few = h.table.few in
       omega (arith, l, same, own, count, few)
-    where
-      suc_same : (j k : ℕ) → suc j ≡ suc k → j ≡ k
-      suc_same j k e = omega (arith, e)

@@ -210,7 +210,8 @@ Asks c old s r new = s < length (built_sites old) → Follows old new r (asking 
 -- and with a call that makes two sites equal
 abbrev pub AsksEqual : RuleSetBuilder → ℕ → ℕ → Result (Unit {0}) VisitFault → RuleSetBuilder → Type 0
 AsksEqual old a b r new =
-    a < length (built_sites old) → b < length (built_sites old) → Follows old new r (equating (unfold_site (built_sites old) a) (unfold_site (built_sites old) b))
+    a < length (built_sites old) → b < length (built_sites old)
+    → Follows old new r (equating (unfold_site (built_sites old) a) (unfold_site (built_sites old) b))
 
 -- and with a call that opens the fields which a constraint gives a site, so many
 abbrev pub OpensFields : Sites.Constraint → ℕ → RuleSetBuilder → ℕ → Result (List ℕ) VisitFault → RuleSetBuilder → Type 0
@@ -222,10 +223,12 @@ OpensFields c count old s r new =
 -- and with a call that opens the outputs of an extractor, so many
 abbrev pub OpensExtractor : ℕ → ℕ → Bool → Bool → RuleSetBuilder → ℕ → Result (List ℕ) VisitFault → RuleSetBuilder → Type 0
 OpensExtractor term count infallible multi old s r new =
-    (before : List SiteTerm) (v : Visit) (flags : Flags) (args : TypedPatterns) → StandsAt before old v → s < length (built_sites old) → flags.multi ≡ multi → pattern_count args ≡ count
+    (before : List SiteTerm) (v : Visit) (flags : Flags) (args : TypedPatterns) → StandsAt before old v → s < length (built_sites old)
+    → flags.multi ≡ multi → pattern_count args ≡ count
     → let call = extractor_call term (unfold_site (built_sites old) s) in
     MatchResult r (λ ids. (count ≤ most_outputs) × OpensTo before old new (open_call flags infallible call args v) ids)
-    (EndsOpening before new (open_call flags infallible call args v).visit Limits.Outputs most_outputs count (answered multi infallible call (making (call ∷ []) v)))
+    (EndsOpening before new (open_call flags infallible call args v).visit Limits.Outputs most_outputs count
+    (answered multi infallible call (making (call ∷ []) v)))
 
 -- the sites that are made for what a constructor's call gives
 abbrev pub value_sites : Flags → SiteTerm → List SiteTerm
@@ -261,13 +264,15 @@ input_terms b inputs = each_term (unfold_site (built_sites b)) (input_ids inputs
 -- what a builder does with a constructor's call
 abbrev pub Constructs : ℕ → Bool → Bool → Bool → RuleSetBuilder → List (ℕ × ℕ) → Result ℕ VisitFault → RuleSetBuilder → Type 0
 Constructs term pure infallible multi old inputs r new =
-    (flags : Flags) → flags.pure ≡ pure → flags.partial ≡ not infallible → flags.multi ≡ multi → HaveSites old inputs → GivesValue old new r (visit_call flags term (input_terms old inputs))
+    (flags : Flags) → flags.pure ≡ pure → flags.partial ≡ not infallible → flags.multi ≡ multi
+    → HaveSites old inputs → GivesValue old new r (visit_call flags term (input_terms old inputs))
 
 -- and with an argument, which is counted before it is made, since its number has to fit
 abbrev pub MakesArgument : ℕ → RuleSetBuilder → Result ℕ VisitFault → RuleSetBuilder → Type 0
 MakesArgument i old r new =
     (before : List SiteTerm) (v : Visit) → StandsAt before old v
-    → MatchResult r (λ n. (i < most_arguments) × ValuesTo before old new (valued (argument i) (taking_argument i v)) n) (EndsOpening before new (taking_argument i v) Limits.Arguments most_arguments (suc i) v)
+    → MatchResult r (λ n. (i < most_arguments) × ValuesTo before old new (valued (argument i) (taking_argument i v)) n)
+    (EndsOpening before new (taking_argument i v) Limits.Arguments most_arguments (suc i) v)
 
 -- keys of a set, and these
 abbrev pub with_keys : List ℕ → List ℕ → List ℕ

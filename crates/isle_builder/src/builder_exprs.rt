@@ -34,9 +34,11 @@ impl RuleSetBuilder {
         infallible: bool,
         multi: bool,
     ) -> Result<BindingId, VisitFault>
-        ensures made { (before : List SiteTerm) (v : Visit) (flags : Flags) → StandsAt before self.old v → call < length (built_sites self.old) → flags.partial ≡ not infallible → flags.multi ≡ multi
+        ensures made { (before : List SiteTerm) (v : Visit) (flags : Flags) → StandsAt before self.old v
+            → call < length (built_sites self.old) → flags.partial ≡ not infallible → flags.multi ≡ multi
             → IfOk result (MakesValue before self.old self.new flags (unfold_site (built_sites self.old) call) v) }
-        ensures full { (before : List SiteTerm) (v : Visit) (flags : Flags) → StandsAt before self.old v → call < length (built_sites self.old) → flags.partial ≡ not infallible → flags.multi ≡ multi
+        ensures full { (before : List SiteTerm) (v : Visit) (flags : Flags) → StandsAt before self.old v
+            → call < length (built_sites self.old) → flags.partial ≡ not infallible → flags.multi ≡ multi
             → IfErr result (EndsBefore before self.new (making (value_sites flags (unfold_site (built_sites self.old) call)) v)) }
     {
         if !infallible {
@@ -50,7 +52,8 @@ impl RuleSetBuilder {
 
     // The rule goes over a multi call.
     pub(crate) fn go_over(&mut self, call: BindingId, multi: bool) -> Result<(), AllocError>
-        ensures gone_over { (before : List SiteTerm) (v : Visit) (flags : Flags) → StandsAt before self.old v → call < length (built_sites self.old) → flags.multi ≡ multi
+        ensures gone_over { (before : List SiteTerm) (v : Visit) (flags : Flags)
+            → StandsAt before self.old v → call < length (built_sites self.old) → flags.multi ≡ multi
             → OnOk result (GoesTo before self.old self.new (where_multi flags (unfold_site (built_sites self.old) call) v)) }
     {
         if multi {
@@ -61,7 +64,8 @@ impl RuleSetBuilder {
 
     // The rule makes an impure call, whose last site this is.
     pub(crate) fn note_call(&mut self, site: BindingId, pure: bool) -> Result<(), AllocError>
-        ensures called { (before : List SiteTerm) (v : Visit) → StandsAt before self.old v → site < length (built_sites self.old) → (pure ≡ false → IsNextCall self.old v site)
+        ensures called { (before : List SiteTerm) (v : Visit) → StandsAt before self.old v
+            → site < length (built_sites self.old) → (pure ≡ false → IsNextCall self.old v site)
             → OnOk result (GoesTo before self.old self.new (if pure then v else calling (unfold_site (built_sites self.old) site) v)) }
     {
         if !pure {
@@ -97,10 +101,12 @@ impl RuleSetBuilder {
         infallible: bool,
         multi: bool,
     ) -> Result<BindingId, VisitFault>
-        ensures constructed { (before : List SiteTerm) (v : Visit) (flags : Flags) → StandsAt before self.old v → All (λ n. n < length (built_sites self.old)) parameters.items
+        ensures constructed { (before : List SiteTerm) (v : Visit) (flags : Flags)
+            → StandsAt before self.old v → All (λ n. n < length (built_sites self.old)) parameters.items
             → flags.pure ≡ pure → flags.partial ≡ not infallible → flags.multi ≡ multi
             → IfOk result (ValuesTo before self.old self.new (visit_call flags term.0 (each_term (unfold_site (built_sites self.old)) parameters.items) v)) }
-        ensures full { (before : List SiteTerm) (v : Visit) (flags : Flags) → StandsAt before self.old v → All (λ n. n < length (built_sites self.old)) parameters.items
+        ensures full { (before : List SiteTerm) (v : Visit) (flags : Flags)
+            → StandsAt before self.old v → All (λ n. n < length (built_sites self.old)) parameters.items
             → flags.pure ≡ pure → flags.partial ≡ not infallible → flags.multi ≡ multi
             → IfErr result (EndsBefore before self.new (visit_call flags term.0 (each_term (unfold_site (built_sites self.old)) parameters.items) v).visit) }
     {
@@ -138,7 +144,8 @@ impl ExprVisitor for RuleSetBuilder {
 
     ghost const_prim_steps = { λ s ty name r t. GivesValue s t r (value_made (prim_term name)) };
 
-    ghost create_variant_steps = { λ s inputs ty variant r t. HaveSites s inputs → GivesValue s t r (value_made (variant_made ty variant (input_terms s inputs))) };
+    ghost create_variant_steps = { λ s inputs ty variant r t. HaveSites s inputs
+        → GivesValue s t r (value_made (variant_made ty variant (input_terms s inputs))) };
 
     ghost create_struct_steps = { λ s inputs ty r t. HaveSites s inputs → GivesValue s t r (value_made (struct_made ty (input_terms s inputs))) };
 
@@ -162,7 +169,8 @@ impl ExprVisitor for RuleSetBuilder {
         ty: TypeId,
         variant: VariantId,
     ) -> Result<BindingId, VisitFault>
-        ensures { HaveSites self.old (typed_inputs inputs.items) → GivesValue self.old self.new result (value_made (variant_made ty.0 variant.0 (input_terms self.old (typed_inputs inputs.items)))) }
+        ensures { HaveSites self.old (typed_inputs inputs.items)
+            → GivesValue self.old self.new result (value_made (variant_made ty.0 variant.0 (input_terms self.old (typed_inputs inputs.items)))) }
     {
         let fields = ids_of(self.alloc, &inputs)?;
         self.make(Binding::MakeVariant {
@@ -177,7 +185,8 @@ impl ExprVisitor for RuleSetBuilder {
         inputs: Vec<(BindingId, TypeId)>,
         ty: TypeId,
     ) -> Result<BindingId, VisitFault>
-        ensures { HaveSites self.old (typed_inputs inputs.items) → GivesValue self.old self.new result (value_made (struct_made ty.0 (input_terms self.old (typed_inputs inputs.items)))) }
+        ensures { HaveSites self.old (typed_inputs inputs.items)
+            → GivesValue self.old self.new result (value_made (struct_made ty.0 (input_terms self.old (typed_inputs inputs.items)))) }
     {
         let fields = ids_of(self.alloc, &inputs)?;
         self.make(Binding::MakeStruct { ty, fields })

@@ -53,7 +53,8 @@ impl RuleSetBuilder {
         count: TupleIndex,
     ) -> Result<Vec<BindingId>, VisitFault>
         ensures made { (before : List SiteTerm) (v : Visit) → StandsAt before self.old v → source < length (built_sites self.old)
-            → IfOk result (λ ids. MakesAll before self.old self.new v (fields_from (part_of parts (unfold_site (built_sites self.old) source)) 0 count) ids.items) }
+            → IfOk result (λ ids. MakesAll before self.old self.new v
+            (fields_from (part_of parts (unfold_site (built_sites self.old) source)) 0 count) ids.items) }
         ensures full { (before : List SiteTerm) (v : Visit) → StandsAt before self.old v → source < length (built_sites self.old)
             → IfErr result (EndsBefore before self.new (making (fields_from (part_of parts (unfold_site (built_sites self.old) source)) 0 count) v)) }
         ensures count { IfOk result (λ ids. vec_len ids ≡ count) }
@@ -77,9 +78,11 @@ impl RuleSetBuilder {
         count: usize,
     ) -> Result<Vec<BindingId>, VisitFault>
         ensures opened { (before : List SiteTerm) (v : Visit) → StandsAt before self.old v → input < length (built_sites self.old)
-            → IfOk result (λ ids. (count ≤ most_fields) × OpensTo before self.old self.new (fields_opened (is_variant ty.0 variant.0 count) count (unfold_site (built_sites self.old) input) v) ids.items) }
+            → IfOk result (λ ids. (count ≤ most_fields)
+            × OpensTo before self.old self.new (fields_opened (is_variant ty.0 variant.0 count) count (unfold_site (built_sites self.old) input) v) ids.items) }
         ensures full { (before : List SiteTerm) (v : Visit) → StandsAt before self.old v → input < length (built_sites self.old)
-            → IfErr result (EndsOpening before self.new (fields_opened (is_variant ty.0 variant.0 count) count (unfold_site (built_sites self.old) input) v).visit Limits.Fields most_fields count v) }
+            → IfErr result (EndsOpening before self.new
+            (fields_opened (is_variant ty.0 variant.0 count) count (unfold_site (built_sites self.old) input) v).visit Limits.Fields most_fields count v) }
         ensures count { IfOk result (λ ids. vec_len ids ≡ count) }
     {
         let Ok(fields) = TupleIndex::try_from(count) else {
@@ -105,9 +108,11 @@ impl RuleSetBuilder {
         count: usize,
     ) -> Result<Vec<BindingId>, VisitFault>
         ensures opened { (before : List SiteTerm) (v : Visit) → StandsAt before self.old v → input < length (built_sites self.old)
-            → IfOk result (λ ids. (count ≤ most_fields) × OpensTo before self.old self.new (fields_opened (is_struct ty.0 count) count (unfold_site (built_sites self.old) input) v) ids.items) }
+            → IfOk result (λ ids. (count ≤ most_fields)
+            × OpensTo before self.old self.new (fields_opened (is_struct ty.0 count) count (unfold_site (built_sites self.old) input) v) ids.items) }
         ensures full { (before : List SiteTerm) (v : Visit) → StandsAt before self.old v → input < length (built_sites self.old)
-            → IfErr result (EndsOpening before self.new (fields_opened (is_struct ty.0 count) count (unfold_site (built_sites self.old) input) v).visit Limits.Fields most_fields count v) }
+            → IfErr result (EndsOpening before self.new
+            (fields_opened (is_struct ty.0 count) count (unfold_site (built_sites self.old) input) v).visit Limits.Fields most_fields count v) }
         ensures count { IfOk result (λ ids. vec_len ids ≡ count) }
     {
         let Ok(fields) = TupleIndex::try_from(count) else {
@@ -120,10 +125,14 @@ impl RuleSetBuilder {
 
     // The outputs of a call: one is the site itself, several are its parts, none has no site.
     fn open_outputs(&mut self, site: BindingId, count: usize) -> Result<Vec<BindingId>, VisitFault>
-        ensures opened { (before : List SiteTerm) (v : Visit) (args : TypedPatterns) → StandsAt before self.old v → site < length (built_sites self.old) → pattern_count args ≡ count
-            → IfOk result (λ ids. (count ≤ most_outputs) × OpensTo before self.old self.new (outputs_opened (unfold_site (built_sites self.old) site) args v) ids.items) }
-        ensures full { (before : List SiteTerm) (v : Visit) (args : TypedPatterns) → StandsAt before self.old v → site < length (built_sites self.old) → pattern_count args ≡ count
-            → IfErr result (EndsOpening before self.new (outputs_opened (unfold_site (built_sites self.old) site) args v).visit Limits.Outputs most_outputs count v) }
+        ensures opened { (before : List SiteTerm) (v : Visit) (args : TypedPatterns)
+            → StandsAt before self.old v → site < length (built_sites self.old) → pattern_count args ≡ count
+            → IfOk result (λ ids. (count ≤ most_outputs)
+            × OpensTo before self.old self.new (outputs_opened (unfold_site (built_sites self.old) site) args v) ids.items) }
+        ensures full { (before : List SiteTerm) (v : Visit) (args : TypedPatterns)
+            → StandsAt before self.old v → site < length (built_sites self.old) → pattern_count args ≡ count
+            → IfErr result (EndsOpening before self.new
+            (outputs_opened (unfold_site (built_sites self.old) site) args v).visit Limits.Outputs most_outputs count v) }
         ensures count { IfOk result (λ ids. vec_len ids ≡ count) }
     {
         let Ok(parts) = TupleIndex::try_from(count) else {
@@ -172,13 +181,19 @@ impl RuleSetBuilder {
         infallible: bool,
         multi: bool,
     ) -> Result<Vec<BindingId>, VisitFault>
-        ensures opened { (before : List SiteTerm) (v : Visit) (flags : Flags) (args : TypedPatterns) → StandsAt before self.old v → input < length (built_sites self.old)
+        ensures opened { (before : List SiteTerm) (v : Visit) (flags : Flags) (args : TypedPatterns)
+            → StandsAt before self.old v → input < length (built_sites self.old)
             → flags.multi ≡ multi → pattern_count args ≡ count
-            → IfOk result (λ ids. (count ≤ most_outputs) × OpensTo before self.old self.new (open_call flags infallible (extractor_call term.0 (unfold_site (built_sites self.old) input)) args v) ids.items) }
-        ensures full { (before : List SiteTerm) (v : Visit) (flags : Flags) (args : TypedPatterns) → StandsAt before self.old v → input < length (built_sites self.old)
+            → IfOk result (λ ids. (count ≤ most_outputs)
+            × OpensTo before self.old self.new
+            (open_call flags infallible (extractor_call term.0 (unfold_site (built_sites self.old) input)) args v) ids.items) }
+        ensures full { (before : List SiteTerm) (v : Visit) (flags : Flags) (args : TypedPatterns)
+            → StandsAt before self.old v → input < length (built_sites self.old)
             → flags.multi ≡ multi → pattern_count args ≡ count
-            → IfErr result (EndsOpening before self.new (open_call flags infallible (extractor_call term.0 (unfold_site (built_sites self.old) input)) args v).visit
-            Limits.Outputs most_outputs count (let call = extractor_call term.0 (unfold_site (built_sites self.old) input) in answered multi infallible call (making (call ∷ []) v))) }
+            → IfErr result (EndsOpening before self.new
+            (open_call flags infallible (extractor_call term.0 (unfold_site (built_sites self.old) input)) args v).visit
+            Limits.Outputs most_outputs count
+            (let call = extractor_call term.0 (unfold_site (built_sites self.old) input) in answered multi infallible call (making (call ∷ []) v))) }
         ensures count { IfOk result (λ ids. vec_len ids ≡ count) }
     {
         let call = self.make(Binding::Extractor {

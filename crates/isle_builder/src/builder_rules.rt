@@ -39,9 +39,11 @@ impl RuleSetBuilder {
         termenv: &E,
     ) -> Result<BindingId, VisitFault>
         requires visitable { IsTrue (is_visitable_rule (E.term_entries termenv.now) (rule_view rule.now)) }
-        ensures visited { (p : Program) (before : List SiteTerm) → p.terms ≡ E.term_entries termenv.now → is_formed_rule p (rule_view rule.now) ≡ true → StandsAt before self.old visit_start
+        ensures visited { (p : Program) (before : List SiteTerm) → p.terms ≡ E.term_entries termenv.now
+            → is_formed_rule p (rule_view rule.now) ≡ true → StandsAt before self.old visit_start
             → IfOk result (ValuesTo before self.old self.new (visit_rule p (rule_view rule.now))) }
-        ensures limit { (p : Program) (before : List SiteTerm) → p.terms ≡ E.term_entries termenv.now → is_formed_rule p (rule_view rule.now) ≡ true → StandsAt before self.old visit_start
+        ensures limit { (p : Program) (before : List SiteTerm) → p.terms ≡ E.term_entries termenv.now
+            → is_formed_rule p (rule_view rule.now) ≡ true → StandsAt before self.old visit_start
             → IfErr result (EndsAtLimit p before (rule_view rule.now) self.new) }
     {
         let value = rule.visit(self.alloc, self, termenv)?;
@@ -50,8 +52,10 @@ impl RuleSetBuilder {
     }
 
     fn make_argument(&mut self, index: usize) -> Result<BindingId, VisitFault>
-        ensures made { (before : List SiteTerm) (v : Visit) → StandsAt before self.old v → IfOk result (λ n. (index < most_arguments) × ValuesTo before self.old self.new (valued (argument index) (taking_argument index v)) n) }
-        ensures full { (before : List SiteTerm) (v : Visit) → StandsAt before self.old v → IfErr result (EndsOpening before self.new (taking_argument index v) Limits.Arguments most_arguments (suc index) v) }
+        ensures made { (before : List SiteTerm) (v : Visit) → StandsAt before self.old v
+            → IfOk result (λ n. (index < most_arguments) × ValuesTo before self.old self.new (valued (argument index) (taking_argument index v)) n) }
+        ensures full { (before : List SiteTerm) (v : Visit) → StandsAt before self.old v
+            → IfErr result (EndsOpening before self.new (taking_argument index v) Limits.Arguments most_arguments (suc index) v) }
     {
         let Ok(index) = TupleIndex::try_from(index) else {
             return Err(VisitFault::Limit(Limit::Arguments));
@@ -69,8 +73,10 @@ impl RuleSetBuilder {
         calls: &mut Vec<BindingId>,
     ) -> Result<(), AllocError>
         ensures walked { OnOk result ((s : ℕ) → contains ◌==◌ walked.new s ≡ (if site == s then true else contains ◌==◌ walked.old s)) }
-        ensures due { OnOk result (due.new.keys ≡ with_keys due.old.keys (if contains ◌==◌ walked.old site then [] else sources_at (built_sites self.now) site)) }
-        ensures calls { OnOk result (calls.new.items ≡ calls.old.items ++ (if contains ◌==◌ walked.old site then [] else unwrapped_at (built_sites self.now) site)) }
+        ensures due { OnOk result (due.new.keys
+            ≡ with_keys due.old.keys (if contains ◌==◌ walked.old site then [] else sources_at (built_sites self.now) site)) }
+        ensures calls { OnOk result (calls.new.items ≡ calls.old.items
+            ++ (if contains ◌==◌ walked.old site then [] else unwrapped_at (built_sites self.now) site)) }
     {
         if !walked.insert(site)? {
             return Ok(());
@@ -92,7 +98,8 @@ impl RuleSetBuilder {
         site: BindingId,
         walked: &mut StableSet<BindingId>,
     ) -> Result<Vec<BindingId>, AllocError>
-        ensures { IsTable self.now.table → site < length (built_sites self.now) → IfOk result (λ calls. AreUnwrapped (built_sites self.now) site walked.old walked.new calls.items) }
+        ensures { IsTable self.now.table → site < length (built_sites self.now)
+            → IfOk result (λ calls. AreUnwrapped (built_sites self.now) site walked.old walked.new calls.items) }
     {
         let mut calls = Vec::new(self.alloc);
         let mut due = BTreeSet::new(self.alloc);
@@ -108,7 +115,8 @@ impl RuleSetBuilder {
 
     // Asks each call that a site unwraps to answer. A rule walks each site once, however many if-lets stand on it.
     fn ask_unwrapped(&mut self, site: BindingId) -> Result<(), AllocError>
-        ensures { (before : List SiteTerm) (v : Visit) → StandsAt before self.old v → site < length (built_sites self.old) → AsksNothingElse v (unfold_site (built_sites self.old) site)
+        ensures { (before : List SiteTerm) (v : Visit) → StandsAt before self.old v
+            → site < length (built_sites self.old) → AsksNothingElse v (unfold_site (built_sites self.old) site)
             → OnOk result (GoesTo before self.old self.new (asking_all (unwraps (unfold_site (built_sites self.old) site)) v)) }
     {
         let alloc = self.alloc;

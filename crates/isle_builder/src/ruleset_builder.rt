@@ -66,7 +66,8 @@ impl RuleSetBuilder {
 
     /// Goes on to the next rule of the term: the sites stay, and nothing is demanded yet.
     pub fn start_rule(&mut self)
-        ensures started { (before : List SiteTerm) → IsTable self.old.table → IsDistinct before → StandFor (built_sites self.old) before → StandsAt before self.new visit_start }
+        ensures started { (before : List SiteTerm) → IsTable self.old.table → IsDistinct before
+            → StandFor (built_sites self.old) before → StandsAt before self.new visit_start }
         ensures kept { built_sites self.new ≡ built_sites self.old }
     {
         self.demanded = Demanded::new(self.alloc);
@@ -96,7 +97,8 @@ impl RuleSetBuilder {
     pub(crate) fn close(&mut self) -> Result<(), VisitFault>
         requires { (before : List SiteTerm) × (v : Visit) × StandsAt before self.old v }
         ensures closed { (before : List SiteTerm) (v : Visit) → StandsAt before self.old v
-            → OnOk result (IsTable self.new.table × GoOn (built_sites self.old) (built_sites self.new) self.new.demanded (closing most_closing_steps (before_closing before v.demands))) }
+            → OnOk result (IsTable self.new.table
+            × GoOn (built_sites self.old) (built_sites self.new) self.new.demanded (closing most_closing_steps (before_closing before v.demands))) }
         ensures full { (before : List SiteTerm) (v : Visit) → StandsAt before self.old v
             → IfErr result (EndsFull (built_sites self.new) (closing most_closing_steps (before_closing before v.demands))) }
         ensures kept { IfErr result (ForWantOfRoom (IsTable self.new.table)) }
@@ -126,8 +128,10 @@ impl RuleSetBuilder {
 
     // Two sites must be equal.
     pub(crate) fn equate(&mut self, first: BindingId, second: BindingId) -> Result<(), AllocError>
-        ensures equated { (before : List SiteTerm) (v : Visit) → StandsAt before self.old v → first < length (built_sites self.old) → second < length (built_sites self.old)
-            → OnOk result (GoesTo before self.old self.new (equating (unfold_site (built_sites self.old) first) (unfold_site (built_sites self.old) second) v)) }
+        ensures equated { (before : List SiteTerm) (v : Visit) → StandsAt before self.old v
+            → first < length (built_sites self.old) → second < length (built_sites self.old)
+            → OnOk result (GoesTo before self.old self.new
+            (equating (unfold_site (built_sites self.old) first) (unfold_site (built_sites self.old) second) v)) }
     {
         self.demanded.equate(first, second)
     }

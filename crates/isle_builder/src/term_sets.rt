@@ -117,7 +117,8 @@ impl TermSet {
         errors: &mut Vec<Error>,
     ) -> Result<(), AllocError>
         requires visited { (before : List SiteTerm) × (v : Visit) × StandsAt before self.old.builder v }
-        ensures goes { (p : Program) (before : List SiteTerm) → WasVisited p before (rule_view rule.now) self.old.builder value → is_unreachable (demands_of p (rule_view rule.now)) ≡ false
+        ensures goes { (p : Program) (before : List SiteTerm) → WasVisited p before (rule_view rule.now) self.old.builder value
+            → is_unreachable (demands_of p (rule_view rule.now)) ≡ false
             → OnOk result (SetGoesOn p before (rule_view rule.now) self.old self.new errors.old.items errors.new.items) }
         ensures single { OnOk result (All HasSingleSpans errors.old.items → All HasSingleSpans errors.new.items) }
     {
@@ -129,7 +130,8 @@ impl TermSet {
 
     // A rule whose demands are closed.
     fn push_rule(&mut self, rule: &Rule, value: BindingId) -> Result<(), AllocError>
-        ensures added { (k : Closed) → AreDemandsOf (built_sites self.old.builder) self.old.builder.demanded k → OnOk result (AddsListed self.old.builder k rule.now value self.old self.new) }
+        ensures added { (k : Closed) → AreDemandsOf (built_sites self.old.builder) self.old.builder.demanded k
+            → OnOk result (AddsListed self.old.builder k rule.now value self.old self.new) }
         ensures table { self.new.builder.table ≡ self.old.builder.table }
     {
         let listed = self.builder.list_rule(rule, value)?;
@@ -141,7 +143,8 @@ impl TermSet {
 impl RuleSetBuilder {
     // The rule by its closed demands, and its calls.
     fn list_rule(&mut self, rule: &Rule, value: BindingId) -> Result<trie_again::Rule, AllocError>
-        ensures listed { (k : Closed) → AreDemandsOf (built_sites self.old) self.old.demanded k → IfOk result (λ r. IsListed self.old k rule.now value (set_rule_view r)) }
+        ensures listed { (k : Closed) → AreDemandsOf (built_sites self.old) self.old.demanded k
+            → IfOk result (λ r. IsListed self.old k rule.now value (set_rule_view r)) }
         ensures table { self.new.table ≡ self.old.table }
     {
         let alloc = self.alloc;

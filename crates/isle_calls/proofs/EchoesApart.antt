@@ -1,18 +1,18 @@
 -- Echoes tell constants apart, and so choose as source rules do.
-use Rattle.std.proofs.Common.{◌≡◌, ℕ, ℤ, pos, ◌+ℤ◌, Bool, true, false, List, Option, Some, None, slice_get, Contains, refl, sym, ap, ◌∙◌, subst, arith}
+use Rattle.std.proofs.Common.{◌≡◌, ℕ, ℤ, pos, ◌+ℤ◌, Bool, true, false, List, Option, Some, None, slice_get, Contains, sym, ap, ◌∙◌, subst, arith}
 use Rattle.std.proofs.lemmas.Bool.{false≢true, true≢false}
 use Rattle.std.proofs.lemmas.Int.{ints}
-use Rattle.cranelift_isle.specs.Tables.{TypeEntry, builtin_type, primitive_type, enum_type, struct_type}
-use Rattle.cranelift_isle.specs.Values.{Value, truth, atom, is_atom_type}
+use Rattle.cranelift_isle.specs.Values.{Value, truth, atom}
 use Rattle.cranelift_isle.specs.Meaning.{total}
 use Rattle.cranelift_isle.specs.Program.{Program, rules_of}
 use Rattle.cranelift_isle.specs.Typed.{TypedRule}
 use Rattle.cranelift_isle.specs.Sites.{SiteTerm, bool_term, int_term, prim_term, argument, extractor_call, constructor_call, pick_of, variant_made, variant_field, struct_made, struct_field, some_made, some_part, tuple_part, no_site}
-use Rattle.cranelift_isle.specs.Serves.{constant_type, is_type_with_parts, tested_constants, written_type, written_value}
+use Rattle.cranelift_isle.specs.Serves.{constant_type, tested_constants, written_type, written_value}
 use Rattle.cranelift_isle.specs.ElaboratedLists.{program_of}
 use Rattle.model.proofs.Elements.{some_is, none_some}
 use Rattle.laws_typing.proofs.WellTypedRules.{elaborated_programs_are_well_typed_lem}
 use Rattle.laws_matching.specs.TotalLaws.{matched_by, called_by}
+use Rattle.laws_matching.proofs.Shapes.{atom_without_parts}
 use Rattle.laws_matching.proofs.total.Total.{runs_by_functions_as_chosen_lem, tested_constant_used}
 use Rattle.isle_calls.specs.Echoes.{constant_number, named_value, echoes}
 use Rattle.isle_calls.specs.EchoLaws.{AreConstantTypesOf, WritesNoConstant, EchoesKeepConstantsApart, EchoesChooseAsSource}
@@ -85,18 +85,10 @@ module _ (p : Program) (types : ℕ → Option ℕ) (same : AreConstantTypesOf p
   apart rs unwritten _ _ (a_prim m r) (an_int w) ia ib e = absurd (unwritten w ty m ib ia (numbers (sym (is e) ∙ value_of m r)))
   apart rs unwritten _ _ (a_prim m r) (a_prim n q) ia ib e = ap prim_term (same_place (constant_number 0) m n (numbers (sym (value_of m r) ∙ is e ∙ value_of n q)))
 
--- a type of numbers has no parts
-without_parts : (o : Option TypeEntry) → is_atom_type o ≡ true → is_type_with_parts o ≡ false
-without_parts None h = refl
-without_parts (Some (builtin_type k)) h = refl
-without_parts (Some (primitive_type id name at)) h = refl
-without_parts (Some (enum_type name id e n vs at)) h = absurd (false≢true h)
-without_parts (Some (struct_type name id e n fields at)) h = absurd (false≢true h)
-
 pub echoes_keep_constants_apart_lem : EchoesKeepConstantsApart
 echoes_keep_constants_apart_lem p t types well same can unwritten = record {
   different = λ a b ty v ia ib either wa wb ea eb. apart p types same ty (rules_of p t) unwritten a b (constant_of p ty a wa) (constant_of p ty b wb) ia ib (ea ∙ sym eb);
-  without_parts = λ r s name ty among asks is. without_parts (slice_get p.types ty) (can.constants name ty (tested_constant_used p well t r s name among asks) is);
+  without_parts = λ r s name ty among asks is. atom_without_parts (slice_get p.types ty) (can.constants name ty (tested_constant_used p well t r s name among asks) is);
 }
 
 pub echoes_choose_as_source_lem : EchoesChooseAsSource

@@ -93,16 +93,17 @@ pub fn answer_to_reading<E: Write>(
 {
     match reading {
         Reading::Defs(defs) => answer_to_defs(alloc, asked, files, defs, teller),
-        Reading::Unread(reports) => refusal(alloc, asked, files, reports),
+        Reading::Unread(reports) => refusal(alloc, asked, files, reports, 0),
     }
 }
 
-// The answer where something is wrong.
+// The answer where something is wrong: these reports, and how many more there are.
 fn refusal(
     alloc: Global,
     asked: &Request<'_>,
     files: &Files,
     reports: &[Report],
+    rest: usize,
 ) -> Result<Answer, AllocError>
     ensures { IfOk result (IsRefusal asked.now) }
 {
@@ -116,11 +117,20 @@ fn refusal(
     }
     let mut err = String::new(alloc);
     push_reports(&mut err, files, reports, asked.layout())?;
+    push_rest(&mut err, rest)?;
     Ok(Answer {
         status: 1,
         out: String::new(alloc),
         err,
     })
+}
+
+// Adds how many more errors there are.
+fn push_rest(err: &mut String, count: usize) -> Result<(), AllocError> {
+    if count == 0 {
+        return Ok(());
+    }
+    write!(err, "and {count} more, shown by `--all`\n")
 }
 
 // What is answered to definitions.
@@ -138,8 +148,9 @@ fn answer_to_defs<E: Write>(
         Ok(lowered) => answer_to_lowered(alloc, asked, files, defs, &lowered, teller),
         Err(Fault::Errors(errors)) => {
             teller.tell("explaining", "errors");
-            let reports = reports_of(alloc, defs, asked.expand, &errors)?;
-            refusal(alloc, asked, files, &reports)
+            let reports = reports_of(alloc, defs, asked.expand, &errors, asked.wants_all())?;
+            let rest = errors.len().saturating_sub(reports.len());
+            refusal(alloc, asked, files, &reports, rest)
         }
         Err(Fault::Memory(error)) => Err(error),
     }
@@ -170,7 +181,7 @@ fn answer_to_lowered<E: Write>(
         Task::Stats => Ok(accepted(alloc, stats(alloc, lowered)?)),
         Task::Compare => compared(alloc, asked, files, lowered, teller),
         Task::Run => ran(alloc, asked, lowered),
-        Task::Explain => explained(alloc, asked, files, lowered),
+        Task::Explain => explained(alloc, asked, files, defs, lowered),
     }
 }
 
@@ -206,13 +217,14 @@ fn explained(
     alloc: Global,
     asked: &Request<'_>,
     files: &Files,
+    defs: &[Def],
     lowered: &Lowered,
 ) -> Result<Answer, AllocError>
     ensures { IfOk result (λ a. IsDoneWithText a ⊎ IsFailed a) }
 {
-    let text = explanation(alloc, files, lowered, asked.rule)?;
+    let text = explanation(alloc, files, defs, lowered, asked.rule)?;
     if text.is_empty() {
-        missing(alloc, "rule", asked.rule)
+        missing(alloc, "rule or term with rules", asked.rule)
     } else {
         Ok(accepted(alloc, text))
     }

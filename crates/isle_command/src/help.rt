@@ -8,7 +8,8 @@ definitions. Tasks:
   lower FILE..           prints the tree of each term. Each return names its rule.
   rust FILE..            prints the Rust code of the terms (docs/RUST-CODE.md)
   check FILE..           prints errors and warnings, and nothing else
-  explain RULE FILE..    says what a rule demands and when it is taken. RULE is a name, a line, or FILE:LINE.
+  explain RULE FILE..    says what a rule demands and when it is taken. RULE is the name of a rule or of a term, a line
+                         in the rule, or FILE:LINE. FILE may be the end of a path.
   stats FILE..           counts the rules, sites, tests, arms and returns of each term, and how deep its tests nest
   compare FILE.. TREES   shows where the printed trees in the last file differ from the trees of the other files
   run FILE.. -- TERM VALUE..
@@ -23,6 +24,7 @@ Options:
   --with-allows          rust: the code begins with attributes #![allow(..)], so it can be a file of its own
   --no-expand            does not expand internal extractors. The task rust always expands them.
   --deny                 check: warnings are errors
+  --all                  shows all errors. Otherwise only the first 20 are shown.
   --format text          shows each error with its source lines. This is the default.
   --format line          shows each error on one line
   --format json          lower, check: prints one JSON object, which has the errors too (docs/JSON.md)

@@ -107,6 +107,8 @@ pub struct Request<'a> {
     pub expand: bool,
     /// Whether warnings count as errors.
     pub deny: bool,
+    /// Whether a person sees all errors, and not only the first ones.
+    pub all: bool,
     /// The form of the answer.
     pub format: Format,
     /// Whether what is told to a person has a terminal's colours.
@@ -115,7 +117,8 @@ pub struct Request<'a> {
     pub terms: Option<&'a str>,
     /// Where files are looked for whose names don't begin with `/`; the empty text for where the command runs.
     pub folder: &'a str,
-    /// The rule that is to be explained, by its name, its line, or its file, a colon and its line.
+    /// The rules that are to be explained: the name of a rule or of a term, the number of a line in the rules, or the end of a
+    /// file's path, a colon and such a number.
     pub rule: &'a str,
     /// How Rust code is written.
     pub code: CodegenOptions,
@@ -133,6 +136,7 @@ impl<'a> Drop for Request<'a> {
             task: _,
             expand: _,
             deny: _,
+            all: _,
             format: _,
             colored: _,
             terms: _,
@@ -255,6 +259,7 @@ fn request_by<'a>(given: Given, words: &'a [String]) -> Result<Request<'a>, Unas
         task: Task::Lower,
         expand: true,
         deny: false,
+        all: false,
         format: Format::Text,
         colored: given.colors,
         terms: None,
@@ -335,6 +340,14 @@ impl<'a> Request<'a> {
                     Layout::Text
                 }
             }
+        }
+    }
+
+    /// Whether all errors are shown: where that is asked for, and to programs.
+    pub fn wants_all(&self) -> bool {
+        match self.format {
+            Format::Line | Format::Json => true,
+            Format::Text | Format::Dot => self.all,
         }
     }
 
@@ -431,6 +444,10 @@ impl<'a> Request<'a> {
         match word {
             "--no-expand" => self.read_no_expand(alloc),
             "--deny" => self.read_deny(alloc),
+            "--all" => {
+                self.all = true;
+                Ok(Awaited::Any)
+            }
             "--progress" => {
                 self.progress = true;
                 Ok(Awaited::Any)

@@ -1,4 +1,4 @@
-//! Sites and demands in words.
+//! Sites, and what values are, in words.
 
 use crate::names::Names;
 use cranelift_isle::trie_again::{Binding, BindingId, Constraint};
@@ -44,8 +44,8 @@ fn site_text(
     Ok(out)
 }
 
-// Adds what a site stands for.
-fn push_site(
+/// Adds what a site stands for. These are the texts of the sites before it, and so of those that it is made of.
+pub(crate) fn push_site(
     out: &mut String,
     names: Names<'_>,
     binding: &Binding,
@@ -129,34 +129,4 @@ pub fn push_head(
         Constraint::ConstPrim { val } => push_two(out, "$", names.sym(val)),
         Constraint::Some => out.push_str("there"),
     }
-}
-
-/// Adds what is demanded of a site.
-pub fn push_demand(
-    out: &mut String,
-    names: Names<'_>,
-    site: &str,
-    constraint: Constraint,
-) -> Result<(), AllocError> {
-    out.push_str(site)?;
-    if let Constraint::Some = constraint {
-        return out.push_str(" gives a value");
-    }
-    out.push_str(" is ")?;
-    push_head(out, names, constraint)
-}
-
-/// Adds that the sites of a class have equal values.
-pub fn push_equals(
-    out: &mut String,
-    class: &[BindingId],
-    texts: &[String],
-) -> Result<(), AllocError> {
-    for (i, site) in class.iter().enumerate() {
-        if i > 0 {
-            out.push_str(" = ")?;
-        }
-        out.push_str(text_at(texts, *site))?;
-    }
-    Ok(())
 }

@@ -1,76 +1,160 @@
 //! What is wrong with definitions, as reports.
 
-use crate::names::{Names, name_of, priority_of, rule_at};
-use crate::sets::{Sets, sets_of};
-use crate::witness::witness;
-use cranelift_isle::sema::TermId;
-use cranelift_isle::syntax::{Def, Error, Fault, Limit, Pos, Span};
-use cranelift_isle::trie_again::{Rule, RuleSet};
+use crate::names::{name_of, priority_of, rule_at};
+use crate::numbered::by_names;
+use cranelift_isle::syntax::{Def, Error, Limit, Pos, Span};
+use isle_conditions::forms::{Form, push_form};
+use isle_conditions::witness::{Conflict, conflict_in, witness};
 use isle_printing::report::{Label, Level, Note, Report};
 use std::alloc::{AllocError, Global};
 
-// How many of the rules that overlap one are told with a value that both match.
+// How many errors are reported, if not all are wanted.
+const MOST_ERRORS: usize = 20;
+
+// How many of the rules that overlap one are shown, if not all are wanted.
+const MOST_RULES: usize = 5;
+
+// How many of the rules that overlap one are shown with what both match.
 const MOST_VALUES: usize = 3;
 
-/// A report for each error of lowering these definitions, in order. Of rules that overlap it tells a value that both match.
+// The definitions that errors are of, and how much is said of an error.
+#[derive(Clone, Copy)]
+struct Source<'a> {
+    alloc: Global,
+    defs: &'a [Def],
+    // Whether uses of internal extractors are replaced by their templates.
+    expand: bool,
+    // How many of the rules that overlap one are shown.
+    most_rules: usize,
+}
+
+/// A report for each error of lowering these definitions, in order. If not `all` are wanted, only the first 20 errors have one,
+/// and only the first 5 rules that overlap a rule are shown. Overlaps are reported with what both rules match.
 pub fn reports_of(
     alloc: Global,
     defs: &[Def],
     expand: bool,
     errors: &[Error],
+    all: bool,
 ) -> Result<Vec<Report>, AllocError> {
-    let sets = sets_where_overlap(alloc, defs, expand, errors)?;
+    let source = Source {
+        alloc,
+        defs,
+        expand,
+        most_rules: if all { usize::MAX } else { MOST_RULES },
+    };
+    let most = if all { usize::MAX } else { MOST_ERRORS };
     let mut reports = Vec::new(alloc);
-    for error in errors {
-        reports.push(report_of(alloc, defs, &sets, error)?)?;
+    for (i, error) in errors.iter().enumerate() {
+        if i >= most {
+            break;
+        }
+        let before = times_before(errors, i, error);
+        reports.push(report_of(source, error, before)?)?;
     }
     Ok(reports)
 }
 
-// The rule sets of definitions, where rules overlap.
-fn sets_where_overlap(
-    alloc: Global,
-    defs: &[Def],
-    expand: bool,
-    errors: &[Error],
-) -> Result<Option<Sets>, AllocError> {
-    if !errors.iter().any(is_overlap) {
-        return Ok(None);
-    }
-    match sets_of(alloc, defs, expand) {
-        Ok(sets) => Ok(Some(sets)),
-        Err(Fault::Errors(_)) => Ok(None),
-        Err(Fault::Memory(error)) => Err(error),
-    }
+// How many of the first errors, so many, say that the rule of an error can't match.
+fn times_before(errors: &[Error], count: usize, error: &Error) -> usize {
+    let Error::UnreachableError { span, .. } = error else {
+        return 0;
+    };
+    errors
+        .iter()
+        .take(count)
+        .filter(|other| is_unreachable(other, *span))
+        .count()
 }
 
-// Whether an error is of rules that overlap.
-fn is_overlap(error: &Error) -> bool {
-    matches!(error, Error::OverlapError { .. })
-}
-
-// The report of an error.
-fn report_of(
-    alloc: Global,
-    defs: &[Def],
-    sets: &Option<Sets>,
-    error: &Error,
-) -> Result<Report, AllocError> {
+// Whether an error says that the rule there can't match.
+fn is_unreachable(error: &Error, place: Span) -> bool {
     match error {
-        Error::TypeError { msg, span } => simple(alloc, "type", msg, *span),
-        Error::UnreachableError { msg, span } => of_rule(
-            alloc,
-            defs,
-            ("unreachable", msg),
-            *span,
-            "no value meets all conditions of the rule: change one of them, or remove the rule",
-        ),
-        Error::LimitError { limit, msg, span } => {
-            of_rule(alloc, defs, ("limit", msg), *span, way_below(*limit))
-        }
-        Error::OverlapError { rules, .. } => overlap(alloc, defs, sets, rules),
-        Error::ShadowedError { shadowed, mask } => shadow(alloc, defs, shadowed, *mask),
+        Error::UnreachableError { span, .. } => *span == place,
+        _ => false,
     }
+}
+
+// The report of an error. `before` is how many reports say that its rule can't match.
+fn report_of(source: Source<'_>, error: &Error, before: usize) -> Result<Report, AllocError> {
+    match error {
+        Error::TypeError { msg, span } => simple(source.alloc, "type", msg, *span),
+        Error::UnreachableError { msg, span } => unreachable(source, msg, *span, before),
+        Error::LimitError { limit, msg, span } => of_rule(
+            source,
+            ("limit", msg),
+            *span,
+            way_below(*limit),
+        ),
+        Error::OverlapError { rules, .. } => overlap(source, rules),
+        Error::ShadowedError { shadowed, mask } => {
+            shadow(source.alloc, source.defs, shadowed, *mask)
+        }
+    }
+}
+
+// The report of a rule that can't match.
+fn unreachable(
+    source: Source<'_>,
+    msg: &str,
+    span: Span,
+    before: usize,
+) -> Result<Report, AllocError> {
+    let found = match rule_at(source.defs, span.from) {
+        Some(rule) => conflict_in(source.alloc, source.defs, source.expand, rule, before)?,
+        None => None,
+    };
+    match found {
+        Some(conflict) => of_conflict(source, span, conflict),
+        None => {
+            let message = by_names(source.alloc, source.defs, source.expand, msg)?;
+            of_rule(source, ("unreachable", &message), span, WAY_OUT)
+        }
+    }
+}
+
+// What to do about a rule that can't match.
+const WAY_OUT: &str =
+    "no value meets all conditions of the rule: change one of them, or remove the rule";
+
+// The report of a rule that demands two forms of one value, with the places of both.
+fn of_conflict(
+    source: Source<'_>,
+    span: Span,
+    conflict: Conflict<'_>,
+) -> Result<Report, AllocError> {
+    let alloc = source.alloc;
+    let mut message = String::new(alloc);
+    push_rule(&mut message, source.defs, span.from)?;
+    message.push_str(" can never match: no value is both ")?;
+    push_quoted(&mut message, conflict.first.0)?;
+    message.push_str(" and ")?;
+    push_quoted(&mut message, conflict.second.0)?;
+    let mut report = begun(alloc, "unreachable", &message)?;
+    add_form(alloc, &mut report, "must be ", conflict.first)?;
+    add_form(alloc, &mut report, "must be ", conflict.second)?;
+    add_help(alloc, &mut report, WAY_OUT)?;
+    Ok(report)
+}
+
+// Adds the place where a rule demands a form.
+fn add_form(
+    alloc: Global,
+    report: &mut Report,
+    before: &str,
+    (form, pos): (Form<'_>, Pos),
+) -> Result<(), AllocError> {
+    let mut text = String::from_str(alloc, before)?;
+    push_quoted(&mut text, form)?;
+    report.labels.push(Label { pos, text })?;
+    Ok(())
+}
+
+// Adds a form as a quotation.
+fn push_quoted(out: &mut String, form: Form<'_>) -> Result<(), AllocError> {
+    out.push('`')?;
+    push_form(out, form)?;
+    out.push('`')
 }
 
 // A report with these words and places to come.
@@ -102,14 +186,14 @@ fn simple(
 
 // A report of one rule, with what helps.
 fn of_rule(
-    alloc: Global,
-    defs: &[Def],
+    source: Source<'_>,
     (kind, message): (&'static str, &str),
     span: Span,
     help: &str,
 ) -> Result<Report, AllocError> {
+    let alloc = source.alloc;
     let mut report = begun(alloc, kind, message)?;
-    add_rule(alloc, &mut report, defs, span.from, "", "")?;
+    add_rule(alloc, &mut report, source.defs, span.from, "", "")?;
     add_help(alloc, &mut report, help)?;
     Ok(report)
 }
@@ -131,28 +215,44 @@ fn way_below(limit: Limit) -> &'static str {
 }
 
 // A report of rules of one priority of which the first overlaps each of the others.
-fn overlap(
-    alloc: Global,
-    defs: &[Def],
-    sets: &Option<Sets>,
-    rules: &[Span],
-) -> Result<Report, AllocError> {
+fn overlap(source: Source<'_>, rules: &[Span]) -> Result<Report, AllocError> {
+    let alloc = source.alloc;
     let mut report = begun(
         alloc,
         "overlap",
         "rules of the same priority match the same values",
     )?;
+    let shown = source.most_rules.saturating_add(1);
     for (i, span) in rules.iter().enumerate() {
+        if i >= shown {
+            break;
+        }
         let before = if i == 0 { "" } else { "overlaps " };
-        add_rule(alloc, &mut report, defs, span.from, before, "")?;
+        add_rule(alloc, &mut report, source.defs, span.from, before, "")?;
     }
-    add_values(alloc, &mut report, sets, rules)?;
-    let above = priority_above(defs, rules);
+    add_values(source, &mut report, rules)?;
+    add_rest(alloc, &mut report, rules.len().saturating_sub(shown))?;
+    let above = priority_above(source.defs, rules);
     let help = format!(in alloc;
-        "give one of the rules a greater priority, as (rule {above} ..), or make one of the patterns narrower"
+        "give one of the rules a greater priority, as (rule {above} ..), or make one pattern narrower"
     )?;
     add_note(&mut report, "help", help)?;
+    if !source.expand {
+        add_help(alloc, &mut report, NO_TEMPLATES)?;
+    }
     Ok(report)
+}
+
+// Why more rules overlap if internal extractors aren't expanded.
+const NO_TEMPLATES: &str = "--no-expand hides what internal extractors demand: check without it";
+
+// Adds how many of the rules that overlap one aren't shown.
+fn add_rest(alloc: Global, report: &mut Report, count: usize) -> Result<(), AllocError> {
+    if count == 0 {
+        return Ok(());
+    }
+    let text = format!(in alloc; "it overlaps {count} more, shown by `--all`")?;
+    add_note(report, "help", text)
 }
 
 // A priority above that of rules of one priority, where there is one.
@@ -235,61 +335,37 @@ fn add_note(report: &mut Report, word: &'static str, text: String) -> Result<(),
     Ok(())
 }
 
-// Adds a value that the first of some rules and each of the others match.
-fn add_values(
-    alloc: Global,
-    report: &mut Report,
-    sets: &Option<Sets>,
-    rules: &[Span],
-) -> Result<(), AllocError> {
-    let Some(sets) = sets else {
-        return Ok(());
-    };
+// Adds what the first of some rules and each of the others match.
+fn add_values(source: Source<'_>, report: &mut Report, rules: &[Span]) -> Result<(), AllocError> {
     let Some(first) = rules.first() else {
         return Ok(());
     };
     for span in rules.iter().skip(1).take(MOST_VALUES) {
-        add_value(alloc, report, sets, first.from, span.from)?;
+        add_value(source, report, first.from, span.from)?;
     }
     Ok(())
 }
 
-// Adds a value that two rules match.
+// Adds what two rules match.
 fn add_value(
-    alloc: Global,
+    source: Source<'_>,
     report: &mut Report,
-    sets: &Sets,
     left: Pos,
     right: Pos,
 ) -> Result<(), AllocError> {
-    let names = Names {
-        tyenv: &sets.tyenv,
-        terms: &sets.termenv.terms,
+    let alloc = source.alloc;
+    let (Some(left), Some(right)) = (rule_at(source.defs, left), rule_at(source.defs, right)) else {
+        return Ok(());
     };
-    for (term, set) in &sets.sets {
-        if let (Some(left), Some(right)) = (rule_in(set, left), rule_in(set, right)) {
-            let found = witness(alloc, names, *term, set, left, right)?;
-            let text = value_text(alloc, found)?;
-            return add_note(report, "note", text);
-        }
-    }
-    Ok(())
-}
-
-// The rule of a set that is defined at a position.
-fn rule_in(set: &RuleSet, pos: Pos) -> Option<&Rule> {
-    for rule in &set.rules {
-        if rule.pos == pos {
-            return Some(rule);
-        }
-    }
-    None
+    let found = witness(alloc, source.defs, left, right)?;
+    let text = value_text(alloc, found)?;
+    add_note(report, "note", text)
 }
 
 // What is said of a value that two rules match, or that none was found.
 fn value_text(alloc: Global, found: Option<String>) -> Result<String, AllocError> {
     match found {
-        Some(value) => format!(in alloc; "both match {value}"),
+        Some(value) => format!(in alloc; "both match `{value}`"),
         None => String::from_str(
             alloc,
             "no value that both match was found: the check for overlaps doesn't compare values that must be equal",

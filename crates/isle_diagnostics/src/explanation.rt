@@ -1,52 +1,41 @@
 //! What a rule demands, and when it is taken.
 
-use crate::demands::{push_demand, push_equals, site_texts, text_at};
-use crate::names::Names;
-use crate::trees::{Search, push_returns};
+use crate::called::Called;
+use crate::lines::push_line;
+use crate::names::{Names, rule_at};
+use crate::trees::push_returns;
+use crate::way_text::Sites;
+use crate::ways::Search;
 use cranelift_isle::lower::{Lowered, LoweredTerm};
-use cranelift_isle::syntax::{Files, Pos};
-use cranelift_isle::trie_again::{Constraint, Overlap, Rule};
+use cranelift_isle::syntax::{self, Def, Files, Pos};
+use cranelift_isle::trie_again::{Overlap, Rule};
+use isle_conditions::conditions::{Conditions, conditions_of, given_of};
 use isle_printing::layout::push_place;
-use isle_printing::lines::{file_name, file_text, line_at};
 use std::alloc::{AllocError, Global};
 
-/// What is said of a rule that is called by its name, by the number of its line, or by the name of its file, a colon and
-/// that number: its place, what it demands of the term's arguments and of what is made of them, its result, the tests on
-/// the way to each return that takes it, and the rules of the term that come first where both match. Of several rules that
-/// are so called each is told. The empty text where there is none.
+/// What is said of a rule that is called by its name, by that of its term, by the number of a line that it stands in, or by
+/// the end of its file's path, a colon and that number: its place, what it demands of the term's arguments, in its own words,
+/// and what it gives; the tests on the way to each return that takes it; and the rules of the term that come first where both
+/// match. Of several rules that are so called each is told. The empty text where there is none.
 pub fn explanation(
     alloc: Global,
     files: &Files,
+    defs: &[Def],
     lowered: &Lowered,
     called: &str,
 ) -> Result<String, AllocError> {
+    let called = Called::new(alloc, files, called)?;
     let mut out = String::new(alloc);
     for term in &lowered.terms {
         for rule in &term.rules.rules {
-            if is_called(alloc, files, lowered, rule, called)? {
-                push_rule(alloc, files, lowered, term, rule, &mut out)?;
+            if let Some(written) = rule_at(defs, rule.pos) {
+                if called.is(files, written) {
+                    push_rule(alloc, files, lowered, (term, rule, written), &mut out)?;
+                }
             }
         }
     }
     Ok(out)
-}
-
-// Whether a rule is so called.
-fn is_called(
-    alloc: Global,
-    files: &Files,
-    lowered: &Lowered,
-    rule: &Rule,
-    called: &str,
-) -> Result<bool, AllocError> {
-    if rule_name(lowered, rule) == called {
-        return Ok(true);
-    }
-    let line = line_at(file_text(files, rule.pos.file), rule.pos.offset).number;
-    let file = file_name(files, rule.pos.file);
-    let by_line = format!(in alloc; "{line}")?;
-    let by_file = format!(in alloc; "{file}:{line}")?;
-    Ok(by_line.as_str() == called || by_file.as_str() == called)
 }
 
 // The name of a rule, or the empty text.
@@ -62,29 +51,51 @@ fn push_rule(
     alloc: Global,
     files: &Files,
     lowered: &Lowered,
-    term: &LoweredTerm,
-    rule: &Rule,
+    (term, rule, written): (&LoweredTerm, &Rule, &syntax::Rule),
     out: &mut String,
 ) -> Result<(), AllocError> {
     let names = Names {
         tyenv: &lowered.tyenv,
         terms: &lowered.termenv.terms,
     };
-    let texts = site_texts(alloc, names, &term.rules.bindings)?;
     push_title(files, lowered, rule, out)?;
     push_two(out, " of term ", names.term(term.id))?;
     out.push('\n')?;
-    push_demands(names, rule, &texts, out)?;
-    push_results(rule, &texts, out)?;
+    let conditions = conditions_of(alloc, written)?;
+    push_conditions(alloc, &conditions, out)?;
+    let given = given_of(alloc, written)?;
+    let line = format!(in alloc; "gives {given}")?;
+    push_line(out, 2, &line)?;
     out.push_str("  taken after\n")?;
     let search = Search {
-        alloc,
-        names,
-        texts: &texts,
+        sites: Sites {
+            alloc,
+            names,
+            bindings: &term.rules.bindings,
+            arguments: &conditions.arguments,
+        },
         rule: rule.pos,
     };
-    search.push_paths(&term.block, "", out)?;
+    search.push_ways(&term.block, out)?;
     push_firsts(files, lowered, term, rule, out)
+}
+
+// Adds what a rule demands, a line each.
+fn push_conditions(
+    alloc: Global,
+    conditions: &Conditions,
+    out: &mut String,
+) -> Result<(), AllocError> {
+    let call = conditions.call.as_str();
+    let title = format!(in alloc; "demands of {call}")?;
+    push_line(out, 2, &title)?;
+    if conditions.lines.is_empty() {
+        out.push_str("    nothing\n")?;
+    }
+    for line in &conditions.lines {
+        push_line(out, 4, line)?;
+    }
+    Ok(())
 }
 
 // Adds a rule's name, place and priority.
@@ -108,47 +119,6 @@ fn push_title(
 fn push_two(out: &mut String, first: &str, second: &str) -> Result<(), AllocError> {
     out.push_str(first)?;
     out.push_str(second)
-}
-
-// Adds what a rule demands, a line each. That a value is of its own struct is no demand.
-fn push_demands(
-    names: Names<'_>,
-    rule: &Rule,
-    texts: &[String],
-    out: &mut String,
-) -> Result<(), AllocError> {
-    out.push_str("  demands\n")?;
-    if rule.total_constraints() == 0 {
-        out.push_str("    nothing\n")?;
-    }
-    for (site, constraint) in rule.constraints() {
-        if !is_struct(*constraint) {
-            out.push_str("    ")?;
-            push_demand(out, names, text_at(texts, *site), *constraint)?;
-            out.push('\n')?;
-        }
-    }
-    for class in rule.classes() {
-        out.push_str("    ")?;
-        push_equals(out, class, texts)?;
-        out.push('\n')?;
-    }
-    Ok(())
-}
-
-// Whether a constraint is that a value is of its own struct.
-fn is_struct(constraint: Constraint) -> bool {
-    matches!(constraint, Constraint::Struct { .. })
-}
-
-// Adds the impure calls that a rule makes, and its result.
-fn push_results(rule: &Rule, texts: &[String], out: &mut String) -> Result<(), AllocError> {
-    for site in &rule.impure {
-        push_two(out, "  calls ", text_at(texts, *site))?;
-        out.push('\n')?;
-    }
-    push_two(out, "  gives ", text_at(texts, rule.result))?;
-    out.push('\n')
 }
 
 // Adds the rules of a term that come first where both they and this rule match.

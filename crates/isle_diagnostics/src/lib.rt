@@ -1,14 +1,17 @@
 //! What a person asks about rules: why they are refused, what a rule demands and when it is taken, and how large trees are.
 #![tactic(auto)]
 
+mod called;
 pub mod demands;
 pub mod diagnosis;
 pub mod explanation;
+mod lines;
 pub mod lints;
 mod literals;
 pub mod names;
-pub mod sets;
+mod numbered;
 pub mod stats;
 mod trees;
 mod variables;
-mod witness;
+mod way_text;
+mod ways;

@@ -1,7 +1,8 @@
 //! How reports are laid out: as rustc's, or each in one line.
 
-use crate::lines::{Line, file_name, file_text, line_at};
+use crate::lines::{Line, file_name, file_text, line_at, push_spaces, push_times};
 use crate::report::{Label, Level, Note, Report};
+use crate::wrapping::push_wrapped;
 use isle_base::syntax::{Files, Pos};
 use std::alloc::{AllocError, Global};
 
@@ -55,7 +56,8 @@ fn push_line(out: &mut String, files: &Files, report: &Report) -> Result<(), All
             out.push_str(": ")?;
         }
     }
-    push_head(out, report, false)?;
+    push_kind(out, report, false)?;
+    out.push_str(&report.message)?;
     for (i, label) in report.labels.iter().enumerate() {
         if i > 0 {
             push_further(out, files, label)?;
@@ -105,16 +107,22 @@ fn code_of(level: Level) -> &'static str {
     }
 }
 
-// Adds what a report says.
-fn push_head(out: &mut String, report: &Report, colored: bool) -> Result<(), AllocError> {
+// Adds the kind of a report, and begins what it says.
+fn push_kind(out: &mut String, report: &Report, colored: bool) -> Result<(), AllocError> {
     let word = report.level.word();
     let kind = report.kind;
     push_code(out, code_of(report.level), colored)?;
     write!(out, "{word}[{kind}]")?;
     push_code(out, PLAIN, colored)?;
     push_code(out, BOLD, colored)?;
-    out.push_str(": ")?;
-    out.push_str(&report.message)?;
+    out.push_str(": ")
+}
+
+// Adds what a report says, in as many lines as it takes.
+fn push_head(out: &mut String, report: &Report, colored: bool) -> Result<(), AllocError> {
+    push_kind(out, report, colored)?;
+    let begin = report.level.word().len().saturating_add(report.kind.len());
+    push_wrapped(out, (begin as u64).saturating_add(4), 4, &report.message)?;
     push_code(out, PLAIN, colored)
 }
 
@@ -139,9 +147,19 @@ fn push_text(
     for note in &report.notes {
         push_spaces(out, width)?;
         out.push_str(" = ")?;
-        push_note(out, note)?;
-        out.push('\n')?;
+        push_note_lines(out, note, width)?;
     }
+    out.push('\n')
+}
+
+// Adds a note behind the bar, in as many lines as it takes.
+fn push_note_lines(out: &mut String, note: &Note, width: u64) -> Result<(), AllocError> {
+    out.push_str(note.word)?;
+    out.push_str(": ")?;
+    let column = (note.word.len() as u64)
+        .saturating_add(width)
+        .saturating_add(5);
+    push_wrapped(out, column, column, &note.text)?;
     out.push('\n')
 }
 
@@ -253,19 +271,6 @@ fn push_bar(out: &mut String, width: u64, end: &str) -> Result<(), AllocError> {
     push_spaces(out, width)?;
     out.push_str(" |")?;
     out.push_str(end)
-}
-
-// Adds as many spaces.
-fn push_spaces(out: &mut String, count: u64) -> Result<(), AllocError> {
-    push_times(out, ' ', count)
-}
-
-// Adds a character as many times.
-fn push_times(out: &mut String, c: char, count: u64) -> Result<(), AllocError> {
-    for _ in 0..count {
-        out.push(c)?;
-    }
-    Ok(())
 }
 
 // How many digits the greatest line number of a report's places has.

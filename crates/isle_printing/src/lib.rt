@@ -7,3 +7,4 @@ pub mod lines;
 pub mod places;
 pub mod print;
 pub mod report;
+pub mod wrapping;

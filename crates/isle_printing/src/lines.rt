@@ -118,8 +118,8 @@ fn push_char(out: &mut String, c: char) -> Result<(), AllocError> {
     out.push(c)
 }
 
-// How many columns a character takes where a line is shown.
-fn columns_of(c: char) -> u64 {
+/// How many columns a character takes where a line is shown.
+pub fn columns_of(c: char) -> u64 {
     if c == '\t' {
         return 4;
     }
@@ -173,11 +173,24 @@ impl Form {
     }
 }
 
-// How many parentheses are open after a character.
-fn depth_after(depth: u64, c: char) -> u64 {
+/// How many parentheses are open after a character, if so many are before it.
+pub fn depth_after(depth: u64, c: char) -> u64 {
     match c {
         '(' => depth.saturating_add(1),
         ')' => depth.saturating_sub(1),
         _ => depth,
     }
+}
+
+/// Adds so many spaces.
+pub fn push_spaces(out: &mut String, count: u64) -> Result<(), AllocError> {
+    push_times(out, ' ', count)
+}
+
+/// Adds a character so many times.
+pub fn push_times(out: &mut String, c: char, count: u64) -> Result<(), AllocError> {
+    for _ in 0..count {
+        out.push(c)?;
+    }
+    Ok(())
 }

@@ -45,8 +45,8 @@ impl Form {
 }
 
 /// The forms of a text.
-pub fn forms(at: Source, tokens: &[Token]) -> Result<Vec<Form>, ReadFault>
-    requires { TokensAreWithin at.file at.len tokens.now }
+pub fn forms(at: Source, tokens: Vec<Token>) -> Result<Vec<Form>, ReadFault>
+    requires { TokensAreWithin at.file at.len tokens.items }
     ensures { MatchResult result (λ fs. FormsAreWithin at.file at.len fs.items) (FaultIsWithin at.file at.len) }
 {
     let mut stack = Vec::new(at.alloc);
@@ -79,11 +79,11 @@ fn unclosed(at: Source, begin: Pos) -> ReadFault
 // Reads one more token.
 fn add(
     at: Source,
-    token: &Token,
+    token: Token,
     stack: &mut Vec<Open>,
     forms: &mut Vec<Form>,
 ) -> Result<(), ReadFault>
-    requires token { TokenIsWithin at.file at.len token.now }
+    requires token { TokenIsWithin at.file at.len token }
     requires stack { OpensAreWithin at.file at.len stack.old.items }
     requires forms { FormsAreWithin at.file at.len forms.old.items }
     ensures error { MatchResult result (λ _. ⊤) (FaultIsWithin at.file at.len) }
@@ -91,24 +91,27 @@ fn add(
     ensures forms { OnOk result (FormsAreWithin at.file at.len forms.new.items) }
 {
     match token {
-        Token::Open(pos) => start(at, Open::Group(Vec::new(at.alloc), *pos), *pos, stack),
-        Token::Binder(name) => start(at, Open::Binder(name.clone()?), name.1, stack),
-        Token::Close(pos) => close(at, *pos, stack, forms),
-        Token::Word(name) => put(at, Form::Word(name.clone()?), stack, forms),
+        Token::Open(pos) => start(at, Open::Group(Vec::new(at.alloc), pos), pos, stack),
+        Token::Binder(name) => {
+            let pos = name.1;
+            start(at, Open::Binder(name), pos, stack)
+        }
+        Token::Close(pos) => close(at, pos, stack, forms),
+        Token::Word(name) => put(at, Form::Word(name), stack, forms),
         Token::Dash(name) => dash(at, name, stack, forms),
-        Token::Number(n, pos) => put(at, Form::Number(*n, *pos), stack, forms),
-        Token::Constant(name, pos) => put(at, Form::Constant(name.clone()?, *pos), stack, forms),
+        Token::Number(n, pos) => put(at, Form::Number(n, pos), stack, forms),
+        Token::Constant(name, pos) => put(at, Form::Constant(name, pos), stack, forms),
     }
 }
 
 // Reads a word that begins with `-` and isn't a number: a word where it is passed over, and nothing elsewhere.
 fn dash(
     at: Source,
-    name: &Ident,
+    name: Ident,
     stack: &mut Vec<Open>,
     forms: &mut Vec<Form>,
 ) -> Result<(), ReadFault>
-    requires name { IdentIsWithin at.file at.len name.now }
+    requires name { IdentIsWithin at.file at.len name }
     requires stack { OpensAreWithin at.file at.len stack.old.items }
     requires forms { FormsAreWithin at.file at.len forms.old.items }
     ensures error { MatchResult result (λ _. ⊤) (FaultIsWithin at.file at.len) }
@@ -118,7 +121,7 @@ fn dash(
     if !passes_over(stack.first()) {
         return Err(fault(Mistake::Digits, name.1));
     }
-    put(at, Form::Word(name.clone()?), stack, forms)
+    put(at, Form::Word(name), stack, forms)
 }
 
 // Whether the outermost form that is begun is a definition that is passed over.

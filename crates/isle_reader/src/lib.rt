@@ -50,6 +50,6 @@ pub fn read(alloc: Global, file: usize, text: &str) -> Result<Vec<Def>, ReadFaul
         len: text.len(),
     };
     let tokens = tokens::tokens(at, text)?;
-    let forms = forms::forms(at, &tokens)?;
+    let forms = forms::forms(at, tokens)?;
     definitions::definitions(at, &forms)
 }

@@ -9,7 +9,7 @@ use Rattle.std.proofs.lemmas.Bool.{cases_Bool, cond-true, cond-false, and_parts,
 use Rattle.isle_disjointsets.specs.Partition.{together, IsPartition}
 use Rattle.model.specs.sites.Sites.{Constraint}
 use Rattle.model.proofs.Elements.{or_split, none_some, some_is}
-use Rattle.isle_rule_sets.specs.Closings.{KeepsDue, is_due_with}
+use Rattle.isle_rule_sets.specs.Closings.{KeepsDue, is_due_with, is_open}
 use Rattle.isle_rule_sets.specs.SiteDemands.{constraint_held, are_equated, is_or_equals, equated_too}
 use Rattle.isle_rule_sets.specs.declared.demanded.Demanded.{Demanded}
 use Rattle.isle_rule_sets.proofs.ClosingSteps.{held_same, equated_same}
@@ -26,18 +26,23 @@ still_open s n x u q h =
 now_open : (s n : BTreeSet ℕ) (x q : ℕ) → Updates nat_cmp s n x true → nat_eq x q ≡ true → contains nat_cmp n q ≡ true
 now_open s n x q u t = subst (λ y. contains nat_cmp n y ≡ true) (eqb-true x q t) u.1
 
--- 2. a site is asked something
+-- 2. a site is asked something, and is open where it must equal another one
 pub due_asked : (d e : Demanded) (x : ℕ) (c : Option Constraint) → KeepsDue d → e.equals ≡ d.equals
-    → ((s : ℕ) → constraint_held e s ≡ (if nat_eq x s then c else constraint_held d s)) → Updates nat_cmp d.open e.open x true → KeepsDue e
-due_asked d e x c keeps equal asked u r s h =
+    → ((s : ℕ) → constraint_held e s ≡ (if nat_eq x s then c else constraint_held d s))
+    → ((r : ℕ) → are_equated d r x ≡ true → is_open e x ≡ true)
+    → ((s : ℕ) → is_open d s ≡ true → is_open e s ≡ true) → KeepsDue e
+due_asked d e x c keeps equal asked opened still r s h =
     let p = and_parts (is_some (constraint_held e s)) (are_equated e r s) h in
+    let joined : are_equated d r s ≡ true = sym (equated_same d e equal r s) ∙ p.1 in
     elim (cases_Bool (nat_eq x s)) [
-      | inl t ↦ now_open d.open e.open x s u t
+      | inl t ↦
+          let same : x ≡ s = eqb-true x s t in
+          subst (λ y. is_open e y ≡ true) same (opened r (subst (λ y. are_equated d r y ≡ true) (sym same) joined))
       | inr f ↦
-          still_open d.open e.open x u s
+          still s
           (keeps r s
           (and_from (is_some (constraint_held d s)) (are_equated d r s)
-          (sym (ap is_some (asked s ∙ cond-false (nat_eq x s) c (constraint_held d s) f)) ∙ p.0) (sym (equated_same d e equal r s) ∙ p.1)))
+          (sym (ap is_some (asked s ∙ cond-false (nat_eq x s) c (constraint_held d s) f)) ∙ p.0) joined))
     ]
 
 -- 3. two sites are made equal

@@ -3,13 +3,12 @@
 use Rattle.std.proofs.Common.{◌≡◌, ℕ, zero, suc, ◌<◌, Bool, true, false, ◌&&◌, ◌||◌, if◌then◌else◌, List, [], ◌∷◌, length, Option, Some, None, slice_get, Contains, refl, sym, ap, ◌∙◌, subst, inl, inr, eqb-true, eq-eqb, arith}
 use Rattle.std.specs.Prelude.{nat_eq}
 use Rattle.std.proofs.lemmas.Bool.{cases_Bool, cond-true, cond-false, and_parts, and_from, false≢true, both_ways}
-use Rattle.std.proofs.lemmas.Option.{slice_get_within}
 use Rattle.isle_disjointsets.specs.Partition.{IsPartition}
 use Rattle.laws_closure.specs.FieldLaws.{GivesField}
 use Rattle.model.specs.sites.Sites.{Site, Constraint, is_variant, is_struct, is_bool, is_int, is_prim, is_present, SiteTerm, bool_term, int_term, prim_term, argument, extractor_call, constructor_call, pick_of, variant_made, variant_field, struct_made, struct_field, some_made, some_part, tuple_part, no_site, unfold_site, fields_from, field_terms}
 use Rattle.model.specs.visits.Demands.{Demands, site_term_eq}
 use Rattle.model.specs.sites.Closure.{class_name, same_class, class_names, spoken_of, before_closing, merged_all}
-use Rattle.model.proofs.Elements.{In, contains_from_in, in_from_contains, slice_in, some_is, none_some, or_split, or_left, or_right}
+use Rattle.model.proofs.Elements.{In, contains_from_in, in_from_contains, some_is, none_some, or_split, or_left, or_right}
 use Rattle.model.proofs.SameSites.{term_means, same_term}
 use Rattle.laws_closure.specs.ClosureLaws.{RespectsDemands}
 use Rattle.laws_closure.proofs.Names.{same_name, name_same, given_joined, named_alike}
@@ -18,6 +17,7 @@ use Rattle.laws_closure.proofs.Settled.{names_settled}
 use Rattle.laws_closure.proofs.overlaps.Overlaps.{bool_same}
 use Rattle.isle_types.specs.declared.ids.VariantId.{VariantId}
 use Rattle.isle_rule_sets.specs.Closings.{are_in_one_class}
+use Rattle.isle_rule_sets.specs.SiteDemands.{are_equated}
 use Rattle.isle_rule_sets.specs.Verdicts.{AreClassesOf, AreVisited, IsMentioned, class_head}
 use Rattle.isle_rule_sets.specs.FieldParts.{field_binding, part_of_head, HaveOneName, AreCongruent, field_term, ArePartsOf}
 use Rattle.isle_rule_sets.specs.contracts.trie_again.BindingPartialEq.TheImpl.{ghosts}
@@ -28,7 +28,7 @@ use Rattle.isle_rule_sets.specs.declared.closure_classes.Part.{Part}
 use Rattle.isle_rule_sets.proofs.ClassHeads.{one_head, same_head}
 use Rattle.isle_rule_sets.proofs.ClassTests.{in_one, is_or_joins, joined_too, joined_each, each_merged}
 use Rattle.isle_rule_sets.proofs.FieldJoins.{same_parts}
-use Rattle.isle_rule_sets.proofs.ListedParts.{one_number}
+use Rattle.isle_rule_sets.proofs.ListedParts.{made_number, one_number}
 use Rattle.isle_rule_sets.proofs.SameBindings.{one_binding}
 
 -- 1. fields of two sites, place by place
@@ -145,6 +145,36 @@ each_joined (x ∷ es) test e (inl p) f =
     subst (λ (z : SiteTerm × SiteTerm). joined_each (joined_too test x.0 x.1) es z.0 z.1 ≡ true) p
     (stay_joined es (joined_too test x.0 x.1) x.0 x.1 (now_joined test x.0 x.1 (ap (λ (z : SiteTerm × SiteTerm). site_term_eq z.0 z.1) p ∙ f)))
 each_joined (x ∷ es) test e (inr i) f = each_joined es (joined_too test x.0 x.1) e i f
+
+-- numbers of two sites that must be equal
+pub record AreEqualNumbers (sites : List Site) (h : Demanded) (a b : SiteTerm) : Type 0 where
+  pub first : ℕ
+  pub second : ℕ
+  pub first_within : first < length sites
+  pub second_within : second < length sites
+  pub first_is : unfold_site sites first ≡ a
+  pub second_is : unfold_site sites second ≡ b
+  pub equal : are_equated h first second ≡ true
+
+pub equality_numbers : (sites : List Site) (before : List SiteTerm) (d : Demands) (h : Demanded) → AreVisited sites before d h
+    → (a b : SiteTerm) → In d.equalities (a, b) → site_term_eq a b ≡ false → AreEqualNumbers sites h a b
+equality_numbers sites before d h v a b i f =
+    let ks = merged_all [] d.equalities in
+    let together : are_in_one_class ks a b ≡ true = each_merged d.equalities [] (λ l m s i j x y. absurd i) a b ∙ each_joined d.equalities (are_in_one_class []) (a, b) i f in
+    let o = in_one ks a b together in
+    let class = contains_from_in ks o.class o.there in
+    let made = (before_closing before d).made in
+    let m = made_number sites before d h v a (in_from_contains made a (v.held.equated_made o.class a class (contains_from_in o.class a o.first))) in
+    let n = made_number sites before d h v b (in_from_contains made b (v.held.equated_made o.class b class (contains_from_in o.class b o.second))) in
+    record {
+      first = m.0;
+      second = n.0;
+      first_within = m.1;
+      second_within = n.1;
+      first_is = m.2;
+      second_is = n.2;
+      equal = v.held.equated m.0 n.0 m.1 n.1 ∙ ap (λ x. are_in_one_class ks x (unfold_site sites n.0)) m.2 ∙ ap (are_in_one_class ks a) n.2 ∙ together;
+    }
 
 -- 3. the classes of a closure
 module _ (sites : List Site) (before : List SiteTerm) (d : Demands) (h : Demanded) (v : AreVisited sites before d h) (parts : List Part) (all : ArePartsOf sites d parts)
@@ -311,28 +341,12 @@ module _ (sites : List Site) (before : List SiteTerm) (d : Demands) (h : Demande
         | inl t ↦ ap class_of_term (term_means a b t)
         | inr f ↦
             let j = in_from_contains d.equalities (a, b) i in
-            let together = equal_each a b ∙ each_joined d.equalities (are_in_one_class []) (a, b) j f in
-            let o = in_one (merged_all [] d.equalities) a b together in
-            let class = contains_from_in (merged_all [] d.equalities) o.class o.there in
-            let m = number_of a (v.held.equated_made o.class a class (contains_from_in o.class a o.first)) in
-            let n = number_of b (v.held.equated_made o.class b class (contains_from_in o.class b o.second)) in
+            let n = equality_numbers sites before d h v a b j f in
             let s = equal_spoken d (a, b) j in
-            let equal = v.held.equated m.0 n.0 m.1 n.1 ∙ ap (λ x. equal_in x (term n.0)) m.2 ∙ ap (equal_in a) n.2 ∙ together in
-            known_class a m.0 m.1 m.2 (inl (contains_from_in (spoken_of d) a s.0))
-            ∙ kept m.0 n.0 (one_head h.equals whole m.0 n.0 equal)
-            ∙ sym (known_class b n.0 n.1 n.2 (inl (contains_from_in (spoken_of d) b s.1)))
+            known_class a n.first n.first_within n.first_is (inl (contains_from_in (spoken_of d) a s.0))
+            ∙ kept n.first n.second (one_head h.equals whole n.first n.second n.equal)
+            ∙ sym (known_class b n.second n.second_within n.second_is (inl (contains_from_in (spoken_of d) b s.1)))
       ]
-    where
-      made : List SiteTerm
-      made = (before_closing before d).made
-
-      number_of : (u : SiteTerm) → Contains (before_closing before d).made u → (n : ℕ) × (n < length sites) × (term n ≡ u)
-      number_of u i =
-          let s = slice_in (before_closing before d).made u (in_from_contains (before_closing before d).made u i) in
-          let w = slice_get_within (before_closing before d).made s.0 u s.1 in
-          let c = v.held.stand.count in
-          let l : s.0 < length sites = omega (arith, c, w) in
-          (s.0, l, some_is (term s.0) u (sym (v.held.stand.exact s.0 l) ∙ s.1))
 
   pub class_fields : (k : Constraint) (a b x y : SiteTerm) (i : ℕ) → class_of_term a ≡ class_of_term b → slice_get (field_terms k a) i ≡ Some x → slice_get (field_terms k b) i ≡ Some y
       → class_of_term x ≡ class_of_term y

@@ -114,7 +114,7 @@ field_in f j zero i l = absurd (omega arith)
 field_in f j (suc n) zero l = let e : j ≡ j + 0 = omega arith in inl (ap f e)
 field_in f j (suc n) (suc i) l = let e : suc j + i ≡ j + suc i = omega arith in inr (subst (λ m. In (fields_from f (suc j) n) (f m)) e (field_in f (suc j) n i (omega arith)))
 
-in_field : (f : ℕ → SiteTerm) (j n : ℕ) (x : SiteTerm) → In (fields_from f j n) x → (i : ℕ) × (i < n) × (x ≡ f (j + i))
+pub in_field : (f : ℕ → SiteTerm) (j n : ℕ) (x : SiteTerm) → In (fields_from f j n) x → (i : ℕ) × (i < n) × (x ≡ f (j + i))
 in_field f j zero x h = absurd h
 in_field f j (suc n) x (inl e) = let k : j ≡ j + 0 = omega arith in (0, omega arith, sym e ∙ ap f k)
 in_field f j (suc n) x (inr h) =
@@ -202,6 +202,16 @@ pub one_number : (sites : List Site) (before : List SiteTerm) (d : Demands) (h :
     → (a b : ℕ) → a < length sites → b < length sites → unfold_site sites a ≡ unfold_site sites b → a ≡ b
 one_number sites before d h v a b l m e = v.held.once a b (unfold_site sites a) (v.held.stand.exact a l) (v.held.stand.exact b m ∙ ap Some (sym e))
 
+-- and each term that is made has one
+pub made_number : (sites : List Site) (before : List SiteTerm) (d : Demands) (h : Demanded) → AreVisited sites before d h
+    → (u : SiteTerm) → In (before_closing before d).made u → (n : ℕ) × (n < length sites) × (unfold_site sites n ≡ u)
+made_number sites before d h v u i =
+    let s = slice_in (before_closing before d).made u i in
+    let w = slice_get_within (before_closing before d).made s.0 u s.1 in
+    let c = v.held.stand.count in
+    let l : s.0 < length sites = omega (arith, c, w) in
+    (s.0, l, some_is (unfold_site sites s.0) u (sym (v.held.stand.exact s.0 l) ∙ s.1))
+
 -- 4. the parts that are listed
 module _ (sites : List Site) (first : SourcesFirst sites) (before : List SiteTerm) (d : Demands) (h : Demanded) (v : AreVisited sites before d h)
     (cs : List (ℕ × Constraint)) (ascend : ascends (sites_of cs) ≡ true) (asked : (s : ℕ) → constraint_at cs s ≡ constraint_held h s)
@@ -211,14 +221,6 @@ module _ (sites : List Site) (first : SourcesFirst sites) (before : List SiteTer
 
   once : OneEach d.constraints
   once = each_once [] d.constraints (λ s a b i j. absurd i) v.agreed
-
-  number_of : (u : SiteTerm) → In (before_closing before d).made u → (n : ℕ) × (n < length sites) × (term n ≡ u)
-  number_of u i =
-      let s = slice_in (before_closing before d).made u i in
-      let w = slice_get_within (before_closing before d).made s.0 u s.1 in
-      let c = v.held.stand.count in
-      let l : s.0 < length sites = omega (arith, c, w) in
-      (s.0, l, some_is (term s.0) u (sym (v.held.stand.exact s.0 l) ∙ s.1))
 
   held_there : (s : ℕ) (c : Constraint) → In cs (s, c) → (s < length sites) × In d.constraints (term s, c)
   held_there s c i =
@@ -298,13 +300,13 @@ module _ (sites : List Site) (first : SourcesFirst sites) (before : List SiteTer
   pub listed_number : (s : SiteTerm) (c : Constraint) → In d.constraints (s, c) → (n : ℕ) × (n < length sites) × (term n ≡ s) × In cs (n, c)
   listed_number s c j =
       let kept = constraints_kept d.constraints once (s, c) j in
-      let n = number_of s (in_from_contains (before_closing before d).made s (v.held.asked_made s c (contains_from_in (with_constraints [] d.constraints) (s, c) kept))) in
+      let n = made_number sites before d h v s (in_from_contains (before_closing before d).made s (v.held.asked_made s c (contains_from_in (with_constraints [] d.constraints) (s, c) kept))) in
       (n.0, n.1, n.2, there_held n.0 s c n.1 n.2 j)
 
   all_parts : (s x : SiteTerm) → GivesField d s x → Found s x
   all_parts s x (c, i, there) =
       let n = listed_number s c (in_from_contains d.constraints (s, c) i) in
-      let m = number_of x (in_with_sites before d.made x (inr (in_from_contains d.made x (v.made s x (c, i, there))))) in
+      let m = made_number sites before d h v x (in_with_sites before d.made x (inr (in_from_contains d.made x (v.made s x (c, i, there))))) in
       find_field s x c n.0 m.0 n.1 n.2 m.1 m.2 n.3 (in_from_contains (field_terms c s) x there)
 
   pub are_parts : ArePartsOf sites d parts

@@ -1,100 +1,89 @@
--- Where no sites must be equal, each site is a class of its own: no class is asked two things, and no value is part of itself.
-use Rattle.std.proofs.Common.{◌≡◌, ◌↔◌, ℕ, zero, suc, ◌+◌, ◌<◌, ◌≤◌, true, List, [], ◌∷◌, Contains, length, sum_by, Option, Some, None, slice_get, refl, sym, ap, ◌∙◌, subst, inl, inr, arith}
+-- Where no sites must be equal, nothing is reported: a site is equal to itself alone and asked one thing, and fields lie deeper than their sites.
+use Rattle.std.proofs.Common.{◌≡◌, ℕ, suc, ◌<◌, ◌≤◌, true, List, [], ◌∷◌, Contains, length, slice_get, sum_by, refl, sym, ap, ◌∙◌, subst, inl, inr, arith}
 use Rattle.std.specs.Prelude.{nat_eq}
-use Rattle.std.proofs.lemmas.Option.{same_Some, slice_get_within}
+use Rattle.std.proofs.lemmas.Bool.{cases_Bool, false≢true}
 use Rattle.std.proofs.lemmas.List.Elements.{All-head}
 use Rattle.std.proofs.lemmas.List.Sums.{sum_by-cons}
-use Rattle.isle_disjointsets.specs.Partition.{IsPartition, set_of}
-use Rattle.model.specs.trees.Places.{constraint_at}
-use Rattle.model.specs.sites.Sites.{Site, Constraint, is_variant, is_struct, is_bool, is_int, is_prim, is_present, sources_of}
-use Rattle.model.specs.sites.Closure.{conflict}
-use Rattle.model.proofs.Elements.{In, contains_from_in}
-use Rattle.isle_types.specs.declared.ids.VariantId.{VariantId}
-use Rattle.isle_rule_sets.specs.Endings.{ClassEnds, class_ends}
-use Rattle.isle_rule_sets.specs.FieldParts.{AreClosed, IsFieldPart, IsPartBy, IsPartOfAny, field_binding}
-use Rattle.isle_rule_sets.specs.Listings.{ascends, sites_of}
-use Rattle.isle_rule_sets.specs.SiteTables.{IsTable, table_sites}
-use Rattle.isle_rule_sets.specs.SiteViews.{site_view}
-use Rattle.isle_rule_sets.specs.Verdicts.{class_head, conflict_in}
-use Rattle.isle_rule_sets.specs.declared.closure_classes.Part.{Part}
-use Rattle.isle_rule_sets.specs.declared.site_table.SiteTable.{SiteTable}
-use Rattle.isle_rule_sets.specs.declared.trie_again.Binding.{Binding}
-use Rattle.isle_rule_sets.proofs.FirstConflicts.{no_other}
-use Rattle.isle_rule_sets.proofs.ListedParts.{there_listed}
+use Rattle.isle_disjointsets.specs.Partition.{IsPartition, together}
+use Rattle.laws_closure.specs.ClosureLaws.{RespectsDemands}
+use Rattle.laws_closure.proofs.Classes.{classes_bound}
+use Rattle.laws_closure.proofs.Reports.{conflict_free_constraints_agree_lem, reports_are_exact_lem}
+use Rattle.model.specs.sites.Sites.{Site, Constraint, is_variant, is_struct, is_bool, is_int, is_prim, is_present, SiteTerm, variant_field, struct_field, field_terms}
+use Rattle.model.specs.visits.Demands.{Demands, site_term_eq}
+use Rattle.model.specs.sites.Closure.{Joined, IsPartOf, IsProperPart, directly, deeper, IsUnreachable, two_at_a_site, two_in_a_class, part_of_itself, conflicts_met, reported}
+use Rattle.model.proofs.Elements.{In, in_from_contains, some_is}
+use Rattle.model.proofs.SameSites.{term_means}
+use Rattle.isle_rule_sets.specs.Verdicts.{AreVisited}
+use Rattle.isle_rule_sets.specs.declared.demanded.Demanded.{Demanded}
+use Rattle.isle_rule_sets.proofs.EqualFields.{equality_numbers}
+use Rattle.isle_rule_sets.proofs.ListedParts.{in_field}
+use Rattle.isle_rule_sets.proofs.NotedSites.{none_together}
 
 -- sets of two sites or more that have no site are none
 pub no_sets : (sets : List (List ℕ)) → IsPartition nat_eq sets → sum_by length sets ≡ 0 → sets ≡ []
 no_sets [] p e = refl
 no_sets (s ∷ ss) p e = let two : 2 ≤ length s = All-head (λ (x : List ℕ). 2 ≤ length x) s ss p.plural in let all = sum_by-cons length s ss in absurd (omega (arith, two, e, all))
 
-by_itself : (s : ℕ) → class_head [] s ≡ s
-unfolding set_of
-by_itself s = refl
+-- how deep a site lies as a field
+depth : SiteTerm → ℕ
+depth (variant_field s variant i) = suc (depth s)
+depth (struct_field s i) = suc (depth s)
+depth s = 0
 
--- what a part is
-part_site : (sites : List Site) (s : ℕ) (c : Constraint) (p : Part) → IsPartBy sites s c p → slice_get sites p.field ≡ Some (site_view (field_binding p.variant p.source p.place))
-part_site sites s (is_variant ty k n) p h = of (Some (record { 0 = k })) n h
-  where
-    of : (form : Option VariantId) (n : ℕ) → IsFieldPart sites s form n p → slice_get sites p.field ≡ Some (site_view (field_binding p.variant p.source p.place))
-    of form n h = h.field ∙ (λ i. Some (site_view (field_binding (sym h.variant i) (sym h.source i) p.place)))
-part_site sites s (is_struct ty n) p h = h.field ∙ (λ i. Some (site_view (field_binding (sym h.variant i) (sym h.source i) p.place)))
-part_site sites s (is_bool b ty) p h = absurd h
-part_site sites s (is_int z ty) p h = absurd h
-part_site sites s (is_prim name) p h = absurd h
-part_site sites s is_present p h = absurd h
+field_deeper : (c : Constraint) (s x : SiteTerm) → In (field_terms c s) x → depth x ≡ suc (depth s)
+unfolding depth
+field_deeper (is_variant ty variant n) s x i = ap depth (in_field (variant_field s variant) 0 n x i).2
+field_deeper (is_struct ty n) s x i = ap depth (in_field (struct_field s) 0 n x i).2
+field_deeper (is_bool b ty) s x i = absurd i
+field_deeper (is_int z ty) s x i = absurd i
+field_deeper (is_prim name) s x i = absurd i
+field_deeper is_present s x i = absurd i
 
-field_source : (form : Option VariantId) (s i : ℕ) → Contains (sources_of (site_view (field_binding form s i))) s
-field_source (Some v) s i = contains_from_in (s ∷ []) s (inl refl)
-field_source None s i = contains_from_in (s ∷ []) s (inl refl)
-
-module _ (t : SiteTable) (table : IsTable t) (cs : List (ℕ × Constraint)) (parts : List Part) (listed : (p : Part) → Contains parts p ↔ IsPartOfAny (table_sites t) cs p) where
-  is_site : (p : Part) → Contains parts p → slice_get (table_sites t) p.field ≡ Some (site_view (field_binding p.variant p.source p.place))
-  is_site p i = let c = (listed p).0 i in part_site (table_sites t) c.0.0 c.0.1 p c.2
-
-  source_before : (p : Part) → Contains parts p → p.source < p.field
-  source_before p i =
-      let b = site_view (field_binding p.variant p.source p.place) in
-      table.sources p.field p.source (subst (λ o. Contains (elim o [ None ↦ [] | Some b ↦ sources_of b ]) p.source) (sym (is_site p i)) (field_source p.variant p.source p.place))
-
-  one_site : (b : Binding) (m n : ℕ) → slice_get (table_sites t) m ≡ Some (site_view b) → slice_get (table_sites t) n ≡ Some (site_view b) → m ≡ n
-  one_site b m n e f = same_Some m n (sym ((table.found b m).1 e) ∙ (table.found b n).1 f)
-
-  -- the sites by themselves are the least classes
-  pub closed_alone : (sets : List (List ℕ)) → IsPartition nat_eq sets → sets ≡ [] → AreClosed parts sets []
-  closed_alone sets partition none = record {
-    partition = partition;
-    kept = λ a b e. sym (ap (λ ks. class_head ks a) none) ∙ e ∙ ap (λ ks. class_head ks b) none;
-    congruent = λ p q i j v place same.
-        let source = sym (by_itself p.source) ∙ same ∙ by_itself q.source in
-        let to_q : slice_get (table_sites t) p.field ≡ Some (site_view (field_binding q.variant q.source q.place)) = is_site p i ∙ (λ k. Some (site_view (field_binding (v k) (source k) (place k)))) in
-        ap (class_head []) (one_site (field_binding q.variant q.source q.place) p.field q.field to_q (is_site q j));
-    least = λ name congruent held. subst (λ ks. (a b : ℕ) → class_head ks a ≡ class_head ks b → name a ≡ name b) none held;
+-- demands that hold no equality of two sites, and met no conflict
+module _ (d : Demands) (alone : (a b : SiteTerm) → Contains d.equalities (a, b) → a ≡ b) (agreed : conflicts_met [] d.constraints ≡ []) where
+  each_by_itself : RespectsDemands d (λ s. s)
+  each_by_itself = record {
+    given = alone;
+    fields = λ a b t x y c i e of_class asked f g. some_is x y (sym f ∙ ap (λ s. slice_get (field_terms c s) i) e ∙ g);
   }
 
-  -- a site's fields have greater numbers, and there are only so many
-  ends_within : (n class : ℕ) → length (table_sites t) ≤ class + n → ClassEnds [] parts class
-  ends_within zero class l = class_ends (λ p i e.
-      let same = sym (by_itself p.source) ∙ e in
-      let before = source_before p i in
-      let within = slice_get_within (table_sites t) p.field (site_view (field_binding p.variant p.source p.place)) (is_site p i) in
-      absurd (omega (arith, l, same, before, within)))
-  ends_within (suc n) class l = class_ends (λ p i e.
-      let same = sym (by_itself p.source) ∙ e in
-      let before = source_before p i in
-      subst (ClassEnds [] parts) (sym (by_itself p.field)) (ends_within n p.field (omega (arith, l, same, before))))
+  same_site : (a b : SiteTerm) → Joined d a b → a ≡ b
+  same_site = classes_bound d (λ s. s) each_by_itself
 
-  pub ends_alone : (class : ℕ) → ClassEnds [] parts class
-  ends_alone class = ends_within (length (table_sites t)) class (omega arith)
+  part_deeper : (s t : SiteTerm) → IsPartOf d s t → depth s ≡ suc (depth t)
+  part_deeper s t p =
+      ap depth (sym (same_site p.field s p.in_class))
+      ∙ field_deeper p.constraint p.whole p.field (in_from_contains (field_terms p.constraint p.whole) p.field p.there)
+      ∙ ap (λ u. suc (depth u)) (same_site p.whole t p.of_class)
 
-  -- each site is asked one thing
-  pub agree_alone : ascends (sites_of cs) ≡ true → conflict_in (class_head []) cs cs ≡ []
-  agree_alone ascend = of cs (λ a i. i)
-    where
-      of : (rest : List (ℕ × Constraint)) → ((a : ℕ × Constraint) → In rest a → In cs a) → conflict_in (class_head []) cs rest ≡ []
-      of [] within = refl
-      of (a ∷ rest) within =
-          let none = no_other (class_head []) a cs (λ b i e. one a b (within a (inl refl)) i (sym (by_itself b.0) ∙ e ∙ by_itself a.0)) in
-          ap (λ o. elim o [ None ↦ conflict_in (class_head []) cs rest | Some b ↦ conflict a.1 b ∷ [] ]) none ∙ of rest (λ x i. within x (inr i))
-        where
-          one : (a b : ℕ × Constraint) → In cs a → In cs b → b.0 ≡ a.0 → a.1 ≡ b.1
-          one a b i j e = same_Some a.1 b.1 (sym (there_listed cs ascend a.0 a.1 i) ∙ ap (constraint_at cs) (sym e) ∙ there_listed cs ascend b.0 b.1 j)
+  proper_deeper : (s t : SiteTerm) → IsProperPart d s t → depth t < depth s
+  proper_deeper s t (directly p) = let e = part_deeper s t p in omega (arith, e)
+  proper_deeper s u (deeper {t = t} p q) = let e = part_deeper s t p in let l = proper_deeper t u q in omega (arith, e, l)
+
+  one_constraint : (s : SiteTerm) (a b : Constraint) → Contains d.constraints (s, a) → Contains d.constraints (s, b) → a ≡ b
+  one_constraint = (conflict_free_constraints_agree_lem d).0 agreed
+
+  can_be_met : IsUnreachable d → ⊥
+  can_be_met (two_at_a_site s a b i j differ) = differ (one_constraint s a b i j)
+  can_be_met (two_in_a_class s a b h k differ) =
+      differ
+      (one_constraint s a b
+      (subst (λ u. Contains d.constraints (u, a)) (same_site h.source s h.joined) h.asked)
+      (subst (λ u. Contains d.constraints (u, b)) (same_site k.source s k.joined) k.asked))
+  can_be_met (part_of_itself s p) = let l = proper_deeper s s p in absurd (omega (arith, l))
+
+  none_unmet : (order : List SiteTerm) → reported order d ≡ []
+  none_unmet order = (reports_are_exact_lem order d).1 can_be_met
+
+module _ (sites : List Site) (before : List SiteTerm) (d : Demands) (h : Demanded) (v : AreVisited sites before d h) (none : h.equals ≡ []) where
+  alone : (a b : SiteTerm) → Contains d.equalities (a, b) → a ≡ b
+  alone a b i =
+      elim (cases_Bool (site_term_eq a b)) [
+        | inl t ↦ term_means a b t
+        | inr f ↦
+            let n = equality_numbers sites before d h v a b (in_from_contains d.equalities (a, b) i) f in
+            absurd (false≢true (sym (none_together n.first n.second) ∙ ap (λ sets. together nat_eq sets n.first n.second) (sym none) ∙ n.equal))
+      ]
+
+  pub none_reported : (order : List SiteTerm) → reported order d ≡ []
+  none_reported = none_unmet d alone v.agreed

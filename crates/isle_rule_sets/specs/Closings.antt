@@ -46,9 +46,13 @@ is_due_with d r s = is_some (constraint_held d s) && are_equated d r s
 abbrev pub is_due : Demanded → ℕ → Bool
 is_due d s = is_due_with d s s
 
--- each site that is due is kept as one to look at
+-- whether a site is kept as one to look at
+abbrev pub is_open : Demanded → ℕ → Bool
+is_open d s = contains nat_cmp d.open s
+
+-- each site that is due is
 abbrev pub KeepsDue : Demanded → Type 0
-KeepsDue d = (r s : ℕ) → IsTrue (is_due_with d r s) → IsTrue (contains nat_cmp d.open s)
+KeepsDue d = (r s : ℕ) → IsTrue (is_due_with d r s) → IsTrue (is_open d s)
 
 -- the least site that is due, with its constraint
 pub record IsNextDue (d : Demanded) (s : ℕ) (c : Constraint) : Type 0 where

@@ -1,7 +1,7 @@
 //! What a rule demands of sites, as its visit meets it and its closing goes on.
-ghost use Rattle.std.specs.Prelude.{◌≡◌, ℕ, false, None, Some, length, if◌then◌else◌, IfOk, OnOk, nat_eq};
+ghost use Rattle.std.specs.Prelude.{◌≡◌, ℕ, IsTrue, false, None, Some, length, if◌then◌else◌, IfOk, OnOk, nat_eq};
 ghost use Rattle.std.specs.List.{zip};
-ghost use Rattle.isle_rule_sets.specs.Closings.{KeepsDue};
+ghost use Rattle.isle_rule_sets.specs.Closings.{KeepsDue, is_open};
 ghost use Rattle.isle_rule_sets.specs.SiteDemands.{constraint_held, first_kept, IsConflict, are_equated, equated_too, equated_each};
 ghost use Rattle.isle_rule_sets.specs.SiteViews.{constraint_view};
 
@@ -66,11 +66,25 @@ impl Demanded {
         match self.constraints.get(&site).copied() {
             Some(before) => Ok(other_than(before, constraint)),
             None => {
-                self.open.insert(site)?;
+                self.open_equated(site)?;
                 self.constraints.insert(site, constraint)?;
                 Ok(None)
             }
         }
+    }
+
+    // A site that gets a constraint is one to look at where it must equal another one. What must equal no other yet is
+    // looked at once it must.
+    fn open_equated(&mut self, site: BindingId) -> Result<(), AllocError>
+        ensures opened { OnOk result ((r : ℕ) → IsTrue (are_equated self.old r site) → IsTrue (is_open self.new site)) }
+        ensures still { OnOk result ((s : ℕ) → IsTrue (is_open self.old s) → IsTrue (is_open self.new s)) }
+        ensures asked { self.new.constraints ≡ self.old.constraints }
+        ensures equated { self.new.equals ≡ self.old.equals }
+    {
+        if self.equals.contains(site) {
+            self.open.insert(site)?;
+        }
+        Ok(())
     }
 
     /// Two sites must be equal: nothing new where they are one.

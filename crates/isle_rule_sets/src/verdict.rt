@@ -153,12 +153,12 @@ pub fn why_unreachable(
     ensures { IfOk result (λ o. (before : List SiteTerm) (d : Demands) → AreVisited (table_sites table.now) before d demanded.now
         → unreachability_views o ≡ reported (with_sites before d.made) d) }
 {
-    let constraints = demanded.list_constraints(alloc)?;
-    let parts = list_parts(alloc, table, &constraints)?;
     if demanded.equals.sets().len() == 0 {
-        // each site is asked one thing, and has a smaller number than its parts
+        // each site is asked one thing, and no site is a field of itself
         return Ok(None);
     }
+    let constraints = demanded.list_constraints(alloc)?;
+    let parts = list_parts(alloc, table, &constraints)?;
     let classes = close_classes(alloc, demanded.equals.sets(), &parts)?;
     let conflict = find_conflict(alloc, &classes, &constraints)?;
     let cyclic = has_cycle(alloc, &classes, &parts)?;

@@ -1,6 +1,6 @@
 -- What expressions without parts become, but for variables.
 use Rattle.std.proofs.Common.{◌≡◌, ℕ, ℤ, ◌&&◌, Bool, true, false, cond, List, Option, Some, None, slice_get, refl, sym, ap, ◌∙◌, inl, inr, ◌⊎◌}
-use Rattle.std.proofs.lemmas.Bool.{false≢true}
+use Rattle.std.proofs.lemmas.Bool.{and_parts}
 use Rattle.isle_base.specs.declared.syntax.Error.{Error}
 use Rattle.model.specs.lists.Syntax.{Position, Name, bool_expr, int_expr, prim_expr}
 use Rattle.model.specs.lists.Names.{number, with_name}
@@ -9,7 +9,7 @@ use Rattle.model.specs.lists.Tables.{Flags}
 use Rattle.model.specs.rules.Values.{is_atom_type}
 use Rattle.model.specs.rules.Outcome.{then_option}
 use Rattle.model.specs.rules.Typed.{TypedExpr, make_bool, make_int, make_prim}
-use Rattle.model.specs.lists.Setting.{Setting, Scope, type_of_constant, is_expected}
+use Rattle.model.specs.lists.Setting.{Scope, is_expected}
 use Rattle.model.specs.lists.Typings.{Typing, plain}
 use Rattle.model.proofs.Names.{known_name}
 use Rattle.isle_types.specs.Envs.{names_of, constant_at}
@@ -19,9 +19,9 @@ use Rattle.isle_rules.specs.declared.term_env.TermEnv.{TermEnv}
 use Rattle.isle_typed.specs.Elaborating.{Checks}
 use Rattle.isle_rules.specs.Progress.{Remains}
 use Rattle.isle_rules.specs.ExprReadings.{expr_reading}
-use Rattle.isle_rules.specs.Translating.{Standing, IsSettingOf, Shows, IsTranslated, IsReported}
+use Rattle.isle_rules.specs.Translating.{Standing, IsTranslated, IsReported}
 use Rattle.isle_rules.proofs.Scopes.{is_met}
-use Rattle.isle_rules.proofs.PatternLeaves.{tested}
+use Rattle.isle_rules.proofs.PatternLeaves.{tested, constant_is}
 use Rattle.isle_rules.proofs.PatternUsing.{checks_both}
 
 -- a check of a fact is one of a fact that says the same
@@ -56,16 +56,13 @@ module _ (env : TermEnv) (old new : Standing) (flags : Flags) (at : Position) (s
 
 -- a named constant
 module _ (env : TermEnv) (old new : Standing) (flags : Flags) (x : Name) (at : Position) (ty : Option ℕ) (names : names_of new.tyenv ≡ with_name (names_of old.tyenv) x.text) where
-  constant_is : (e : Setting) (s : Scope) → IsSettingOf old.tyenv env e → Shows old s → (o : Option ℕ) → o ≡ constant_at old.tyenv (number (names_of old.tyenv) x.text) → type_of_constant e s x.text ≡ o
-  constant_is e s is sh o h = sym (is.constants (number s.names x.text)) ∙ ap (λ ns. constant_at old.tyenv (number ns x.text)) (sym sh.names) ∙ sym h
-
   abbrev of_type : Scope → Option ℕ → Option (Typing TypedExpr)
   of_type s o = then_option o (λ own. cond (is_expected ty own) (Some (plain (make_prim own (number s.names x.text)) s)) None)
 
   pub constant_unknown : None ≡ constant_at old.tyenv (number (names_of old.tyenv) x.text) → NotesMore old.work.errors.items new.work.errors.items → IsReported env old new (expr_reading (prim_expr x at) flags ty)
   constant_unknown none more = record {
     errors = inr more;
-    noted = λ e s is sh. record { reports = more; none = λ c. ap (of_type s) (constant_is e s is sh None none) };
+    noted = λ e s is sh. record { reports = more; none = λ c. ap (of_type s) (constant_is env old x e s is sh None none) };
   }
 
   module _ (own : ℕ) (there : Some own ≡ constant_at old.tyenv (number (names_of old.tyenv) x.text)) where
@@ -76,15 +73,10 @@ module _ (env : TermEnv) (old new : Standing) (flags : Flags) (x : Name) (at : P
         (λ e s is sh same.
         let numbered : name ≡ number s.names x.text = named ∙ ap (λ ns. number ns x.text) sh.names in (
           names ∙ known_name (names_of old.tyenv) x.text (is_met (names_of old.tyenv) x.text (is.constants_met (number (names_of old.tyenv) x.text) own (sym there))),
-          λ c. ap (of_type s) (constant_is e s is sh (Some own) there) ∙ rw same (ap (λ (n : ℕ). Some (plain (make_prim own n) s)) (sym numbered)),
+          λ c. ap (of_type s) (constant_is env old x e s is sh (Some own) there) ∙ rw same (ap (λ (n : ℕ). Some (plain (make_prim own n) s)) (sym numbered)),
         ))
-        (λ e s is sh other c. ap (of_type s) (constant_is e s is sh (Some own) there) ∙ rw (is_false (is_expected ty own) other) refl)
+        (λ e s is sh other c. ap (of_type s) (constant_is env old x e s is sh (Some own) there) ∙ rw (is_false (is_expected ty own) other) refl)
 
 -- one test after another
 pub checks_and : (a b c : List Error) (p q : Bool) → Checks a b (p ≡ true) → Checks b c (q ≡ true) → Checks a c (p && q ≡ true)
-checks_and a b c p q x y = checks_same a c ((p ≡ true) × (q ≡ true)) (p && q ≡ true) (λ h. rw (h.0, h.1) refl) (λ h. and_both p q h) (checks_both a b c (p ≡ true) (q ≡ true) x y)
-  where
-    and_both : (p q : Bool) → p && q ≡ true → (p ≡ true) × (q ≡ true)
-    and_both true true h = (refl, refl)
-    and_both true false h = absurd (false≢true h)
-    and_both false q h = absurd (false≢true h)
+checks_and a b c p q x y = checks_same a c ((p ≡ true) × (q ≡ true)) (p && q ≡ true) (λ h. rw (h.0, h.1) refl) (λ h. and_parts p q h) (checks_both a b c (p ≡ true) (q ≡ true) x y)

@@ -1,7 +1,7 @@
 -- Which limit expressions come to: the use of a name, step by step as it is looked at, and lists of expressions.
 use Rattle.std.proofs.Common.{◌≡◌, ℕ, zero, suc, ◌+◌, ◌<◌, ◌≤◌, true, cond, eqb, nat_le, List, [], ◌∷◌, ◌++◌, length, map, take, drop, get_or, Option, Some, None, Result, Ok, Err, option_and_then, slice_get, unwrap_or, refl, sym, ap, subst, ◌∙◌, inl, inr, ◌⊎◌, arith}
 use Rattle.std.proofs.lemmas.Bool.{eq-eqb, cases_Bool, lt-leb, le-leb}
-use Rattle.std.proofs.lemmas.List.{take_more, take_all, take-append-drop, length-take-le, length-map, map-append}
+use Rattle.std.proofs.lemmas.List.{take_more, take_all, take-append-drop, map-append}
 use Rattle.isle_base.specs.declared.syntax.Error.{Error}
 use Rattle.isle_base.specs.declared.syntax.Expr as T
 use Rattle.isle_base.specs.SyntaxViews as S
@@ -34,7 +34,7 @@ use Rattle.isle_rules.proofs.PatternUsing.{found_so}
 use Rattle.isle_rules.proofs.PatternLimits.{expansion_ends, one_law}
 use Rattle.isle_rules.proofs.ExprUsing.{list_length, converts, stays_other, other_expected, var_found}
 use Rattle.isle_rules.proofs.ExprLists.{appended, single, SoFar, args_after, one_further, last_arg}
-use Rattle.isle_rules.proofs.LimitLists.{args_further, args_left}
+use Rattle.isle_rules.proofs.LimitLists.{types_counted, types_split, args_further, args_left}
 use Rattle.isle_rules.proofs.LimitSteps.{then_none, then_ends, first_ends, noted_meets, led_meets}
 
 -- 1. expansions
@@ -199,14 +199,11 @@ module _ (env : TermEnv) (old mid new : Standing) (d : ℕ) (flags : Flags) (arg
       one_further env old mid new d flags args tys i p ty w v arg_is ty_is keeps e c s
       ∙ one_law appended single (read_to i e c s) (λ r. args_reading (S.expr_views (p ∷ [])) flags (ty.0 ∷ []) e c r) (λ r. expr_reading (S.expr_view p) flags (Some ty.0) e c r) (λ r. last_arg flags p ty.0 e c r)
 
-  counts : (n : ℕ) → n ≤ length args → n ≤ length tys → length (take n args) ≡ length (tys_to n)
-  counts n h k = length-take-le n args h ∙ sym (length-take-le n tys k) ∙ sym (length-map (take n tys) (λ t. t.0))
-
   limit_law : (e : Setting) (c n : ℕ) (s : Scope) → limits_to (i + 1) e c n s ≡ or_after (limits_to i e c n s) (read_to i e c s) (λ a. expr_limits (S.expr_view p) flags (Some ty.0) e c (n + a.expansions) a.scope)
   limit_law e c n s =
       args_further flags args i p w arg_is (tys_to i) (tys_to (i + 1)) ty.0
       (ap (map (λ t. t.0)) (take_more tys i ty v ∙ ap (λ t. take i tys ++ t ∷ []) (sym ty_is)) ∙ map-append (λ t. t.0) (take i tys) (ty ∷ []))
-      (counts i (omega arith) (omega arith)) e c n s
+      (types_counted args tys i (omega arith) (omega arith)) e c n s
 
   module _ (made : List Expr) (sofar : SoFar env old mid d (read_to i) made) (before : ComesTo env old d (limits_to i) None) where
     pub next_arg_none : ComesTo env mid d (expr_limits (S.expr_view p) flags (Some ty.0)) None → ComesTo env old d (limits_to (i + 1)) None
@@ -220,16 +217,13 @@ module _ (env : TermEnv) (old mid new : Standing) (d : ℕ) (flags : Flags) (arg
         first_ends env old new new d (read_to (i + 1)) (λ q. args_reading (S.expr_views (drop (i + 1) args)) flags (map (λ t. t.0) (drop (i + 1) tys))) (args_reading (S.expr_views args) flags (map (λ t. t.0) tys)) appended
         (λ e c s.
         ap (λ ps. args_reading (S.expr_views ps) flags (map (λ t. t.0) tys) e c s) (sym (take-append-drop (i + 1) args))
-        ∙ ap (λ ts. args_reading (S.expr_views (take (i + 1) args ++ drop (i + 1) args)) flags ts e c s) split
-        ∙ args_after (all_made e) flags c (take (i + 1) args) (drop (i + 1) args) (tys_to (i + 1)) (map (λ t. t.0) (drop (i + 1) tys)) s (counts (i + 1) (omega arith) (omega arith)))
+        ∙ ap (λ ts. args_reading (S.expr_views (take (i + 1) args ++ drop (i + 1) args)) flags ts e c s) (types_split tys (i + 1))
+        ∙ args_after (all_made e) flags c (take (i + 1) args) (drop (i + 1) args) (tys_to (i + 1)) (map (λ t. t.0) (drop (i + 1) tys)) s (types_counted args tys (i + 1) (omega arith) (omega arith)))
         (limits_to (i + 1)) (λ q. args_limits (S.expr_views (drop (i + 1) args)) flags (map (λ t. t.0) (drop (i + 1) tys))) (args_limits (S.expr_views args) flags (map (λ t. t.0) tys))
-        (λ e c n s. args_left flags args (i + 1) (map (λ t. t.0) tys) (tys_to (i + 1)) (map (λ t. t.0) (drop (i + 1) tys)) split (counts (i + 1) (omega arith) (omega arith)) e c n s)
+        (λ e c n s. args_left flags args (i + 1) (map (λ t. t.0) tys) (tys_to (i + 1)) (map (λ t. t.0) (drop (i + 1) tys)) (types_split tys (i + 1)) (types_counted args tys (i + 1) (omega arith) (omega arith)) e c n s)
         stop
         (then_ends env old mid new d (read_to i) (λ q. expr_reading (S.expr_view p) flags (Some ty.0)) (read_to (i + 1)) (λ ps q. appended ps (single q)) law (limits_to i) (λ q. expr_limits (S.expr_view p) flags (Some ty.0)) (limits_to (i + 1)) limit_law
         (expr_parts (expr_views made)) keeps sofar before stop may y)
-      where
-        split : map (λ t. t.0) tys ≡ tys_to (i + 1) ++ map (λ t. t.0) (drop (i + 1) tys)
-        split = ap (map (λ t. t.0)) (sym (take-append-drop (i + 1) tys)) ∙ map-append (λ t. t.0) (take (i + 1) tys) (drop (i + 1) tys)
 
 pub all_args_none : (env : TermEnv) (old : Standing) (d : ℕ) (flags : Flags) (args : List T.Expr) (tys : List TypeId) (i : ℕ) → length args ≤ i → length tys ≤ i
     → ComesTo env old d (args_limits (S.expr_views (take i args)) flags (map (λ t. t.0) (take i tys))) None → ComesTo env old d (args_limits (S.expr_views args) flags (map (λ t. t.0) tys)) None

@@ -93,14 +93,11 @@ module _ (env : TermEnv) (old mid : Standing) (name ty : Name) (value : ExprTree
     shown : (s : Scope) → Shows old s → Shows mid (met s name.text)
     shown s sh = met_shows old mid s name.text names r sh
 
-    setting : (e : Setting) → IsSettingOf old.tyenv env e → IsSettingOf mid.tyenv env e
-    setting e is = keep_setting env old.tyenv mid.tyenv e keeps is
-
     pub def_reported : (new : Standing) → IsReported env mid new (expr_reading value flags (Some own)) → IsReported env old new one
     def_reported new y = record {
       errors = subst (λ es. MayNoteMore es new.work.errors.items) errors y.errors;
       noted = λ e s is sh.
-          let n = y.noted e (met s name.text) (setting e is) (shown s sh) in
+          let n = y.noted e (met s name.text) (keep_setting env old.tyenv mid.tyenv e keeps is) (shown s sh) in
           record { reports = subst (λ es. NotesMore es new.work.errors.items) errors n.reports; none = λ c. unfolded e s is sh c ∙ ap (defined own name.text) (n.none c) };
     }
 
@@ -108,13 +105,13 @@ module _ (env : TermEnv) (old mid : Standing) (name ty : Name) (value : ExprTree
     def_stops new d (Memory a) y = tt
     def_stops new d Nesting y = (
       may_both old.work.errors.items mid.work.errors.items new.work.errors.items (inl errors) y.0,
-      λ e s is sh. unfolded e s is sh d ∙ ap (defined own name.text) (y.1 e (met s name.text) (setting e is) (shown s sh)),
+      λ e s is sh. unfolded e s is sh d ∙ ap (defined own name.text) (y.1 e (met s name.text) (keep_setting env old.tyenv mid.tyenv e keeps is) (shown s sh)),
     )
     def_stops new d Expansions y = (
       may_both old.work.errors.items mid.work.errors.items new.work.errors.items (inl errors) y.0,
       λ e s is sh c a h.
           let g = defined_gives own name.text (expr_reading value flags (Some own) e c (met s name.text)) a (sym (unfolded e s is sh c) ∙ h) in
-          let long = y.1 e (met s name.text) (setting e is) (shown s sh) c g.0 g.1 in
+          let long = y.1 e (met s name.text) (keep_setting env old.tyenv mid.tyenv e keeps is) (shown s sh) c g.0 g.1 in
           let m = r.expansions in
           let n = g.2 in
           omega (arith, long, m, n),
@@ -141,7 +138,7 @@ module _ (env : TermEnv) (old mid : Standing) (name ty : Name) (value : ExprTree
       typed y = record {
         errors = b.binds.errors ∙ y.errors ∙ errors;
         made = λ e s is sh.
-            let a = y.made e (met s name.text) (setting e is) (shown s sh) in
+            let a = y.made e (met s name.text) (keep_setting env old.tyenv mid.tyenv e keeps is) (shown s sh) in
             let m = r.expansions in
             let n = a.expansions in
             let k = b.binds.expansions in
@@ -162,7 +159,7 @@ module _ (env : TermEnv) (old mid : Standing) (name ty : Name) (value : ExprTree
       hides y e s is sh k =
           b.hides k (newest new.work k)
           ∙ hide_bound earlier k id _ (newest next.work id) (newest new.work k) (newest next.work) (b.binds.names k) refl
-          ∙ ap (before_all earlier k) (names_stay env mid next d value flags (Some own) q y e (met s name.text) (setting e is) (shown s sh) k ∙ r.names k)
+          ∙ ap (before_all earlier k) (names_stay env mid next d value flags (Some own) q y e (met s name.text) (keep_setting env old.tyenv mid.tyenv e keeps is) (shown s sh) k ∙ r.names k)
 
       pub def_done : IsTranslated env mid next d (expr_reading value flags (Some own)) q ⊎ IsReported env mid next (expr_reading value flags (Some own)) → Defines env old new d one kept earlier hidden
       def_done (inl y) = inl (typed y, hides y)

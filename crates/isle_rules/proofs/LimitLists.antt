@@ -1,11 +1,13 @@
 -- Which limit lists of parts come to, read one after another.
-use Rattle.std.proofs.Common.{◌≡◌, ℕ, ◌+◌, ◌<◌, Bool, List, [], ◌∷◌, ◌++◌, length, map, take, drop, get_or, Option, Some, None, sym, ap, ◌∙◌, refl, arith}
+use Rattle.std.proofs.Common.{◌≡◌, ℕ, ◌+◌, ◌<◌, ◌≤◌, Bool, List, [], ◌∷◌, ◌++◌, length, map, take, drop, get_or, Option, Some, None, sym, ap, ◌∙◌, refl, arith}
 use Rattle.std.proofs.lemmas.List.{take_more, take-append-drop, length-take-le, length-map, map-append}
+use Rattle.std.proofs.Math.Nat.{add-zero}
 use Rattle.isle_base.specs.declared.syntax.Pattern as P
 use Rattle.isle_base.specs.declared.syntax.Expr as X
 use Rattle.isle_base.specs.declared.syntax.LetDef.{LetDef}
 use Rattle.isle_base.specs.declared.syntax.IfLet.{IfLet}
 use Rattle.isle_base.specs.SyntaxViews as S
+use Rattle.isle_types.specs.declared.ids.TypeId.{TypeId}
 use Rattle.model.specs.lists.Syntax.{IfLetTree}
 use Rattle.model.specs.lists.Tables.{Flags}
 use Rattle.model.specs.lists.Setting.{Setting, Scope, met, type_of_name}
@@ -45,15 +47,19 @@ module _ {P Q R : Type 0} (f : P → Q → R) (inner : Typing P → Option Named
   regroup None None = refl
   regroup None (Some a) = at_one a (inner a) (first a)
 
-nothing_more : (n : ℕ) → n ≡ n + 0
-nothing_more n = omega arith
+-- the types of as many arguments, and of those after them
+pub types_counted : {X : Type 0} (xs : List X) (tys : List TypeId) (n : ℕ) → n ≤ length xs → n ≤ length tys → length (take n xs) ≡ length (map (λ t. t.0) (take n tys))
+types_counted xs tys n h k = length-take-le n xs h ∙ sym (length-take-le n tys k) ∙ sym (length-map (take n tys) (λ t. t.0))
+
+pub types_split : (tys : List TypeId) (n : ℕ) → map (λ t. t.0) tys ≡ map (λ t. t.0) (take n tys) ++ map (λ t. t.0) (drop n tys)
+types_split tys n = ap (map (λ t. t.0)) (sym (take-append-drop n tys)) ∙ map-append (λ t. t.0) (take n tys) (drop n tys)
 
 -- 2. patterns
 module _ (e : Setting) (multi : Bool) (d : ℕ) where
   parts_after : (ps qs : List P.Pattern) (ts us : List ℕ) (n : ℕ) (s : Scope) → length ps ≡ length ts
       → parts_limits multi (S.pattern_views (ps ++ qs)) (ts ++ us) e d n s
       ≡ or_after (parts_limits multi (S.pattern_views ps) ts e d n s) (parts_reading multi (S.pattern_views ps) ts e d s) (λ a. parts_limits multi (S.pattern_views qs) us e d (n + a.expansions) a.scope)
-  parts_after [] qs [] us n s h = ap (λ k. parts_limits multi (S.pattern_views qs) us e d k s) (nothing_more n)
+  parts_after [] qs [] us n s h = ap (λ k. parts_limits multi (S.pattern_views qs) us e d k s) (sym (add-zero n))
   parts_after [] qs (t ∷ ts) us n s h = absurd (omega (arith, h))
   parts_after (p ∷ ps) qs [] us n s h = absurd (omega (arith, h))
   parts_after (p ∷ ps) qs (t ∷ ts) us n s h =
@@ -64,7 +70,7 @@ module _ (e : Setting) (multi : Bool) (d : ℕ) where
   each_after : (ps qs : List P.Pattern) (t : ℕ) (n : ℕ) (s : Scope)
       → each_limits multi (S.pattern_views (ps ++ qs)) t e d n s
       ≡ or_after (each_limits multi (S.pattern_views ps) t e d n s) (each_reading multi (S.pattern_views ps) t e d s) (λ a. each_limits multi (S.pattern_views qs) t e d (n + a.expansions) a.scope)
-  each_after [] qs t n s = ap (λ k. each_limits multi (S.pattern_views qs) t e d k s) (nothing_more n)
+  each_after [] qs t n s = ap (λ k. each_limits multi (S.pattern_views qs) t e d k s) (sym (add-zero n))
   each_after (p ∷ ps) qs t n s =
       or_same (pattern_limits multi (S.pattern_view p) t e d n s) (elaborated_pattern e multi d (S.pattern_view p) t s) _ _ (λ a. each_after ps qs t (n + a.expansions) a.scope)
       ∙ regroup typed_pattern_and (λ a. each_limits multi (S.pattern_views ps) t e d (n + a.expansions) a.scope) (λ a. each_with e multi (deeper_pattern e multi d) (S.pattern_views ps) t a.scope)
@@ -75,7 +81,7 @@ module _ (e : Setting) (flags : Flags) (d : ℕ) where
   args_after : (ps qs : List X.Expr) (ts us : List ℕ) (n : ℕ) (s : Scope) → length ps ≡ length ts
       → args_limits (S.expr_views (ps ++ qs)) flags (ts ++ us) e d n s
       ≡ or_after (args_limits (S.expr_views ps) flags ts e d n s) (args_reading (S.expr_views ps) flags ts e d s) (λ a. args_limits (S.expr_views qs) flags us e d (n + a.expansions) a.scope)
-  args_after [] qs [] us n s h = ap (λ k. args_limits (S.expr_views qs) flags us e d k s) (nothing_more n)
+  args_after [] qs [] us n s h = ap (λ k. args_limits (S.expr_views qs) flags us e d k s) (sym (add-zero n))
   args_after [] qs (t ∷ ts) us n s h = absurd (omega (arith, h))
   args_after (p ∷ ps) qs [] us n s h = absurd (omega (arith, h))
   args_after (p ∷ ps) qs (t ∷ ts) us n s h =
@@ -96,7 +102,7 @@ module _ (e : Setting) (flags : Flags) (d : ℕ) where
   lets_after : (ds es : List LetDef) (n : ℕ) (s : Scope)
       → lets_limits (S.let_views (ds ++ es)) flags e d n s
       ≡ or_after (lets_limits (S.let_views ds) flags e d n s) (lets_reading (S.let_views ds) flags e d s) (λ a. lets_limits (S.let_views es) flags e d (n + a.expansions) a.scope)
-  lets_after [] es n s = ap (λ k. lets_limits (S.let_views es) flags e d k s) (nothing_more n)
+  lets_after [] es n s = ap (λ k. lets_limits (S.let_views es) flags e d k s) (sym (add-zero n))
   lets_after (def ∷ ds) es n s =
       let x = (S.name_view def.var).text in
       after_type x (λ own. expr_limits (S.expr_view def.val.value) flags (Some own) e d n (met s x)) (λ own. bound_let x own (expr_reading (S.expr_view def.val.value) flags (Some own) e d (met s x)))
@@ -106,7 +112,7 @@ module _ (e : Setting) (flags : Flags) (d : ℕ) where
   -- if-lets
   iflets_after : (is js : List IfLetTree) (n : ℕ) (s : Scope)
       → iflets_limits (is ++ js) flags e d n s ≡ or_after (iflets_limits is flags e d n s) (iflets_reading is flags e d s) (λ a. iflets_limits js flags e d (n + a.expansions) a.scope)
-  iflets_after [] js n s = ap (λ k. iflets_limits js flags e d k s) (nothing_more n)
+  iflets_after [] js n s = ap (λ k. iflets_limits js flags e d k s) (sym (add-zero n))
   iflets_after (i ∷ is) js n s =
       or_same (iflet_limits i flags e d n s) (iflet_reading i flags e d s) _ _ (λ a. iflets_after is js (n + a.expansions) a.scope)
       ∙ regroup ◌∷◌ (λ a. iflets_limits is flags e d (n + a.expansions) a.scope) (λ a. iflets_reading is flags e d a.scope) (λ k r. iflets_limits js flags e d k r) n (iflet_limits i flags e d n s) (iflet_reading i flags e d s)

@@ -1,7 +1,7 @@
 -- The setting in which each term has a constructor.
 use Rattle.std.proofs.Common.{◌≡◌, ℕ, ◌&&◌, Bool, true, false, cond, eqb, List, [], ◌∷◌, filter, map, Option, Some, None, option_map, is_some, slice_get, refl, sym, ap, ◌∙◌, inl, inr}
 use Rattle.std.specs.Bool.{◌==◌}
-use Rattle.std.proofs.lemmas.Bool.{cases_Bool, eqb-true}
+use Rattle.std.proofs.lemmas.Bool.{cases_Bool, and_parts, eqb-true}
 use Rattle.std.proofs.lemmas.Option.{slice_get-map}
 use Rattle.model.specs.rules.Meaning.{look}
 use Rattle.model.specs.rules.Outcome.{then_option}
@@ -35,13 +35,8 @@ module _ (p : ℕ → ℕ → Bool) (i o : ℕ) where
   abbrev is_pair : ℕ × ℕ → Bool
   is_pair k = (k.0 == i) && (k.1 == o)
 
-  both : (a b : Bool) → a && b ≡ true → (a ≡ true) × (b ≡ true)
-  both true true h = (refl, refl)
-  both true false h = absurd (cc)
-  both false b h = absurd (cc)
-
   same_pair : (k : ℕ × ℕ) → is_pair k ≡ true → p k.0 k.1 ≡ p i o
-  same_pair k h = let b = both (k.0 == i) (k.1 == o) h in ap (λ j. p j k.1) (eqb-true k.0 i b.0) ∙ ap (p i) (eqb-true k.1 o b.1)
+  same_pair k h = let b = and_parts (k.0 == i) (k.1 == o) h in ap (λ j. p j k.1) (eqb-true k.0 i b.0) ∙ ap (p i) (eqb-true k.1 o b.1)
 
   kept : (cs : List ((ℕ × ℕ) × ℕ)) → look is_pair (filter (λ c. p c.0.0 c.0.1) cs) ≡ cond (p i o) (look is_pair cs) None
   kept [] = elim (p i o) as (λ b. ◌≡◌ {A = Option ℕ} None (cond b None None)) [ true ↦ refl | false ↦ refl ]

@@ -1,6 +1,7 @@
 -- Each form of pattern, from what its parts became.
-use Rattle.std.proofs.Common.{◌≡◌, ℕ, ◌+◌, Bool, true, false, cond, List, length, Option, Some, None, Result, Ok, Err, is_some, Vec, Box, refl, sym, ap, subst, ◌∙◌, inl, inr, ◌⊎◌, ⊎_elim, arith}
+use Rattle.std.proofs.Common.{◌≡◌, ℕ, Bool, true, false, cond, List, length, Option, Some, None, Result, Ok, Err, is_some, Vec, Box, refl, sym, ap, subst, ◌∙◌, inl, inr, ◌⊎◌, ⊎_elim, arith}
 use Rattle.std.specs.declared.alloc.Global.{Global}
+use Rattle.std.proofs.Math.Nat.{add-zero}
 use Rattle.isle_base.specs.declared.syntax.Ident.{Ident}
 use Rattle.isle_base.specs.declared.syntax.Pos.{Pos}
 use Rattle.isle_base.specs.declared.syntax.Pattern as T
@@ -64,12 +65,9 @@ module _ (multi : Bool) (x : Name) (p : PatternTree) (at : Position) (ty : ℕ) 
               | true ↦ refl
               | false ↦
                   ap (λ (t : ℕ). Some (record { made = match_bind t (length a.scope.vars) a.made; scope = bound a.scope x.text t; expansions = a.expansions })) (sym at_type)
-                  ∙ ap (λ (n : ℕ). Some (record { made = match_bind (pattern_type a.made) (length a.scope.vars) a.made; scope = bound a.scope x.text (pattern_type a.made); expansions = n })) (nothing_more a.expansions)
+                  ∙ ap (λ (n : ℕ). Some (record { made = match_bind (pattern_type a.made) (length a.scope.vars) a.made; scope = bound a.scope x.text (pattern_type a.made); expansions = n })) (sym (add-zero a.expansions))
             ]
       ] refl
-    where
-      nothing_more : (n : ℕ) → n ≡ n + 0
-      nothing_more n = omega arith
 
   module _ (env : TermEnv) (old mid new : Standing) (d : ℕ) where
     pub bind_done : (of : Pattern) (r : Result (Option Pattern) Stop) → Keeps old.tyenv mid.tyenv

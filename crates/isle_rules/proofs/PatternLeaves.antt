@@ -34,6 +34,11 @@ tested env old new reading q P r (inl ok) made none d = inl (record {
 })
 tested env old new reading q P r (inr wrong) made none d = inr (record { errors = inr wrong.0; noted = λ e s is sh. record { reports = wrong.0; none = none e s is sh wrong.1 } })
 
+-- a named constant's type, as the environment has it
+pub constant_is : (env : TermEnv) (old : Standing) (x : Name) (e : Setting) (s : Scope) → IsSettingOf old.tyenv env e → Shows old s → (o : Option ℕ)
+    → o ≡ constant_at old.tyenv (number (names_of old.tyenv) x.text) → type_of_constant e s x.text ≡ o
+constant_is env old x e s is sh o h = sym (is.constants (number s.names x.text)) ∙ ap (λ ns. constant_at old.tyenv (number ns x.text)) (sym sh.names) ∙ sym h
+
 -- a name
 module _ (env : TermEnv) (old new : Standing) (x : Name) (at : Position) (ty : ℕ) (names : names_of new.tyenv ≡ with_name (names_of old.tyenv) x.text) where
   pub var_used : (v : TypedVar) → Some v ≡ newest old.work (number (names_of old.tyenv) x.text) → Remains old.work new.work
@@ -57,14 +62,11 @@ module _ (env : TermEnv) (old new : Standing) (x : Name) (at : Position) (ty : �
         (bound_shows old new s x.text ty sh names b) b.expansions;
   })
 
-  constant_is : (e : Setting) (s : Scope) → IsSettingOf old.tyenv env e → Shows old s → (o : Option ℕ) → o ≡ constant_at old.tyenv (number (names_of old.tyenv) x.text) → type_of_constant e s x.text ≡ o
-  constant_is e s is sh o h = sym (is.constants (number s.names x.text)) ∙ ap (λ ns. constant_at old.tyenv (number ns x.text)) (sym sh.names) ∙ sym h
-
   -- a named constant: where it isn't known there is nothing, else it is of its own type
   pub prim_unknown : None ≡ constant_at old.tyenv (number (names_of old.tyenv) x.text)
       → (multi : Bool) → Wherever env old (λ e s. (c : ℕ) → pattern_reading multi (prim_pattern x at) ty e c s ≡ None)
   prim_unknown none multi e s is sh c =
-      ap (λ o. then_option o (λ own. cond (nat_eq own ty) (Some (plain (match_prim ty (number s.names x.text)) s)) None)) (constant_is e s is sh None none)
+      ap (λ o. then_option o (λ own. cond (nat_eq own ty) (Some (plain (match_prim ty (number s.names x.text)) s)) None)) (constant_is env old x e s is sh None none)
 
   pub prim_used : (own name : ℕ) → Some own ≡ constant_at old.tyenv (number (names_of old.tyenv) x.text) → name ≡ number (names_of old.tyenv) x.text → Remains old.work new.work
       → Checks old.work.errors.items new.work.errors.items (own ≡ ty)
@@ -76,10 +78,10 @@ module _ (env : TermEnv) (old new : Standing) (x : Name) (at : Position) (ty : �
       let at_type : cond (nat_eq own ty) (Some (plain (match_prim ty (number s.names x.text)) s)) None ≡ Some (plain (match_prim own name) s) =
       rw (eq-eqb own ty same) (ap (λ (w : ℕ). Some (plain (match_prim w (number s.names x.text)) s)) (sym same) ∙ ap (λ (n : ℕ). Some (plain (match_prim own n) s)) (sym numbered)) in (
         names ∙ known_name (names_of old.tyenv) x.text (is_met (names_of old.tyenv) x.text (is.constants_met (number (names_of old.tyenv) x.text) own (sym there))),
-        λ c. ap (λ o. then_option o (λ own. cond (nat_eq own ty) (Some (plain (match_prim ty (number s.names x.text)) s)) None)) (constant_is e s is sh (Some own) there) ∙ at_type,
+        λ c. ap (λ o. then_option o (λ own. cond (nat_eq own ty) (Some (plain (match_prim ty (number s.names x.text)) s)) None)) (constant_is env old x e s is sh (Some own) there) ∙ at_type,
       ))
       (λ e s is sh other c.
-      ap (λ o. then_option o (λ own. cond (nat_eq own ty) (Some (plain (match_prim ty (number s.names x.text)) s)) None)) (constant_is e s is sh (Some own) there) ∙ rw (ne-eqb own ty other) refl)
+      ap (λ o. then_option o (λ own. cond (nat_eq own ty) (Some (plain (match_prim ty (number s.names x.text)) s)) None)) (constant_is env old x e s is sh (Some own) there) ∙ rw (ne-eqb own ty other) refl)
 
   -- a name is bound after a pattern: it must be new
   module _ (mid : Standing) (same_names : names_of mid.tyenv ≡ names_of old.tyenv) (r : Remains old.work mid.work) (b : BindsNext (number (names_of old.tyenv) x.text) ty mid.work new.work) (id : ℕ) (place : id ≡ length mid.work.seen.items) where

@@ -1,7 +1,7 @@
 -- Which limit patterns come to: the use of a term, step by step as it is looked at, and lists of patterns.
 use Rattle.std.proofs.Common.{◌≡◌, ℕ, zero, suc, ◌+◌, ◌<◌, ◌≤◌, Bool, true, false, cond, eqb, nat_le, List, [], ◌∷◌, ◌++◌, length, map, take, drop, get_or, Option, Some, None, Result, Ok, Err, is_some, slice_get, unwrap_or, refl, sym, ap, subst, ◌∙◌, inl, inr, ◌⊎◌, ⊎_elim, arith}
 use Rattle.std.proofs.lemmas.Bool.{eq-eqb, eqb-true, cases_Bool, lt-leb, le-leb}
-use Rattle.std.proofs.lemmas.List.{take_more, take_all, take-append-drop, length-take-le, length-map, map-append}
+use Rattle.std.proofs.lemmas.List.{take_more, take_all, take-append-drop, map-append}
 use Rattle.isle_base.specs.declared.syntax.Error.{Error}
 use Rattle.isle_base.specs.declared.syntax.Pattern as T
 use Rattle.isle_base.specs.SyntaxViews as S
@@ -37,7 +37,7 @@ use Rattle.isle_rules.proofs.PatternUsing.{found_so, list_length, found, convert
 use Rattle.isle_rules.proofs.PatternLists.{appended, single, SoFar, parts_after, each_after, one_further, last_part, last_each}
 use Rattle.isle_rules.proofs.PatternLists as lists
 use Rattle.isle_rules.proofs.Readings.{expanded_reported}
-use Rattle.isle_rules.proofs.LimitLists.{each_further, parts_further, each_left, parts_left}
+use Rattle.isle_rules.proofs.LimitLists.{types_counted, types_split, each_further, parts_further, each_left, parts_left}
 use Rattle.isle_rules.proofs.LimitSteps.{then_none, then_ends, first_ends, noted_meets, led_meets}
 
 -- 1. expansions
@@ -297,14 +297,11 @@ module _ (multi : Bool) (env : TermEnv) (old mid new : Standing) (d : ℕ) (args
       one_further multi env old mid new d args tys i p ty w v arg_is ty_is keeps e c s
       ∙ one_law appended single (read_to i e c s) (λ r. parts_reading multi (S.pattern_views (p ∷ [])) (ty.0 ∷ []) e c r) (λ r. pattern_reading multi (S.pattern_view p) ty.0 e c r) (λ r. last_part multi p ty.0 e c r)
 
-  counts : (n : ℕ) → n ≤ length args → n ≤ length tys → length (take n args) ≡ length (tys_to n)
-  counts n h k = length-take-le n args h ∙ sym (length-take-le n tys k) ∙ sym (length-map (take n tys) (λ t. t.0))
-
   limit_law : (e : Setting) (c n : ℕ) (s : Scope) → limits_to (i + 1) e c n s ≡ or_after (limits_to i e c n s) (read_to i e c s) (λ a. pattern_limits multi (S.pattern_view p) ty.0 e c (n + a.expansions) a.scope)
   limit_law e c n s =
       parts_further multi args i p w arg_is (tys_to i) (tys_to (i + 1)) ty.0
       (ap (map (λ t. t.0)) (take_more tys i ty v ∙ ap (λ t. take i tys ++ t ∷ []) (sym ty_is)) ∙ map-append (λ t. t.0) (take i tys) (ty ∷ []))
-      (counts i (omega arith) (omega arith)) e c n s
+      (types_counted args tys i (omega arith) (omega arith)) e c n s
 
   module _ (made : List Pattern) (sofar : SoFar env old mid d (read_to i) made) (before : ComesTo env old d (limits_to i) None) where
     pub next_part_none : ComesTo env mid d (pattern_limits multi (S.pattern_view p) ty.0) None → ComesTo env old d (limits_to (i + 1)) None
@@ -318,16 +315,13 @@ module _ (multi : Bool) (env : TermEnv) (old mid new : Standing) (d : ℕ) (args
         first_ends env old new new d (read_to (i + 1)) (λ q. parts_reading multi (S.pattern_views (drop (i + 1) args)) (map (λ t. t.0) (drop (i + 1) tys))) (parts_reading multi (S.pattern_views args) (map (λ t. t.0) tys)) appended
         (λ e c s.
         ap (λ ps. parts_reading multi (S.pattern_views ps) (map (λ t. t.0) tys) e c s) (sym (take-append-drop (i + 1) args))
-        ∙ ap (λ ts. parts_reading multi (S.pattern_views (take (i + 1) args ++ drop (i + 1) args)) ts e c s) split
-        ∙ parts_after e multi c (take (i + 1) args) (drop (i + 1) args) (tys_to (i + 1)) (map (λ t. t.0) (drop (i + 1) tys)) s (counts (i + 1) (omega arith) (omega arith)))
+        ∙ ap (λ ts. parts_reading multi (S.pattern_views (take (i + 1) args ++ drop (i + 1) args)) ts e c s) (types_split tys (i + 1))
+        ∙ parts_after e multi c (take (i + 1) args) (drop (i + 1) args) (tys_to (i + 1)) (map (λ t. t.0) (drop (i + 1) tys)) s (types_counted args tys (i + 1) (omega arith) (omega arith)))
         (limits_to (i + 1)) (λ q. parts_limits multi (S.pattern_views (drop (i + 1) args)) (map (λ t. t.0) (drop (i + 1) tys))) (parts_limits multi (S.pattern_views args) (map (λ t. t.0) tys))
-        (λ e c n s. parts_left multi args (i + 1) (map (λ t. t.0) tys) (tys_to (i + 1)) (map (λ t. t.0) (drop (i + 1) tys)) split (counts (i + 1) (omega arith) (omega arith)) e c n s)
+        (λ e c n s. parts_left multi args (i + 1) (map (λ t. t.0) tys) (tys_to (i + 1)) (map (λ t. t.0) (drop (i + 1) tys)) (types_split tys (i + 1)) (types_counted args tys (i + 1) (omega arith) (omega arith)) e c n s)
         stop
         (then_ends env old mid new d (read_to i) (λ q. pattern_reading multi (S.pattern_view p) ty.0) (read_to (i + 1)) (λ ps q. appended ps (single q)) law (limits_to i) (λ q. pattern_limits multi (S.pattern_view p) ty.0) (limits_to (i + 1)) limit_law
         (pattern_parts (pattern_views made)) keeps sofar before stop may y)
-      where
-        split : map (λ t. t.0) tys ≡ tys_to (i + 1) ++ map (λ t. t.0) (drop (i + 1) tys)
-        split = ap (map (λ t. t.0)) (sym (take-append-drop (i + 1) tys)) ∙ map-append (λ t. t.0) (take (i + 1) tys) (drop (i + 1) tys)
 
 pub all_parts_none : (multi : Bool) (env : TermEnv) (old : Standing) (d : ℕ) (args : List T.Pattern) (tys : List TypeId) (i : ℕ) → length args ≤ i → length tys ≤ i
     → ComesTo env old d (parts_limits multi (S.pattern_views (take i args)) (map (λ t. t.0) (take i tys))) None → ComesTo env old d (parts_limits multi (S.pattern_views args) (map (λ t. t.0) tys)) None

@@ -27,7 +27,8 @@ function_after e defs cs x =
 -- what takes it apart, when these external extractors are read
 abbrev pub external_after : TypesRead → List Definition → List ExternalTree → List ℕ → Option ExtractorEntry
 external_after e defs es x =
-    if has_name (internal_extractors defs) x then option_map (λ t. internal_extractor (extractor_template t)) (find (λ t. bytes_eq t.term.text x) (extractor_trees defs))
+    if has_name (internal_extractors defs) x
+    then option_map (λ t. internal_extractor (extractor_template t)) (find (λ t. bytes_eq t.term.text x) (extractor_trees defs))
     else option_map (λ t. external_extractor (number (term_names_met e.known defs) t.function.text) t.infallible t.at) (find (λ t. bytes_eq t.term.text x) es)
 
 -- what is said of external constructors by themselves
@@ -43,7 +44,8 @@ pub record AreRightExternals (defs : List Definition) (es : List ExternalTree) :
 
 -- the external functions among the first definitions are read
 pub record ExternsRead (e : TypesRead) (defs read : List Definition) (env : TypeEnv) (table : TermTable) : Type 0 where
-  pub stand : Stand e defs (decl_names defs ++ flat_map function_of read) (function_after e defs (constructor_trees read)) (external_after e defs (external_trees read)) env table
+  pub stand : Stand e defs (decl_names defs ++ flat_map function_of read) (function_after e defs (constructor_trees read))
+      (external_after e defs (external_trees read)) env table
   pub constructors : AreRightConstructors defs (constructor_trees read)
   pub externals : AreRightExternals defs (external_trees read)
   pub conversions : (i o : ℕ) → converter_at table i o ≡ look (λ k. (k.0 == i) && (k.1 == o)) (converters e.known defs)
@@ -52,9 +54,11 @@ pub record ExternsRead (e : TypesRead) (defs read : List Definition) (env : Type
 -- it apart
 abbrev pub ReadsExtern : ExternTree → TypeEnv → TermTable → List Error → TypeEnv → TermTable → List Error → Type 0
 ReadsExtern (extern_constructor term function at) old table es new table' es' =
-    Interns function.text old new × ReadsKind lacks_constructor (made_by_this (external_constructor (number (names_of old) function.text))) term new table es table' es'
+    Interns function.text old new
+    × ReadsKind lacks_constructor (made_by_this (external_constructor (number (names_of old) function.text))) term new table es table' es'
 ReadsExtern (extern_extractor term function at infallible) old table es new table' es' =
-    Interns function.text old new × ReadsKind lacks_extractor (taken_by_this (external_extractor (number (names_of old) function.text) infallible at)) term new table es table' es'
+    Interns function.text old new
+    × ReadsKind lacks_extractor (taken_by_this (external_extractor (number (names_of old) function.text) infallible at)) term new table es table' es'
 ReadsExtern (extern_const name ty at) old table es new table' es' = (es' ≡ es) × (new ≡ old) × (table' ≡ table)
 
 -- a definition is read, if it is external

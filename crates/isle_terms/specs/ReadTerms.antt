@@ -19,12 +19,14 @@ use Rattle.isle_terms.specs.Signing.{with_ids, declared_so_far, AreRightDeclarat
 
 -- all terms stand, each found by its name, and these names were met; of the declared ones it is known so far what makes them
 -- and what takes them apart
-pub record Stand (e : TypesRead) (defs : List Definition) (met : List (List ℕ)) (made : List ℕ → Option ConstructorEntry) (taken : List ℕ → Option ExtractorEntry) (env : TypeEnv) (table : TermTable) : Type 0 where
+pub record Stand (e : TypesRead) (defs : List Definition) (met : List (List ℕ)) (made : List ℕ → Option ConstructorEntry)
+    (taken : List ℕ → Option ExtractorEntry) (env : TypeEnv) (table : TermTable) : Type 0 where
   pub names : names_of env ≡ with_names e.known.names met
   pub finds : Finds (names_of env) (term_at table) (place_among (term_names e.known defs))
   pub distinct : IsDistinct (term_names e.known defs)
   pub right : AreRightDeclarations e.known (decl_trees defs)
-  pub terms : term_views table.terms.items ≡ with_ids 0 (map (declared_so_far e.known (term_names_met e.known defs) made taken) (decl_trees defs) ++ flat_map terms_made e.known.types)
+  pub terms : term_views table.terms.items
+      ≡ with_ids 0 (map (declared_so_far e.known (term_names_met e.known defs) made taken) (decl_trees defs) ++ flat_map terms_made e.known.types)
 
 -- whether a term is a declared one
 abbrev pub is_declared_kind : TermKindEntry → Bool

@@ -149,7 +149,8 @@ has_template (declared_term flags constructor_kind extractor_kind) = is_template
 
 -- each term that names one has a template
 abbrev pub HaveTemplates : TermTable → List (Vec TermId Global) → Type 0
-HaveTemplates table callees = (t u : ℕ) (entry : TermEntry) → Contains (callees_of callees t) u → slice_get (term_views table.terms.items) t ≡ Some entry → has_template entry.kind ≡ true
+HaveTemplates table callees =
+    (t u : ℕ) (entry : TermEntry) → Contains (callees_of callees t) u → slice_get (term_views table.terms.items) t ≡ Some entry → has_template entry.kind ≡ true
 
 -- each way from the terms below this one ends, if those that name terms have templates
 abbrev pub EndsBelow : TermTable → List (Vec TermId Global) → ℕ → Type 0

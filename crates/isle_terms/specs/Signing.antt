@@ -32,7 +32,8 @@ SoFarByTypes k group defs es Right = ((es ≡ []) × Right) ⊎ FirstBreaksGroup
 
 -- names were met and all else of the types stays; looked-up terms are terms of the table; each error says that
 -- something isn't right; and where there is no error the table is right so far
-pub record ReadsTerms (e : TypesRead) (group : TermGroup) (defs : List Definition) (Right : TypeEnv → TermTable → Type 0) (env : TypeEnv) (table : TermTable) (es : List Error) : Type 0 where
+pub record ReadsTerms (e : TypesRead) (group : TermGroup) (defs : List Definition) (Right : TypeEnv → TermTable → Type 0)
+    (env : TypeEnv) (table : TermTable) (es : List Error) : Type 0 where
   pub left : IsLeftByRefusal e (environment_view env)
   pub within : IsWithin table
   pub ill_typed : AreIllTyped es
@@ -94,7 +95,8 @@ IsWrongDeclaration d old new table =
     IsTakenByTerm (number (names_of old) d.term.text) table ⊎ (((d.multi && d.partial) ≡ true) ⊎ HasUnknown d new)
 
 -- a declaration is read: its name is met, and it becomes a term or something is wrong with it
-pub record ReadsDeclaration (d : DeclTree) (old : TypeEnv) (table : TermTable) (es : List Error) (new : TypeEnv) (table' : TermTable) (es' : List Error) : Type 0 where
+pub record ReadsDeclaration (d : DeclTree) (old : TypeEnv) (table : TermTable) (es : List Error)
+    (new : TypeEnv) (table' : TermTable) (es' : List Error) : Type 0 where
   pub interns : Interns d.term.text old new
   pub reads : NotesIfWrong es es' (Declares d old new table table') (IsWrongDeclaration d old new table)
 

@@ -138,11 +138,13 @@ pub record IsWrongOfTerm (x : ExtractorTree) (env : TypeEnv) (old : TermTable) :
   pub wrong : IsWrongTemplate x id env old
 
 -- an internal extractor is read; the reading ends where it isn't that of a term
-abbrev pub ReadsExtractor : ExtractorTree → TypeEnv → TermTable → List (Vec TermId Global) → List Error → TermTable → List (Vec TermId Global) → List Error → Bool → Type 0
+abbrev pub ReadsExtractor : ExtractorTree → TypeEnv → TermTable → List (Vec TermId Global) → List Error
+    → TermTable → List (Vec TermId Global) → List Error → Bool → Type 0
 ReadsExtractor x env old callees es new callees' es' goes_on =
     NotesIfWrong es es' ((goes_on ≡ true) × IsExtractor x env old new callees callees') ((term_of_name env old x.term ≡ None) ⊎ IsWrongOfTerm x env old)
 
 -- a definition is read, if it is an internal extractor
-abbrev pub ReadsIfTemplate : Definition → TypeEnv → TermTable → List (Vec TermId Global) → List Error → TermTable → List (Vec TermId Global) → List Error → Bool → Type 0
+abbrev pub ReadsIfTemplate : Definition → TypeEnv → TermTable → List (Vec TermId Global) → List Error
+    → TermTable → List (Vec TermId Global) → List Error → Bool → Type 0
 ReadsIfTemplate (extractor_definition x) env old callees es new callees' es' goes_on = ReadsExtractor x env old callees es new callees' es' goes_on
 ReadsIfTemplate d env old callees es new callees' es' goes_on = (es' ≡ es) × (new ≡ old) × (callees' ≡ callees) × (goes_on ≡ true)

@@ -65,16 +65,26 @@ pub data TermGroup : Type 0 where
 -- a definition, or a type that is known, breaks a condition of a group: an error on it stands at its positions. On an internal extractor
 -- that comes back to itself one stands at its pattern
 pub data BreaksGroup (k : KnownTypes) (defs : List Definition) : TermGroup → List Position → Type 0 where
-  by_declaration : (before after : List Definition) (d : DeclTree) → defs ≡ before ++ declaration d ∷ after → BreaksDeclaration k before d → BreaksGroup k defs of_signatures (definition_positions (declaration d))
-  by_made : (before after : List TypeEntry) (t : TypeEntry) → k.types ≡ before ++ t ∷ after → BreaksMade k defs before t → BreaksGroup k defs of_signatures (entry_positions t)
-  by_rule : (before after : List Definition) (r : RuleTree) → defs ≡ before ++ rule_definition r ∷ after → (HasDeclaredRoot defs r → ⊥) → BreaksGroup k defs of_definitions (definition_positions (rule_definition r))
-  by_extractor : (before after : List Definition) (x : ExtractorTree) → defs ≡ before ++ extractor_definition x ∷ after → BreaksExtractor k defs before x → BreaksGroup k defs of_definitions (definition_positions (extractor_definition x))
-  by_recursion : (x : ExtractorTree) → Contains (extractor_trees defs) x → Reaches defs x.term.text x.term.text → BreaksGroup k defs of_definitions (pattern_position x.template ∷ [])
-  by_converter : (before after : List Definition) (c : ConverterTree) → defs ≡ before ++ converter_definition c ∷ after → BreaksConverter k defs before c → BreaksGroup k defs of_converters (definition_positions (converter_definition c))
-  by_constructor : (before after : List Definition) (term function : Name) (at : Position) → defs ≡ before ++ extern_definition (extern_constructor term function at) ∷ after
-      → BreaksConstructor defs before (record { term = term; function = function }) → BreaksGroup k defs of_externs (definition_positions (extern_definition (extern_constructor term function at)))
-  by_external : (before after : List Definition) (t : ExternalTree) → defs ≡ before ++ extern_definition (extern_extractor t.term t.function t.at t.infallible) ∷ after
-      → BreaksExternal defs before t → BreaksGroup k defs of_externs (definition_positions (extern_definition (extern_extractor t.term t.function t.at t.infallible)))
+  by_declaration : (before after : List Definition) (d : DeclTree) → defs ≡ before ++ declaration d ∷ after → BreaksDeclaration k before d
+      → BreaksGroup k defs of_signatures (definition_positions (declaration d))
+  by_made : (before after : List TypeEntry) (t : TypeEntry) → k.types ≡ before ++ t ∷ after → BreaksMade k defs before t
+      → BreaksGroup k defs of_signatures (entry_positions t)
+  by_rule : (before after : List Definition) (r : RuleTree) → defs ≡ before ++ rule_definition r ∷ after → (HasDeclaredRoot defs r → ⊥)
+      → BreaksGroup k defs of_definitions (definition_positions (rule_definition r))
+  by_extractor : (before after : List Definition) (x : ExtractorTree) → defs ≡ before ++ extractor_definition x ∷ after → BreaksExtractor k defs before x
+      → BreaksGroup k defs of_definitions (definition_positions (extractor_definition x))
+  by_recursion : (x : ExtractorTree) → Contains (extractor_trees defs) x → Reaches defs x.term.text x.term.text
+      → BreaksGroup k defs of_definitions (pattern_position x.template ∷ [])
+  by_converter : (before after : List Definition) (c : ConverterTree) → defs ≡ before ++ converter_definition c ∷ after → BreaksConverter k defs before c
+      → BreaksGroup k defs of_converters (definition_positions (converter_definition c))
+  by_constructor : (before after : List Definition) (term function : Name) (at : Position)
+      → defs ≡ before ++ extern_definition (extern_constructor term function at) ∷ after
+      → BreaksConstructor defs before (record { term = term; function = function })
+      → BreaksGroup k defs of_externs (definition_positions (extern_definition (extern_constructor term function at)))
+  by_external : (before after : List Definition) (t : ExternalTree)
+      → defs ≡ before ++ extern_definition (extern_extractor t.term t.function t.at t.infallible) ∷ after
+      → BreaksExternal defs before t
+      → BreaksGroup k defs of_externs (definition_positions (extern_definition (extern_extractor t.term t.function t.at t.infallible)))
 
 -- a condition of some group is broken
 pub record BreaksTerms (k : KnownTypes) (defs : List Definition) (positions : List Position) : Type 0 where

@@ -50,5 +50,7 @@ TellsOfConverter k defs before _ es = es ≡ []
 pub data AreErrorsOfTerms (e : TypesRead) (defs : List Definition) (errors : List Error) : Type 0 where
   in_signatures : FirstBreaksGroup e.known of_signatures defs errors → AreErrorsOfTerms e defs errors
   in_definitions : AreRightSignatures e defs → FirstBreaksGroup e.known of_definitions defs errors → AreErrorsOfTerms e defs errors
-  in_converters : AreRightSignatures e defs → AreRightDefinitions e defs → FirstBreaksGroup e.known of_converters defs errors → Told (TellsOfConverter e.known defs) defs errors → AreErrorsOfTerms e defs errors
-  in_externs : AreRightSignatures e defs → AreRightDefinitions e defs → AreRightConverters e defs → FirstBreaksGroup e.known of_externs defs errors → AreErrorsOfTerms e defs errors
+  in_converters : AreRightSignatures e defs → AreRightDefinitions e defs → FirstBreaksGroup e.known of_converters defs errors
+      → Told (TellsOfConverter e.known defs) defs errors → AreErrorsOfTerms e defs errors
+  in_externs : AreRightSignatures e defs → AreRightDefinitions e defs → AreRightConverters e defs
+      → FirstBreaksGroup e.known of_externs defs errors → AreErrorsOfTerms e defs errors

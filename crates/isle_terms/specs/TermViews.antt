@@ -25,10 +25,18 @@ extractor_view (ExternalExtractor name infallible pos) = external_extractor name
 abbrev pub kind_view : TermKind → TermKindEntry
 kind_view (EnumVariant variant) = variant_term variant.0
 kind_view Struct = struct_term
-kind_view (Decl flags constructor_kind extractor_kind) = declared_term (flags_view flags) (option_map constructor_view constructor_kind) (option_map extractor_view extractor_kind)
+kind_view (Decl flags constructor_kind extractor_kind) =
+    declared_term (flags_view flags) (option_map constructor_view constructor_kind) (option_map extractor_view extractor_kind)
 
 abbrev pub term_view : Term → TermEntry
-term_view t = record { id = t.id.0; at = position t.decl_pos; name = t.name.0; arg_tys = map (λ ty. ty.0) t.arg_tys.items; ret_ty = t.ret_ty.0; kind = kind_view t.kind }
+term_view t = record {
+  id = t.id.0;
+  at = position t.decl_pos;
+  name = t.name.0;
+  arg_tys = map (λ ty. ty.0) t.arg_tys.items;
+  ret_ty = t.ret_ty.0;
+  kind = kind_view t.kind;
+}
 
 abbrev pub term_views : List Term → List TermEntry
 term_views ts = map term_view ts

@@ -62,4 +62,5 @@ pub data TakesName (rules : List TypedRule) : List Position → Type 0 where
 
 -- the first term that nothing makes or takes apart: an error stands where it is declared
 pub data IsLeftUndefined (terms : List TermEntry) : List Position → Type 0 where
-  left_undefined : (before : List TermEntry) (term : TermEntry) (after : List TermEntry) → terms ≡ before ++ term ∷ after → AreDefined before → (IsTrue (is_defined_term term) → ⊥) → IsLeftUndefined terms (term.at ∷ [])
+  left_undefined : (before : List TermEntry) (term : TermEntry) (after : List TermEntry) → terms ≡ before ++ term ∷ after
+      → AreDefined before → (IsTrue (is_defined_term term) → ⊥) → IsLeftUndefined terms (term.at ∷ [])

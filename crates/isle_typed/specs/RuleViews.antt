@@ -15,7 +15,17 @@ abbrev pub iflet_view : IfLet → TypedIfLet
 iflet_view i = record { lhs = pattern_view i.lhs; rhs = expr_view i.rhs }
 
 abbrev pub rule_view : Rule → TypedRule
-rule_view r = record { id = r.id.0; root_term = r.root_term.0; args = pattern_views r.args.items; iflets = map iflet_view r.iflets.items; rhs = expr_view r.rhs; vars = map var_view r.vars.items; prio = r.prio; at = position r.pos; name = option_map (λ s. s.0) r.name }
+rule_view r = record {
+  id = r.id.0;
+  root_term = r.root_term.0;
+  args = pattern_views r.args.items;
+  iflets = map iflet_view r.iflets.items;
+  rhs = expr_view r.rhs;
+  vars = map var_view r.vars.items;
+  prio = r.prio;
+  at = position r.pos;
+  name = option_map (λ s. s.0) r.name;
+}
 
 abbrev pub rule_views : List Rule → List TypedRule
 rule_views rs = map rule_view rs

@@ -28,7 +28,8 @@ fn make<V: ExprVisitor, E: UsedTerms>(
     inputs: Vec<(V::ExprId, TypeId)>,
 ) -> Result<V::ExprId, VisitFault>
     requires { IsTrue (is_made_of (E.term_entries termenv.now) term.0 (length inputs.items)) }
-    ensures { Makes (expr_steps V.ExprVisitor) ty.0 term.0 (typed_inputs inputs.items) (slice_get (E.term_entries termenv.now) term.0) visitor.old result visitor.new }
+    ensures { Makes (expr_steps V.ExprVisitor) ty.0 term.0 (typed_inputs inputs.items)
+        (slice_get (E.term_entries termenv.now) term.0) visitor.old result visitor.new }
 {
     match &termenv.used_term(term).kind {
         TermKind::EnumVariant { variant } => visitor.add_create_variant(inputs, ty, *variant),
@@ -90,7 +91,8 @@ impl Expr {
         vars: &BTreeMap<VarId, V::ExprId>,
     ) -> Result<V::ExprId, VisitFault>
         requires visitable { IsTrue (is_visitable_expr (E.term_entries termenv.now) (expr_view self.now) (bound_vars (by_number vars.now.entries))) }
-        ensures run { ExprRun no_memory (expr_steps V.ExprVisitor) (E.term_entries termenv.now) (expr_view self.now) (by_number vars.now.entries) visitor.old result visitor.new }
+        ensures run { ExprRun no_memory (expr_steps V.ExprVisitor) (E.term_entries termenv.now)
+            (expr_view self.now) (by_number vars.now.entries) visitor.old result visitor.new }
     {
         match self {
             Expr::Term(ty, term, args) => {
@@ -123,7 +125,8 @@ fn visit_inputs<V: ExprVisitor, E: UsedTerms>(
 ) -> Result<Vec<(V::ExprId, TypeId)>, VisitFault>
     requires visitable { IsTrue (are_visitable_args (E.term_entries termenv.now) (expr_parts (expr_views args.now)) (bound_vars (by_number vars.now.entries))) }
     requires count { length tys.now ≡ length args.now }
-    ensures run { InputsRun no_memory (expr_steps V.ExprVisitor) (E.term_entries termenv.now) (expr_parts (expr_views args.now)) (type_numbers tys.now) (by_number vars.now.entries) visitor.old (inputs_of result) visitor.new }
+    ensures run { InputsRun no_memory (expr_steps V.ExprVisitor) (E.term_entries termenv.now) (expr_parts (expr_views args.now))
+        (type_numbers tys.now) (by_number vars.now.entries) visitor.old (inputs_of result) visitor.new }
     ensures count { IfOk result (λ inputs. vec_len inputs ≡ length args.now) }
 {
     let mut inputs = Vec::new(alloc);
@@ -144,7 +147,8 @@ fn visit_lets<V: ExprVisitor, E: UsedTerms>(
     vars: &mut BTreeMap<VarId, V::ExprId>,
 ) -> Result<(), VisitFault>
     requires { IsTrue (are_visitable_lets (E.term_entries termenv.now) (let_parts (let_views bindings.now)) (bound_vars (by_number vars.old.entries))) }
-    ensures { LetsRun no_memory (expr_steps V.ExprVisitor) (E.term_entries termenv.now) (let_parts (let_views bindings.now)) (by_number vars.old.entries) visitor.old (answering (by_number vars.new.entries) result) visitor.new }
+    ensures { LetsRun no_memory (expr_steps V.ExprVisitor) (E.term_entries termenv.now) (let_parts (let_views bindings.now))
+        (by_number vars.old.entries) visitor.old (answering (by_number vars.new.entries) result) visitor.new }
 {
     for binding in bindings {
         let value = binding.2.visit(alloc, visitor, termenv, vars)?;

@@ -73,7 +73,8 @@ fn part_ids<V: PatternVisitor, E: UsedTerms>(
     parts: &[Pattern],
 ) -> Result<Vec<V::PatternId>, VisitFault>
     requires { IsTrue (opens_into (E.term_entries termenv.now) term.0 (length parts.now)) }
-    ensures steps { Opens no_memory (pattern_steps V.PatternVisitor) ty.0 term.0 (part_types (pattern_parts (pattern_views parts.now))) input (slice_get (E.term_entries termenv.now) term.0) visitor.old (listed result) visitor.new }
+    ensures steps { Opens no_memory (pattern_steps V.PatternVisitor) ty.0 term.0 (part_types (pattern_parts (pattern_views parts.now))) input
+        (slice_get (E.term_entries termenv.now) term.0) visitor.old (listed result) visitor.new }
     ensures count { IfOk result (λ ids. vec_len ids ≡ length parts.now) }
 {
     let used = termenv.used_term(term);
@@ -129,7 +130,8 @@ impl Pattern {
         vars: &mut BTreeMap<VarId, V::PatternId>,
     ) -> Result<(), VisitFault>
         requires visitable { IsTrue (is_visitable_pattern (E.term_entries termenv.now) (pattern_view self.now) (bound_vars (by_number vars.old.entries))) }
-        ensures run { PatternRun no_memory (pattern_steps V.PatternVisitor) (E.term_entries termenv.now) (pattern_view self.now) input (visitor.old, by_number vars.old.entries) result (visitor.new, by_number vars.new.entries) }
+        ensures run { PatternRun no_memory (pattern_steps V.PatternVisitor) (E.term_entries termenv.now)
+            (pattern_view self.now) input (visitor.old, by_number vars.old.entries) result (visitor.new, by_number vars.new.entries) }
     {
         match self {
             Pattern::BindPattern(_, var, of) => {
@@ -160,9 +162,11 @@ fn visit_parts<V: PatternVisitor, E: UsedTerms>(
     termenv: &E,
     vars: &mut BTreeMap<VarId, V::PatternId>,
 ) -> Result<(), VisitFault>
-    requires visitable { IsTrue (are_visitable_parts (E.term_entries termenv.now) (pattern_parts (pattern_views parts.now)) (bound_vars (by_number vars.old.entries))) }
+    requires visitable { IsTrue (are_visitable_parts (E.term_entries termenv.now)
+        (pattern_parts (pattern_views parts.now)) (bound_vars (by_number vars.old.entries))) }
     requires count { length ids.now ≡ length parts.now }
-    ensures { PartsRun no_memory (pattern_steps V.PatternVisitor) (E.term_entries termenv.now) (pattern_parts (pattern_views parts.now)) ids.now (visitor.old, by_number vars.old.entries) result (visitor.new, by_number vars.new.entries) }
+    ensures { PartsRun no_memory (pattern_steps V.PatternVisitor) (E.term_entries termenv.now) (pattern_parts (pattern_views parts.now)) ids.now
+        (visitor.old, by_number vars.old.entries) result (visitor.new, by_number vars.new.entries) }
 {
     for (i, part) in parts.iter().enumerate() {
         part.visit(alloc, visitor, ids[i], termenv, vars)?;
@@ -181,7 +185,8 @@ fn visit_each<V: PatternVisitor, E: UsedTerms>(
     vars: &mut BTreeMap<VarId, V::PatternId>,
 ) -> Result<(), VisitFault>
     requires { IsTrue (are_visitable_parts (E.term_entries termenv.now) (pattern_parts (pattern_views parts.now)) (bound_vars (by_number vars.old.entries))) }
-    ensures { EachRun no_memory (pattern_steps V.PatternVisitor) (E.term_entries termenv.now) (pattern_parts (pattern_views parts.now)) input (visitor.old, by_number vars.old.entries) result (visitor.new, by_number vars.new.entries) }
+    ensures { EachRun no_memory (pattern_steps V.PatternVisitor) (E.term_entries termenv.now) (pattern_parts (pattern_views parts.now)) input
+        (visitor.old, by_number vars.old.entries) result (visitor.new, by_number vars.new.entries) }
 {
     for part in parts {
         part.visit(alloc, visitor, input, termenv, vars)?;

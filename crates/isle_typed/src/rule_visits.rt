@@ -39,12 +39,14 @@ fn show_pattern<V: RuleVisitor, E: UsedTerms>(
     vars: Inputs<V>,
 ) -> Result<Inputs<V>, VisitFault>
     requires { IsTrue (is_visitable_pattern (E.term_entries termenv.now) (pattern_view pattern.now) (bound_vars (by_number vars.entries))) }
-    ensures { PatternCall no_memory (rule_steps V.RuleVisitor) (pattern_steps V.PatternVisitor.PatternVisitor) (expr_steps V.ExprVisitor.ExprVisitor) (E.term_entries termenv.now) (pattern_view pattern.now) input (by_number vars.entries) visitor.old (entries_of result) visitor.new }
+    ensures { PatternCall no_memory (rule_steps V.RuleVisitor) (pattern_steps V.PatternVisitor.PatternVisitor) (expr_steps V.ExprVisitor.ExprVisitor)
+        (E.term_entries termenv.now) (pattern_view pattern.now) input (by_number vars.entries) visitor.old (entries_of result) visitor.new }
 {
     visitor.add_pattern(
         move |inner: &mut V::PatternVisitor| -> Result<Inputs<V>, VisitFault>
             requires { IsTrue (is_visitable_pattern (E.term_entries termenv.now) (pattern_view pattern.now) (bound_vars (by_number vars.entries))) }
-            ensures { lent_binding (PatternRun no_memory (pattern_steps V.PatternVisitor.PatternVisitor) (E.term_entries termenv.entry.now) (pattern_view pattern.entry.now) input) (by_number vars.entries) inner.old (entries_of result) inner.new }
+            ensures { lent_binding (PatternRun no_memory (pattern_steps V.PatternVisitor.PatternVisitor) (E.term_entries termenv.entry.now)
+                (pattern_view pattern.entry.now) input) (by_number vars.entries) inner.old (entries_of result) inner.new }
         {
             let mut vars = vars;
             pattern.visit(alloc, inner, input, termenv, &mut vars)?;
@@ -78,7 +80,8 @@ fn show_expr<V: RuleVisitor, E: UsedTerms>(
     values: &Values<V>,
 ) -> Result<V::Expr, VisitFault>
     requires { IsTrue (is_visitable_expr (E.term_entries termenv.now) (expr_view expr.now) (bound_vars (by_number values.now.entries))) }
-    ensures { ExprCall no_memory (rule_steps V.RuleVisitor) (pattern_steps V.PatternVisitor.PatternVisitor) (expr_steps V.ExprVisitor.ExprVisitor) (E.term_entries termenv.now) (expr_view expr.now) (by_number values.now.entries) visitor.old result visitor.new }
+    ensures { ExprCall no_memory (rule_steps V.RuleVisitor) (pattern_steps V.PatternVisitor.PatternVisitor) (expr_steps V.ExprVisitor.ExprVisitor)
+        (E.term_entries termenv.now) (expr_view expr.now) (by_number values.now.entries) visitor.old result visitor.new }
 {
     visitor.add_expr(
         |inner: &mut V::ExprVisitor| -> Result<
@@ -86,7 +89,8 @@ fn show_expr<V: RuleVisitor, E: UsedTerms>(
             VisitFault,
         >
             requires { IsTrue (is_visitable_expr (E.term_entries termenv.now) (expr_view expr.now) (bound_vars (by_number values.now.entries))) }
-            ensures { lent_valuing (ExprRun no_memory (expr_steps V.ExprVisitor.ExprVisitor) (E.term_entries termenv.entry.now) (expr_view expr.entry.now) (by_number values.entry.now.entries)) (expr_type (expr_view expr.entry.now)) inner.old (visited_of result) inner.new }
+            ensures { lent_valuing (ExprRun no_memory (expr_steps V.ExprVisitor.ExprVisitor) (E.term_entries termenv.entry.now) (expr_view expr.entry.now)
+                (by_number values.entry.now.entries)) (expr_type (expr_view expr.entry.now)) inner.old (visited_of result) inner.new }
         {
             let value = expr.visit(alloc, inner, termenv, values)?;
             Ok(VisitedExpr {
@@ -106,7 +110,8 @@ fn visit_value<V: RuleVisitor, E: UsedTerms>(
     vars: &Inputs<V>,
 ) -> Result<V::Expr, VisitFault>
     requires { IsTrue (is_visitable_expr (E.term_entries termenv.now) (expr_view expr.now) (bound_vars (by_number vars.now.entries))) }
-    ensures { ValueRun no_memory (rule_steps V.RuleVisitor) (pattern_steps V.PatternVisitor.PatternVisitor) (expr_steps V.ExprVisitor.ExprVisitor) (E.term_entries termenv.now) (expr_view expr.now) (by_number vars.now.entries) visitor.old result visitor.new }
+    ensures { ValueRun no_memory (rule_steps V.RuleVisitor) (pattern_steps V.PatternVisitor.PatternVisitor) (expr_steps V.ExprVisitor.ExprVisitor)
+        (E.term_entries termenv.now) (expr_view expr.now) (by_number vars.now.entries) visitor.old result visitor.new }
 {
     let values = exchange(alloc, visitor, vars)?;
     show_expr(alloc, visitor, expr, termenv, &values)
@@ -122,7 +127,8 @@ fn visit_args<V: RuleVisitor, E: UsedTerms>(
 ) -> Result<Inputs<V>, VisitFault>
     requires visitable { IsTrue (are_visitable_list (E.term_entries termenv.now) (pattern_views args.now) []) }
     requires count { length tys.now ≡ length args.now }
-    ensures { ArgsRun no_memory (rule_steps V.RuleVisitor) (pattern_steps V.PatternVisitor.PatternVisitor) (expr_steps V.ExprVisitor.ExprVisitor) (E.term_entries termenv.now) (pattern_views args.now) (type_numbers tys.now) 0 [] visitor.old (entries_of result) visitor.new }
+    ensures { ArgsRun no_memory (rule_steps V.RuleVisitor) (pattern_steps V.PatternVisitor.PatternVisitor) (expr_steps V.ExprVisitor.ExprVisitor)
+        (E.term_entries termenv.now) (pattern_views args.now) (type_numbers tys.now) 0 [] visitor.old (entries_of result) visitor.new }
 {
     let mut vars = BTreeMap::new(alloc);
     for (i, arg) in args.iter().enumerate() {
@@ -141,7 +147,8 @@ fn visit_iflets<V: RuleVisitor, E: UsedTerms>(
     vars: Inputs<V>,
 ) -> Result<Inputs<V>, VisitFault>
     requires { IsTrue (are_visitable_iflets (E.term_entries termenv.now) (map iflet_view iflets.now) (bound_vars (by_number vars.entries))) }
-    ensures { IfLetsRun no_memory (rule_steps V.RuleVisitor) (pattern_steps V.PatternVisitor.PatternVisitor) (expr_steps V.ExprVisitor.ExprVisitor) (E.term_entries termenv.now) (map iflet_view iflets.now) (by_number vars.entries) visitor.old (entries_of result) visitor.new }
+    ensures { IfLetsRun no_memory (rule_steps V.RuleVisitor) (pattern_steps V.PatternVisitor.PatternVisitor) (expr_steps V.ExprVisitor.ExprVisitor)
+        (E.term_entries termenv.now) (map iflet_view iflets.now) (by_number vars.entries) visitor.old (entries_of result) visitor.new }
 {
     let mut bound = vars;
     for iflet in iflets {
@@ -171,7 +178,8 @@ impl Rule {
         termenv: &E,
     ) -> Result<V::Expr, VisitFault>
         requires visitable { IsTrue (is_visitable_rule (E.term_entries termenv.now) (rule_view self.now)) }
-        ensures run { RuleRun no_memory (rule_steps V.RuleVisitor) (pattern_steps V.PatternVisitor.PatternVisitor) (expr_steps V.ExprVisitor.ExprVisitor) (E.term_entries termenv.now) (rule_view self.now) visitor.old result visitor.new }
+        ensures run { RuleRun no_memory (rule_steps V.RuleVisitor) (pattern_steps V.PatternVisitor.PatternVisitor)
+            (expr_steps V.ExprVisitor.ExprVisitor) (E.term_entries termenv.now) (rule_view self.now) visitor.old result visitor.new }
     {
         let tys = termenv.used_term(self.root_term).arg_tys.as_slice();
         let vars = visit_args(alloc, visitor, &self.args, tys, termenv)?;

@@ -87,7 +87,8 @@ impl Rule {
         requires name { HasIdentifier (names_of tyenv.now) (length files.now.names.items) (rule_view self.now) }
         requires text { HasIdentifier (names_of tyenv.now) (length files.now.texts.items) (rule_view self.now) }
         ensures { IfOk result (λ s. string_bytes s
-            ≡ identifier (names_of tyenv.now) (printed_line (map string_bytes files.now.names.items) (map string_bytes files.now.texts.items)) (rule_view self.now)) }
+            ≡ identifier (names_of tyenv.now)
+            (printed_line (map string_bytes files.now.names.items) (map string_bytes files.now.texts.items)) (rule_view self.now)) }
     {
         match self.name {
             Some(name) => String::from_str(alloc, tyenv.text_of(name)),

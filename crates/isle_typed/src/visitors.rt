@@ -301,7 +301,8 @@ pub trait RuleVisitor {
         ) -> Result<VisitedExpr<<Self::ExprVisitor as ExprVisitor>::ExprId>, VisitFault>
             + Drop,
         requires { F.IsAlwaysCallable visitor }
-        ensures { lent_run lend_expr_steps (λ l x s r t. take_expr_steps s l x.ty.0 x.value r t) leave_expr_steps (FnOnceReturnsAtMut F.FnOnce visitor) self.old result self.new }
+        ensures { lent_run lend_expr_steps (λ l x s r t. take_expr_steps s l x.ty.0 x.value r t) leave_expr_steps
+            (FnOnceReturnsAtMut F.FnOnce visitor) self.old result self.new }
     {
         self.with_expr(visitor)
     }

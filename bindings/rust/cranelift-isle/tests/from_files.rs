@@ -56,7 +56,7 @@ fn code_begins_with_attributes_by_default() {
 fn an_overlap_names_both_rules() {
     let errors = errors_of("overlap.isle");
     let help = "help: give one of the rules a greater priority, as (rule 1 ..), \
-        or make one of the patterns narrower";
+        or make one pattern narrower";
     assert_eq!(
         errors.errors,
         [Error {

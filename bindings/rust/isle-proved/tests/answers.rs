@@ -64,7 +64,7 @@ fn errors_for_a_person_and_in_a_line() {
   | --------------------- overlaps rule `first` (priority 0)
   |
   = note: both match `(f 1)`
-  = help: give one of the rules a greater priority, as (rule 1 ..), or make one of the patterns narrower
+  = help: give one of the rules a greater priority, as (rule 1 ..), or make one pattern narrower
 
 ";
     assert_eq!(lower(&OVERLAP, Options::default()), wrong(told));
@@ -73,7 +73,7 @@ fn errors_for_a_person_and_in_a_line() {
     let line = "b.isle:2:1: error[overlap]: rules of the same priority match the same values; \
         overlaps rule `first` (priority 0) at a.isle:2:1; note: both match `(f 1)`; \
         help: give one of the rules a greater priority, as (rule 1 ..), \
-        or make one of the patterns narrower\n";
+        or make one pattern narrower\n";
     assert_eq!(lower(&OVERLAP, written(Format::Line)), wrong(line));
     assert_eq!(compile(&OVERLAP, written(Format::Line)), wrong(line));
 }

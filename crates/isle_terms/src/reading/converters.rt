@@ -28,12 +28,15 @@ impl TermTable {
     ) -> Result<(), AllocError>
         ghost read: { TypesRead }
         requires readable { AreReadable read }
-        requires start { ReadsTerms read of_converters (definition_views defs.now) (ConvertersRead read (definition_views defs.now) []) tyenv.now self.old errors.old.items }
+        requires start { ReadsTerms read of_converters (definition_views defs.now)
+            (ConvertersRead read (definition_views defs.now) []) tyenv.now self.old errors.old.items }
         requires none { errors.old.items ≡ [] }
-        ensures reads { OnOk result (ReadsTerms read of_converters (definition_views defs.now) (ConvertersRead read (definition_views defs.now) (definition_views defs.now)) tyenv.now self.new errors.new.items) }
+        ensures reads { OnOk result (ReadsTerms read of_converters (definition_views defs.now)
+            (ConvertersRead read (definition_views defs.now) (definition_views defs.now)) tyenv.now self.new errors.new.items) }
         ensures places { OnOk result (NotesAt (positions_of (definition_views defs.now)) errors.old.items errors.new.items) }
         ensures terms { self.new.terms ≡ self.old.terms }
-        ensures told { OnOk result (NotesEach (TellsOfConverter read.known (definition_views defs.now)) (definition_views defs.now) errors.old.items errors.new.items) }
+        ensures told { OnOk result (NotesEach (TellsOfConverter read.known (definition_views defs.now))
+            (definition_views defs.now) errors.old.items errors.new.items) }
     {
         for def in defs {
             self.read_if_converter(tyenv, errors, def)?;

@@ -35,9 +35,11 @@ impl TermTable {
     ) -> Result<(), AllocError>
         ghost read: { TypesRead }
         requires readable { AreReadable read }
-        requires start { ReadsTerms read of_externs (definition_views defs.now) (ExternsRead read (definition_views defs.now) []) tyenv.old self.old errors.old.items }
+        requires start { ReadsTerms read of_externs (definition_views defs.now)
+            (ExternsRead read (definition_views defs.now) []) tyenv.old self.old errors.old.items }
         ensures left { IsLeftByRefusal read (environment_view tyenv.new) }
-        ensures reads { OnOk result (ReadsTerms read of_externs (definition_views defs.now) (ExternsRead read (definition_views defs.now) (definition_views defs.now)) tyenv.new self.new errors.new.items) }
+        ensures reads { OnOk result (ReadsTerms read of_externs (definition_views defs.now)
+            (ExternsRead read (definition_views defs.now) (definition_views defs.now)) tyenv.new self.new errors.new.items) }
         ensures places { OnOk result (NotesAt (positions_of (definition_views defs.now) ++ table_positions self.old) errors.old.items errors.new.items) }
         ensures placed { OnOk result (IsPlacedAmong (positions_of (definition_views defs.now) ++ table_positions self.old) self.new) }
     {
@@ -117,7 +119,8 @@ impl TermTable {
     ) -> Result<(), AllocError>
         requires { IsWithin self.old }
         ensures within { OnOk result (IsWithin self.new) }
-        ensures reads { OnOk result (ReadsKind lacks_constructor (made_by_this (external_constructor name.0)) (name_view term.now) tyenv.now self.old errors.old.items self.new errors.new.items) }
+        ensures reads { OnOk result (ReadsKind lacks_constructor (made_by_this (external_constructor name.0))
+            (name_view term.now) tyenv.now self.old errors.old.items self.new errors.new.items) }
         ensures places { OnOk result (NotesAt (position pos ∷ []) errors.old.items errors.new.items) }
         ensures placed { OnOk result (IsPlacedAmong (table_positions self.old) self.new) }
     {
@@ -144,7 +147,8 @@ impl TermTable {
     ) -> Result<(), AllocError>
         requires { IsWithin self.old }
         ensures within { OnOk result (IsWithin self.new) }
-        ensures reads { OnOk result (ReadsKind lacks_extractor (taken_by_this (external_extractor name.0 infallible (position pos))) (name_view term.now) tyenv.now self.old errors.old.items self.new errors.new.items) }
+        ensures reads { OnOk result (ReadsKind lacks_extractor (taken_by_this (external_extractor name.0 infallible (position pos)))
+            (name_view term.now) tyenv.now self.old errors.old.items self.new errors.new.items) }
         ensures places { OnOk result (NotesAt (position pos ∷ table_positions self.old) errors.old.items errors.new.items) }
         ensures begins { OnOk result (FirstStandsAt (position pos ∷ []) errors.old.items errors.new.items) }
         ensures placed { OnOk result (IsPlacedAmong (position pos ∷ table_positions self.old) self.new) }

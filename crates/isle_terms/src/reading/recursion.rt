@@ -51,7 +51,8 @@ impl TermTable {
         callees: &[Vec<TermId>],
     ) -> Result<(), AllocError>
         requires { AreCallees self.now callees.now }
-        ensures notes { OnOk result (NotesIfWrong errors.old.items errors.new.items (EndsBelow self.now callees.now (length callees.now)) (NotesReturn self.now callees.now errors.old.items errors.new.items)) }
+        ensures notes { OnOk result (NotesIfWrong errors.old.items errors.new.items
+            (EndsBelow self.now callees.now (length callees.now)) (NotesReturn self.now callees.now errors.old.items errors.new.items)) }
         ensures places { OnOk result (NotesAt (table_positions self.now) errors.old.items errors.new.items) }
     {
         let mut search = Search::new(*errors.allocator(), callees.len())?;
@@ -75,7 +76,8 @@ impl TermTable {
         requires root { root.0 < length callees.now }
         requires findings { AreFindings callees.now root.0 search.old }
         ensures findings { OnOk result (AreFindings callees.now (root.0 + 1) search.new) }
-        ensures notes { OnOk result (NotesIfWrong errors.old.items errors.new.items (HaveTemplates self.now callees.now → HasEnd callees.now root.0) (NotesReturn self.now callees.now errors.old.items errors.new.items)) }
+        ensures notes { OnOk result (NotesIfWrong errors.old.items errors.new.items
+            (HaveTemplates self.now callees.now → HasEnd callees.now root.0) (NotesReturn self.now callees.now errors.old.items errors.new.items)) }
         ensures places { OnOk result (NotesAt (table_positions self.now) errors.old.items errors.new.items) }
     {
         let Some(repeated) = search.walk(callees, root)? else {

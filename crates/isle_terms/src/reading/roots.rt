@@ -28,8 +28,10 @@ impl TermTable {
     ) -> Result<(), AllocError>
         ghost read: { TypesRead }
         requires readable { AreReadable read }
-        requires start { ReadsTerms read of_definitions (definition_views defs.now) (RootsRead read (definition_views defs.now) []) tyenv.now self.old errors.old.items }
-        ensures reads { OnOk result (ReadsTerms read of_definitions (definition_views defs.now) (RootsRead read (definition_views defs.now) (definition_views defs.now)) tyenv.now self.new errors.new.items) }
+        requires start { ReadsTerms read of_definitions (definition_views defs.now)
+            (RootsRead read (definition_views defs.now) []) tyenv.now self.old errors.old.items }
+        ensures reads { OnOk result (ReadsTerms read of_definitions (definition_views defs.now)
+            (RootsRead read (definition_views defs.now) (definition_views defs.now)) tyenv.now self.new errors.new.items) }
         ensures places { OnOk result (NotesAt (positions_of (definition_views defs.now)) errors.old.items errors.new.items) }
         ensures placed { OnOk result (IsPlacedAmong (table_positions self.old) self.new) }
     {

@@ -97,11 +97,15 @@ impl TermTable {
     ) -> Result<(), AllocError>
         ghost read: { TypesRead }
         requires readable { AreReadable read }
-        requires start { ReadsTerms read of_signatures (definition_views defs.now) (Declaring read (definition_views defs.now) []) tyenv.old self.old errors.old.items }
+        requires start { ReadsTerms read of_signatures (definition_views defs.now)
+            (Declaring read (definition_views defs.now) []) tyenv.old self.old errors.old.items }
         ensures left { IsLeftByRefusal read (environment_view tyenv.new) }
-        ensures reads { OnOk result (ReadsTerms read of_signatures (definition_views defs.now) (RootsRead read (definition_views defs.now) []) tyenv.new self.new errors.new.items) }
-        ensures places { OnOk result (NotesAt ((positions_of (definition_views defs.now) ++ types_positions read.known.types) ++ table_positions self.old) errors.old.items errors.new.items) }
-        ensures placed { OnOk result (IsPlacedAmong ((positions_of (definition_views defs.now) ++ types_positions read.known.types) ++ table_positions self.old) self.new) }
+        ensures reads { OnOk result (ReadsTerms read of_signatures (definition_views defs.now)
+            (RootsRead read (definition_views defs.now) []) tyenv.new self.new errors.new.items) }
+        ensures places { OnOk result (NotesAt
+            ((positions_of (definition_views defs.now) ++ types_positions read.known.types) ++ table_positions self.old) errors.old.items errors.new.items) }
+        ensures placed { OnOk result (IsPlacedAmong
+            ((positions_of (definition_views defs.now) ++ types_positions read.known.types) ++ table_positions self.old) self.new) }
     {
         self.read_declarations(tyenv, errors, defs)?;
         self.add_made_terms(tyenv, errors)
@@ -116,8 +120,10 @@ impl TermTable {
     ) -> Result<(), AllocError>
         ghost read: { TypesRead }
         requires readable { AreReadable read }
-        requires start { ReadsTerms read of_definitions (definition_views defs.now) (RootsRead read (definition_views defs.now) []) tyenv.now self.old errors.old.items }
-        ensures reads { OnOk result (ReadsTerms read of_definitions (definition_views defs.now) (ExtractorsRead read (definition_views defs.now)) tyenv.now self.new errors.new.items) }
+        requires start { ReadsTerms read of_definitions (definition_views defs.now)
+            (RootsRead read (definition_views defs.now) []) tyenv.now self.old errors.old.items }
+        ensures reads { OnOk result (ReadsTerms read of_definitions (definition_views defs.now)
+            (ExtractorsRead read (definition_views defs.now)) tyenv.now self.new errors.new.items) }
         ensures places { OnOk result (NotesAt (positions_of (definition_views defs.now) ++ table_positions self.old) errors.old.items errors.new.items) }
         ensures placed { OnOk result (IsPlacedAmong (positions_of (definition_views defs.now) ++ table_positions self.old) self.new) }
     {

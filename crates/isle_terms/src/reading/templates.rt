@@ -34,8 +34,10 @@ impl TermTable {
     ) -> Result<(), AllocError>
         ghost read: { TypesRead }
         requires readable { AreReadable read }
-        requires start { ReadsTerms read of_definitions (definition_views defs.now) (RootsRead read (definition_views defs.now) (definition_views defs.now)) tyenv.now self.old errors.old.items }
-        ensures reads { OnOk result (ReadsTerms read of_definitions (definition_views defs.now) (ExtractorsRead read (definition_views defs.now)) tyenv.now self.new errors.new.items) }
+        requires start { ReadsTerms read of_definitions (definition_views defs.now)
+            (RootsRead read (definition_views defs.now) (definition_views defs.now)) tyenv.now self.old errors.old.items }
+        ensures reads { OnOk result (ReadsTerms read of_definitions (definition_views defs.now)
+            (ExtractorsRead read (definition_views defs.now)) tyenv.now self.new errors.new.items) }
         ensures places { OnOk result (NotesAt (positions_of (definition_views defs.now) ++ table_positions self.old) errors.old.items errors.new.items) }
         ensures placed { OnOk result (IsPlacedAmong (positions_of (definition_views defs.now) ++ table_positions self.old) self.new) }
     {
@@ -58,10 +60,12 @@ impl TermTable {
         ghost read: { TypesRead }
         requires readable { AreReadable read }
         requires callees { AreCallees self.old callees.old.items }
-        requires start { ReadsTerms read of_definitions (definition_views defs.now) (TemplatesRead read (definition_views defs.now) [] callees.old.items) tyenv.now self.old errors.old.items }
+        requires start { ReadsTerms read of_definitions (definition_views defs.now)
+            (TemplatesRead read (definition_views defs.now) [] callees.old.items) tyenv.now self.old errors.old.items }
         ensures callees { OnOk result (AreCallees self.new callees.new.items) }
         ensures reads { IfOk result (λ b. ReadsTerms read of_definitions (definition_views defs.now)
-            (λ env table. (b ≡ true) × TemplatesRead read (definition_views defs.now) (definition_views defs.now) callees.new.items env table) tyenv.now self.new errors.new.items) }
+            (λ env table. (b ≡ true)
+            × TemplatesRead read (definition_views defs.now) (definition_views defs.now) callees.new.items env table) tyenv.now self.new errors.new.items) }
         ensures places { OnOk result (NotesAt (positions_of (definition_views defs.now) ++ table_positions self.old) errors.old.items errors.new.items) }
         ensures placed { OnOk result (IsPlacedAmong (positions_of (definition_views defs.now) ++ table_positions self.old) self.new) }
     {
@@ -86,7 +90,8 @@ impl TermTable {
         requires callees { AreCallees self.old callees.old.items }
         ensures within { OnOk result (IsWithin self.new) }
         ensures callees { OnOk result (AreCallees self.new callees.new.items) }
-        ensures reads { IfOk result (λ b. ReadsIfTemplate (definition_view def.now) tyenv.now self.old callees.old.items errors.old.items self.new callees.new.items errors.new.items b) }
+        ensures reads { IfOk result (λ b. ReadsIfTemplate
+            (definition_view def.now) tyenv.now self.old callees.old.items errors.old.items self.new callees.new.items errors.new.items b) }
         ensures places { OnOk result (NotesAt (definition_positions (definition_view def.now) ++ table_positions self.old) errors.old.items errors.new.items) }
         ensures begins { OnOk result (FirstStandsAt (definition_positions (definition_view def.now)) errors.old.items errors.new.items) }
         ensures placed { OnOk result (IsPlacedAmong (definition_positions (definition_view def.now) ++ table_positions self.old) self.new) }
@@ -110,8 +115,10 @@ impl TermTable {
         requires callees { AreCallees self.old callees.old.items }
         ensures within { OnOk result (IsWithin self.new) }
         ensures callees { OnOk result (AreCallees self.new callees.new.items) }
-        ensures reads { IfOk result (λ b. ReadsExtractor (extractor_view extractor.now) tyenv.now self.old callees.old.items errors.old.items self.new callees.new.items errors.new.items b) }
-        ensures places { OnOk result (NotesAt (extractor_positions (extractor_view extractor.now) ++ table_positions self.old) errors.old.items errors.new.items) }
+        ensures reads { IfOk result (λ b. ReadsExtractor
+            (extractor_view extractor.now) tyenv.now self.old callees.old.items errors.old.items self.new callees.new.items errors.new.items b) }
+        ensures places { OnOk result (NotesAt
+            (extractor_positions (extractor_view extractor.now) ++ table_positions self.old) errors.old.items errors.new.items) }
         ensures begins { OnOk result (FirstStandsAt (extractor_positions (extractor_view extractor.now)) errors.old.items errors.new.items) }
         ensures placed { OnOk result (IsPlacedAmong (extractor_positions (extractor_view extractor.now) ++ table_positions self.old) self.new) }
     {
@@ -142,7 +149,8 @@ impl TermTable {
         ensures notes { OnOk result (NotesIfWrong errors.old.items errors.new.items
             (IsTemplate (extractor_view extractor.now) id.0 tyenv.now self.old self.new callees.old.items callees.new.items)
             (IsWrongTemplate (extractor_view extractor.now) id.0 tyenv.now self.old)) }
-        ensures places { OnOk result (NotesAt (extractor_positions (extractor_view extractor.now) ++ table_positions self.old) errors.old.items errors.new.items) }
+        ensures places { OnOk result (NotesAt
+            (extractor_positions (extractor_view extractor.now) ++ table_positions self.old) errors.old.items errors.new.items) }
         ensures begins { OnOk result (FirstStandsAt (extractor_positions (extractor_view extractor.now)) errors.old.items errors.new.items) }
         ensures placed { OnOk result (IsPlacedAmong (extractor_positions (extractor_view extractor.now) ++ table_positions self.old) self.new) }
     {

@@ -81,7 +81,8 @@ impl TermTable {
     ) -> Result<(), AllocError>
         requires { IsWithin self.old }
         ensures within { OnOk result (IsWithin self.new) }
-        ensures adds { OnOk result (AddsMade (map (λ v. v.full_name) (map variant_view variants.now)) (map (variant_as_term ty.0) (map variant_view variants.now)) self.old errors.old.items self.new errors.new.items) }
+        ensures adds { OnOk result (AddsMade (map (λ v. v.full_name) (map variant_view variants.now))
+            (map (variant_as_term ty.0) (map variant_view variants.now)) self.old errors.old.items self.new errors.new.items) }
         ensures places { OnOk result (NotesAt (position pos ∷ []) errors.old.items errors.new.items) }
         ensures placed { OnOk result (IsPlacedAmong (variants_positions (map variant_view variants.now) ++ table_positions self.old) self.new) }
     {
@@ -120,7 +121,8 @@ impl TermTable {
     ) -> Result<(), AllocError>
         requires { IsWithin self.old }
         ensures within { OnOk result (IsWithin self.new) }
-        ensures adds { OnOk result (AddsMade (name.0 ∷ []) (struct_as_term name.0 ty.0 (fields_view fields.now) (position pos) ∷ []) self.old errors.old.items self.new errors.new.items) }
+        ensures adds { OnOk result (AddsMade (name.0 ∷ [])
+            (struct_as_term name.0 ty.0 (fields_view fields.now) (position pos) ∷ []) self.old errors.old.items self.new errors.new.items) }
         ensures places { OnOk result (NotesAt (position pos ∷ []) errors.old.items errors.new.items) }
         ensures placed { OnOk result (IsPlacedAmong (position pos ∷ table_positions self.old) self.new) }
     {
@@ -142,7 +144,8 @@ impl TermTable {
     ) -> Result<(), AllocError>
         requires { IsWithin self.old }
         ensures within { OnOk result (IsWithin self.new) }
-        ensures pushes { OnOk result (PushesTerm name.0 (made_entry name.0 ret_ty.0 (fields_view fields.now) (position decl_pos) (kind_view kind)) self.old self.new) }
+        ensures pushes { OnOk result (PushesTerm name.0
+            (made_entry name.0 ret_ty.0 (fields_view fields.now) (position decl_pos) (kind_view kind)) self.old self.new) }
     {
         let id = TermId(self.terms.len());
         let arg_tys = fields.types(*self.terms.allocator())?;

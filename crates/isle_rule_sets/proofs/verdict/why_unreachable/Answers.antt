@@ -1,5 +1,6 @@
-use Rattle.std.proofs.Common.{◌≡◌, ◌↔◌, ℕ, true, false, List, [], Contains, ap, length, sum_by, sym, ◌∙◌, subst}
+use Rattle.std.proofs.Common.{◌≡◌, ◌↔◌, ℕ, true, false, List, Contains, ap, length, sum_by, sym, ◌∙◌, subst}
 use Rattle.std.specs.Prelude.{nat_eq}
+use Rattle.model.specs.visits.Demands.{with_sites}
 use Rattle.isle_disjointsets.specs.Partition.{IsPartition}
 use Rattle.isle_rule_sets.specs.Endings.{ClassEnds, GoOnForEver}
 use Rattle.isle_rule_sets.specs.FieldParts.{AreClosed, IsPartOfAny}
@@ -10,7 +11,7 @@ use Rattle.isle_rule_sets.specs.Verdicts.{class_head, conflict_in, unreachabilit
 use Rattle.isle_rule_sets.specs.declared.closure_classes.Part.{Part}
 use Rattle.isle_rule_sets.proofs.ClosureVerdicts.{verdict_is}
 use Rattle.isle_rule_sets.proofs.ListedParts.{views_sites}
-use Rattle.isle_rule_sets.proofs.NoEqualities.{agree_alone, closed_alone, ends_alone, no_sets}
+use Rattle.isle_rule_sets.proofs.NoEqualities.{no_sets, none_reported}
 use Rattle.isle_rule_sets.proofs.verdict.why_unreachable.Goals as goal
 
 pub returns : goal.returns
@@ -33,16 +34,7 @@ returns c before d v =
 
 pub returns-then-len-eq0 : goal.returns-then-len-eq0
 returns-then-len-eq0 c before d v =
-    let t = c.args.table.now in
-    let sites = table_sites t in
     let h = c.args.demanded.now in
-    let listed = c.in_ok-constraints.constraints.items in
-    let cs = constraint_views listed in
-    let told = c.in_ok-constraints.ensures in
-    let ascend = ap ascends (views_sites listed) ∙ told.ascending in
-    let parts = c.in_ok-parts.parts.items in
-    let all = subst (λ l. (p : Part) → Contains parts p ↔ IsPartOfAny sites (constraint_views l) p) c.deref.ensures.value c.in_ok-parts.ensures in
     let partition = subst (IsPartition nat_eq) c.sets.ensures c.len.ensures.partition in
     let none = no_sets h.equals partition (ap (sum_by length) (sym c.sets.ensures) ∙ sym c.len.ensures.value ∙ c.if-len-eq0.true) in
-    verdict_is sites c.requires.sources before d h v cs ascend told.asked parts all [] (closed_alone t c.requires cs parts all h.equals partition none) [] false
-    (sym (agree_alone t c.requires cs parts all ascend)) (λ e. absurd (cc)) (λ e. ends_alone t c.requires cs parts all)
+    sym (none_reported (table_sites c.args.table.now) before d h v none (with_sites before d.made))

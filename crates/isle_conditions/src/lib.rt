@@ -1,0 +1,10 @@
+//! What rules ask of values, by their patterns as they are written.
+#![tactic(auto)]
+
+pub mod conditions;
+pub mod forms;
+mod part_names;
+mod parts;
+mod parts_text;
+mod rule_parts;
+pub mod witness;

@@ -1,0 +1,140 @@
+//! Which rules a person means.
+
+use crate::names::name_of;
+use cranelift_isle::syntax::{Files, Rule};
+use isle_conditions::witness::term_of;
+use isle_printing::lines::depth_after;
+use std::alloc::{AllocError, Global};
+
+/// What a person calls rules, and where that may be a line, the piece of each file that the line is.
+pub(crate) struct Called<'a> {
+    called: &'a str,
+    // Where the line begins in a file, and where it ends.
+    lines: Vec<Option<(usize, usize)>>,
+}
+
+impl<'a> Drop for Called<'a> {
+    fn drop(self) {
+        let Called {
+            called: _,
+            lines: _,
+        } = self;
+    }
+}
+
+impl<'a> Called<'a> {
+    /// Rules may be called by their name, by that of their term, by the number of a line that they stand in, or by the end of
+    /// the path of their file, a colon and that number.
+    pub fn new(alloc: Global, files: &Files, called: &'a str) -> Result<Called<'a>, AllocError> {
+        let mut lines = Vec::new(alloc);
+        for (name, text) in files.names.iter().zip(&files.texts) {
+            lines.push(line_in(name, text, called))?;
+        }
+        Ok(Called { called, lines })
+    }
+
+    /// Whether a rule is so called.
+    pub fn is(&self, files: &Files, rule: &Rule) -> bool {
+        name_of(rule) == self.called || term_of(rule) == self.called || self.is_at(files, rule)
+    }
+
+    // Whether a rule stands in the line.
+    fn is_at(&self, files: &Files, rule: &Rule) -> bool {
+        let Some(Some((begin, end))) = self.lines.get(rule.pos.file) else {
+            return false;
+        };
+        let Some(text) = files.texts.get(rule.pos.file) else {
+            return false;
+        };
+        rule.pos.offset <= *end && end_of_form(text, rule.pos.offset) > *begin
+    }
+}
+
+// The piece of a file that a line is, if the file is meant and has that line.
+fn line_in(name: &str, text: &str, called: &str) -> Option<(usize, usize)> {
+    match called.rsplit_once(':') {
+        Some((path, number)) if is_end_of_path(name, path) => line_of(
+            text,
+            number.parse::<u64>().ok()?,
+        ),
+        Some(_) => None,
+        None => line_of(text, called.parse::<u64>().ok()?),
+    }
+}
+
+// Whether a path ends in another one.
+fn is_end_of_path(name: &str, end: &str) -> bool {
+    let end = end.strip_prefix("./").unwrap_or(end);
+    match name.strip_suffix(end) {
+        Some(before) => !end.is_empty() && (before.is_empty() || before.ends_with('/')),
+        None => false,
+    }
+}
+
+// The piece of a text that a line is.
+fn line_of(text: &str, wanted: u64) -> Option<(usize, usize)> {
+    let mut begin = 0usize;
+    let mut number = 1u64;
+    for line in text.split('\n') {
+        let end = begin.saturating_add(line.len());
+        if number == wanted {
+            return Some((begin, end));
+        }
+        begin = end.saturating_add(1);
+        number = number.saturating_add(1);
+    }
+    None
+}
+
+// Where a walk over a form is.
+#[derive(Clone, Copy, PartialEq, Eq)]
+enum Walk {
+    // In the form.
+    Text,
+    // In a comment up to the line's end.
+    Line,
+    // In so many comments that parentheses end.
+    Block(u64),
+}
+
+// Where the form in parentheses ends that begins at an offset.
+fn end_of_form(text: &str, offset: usize) -> usize {
+    let rest = text.get(offset..).unwrap_or("");
+    let mut walk = Walk::Text;
+    let mut depth = 0u64;
+    let mut last = ' ';
+    for (at, c) in rest.char_indices() {
+        let before = walk;
+        walk = after(before, last, c);
+        if walk == Walk::Text && before == Walk::Text {
+            depth = depth_after(depth, c);
+            if depth == 0 && c == ')' {
+                return offset.saturating_add(at).saturating_add(1);
+            }
+        } else if before == Walk::Text && walk != Walk::Line {
+            depth = depth.saturating_sub(1);
+        }
+        last = if walk == before { c } else { ' ' };
+    }
+    text.len()
+}
+
+// Where a walk is after a character, behind another one.
+fn after(walk: Walk, last: char, c: char) -> Walk {
+    match walk {
+        Walk::Text if c == ';' && last == '(' => Walk::Block(1),
+        Walk::Text if c == ';' => Walk::Line,
+        Walk::Text => Walk::Text,
+        Walk::Line if c == '\n' => Walk::Text,
+        Walk::Line => Walk::Line,
+        Walk::Block(depth) if last == '(' && c == ';' => Walk::Block(depth.saturating_add(1)),
+        Walk::Block(depth) if last == ';' && c == ')' => {
+            if depth <= 1 {
+                Walk::Text
+            } else {
+                Walk::Block(depth.saturating_sub(1))
+            }
+        }
+        Walk::Block(depth) => Walk::Block(depth),
+    }
+}

@@ -1,0 +1,47 @@
+//! Lines that are no wider than a screen.
+
+use crate::lines::{columns_of, push_spaces};
+use std::alloc::AllocError;
+
+// How many columns a line may have.
+const WIDTH: u64 = 100;
+
+/// Adds a text whose first line begins at a column, counted from 0. Where a line has no room for the next word, the text goes
+/// on in a new line, behind so many spaces. A word is never parted.
+pub fn push_wrapped(
+    out: &mut String,
+    column: u64,
+    indent: u64,
+    text: &str,
+) -> Result<(), AllocError> {
+    let mut column = column;
+    for (i, word) in text.split(' ').enumerate() {
+        let width = columns_of_word(word);
+        if i > 0 {
+            column = push_blank(out, column, width, indent)?;
+        }
+        out.push_str(word)?;
+        column = column.saturating_add(width);
+    }
+    Ok(())
+}
+
+// Adds the blank before a word of this width, or a new line if the word has no room. The column of the word.
+fn push_blank(out: &mut String, column: u64, width: u64, indent: u64) -> Result<u64, AllocError> {
+    if column.saturating_add(width) < WIDTH {
+        out.push(' ')?;
+        return Ok(column.saturating_add(1));
+    }
+    out.push('\n')?;
+    push_spaces(out, indent)?;
+    Ok(indent)
+}
+
+// How many columns a word takes.
+fn columns_of_word(word: &str) -> u64 {
+    let mut columns = 0u64;
+    for c in word.chars() {
+        columns = columns.saturating_add(columns_of(c));
+    }
+    columns
+}
