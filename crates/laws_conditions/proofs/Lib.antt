@@ -1,0 +1,13 @@
+mod Answers
+mod Assumptions
+mod Collected
+mod Followed
+mod plain
+mod SampleAnswers
+mod SampleConditions
+mod SampleLists
+mod SampleNumbers
+mod SamplePriorities
+mod SampleUnwraps
+mod TotalAnswers
+mod Valuations
