@@ -16,7 +16,7 @@ use Rattle.model.specs.rules.Typed.{TypedRule}
 use Rattle.model.specs.rules.CallsNoMulti.{CallsNoMulti}
 use Rattle.model.specs.rules.Picks.{part_of_some, field_of_variant, field_of_struct, site_content, HasContent}
 use Rattle.model.specs.sites.Sites.{Constraint, is_variant, is_struct, is_bool, is_int, is_prim, is_present, SiteTerm, bool_term, int_term, prim_term, argument, extractor_call, constructor_call, pick_of, variant_made, variant_field, struct_made, struct_field, some_made, some_part, tuple_part, no_site, SiteTerms}
-use Rattle.model.specs.visits.Demands.{demands_of, result_of, visit_rule}
+use Rattle.model.specs.visits.Demands.{demands_of, result_of}
 use Rattle.model.specs.sites.Closure.{DemandsHold, IsMet, AreEqual}
 use Rattle.model.specs.sites.Serves.{constant_site, asked_by, asked}
 use Rattle.model.specs.trees.Run.{content_fields, where_constant, all_one, as_value, from_value, part_at}

@@ -1,11 +1,11 @@
 -- Each result that a term whose rules make no impure call collects is as its spec says, where its rules' conditions are valid.
-use Rattle.std.proofs.Common.{◌≡◌, ℕ, Bool, true, false, List, [], ◌∷◌, Option, Some, None, is_some, All, Contains, flat_map, refl, sym, ap, subst, ◌∙◌, inl, inr}
+use Rattle.std.proofs.Common.{◌≡◌, ℕ, Bool, List, [], ◌∷◌, Option, Some, None, is_some, All, Contains, flat_map, refl, sym, ap, subst, ◌∙◌, inl, inr}
 use Rattle.std.proofs.lemmas.List.Elements.{All-nil, All-cons, All-contains}
 use Rattle.std.proofs.lemmas.List.Sorted.{All-permutation}
-use Rattle.model.specs.rules.Values.{Value, args_well_typed}
+use Rattle.model.specs.rules.Values.{Value}
 use Rattle.model.specs.rules.Meaning.{Content, Meaning}
 use Rattle.model.specs.rules.RightSide.{Eval, gives, ends, result_content, outcome_of}
-use Rattle.model.specs.rules.Program.{Program, is_partial, arg_types, rules_of}
+use Rattle.model.specs.rules.Program.{Program, is_partial, rules_of}
 use Rattle.model.specs.rules.Picks.{Pick, SitedVars, matches_under, eval_under, right_side_under, results_with, results_under, picks, site_content, bag}
 use Rattle.model.specs.rules.Typed.{TypedRule}
 use Rattle.model.specs.trees.Collects.{as_list, HasCollectedResults}
@@ -22,7 +22,6 @@ use Rattle.laws_typing.specs.WellTypedPrograms.{IsWellTypedProgram}
 use Rattle.laws_typing.proofs.WellTypedPrograms.{pure_iflets}
 use Rattle.laws_typing.proofs.WellTypedRules.{elaborated_programs_are_well_typed_lem}
 use Rattle.laws_conditions.specs.Specs.{Specs, IsRequired, IsProvided}
-use Rattle.laws_conditions.specs.Conditions.{condition}
 use Rattle.laws_conditions.specs.Meets.{Atoms, stands_for, content_as, IsResultAsSaid}
 use Rattle.laws_conditions.specs.ConditionLaws.{AreValid, IsCalled}
 use Rattle.laws_conditions.specs.CollectLaws.{MakesNoImpureCall, BagsAreAsSaid, CollectsAsSaid, LoweredTermsCollectAsSaid}
@@ -67,8 +66,8 @@ module _ (p : Program) (specs : Specs) (t : ℕ) (d : Atoms) (m : Meaning) (args
         v.0,
         v.1 ∙ ap (λ n. result_content (is_partial p n) v.0) root,
         subst (λ n. IsProvided specs n (args_as (under k)) (stands_for d v.0)) root
-        (shown.provides (content_as d (result_content (is_partial p r.root_term) v.0)) (stands_for d v.0) (λ u j. absurd (subst (λ l. In l u) none (in_from_contains (demands_of p r).impure u j)))
-        (told_site (under k) (result_of p r) (result_content (is_partial p r.root_term) v.0) (there ∙ ap Some v.1)) (result_is d (is_partial p r.root_term) v.0)),
+            (shown.provides (content_as d (result_content (is_partial p r.root_term) v.0)) (stands_for d v.0) (λ u j. absurd (subst (λ l. In l u) none (in_from_contains (demands_of p r).impure u j)))
+            (told_site (under k) (result_of p r) (result_content (is_partial p r.root_term) v.0) (there ∙ ap Some v.1)) (result_is d (is_partial p r.root_term) v.0)),
       )
 
   of_pick : (r : TypedRule) (k : Pick) (x : Content) → Contains (rules_of p t) r → Contains (picks p m args r) k → (o : Option SitedVars) → matches_under p m k r args ≡ o → In (results_with p m k r o) x → IsResultAsSaid p specs t d args x

@@ -1,14 +1,14 @@
 -- A rule that gives the answers of a multi call is right where the call's spec says so of each, and the premises hold of an example.
-use Rattle.std.proofs.Common.{◌≡◌, ◌==◌, ◌&&◌, ℕ, ℤ, zero, suc, Bool, true, false, List, [], ◌∷◌, Option, Some, None, slice_get, IsSomeAnd, IsTrue, Contains, refl, sym, ap, subst, ◌∙◌, inl, inr}
+use Rattle.std.proofs.Common.{◌≡◌, ◌==◌, ◌&&◌, ℕ, ℤ, zero, suc, Bool, true, false, List, [], ◌∷◌, Some, None, slice_get, IsSomeAnd, IsTrue, Contains, refl, sym, ap, subst, ◌∙◌, inl, inr}
 use Rattle.std.proofs.lemmas.Bool.{and_parts, cases_Bool, cond-true, cond-false, false≢true, eqb-true}
 use Rattle.std.proofs.lemmas.List.Elements.{All-nil}
 use Rattle.model.specs.lists.Tables.{TypeEntry, TermEntry, variant_term, struct_term}
 use Rattle.model.specs.lists.KnownTypes.{entry_id}
-use Rattle.model.specs.rules.Values.{Value, Values, no_value, value_and, values_eq, of_list}
+use Rattle.model.specs.rules.Values.{Values, no_value, value_and, values_eq, of_list}
 use Rattle.model.specs.rules.Meaning.{Content, one, many, pure_answer}
 use Rattle.model.specs.rules.Outcome.{then_option}
 use Rattle.model.specs.rules.Picks.{Pick, site_values}
-use Rattle.model.specs.rules.Program.{is_multi, is_partial, kind, rules_of}
+use Rattle.model.specs.rules.Program.{is_partial, kind, rules_of}
 use Rattle.model.specs.rules.Typed.{TypedRule}
 use Rattle.model.specs.sites.Serves.{asked, fits_constructor, Serves}
 use Rattle.model.specs.sites.Sites.{SiteTerm, bool_term, int_term, prim_term, argument, extractor_call, constructor_call, pick_of, SiteTerms, no_site_term, site_term_and}
@@ -17,12 +17,11 @@ use Rattle.model.proofs.Elements.{In, in_from_contains, contains_from_in, some_i
 use Rattle.model.proofs.Members.{in_cases, in_alone}
 use Rattle.model.proofs.Options.{then_some}
 use Rattle.model.proofs.ValuesEqual.{eq_all_means}
-use Rattle.laws_typing.specs.WellTypedPrograms.{IsWellTypedRule, IsWellTypedProgram}
-use Rattle.laws_conditions.specs.Words.{Denoted, DenotedList, no_denoted, denoted_and}
+use Rattle.laws_typing.specs.WellTypedPrograms.{IsWellTypedRule}
+use Rattle.laws_conditions.specs.Words.{Denoted, no_denoted, denoted_and}
 use Rattle.laws_conditions.specs.Specs.{word_of, IsSaid, IsProvided}
 use Rattle.laws_conditions.specs.Conditions.{Told, told, told_many, result_as, Valuation, denoted_at, denoted_at_each, is_of_type, IsConstructedAsSaid, IsAnsweredAsSaid, IsTypedAs, condition, IsAssumed, IsValid}
 use Rattle.laws_conditions.specs.Meets.{stand_for, content_as, answers_in, IsDenotation, MeetsSpecs}
-use Rattle.laws_conditions.specs.ConditionLaws.{IsCalled}
 use Rattle.laws_conditions.specs.Samples.{byte, x, a_term, rule_of, doubled}
 use Rattle.laws_conditions.specs.SampleCalls.{bytes_as, a_byte, hundred}
 use Rattle.laws_conditions.specs.SampleLists.{answering_lists, lists_with, liking, list_specs, twice_200, liking_100, ListsAreSaid, BagPremisesHold}

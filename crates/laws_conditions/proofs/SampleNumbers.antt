@@ -1,5 +1,5 @@
 -- A rule that is wrong of a number is refuted by a run on another value that stands for the number too.
-use Rattle.std.proofs.Common.{◌≡◌, ◌⊎◌, ℕ, ℤ, zero, suc, pos, Bool, true, false, List, [], ◌∷◌, Option, Some, None, slice_get, Contains, refl, sym, ap, subst, ◌∙◌, inl, inr}
+use Rattle.std.proofs.Common.{◌≡◌, ◌⊎◌, ℕ, ℤ, zero, suc, pos, Bool, true, false, List, [], ◌∷◌, Some, None, slice_get, Contains, refl, sym, ap, subst, ◌∙◌, inl, inr}
 use Rattle.std.proofs.lemmas.Bool.{and_parts, false≢true}
 use Rattle.std.proofs.lemmas.List.Elements.{All-nil}
 use Rattle.model.specs.lists.Tables.{TypeEntry, TermEntry, TermKindEntry, variant_term, struct_term, declared_term, internal_constructor}
@@ -16,7 +16,7 @@ use Rattle.model.proofs.Elements.{In, in_from_contains, contains_from_in, some_i
 use Rattle.laws_typing.specs.WellTypedPrograms.{IsWellTypedRule, IsWellTypedProgram}
 use Rattle.laws_conditions.specs.Words.{Denoted, DenotedList, no_denoted, denoted_and}
 use Rattle.laws_conditions.specs.Specs.{word_of, IsSaid}
-use Rattle.laws_conditions.specs.Conditions.{Told, told, is_of_type, IsPartHeld, Valuation, condition, IsAssumed, IsValidBelow}
+use Rattle.laws_conditions.specs.Conditions.{told, is_of_type, IsPartHeld, Valuation, condition, IsAssumed, IsValidBelow}
 use Rattle.laws_conditions.specs.Meets.{stands_for, stand_for, IsDenotation, MeetsSpecs, AnswersAsSaid}
 use Rattle.laws_conditions.specs.ConditionLaws.{AreValidBelow, IsCalled}
 use Rattle.laws_conditions.specs.Samples.{byte}

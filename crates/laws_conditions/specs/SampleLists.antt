@@ -1,15 +1,14 @@
 -- An example of a term that answers lists: each answer of the multi call that its rule makes is as the spec of that call says.
-use Rattle.std.specs.Prelude.{◌≡◌, ℕ, true, false, List, [], ◌∷◌, All, Some, None}
+use Rattle.std.specs.Prelude.{◌≡◌, true, false, [], ◌∷◌, Some, None}
 use Rattle.model.specs.lists.Tables.{TermEntry, declared_term, external_constructor}
 use Rattle.model.specs.rules.Values.{no_value, value_and}
-use Rattle.model.specs.rules.Meaning.{Content, one, many, Contents, no_content, content_and, Meaning, finite}
+use Rattle.model.specs.rules.Meaning.{one, many, Contents, no_content, content_and, Meaning, finite}
 use Rattle.model.specs.rules.Picks.{bag}
 use Rattle.model.specs.rules.Program.{Program, is_multi, rules_of}
 use Rattle.model.specs.rules.Typed.{TypedExpr, make_term, no_typed_expr, typed_expr_and}
 use Rattle.laws_typing.specs.WellTypedPrograms.{IsWellTypedProgram}
 use Rattle.laws_conditions.specs.Specs.{Specs}
 use Rattle.laws_conditions.specs.Conditions.{condition, IsValid}
-use Rattle.laws_conditions.specs.Meets.{IsResultAsSaid}
 use Rattle.laws_conditions.specs.ConditionLaws.{AreValid, IsCalled}
 use Rattle.laws_conditions.specs.CollectLaws.{MakesNoImpureCall}
 use Rattle.laws_conditions.specs.Samples.{a_term, x, rule_of, program_with, providing, specs_with, doubled}

@@ -1,5 +1,5 @@
 -- A right side without multi calls does what following the impure calls of its visit does, and gives what its site holds.
-use Rattle.std.proofs.Common.{◌≡◌, ◌⊎◌, ℕ, suc, Bool, true, false, List, [], ◌∷◌, ◌++◌, length, take, Option, Some, None, is_some, slice_get, All, refl, sym, ap, subst, ◌∙◌, inl, inr, arith}
+use Rattle.std.proofs.Common.{◌≡◌, ℕ, suc, Bool, true, false, List, [], ◌∷◌, ◌++◌, length, take, Option, Some, None, is_some, slice_get, All, refl, sym, ap, subst, ◌∙◌, inl, arith}
 use Rattle.std.proofs.lemmas.Bool.{false≢true}
 use Rattle.std.proofs.lemmas.List.{length_push, length-append}
 use Rattle.std.proofs.lemmas.List.Elements.{All-append}
@@ -7,7 +7,7 @@ use Rattle.std.proofs.Math.Seq.{take-append_seam}
 use Rattle.model.specs.lists.Tables.{TermEntry}
 use Rattle.model.specs.lists.Formed.{var_type, is_formed_expr, are_formed_args, formed_lets}
 use Rattle.model.specs.rules.Values.{Value, of_variant, of_struct, Values, value_and}
-use Rattle.model.specs.rules.Meaning.{Content, one, just, Meaning, pure_answer, impure_answer}
+use Rattle.model.specs.rules.Meaning.{one, just, Meaning, impure_answer}
 use Rattle.model.specs.rules.Outcome.{Call, then_option}
 use Rattle.model.specs.rules.Matching.{Vars, single}
 use Rattle.model.specs.rules.CallsNoMulti.{ExprCallsNoMulti, ExprsCallNoMulti, LetsCallNoMulti}
@@ -16,10 +16,9 @@ use Rattle.model.specs.rules.RightSide.{Eval, gives, ends, EvalAll, gives_all, e
 use Rattle.model.specs.rules.Typed.{TypedExpr, make_term, make_var, make_bool, make_int, make_prim, make_let, TypedExprs, no_typed_expr, typed_expr_and, TypedLets, no_typed_let, typed_let_and}
 use Rattle.model.specs.rules.Picks.{call_answer, HasContent}
 use Rattle.model.specs.sites.Sites.{SiteTerm, constructor_call, some_made, some_part, SiteTerms, site_term_and}
-use Rattle.model.specs.sites.Serves.{fits_constructor}
-use Rattle.model.specs.trees.Run.{as_value, from_value}
+use Rattle.model.specs.trees.Run.{from_value}
 use Rattle.model.specs.visits.Demands.{Visit, binding, Valued, ValuedAll, call_result, visit_call, visit_term, visit_expr, visit_exprs, visit_lets, finished}
-use Rattle.model.proofs.Elements.{In, in_right, some_is, none_some}
+use Rattle.model.proofs.Elements.{In, in_right, some_is}
 use Rattle.laws_runs.proofs.taking.FollowedCalls.{Followed, goes_on, stops, then_follow, follow_with, follow, follow_there, follow_append, result_after}
 use Rattle.laws_visits.proofs.Patterns.{term_known}
 use Rattle.laws_visits.proofs.GrowingVisits.{Grown, then_grown, grown_binding, expr_adds, exprs_add, lets_add, term_adds}

@@ -1,12 +1,12 @@
 -- The impure calls of a right side without multi calls are numbered in order, and each is among the sites made.
-use Rattle.std.proofs.Common.{◌≡◌, ◌⊎◌, ℕ, suc, ◌==◌, Bool, true, false, List, [], ◌∷◌, ◌++◌, length, Some, is_some, refl, sym, ap, subst, ◌∙◌, inl, inr, arith, append-nil, append_assoc}
+use Rattle.std.proofs.Common.{◌≡◌, ◌⊎◌, ℕ, suc, Bool, true, false, List, [], ◌∷◌, ◌++◌, length, refl, sym, ap, subst, ◌∙◌, inl, inr, arith, append-nil, append_assoc}
 use Rattle.std.proofs.lemmas.Bool.{false≢true}
 use Rattle.std.proofs.lemmas.List.{length_push}
 use Rattle.model.specs.rules.CallsNoMulti.{ExprCallsNoMulti, ExprsCallNoMulti, LetsCallNoMulti}
 use Rattle.model.specs.rules.Program.{Program, Kind, a_variant, a_struct, a_call, unknown, kind, flags_of}
 use Rattle.model.specs.rules.Typed.{TypedExpr, make_term, make_var, make_bool, make_int, make_prim, make_let, TypedExprs, no_typed_expr, typed_expr_and, TypedLets, no_typed_let, typed_let_and}
 use Rattle.model.specs.sites.Sites.{SiteTerm, constructor_call, some_part, SiteTerms}
-use Rattle.model.specs.visits.Demands.{Visit, making, calling, binding, ValuedAll, valued, visit_call, visit_term, visit_expr, visit_exprs, visit_lets}
+use Rattle.model.specs.visits.Demands.{Visit, making, calling, binding, ValuedAll, visit_call, visit_term, visit_expr, visit_exprs, visit_lets}
 use Rattle.model.proofs.Elements.{In, in_right}
 use Rattle.laws_runs.proofs.taking.FollowedCalls.{answered_call}
 use Rattle.laws_visits.proofs.GrowingVisits.{Grown, then_grown, grown_binding, expr_adds, exprs_add, lets_add, term_adds}

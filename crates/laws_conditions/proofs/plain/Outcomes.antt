@@ -17,7 +17,7 @@ use Rattle.laws_runs.proofs.picks.OnePick.{bag_as_plain_lem}
 use Rattle.laws_runs.proofs.taking.FollowedCalls.{follow, result_after}
 use Rattle.laws_typing.specs.WellTypedPrograms.{IsWellTypedProgram}
 use Rattle.laws_typing.proofs.WellTypedPrograms.{pure_iflets}
-use Rattle.laws_visits.proofs.GrowingVisits.{then_grown, finished_adds, rule_adds}
+use Rattle.laws_visits.proofs.GrowingVisits.{finished_adds, rule_adds}
 use Rattle.laws_visits.proofs.ImpureCallsMet.{adds_kept, then_keeps_calls, args_keep, iflets_keep}
 use Rattle.laws_visits.proofs.RuleParts.{rule_parts}
 use Rattle.laws_matching.specs.MatchLaws.{IsTried}

@@ -4,7 +4,7 @@ use Rattle.std.proofs.lemmas.Bool.{and_parts, cases_Bool, cond-true, cond-false,
 use Rattle.model.specs.lists.Tables.{TermEntry}
 use Rattle.model.specs.lists.Setting.{bool_type}
 use Rattle.model.specs.lists.Ranges.{is_literal_of}
-use Rattle.model.specs.lists.Formed.{var_type, is_type, pattern_type, formed_pattern, formed_parts, formed_each, formed_list}
+use Rattle.model.specs.lists.Formed.{var_type, is_type, formed_pattern, formed_parts, formed_each, formed_list}
 use Rattle.model.specs.rules.Values.{Value, truth, atom, of_variant, of_struct, Values, no_value, value_and, value_eq, listed}
 use Rattle.model.specs.rules.Meaning.{Content, one, parts, nothing, just, many, Meaning, bool_literal, int_literal, literal_value, constant_value, extractor_answer, outputs, answered_outputs}
 use Rattle.model.specs.rules.Outcome.{then_option}
@@ -13,11 +13,11 @@ use Rattle.model.specs.rules.CallsNoMulti.{WhereKnown, PatternCallsNoMulti, Patt
 use Rattle.model.specs.rules.Program.{Program, Kind, a_variant, a_struct, a_call, unknown, flags_of, kind}
 use Rattle.model.specs.rules.Typed.{TypedPattern, match_bind, match_var, match_bool, match_int, match_prim, match_term, match_any, match_and, TypedPatterns, no_typed_pattern, typed_pattern_and}
 use Rattle.model.specs.rules.Picks.{field_of_variant, field_of_struct, part_of_some}
-use Rattle.model.specs.sites.Sites.{is_bool, is_int, is_prim, is_present, SiteTerm, argument, extractor_call, variant_field, struct_field, some_part, tuple_part, fields_from}
-use Rattle.model.specs.sites.Serves.{constant_type, fits_one, fits_answer, fits_extractor}
+use Rattle.model.specs.sites.Sites.{is_present, SiteTerm, argument, extractor_call, variant_field, struct_field, some_part, tuple_part, fields_from}
+use Rattle.model.specs.sites.Serves.{constant_type, fits_one}
 use Rattle.model.specs.trees.Run.{as_value, from_value, part_at}
-use Rattle.model.specs.visits.Demands.{Visit, making, asking, equating, binding, var_site, pattern_count, output_sites, outputs_opened, open_call, open_term, visit_pattern, visit_each, visit_all, visit_args, taking_argument}
-use Rattle.model.proofs.Elements.{In, in_right, some_is, none_some}
+use Rattle.model.specs.visits.Demands.{Visit, making, asking, binding, var_site, pattern_count, output_sites, outputs_opened, open_call, open_term, visit_pattern, visit_each, visit_all, visit_args, taking_argument}
+use Rattle.model.proofs.Elements.{in_right, some_is, none_some}
 use Rattle.model.proofs.Options.{then_some}
 use Rattle.laws_typing.proofs.FormedParts.{from_if}
 use Rattle.laws_visits.proofs.AskedSites.{equating_binds}
@@ -26,7 +26,7 @@ use Rattle.laws_visits.proofs.Patterns.{AsManySites, as_many_sites, output_count
 use Rattle.laws_visits.proofs.PatternParts.{AsMany, pattern_parts, from_part, from_bind, as_many}
 use Rattle.laws_visits.proofs.GrowingVisits.{Grown, then_grown, grown_by_none, grown_asking, outputs_grown, each_grown, all_grown, args_grown}
 use Rattle.laws_conditions.proofs.plain.Served.{Served, maybe_fits, fits_answered, extractor_fits, extractor_may_fit}
-use Rattle.laws_conditions.proofs.plain.Worth.{named, at, IsWorth, AreWorth, bound_worth, first_worth}
+use Rattle.laws_conditions.proofs.plain.Worth.{at, IsWorth, AreWorth, bound_worth, first_worth}
 
 where_known : (k : Kind) (P : Type 0) → (k ≡ unknown → ⊥) → WhereKnown k P → P
 where_known (a_variant ty variant) P n h = h
@@ -155,9 +155,9 @@ module _ (p : Program) (m : Meaning) (args : List Value) (z : Visit) (own : Serv
         elim (maybe_fits p x.arg_tys c.0 f) [
           | inl e ↦ absurd (none_some ws (sym (ap answered_outputs e) ∙ c.2))
           | inr d ↦ (
-              outputs_at (some_part call) qs x.arg_tys d.0 ws n d.2 (ap (λ o. then_option o part_of_some) (call_at c.0 c.1 ∙ ap Some d.1)) (sym (ap answered_outputs d.1) ∙ c.2),
-              output_count (some_part call) qs,
-            )
+            outputs_at (some_part call) qs x.arg_tys d.0 ws n d.2 (ap (λ o. then_option o part_of_some) (call_at c.0 c.1 ∙ ap Some d.1)) (sym (ap answered_outputs d.1) ∙ c.2),
+            output_count (some_part call) qs,
+          )
         ]
 
     term_opens : (k : Kind) → kind p t ≡ k → (flags_of k).multi ≡ false → Grown (open_term k t s qs v).visit z → parts_seen k m t y ≡ Some ws → Opens (open_term k t s qs v).inputs qs ws

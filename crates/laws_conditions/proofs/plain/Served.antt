@@ -1,8 +1,8 @@
 -- What a meaning that serves a term's rules answers to the calls that one of them makes fits these calls.
-use Rattle.std.proofs.Common.{◌≡◌, ℕ, suc, Bool, true, false, List, [], ◌∷◌, ◌⊎◌, Some, slice_get, is_some, take, All, Contains, IsTrue, flat_map, refl, sym, subst, inl, inr}
+use Rattle.std.proofs.Common.{◌≡◌, ℕ, suc, Bool, true, false, List, [], ◌∷◌, ◌⊎◌, Some, slice_get, is_some, take, All, Contains, flat_map, refl, subst, inl, inr}
 use Rattle.std.proofs.lemmas.Bool.{false≢true}
 use Rattle.model.specs.lists.Tables.{Flags, TermEntry}
-use Rattle.model.specs.rules.Values.{Value, Values, well_typed}
+use Rattle.model.specs.rules.Values.{Value, Values}
 use Rattle.model.specs.rules.Meaning.{Content, one, parts, nothing, just, many, Meaning, extractor_answer, pure_answer, impure_answer, outputs, answered_outputs}
 use Rattle.model.specs.rules.Matching.{matches}
 use Rattle.model.specs.rules.Picks.{Pick, site_content, site_values, HasContent}

@@ -1,5 +1,5 @@
 -- What the site of a pure expression holds is its value, and where a rule matches, its variables have what their sites hold.
-use Rattle.std.proofs.Common.{◌≡◌, ℕ, ◌+◌, ◌==◌, Bool, true, false, List, [], ◌∷◌, Option, Some, None, is_some, slice_get, IsTrue, refl, sym, ap, ap₂, subst, ◌∙◌, inl, inr, arith, eqb-true}
+use Rattle.std.proofs.Common.{◌≡◌, ℕ, ◌+◌, Bool, true, false, List, [], ◌∷◌, Option, Some, None, is_some, slice_get, refl, sym, ap, subst, ◌∙◌, inl, inr, arith}
 use Rattle.std.proofs.lemmas.Bool.{false≢true}
 use Rattle.model.specs.lists.Tables.{TermEntry}
 use Rattle.model.specs.lists.Formed.{var_type, is_formed_expr, are_formed_args, formed_lets, formed_iflets}
@@ -15,7 +15,7 @@ use Rattle.model.specs.sites.DemandedGates.{IsPureExpr, ArePureExprs, ArePureLet
 use Rattle.model.specs.sites.Sites.{SiteTerm, constructor_call, some_part, SiteTerms}
 use Rattle.model.specs.sites.Serves.{fits_answer}
 use Rattle.model.specs.trees.Run.{as_value, from_value}
-use Rattle.model.specs.visits.Demands.{Visit, visit_start, making, binding, ValuedAll, call_result, visit_call, visit_term, visit_expr, visit_exprs, visit_lets, unwraps, asking_all, visit_pattern, visit_args, visit_iflets}
+use Rattle.model.specs.visits.Demands.{Visit, visit_start, binding, ValuedAll, call_result, visit_call, visit_term, visit_expr, visit_exprs, visit_lets, unwraps, asking_all, visit_pattern, visit_args, visit_iflets}
 use Rattle.model.proofs.Elements.{In, in_right, some_is, none_some}
 use Rattle.model.proofs.Options.{then_some}
 use Rattle.laws_visits.proofs.AskedSites.{asked_binds}
@@ -26,7 +26,7 @@ use Rattle.laws_visits.proofs.GrowingVisits.{Grown, then_grown, grown_binding, g
 use Rattle.laws_typing.proofs.FormedParts.{type_is}
 use Rattle.laws_conditions.proofs.plain.Served.{Served, one_fits, maybe_fits, constructor_fits}
 use Rattle.laws_conditions.proofs.plain.Worth.{at, AreWorth, worth_and, worth_moved}
-use Rattle.laws_conditions.proofs.plain.Patterns.{Past, unmoved, then_past, pattern_past, args_past}
+use Rattle.laws_conditions.proofs.plain.Patterns.{pattern_past, args_past}
 
 pub made_holds : (o : Option Values) (f : Values → Value) → then_option o (λ vs. Some (one (f vs))) ≡ from_value (then_option o (λ vs. Some (f vs)))
 made_holds None f = refl

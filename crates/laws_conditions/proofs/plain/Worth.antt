@@ -1,5 +1,5 @@
 -- Variables that have the values that their sites hold.
-use Rattle.std.proofs.Common.{◌≡◌, ℕ, ◌==◌, Bool, true, false, List, [], ◌∷◌, Option, Some, None, is_some, refl, sym, ap, ◌∙◌, inl, inr, eq-eqb}
+use Rattle.std.proofs.Common.{◌≡◌, ℕ, ◌==◌, true, false, List, [], ◌∷◌, Option, Some, is_some, refl, sym, ap, ◌∙◌, inl, inr, eq-eqb}
 use Rattle.std.proofs.lemmas.Bool.{cases_Bool, cond-true, cond-false, false≢true}
 use Rattle.model.specs.rules.Values.{Value}
 use Rattle.model.specs.rules.Meaning.{Content, Meaning, look}
