@@ -4,10 +4,12 @@ mod Collected
 mod Followed
 mod plain
 mod SampleAnswers
+mod SampleBelow
 mod SampleConditions
 mod SampleLists
 mod SampleNumbers
 mod SamplePriorities
 mod SampleUnwraps
+mod SampleWritten
 mod TotalAnswers
 mod Valuations

@@ -1,32 +1,29 @@
 -- A rule that is wrong of a number is refuted by a run on another value that stands for the number too.
-use Rattle.std.proofs.Common.{◌≡◌, ◌⊎◌, ℕ, ℤ, zero, suc, pos, Bool, true, false, List, [], ◌∷◌, Some, None, slice_get, Contains, refl, sym, ap, subst, ◌∙◌, inl, inr}
+use Rattle.std.proofs.Common.{◌≡◌, ℕ, zero, suc, pos, true, false, List, [], ◌∷◌, Some, None, slice_get, Contains, refl, sym, ap, subst, ◌∙◌, inl, inr}
 use Rattle.std.proofs.lemmas.Bool.{and_parts, false≢true}
 use Rattle.std.proofs.lemmas.List.Elements.{All-nil}
 use Rattle.model.specs.lists.Tables.{TypeEntry, TermEntry, TermKindEntry, variant_term, struct_term, declared_term, internal_constructor}
 use Rattle.model.specs.lists.KnownTypes.{entry_id}
-use Rattle.model.specs.rules.Values.{Value, truth, atom, of_list, well_typed}
-use Rattle.model.specs.rules.Meaning.{Literal, bool_literal, int_literal, Meaning}
+use Rattle.model.specs.rules.Values.{Value, of_list}
 use Rattle.model.specs.rules.Choice.{choice}
 use Rattle.model.specs.rules.Program.{is_multi, rules_of}
-use Rattle.model.specs.rules.Typed.{TypedRule}
-use Rattle.model.specs.sites.Serves.{asked, Serves}
-use Rattle.model.specs.sites.Sites.{Constraint, is_int, SiteTerm, bool_term, int_term, prim_term, argument, extractor_call, constructor_call, SiteTerms}
-use Rattle.model.specs.visits.Demands.{demands_of}
+use Rattle.model.specs.sites.Sites.{Constraint, is_int, SiteTerm, int_term, argument}
 use Rattle.model.proofs.Elements.{In, in_from_contains, contains_from_in, some_is, none_some}
 use Rattle.laws_typing.specs.WellTypedPrograms.{IsWellTypedRule, IsWellTypedProgram}
 use Rattle.laws_conditions.specs.Words.{Denoted, DenotedList, no_denoted, denoted_and}
 use Rattle.laws_conditions.specs.Specs.{word_of, IsSaid}
 use Rattle.laws_conditions.specs.Conditions.{told, is_of_type, IsPartHeld, Valuation, condition, IsAssumed, IsValidBelow}
-use Rattle.laws_conditions.specs.Meets.{stands_for, stand_for, IsDenotation, MeetsSpecs, AnswersAsSaid}
+use Rattle.laws_conditions.specs.Meets.{stand_for, IsDenotation, AnswersAsSaid}
 use Rattle.laws_conditions.specs.ConditionLaws.{AreValidBelow, IsCalled}
 use Rattle.laws_conditions.specs.Samples.{byte}
-use Rattle.laws_conditions.specs.SampleCalls.{bytes_as, a_byte}
+use Rattle.laws_conditions.specs.SampleCalls.{bytes_as, a_byte, written}
 use Rattle.laws_conditions.specs.SamplePriorities.{ten_where}
 use Rattle.laws_conditions.specs.SampleNumbers.{for_five, for_rest, numbers, number_specs, NumbersExcludeNothing}
 use Rattle.laws_conditions.proofs.Answers.{chooses_as_said_by_priority_lem}
 use Rattle.laws_conditions.proofs.SampleAnswers.{byte_formed, byte_sorted, byte_numbered}
 use Rattle.laws_conditions.proofs.SampleConditions.{only_one, just_one, truths_same, none_first}
 use Rattle.laws_conditions.proofs.SamplePriorities.{given_is}
+use Rattle.laws_conditions.proofs.SampleWritten.{IsPlainSite, written_serves, written_meets}
 
 -- 1. the rule above, of 5
 abbrev one_number : Denoted → DenotedList
@@ -58,106 +55,26 @@ five_right (denoted_and b no_denoted) f a none = record {
 }
 five_right (denoted_and b (denoted_and c rest)) f a none = absurd (false≢true (and_parts (is_of_type numbers.types number_specs 1 b) false a.arguments).1)
 
--- 2. a run on 261: literals have the values that they write
-abbrev as_written : Literal → Value
-as_written (bool_literal b ty) = truth b
-as_written (int_literal z ty) = atom ty z
-
-abbrev written : Meaning
-written = record { literals = λ l. Some (as_written l); constants = λ name. None; extractors = λ t v. None; pures = λ t vs. None; impures = λ t before. None }
-
+-- 2. a run on 261
 abbrev odd : List Value
 odd = a_byte 261 ∷ []
 
 abbrev asked_sites : List SiteTerm
 asked_sites = argument 0 ∷ (int_term (pos 10) 1 ∷ (int_term (pos 5) 1 ∷ (argument 0 ∷ (int_term (pos 20) 1 ∷ []))))
 
-asked_is : (u : SiteTerm) → Contains (asked numbers (rules_of numbers 0)) u → (argument 0 ≡ u) ⊎ ((z : ℤ) × (int_term z 1 ≡ u))
-asked_is u c = by (in_from_contains asked_sites u c)
-  where
-    by : In asked_sites u → (argument 0 ≡ u) ⊎ ((z : ℤ) × (int_term z 1 ≡ u))
-    by (inl e) = inl e
-    by (inr (inl e)) = inr (pos 10, e)
-    by (inr (inr (inl e))) = inr (pos 5, e)
-    by (inr (inr (inr (inl e)))) = inl e
-    by (inr (inr (inr (inr (inl e))))) = inr (pos 20, e)
-    by (inr (inr (inr (inr (inr n))))) = absurd n
-
-no_bool : (b : Bool) (ty : ℕ) → Contains (asked numbers (rules_of numbers 0)) (bool_term b ty) → ⊥
-no_bool b ty i = by (asked_is (bool_term b ty) i)
-  where
-    by : (argument 0 ≡ bool_term b ty) ⊎ ((z : ℤ) × (int_term z 1 ≡ bool_term b ty)) → ⊥
-    by (inl e) = cc
-    by (inr (z, e)) = cc
-
-no_prim : (name : ℕ) → Contains (asked numbers (rules_of numbers 0)) (prim_term name) → ⊥
-no_prim name i = by (asked_is (prim_term name) i)
-  where
-    by : (argument 0 ≡ prim_term name) ⊎ ((z : ℤ) × (int_term z 1 ≡ prim_term name)) → ⊥
-    by (inl e) = cc
-    by (inr (z, e)) = cc
-
-no_extractor : (t : ℕ) (s : SiteTerm) → Contains (asked numbers (rules_of numbers 0)) (extractor_call t s) → ⊥
-no_extractor t s i = by (asked_is (extractor_call t s) i)
-  where
-    by : (argument 0 ≡ extractor_call t s) ⊎ ((z : ℤ) × (int_term z 1 ≡ extractor_call t s)) → ⊥
-    by (inl e) = cc
-    by (inr (z, e)) = cc
-
-no_constructor : (t n : ℕ) (ss : SiteTerms) → Contains (asked numbers (rules_of numbers 0)) (constructor_call t ss n) → ⊥
-no_constructor t n ss i = by (asked_is (constructor_call t ss n) i)
-  where
-    by : (argument 0 ≡ constructor_call t ss n) ⊎ ((z : ℤ) × (int_term z 1 ≡ constructor_call t ss n)) → ⊥
-    by (inl e) = cc
-    by (inr (z, e)) = cc
-
-int_type : (z : ℤ) (ty : ℕ) → Contains (asked numbers (rules_of numbers 0)) (int_term z ty) → 1 ≡ ty
-int_type z ty i = by (asked_is (int_term z ty) i)
-  where
-    by : (argument 0 ≡ int_term z ty) ⊎ ((y : ℤ) × (int_term y 1 ≡ int_term z ty)) → 1 ≡ ty
-    by (inl e) = absurd (cc)
-    by (inr (y, e)) = cc
-
-not_made : (r : TypedRule) (t n : ℕ) (ss : SiteTerms) → Contains (rules_of numbers 0) r → Contains (demands_of numbers r).made (constructor_call t ss n) → ⊥
-not_made r t n ss i made = by (in_from_contains (for_five ∷ (for_rest ∷ [])) r i)
-  where
-    neither : (z : ℤ) → In (argument 0 ∷ (int_term z 1 ∷ [])) (constructor_call t ss n) → ⊥
-    neither z (inl e) = cc
-    neither z (inr (inl e)) = cc
-    neither z (inr (inr none)) = none
-
-    by : In (for_five ∷ (for_rest ∷ [])) r → ⊥
-    by (inl e) = neither (pos 10) (in_from_contains (argument 0 ∷ (int_term (pos 10) 1 ∷ [])) (constructor_call t ss n) (subst (λ q. Contains (demands_of numbers q).made (constructor_call t ss n)) (sym e) made))
-    by (inr (inl e)) = neither (pos 20) (in_from_contains (argument 0 ∷ (int_term (pos 20) 1 ∷ [])) (constructor_call t ss n) (subst (λ q. Contains (demands_of numbers q).made (constructor_call t ss n)) (sym e) made))
-    by (inr (inr none)) = none
-
-serves : Serves numbers written odd (rules_of numbers 0)
-serves = record {
-  bools = λ b ty i. absurd (no_bool b ty i);
-  ints = λ z ty i. subst (λ n. well_typed numbers.types n (atom n z) ≡ true) (int_type z ty i) refl;
-  written_bools = λ b ty i. refl;
-  written_ints = λ z ty i own. refl;
-  prims = λ name i. absurd (no_prim name i);
-  extractors = λ k t s v i e. absurd (no_extractor t s i);
-  pures = λ k t ss vs i e. absurd (no_constructor t 0 ss i);
-  impures = λ k r t before ss vs i matched made gave e. absurd (not_made r t (suc before) ss i made);
-}
+plain_site : (u : SiteTerm) → In asked_sites u → IsPlainSite u
+plain_site u (inl e) = inl e
+plain_site u (inr (inl e)) = inr (pos 10, e)
+plain_site u (inr (inr (inl e))) = inr (pos 5, e)
+plain_site u (inr (inr (inr (inl e)))) = inl e
+plain_site u (inr (inr (inr (inr (inl e))))) = inr (pos 20, e)
+plain_site u (inr (inr (inr (inr (inr n))))) = absurd n
 
 denotes : IsDenotation numbers number_specs bytes_as
 denotes = record {
   formed = λ ty z. byte_formed z;
   sorted = λ ty z s e. byte_sorted ty (word_of 8 z) s e;
   numbers = λ ty z y own e. byte_numbered ty z y e;
-}
-
-meets : MeetsSpecs number_specs bytes_as written (choice numbers written (rules_of numbers 0) odd).calls
-meets = record {
-  bools = λ b ty v e. ap (stands_for bytes_as) (sym (some_is (truth b) v e));
-  ints = λ z ty v y e l. ap (stands_for bytes_as) (sym (some_is (atom ty z) v e)) ∙ byte_numbered ty z y l;
-  constants = λ name v y e l. absurd (none_some v e);
-  extractors = λ t v c a e i. absurd (none_some c e);
-  pures = λ t vs c a e i. absurd (none_some c e);
-  impures = λ before call c a e o i. absurd (none_some c o);
 }
 
 -- 3. the program
@@ -212,7 +129,7 @@ rest_wrong right = false≢true (truths_same false true (only_one (IsSaid (one_n
         ]
 
     is_called : IsCalled numbers number_specs 0 bytes_as written odd (choice numbers written (rules_of numbers 0) odd).calls
-    is_called = record { denotes = denotes; typed = refl; serves = serves; meets = meets; required = All-nil (IsSaid (stand_for bytes_as (of_list odd)) None) }
+    is_called = record { denotes = denotes; typed = refl; serves = written_serves numbers 0 odd refl (λ u i. plain_site u (in_from_contains asked_sites u i)); meets = written_meets number_specs (choice numbers written (rules_of numbers 0) odd).calls byte_numbered; required = All-nil (IsSaid (stand_for bytes_as (of_list odd)) None) }
 
     said : AnswersAsSaid numbers number_specs 0 bytes_as odd (choice numbers written (rules_of numbers 0) odd)
     said = chooses_as_said_by_priority_lem numbers number_specs 0 bytes_as written odd well_typed_program refl valid (λ ty z. refl) is_called

@@ -91,7 +91,7 @@ others_said b f a (inl e) = absurd (a.none for_a above (λ s k i. marked (s, k) 
     marked y (inl q) = subst (λ (z : SiteTerm × Constraint). a.constraint z.0 z.1 ≡ true) q (a.decided for_a (argument 0) (is_variant 2 0 0) above a_listed refl (no_denoted, there))
     marked y (inr n) = absurd n
 
-others_right : IsValidBelow codes code_specs for_others
+pub others_right : IsValidBelow codes code_specs for_others
 others_right no_denoted f a none = absurd (false≢true a.arguments)
 others_right (denoted_and b no_denoted) f a none = record {
   provides = λ h y made e q.
@@ -122,7 +122,7 @@ a_said b f a (inr e) = absurd (differ met.0 part.part part.there part.held)
         other : (xs : DenotedList) → letter 1 ≡ variant_of 2 0 xs → ⊥
         other xs r = cc
 
-a_right : IsValidBelow codes code_specs for_a
+pub a_right : IsValidBelow codes code_specs for_a
 a_right no_denoted f a none = absurd (false≢true a.arguments)
 a_right (denoted_and b no_denoted) f a none = record {
   provides = λ h y made e q.

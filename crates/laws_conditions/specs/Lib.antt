@@ -6,6 +6,7 @@ pub mod CollectLaws
 pub mod ConditionLaws
 pub mod Samples
 pub mod SampleCalls
+pub mod SampleBelow
 pub mod SampleLists
 pub mod SampleNumbers
 pub mod SamplePriorities

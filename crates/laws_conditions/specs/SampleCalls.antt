@@ -1,7 +1,7 @@
 -- An example where all premises of the law hold: twice 100 is 200 by a sum, and 201 is refused.
-use Rattle.std.specs.Prelude.{◌≡◌, ℕ, pos, false, List, [], ◌∷◌}
-use Rattle.model.specs.rules.Values.{Value, atom, no_value, value_and}
-use Rattle.model.specs.rules.Meaning.{one, Meaning, finite}
+use Rattle.std.specs.Prelude.{◌≡◌, ℕ, pos, false, List, [], ◌∷◌, Some, None}
+use Rattle.model.specs.rules.Values.{Value, truth, atom, no_value, value_and}
+use Rattle.model.specs.rules.Meaning.{one, Literal, bool_literal, int_literal, Meaning, finite}
 use Rattle.model.specs.rules.Outcome.{Outcome, ended}
 use Rattle.model.specs.rules.Program.{Program, is_multi, rules_of}
 use Rattle.model.specs.rules.Choice.{choice}
@@ -28,6 +28,14 @@ a_byte n = atom 1 (pos n)
 
 abbrev pub hundred : List Value
 hundred = a_byte 100 ∷ []
+
+-- a meaning that says of literals alone that they have the values that they write
+abbrev pub as_written : Literal → Value
+as_written (bool_literal b ty) = truth b
+as_written (int_literal z ty) = atom ty z
+
+abbrev pub written : Meaning
+written = record { literals = λ l. Some (as_written l); constants = λ name. None; extractors = λ t v. None; pures = λ t vs. None; impures = λ t before. None }
 
 -- `add` of 100 and 100 answers this
 abbrev pub adding_to : ℕ → Meaning

@@ -6,6 +6,7 @@
 ghost use Rattle.laws_conditions.specs.CollectLaws.{BagsAreAsSaid, CollectsAsSaid, LoweredTermsCollectAsSaid};
 ghost use Rattle.laws_conditions.specs.ConditionLaws.{ChoosesAsSaid, ComputesAsSaid, ChoosesAsSaidByPriority, ComputesAsSaidByPriority, LoweredTermsComputeAsSaid};
 ghost use Rattle.laws_conditions.specs.SampleCalls.{PremisesHold, OthersAreRefused};
+ghost use Rattle.laws_conditions.specs.SampleBelow.{PriorityPremisesHold};
 ghost use Rattle.laws_conditions.specs.SampleLists.{ListsAreSaid, BagPremisesHold};
 ghost use Rattle.laws_conditions.specs.SampleNumbers.{NumbersExcludeNothing};
 ghost use Rattle.laws_conditions.specs.SamplePriorities.{PrioritiesCount};
@@ -103,6 +104,11 @@ pub fn bag_premises_hold()
 /// A rule that is wrong alone is right where the one above it doesn't match.
 pub fn priorities_count()
     ensures { PrioritiesCount }
+{}
+
+/// The premises of the law by priority hold together of these rules: A gives 10, and B gives 20.
+pub fn priority_premises_hold()
+    ensures { PriorityPremisesHold }
 {}
 
 /// A rule that is wrong of a number stays wrong below the rule that names the number: another value may stand for it too.

@@ -19,7 +19,7 @@ pub record Served (p : Program) (m : Meaning) (args : List Value) (k : Pick) (ma
   pub extractors : (t : ℕ) (s : SiteTerm) (v : Value) (c : Content) → In made (extractor_call t s) → site_content m args k s ≡ Some (one v) → extractor_answer m t v ≡ Some c → fits_extractor p t (kind p t) c ≡ true
   pub pures : (t : ℕ) (ss : SiteTerms) (vs : Values) (c : Content) → In made (constructor_call t ss 0) → site_values m args k ss ≡ Some vs → pure_answer m t vs ≡ Some c → fits_constructor p t (kind p t) c ≡ true
 
-made_asked : (p : Program) (rs : List TypedRule) (r : TypedRule) (u : SiteTerm) → Contains rs r → In (demands_of p r).made u → Contains (asked p rs) u
+pub made_asked : (p : Program) (rs : List TypedRule) (r : TypedRule) (u : SiteTerm) → Contains rs r → In (demands_of p r).made u → Contains (asked p rs) u
 made_asked p rs r u c i =
     contains_from_in (asked p rs) u
     (in_flat_map (λ (q : TypedRule). asked_by (demands_of p q)) rs r u (in_from_contains rs r c)
