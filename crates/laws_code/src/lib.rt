@@ -5,7 +5,6 @@
 
 ghost use Rattle.laws_code.specs.ChoiceSamples.{BoundsAreKept};
 ghost use Rattle.laws_code.specs.CodeChoices.{CodeChoosesAsSource, CodeOfLoweredTermsMeans};
-ghost use Rattle.laws_code.specs.CodeMoves.{BuiltSetsPickAlone, PrintedLoopsTakeOnce};
 ghost use Rattle.laws_code.specs.CodeScopes.{BuiltSetsLoopOverBound, CodeOfAcceptedIsScoped};
 
 use code_model::{printed_code_is_scoped, printed_code_runs};
@@ -40,16 +39,6 @@ pub fn code_of_accepted_is_scoped()
     printed_code_is_scoped();
     built_sets_loop_over_bound();
 }
-
-/// What the loops of a best tree's code go over is bound right before each, and read by nothing else.
-pub fn printed_loops_take_once()
-    ensures { PrintedLoopsTakeOnce }
-{}
-
-/// In a built set picks alone are made of the calls that loops go over, and rules equate none.
-pub fn built_sets_pick_alone()
-    ensures { BuiltSetsPickAlone }
-{}
 
 /// A sample collects up to its bound, and near ones don't.
 pub fn bounds_are_kept()
