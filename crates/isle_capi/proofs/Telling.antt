@@ -8,7 +8,7 @@ use Rattle.isle_command.specs.declared.words.Request.{Request}
 use Rattle.isle_command.specs.Codes.{IsNamesLine}
 use Rattle.isle_command.specs.Readings.{IsAcceptedReading}
 use Rattle.isle_command.specs.Statuses.{may_fail, IsStatusOfReading}
-use Rattle.isle_command.specs.TaskAnswers.{IsAnswerToReading}
+use Rattle.isle_command.specs.TaskAnswers.{denies, IsAnswerToReading}
 use Rattle.isle_capi.specs.declared.options.Asked.{Asked}
 use Rattle.isle_capi.specs.declared.options.Task.{Task}
 use Rattle.isle_capi.specs.declared.options.Task.TheVariants as A
@@ -27,8 +27,12 @@ none_is_not_some : {T : Type 0} (o : Option T) → is_none o ≡ true → is_som
 none_is_not_some None e = refl
 none_is_not_some (Some x) e = cc
 
+-- no warnings are denied
+denies_none : (request : Request) → request.deny ≡ false → request.denied.items ≡ [] → denies request ≡ false
+denies_none request deny denied = rw deny in rw denied in refl
+
 -- a task of a call can't fail by itself
-cannot_fail : (task : Task) (request : Request) → request.task ≡ command_task task → request.deny ≡ false → is_none request.terms ≡ true
+cannot_fail : (task : Task) (request : Request) → request.task ≡ command_task task → denies request ≡ false → is_none request.terms ≡ true
     → may_fail request.task request ≡ false
 cannot_fail A.Trees request e deny terms = subst (λ t. may_fail t request ≡ false) (sym e) (none_is_not_some request.terms terms)
 cannot_fail A.Check request e deny terms = subst (λ t. may_fail t request ≡ false) (sym e) deny
@@ -63,7 +67,7 @@ says_of_command asked reading answer h =
       done = λ e. subst (λ x. IsAcceptedReading x reading) h.asks.expand (h.says.done (none_if_done answer.status e));
       errors = λ e accepted.
           h.says.refused (one_if_errors answer.status h.says.known e)
-          (cannot_fail asked.task h.request h.asks.task h.asks.deny h.asks.terms)
+          (cannot_fail asked.task h.request h.asks.task (denies_none h.request h.asks.deny h.asks.denied) h.asks.terms)
           (subst (λ x. IsAcceptedReading x reading) (sym h.asks.expand) accepted);
       no_code = λ e. absurd (never_no_code (nat_eq answer.status 0) e);
     }

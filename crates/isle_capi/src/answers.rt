@@ -156,6 +156,8 @@ fn request_of<'a>(alloc: Global, asked: Asked) -> Request<'a>
         task: task_of(asked.task),
         expand: asked.expand,
         deny: false,
+        denied: Vec::new(alloc),
+        allowed: Vec::new(alloc),
         all: false,
         format: format_of(asked.format),
         colored: asked.format == Format::Colored,

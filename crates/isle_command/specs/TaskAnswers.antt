@@ -1,5 +1,5 @@
 -- What the command answers to definitions, by what it is asked.
-use Rattle.std.specs.Prelude.{ℕ, ◌≡◌, ◌≢◌, ◌≤◌, ◌⊎◌, true, List, [], is_none, is_some, length, map, string_bytes}
+use Rattle.std.specs.Prelude.{ℕ, ◌≡◌, ◌≢◌, ◌≤◌, ◌⊎◌, ◌||◌, Bool, true, false, List, [], ◌∷◌, is_none, is_some, length, map, string_bytes}
 use Rattle.cranelift_isle.specs.SyntaxViews.{definition_views}
 use Rattle.cranelift_isle.specs.Layers.{own_program, IsAccepted}
 use Rattle.cranelift_isle.specs.Elaborated.{TypedRules}
@@ -72,13 +72,22 @@ AsksForAll asked = is_none asked.terms ≡ true
 abbrev pub AsksByName : Request → Type 0
 AsksByName asked = is_some asked.terms ≡ true
 
+-- whether there is one of something
+abbrev pub has_one : {T : Type 0} → List T → Bool
+has_one [] = false
+has_one (x ∷ xs) = true
+
+-- whether warnings may count as errors: all do, or those of some kinds
+abbrev pub denies : Request → Bool
+denies asked = asked.deny || has_one asked.denied.items
+
 -- what accepted definitions with these terms with rules are answered, by the task. A task that may fail may do so on all of
 -- them: when it does isn't said; warnings have the status 1 only where they are denied
 abbrev pub IsAnswerBy : Task → Request → (terms : List ℕ) → Answer → Type 0
 IsAnswerBy T.Lower asked terms answer =
     (IsDone answer × (AsksForAll asked → AreTrees asked.format (length terms) (string_bytes answer.out))) ⊎ (AsksByName asked × IsFailed answer)
 IsAnswerBy T.Rust asked terms answer = (code : Code) × IsCode code × IsAnswerOfCode code answer
-IsAnswerBy T.Check asked terms answer = AreReports asked.format answer × ((answer.status ≡ 0) ⊎ ((asked.deny ≡ true) × (answer.status ≡ 1)))
+IsAnswerBy T.Check asked terms answer = AreReports asked.format answer × ((answer.status ≡ 0) ⊎ ((denies asked ≡ true) × (answer.status ≡ 1)))
 IsAnswerBy T.Explain asked terms answer = IsDoneWithText answer ⊎ IsFailed answer
 IsAnswerBy T.Stats asked terms answer = IsDone answer
 IsAnswerBy T.Compare asked terms answer = IsDoneWithoutText answer ⊎ IsFailed answer

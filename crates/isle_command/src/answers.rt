@@ -1,12 +1,12 @@
 //! What the command answers to texts.
 
-ghost use Rattle.std.specs.Prelude.{◌≡◌, ◌≢◌, ◌⊎◌, ◌≤◌, ◌<◌, true, [], length, is_none, map, string_bytes, string_len, IfOk};
+ghost use Rattle.std.specs.Prelude.{◌≡◌, ◌≢◌, ◌⊎◌, ◌≤◌, ◌<◌, true, false, [], length, is_none, map, string_bytes, string_len, IfOk};
 ghost use Rattle.cranelift_isle.specs.SyntaxViews.{definition_views};
 ghost use Rattle.isle_command.specs.declared.code.Code.{Code};
 ghost use Rattle.isle_command.specs.declared.words.Task.TheVariants.{Lower};
 ghost use Rattle.isle_command.specs.Codes.{IsAnswerOfCode, IsCode};
 ghost use Rattle.isle_command.specs.TaskAnswers.{lowered_terms, AsksForAll, IsAnswerBy, IsAnswerToDefinitions, IsAnswerToReading, IsAnswerToTexts};
-ghost use Rattle.isle_command.specs.TaskAnswers.{AreReports, AreTrees, IsDoneWithText, IsDoneWithoutText, IsFailed, IsRefusal};
+ghost use Rattle.isle_command.specs.TaskAnswers.{AreReports, AreTrees, IsDoneWithText, IsDoneWithoutText, IsFailed, IsRefusal, denies};
 ghost use Rattle.isle_command.specs.Statuses.{IsStatusOfReading};
 
 use crate::code::{Code, code_of_lowered};
@@ -22,11 +22,12 @@ use isle_calls::calls::answer_to_call;
 use isle_calls::values::Unanswered;
 use isle_diagnostics::diagnosis::reports_of;
 use isle_diagnostics::explanation::{explanation, with_rules};
-use isle_diagnostics::lints::warnings;
 use isle_diagnostics::stats::stats;
 use isle_printing::layout::push_reports;
 use isle_printing::print::{Names, print_bindings, print_block};
 use isle_printing::report::Report;
+use isle_warnings::kinds::is_one_of;
+use isle_warnings::lints::warnings;
 use std::alloc::{AllocError, Global};
 use std::io::Write;
 
@@ -175,7 +176,8 @@ fn answer_to_lowered<E: Write>(
         }
         Task::Check => {
             teller.tell("checking", "all rules");
-            warned(alloc, asked, files, &warnings(alloc, defs, lowered)?)
+            let warnings = warnings(alloc, defs, lowered, &asked.allowed)?;
+            warned(alloc, asked, files, &warnings)
         }
         Task::Samples => Ok(accepted(alloc, String::new(alloc))),
         Task::Stats => Ok(accepted(alloc, stats(alloc, lowered)?)),
@@ -251,16 +253,12 @@ fn warned(
     warnings: &[Report],
 ) -> Result<Answer, AllocError>
     ensures reports { IfOk result (AreReports asked.now.format) }
-    // warnings have the status 1 exactly where they are denied and there are some
+    // warnings have the status 1 where all are denied and there are some, and only where some are denied
     ensures denied { asked.now.deny ≡ true → warnings.now ≢ [] → IfOk result (λ a. a.status ≡ 1) }
     ensures none { warnings.now ≡ [] → IfOk result (λ a. a.status ≡ 0) }
-    ensures allowed { IfOk result (λ a. (a.status ≡ 0) ⊎ ((asked.now.deny ≡ true) × (a.status ≡ 1))) }
+    ensures allowed { IfOk result (λ a. (a.status ≡ 0) ⊎ ((denies asked.now ≡ true) × (a.status ≡ 1))) }
 {
-    let status = if asked.deny && !warnings.is_empty() {
-        1
-    } else {
-        0
-    };
+    let status = if has_denied(asked, warnings) { 1 } else { 0 };
     let mut out = String::new(alloc);
     let mut err = String::new(alloc);
     if asked.format == Format::Json {
@@ -269,6 +267,21 @@ fn warned(
         push_reports(&mut err, files, warnings, asked.layout())?;
     }
     Ok(Answer { status, out, err })
+}
+
+// Whether one of these warnings counts as an error.
+fn has_denied(asked: &Request<'_>, warnings: &[Report]) -> bool
+    ensures all { asked.now.deny ≡ true → warnings.now ≢ [] → result ≡ true }
+    ensures none { warnings.now ≡ [] → result ≡ false }
+    ensures some { result ≡ true → denies asked.now ≡ true }
+{
+    if asked.deny {
+        return !warnings.is_empty();
+    }
+    !asked.denied.is_empty()
+        && warnings
+            .iter()
+            .any(|report| is_one_of(report, &asked.denied))
 }
 
 // The answer where there is nothing of a name.

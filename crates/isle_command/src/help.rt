@@ -23,7 +23,11 @@ Options:
   --log                  rust: the code logs each result, by the crate log
   --with-allows          rust: the code begins with attributes #![allow(..)], so it can be a file of its own
   --no-expand            does not expand internal extractors. The task rust always expands them.
-  --deny                 check: warnings are errors
+  --deny                 check: all warnings are errors
+  --deny=NAME,..         check: the warnings of these names are errors
+  --allow NAME,..        check: the warnings of these names are not shown. May be given many times. --allow=NAME,.. is the
+                         same. The names are never-run, priority, uncovered, recursion, constant, name, unused and literal
+                         (docs/USING.md).
   --all                  shows all errors. Otherwise only the first 20 are shown.
   --format text          shows each error with its source lines. This is the default.
   --format line          shows each error on one line

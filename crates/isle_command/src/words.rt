@@ -3,6 +3,7 @@
 use isle_answers::samples::sample_text;
 use isle_printing::layout::Layout;
 use isle_rust::code::{CodegenOptions, Prefix};
+use isle_warnings::kinds::{Warning, warning_names};
 use std::alloc::{AllocError, AllocFailed, Global};
 
 /// What is to be done.
@@ -105,8 +106,12 @@ pub struct Request<'a> {
     pub task: Task,
     /// Whether uses of internal extractors are replaced by their templates.
     pub expand: bool,
-    /// Whether warnings count as errors.
+    /// Whether all warnings count as errors.
     pub deny: bool,
+    /// The kinds of warnings that count as errors even if not all do.
+    pub denied: Vec<Warning>,
+    /// The kinds of warnings that aren't looked for.
+    pub allowed: Vec<Warning>,
     /// Whether a person sees all errors, and not only the first ones.
     pub all: bool,
     /// The form of the answer.
@@ -136,6 +141,8 @@ impl<'a> Drop for Request<'a> {
             task: _,
             expand: _,
             deny: _,
+            denied: _,
+            allowed: _,
             all: _,
             format: _,
             colored: _,
@@ -205,10 +212,32 @@ enum Awaited {
     Format,
     Color,
     Prefix,
+    Allowed,
     // An option or a file.
     Any,
     // A word of a call.
     Call,
+}
+
+// Adds the kinds of warnings that a word names, with commas between them.
+fn push_kinds(alloc: Global, kinds: &mut Vec<Warning>, word: &str) -> Result<(), Unasked> {
+    for name in word.split(',') {
+        match Warning::of(name) {
+            Some(kind) => kinds.push(kind)?,
+            None => return Err(no_kind(alloc, name)),
+        }
+    }
+    Ok(())
+}
+
+// That there is no kind of warnings of a name.
+fn no_kind(alloc: Global, name: &str) -> Unasked {
+    match warning_names(alloc) {
+        Ok(names) => wrong(format!(in alloc;
+            "no warning is called '{name}'. The warnings are {names}"
+        )),
+        Err(AllocError) => Unasked::Memory,
+    }
 }
 
 // What the words are read with.
@@ -259,6 +288,8 @@ fn request_by<'a>(given: Given, words: &'a [String]) -> Result<Request<'a>, Unas
         task: Task::Lower,
         expand: true,
         deny: false,
+        denied: Vec::new(given.alloc),
+        allowed: Vec::new(given.alloc),
         all: false,
         format: Format::Text,
         colored: given.colors,
@@ -291,6 +322,7 @@ impl<'a> Request<'a> {
             Awaited::Format => Some("nothing after '--format'"),
             Awaited::Color => Some("nothing after '--color'"),
             Awaited::Prefix => Some("nothing after '--prefix'"),
+            Awaited::Allowed => Some("nothing after '--allow'"),
             Awaited::Any | Awaited::Call => match self.wrong_files() {
                 Some(why) => Some(why),
                 None => self.missing_call(awaited),
@@ -363,6 +395,7 @@ impl<'a> Request<'a> {
             Awaited::Format => self.read_format(given.alloc, word),
             Awaited::Color => self.read_color(given, word),
             Awaited::Prefix => self.read_prefix(given.alloc, word),
+            Awaited::Allowed => self.read_allowed(given.alloc, word),
             Awaited::Any => self.read_any(given.alloc, word),
             Awaited::Rule => {
                 self.rule = word;
@@ -444,6 +477,7 @@ impl<'a> Request<'a> {
         match word {
             "--no-expand" => self.read_no_expand(alloc),
             "--deny" => self.read_deny(alloc),
+            "--allow" => self.begin_allowed(alloc),
             "--all" => {
                 self.all = true;
                 Ok(Awaited::Any)
@@ -460,7 +494,7 @@ impl<'a> Request<'a> {
             "--format" => Ok(Awaited::Format),
             "--color" => Ok(Awaited::Color),
             "-C" => Ok(Awaited::Folder),
-            _ => self.read_file(alloc, word),
+            _ => self.read_kinds_or_file(alloc, word),
         }
     }
 
@@ -503,13 +537,50 @@ impl<'a> Request<'a> {
     }
 
     // Only `check` has warnings.
-    fn read_deny(&mut self, alloc: Global) -> Result<Awaited, Unasked> {
+    fn needs_warnings(&self, alloc: Global) -> Result<(), Unasked> {
         if self.task != Task::Check {
             let task = self.task.word();
             return Err(wrong(format!(in alloc; "{task} has no warnings")));
         }
+        Ok(())
+    }
+
+    // All warnings count as errors.
+    fn read_deny(&mut self, alloc: Global) -> Result<Awaited, Unasked> {
+        self.needs_warnings(alloc)?;
         self.deny = true;
         Ok(Awaited::Any)
+    }
+
+    // The next word names kinds of warnings.
+    fn begin_allowed(&self, alloc: Global) -> Result<Awaited, Unasked> {
+        self.needs_warnings(alloc)?;
+        Ok(Awaited::Allowed)
+    }
+
+    // Reads kinds of warnings that aren't looked for.
+    fn read_allowed(&mut self, alloc: Global, word: &str) -> Result<Awaited, Unasked> {
+        self.needs_warnings(alloc)?;
+        push_kinds(alloc, &mut self.allowed, word)?;
+        Ok(Awaited::Any)
+    }
+
+    // Reads kinds of warnings that count as errors.
+    fn read_denied(&mut self, alloc: Global, word: &str) -> Result<Awaited, Unasked> {
+        self.needs_warnings(alloc)?;
+        push_kinds(alloc, &mut self.denied, word)?;
+        Ok(Awaited::Any)
+    }
+
+    // Reads an option that kinds of warnings are joined to, or a file.
+    fn read_kinds_or_file(&mut self, alloc: Global, word: &'a str) -> Result<Awaited, Unasked> {
+        if let Some(kinds) = word.strip_prefix("--deny=") {
+            return self.read_denied(alloc, kinds);
+        }
+        if let Some(kinds) = word.strip_prefix("--allow=") {
+            return self.read_allowed(alloc, kinds);
+        }
+        self.read_file(alloc, word)
     }
 
     // Only `run` has a call.

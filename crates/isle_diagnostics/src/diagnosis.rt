@@ -293,8 +293,8 @@ fn shadow(
     Ok(report)
 }
 
-// Adds the place of a rule, with its name and priority between two texts.
-pub(crate) fn add_rule(
+/// Adds the place of a rule, with its name and priority between two texts.
+pub fn add_rule(
     alloc: Global,
     report: &mut Report,
     defs: &[Def],
@@ -324,8 +324,8 @@ fn push_rule(text: &mut String, defs: &[Def], pos: Pos) -> Result<(), AllocError
     write!(text, " (priority {priority})")
 }
 
-// Adds a line that helps.
-pub(crate) fn add_help(alloc: Global, report: &mut Report, text: &str) -> Result<(), AllocError> {
+/// Adds a line that helps.
+pub fn add_help(alloc: Global, report: &mut Report, text: &str) -> Result<(), AllocError> {
     add_note(report, "help", String::from_str(alloc, text)?)
 }
 

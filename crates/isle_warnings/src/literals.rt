@@ -1,11 +1,11 @@
 //! Integer literals that are no numbers of their types.
 
-use crate::diagnosis::add_help;
-use crate::lints::begun;
+use crate::kinds::{Warning, add_place, begun};
 use cranelift_isle::lower::Lowered;
 use cranelift_isle::sema::{BuiltinType, IntType, TermId, Type, TypeId};
 use cranelift_isle::syntax::{Def, Expr, Ident, IfLet, Pattern, Pos, Rule};
-use isle_printing::report::{Label, Report};
+use isle_diagnostics::diagnosis::add_help;
+use isle_printing::report::Report;
 use std::alloc::{AllocError, Global};
 
 /// Adds a warning for each integer literal of a definition that is outside the range of its built-in type: it stands for
@@ -173,11 +173,9 @@ fn add_literal(
     }
     let name = ty.name();
     let message = format!(in alloc; "{val} is out of range for {name}")?;
-    let mut report = begun(alloc, "literal", message);
-    report.labels.push(Label {
-        pos,
-        text: format!(in alloc; "means {number}")?,
-    })?;
+    let mut report = begun(alloc, Warning::Literal, message);
+    let means = format!(in alloc; "means {number}")?;
+    add_place(alloc, &mut report, pos, &means)?;
     let help = format!(in alloc; "write {number} if you mean that")?;
     add_help(alloc, &mut report, &help)?;
     reports.push(report)?;
