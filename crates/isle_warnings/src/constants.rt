@@ -121,7 +121,7 @@ fn type_of(lowered: &Lowered, name: Sym) -> Option<&Type> {
     lowered.tyenv.types.get(ty.index())
 }
 
-// What rules ask of a site: a constant, and the place of the first rule that asks for it.
+// What a rule asks of a site, and the place of the rule.
 #[derive(Clone, Copy)]
 struct Asked {
     constraint: Constraint,
@@ -178,23 +178,28 @@ fn add_at(
     site: BindingId,
 ) -> Result<(), AllocError> {
     let mut seen: Vec<Asked> = Vec::new(alloc);
-    for rule in &term.rules.rules {
-        let Some(constraint) = rule.get_constraint(site) else {
-            continue;
-        };
-        let asked = Asked {
-            constraint,
-            rule: rule.pos,
-        };
-        match first_like(lowered, &seen, constraint) {
-            Some(other) => {
-                reports.push(beside(alloc, defs, lowered, other, asked)?)?;
-                return Ok(());
-            }
-            None => seen.push(asked)?,
+    for asked in asked_of(alloc, term, site)? {
+        if let Some(other) = first_like(lowered, &seen, asked.constraint) {
+            reports.push(beside(alloc, defs, lowered, other, asked)?)?;
+            return Ok(());
         }
+        seen.push(asked)?;
     }
     Ok(())
+}
+
+// What each rule asks of a site.
+fn asked_of(alloc: Global, term: &LoweredTerm, site: BindingId) -> Result<Vec<Asked>, AllocError> {
+    let mut all = Vec::new(alloc);
+    for rule in &term.rules.rules {
+        if let Some(constraint) = rule.get_constraint(site) {
+            all.push(Asked {
+                constraint,
+                rule: rule.pos,
+            })?;
+        }
+    }
+    Ok(all)
 }
 
 // The first of these that asks for another constant, which may be equal to this one.

@@ -70,8 +70,8 @@ impl Warning {
 /// If memory is refused.
 pub fn warning_names(alloc: Global) -> Result<String, AllocError> {
     let mut names = String::new(alloc);
-    for (i, warning) in WARNINGS.iter().enumerate() {
-        names.push_str(if i == 0 { "" } else { ", " })?;
+    for warning in WARNINGS {
+        names.push_str(if names.is_empty() { "" } else { ", " })?;
         names.push_str(warning.name())?;
     }
     Ok(names)

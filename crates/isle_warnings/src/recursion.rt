@@ -19,14 +19,18 @@ pub(crate) fn add_recursion(
     // The terms of the cycles that are reported.
     let mut told: Vec<usize> = Vec::new(alloc);
     for (number, term) in lowered.termenv.terms.iter().enumerate() {
-        let cycle = cycle_of(alloc, &calls, number)?;
-        match cycle {
-            Some(cycle) if !term.is_recursive() && !told.contains(&number) => {
-                reports.push(recursive(alloc, lowered, term, &cycle)?)?;
-                told.extend_from_slice(&cycle)?;
+        match cycle_of(alloc, &calls, number)? {
+            Some(cycle) => {
+                if !term.is_recursive() && !told.contains(&number) {
+                    reports.push(recursive(alloc, lowered, term, &cycle)?)?;
+                    told.extend_from_slice(&cycle)?;
+                }
             }
-            None if term.is_recursive() => reports.push(needless(alloc, lowered, term)?)?,
-            _ => {}
+            None => {
+                if term.is_recursive() {
+                    reports.push(needless(alloc, lowered, term)?)?;
+                }
+            }
         }
     }
     Ok(())
