@@ -1,11 +1,11 @@
 //! What a person asks about rules: why they are refused, what a rule demands and when it is taken, and how large trees are.
 #![tactic(auto)]
 
-mod called;
+pub mod called;
 pub mod demands;
 pub mod diagnosis;
 pub mod explanation;
-mod lines;
+pub mod lines;
 pub mod lints;
 mod literals;
 pub mod names;
@@ -13,5 +13,5 @@ mod numbered;
 pub mod stats;
 mod trees;
 mod variables;
-mod way_text;
-mod ways;
+pub mod way_text;
+pub mod ways;
