@@ -24,7 +24,7 @@ pub(crate) enum Told {
 }
 
 // What is told, where memory isn't refused.
-fn told(alloc: Global, answer: Result<String, Fault>) -> Result<Told, AllocError> {
+fn told_of(alloc: Global, answer: Result<String, Fault>) -> Result<Told, AllocError> {
     match answer {
         Ok(text) => Ok(Told::Text(String::from_str(alloc, text.trim_end())?)),
         Err(Fault::Text(why)) => Ok(Told::Wrong(why)),
@@ -39,7 +39,7 @@ pub(crate) fn ran(
     files: &Files,
     lowered: &Lowered,
 ) -> Result<Told, AllocError> {
-    told(alloc, outcome(alloc, asked, files, lowered))
+    told_of(alloc, outcome(alloc, asked, files, lowered))
 }
 
 /// Whether the rules that are asked about are taken on the call.
@@ -50,7 +50,7 @@ pub(crate) fn told_why(
     defs: &[Def],
     lowered: &Lowered,
 ) -> Result<Told, AllocError> {
-    told(alloc, reasons(alloc, asked, files, defs, lowered))
+    told_of(alloc, reasons(alloc, asked, files, defs, lowered))
 }
 
 // Whether the rules that are asked about are taken on the call.
@@ -61,7 +61,7 @@ fn reasons(
     defs: &[Def],
     lowered: &Lowered,
 ) -> Result<String, Fault> {
-    let replies = replies(alloc, asked, files, lowered)?;
+    let replies = replies_of(alloc, asked, files, lowered)?;
     let call = call_asked(alloc, asked, lowered)?;
     let asking = Asking {
         alloc,
@@ -85,7 +85,7 @@ fn outcome(
     if asked.answers.is_none() && !asked.trace {
         return echoed(alloc, lowered, &text);
     }
-    let replies = replies(alloc, asked, files, lowered)?;
+    let replies = replies_of(alloc, asked, files, lowered)?;
     let call = call_asked(alloc, asked, lowered)?;
     let mut runs = Runs::new(alloc, lowered, files, &replies, asked.trace);
     let args = value_clones(alloc, &call.args)?;
@@ -123,7 +123,7 @@ fn call_asked<'a>(
 }
 
 // What answers calls: the last file, where it has answers.
-fn replies(
+fn replies_of(
     alloc: Global,
     asked: &Request<'_>,
     files: &Files,

@@ -85,14 +85,13 @@ fn value_in(values: &[(usize, Value)], number: usize) -> Option<&Value> {
 impl<'a> Judged<'a> {
     // A number has a value. If it has another one, both are kept.
     fn assign(&mut self, number: usize, value: Value) -> Result<(), AllocError> {
-        match value_in(&self.values, number) {
-            Some(other) => {
-                if !same_value(other, &value) {
-                    self.others.push((number, value))?;
-                }
+        if let Some(other) = value_in(&self.values, number) {
+            if !same_value(other, &value) {
+                self.others.push((number, value))?;
             }
-            None => self.values.push((number, value))?,
+            return Ok(());
         }
+        self.values.push((number, value))?;
         Ok(())
     }
 

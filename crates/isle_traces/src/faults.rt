@@ -25,7 +25,7 @@ impl<T: Drop> From<AllocFailed<T>> for Fault {
 }
 
 /// A fault with this text.
-pub fn fault(text: Result<String, AllocError>) -> Fault {
+pub fn fault_saying(text: Result<String, AllocError>) -> Fault {
     match text {
         Ok(text) => Fault::Text(text),
         Err(AllocError) => Fault::Memory,
@@ -35,7 +35,7 @@ pub fn fault(text: Result<String, AllocError>) -> Fault {
 /// That something is wrong with a call.
 pub fn fault_of_call(alloc: Global, why: Unanswered) -> Fault {
     match why {
-        Unanswered::Call(why) => fault(format!(in alloc; "error: {why}")),
+        Unanswered::Call(why) => fault_saying(format!(in alloc; "error: {why}")),
         Unanswered::Memory => Fault::Memory,
     }
 }

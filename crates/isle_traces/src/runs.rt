@@ -1,21 +1,22 @@
 //! Runs of calls, and of the calls of terms with rules that they make.
 
 use crate::asked::{Asked, Count, Side, asked_text, count_of};
-use crate::faults::{Fault, fault};
+use crate::faults::{Fault, fault_saying};
 use crate::known::{Answered, Known};
 use crate::replies::Replies;
 use crate::trace_text::{push_events, push_title};
-use crate::walk::{Event, Walked, walk};
+use crate::walk::{Event, Walked, walk_over};
 use cranelift_isle::lower::{Lowered, LoweredTerm};
 use cranelift_isle::sema::{TermId, TypeId};
 use cranelift_isle::syntax::{Files, Pos};
 use isle_calls::outcomes::outcome_text;
 use isle_interpreter::run::run;
-use isle_interpreter::state::{Call, Ending, Outcome, Trace};
+use isle_interpreter::state::{Call, Ending, Outcome};
 use isle_interpreter::values::{Content, Value, value_clones};
 use isle_queries::premises::is_multi;
 use isle_queries::rules::lowered_term;
 use std::alloc::{AllocError, Global};
+use std::mem;
 
 // How many calls of terms with rules may be in one another.
 const DEEPEST: usize = 200;
@@ -45,6 +46,18 @@ impl<'a> Drop for Frame<'a> {
     }
 }
 
+impl<'a> Frame<'a> {
+    fn into_parts(self) -> (Asked, Vec<Call>) {
+        let Self {
+            entry: _,
+            asked,
+            made: _,
+            calls,
+        } = self;
+        (asked, calls)
+    }
+}
+
 /// What a run came to.
 pub struct Ended {
     /// The call that was run.
@@ -62,6 +75,17 @@ impl Drop for Ended {
             outcome: _,
             taken: _,
         } = self;
+    }
+}
+
+impl Ended {
+    fn into_parts(self) -> (Asked, Outcome) {
+        let Self {
+            asked,
+            outcome,
+            taken: _,
+        } = self;
+        (asked, outcome)
     }
 }
 
@@ -186,7 +210,7 @@ impl<'a> Runs<'a> {
             }
         }
         let alloc = self.alloc;
-        Err(fault(format!(in alloc; "error[limit]: more than {MOST_CALLS} calls")))
+        Err(fault_saying(format!(in alloc; "error[limit]: more than {MOST_CALLS} calls")))
     }
 
     // Runs the last run from its beginning: it ends, or asks for an answer. What the first run came to, where that ended.
@@ -205,11 +229,11 @@ impl<'a> Runs<'a> {
     fn walked(&self) -> Result<Walked, Fault> {
         let alloc = self.alloc;
         let Some(frame) = self.frames.last() else {
-            return Err(fault(String::from_str(alloc, "error[call]: nothing to run")));
+            return Err(fault_saying(String::from_str(alloc, "error[call]: nothing to run")));
         };
         let multi = self.is_multi(frame.entry.id);
         let answered = self.answered_in(frame);
-        let walked = walk(alloc, &answered, frame.entry, &frame.asked.args, multi)?;
+        let walked = walk_over(alloc, &answered, frame.entry, &frame.asked.args, multi)?;
         Ok(walked)
     }
 
@@ -269,13 +293,13 @@ impl<'a> Runs<'a> {
                     return Ok(());
                 }
                 let text = asked_text(alloc, self.lowered, &asked)?;
-                return Err(fault(format!(in alloc;
+                return Err(fault_saying(format!(in alloc;
                     "error[limit]: more than {DEEPEST} calls in one another, the last one of {text}"
                 )));
             }
         }
         let text = asked_text(alloc, self.lowered, &asked)?;
-        Err(fault(format!(in alloc; "error[call]: no answer for {text}")))
+        Err(fault_saying(format!(in alloc; "error[call]: no answer for {text}")))
     }
 
     // Makes an answer known. The impure calls that were made for it are listed in the run that asked.
@@ -318,7 +342,7 @@ impl<'a> Runs<'a> {
             self.tell(&frame, &walked)?;
         }
         let taken = taken_in(self.alloc, &walked.events)?;
-        let ended = ended(frame, walked, taken);
+        let ended = end_of(frame, walked, taken);
         if self.frames.is_empty() {
             return Ok(Some(ended));
         }
@@ -346,7 +370,7 @@ impl<'a> Runs<'a> {
         if text.as_str() == wanted.as_str() {
             return Ok(());
         }
-        Err(fault(format!(in alloc;
+        Err(fault_saying(format!(in alloc;
             "error[internal]: the trace comes to `{text}`, but the run to `{wanted}`"
         )))
     }
@@ -375,27 +399,21 @@ impl<'a> Runs<'a> {
 
     // Gives the result of a run to the run that asked.
     fn give_result(&mut self, ended: Ended) -> Result<(), Fault> {
-        let Ended {
-            asked,
-            outcome,
-            taken: _,
-        } = ended;
-        let Outcome { trace, ending } = outcome;
-        let Trace { calls, results } = trace;
-        let content = self.result_of(&asked, ending, results)?;
+        let (asked, mut outcome) = ended.into_parts();
+        let none = Vec::new(self.alloc);
+        let calls = mem::replace(&mut outcome.trace.calls, none);
+        let content = self.result_of(&asked, &mut outcome)?;
         self.give(asked, content, calls)
     }
 
-    // The answer to a call whose run ended so, with these results.
-    fn result_of(
-        &self,
-        asked: &Asked,
-        ending: Ending,
-        results: Vec<Content>,
-    ) -> Result<Content, Fault> {
-        let mut results = results;
-        match (self.count_of(asked.term), ending) {
-            (Count::Many, Ending::RanThrough) => Ok(Content::Many(results)),
+    // The answer to a call whose run came to this.
+    fn result_of(&self, asked: &Asked, outcome: &mut Outcome) -> Result<Content, Fault> {
+        let results = &mut outcome.trace.results;
+        match (self.count_of(asked.term), outcome.ending) {
+            (Count::Many, Ending::RanThrough) => Ok(Content::Many(mem::replace(
+                results,
+                Vec::new(self.alloc),
+            ))),
             (_, Ending::Ended) => match results.pop() {
                 Some(content) => Ok(content),
                 None => Ok(Content::Nothing),
@@ -419,34 +437,20 @@ impl<'a> Runs<'a> {
     fn no_result(&self, asked: &Asked, why: &str) -> Fault {
         let alloc = self.alloc;
         match asked_text(alloc, self.lowered, asked) {
-            Ok(text) => fault(format!(in alloc; "error[call]: {why} {text}")),
+            Ok(text) => fault_saying(format!(in alloc; "error[call]: {why} {text}")),
             Err(AllocError) => Fault::Memory,
         }
     }
 }
 
 // What a run came to: its impure calls stand as they are listed.
-fn ended(frame: Frame<'_>, walked: Walked, taken: Vec<Pos>) -> Ended {
-    let Frame {
-        entry: _,
-        asked,
-        made: _,
-        calls,
-    } = frame;
-    let Walked {
-        asked: _,
-        outcome,
-        events: _,
-        answers: _,
-    } = walked;
-    let Outcome { trace, ending } = outcome;
-    let Trace { calls: _, results } = trace;
+fn end_of(frame: Frame<'_>, walked: Walked, taken: Vec<Pos>) -> Ended {
+    let (asked, calls) = frame.into_parts();
+    let mut outcome = walked.into_outcome();
+    outcome.trace.calls = calls;
     Ended {
         asked,
-        outcome: Outcome {
-            trace: Trace { calls, results },
-            ending,
-        },
+        outcome,
         taken,
     }
 }

@@ -160,7 +160,8 @@ impl<'a> Sight<'a> {
 
     // What an extractor that is called brings of a value.
     fn extracted(self, term: &Term, value: &Value) -> Result<Fit<'a>, AllocError> {
-        let args = vec![in self.alloc; value.clone()?]?;
+        let argument = value.clone()?;
+        let args = vec![in self.alloc; argument]?;
         let asked = Asked {
             side: Side::Extractor,
             term: term.id,

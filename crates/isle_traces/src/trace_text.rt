@@ -27,7 +27,7 @@ pub fn push_events(
     out: &mut String,
 ) -> Result<(), AllocError> {
     let shown = shown_answers(alloc, lowered, entry, &walked.answers)?;
-    let arguments = Vec::new(alloc);
+    let arguments: Vec<String> = Vec::new(alloc);
     let sites = Sites {
         alloc,
         names: Names {

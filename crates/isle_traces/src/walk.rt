@@ -49,8 +49,21 @@ impl Drop for Walked {
     }
 }
 
+impl Walked {
+    /// The outcome.
+    pub fn into_outcome(self) -> Outcome {
+        let Self {
+            asked: _,
+            outcome,
+            events: _,
+            answers: _,
+        } = self;
+        outcome
+    }
+}
+
 /// The walk of a run over a term's tree on arguments, by answers that are known. It ends at the first call that has none.
-pub fn walk(
+pub fn walk_over(
     alloc: Global,
     answered: &Answered<'_>,
     entry: &LoweredTerm,
@@ -246,7 +259,8 @@ impl<'a, 'b> Walk<'a, 'b> {
 
     // The answers of the call that a loop of a site goes over.
     fn answers_of(&self, site: BindingId) -> Result<Option<Vec<Content>>, AllocError> {
-        let Some(Binding::Iterator { source }) = self.stage.sites.get(site.index()) else {
+        let sites = self.stage.sites;
+        let Some(Binding::Iterator { source }) = sites.get(site.index()) else {
             return Ok(None);
         };
         match used(&self.stage, &self.env, *source)? {
@@ -307,7 +321,8 @@ impl<'a, 'b> Walk<'a, 'b> {
 
     // Whether a site needs an answer that isn't known: then that is asked for.
     fn is_asked(&mut self, site: BindingId) -> Result<bool, AllocError> {
-        match self.stage.sites.get(site.index()) {
+        let sites = self.stage.sites;
+        match sites.get(site.index()) {
             Some(Binding::Extractor { term, parameter }) => {
                 match used_value(&self.stage, &self.env, *parameter)? {
                     Some(value) => {

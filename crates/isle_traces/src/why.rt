@@ -1,7 +1,7 @@
 //! Whether a rule is taken on a call, and why not.
 
 use crate::demands::{Verdict, verdict_of};
-use crate::faults::{Fault, fault};
+use crate::faults::{Fault, fault_saying};
 use crate::replies::Replies;
 use crate::runs::Runs;
 use crate::templates::Sight;
@@ -63,7 +63,9 @@ pub fn why<'a>(asking: Asking<'a>, called: &str, call: &ReadCall<'a>) -> Result<
     if out.is_empty() {
         let env = &asking.lowered.termenv;
         let term = term_name(&asking.lowered.tyenv, env, call.entry.id).unwrap_or("?");
-        return Err(fault(format!(in alloc; "error: no rule of `{term}` is called `{called}`")));
+        return Err(fault_saying(format!(in alloc;
+            "error: no rule of `{term}` is called `{called}`"
+        )));
     }
     Ok(out)
 }
@@ -86,7 +88,7 @@ fn push_answer<'a>(
         }
     }
     let conditions = conditions_of(asking.alloc, written)?;
-    match verdict(asking, runs, &conditions, rule.pos, &call.args)? {
+    match settled(asking, runs, &conditions, rule.pos, &call.args)? {
         Verdict::Unmet(met, reason) => {
             push_unmet(asking.alloc, &conditions, met, &reason, out)?;
             Ok(())
@@ -194,14 +196,14 @@ fn matches<'a>(
         return Ok(false);
     };
     let conditions = conditions_of(asking.alloc, written)?;
-    match verdict(asking, runs, &conditions, rule.pos, args)? {
+    match settled(asking, runs, &conditions, rule.pos, args)? {
         Verdict::Met => Ok(true),
         Verdict::Unmet(..) | Verdict::Asks(_) => Ok(false),
     }
 }
 
 // Whether values meet the demands of the rule at a place: all answers that this needs are made known.
-fn verdict<'a>(
+fn settled<'a>(
     asking: Asking<'a>,
     runs: &mut Runs<'a>,
     conditions: &Conditions<'_>,
@@ -222,7 +224,7 @@ fn verdict<'a>(
         }
     }
     let alloc = asking.alloc;
-    Err(fault(format!(in alloc; "error[limit]: more than {MOST_ANSWERS} calls")))
+    Err(fault_saying(format!(in alloc; "error[limit]: more than {MOST_ANSWERS} calls")))
 }
 
 // Whether values meet demands, by the answers that are known.
@@ -267,7 +269,7 @@ fn check(
     if matched(&source, rule, args)?.is_some() == met {
         return Ok(());
     }
-    Err(fault(String::from_str(alloc, "error[internal]: the demands and the rule differ")))
+    Err(fault_saying(String::from_str(alloc, "error[internal]: the demands and the rule differ")))
 }
 
 // The typed rule at a place.
