@@ -166,6 +166,8 @@ fn request_of<'a>(alloc: Global, asked: Asked) -> Request<'a>
         rule: "",
         code: CodegenOptions::included(alloc),
         progress: false,
+        answers: None,
+        trace: false,
         files: Vec::new(alloc),
         call: Vec::new(alloc),
     }

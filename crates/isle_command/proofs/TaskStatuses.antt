@@ -36,6 +36,8 @@ status_of_task T.Compare asked terms answer (inr failed) = inr (failed.0, refl)
 status_of_task T.Samples asked terms answer done = inl done.0.0
 status_of_task T.Run asked terms answer (inl done) = inl done.0.0
 status_of_task T.Run asked terms answer (inr failed) = inr (failed.0, refl)
+status_of_task T.Why asked terms answer (inl done) = inl done.0.0
+status_of_task T.Why asked terms answer (inr failed) = inr (failed.0, refl)
 
 -- a status that is 0 or 1 is at most 1
 at_most_one : (status : ℕ) (P : Type 0) → (status ≡ 0) ⊎ ((status ≡ 1) × P) → status ≤ 1

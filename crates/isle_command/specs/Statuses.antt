@@ -20,6 +20,7 @@ may_fail T.Stats asked = false
 may_fail T.Compare asked = true
 may_fail T.Samples asked = false
 may_fail T.Run asked = true
+may_fail T.Why asked = true
 
 -- an answer's status is 0 only for texts that are accepted, and 1 only for others, unless the task may fail by itself
 pub record IsStatusOfReading (asked : Request) (reading : Reading) (status : ℕ) : Type 0 where

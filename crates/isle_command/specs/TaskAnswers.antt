@@ -93,6 +93,7 @@ IsAnswerBy T.Stats asked terms answer = IsDone answer
 IsAnswerBy T.Compare asked terms answer = IsDoneWithoutText answer ⊎ IsFailed answer
 IsAnswerBy T.Samples asked terms answer = IsDoneWithoutText answer
 IsAnswerBy T.Run asked terms answer = IsDoneWithText answer ⊎ IsFailed answer
+IsAnswerBy T.Why asked terms answer = IsDoneWithText answer ⊎ IsFailed answer
 
 -- definitions are accepted and the task is done or fails, or they aren't and are refused
 abbrev pub IsAnswerToDefinitions : List Definition → Request → Answer → Type 0

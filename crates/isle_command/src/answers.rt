@@ -9,6 +9,7 @@ ghost use Rattle.isle_command.specs.TaskAnswers.{lowered_terms, AsksForAll, IsAn
 ghost use Rattle.isle_command.specs.TaskAnswers.{AreReports, AreTrees, IsDoneWithText, IsDoneWithoutText, IsFailed, IsRefusal, denies};
 ghost use Rattle.isle_command.specs.Statuses.{IsStatusOfReading};
 
+use crate::calls::{Told, ran, told_why};
 use crate::code::{Code, code_of_lowered};
 use crate::comparison::difference;
 use crate::graphs::graph_of;
@@ -18,8 +19,6 @@ use crate::reading::{Reading, reading_of};
 use crate::words::{Format, Request, Task};
 use cranelift_isle::lower::{Lowered, LoweredTerm, lower};
 use cranelift_isle::syntax::{Def, Fault, Files};
-use isle_calls::calls::answer_to_call;
-use isle_calls::values::Unanswered;
 use isle_diagnostics::diagnosis::reports_of;
 use isle_diagnostics::explanation::{explanation, with_rules};
 use isle_diagnostics::stats::stats;
@@ -182,7 +181,8 @@ fn answer_to_lowered<E: Write>(
         Task::Samples => Ok(accepted(alloc, String::new(alloc))),
         Task::Stats => Ok(accepted(alloc, stats(alloc, lowered)?)),
         Task::Compare => compared(alloc, asked, files, lowered, teller),
-        Task::Run => ran(alloc, asked, lowered),
+        Task::Run => answer_of_call(alloc, ran(alloc, asked, files, lowered)?),
+        Task::Why => answer_of_call(alloc, told_why(alloc, asked, files, defs, lowered)?),
         Task::Explain => explained(alloc, asked, files, defs, lowered),
     }
 }
@@ -295,40 +295,18 @@ fn missing(alloc: Global, what: &str, name: &str) -> Result<Answer, AllocError>
     })
 }
 
-// The outcome of the call that is asked for, or what is wrong with it.
-fn ran(alloc: Global, asked: &Request<'_>, lowered: &Lowered) -> Result<Answer, AllocError>
+// The answer to a call, or what is wrong with it.
+fn answer_of_call(alloc: Global, told: Told) -> Result<Answer, AllocError>
     ensures { IfOk result (λ a. IsDoneWithText a ⊎ IsFailed a) }
 {
-    let call = call_text(alloc, &asked.call)?;
-    match answer_to_call(alloc, lowered, &call) {
-        Ok(outcome) => Ok(accepted(alloc, format!(in alloc; "{outcome}\n")?)),
-        Err(Unanswered::Call(why)) => failed(alloc, &why),
-        Err(Unanswered::Memory) => Err(AllocError),
+    match told {
+        Told::Text(text) => Ok(accepted(alloc, format!(in alloc; "{text}\n")?)),
+        Told::Wrong(why) => Ok(Answer {
+            status: 1,
+            out: String::new(alloc),
+            err: format!(in alloc; "{why}\n")?,
+        }),
     }
-}
-
-// The answer where definitions are accepted and a task fails, for this reason.
-fn failed(alloc: Global, why: &str) -> Result<Answer, AllocError>
-    ensures { IfOk result IsFailed }
-{
-    Ok(Answer {
-        status: 1,
-        out: String::new(alloc),
-        err: format!(in alloc; "error: {why}\n")?,
-    })
-}
-
-// The text of a call whose words are these, in parentheses where the words have none.
-fn call_text(alloc: Global, words: &[&str]) -> Result<String, AllocError> {
-    let mut text = String::new(alloc);
-    for (i, word) in words.iter().enumerate() {
-        text.push_str(if i == 0 { "" } else { " " })?;
-        text.push_str(word)?;
-    }
-    if text.starts_with('(') {
-        return Ok(text);
-    }
-    format!(in alloc; "({text})")
 }
 
 // The terms that are asked for.

@@ -16,12 +16,16 @@ definitions. Tasks:
                          runs a term on values (docs/RUNNING.md). Each term that it calls returns its first argument. An
                          impure term returns the number of impure calls before it. A value with parentheses is quoted:
                          isle run a.isle -- f 1 '(T.A 2)'
+  why RULE FILE.. -- TERM VALUE..
+                         says whether a rule is taken on a call, and why not. RULE is as in explain.
   samples [NAME]         lists the built-in samples, or prints the tree of one
 Options:
   --terms NAME,..        lower, compare: only these terms
   --prefix FROM=TO       rust: shows TO in place of FROM where a file name begins with FROM. May be given many times.
   --log                  rust: the code logs each result, by the crate log
   --with-allows          rust: the code begins with attributes #![allow(..)], so it can be a file of its own
+  --answers FILE         run, why: takes the answers to calls from a file, and runs called terms with rules (docs/RUNNING.md)
+  --trace                run: shows each test that is made, and the rule of each return
   --no-expand            does not expand internal extractors. The task rust always expands them.
   --deny                 check: all warnings are errors
   --deny=NAME,..         check: the warnings of these names are errors

@@ -2,6 +2,7 @@
 #![tactic(auto)]
 
 pub mod answers;
+mod calls;
 pub mod code;
 mod comparison;
 mod graphs;

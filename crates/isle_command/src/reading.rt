@@ -33,7 +33,7 @@ impl Drop for Reading {
     }
 }
 
-/// Reads the texts of files, but for those that have printed trees, and tells of each that it is read.
+/// Reads the texts of files, but for those that have no definitions, and tells of each that it is read.
 pub fn reading_of<E: Write>(
     alloc: Global,
     asked: &Request<'_>,
@@ -45,7 +45,7 @@ pub fn reading_of<E: Write>(
     let mut defs = Vec::new(alloc);
     let mut reports = Vec::new(alloc);
     for (number, text) in files.texts.iter().enumerate() {
-        if !asked.has_trees(number) {
+        if !asked.has_no_definitions(number) {
             teller.tell("reading", file_name(files, number));
             read_text(alloc, number, text, &mut defs, &mut reports)?;
         }

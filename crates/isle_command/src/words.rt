@@ -25,10 +25,12 @@ pub enum Task {
     Samples,
     /// The outcome of a call of a term.
     Run,
+    /// Whether a rule is taken on a call.
+    Why,
 }
 
 // All tasks.
-const TASKS: [Task; 8] = [
+const TASKS: [Task; 9] = [
     Task::Lower,
     Task::Rust,
     Task::Check,
@@ -37,6 +39,7 @@ const TASKS: [Task; 8] = [
     Task::Compare,
     Task::Samples,
     Task::Run,
+    Task::Why,
 ];
 
 impl Task {
@@ -51,7 +54,13 @@ impl Task {
             Task::Compare => "compare",
             Task::Samples => "samples",
             Task::Run => "run",
+            Task::Why => "why",
         }
+    }
+
+    // Whether a task is about a call.
+    fn has_call(self) -> bool {
+        self == Task::Run || self == Task::Why
     }
 
     // The task of a word.
@@ -122,16 +131,20 @@ pub struct Request<'a> {
     pub terms: Option<&'a str>,
     /// Where files are looked for whose names don't begin with `/`; the empty text for where the command runs.
     pub folder: &'a str,
-    /// The rules that are to be explained: the name of a rule or of a term, the number of a line in the rules, or the end of a
+    /// The rules that are asked about: the name of a rule or of a term, the number of a line in the rules, or the end of a
     /// file's path, a colon and such a number.
     pub rule: &'a str,
     /// How Rust code is written.
     pub code: CodegenOptions,
     /// Whether it is told what is being done.
     pub progress: bool,
+    /// The file that has the answers to what a call calls, where there is one. It is the last of `files`.
+    pub answers: Option<&'a str>,
+    /// Whether the tests of a run are told.
+    pub trace: bool,
     /// The files, where `-` is standard input, or the sample. The last one has printed trees where they are compared.
     pub files: Vec<&'a str>,
-    /// The words of the call that is to be run.
+    /// The words of the call.
     pub call: Vec<&'a str>,
 }
 
@@ -151,6 +164,8 @@ impl<'a> Drop for Request<'a> {
             rule: _,
             code: _,
             progress: _,
+            answers: _,
+            trace: _,
             files: _,
             call: _,
         } = self;
@@ -213,6 +228,7 @@ enum Awaited {
     Color,
     Prefix,
     Allowed,
+    Answers,
     // An option or a file.
     Any,
     // A word of a call.
@@ -251,9 +267,9 @@ struct Given {
 /// What these words ask. `colors` says whether errors have a terminal's colours where no word says so.
 ///
 /// Where a word is `--help`, `-h` or `--version`, that is all they ask. Else the first word is the name of a task. For `explain`
-/// the rule follows. Then there are files; the last one of `compare` has trees, and `samples` has at most one name of a
-/// sample. For `run` then come `--` and the words of a call: the term and its arguments. Options may stand everywhere behind the
-/// task and before `--`: `isle --help` lists them.
+/// and `why` the rule follows. Then there are files; the last one of `compare` has trees, and `samples` has at most one name
+/// of a sample. For `run` and `why` then come `--` and the words of a call: the term and its arguments. Options may stand
+/// everywhere behind the task and before `--`: `isle --help` lists them.
 ///
 /// # Errors
 ///
@@ -298,6 +314,8 @@ fn request_by<'a>(given: Given, words: &'a [String]) -> Result<Request<'a>, Unas
         rule: "",
         code: CodegenOptions::included(given.alloc),
         progress: false,
+        answers: None,
+        trace: false,
         files: Vec::new(given.alloc),
         call: Vec::new(given.alloc),
     };
@@ -307,26 +325,47 @@ fn request_by<'a>(given: Given, words: &'a [String]) -> Result<Request<'a>, Unas
     }
     match asked.missing(awaited) {
         Some(why) => Err(wrong_as(given.alloc, why)),
-        None => Ok(asked),
+        None => {
+            asked.add_answers()?;
+            Ok(asked)
+        }
     }
 }
 
 impl<'a> Request<'a> {
+    // The file with answers is read behind all others.
+    fn add_answers(&mut self) -> Result<(), AllocError> {
+        if let Some(name) = self.answers {
+            self.files.push(name)?;
+        }
+        Ok(())
+    }
+
     // What is missing behind the last word, where something is.
     fn missing(&self, awaited: Awaited) -> Option<&'static str> {
         match awaited {
             Awaited::Task => Some("no task"),
-            Awaited::Rule => Some("no rule to explain"),
+            Awaited::Rule => Some(self.missing_rule()),
             Awaited::Terms => Some("nothing after '--terms'"),
             Awaited::Folder => Some("nothing after '-C'"),
             Awaited::Format => Some("nothing after '--format'"),
             Awaited::Color => Some("nothing after '--color'"),
             Awaited::Prefix => Some("nothing after '--prefix'"),
             Awaited::Allowed => Some("nothing after '--allow'"),
+            Awaited::Answers => Some("nothing after '--answers'"),
             Awaited::Any | Awaited::Call => match self.wrong_files() {
                 Some(why) => Some(why),
                 None => self.missing_call(awaited),
             },
+        }
+    }
+
+    // That the rule is missing that is asked about.
+    fn missing_rule(&self) -> &'static str {
+        if self.task == Task::Why {
+            "no rule to ask about"
+        } else {
+            "no rule to explain"
         }
     }
 
@@ -351,7 +390,7 @@ impl<'a> Request<'a> {
 
     // What is missing where a call is wanted.
     fn missing_call(&self, awaited: Awaited) -> Option<&'static str> {
-        if self.task != Task::Run || !self.call.is_empty() {
+        if !self.task.has_call() || !self.call.is_empty() {
             return None;
         }
         if awaited == Awaited::Call {
@@ -383,9 +422,10 @@ impl<'a> Request<'a> {
         }
     }
 
-    /// Whether the file of a number has printed trees, and no definitions.
-    pub fn has_trees(&self, number: usize) -> bool {
-        self.task == Task::Compare && number.saturating_add(1) == self.files.len()
+    /// Whether the file of a number has printed trees or answers, and no definitions.
+    pub fn has_no_definitions(&self, number: usize) -> bool {
+        let has_other = self.task == Task::Compare || self.answers.is_some();
+        has_other && number.saturating_add(1) == self.files.len()
     }
 
     // Reads a word, and answers what is awaited then.
@@ -409,6 +449,10 @@ impl<'a> Request<'a> {
                 self.folder = word;
                 Ok(Awaited::Any)
             }
+            Awaited::Answers => {
+                self.answers = Some(word);
+                Ok(Awaited::Any)
+            }
             Awaited::Call => {
                 self.call.push(word)?;
                 Ok(Awaited::Call)
@@ -425,7 +469,7 @@ impl<'a> Request<'a> {
             return Err(wrong(format!(in alloc; "no task is called '{word}'")));
         };
         self.task = task;
-        Ok(if task == Task::Explain {
+        Ok(if task == Task::Explain || task == Task::Why {
             Awaited::Rule
         } else {
             Awaited::Any
@@ -489,6 +533,8 @@ impl<'a> Request<'a> {
             "--with-allows" => self.read_with_allows(alloc),
             "--log" => self.read_log(alloc),
             "--prefix" => self.begin_prefix(alloc),
+            "--answers" => self.begin_answers(alloc),
+            "--trace" => self.read_trace(alloc),
             "--" => self.begin_call(alloc),
             "--terms" => Ok(Awaited::Terms),
             "--format" => Ok(Awaited::Format),
@@ -583,13 +629,35 @@ impl<'a> Request<'a> {
         self.read_file(alloc, word)
     }
 
-    // Only `run` has a call.
+    // Only `run` and `why` have a call.
     fn begin_call(&mut self, alloc: Global) -> Result<Awaited, Unasked> {
+        self.needs_call(alloc)?;
+        Ok(Awaited::Call)
+    }
+
+    // Calls may have their answers from a file.
+    fn begin_answers(&mut self, alloc: Global) -> Result<Awaited, Unasked> {
+        self.needs_call(alloc)?;
+        Ok(Awaited::Answers)
+    }
+
+    // Only `run` tells its tests.
+    fn read_trace(&mut self, alloc: Global) -> Result<Awaited, Unasked> {
         if self.task != Task::Run {
+            let task = self.task.word();
+            return Err(wrong(format!(in alloc; "{task} has no trace")));
+        }
+        self.trace = true;
+        Ok(Awaited::Any)
+    }
+
+    // Only some tasks are about a call.
+    fn needs_call(&self, alloc: Global) -> Result<(), Unasked> {
+        if !self.task.has_call() {
             let task = self.task.word();
             return Err(wrong(format!(in alloc; "{task} runs no call")));
         }
-        Ok(Awaited::Call)
+        Ok(())
     }
 
     // Reads the name of a file, or of a sample.

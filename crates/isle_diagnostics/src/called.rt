@@ -7,7 +7,7 @@ use isle_printing::lines::depth_after;
 use std::alloc::{AllocError, Global};
 
 /// What a person calls rules, and where that may be a line, the piece of each file that the line is.
-pub(crate) struct Called<'a> {
+pub struct Called<'a> {
     called: &'a str,
     // Where the line begins in a file, and where it ends.
     lines: Vec<Option<(usize, usize)>>,
