@@ -1,0 +1,140 @@
+//! Typed rules, before and after internal extractors are expanded.
+
+use crate::expressions::push_expr;
+use crate::patterns::{push_pattern, push_patterns};
+use crate::writer::Json;
+use cranelift_isle::environments::Environments;
+use cranelift_isle::lower::Lowered;
+use cranelift_isle::sema::{BoundVar, IfLet, Rule, RuleId};
+use isle_diagnostics::names::Names;
+use std::alloc::AllocError;
+
+// The rules of definitions, typed.
+#[derive(Clone, Copy)]
+struct TypedForm<'a> {
+    // What names are looked up in.
+    names: Names<'a>,
+    // The rules, by their ids.
+    rules: &'a [Rule],
+}
+
+/// The typed rules of definitions in both forms.
+pub(crate) struct TypedForms<'a> {
+    // Those in which internal extractors stand as they are written, where there are such.
+    written: Option<TypedForm<'a>>,
+    // Those in which they are expanded, where they were.
+    expanded: Option<TypedForm<'a>>,
+}
+
+impl<'a> Drop for TypedForms<'a> {
+    fn drop(self) {
+        let TypedForms {
+            written: _,
+            expanded: _,
+        } = self;
+    }
+}
+
+impl<'a> TypedForms<'a> {
+    /// Those of lowered definitions, of which these names are, and those before expansion, where there are such.
+    pub(crate) fn new(
+        names: Names<'a>,
+        lowered: &'a Lowered,
+        unexpanded: &'a Option<Environments>,
+    ) -> TypedForms<'a> {
+        let own = TypedForm {
+            names,
+            rules: &lowered.termenv.rules,
+        };
+        if !lowered.termenv.expand_internal_extractors {
+            return TypedForms {
+                written: Some(own),
+                expanded: None,
+            };
+        }
+        TypedForms {
+            written: form_of(unexpanded),
+            expanded: Some(own),
+        }
+    }
+
+    /// Adds both forms of a rule, each at its key, with `null` where there is none.
+    pub(crate) fn push_forms(&self, json: &mut Json, id: RuleId) -> Result<(), AllocError> {
+        push_form(json, "written", &self.written, id)?;
+        push_form(json, "expanded", &self.expanded, id)
+    }
+}
+
+// The typed rules of environments.
+fn form_of<'a>(environments: &'a Option<Environments>) -> Option<TypedForm<'a>> {
+    match environments {
+        Some(environments) => Some(TypedForm {
+            names: Names {
+                tyenv: &environments.tyenv,
+                terms: &environments.termenv.terms,
+            },
+            rules: &environments.termenv.rules,
+        }),
+        None => None,
+    }
+}
+
+// Adds a form of a rule at a key.
+fn push_form(
+    json: &mut Json,
+    key: &str,
+    form: &Option<TypedForm<'_>>,
+    id: RuleId,
+) -> Result<(), AllocError> {
+    let Some(form) = form else {
+        return json.key_null(key);
+    };
+    match form.rules.get(id.index()) {
+        Some(rule) => {
+            json.begin_at(key, '{')?;
+            push_typed_rule(json, form.names, rule)?;
+            json.end('}')
+        }
+        None => json.key_null(key),
+    }
+}
+
+// Adds what a typed rule has.
+fn push_typed_rule(json: &mut Json, names: Names<'_>, rule: &Rule) -> Result<(), AllocError> {
+    push_variables(json, names, &rule.vars)?;
+    push_patterns(json, names, "arguments", &rule.args)?;
+    push_iflets(json, names, &rule.iflets)?;
+    json.key("right_side")?;
+    push_expr(json, names, &rule.rhs)
+}
+
+// Adds the variables of a rule, by their ids.
+fn push_variables(
+    json: &mut Json,
+    names: Names<'_>,
+    variables: &[BoundVar],
+) -> Result<(), AllocError> {
+    json.begin_at("variables", '[')?;
+    for variable in variables {
+        json.begin('{')?;
+        json.key_number("id", variable.id.index())?;
+        json.key_string("name", names.sym(variable.name))?;
+        json.key_string("type", names.ty(variable.ty))?;
+        json.end('}')?;
+    }
+    json.end(']')
+}
+
+// Adds the further conditions of a rule.
+fn push_iflets(json: &mut Json, names: Names<'_>, iflets: &[IfLet]) -> Result<(), AllocError> {
+    json.begin_at("iflets", '[')?;
+    for iflet in iflets {
+        json.begin('{')?;
+        json.key("pattern")?;
+        push_pattern(json, names, &iflet.lhs)?;
+        json.key("value")?;
+        push_expr(json, names, &iflet.rhs)?;
+        json.end('}')?;
+    }
+    json.end(']')
+}
