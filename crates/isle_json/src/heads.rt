@@ -113,29 +113,34 @@ fn push_extractor(
     names: Names<'_>,
     term: &Term,
 ) -> Result<(), AllocError> {
-    let (
-        TermKind::Decl {
-            extractor_kind: Some(kind),
-            ..
-        },
-        Some(sig),
-    ) = (&term.kind, term.extractor_sig(alloc, names.tyenv)?)
-    else {
+    let Some(sig) = term.extractor_sig(alloc, names.tyenv)? else {
         return json.key_null("extractor");
     };
     json.begin_at("extractor", '{')?;
+    push_taker(json, &term.kind, &sig.func_name)?;
+    json.key_string("answer", word_of_answer(sig.ret_kind))?;
+    json.end('}')
+}
+
+// Adds a term's template, or the function of this name that takes its values apart.
+fn push_taker(json: &mut Json, kind: &TermKind, function: &str) -> Result<(), AllocError> {
+    let TermKind::Decl {
+        extractor_kind: Some(kind),
+        ..
+    } = kind
+    else {
+        return Ok(());
+    };
     match kind {
         ExtractorKind::InternalExtractor { template } => {
             json.key_string("kind", "template")?;
             json.key("template")?;
-            push_template(json, template)?;
+            push_template(json, template)
         }
         ExtractorKind::ExternalExtractor { infallible, .. } => {
             json.key_string("kind", "extern")?;
-            json.key_string("function", &sig.func_name)?;
-            json.key_flag("infallible", *infallible)?;
+            json.key_string("function", function)?;
+            json.key_flag("infallible", *infallible)
         }
     }
-    json.key_string("answer", word_of_answer(sig.ret_kind))?;
-    json.end('}')
 }
