@@ -16,4 +16,5 @@ mod terms;
 mod trees;
 mod typed_rules;
 mod types;
+mod variable_sites;
 mod writer;

@@ -7,10 +7,11 @@ use crate::site_types::types_of_sites;
 use crate::sites::push_sites;
 use crate::trees::Sources;
 use crate::typed_rules::TypedForms;
+use crate::variable_sites::KnownSites;
 use crate::writer::Json;
 use cranelift_isle::lower::LoweredTerm;
 use cranelift_isle::sema::TypeId;
-use cranelift_isle::trie_again::{BindingId, Rule};
+use cranelift_isle::trie_again::{BindingId, Rule, RuleSet};
 use isle_diagnostics::explanation::comes_first;
 use isle_diagnostics::names::Names;
 use isle_queries::walk::steps;
@@ -39,7 +40,7 @@ pub(crate) fn push_term(
         push_head(json, shown.names, head)?;
         push_all_sites(json, shown, &head.arg_tys, term)?;
     }
-    push_rules(json, shown, &term.rules.rules)?;
+    push_rules(json, shown, &term.rules)?;
     let sources = Sources {
         names: shown.names,
         set: &term.rules,
@@ -61,13 +62,14 @@ fn push_all_sites(
 }
 
 // Adds the rules of a set, in the order of their numbers.
-fn push_rules(json: &mut Json, shown: &Shown<'_>, rules: &[Rule]) -> Result<(), AllocError> {
+fn push_rules(json: &mut Json, shown: &Shown<'_>, set: &RuleSet) -> Result<(), AllocError> {
+    let sites = KnownSites::new(shown.alloc, shown.names.terms, &set.bindings)?;
     json.begin_at("rules", '[')?;
-    for rule in rules {
+    for rule in &set.rules {
         json.begin('{')?;
         push_rule(json, shown.places, shown.names, rule)?;
-        push_higher(json, rules, rule)?;
-        shown.typed.push_forms(json, rule.id)?;
+        push_higher(json, &set.rules, rule)?;
+        shown.typed.push_forms(json, &sites, rule.id)?;
         json.end('}')?;
     }
     json.end(']')

@@ -2,10 +2,12 @@
 
 use crate::expressions::push_expr;
 use crate::patterns::{push_pattern, push_patterns};
+use crate::variable_sites::KnownSites;
 use crate::writer::Json;
 use cranelift_isle::environments::Environments;
 use cranelift_isle::lower::Lowered;
 use cranelift_isle::sema::{BoundVar, IfLet, Rule, RuleId};
+use cranelift_isle::trie_again::BindingId;
 use isle_diagnostics::names::Names;
 use std::alloc::AllocError;
 
@@ -58,10 +60,20 @@ impl<'a> TypedForms<'a> {
         }
     }
 
-    /// Adds both forms of a rule, each at its key, with `null` where there is none.
-    pub(crate) fn push_forms(&self, json: &mut Json, id: RuleId) -> Result<(), AllocError> {
-        push_form(json, "written", &self.written, id)?;
-        push_form(json, "expanded", &self.expanded, id)
+    /// Adds both forms of a rule, each at its key, with `null` where there is none. The sites are those of the form that they
+    /// come from: the expanded one, where there is such.
+    pub(crate) fn push_forms(
+        &self,
+        json: &mut Json,
+        sites: &KnownSites<'_>,
+        id: RuleId,
+    ) -> Result<(), AllocError> {
+        if self.expanded.is_none() {
+            push_form(json, "written", &self.written, Some(sites), id)?;
+            return json.key_null("expanded");
+        }
+        push_form(json, "written", &self.written, None, id)?;
+        push_form(json, "expanded", &self.expanded, Some(sites), id)
     }
 }
 
@@ -79,29 +91,31 @@ fn form_of<'a>(environments: &'a Option<Environments>) -> Option<TypedForm<'a>> 
     }
 }
 
-// Adds a form of a rule at a key.
+// Adds a form of a rule at a key, with the sites of its variables, where it has some.
 fn push_form(
     json: &mut Json,
     key: &str,
     form: &Option<TypedForm<'_>>,
+    sites: Option<&KnownSites<'_>>,
     id: RuleId,
 ) -> Result<(), AllocError> {
     let Some(form) = form else {
         return json.key_null(key);
     };
-    match form.rules.get(id.index()) {
-        Some(rule) => {
-            json.begin_at(key, '{')?;
-            push_typed_rule(json, form.names, rule)?;
-            json.end('}')
-        }
-        None => json.key_null(key),
+    let Some(rule) = form.rules.get(id.index()) else {
+        return json.key_null(key);
+    };
+    json.begin_at(key, '{')?;
+    match sites {
+        Some(sites) => push_placed_variables(json, form.names, rule, &sites.of_rule(rule)?)?,
+        None => push_variables(json, form.names, rule)?,
     }
+    push_sides(json, form.names, rule)?;
+    json.end('}')
 }
 
-// Adds what a typed rule has.
-fn push_typed_rule(json: &mut Json, names: Names<'_>, rule: &Rule) -> Result<(), AllocError> {
-    push_variables(json, names, &rule.vars)?;
+// Adds what a typed rule has besides its variables.
+fn push_sides(json: &mut Json, names: Names<'_>, rule: &Rule) -> Result<(), AllocError> {
     push_patterns(json, names, "arguments", &rule.args)?;
     push_iflets(json, names, &rule.iflets)?;
     json.key("right_side")?;
@@ -109,20 +123,40 @@ fn push_typed_rule(json: &mut Json, names: Names<'_>, rule: &Rule) -> Result<(),
 }
 
 // Adds the variables of a rule, by their ids.
-fn push_variables(
-    json: &mut Json,
-    names: Names<'_>,
-    variables: &[BoundVar],
-) -> Result<(), AllocError> {
+fn push_variables(json: &mut Json, names: Names<'_>, rule: &Rule) -> Result<(), AllocError> {
     json.begin_at("variables", '[')?;
-    for variable in variables {
-        json.begin('{')?;
-        json.key_number("id", variable.id.index())?;
-        json.key_string("name", names.sym(variable.name))?;
-        json.key_string("type", names.ty(variable.ty))?;
+    for variable in &rule.vars {
+        push_variable(json, names, variable)?;
         json.end('}')?;
     }
     json.end(']')
+}
+
+// Adds the variables of a rule, by their ids, with their sites.
+fn push_placed_variables(
+    json: &mut Json,
+    names: Names<'_>,
+    rule: &Rule,
+    sites: &[Option<BindingId>],
+) -> Result<(), AllocError> {
+    json.begin_at("variables", '[')?;
+    for (variable, site) in rule.vars.iter().zip(sites) {
+        push_variable(json, names, variable)?;
+        match site {
+            Some(site) => json.key_number("site", site.index())?,
+            None => json.key_null("site")?,
+        }
+        json.end('}')?;
+    }
+    json.end(']')
+}
+
+// Adds a variable up to its site.
+fn push_variable(json: &mut Json, names: Names<'_>, variable: &BoundVar) -> Result<(), AllocError> {
+    json.begin('{')?;
+    json.key_number("id", variable.id.index())?;
+    json.key_string("name", names.sym(variable.name))?;
+    json.key_string("type", names.ty(variable.ty))
 }
 
 // Adds the further conditions of a rule.

@@ -268,11 +268,13 @@ fn check_typed(alloc: Global, value: &Value, key: &str) -> Result<(), Fail> {
     };
     let keys = ["variables", "arguments", "iflets", "right_side"];
     expect(has_keys(rule, &keys), "keys of a typed rule")?;
+    let keys: &[&str] = if key == "expanded" {
+        &["id", "name", "type", "site"]
+    } else {
+        &["id", "name", "type"]
+    };
     for variable in list(rule, "variables")? {
-        expect(
-            has_keys(variable, &["id", "name", "type"]),
-            "keys of a variable",
-        )?;
+        expect(has_keys(variable, keys), "keys of a variable")?;
     }
     let mut waiting: Vec<&Value> = Vec::new(alloc);
     push_all(&mut waiting, list(rule, "arguments")?)?;
