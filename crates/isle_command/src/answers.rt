@@ -6,14 +6,13 @@ ghost use Rattle.isle_command.specs.declared.code.Code.{Code};
 ghost use Rattle.isle_command.specs.declared.words.Task.TheVariants.{Lower};
 ghost use Rattle.isle_command.specs.Codes.{IsAnswerOfCode, IsCode};
 ghost use Rattle.isle_command.specs.TaskAnswers.{lowered_terms, AsksForAll, IsAnswerBy, IsAnswerToDefinitions, IsAnswerToReading, IsAnswerToTexts};
-ghost use Rattle.isle_command.specs.TaskAnswers.{AreReports, AreTrees, IsDoneWithText, IsDoneWithoutText, IsFailed, IsRefusal, denies};
+ghost use Rattle.isle_command.specs.TaskAnswers.{AreReports, AreTrees, IsDone, IsDoneWithText, IsDoneWithoutText, IsFailed, IsRefusal, denies};
 ghost use Rattle.isle_command.specs.Statuses.{IsStatusOfReading};
 
 use crate::calls::{Told, ran, told_why};
 use crate::code::{Code, code_of_lowered};
 use crate::comparison::difference;
 use crate::graphs::graph_of;
-use crate::json::documents::{document_of_reports, document_of_terms, document_of_warnings};
 use crate::progress::Teller;
 use crate::reading::{Reading, reading_of};
 use crate::words::{Format, Request, Task};
@@ -22,6 +21,9 @@ use cranelift_isle::syntax::{Def, Fault, Files};
 use isle_diagnostics::diagnosis::reports_of;
 use isle_diagnostics::explanation::{explanation, with_rules};
 use isle_diagnostics::stats::stats;
+use isle_json::documents::{
+    Document, document_of_reports, document_of_sizes, document_of_terms, document_of_warnings,
+};
 use isle_printing::layout::push_reports;
 use isle_printing::print::{Names, print_bindings, print_block};
 use isle_printing::report::Report;
@@ -108,10 +110,9 @@ fn refusal(
     ensures { IfOk result (IsRefusal asked.now) }
 {
     if asked.format == Format::Json {
-        let parts = asked.task == Task::Lower;
         return Ok(Answer {
             status: 1,
-            out: document_of_reports(alloc, files, reports, parts)?,
+            out: document_of_reports(alloc, files, reports, document_for(asked.task))?,
             err: String::new(alloc),
         });
     }
@@ -123,6 +124,17 @@ fn refusal(
         out: String::new(alloc),
         err,
     })
+}
+
+// What a JSON document is made for.
+fn document_for(task: Task) -> Document {
+    match task {
+        Task::Lower => Document::Trees,
+        Task::Stats => Document::Sizes,
+        Task::Check | Task::Rust | Task::Explain | Task::Compare | Task::Samples | Task::Run => {
+            Document::Check
+        }
+    }
 }
 
 // Adds how many more errors there are.
@@ -168,7 +180,7 @@ fn answer_to_lowered<E: Write>(
     ensures { IfOk result (IsAnswerBy asked.now.task asked.now (lowered_terms lowered.now)) }
 {
     match asked.task {
-        Task::Lower => trees(alloc, asked, files, lowered, teller),
+        Task::Lower => trees(alloc, asked, files, defs, lowered, teller),
         Task::Rust => {
             teller.tell("printing", "all terms");
             coded(alloc, asked, files, lowered)
@@ -179,7 +191,7 @@ fn answer_to_lowered<E: Write>(
             warned(alloc, asked, files, &warnings)
         }
         Task::Samples => Ok(accepted(alloc, String::new(alloc))),
-        Task::Stats => Ok(accepted(alloc, stats(alloc, lowered)?)),
+        Task::Stats => counted(alloc, asked, lowered),
         Task::Compare => compared(alloc, asked, files, lowered, teller),
         Task::Run => answer_of_call(alloc, ran(alloc, asked, files, lowered)?),
         Task::Why => answer_of_call(alloc, told_why(alloc, asked, files, defs, lowered)?),
@@ -212,6 +224,18 @@ fn answer_of_code(alloc: Global, code: Code) -> Answer
             err: why,
         },
     }
+}
+
+// How large terms are.
+fn counted(alloc: Global, asked: &Request<'_>, lowered: &Lowered) -> Result<Answer, AllocError>
+    ensures { IfOk result IsDone }
+{
+    let out = if asked.format == Format::Json {
+        document_of_sizes(alloc, lowered)?
+    } else {
+        stats(alloc, lowered)?
+    };
+    Ok(accepted(alloc, out))
 }
 
 // What is said of the rules that are so called.
@@ -365,6 +389,7 @@ fn trees<E: Write>(
     alloc: Global,
     asked: &Request<'_>,
     files: &Files,
+    defs: &[Def],
     lowered: &Lowered,
     teller: &mut Teller<'_, E>,
 ) -> Result<Answer, AllocError>
@@ -374,7 +399,7 @@ fn trees<E: Write>(
         return missing(alloc, "term with rules", name);
     }
     let wanted = wanted(alloc, asked, lowered)?;
-    let out = text_of_trees(alloc, asked.format, files, lowered, &wanted, teller)?;
+    let out = text_of_trees(alloc, asked.format, files, defs, lowered, &wanted, teller)?;
     Ok(accepted(alloc, out))
 }
 
@@ -383,6 +408,7 @@ fn text_of_trees<E: Write>(
     alloc: Global,
     format: Format,
     files: &Files,
+    defs: &[Def],
     lowered: &Lowered,
     terms: &[&LoweredTerm],
     teller: &mut Teller<'_, E>,
@@ -392,7 +418,7 @@ fn text_of_trees<E: Write>(
     match format {
         Format::Json => {
             teller.tell("printing", "all terms");
-            document_of_terms(alloc, files, lowered, terms)
+            document_of_terms(alloc, files, defs, lowered, terms)
         }
         Format::Dot | Format::Text | Format::Line => {
             drawn(alloc, format, files, lowered, terms, teller)

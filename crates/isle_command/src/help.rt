@@ -35,7 +35,7 @@ Options:
   --all                  shows all errors. Otherwise only the first 20 are shown.
   --format text          shows each error with its source lines. This is the default.
   --format line          shows each error on one line
-  --format json          lower, check: prints one JSON object, which has the errors too (docs/JSON.md)
+  --format json          lower, check, stats: prints one JSON object, which has the errors too (docs/JSON.md)
   --format dot           lower: prints each tree as a Graphviz graph
   --color WHEN           colours errors: always, never or auto. The default is auto. It colours them if standard error is a
                          terminal and NO_COLOR is not set.

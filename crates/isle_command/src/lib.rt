@@ -8,7 +8,6 @@ mod comparison;
 mod graphs;
 mod help;
 mod inputs;
-mod json;
 pub mod progress;
 pub mod reading;
 pub mod run;

@@ -103,7 +103,7 @@ impl Format {
     fn is_of(self, task: Task) -> bool {
         match self {
             Format::Text | Format::Line => true,
-            Format::Json => task == Task::Lower || task == Task::Check,
+            Format::Json => matches!(task, Task::Lower | Task::Check | Task::Stats),
             Format::Dot => task == Task::Lower,
         }
     }

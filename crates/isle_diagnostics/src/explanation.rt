@@ -177,7 +177,7 @@ fn has_first(term: &LoweredTerm, rule: &Rule) -> bool {
     false
 }
 
-/// Whether another rule may match together with this one, and comes first then.
+/// Whether another rule of a set may match together with this one, and comes first then.
 pub fn comes_first(rule: &Rule, other: &Rule) -> bool {
     other.prio > rule.prio && overlaps(rule, other)
 }

@@ -1,10 +1,24 @@
 //! How large terms are.
 
 use crate::names::Names;
-use crate::trees::size_of_tree;
+use crate::trees::{TreeSize, size_of_tree};
 use cranelift_isle::lower::{Lowered, LoweredTerm};
+use cranelift_isle::sema::TermId;
 use std::alloc::{AllocError, Global};
 use std::cmp::Reverse;
+
+/// How large a term with rules is.
+#[derive(Clone, Copy)]
+pub struct TermSize {
+    /// The term.
+    pub term: TermId,
+    /// How many rules it has.
+    pub rules: usize,
+    /// How many sites these have.
+    pub sites: usize,
+    /// How large its tree is.
+    pub tree: TreeSize,
+}
 
 /// A table of terms with rules, the one with most rules first and those with as many in order: their rules, the sites of
 /// these, the tests, arms and returns of their trees, and how deep tests stand in one another.
@@ -17,32 +31,41 @@ pub fn stats(alloc: Global, lowered: &Lowered) -> Result<String, AllocError> {
         alloc,
         "  rules   sites   tests    arms returns   depth  term\n",
     )?;
-    for term in &by_size(alloc, lowered)? {
-        push_row(&mut out, names, term)?;
+    for size in &sizes(alloc, lowered)? {
+        push_row(&mut out, names, size)?;
     }
     Ok(out)
 }
 
-// The terms, the one with most rules first.
-fn by_size(alloc: Global, lowered: &Lowered) -> Result<Vec<&LoweredTerm>, AllocError> {
-    let mut terms = Vec::new(alloc);
+/// How large each term with rules is, the one with most rules first and those with as many in order.
+pub fn sizes(alloc: Global, lowered: &Lowered) -> Result<Vec<TermSize>, AllocError> {
+    let mut sizes = Vec::new(alloc);
     for term in &lowered.terms {
-        terms.push(term)?;
+        sizes.push(size_of(term))?;
     }
-    terms.sort_by_key(|term| Reverse(term.rules.rules.len()))?;
-    Ok(terms)
+    sizes.sort_by_key(|size| Reverse(size.rules))?;
+    Ok(sizes)
+}
+
+// How large a term is.
+fn size_of(term: &LoweredTerm) -> TermSize {
+    TermSize {
+        term: term.id,
+        rules: term.rules.rules.len(),
+        sites: term.rules.bindings.len(),
+        tree: size_of_tree(&term.block),
+    }
 }
 
 // Adds the line of a term.
-fn push_row(out: &mut String, names: Names<'_>, term: &LoweredTerm) -> Result<(), AllocError> {
-    let name = names.term(term.id);
-    let rules = term.rules.rules.len();
-    let sites = term.rules.bindings.len();
-    let size = size_of_tree(&term.block);
-    let tests = size.tests;
-    let arms = size.arms;
-    let returns = size.returns;
-    let depth = size.depth;
+fn push_row(out: &mut String, names: Names<'_>, size: &TermSize) -> Result<(), AllocError> {
+    let name = names.term(size.term);
+    let rules = size.rules;
+    let sites = size.sites;
+    let tests = size.tree.tests;
+    let arms = size.tree.arms;
+    let returns = size.tree.returns;
+    let depth = size.tree.depth;
     write!(
         out,
         "{rules:>7} {sites:>7} {tests:>7} {arms:>7} {returns:>7} {depth:>7}  {name}\n"

@@ -1,7 +1,7 @@
 //! Trees.
 
-use crate::json::sets::{push_constraint, push_ids};
-use crate::json::writer::Json;
+use crate::sites::{push_constraint, push_ids};
+use crate::writer::Json;
 use cranelift_isle::serialize::{Block, ControlFlow, EvalStep, MatchArm};
 use cranelift_isle::syntax::Pos;
 use cranelift_isle::trie_again::{BindingId, RuleSet};

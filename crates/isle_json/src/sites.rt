@@ -1,28 +1,38 @@
-//! Sites and rules.
+//! Sites, and what is asked of them.
 
-use crate::json::writer::Json;
+use crate::heads::push_type_names;
+use crate::site_types::{SiteTypes, word_of_answer};
+use crate::writer::Json;
 use cranelift_isle::sema::TypeId;
-use cranelift_isle::syntax::{Files, Pos};
-use cranelift_isle::trie_again::{Binding, BindingId, Constraint, Rule};
+use cranelift_isle::trie_again::{Binding, BindingId, Constraint};
 use isle_diagnostics::names::Names;
-use isle_printing::lines::{file_name, file_text, line_at};
 use isle_queries::in_place::is_in_place;
 use std::alloc::AllocError;
 
-/// Adds the sites of a set, by their numbers. Those are marked that some step of the tree binds.
+/// Adds the sites of a set, by their numbers, with their types. Those are marked that some step of the tree binds.
 pub(crate) fn push_sites(
     json: &mut Json,
     names: Names<'_>,
     bindings: &[Binding],
+    types: &[SiteTypes],
     marked: &[bool],
 ) -> Result<(), AllocError> {
     json.begin_at("sites", '[')?;
     for (id, binding) in bindings.iter().enumerate() {
         push_site(json, names, id, binding)?;
         json.key_string("bound", bound_where(binding, is_marked(marked, id)))?;
+        if let Some(types) = types.get(id) {
+            push_types(json, names, types)?;
+        }
         json.end('}')?;
     }
     json.end(']')
+}
+
+// Adds the types of a site.
+fn push_types(json: &mut Json, names: Names<'_>, types: &SiteTypes) -> Result<(), AllocError> {
+    push_type_names(json, names, "types", &types.types)?;
+    json.key_string("answer", word_of_answer(types.answer))
 }
 
 // Adds a site up to where it is bound.
@@ -36,7 +46,7 @@ fn push_site(
     json.key_number("id", id)?;
     json.begin_at("what", '{')?;
     push_parts(json, names, binding)?;
-    push_sources(json, binding)?;
+    push_ids(json, "of", binding.sources())?;
     json.end('}')
 }
 
@@ -91,29 +101,8 @@ fn push_parts(json: &mut Json, names: Names<'_>, binding: &Binding) -> Result<()
     }
 }
 
-// Adds the sites that a site is made of.
-fn push_sources(json: &mut Json, binding: &Binding) -> Result<(), AllocError> {
-    match binding {
-        Binding::ConstBool { .. }
-        | Binding::ConstInt { .. }
-        | Binding::ConstPrim { .. }
-        | Binding::Argument { .. } => push_ids(json, "of", &[]),
-        Binding::Extractor { parameter, .. } => push_ids(json, "of", &[*parameter]),
-        Binding::MakeSome { inner } => push_ids(json, "of", &[*inner]),
-        Binding::Constructor { parameters, .. } => push_ids(json, "of", parameters),
-        Binding::MakeVariant { fields, .. } | Binding::MakeStruct { fields, .. } => {
-            push_ids(json, "of", fields)
-        }
-        Binding::Iterator { source }
-        | Binding::MatchVariant { source, .. }
-        | Binding::ExtractStruct { source, .. }
-        | Binding::MatchSome { source }
-        | Binding::MatchTuple { source, .. } => push_ids(json, "of", &[*source]),
-    }
-}
-
-// Adds a kind and a name.
-fn push_named(json: &mut Json, kind: &str, name: &str) -> Result<(), AllocError> {
+/// Adds a kind and a name.
+pub(crate) fn push_named(json: &mut Json, kind: &str, name: &str) -> Result<(), AllocError> {
     json.key_string("kind", kind)?;
     json.key_string("name", name)
 }
@@ -124,15 +113,25 @@ fn push_numbered(json: &mut Json, kind: &str, key: &str, number: usize) -> Resul
     json.key_number(key, number)
 }
 
-// Adds a truth value and its type.
-fn push_bool(json: &mut Json, names: Names<'_>, val: bool, ty: TypeId) -> Result<(), AllocError> {
+/// Adds a truth value and its type.
+pub(crate) fn push_bool(
+    json: &mut Json,
+    names: Names<'_>,
+    val: bool,
+    ty: TypeId,
+) -> Result<(), AllocError> {
     json.key_string("kind", "bool")?;
     json.key_flag("value", val)?;
     json.key_string("type", names.ty(ty))
 }
 
-// Adds an integer and its type.
-fn push_int(json: &mut Json, names: Names<'_>, val: i128, ty: TypeId) -> Result<(), AllocError> {
+/// Adds an integer and its type.
+pub(crate) fn push_int(
+    json: &mut Json,
+    names: Names<'_>,
+    val: i128,
+    ty: TypeId,
+) -> Result<(), AllocError> {
     json.key_string("kind", "int")?;
     json.key_digits("value", val)?;
     json.key_string("type", names.ty(ty))
@@ -170,64 +169,4 @@ fn push_asked(json: &mut Json, names: Names<'_>, asked: Constraint) -> Result<()
         Constraint::ConstPrim { val } => push_named(json, "constant", names.sym(val)),
         Constraint::Some => json.key_string("kind", "some"),
     }
-}
-
-/// Adds a rule.
-pub(crate) fn push_rule(
-    json: &mut Json,
-    files: &Files,
-    names: Names<'_>,
-    rule: &Rule,
-) -> Result<(), AllocError> {
-    json.begin('{')?;
-    json.key_number("id", rule.id.index())?;
-    push_rule_name(json, names, rule)?;
-    push_place(json, files, rule.pos)?;
-    json.key_integer("priority", rule.prio)?;
-    push_demands(json, names, rule)?;
-    push_ids(json, "impure", &rule.impure)?;
-    json.key_number("result", rule.result.index())?;
-    json.end('}')
-}
-
-// Adds the name that a rule is given, or `null`.
-fn push_rule_name(json: &mut Json, names: Names<'_>, rule: &Rule) -> Result<(), AllocError> {
-    match rule.name {
-        Some(name) => json.key_string("name", names.sym(name)),
-        None => json.key_null("name"),
-    }
-}
-
-// Adds what a rule demands of sites, and which of them it demands to be equal.
-fn push_demands(json: &mut Json, names: Names<'_>, rule: &Rule) -> Result<(), AllocError> {
-    json.begin_at("constraints", '[')?;
-    for (site, constraint) in rule.constraints() {
-        json.begin('{')?;
-        json.key_number("site", site.index())?;
-        push_constraint(json, names, *constraint)?;
-        json.end('}')?;
-    }
-    json.end(']')?;
-    push_classes(json, rule)
-}
-
-// Adds the lists of sites with equal values.
-fn push_classes(json: &mut Json, rule: &Rule) -> Result<(), AllocError> {
-    json.begin_at("equal", '[')?;
-    for class in rule.classes() {
-        json.begin('[')?;
-        for site in class {
-            json.number(site.index())?;
-        }
-        json.end(']')?;
-    }
-    json.end(']')
-}
-
-/// Adds a place: its file, its line and its column.
-pub(crate) fn push_place(json: &mut Json, files: &Files, pos: Pos) -> Result<(), AllocError> {
-    let line = line_at(file_text(files, pos.file), pos.offset);
-    json.key_string("file", file_name(files, pos.file))?;
-    json.key_number("line", line.number as usize)?;
-    json.key_number("column", line.column() as usize)
 }

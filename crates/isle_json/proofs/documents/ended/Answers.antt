@@ -1,6 +1,6 @@
 use Rattle.std.proofs.Common.{◌≡◌, ℕ, List, [], ◌∷◌, ◌++◌, sym, ◌∙◌, arith}
 use Rattle.std.proofs.lemmas.Result.{IfOk-weaker}
-use Rattle.isle_command.proofs.json.documents.ended.Goals as goal
+use Rattle.isle_json.proofs.documents.ended.Goals as goal
 
 -- what something stands behind isn't empty
 some_behind : (xs : List ℕ) (y : ℕ) (ys : List ℕ) → xs ++ y ∷ ys ≡ [] → ⊥

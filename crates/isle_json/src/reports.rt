@@ -1,42 +1,41 @@
 //! Reports of what is wrong.
 
-use crate::json::sets::push_place;
-use crate::json::writer::Json;
-use cranelift_isle::syntax::Files;
+use crate::places::Places;
+use crate::writer::Json;
 use isle_printing::report::{Label, Note, Report};
 use std::alloc::AllocError;
 
 /// Adds reports at a key, in order.
 pub(crate) fn push_reports(
     json: &mut Json,
-    files: &Files,
+    places: &Places<'_>,
     key: &str,
     reports: &[Report],
 ) -> Result<(), AllocError> {
     json.begin_at(key, '[')?;
     for report in reports {
-        push_report(json, files, report)?;
+        push_report(json, places, report)?;
     }
     json.end(']')
 }
 
 // Adds a report.
-fn push_report(json: &mut Json, files: &Files, report: &Report) -> Result<(), AllocError> {
+fn push_report(json: &mut Json, places: &Places<'_>, report: &Report) -> Result<(), AllocError> {
     json.begin('{')?;
     json.key_string("kind", report.kind)?;
     json.key_string("message", &report.message)?;
-    push_places(json, files, &report.labels)?;
+    push_labels(json, places, &report.labels)?;
     push_notes(json, "help", "help", &report.notes)?;
     push_notes(json, "witness", "note", &report.notes)?;
     json.end('}')
 }
 
 // Adds places, the one first where a report is told.
-fn push_places(json: &mut Json, files: &Files, labels: &[Label]) -> Result<(), AllocError> {
+fn push_labels(json: &mut Json, places: &Places<'_>, labels: &[Label]) -> Result<(), AllocError> {
     json.begin_at("places", '[')?;
     for label in labels {
         json.begin('{')?;
-        push_place(json, files, label.pos)?;
+        places.push_place(json, label.pos)?;
         json.key_string("text", &label.text)?;
         json.end('}')?;
     }
