@@ -165,6 +165,7 @@ fn request_of<'a>(alloc: Global, asked: Asked) -> Request<'a>
         code: CodegenOptions::included(alloc),
         progress: false,
         files: Vec::new(alloc),
+        old: 0,
         call: Vec::new(alloc),
     }
 }

@@ -20,6 +20,8 @@ pub enum Task {
     Stats,
     /// Where the printed trees of the last file depart from those of the others.
     Compare,
+    /// What changed between two versions of definitions.
+    Diff,
     /// The names of the samples, or the trees of one.
     Samples,
     /// The outcome of a call of a term.
@@ -27,13 +29,14 @@ pub enum Task {
 }
 
 // All tasks.
-const TASKS: [Task; 8] = [
+const TASKS: [Task; 9] = [
     Task::Lower,
     Task::Rust,
     Task::Check,
     Task::Explain,
     Task::Stats,
     Task::Compare,
+    Task::Diff,
     Task::Samples,
     Task::Run,
 ];
@@ -48,6 +51,7 @@ impl Task {
             Task::Explain => "explain",
             Task::Stats => "stats",
             Task::Compare => "compare",
+            Task::Diff => "diff",
             Task::Samples => "samples",
             Task::Run => "run",
         }
@@ -107,7 +111,7 @@ pub struct Request<'a> {
     pub expand: bool,
     /// Whether warnings count as errors.
     pub deny: bool,
-    /// Whether a person sees all errors, and not only the first ones.
+    /// Whether a person sees all errors, and not only the first ones; of printed trees, the first of each term.
     pub all: bool,
     /// The form of the answer.
     pub format: Format,
@@ -126,6 +130,8 @@ pub struct Request<'a> {
     pub progress: bool,
     /// The files, where `-` is standard input, or the sample. The last one has printed trees where they are compared.
     pub files: Vec<&'a str>,
+    /// How many of the files are of the old version, where two versions are compared.
+    pub old: usize,
     /// The words of the call that is to be run.
     pub call: Vec<&'a str>,
 }
@@ -145,6 +151,7 @@ impl<'a> Drop for Request<'a> {
             code: _,
             progress: _,
             files: _,
+            old: _,
             call: _,
         } = self;
     }
@@ -223,8 +230,8 @@ struct Given {
 ///
 /// Where a word is `--help`, `-h` or `--version`, that is all they ask. Else the first word is the name of a task. For `explain`
 /// the rule follows. Then there are files; the last one of `compare` has trees, and `samples` has at most one name of a
-/// sample. For `run` then come `--` and the words of a call: the term and its arguments. Options may stand everywhere behind the
-/// task and before `--`: `isle --help` lists them.
+/// sample. For `run` then come `--` and the words of a call: the term and its arguments. For `diff` then come `--` and the files of
+/// the new version. Options may stand everywhere behind the task, but not in a call: `isle --help` lists them.
 ///
 /// # Errors
 ///
@@ -268,6 +275,7 @@ fn request_by<'a>(given: Given, words: &'a [String]) -> Result<Request<'a>, Unas
         code: CodegenOptions::included(given.alloc),
         progress: false,
         files: Vec::new(given.alloc),
+        old: 0,
         call: Vec::new(given.alloc),
     };
     let mut awaited = Awaited::Task;
@@ -313,6 +321,9 @@ impl<'a> Request<'a> {
         }
         if count == 1 && self.task == Task::Compare {
             return Some("no trees to compare");
+        }
+        if self.task == Task::Diff && (self.old == 0 || self.old == count) {
+            return Some("no new version after the files, such as -- new.isle");
         }
         None
     }
@@ -455,7 +466,7 @@ impl<'a> Request<'a> {
             "--with-allows" => self.read_with_allows(alloc),
             "--log" => self.read_log(alloc),
             "--prefix" => self.begin_prefix(alloc),
-            "--" => self.begin_call(alloc),
+            "--" => self.begin_last(alloc),
             "--terms" => Ok(Awaited::Terms),
             "--format" => Ok(Awaited::Format),
             "--color" => Ok(Awaited::Color),
@@ -512,13 +523,28 @@ impl<'a> Request<'a> {
         Ok(Awaited::Any)
     }
 
-    // Only `run` has a call.
-    fn begin_call(&mut self, alloc: Global) -> Result<Awaited, Unasked> {
-        if self.task != Task::Run {
-            let task = self.task.word();
-            return Err(wrong(format!(in alloc; "{task} runs no call")));
+    // Only `run` has a call, and only `diff` has a new version.
+    fn begin_last(&mut self, alloc: Global) -> Result<Awaited, Unasked> {
+        match self.task {
+            Task::Run => Ok(Awaited::Call),
+            Task::Diff => self.begin_new(alloc),
+            _ => {
+                let task = self.task.word();
+                Err(wrong(format!(in alloc; "{task} runs no call")))
+            }
         }
-        Ok(Awaited::Call)
+    }
+
+    // The files behind are those of the new version.
+    fn begin_new(&mut self, alloc: Global) -> Result<Awaited, Unasked> {
+        if self.files.is_empty() {
+            return Err(wrong_as(alloc, "no old version before '--'"));
+        }
+        if self.old > 0 {
+            return Err(wrong_as(alloc, "more than two versions"));
+        }
+        self.old = self.files.len();
+        Ok(Awaited::Any)
     }
 
     // Reads the name of a file, or of a sample.
