@@ -79,10 +79,11 @@ fn answer_to_files<E: Write>(
     ensures { IfOk result (IsAnswerToTexts asked.now (map string_bytes files.now.texts.items)) }
 {
     if asked.task == Task::Diff {
-        answer_to_versions(alloc, asked, files, teller)
-    } else {
-        answer_to_texts(alloc, asked, files, teller)
+        let answer = answer_to_versions(alloc, asked, files, teller)?;
+        return Ok(answer);
     }
+    let answer = answer_to_texts(alloc, asked, files, teller)?;
+    Ok(answer)
 }
 
 // What is answered to files that together are one list of definitions.

@@ -36,9 +36,15 @@ pub(crate) fn answer_to_versions<E: Write>(
     let old = reading_of(alloc, asked, &old_files, teller)?;
     let new = reading_of(alloc, asked, &new_files, teller)?;
     match &old {
-        Reading::Unread(reports) => refusal(alloc, asked, &old_files, reports, 0),
+        Reading::Unread(reports) => {
+            let answer = refusal(alloc, asked, &old_files, reports, 0)?;
+            Ok(answer)
+        }
         Reading::Defs(old) => match &new {
-            Reading::Unread(reports) => refusal(alloc, asked, &new_files, reports, 0),
+            Reading::Unread(reports) => {
+                let answer = refusal(alloc, asked, &new_files, reports, 0)?;
+                Ok(answer)
+            }
             Reading::Defs(new) => {
                 let old = Source {
                     files: &old_files,
@@ -92,7 +98,10 @@ fn answer_to_old<E: Write>(
             };
             answer_to_new(alloc, asked, old, new, teller)
         }
-        Err(Fault::Errors(errors)) => refused(alloc, asked, old.files, old.defs, &errors, teller),
+        Err(Fault::Errors(errors)) => {
+            let answer = refused(alloc, asked, old.files, old.defs, &errors, teller)?;
+            Ok(answer)
+        }
         Err(Fault::Memory(error)) => Err(error),
     }
 }
@@ -119,7 +128,10 @@ fn answer_to_new<E: Write>(
             let text = changes(alloc, old, new)?;
             Ok(answer_of_changes(alloc, text))
         }
-        Err(Fault::Errors(errors)) => refused(alloc, asked, new.files, new.defs, &errors, teller),
+        Err(Fault::Errors(errors)) => {
+            let answer = refused(alloc, asked, new.files, new.defs, &errors, teller)?;
+            Ok(answer)
+        }
         Err(Fault::Memory(error)) => Err(error),
     }
 }

@@ -11,6 +11,10 @@ use isle_printing::layout::push_place;
 use isle_queries::texts::{names_of, print_term};
 use std::alloc::{AllocError, Global};
 
+// How many of the rules that came to a term, and of those that went, are told with what takes their values: that is looked for
+// among all rules of the term.
+const MOST_TAKEN: usize = 100;
+
 // A rule of a term, and its text without its name, its priority and its place.
 struct Told<'a> {
     rule: &'a Rule,
@@ -127,11 +131,15 @@ fn rules_of<'a>(alloc: Global, defs: &'a [Def], term: &str) -> Result<Vec<Told<'
 impl<'a> Rules<'a> {
     // Adds the rules that the old version doesn't have.
     fn push_came(self, out: &mut String) -> Result<(), AllocError> {
+        let mut count = 0usize;
         for (i, told) in self.now.iter().enumerate() {
             if same_in(self.before, self.now, i, told).is_none() {
                 push_rule(out, self.new, told.rule)?;
                 out.push_str(" came\n")?;
-                self.push_taker(self.new, self.old, told.rule, " was taken by ", out)?;
+                if count < MOST_TAKEN {
+                    self.push_taker(self.new, self.old, told.rule, " was taken by ", out)?;
+                }
+                count = count.saturating_add(1);
             }
         }
         Ok(())
@@ -139,11 +147,15 @@ impl<'a> Rules<'a> {
 
     // Adds the rules that the new version doesn't have.
     fn push_went(self, out: &mut String) -> Result<(), AllocError> {
+        let mut count = 0usize;
         for (i, told) in self.before.iter().enumerate() {
             if same_in(self.now, self.before, i, told).is_none() {
                 push_rule(out, self.old, told.rule)?;
                 out.push_str(" went\n")?;
-                self.push_taker(self.old, self.new, told.rule, " is now taken by ", out)?;
+                if count < MOST_TAKEN {
+                    self.push_taker(self.old, self.new, told.rule, " is now taken by ", out)?;
+                }
+                count = count.saturating_add(1);
             }
         }
         Ok(())
