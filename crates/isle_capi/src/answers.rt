@@ -169,6 +169,7 @@ fn request_of<'a>(alloc: Global, asked: Asked) -> Request<'a>
         answers: None,
         trace: false,
         files: Vec::new(alloc),
+        old: 0,
         call: Vec::new(alloc),
     }
 }

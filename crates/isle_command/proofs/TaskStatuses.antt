@@ -33,6 +33,7 @@ status_of_task T.Explain asked terms answer (inr failed) = inr (failed.0, refl)
 status_of_task T.Stats asked terms answer done = inl done.0
 status_of_task T.Compare asked terms answer (inl done) = inl done.0.0
 status_of_task T.Compare asked terms answer (inr failed) = inr (failed.0, refl)
+status_of_task T.Diff asked terms answer done = inl done.0.0
 status_of_task T.Samples asked terms answer done = inl done.0.0
 status_of_task T.Run asked terms answer (inl done) = inl done.0.0
 status_of_task T.Run asked terms answer (inr failed) = inr (failed.0, refl)

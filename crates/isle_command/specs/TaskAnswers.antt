@@ -43,6 +43,10 @@ IsDoneWithoutText answer = IsDone answer × IsOnErr answer
 abbrev pub IsFailed : Answer → Type 0
 IsFailed answer = (answer.status ≡ 1) × IsOnErr answer × (string_bytes answer.err ≢ [])
 
+-- two versions differ, and standard output alone says how
+abbrev pub IsDifferent : Answer → Type 0
+IsDifferent answer = (answer.status ≡ 1) × IsOnOut answer × (string_bytes answer.out ≢ [])
+
 -- reports may stand on one side: as JSON, which is never empty, on standard output, else on standard error
 abbrev pub AreReports : Format → Answer → Type 0
 AreReports F.Json answer = IsOnOut answer × (string_bytes answer.out ≢ [])
@@ -91,6 +95,7 @@ IsAnswerBy T.Check asked terms answer = AreReports asked.format answer × ((answ
 IsAnswerBy T.Explain asked terms answer = IsDoneWithText answer ⊎ IsFailed answer
 IsAnswerBy T.Stats asked terms answer = IsDone answer
 IsAnswerBy T.Compare asked terms answer = IsDoneWithoutText answer ⊎ IsFailed answer
+IsAnswerBy T.Diff asked terms answer = IsDoneWithoutText answer
 IsAnswerBy T.Samples asked terms answer = IsDoneWithoutText answer
 IsAnswerBy T.Run asked terms answer = IsDoneWithText answer ⊎ IsFailed answer
 IsAnswerBy T.Why asked terms answer = IsDoneWithText answer ⊎ IsFailed answer
@@ -107,5 +112,13 @@ IsAnswerToReading asked (Defs defs) answer = IsAnswerToDefinitions (definition_v
 IsAnswerToReading asked (Unread reports) answer = IsRefusal asked answer
 
 -- texts are answered as something that they are read as
+abbrev pub IsAnswerToOneReading : Request → List (List ℕ) → Answer → Type 0
+IsAnswerToOneReading asked texts answer = (reading : Reading) × IsReadingOf texts reading × IsAnswerToReading asked reading answer
+
+-- two versions don't differ and nothing is said, or they differ, or one of them is refused
+abbrev pub IsAnswerToVersions : Request → Answer → Type 0
+IsAnswerToVersions asked answer = (IsDoneWithoutText answer ⊎ IsDifferent answer) ⊎ IsRefusal asked answer
+
+-- texts are answered together, or as two versions where that is the task
 abbrev pub IsAnswerToTexts : Request → List (List ℕ) → Answer → Type 0
-IsAnswerToTexts asked texts answer = (reading : Reading) × IsReadingOf texts reading × IsAnswerToReading asked reading answer
+IsAnswerToTexts asked texts answer = IsAnswerToOneReading asked texts answer ⊎ ((asked.task ≡ T.Diff) × IsAnswerToVersions asked answer)

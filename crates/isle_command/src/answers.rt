@@ -5,19 +5,20 @@ ghost use Rattle.cranelift_isle.specs.SyntaxViews.{definition_views};
 ghost use Rattle.isle_command.specs.declared.code.Code.{Code};
 ghost use Rattle.isle_command.specs.declared.words.Task.TheVariants.{Lower};
 ghost use Rattle.isle_command.specs.Codes.{IsAnswerOfCode, IsCode};
-ghost use Rattle.isle_command.specs.TaskAnswers.{lowered_terms, AsksForAll, IsAnswerBy, IsAnswerToDefinitions, IsAnswerToReading, IsAnswerToTexts};
 ghost use Rattle.isle_command.specs.TaskAnswers.{AreReports, AreTrees, IsDone, IsDoneWithText, IsDoneWithoutText, IsFailed, IsRefusal, denies};
+ghost use Rattle.isle_command.specs.TaskAnswers.{lowered_terms, AsksForAll, IsAnswerBy, IsAnswerToDefinitions, IsAnswerToOneReading, IsAnswerToReading, IsAnswerToTexts};
 ghost use Rattle.isle_command.specs.Statuses.{IsStatusOfReading};
 
 use crate::calls::{Told, ran, told_why};
 use crate::code::{Code, code_of_lowered};
-use crate::comparison::difference;
+use crate::comparison::{difference, differences};
 use crate::graphs::graph_of;
 use crate::progress::Teller;
 use crate::reading::{Reading, reading_of};
+use crate::versions::answer_to_versions;
 use crate::words::{Format, Request, Task};
 use cranelift_isle::lower::{Lowered, LoweredTerm, lower};
-use cranelift_isle::syntax::{Def, Fault, Files};
+use cranelift_isle::syntax::{Def, Error, Fault, Files};
 use isle_diagnostics::diagnosis::reports_of;
 use isle_diagnostics::explanation::{explanation, with_rules};
 use isle_diagnostics::stats::stats;
@@ -34,7 +35,8 @@ use std::io::Write;
 
 /// What the command answers.
 pub struct Answer {
-    /// Its status: 0, or 1 where something is wrong with the files or there is nothing of a name that is asked for.
+    /// Its status: 0, or 1 where something is wrong with the files, there is nothing of a name that is asked for, or versions or
+    /// trees differ.
     pub status: u8,
     /// What goes to standard output.
     pub out: String,
@@ -64,19 +66,36 @@ pub fn answer_to<E: Write>(
     ensures { IfOk result (IsAnswerToTexts asked.now (map string_bytes files.now.texts.items)) }
 {
     let mut teller = Teller::new(asked.progress, terminal, err);
-    let answer = answer_to_texts(alloc, asked, files, &mut teller);
+    let answer = answer_to_files(alloc, asked, files, &mut teller);
     teller.end();
     answer
 }
 
 // The same, by what tells what is being done.
-fn answer_to_texts<E: Write>(
+fn answer_to_files<E: Write>(
     alloc: Global,
     asked: &Request<'_>,
     files: &Files,
     teller: &mut Teller<'_, E>,
 ) -> Result<Answer, AllocError>
     ensures { IfOk result (IsAnswerToTexts asked.now (map string_bytes files.now.texts.items)) }
+{
+    if asked.task == Task::Diff {
+        let answer = answer_to_versions(alloc, asked, files, teller)?;
+        return Ok(answer);
+    }
+    let answer = answer_to_texts(alloc, asked, files, teller)?;
+    Ok(answer)
+}
+
+// What is answered to files that together are one list of definitions.
+fn answer_to_texts<E: Write>(
+    alloc: Global,
+    asked: &Request<'_>,
+    files: &Files,
+    teller: &mut Teller<'_, E>,
+) -> Result<Answer, AllocError>
+    ensures { IfOk result (IsAnswerToOneReading asked.now (map string_bytes files.now.texts.items)) }
 {
     let reading = reading_of(alloc, asked, files, teller)?;
     answer_to_reading(alloc, asked, files, &reading, teller)
@@ -99,8 +118,8 @@ pub fn answer_to_reading<E: Write>(
     }
 }
 
-// The answer where something is wrong: these reports, and how many more there are.
-fn refusal(
+/// The answer where something is wrong: these reports, and how many more there are.
+pub(crate) fn refusal(
     alloc: Global,
     asked: &Request<'_>,
     files: &Files,
@@ -158,14 +177,26 @@ fn answer_to_defs<E: Write>(
     teller.tell("lowering", "all terms");
     match lower(alloc, defs, asked.expand) {
         Ok(lowered) => answer_to_lowered(alloc, asked, files, defs, &lowered, teller),
-        Err(Fault::Errors(errors)) => {
-            teller.tell("explaining", "errors");
-            let reports = reports_of(alloc, defs, asked.expand, &errors, asked.wants_all())?;
-            let rest = errors.len().saturating_sub(reports.len());
-            refusal(alloc, asked, files, &reports, rest)
-        }
+        Err(Fault::Errors(errors)) => refused(alloc, asked, files, defs, &errors, teller),
         Err(Fault::Memory(error)) => Err(error),
     }
+}
+
+/// The answer where definitions have errors.
+pub(crate) fn refused<E: Write>(
+    alloc: Global,
+    asked: &Request<'_>,
+    files: &Files,
+    defs: &[Def],
+    errors: &[Error],
+    teller: &mut Teller<'_, E>,
+) -> Result<Answer, AllocError>
+    ensures { IfOk result (IsRefusal asked.now) }
+{
+    teller.tell("explaining", "errors");
+    let reports = reports_of(alloc, defs, asked.expand, errors, asked.wants_all())?;
+    let rest = errors.len().saturating_sub(reports.len());
+    refusal(alloc, asked, files, &reports, rest)
 }
 
 // What is answered to definitions with trees.
@@ -190,7 +221,8 @@ fn answer_to_lowered<E: Write>(
             let warnings = warnings(alloc, defs, lowered, &asked.allowed)?;
             warned(alloc, asked, files, &warnings)
         }
-        Task::Samples => Ok(accepted(alloc, String::new(alloc))),
+        // one list of definitions is no second version
+        Task::Samples | Task::Diff => Ok(accepted(alloc, String::new(alloc))),
         Task::Stats => counted(alloc, asked, lowered),
         Task::Compare => compared(alloc, asked, files, lowered, teller),
         Task::Run => answer_of_call(alloc, ran(alloc, asked, files, lowered)?),
@@ -365,17 +397,21 @@ fn compared<E: Write>(
     }
     let wanted = wanted(alloc, asked, lowered)?;
     let trees = drawn(alloc, Format::Text, files, lowered, &wanted, teller)?;
-    compared_with(alloc, files, &trees)
+    compared_with(alloc, asked.all, files, &trees)
 }
 
-// Where the trees of the last file depart from these.
-fn compared_with(alloc: Global, files: &Files, trees: &str) -> Result<Answer, AllocError>
+// Where the trees of the last file depart from these: in all terms, or the first line.
+fn compared_with(alloc: Global, all: bool, files: &Files, trees: &str) -> Result<Answer, AllocError>
     ensures { IfOk result (λ a. IsDoneWithoutText a ⊎ IsFailed a) }
 {
     let (Some(name), Some(text)) = (files.names.last(), files.texts.last()) else {
         return Ok(accepted(alloc, String::new(alloc)));
     };
-    let err = difference(alloc, name, text, trees)?;
+    let err = if all {
+        differences(alloc, name, text, trees)?
+    } else {
+        difference(alloc, name, text, trees)?
+    };
     let status = if err.is_empty() { 0 } else { 1 };
     Ok(Answer {
         status,

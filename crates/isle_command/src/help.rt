@@ -12,6 +12,8 @@ definitions. Tasks:
                          in the rule, or FILE:LINE. FILE may be the end of a path.
   stats FILE..           counts the rules, sites, tests, arms and returns of each term, and how deep its tests nest
   compare FILE.. TREES   shows where the printed trees in the last file differ from the trees of the other files
+  diff OLD.. -- NEW..    says which terms' trees differ between two versions of rules, and which rules came, went or have
+                         another priority
   run FILE.. -- TERM VALUE..
                          runs a term on values (docs/RUNNING.md). Each term that it calls returns its first argument. An
                          impure term returns the number of impure calls before it. A value with parentheses is quoted:
@@ -32,7 +34,8 @@ Options:
   --allow NAME,..        check: the warnings of these names are not shown. May be given many times. --allow=NAME,.. is the
                          same. The names are never-run, priority, uncovered, recursion, constant, name, unused and literal
                          (docs/USING.md).
-  --all                  shows all errors. Otherwise only the first 20 are shown.
+  --all                  shows all errors. Otherwise only the first 20 are shown. compare: the first line of each term that
+                         differs. Otherwise only the first line of all is shown.
   --format text          shows each error with its source lines. This is the default.
   --format line          shows each error on one line
   --format json          lower, check, stats: prints one JSON object, which has the errors too (docs/JSON.md)

@@ -11,9 +11,9 @@ use std::{fs, io};
 pub enum Unread {
     /// Memory was refused.
     Memory,
-    /// The text of a file of this name isn't UTF-8.
+    /// A text isn't UTF-8: what it is instead, the name of its file, and where.
     Text(String),
-    /// There is no file of this name, or it can't be read.
+    /// A file, or the folder of files, can't be read: its name and why.
     File(String),
 }
 
@@ -57,15 +57,15 @@ pub fn read_files<R: std::rt::Files + AllocGlobal, I: Read + Drop>(
 fn standard_text<I: Read + Drop>(
     alloc: Global,
     asked: &Request<'_>,
-    input: I,
+    mut input: I,
 ) -> Result<String, Unread> {
-    if !asked.files.iter().any(|name| *name == "-") {
-        return Ok(String::new(alloc));
+    let mut bytes = Vec::new(alloc);
+    if asked.files.iter().any(|name| *name == "-") {
+        if let Err(error) = input.read_to_end(&mut bytes) {
+            return Err(unread(alloc, "<stdin>", &error));
+        }
     }
-    match io::read_to_string(alloc, input) {
-        Ok(text) => Ok(text),
-        Err(error) => Err(why_unread(alloc, error.kind(), "<stdin>")),
-    }
+    text_of(alloc, "<stdin>", bytes)
 }
 
 // The text of a file.
@@ -75,29 +75,86 @@ fn file_text<R: std::rt::Files + AllocGlobal>(
     name: &str,
 ) -> Result<String, Unread> {
     let alloc = rt.alloc();
-    let path = path_of(alloc, folder, name)?;
-    match fs::read_to_string(rt, path.as_str()) {
-        Ok(text) => Ok(text),
-        Err(error) => Err(why_unread(alloc, error.kind(), name)),
-    }
-}
-
-// The path of a file.
-fn path_of(alloc: Global, folder: &str, name: &str) -> Result<String, AllocError> {
     if folder.is_empty() || name.starts_with('/') {
-        return String::from_str(alloc, name);
+        return text_at(rt, name, name);
     }
-    format!(in alloc; "{folder}/{name}")
+    if let Some(why) = unread_folder(rt, folder) {
+        return Err(why);
+    }
+    let path = format!(in alloc; "{folder}/{name}")?;
+    text_at(rt, &path, name)
 }
 
-// Why a file of this name can't be read.
-fn why_unread(alloc: Global, why: ErrorKind, name: &str) -> Unread {
-    let Ok(name) = String::from_str(alloc, name) else {
-        return Unread::Memory;
+// The text of the file at a path.
+fn text_at<R: std::rt::Files + AllocGlobal>(
+    rt: &R,
+    path: &str,
+    name: &str,
+) -> Result<String, Unread> {
+    let alloc = rt.alloc();
+    match fs::read(rt, path) {
+        Ok(bytes) => text_of(alloc, name, bytes),
+        Err(error) => Err(unread(alloc, name, &error)),
+    }
+}
+
+// Why files in a folder can't be read, where that is the folder.
+fn unread_folder<R: std::rt::Files + AllocGlobal>(rt: &R, folder: &str) -> Option<Unread> {
+    let alloc = rt.alloc();
+    let why = match fs::metadata(rt, folder) {
+        Ok(found) if found.is_dir() => return None,
+        Ok(_) => "it is no folder",
+        Err(error) if error.kind() == ErrorKind::NotFound => "no such folder",
+        Err(_) => "no permission",
     };
-    match why {
-        ErrorKind::OutOfMemory => Unread::Memory,
-        ErrorKind::InvalidData => Unread::Text(name),
-        _ => Unread::File(name),
+    Some(file(format!(in alloc; "the folder {folder}: {why}")))
+}
+
+// The text that a file's bytes are.
+fn text_of(alloc: Global, name: &str, bytes: Vec<u8>) -> Result<String, Unread> {
+    if let Some(at) = utf16_at(&bytes) {
+        return Err(Unread::Text(format!(in alloc;
+            "this looks like UTF-16, and must be UTF-8: {name}, at byte {at}"
+        )?));
+    }
+    match String::from_utf8(bytes) {
+        Ok(text) => Ok(text),
+        Err(error) => {
+            let at = error.utf8_error().valid_up_to();
+            Err(Unread::Text(format!(in alloc; "this text isn't UTF-8: {name}, at byte {at}")?))
+        }
+    }
+}
+
+// Where bytes look like UTF-16: they begin with a mark for it, or a character of two bytes has a byte 0.
+fn utf16_at(bytes: &[u8]) -> Option<usize> {
+    match bytes {
+        [0xff, 0xfe, ..] | [0xfe, 0xff, ..] | [0, ..] => Some(0),
+        [_, 0, ..] => Some(1),
+        _ => None,
+    }
+}
+
+// Why a file can't be read.
+fn unread(alloc: Global, name: &str, error: &io::Error) -> Unread {
+    // the words of a program have this character in place of what isn't UTF-8
+    let is_named = !name.contains('\u{fffd}');
+    let why = match error.kind() {
+        ErrorKind::OutOfMemory => return Unread::Memory,
+        ErrorKind::NotFound if is_named => "no such file",
+        ErrorKind::NotFound => "no such file, or its name isn't UTF-8",
+        ErrorKind::IsADirectory => "it is a folder",
+        ErrorKind::NotADirectory => "a part of its path is no folder",
+        ErrorKind::PermissionDenied => "no permission",
+        _ => return file(format!(in alloc; "{name}: {error}")),
+    };
+    file(format!(in alloc; "{name}: {why}"))
+}
+
+// That a file can't be read, in these words.
+fn file(words: Result<String, AllocError>) -> Unread {
+    match words {
+        Ok(words) => Unread::File(words),
+        Err(AllocError) => Unread::Memory,
     }
 }

@@ -11,4 +11,5 @@ mod inputs;
 pub mod progress;
 pub mod reading;
 pub mod run;
+mod versions;
 pub mod words;

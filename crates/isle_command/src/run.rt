@@ -22,8 +22,8 @@ use std::io::{Read, Write};
 /// has no `NO_COLOR`.
 ///
 /// 0: what is asked is on `out`. 1: what is wrong with the files is on `err`, or on `out` as JSON; or `err` says what there
-/// isn't. 2: the words ask nothing, and `err` says why. 3: memory was refused. 4: a file can't be read, or `out` can't be
-/// written. A failure of `err` changes no status.
+/// isn't; or two versions differ, as `out` says. 2: the words ask nothing, and `err` says why. 3: memory was refused. 4: a file
+/// can't be read, or `out` can't be written. Neither a failure of `err` nor an `out` that nobody reads changes a status.
 pub fn run<R: std::rt::Files + Env + AllocGlobal, I: Read + Drop, O: Write, E: Write>(
     rt: &R,
     words: &[String],
@@ -137,22 +137,16 @@ fn cannot_read<E: Write>(alloc: Global, why: Unread, err: &mut E) -> u8
 {
     match why {
         Unread::Memory => no_memory(err),
-        Unread::Text(name) => say(
-            alloc,
-            "error[syntax]: this text isn't UTF-8: ",
-            &name,
-            1,
-            err,
-        ),
-        Unread::File(name) => say(alloc, "isle: cannot read ", &name, 4, err),
+        Unread::Text(why) => say(alloc, "error[syntax]: ", &why, 1, err),
+        Unread::File(why) => say(alloc, "isle: cannot read ", &why, 4, err),
     }
 }
 
-// Says something of a file, and answers this status, or 3 where memory is refused.
-fn say<E: Write>(alloc: Global, text: &str, name: &str, status: u8, err: &mut E) -> u8
+// Says why files can't be read, and answers this status, or 3 where memory is refused.
+fn say<E: Write>(alloc: Global, text: &str, why: &str, status: u8, err: &mut E) -> u8
     ensures { (result ≡ status) ⊎ (result ≡ 3) }
 {
-    match format!(in alloc; "{text}{name}\n") {
+    match format!(in alloc; "{text}{why}\n") {
         Ok(line) => end(err, &line, status),
         Err(AllocError) => no_memory(err),
     }

@@ -21,6 +21,8 @@ pub enum Task {
     Stats,
     /// Where the printed trees of the last file depart from those of the others.
     Compare,
+    /// What changed between two versions of definitions.
+    Diff,
     /// The names of the samples, or the trees of one.
     Samples,
     /// The outcome of a call of a term.
@@ -30,13 +32,14 @@ pub enum Task {
 }
 
 // All tasks.
-const TASKS: [Task; 9] = [
+const TASKS: [Task; 10] = [
     Task::Lower,
     Task::Rust,
     Task::Check,
     Task::Explain,
     Task::Stats,
     Task::Compare,
+    Task::Diff,
     Task::Samples,
     Task::Run,
     Task::Why,
@@ -52,6 +55,7 @@ impl Task {
             Task::Explain => "explain",
             Task::Stats => "stats",
             Task::Compare => "compare",
+            Task::Diff => "diff",
             Task::Samples => "samples",
             Task::Run => "run",
             Task::Why => "why",
@@ -121,7 +125,7 @@ pub struct Request<'a> {
     pub denied: Vec<Warning>,
     /// The kinds of warnings that aren't looked for.
     pub allowed: Vec<Warning>,
-    /// Whether a person sees all errors, and not only the first ones.
+    /// Whether a person sees all errors, and not only the first ones; of printed trees, the first of each term.
     pub all: bool,
     /// The form of the answer.
     pub format: Format,
@@ -144,6 +148,8 @@ pub struct Request<'a> {
     pub trace: bool,
     /// The files, where `-` is standard input, or the sample. The last one has printed trees where they are compared.
     pub files: Vec<&'a str>,
+    /// How many of the files are of the old version, where two versions are compared.
+    pub old: usize,
     /// The words of the call.
     pub call: Vec<&'a str>,
 }
@@ -167,6 +173,7 @@ impl<'a> Drop for Request<'a> {
             answers: _,
             trace: _,
             files: _,
+            old: _,
             call: _,
         } = self;
     }
@@ -268,8 +275,9 @@ struct Given {
 ///
 /// Where a word is `--help`, `-h` or `--version`, that is all they ask. Else the first word is the name of a task. For `explain`
 /// and `why` the rule follows. Then there are files; the last one of `compare` has trees, and `samples` has at most one name
-/// of a sample. For `run` and `why` then come `--` and the words of a call: the term and its arguments. Options may stand
-/// everywhere behind the task and before `--`: `isle --help` lists them.
+/// of a sample. For `run` and `why` then come `--` and the words of a call: the term and its arguments. For `diff` then come
+/// `--` and the files of the new version. Options may stand everywhere behind the task, but not in a call: `isle --help` lists
+/// them.
 ///
 /// # Errors
 ///
@@ -317,6 +325,7 @@ fn request_by<'a>(given: Given, words: &'a [String]) -> Result<Request<'a>, Unas
         answers: None,
         trace: false,
         files: Vec::new(given.alloc),
+        old: 0,
         call: Vec::new(given.alloc),
     };
     let mut awaited = Awaited::Task;
@@ -384,6 +393,9 @@ impl<'a> Request<'a> {
         }
         if count == 1 && self.task == Task::Compare {
             return Some("no trees to compare");
+        }
+        if self.task == Task::Diff && (self.old == 0 || self.old == count) {
+            return Some("no new version after the files, such as -- new.isle");
         }
         None
     }
@@ -535,7 +547,7 @@ impl<'a> Request<'a> {
             "--prefix" => self.begin_prefix(alloc),
             "--answers" => self.begin_answers(alloc),
             "--trace" => self.read_trace(alloc),
-            "--" => self.begin_call(alloc),
+            "--" => self.begin_last(alloc),
             "--terms" => Ok(Awaited::Terms),
             "--format" => Ok(Awaited::Format),
             "--color" => Ok(Awaited::Color),
@@ -629,12 +641,6 @@ impl<'a> Request<'a> {
         self.read_file(alloc, word)
     }
 
-    // Only `run` and `why` have a call.
-    fn begin_call(&mut self, alloc: Global) -> Result<Awaited, Unasked> {
-        self.needs_call(alloc)?;
-        Ok(Awaited::Call)
-    }
-
     // Calls may have their answers from a file.
     fn begin_answers(&mut self, alloc: Global) -> Result<Awaited, Unasked> {
         self.needs_call(alloc)?;
@@ -658,6 +664,27 @@ impl<'a> Request<'a> {
             return Err(wrong(format!(in alloc; "{task} runs no call")));
         }
         Ok(())
+    }
+
+    // Only `run` and `why` have a call, and only `diff` has a new version.
+    fn begin_last(&mut self, alloc: Global) -> Result<Awaited, Unasked> {
+        if self.task == Task::Diff {
+            return self.begin_new(alloc);
+        }
+        self.needs_call(alloc)?;
+        Ok(Awaited::Call)
+    }
+
+    // The files behind are those of the new version.
+    fn begin_new(&mut self, alloc: Global) -> Result<Awaited, Unasked> {
+        if self.files.is_empty() {
+            return Err(wrong_as(alloc, "no old version before '--'"));
+        }
+        if self.old > 0 {
+            return Err(wrong_as(alloc, "more than two versions"));
+        }
+        self.old = self.files.len();
+        Ok(Awaited::Any)
     }
 
     // Reads the name of a file, or of a sample.

@@ -371,9 +371,9 @@ pub fn given_of(alloc: Global, rule: &Rule) -> Result<String, AllocError> {
     Ok(text)
 }
 
-// Adds an expression.
+/// Adds an expression, as it is written.
 #[cycle(exprs)]
-fn push_expr(expr: &Expr, out: &mut String) -> Result<(), AllocError> {
+pub(crate) fn push_expr(expr: &Expr, out: &mut String) -> Result<(), AllocError> {
     match expr {
         Expr::Term { sym, args, .. } => {
             out.push('(')?;

@@ -29,6 +29,19 @@ pub fn witness(
     Ok(Some(out))
 }
 
+/// Whether no value matches both of two rules of a term, since they ask for two constants or two variants at one place. Where that
+/// isn't so, some value may match both.
+pub fn exclude_each_other(
+    alloc: Global,
+    defs: &[Def],
+    left: &Rule,
+    right: &Rule,
+) -> Result<bool, AllocError> {
+    let parts = parts_of(alloc, Vec::new(alloc), &[left, right])?;
+    let found = conflict_of(defs, &parts, 0).is_some();
+    Ok(found)
+}
+
 /// The name of the term that a rule is of.
 pub fn term_of(rule: &Rule) -> &str {
     match &rule.pattern {
