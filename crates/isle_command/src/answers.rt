@@ -148,9 +148,8 @@ fn answer_to_defs<E: Write>(
         Ok(lowered) => answer_to_lowered(alloc, asked, files, defs, &lowered, teller),
         Err(Fault::Errors(errors)) => {
             teller.tell("explaining", "errors");
-            let reports = reports_of(alloc, defs, asked.expand, &errors, asked.wants_all())?;
-            let rest = errors.len().saturating_sub(reports.len());
-            refusal(alloc, asked, files, &reports, rest)
+            let found = reports_of(alloc, defs, asked.expand, &errors, asked.wants_all())?;
+            refusal(alloc, asked, files, &found.reports, found.rest)
         }
         Err(Fault::Memory(error)) => Err(error),
     }

@@ -24,7 +24,7 @@ Options:
   --with-allows          rust: the code begins with attributes #![allow(..)], so it can be a file of its own
   --no-expand            does not expand internal extractors. The task rust always expands them.
   --deny                 check: warnings are errors
-  --all                  shows all errors. Otherwise only the first 20 are shown.
+  --all                  shows all errors. Otherwise only the first 20, and none that follows from another one.
   --format text          shows each error with its source lines. This is the default.
   --format line          shows each error on one line
   --format json          lower, check: prints one JSON object, which has the errors too (docs/JSON.md)
