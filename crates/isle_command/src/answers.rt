@@ -194,9 +194,8 @@ pub(crate) fn refused<E: Write>(
     ensures { IfOk result (IsRefusal asked.now) }
 {
     teller.tell("explaining", "errors");
-    let reports = reports_of(alloc, defs, asked.expand, errors, asked.wants_all())?;
-    let rest = errors.len().saturating_sub(reports.len());
-    refusal(alloc, asked, files, &reports, rest)
+    let found = reports_of(alloc, defs, asked.expand, errors, asked.wants_all())?;
+    refusal(alloc, asked, files, &found.reports, found.rest)
 }
 
 // What is answered to definitions with trees.

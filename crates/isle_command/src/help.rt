@@ -34,8 +34,8 @@ Options:
   --allow NAME,..        check: the warnings of these names are not shown. May be given many times. --allow=NAME,.. is the
                          same. The names are never-run, priority, uncovered, recursion, constant, name, unused and literal
                          (docs/USING.md).
-  --all                  shows all errors. Otherwise only the first 20 are shown. compare: the first line of each term that
-                         differs. Otherwise only the first line of all is shown.
+  --all                  shows all errors. Otherwise only the first 20, and none that follows from another one. compare: the
+                         first line of each term that differs. Otherwise only the first line of all is shown.
   --format text          shows each error with its source lines. This is the default.
   --format line          shows each error on one line
   --format json          lower, check, stats: prints one JSON object, which has the errors too (docs/JSON.md)

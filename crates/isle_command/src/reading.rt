@@ -8,9 +8,10 @@ ghost use Rattle.isle_command.specs.Readings.{IsReadingOf, IsUnread};
 
 use crate::progress::Teller;
 use crate::words::Request;
-use cranelift_isle::syntax::{Def, Files};
+use cranelift_isle::syntax::{Def, Files, Pos};
+use isle_causes::unclosed::line_with_list;
 use isle_printing::lines::file_name;
-use isle_printing::report::{Label, Level, Report};
+use isle_printing::report::{Level, Report};
 use isle_reader::errors::{Problem, ReadFault, TextError};
 use isle_reader::read;
 use std::alloc::{AllocError, Global};
@@ -76,7 +77,7 @@ fn read_text(
             Ok(())
         }
         Err(ReadFault::Text(error)) => {
-            reports.push(syntax_report(alloc, error)?)?;
+            reports.push(syntax_report(alloc, text, error)?)?;
             Ok(())
         }
         Err(ReadFault::Memory(error)) => Err(error),
@@ -84,23 +85,33 @@ fn read_text(
 }
 
 // The report of what is wrong with a text.
-fn syntax_report(alloc: Global, error: TextError) -> Result<Report, AllocError> {
-    let mut report = Report {
-        level: Level::Error,
-        kind: "syntax",
-        message: format!(in alloc; "{error}")?,
-        labels: Vec::new(alloc),
-        notes: Vec::new(alloc),
-    };
-    report.labels.push(Label {
-        pos: error.pos,
-        text: String::new(alloc),
-    })?;
+fn syntax_report(alloc: Global, text: &str, error: TextError) -> Result<Report, AllocError> {
+    let message = format!(in alloc; "{error}")?;
+    let mut report = Report::new(alloc, Level::Error, "syntax", message);
+    report.add_label(error.pos, String::new(alloc))?;
     if let Problem::Unclosed(open) = &error.problem {
-        report.labels.push(Label {
-            pos: *open,
-            text: String::from_str(alloc, "begins here")?,
-        })?;
+        report.add_label(*open, String::from_str(alloc, "begins here")?)?;
+        add_next_line(alloc, &mut report, text, *open)?;
     }
     Ok(report)
 }
+
+// Adds the line behind a list that isn't ended where the next form seems to begin.
+fn add_next_line(
+    alloc: Global,
+    report: &mut Report,
+    text: &str,
+    open: Pos,
+) -> Result<(), AllocError> {
+    let Some(offset) = line_with_list(text, open.offset) else {
+        return Ok(());
+    };
+    let pos = Pos {
+        file: open.file,
+        offset,
+    };
+    report.add_label(pos, String::from_str(alloc, NEXT_LINE)?)
+}
+
+// What is said of a line that begins with a list, inside a list that isn't ended.
+const NEXT_LINE: &str = "this line begins a new form: is a `)` missing before it?";

@@ -698,7 +698,21 @@ impl<'a> Request<'a> {
         if self.task == Task::Samples && sample_text(word).is_none() {
             return Err(wrong(format!(in alloc; "no sample is called '{word}'")));
         }
+        if self.task != Task::Samples && self.has_file(word) {
+            return Err(wrong(format!(in alloc; "the file '{word}' is given twice")));
+        }
         self.files.push(word)?;
         Ok(Awaited::Any)
     }
+
+    // Whether a file was given.
+    fn has_file(&self, word: &str) -> bool {
+        let path = plain(word);
+        self.files.iter().any(|file| plain(file) == path)
+    }
+}
+
+// A path without `./` before it.
+fn plain(path: &str) -> &str {
+    path.strip_prefix("./").unwrap_or(path)
 }

@@ -1,11 +1,14 @@
 //! What is wrong with definitions, as reports.
 
 use crate::names::{name_of, priority_of, rule_at};
-use crate::numbered::by_names;
+use crate::numbered::{named_forms, only_place};
 use cranelift_isle::syntax::{Def, Error, Limit, Pos, Span};
+use isle_causes::order::Order;
+use isle_causes::reports::report_of as report_of_type_error;
+use isle_causes::uses::add_uses;
 use isle_conditions::forms::{Form, push_form};
 use isle_conditions::witness::{Conflict, conflict_in, witness};
-use isle_printing::report::{Label, Level, Note, Report};
+use isle_printing::report::{Level, Report};
 use std::alloc::{AllocError, Global};
 
 // How many errors are reported, if not all are wanted.
@@ -28,31 +31,76 @@ struct Source<'a> {
     most_rules: usize,
 }
 
-/// A report for each error of lowering these definitions, in order. If not `all` are wanted, only the first 20 errors have one,
-/// and only the first 5 rules that overlap a rule are shown. Overlaps are reported with what both rules match.
+/// The reports of errors.
+pub struct Reports {
+    /// A report for each error that is shown.
+    pub reports: Vec<Report>,
+    /// How many more there are.
+    pub rest: usize,
+}
+
+impl Drop for Reports {
+    fn drop(self) {
+        let Reports {
+            reports: _,
+            rest: _,
+        } = self;
+    }
+}
+
+/// The reports of the errors of lowering these definitions. If `all` are wanted, each error has one, in order. Else those have
+/// one that say no more than another one, causes before what follows from them; only the first 20 are shown, and only the first
+/// 5 rules that overlap a rule. Overlaps are reported with what both rules match.
 pub fn reports_of(
     alloc: Global,
     defs: &[Def],
     expand: bool,
     errors: &[Error],
     all: bool,
-) -> Result<Vec<Report>, AllocError> {
+) -> Result<Reports, AllocError> {
     let source = Source {
         alloc,
         defs,
         expand,
         most_rules: if all { usize::MAX } else { MOST_RULES },
     };
+    let order = if all {
+        Order::of_all(alloc, errors.len())?
+    } else {
+        Order::by_causes(alloc, errors)?
+    };
     let most = if all { usize::MAX } else { MOST_ERRORS };
     let mut reports = Vec::new(alloc);
-    for (i, error) in errors.iter().enumerate() {
-        if i >= most {
-            break;
-        }
-        let before = times_before(errors, i, error);
-        reports.push(report_of(source, error, before)?)?;
+    for number in order.shown.iter().take(most) {
+        add_report(source, &mut reports, errors, &order, *number)?;
     }
-    Ok(reports)
+    let rest = order.shown.len().saturating_sub(reports.len());
+    Ok(Reports { reports, rest })
+}
+
+// Adds the report of the error of a number.
+fn add_report(
+    source: Source<'_>,
+    reports: &mut Vec<Report>,
+    errors: &[Error],
+    order: &Order,
+    number: usize,
+) -> Result<(), AllocError> {
+    let Some(error) = errors.get(number) else {
+        return Ok(());
+    };
+    let before = times_before(errors, number, error);
+    let mut report = report_of(source, error, before)?;
+    add_uses(
+        source.alloc,
+        &mut report,
+        source.defs,
+        errors,
+        order,
+        number,
+    )?;
+    reports.push(report)?;
+    Ok(())
 }
 
 // How many of the first errors, so many, say that the rule of an error can't match.
@@ -78,7 +126,9 @@ fn is_unreachable(error: &Error, place: Span) -> bool {
 // The report of an error. `before` is how many reports say that its rule can't match.
 fn report_of(source: Source<'_>, error: &Error, before: usize) -> Result<Report, AllocError> {
     match error {
-        Error::TypeError { msg, span } => simple(source.alloc, "type", msg, *span),
+        Error::TypeError { msg, span } => {
+            report_of_type_error(source.alloc, source.defs, msg, span.from)
+        }
         Error::UnreachableError { msg, span } => unreachable(source, msg, *span, before),
         Error::LimitError { limit, msg, span } => of_rule(
             source,
@@ -106,10 +156,42 @@ fn unreachable(
     };
     match found {
         Some(conflict) => of_conflict(source, span, conflict),
-        None => {
-            let message = by_names(source.alloc, source.defs, source.expand, msg)?;
-            of_rule(source, ("unreachable", &message), span, WAY_OUT)
+        None => of_words(source, msg, span),
+    }
+}
+
+// The report of a rule that can't match, by the library's words.
+fn of_words(source: Source<'_>, msg: &str, span: Span) -> Result<Report, AllocError> {
+    let alloc = source.alloc;
+    let Some((first, second)) = named_forms(alloc, source.defs, source.expand, msg)? else {
+        return of_rule(source, ("unreachable", msg), span, WAY_OUT);
+    };
+    let mut message = String::new(alloc);
+    push_rule(&mut message, source.defs, span.from)?;
+    write!(
+        message,
+        " can never match: no value is both `{first}` and `{second}`"
+    )?;
+    let mut report = begun(alloc, "unreachable", &message)?;
+    match (
+        place_of_form(source, span.from, &first)?,
+        place_of_form(source, span.from, &second)?,
+    ) {
+        (Some(left), Some(right)) => {
+            report.add_label(left, format!(in alloc; "must be `{first}`")?)?;
+            report.add_label(right, format!(in alloc; "must be `{second}`")?)?;
         }
+        _ => add_rule(alloc, &mut report, source.defs, span.from, "", "")?,
+    }
+    add_help(alloc, &mut report, WAY_OUT)?;
+    Ok(report)
+}
+
+// The place of a form in the patterns of the rule at a position, if it stands there once.
+fn place_of_form(source: Source<'_>, rule: Pos, form: &str) -> Result<Option<Pos>, AllocError> {
+    match rule_at(source.defs, rule) {
+        Some(rule) => only_place(source.alloc, rule, form),
+        None => Ok(None),
     }
 }
 
@@ -146,8 +228,7 @@ fn add_form(
 ) -> Result<(), AllocError> {
     let mut text = String::from_str(alloc, before)?;
     push_quoted(&mut text, form)?;
-    report.labels.push(Label { pos, text })?;
-    Ok(())
+    report.add_label(pos, text)
 }
 
 // Adds a form as a quotation.
@@ -159,29 +240,8 @@ fn push_quoted(out: &mut String, form: Form<'_>) -> Result<(), AllocError> {
 
 // A report with these words and places to come.
 fn begun(alloc: Global, kind: &'static str, message: &str) -> Result<Report, AllocError> {
-    Ok(Report {
-        level: Level::Error,
-        kind,
-        message: String::from_str(alloc, message)?,
-        labels: Vec::new(alloc),
-        notes: Vec::new(alloc),
-    })
-}
-
-// A report of one place.
-fn simple(
-    alloc: Global,
-    kind: &'static str,
-    message: &str,
-    span: Span,
-) -> Result<Report, AllocError> {
-    let mut report = begun(alloc, kind, message)?;
-    let text = String::new(alloc);
-    report.labels.push(Label {
-        pos: span.from,
-        text,
-    })?;
-    Ok(report)
+    let message = String::from_str(alloc, message)?;
+    Ok(Report::new(alloc, Level::Error, kind, message))
 }
 
 // A report of one rule, with what helps.
@@ -236,7 +296,7 @@ fn overlap(source: Source<'_>, rules: &[Span]) -> Result<Report, AllocError> {
     let help = format!(in alloc;
         "give one of the rules a greater priority, as (rule {above} ..), or make one pattern narrower"
     )?;
-    add_note(&mut report, "help", help)?;
+    report.add_note("help", help)?;
     if !source.expand {
         add_help(alloc, &mut report, NO_TEMPLATES)?;
     }
@@ -252,7 +312,7 @@ fn add_rest(alloc: Global, report: &mut Report, count: usize) -> Result<(), Allo
         return Ok(());
     }
     let text = format!(in alloc; "it overlaps {count} more, shown by `--all`")?;
-    add_note(report, "help", text)
+    report.add_note("help", text)
 }
 
 // A priority above that of rules of one priority, where there is one.
@@ -305,8 +365,7 @@ pub fn add_rule(
     let mut text = String::from_str(alloc, before)?;
     push_rule(&mut text, defs, pos)?;
     text.push_str(after)?;
-    report.labels.push(Label { pos, text })?;
-    Ok(())
+    report.add_label(pos, text)
 }
 
 // Adds a rule's name and priority.
@@ -326,13 +385,7 @@ fn push_rule(text: &mut String, defs: &[Def], pos: Pos) -> Result<(), AllocError
 
 /// Adds a line that helps.
 pub fn add_help(alloc: Global, report: &mut Report, text: &str) -> Result<(), AllocError> {
-    add_note(report, "help", String::from_str(alloc, text)?)
-}
-
-// Adds a line below the places.
-fn add_note(report: &mut Report, word: &'static str, text: String) -> Result<(), AllocError> {
-    report.notes.push(Note { word, text })?;
-    Ok(())
+    report.add_note("help", String::from_str(alloc, text)?)
 }
 
 // Adds what the first of some rules and each of the others match.
@@ -359,7 +412,7 @@ fn add_value(
     };
     let found = witness(alloc, source.defs, left, right)?;
     let text = value_text(alloc, found)?;
-    add_note(report, "note", text)
+    report.add_note("note", text)
 }
 
 // What is said of a value that two rules match, or that none was found.

@@ -176,7 +176,7 @@ fn push_labels(
         return Ok(());
     };
     push_arrow(out, files, first.pos, "-->", width)?;
-    let mut last = (first.pos.file, 0);
+    let mut last = (first.pos.file, 0, 0);
     for label in &in_order(*out.allocator(), report, first.pos.file)? {
         let line = line_of(files, label.pos);
         push_source(out, files, label.pos, line, last, width)?;
@@ -191,7 +191,7 @@ fn push_labels(
         push_marks(out, line, &label.text, mark)?;
         push_code(out, PLAIN, colored)?;
         out.push('\n')?;
-        last = (label.pos.file, line.number);
+        last = (label.pos.file, line.number, line.part().begin);
     }
     if !report.notes.is_empty() {
         push_bar(out, width, "\n")?;
@@ -210,20 +210,22 @@ fn in_order(alloc: Global, report: &Report, file: usize) -> Result<Vec<&Label>, 
 }
 
 // Adds the line of a place, where the last place wasn't in it, and what leads from there to it. No place was before where the
-// last line is 0.
+// last line is 0. A long line is shown again where another part of it is shown.
 fn push_source(
     out: &mut String,
     files: &Files,
     pos: Pos,
     line: Line<'_>,
-    last: (usize, u64),
+    last: (usize, u64, u64),
     width: u64,
 ) -> Result<(), AllocError> {
-    let (file, number) = last;
+    let (file, number, begin) = last;
     if file != pos.file {
         push_arrow(out, files, pos, ":::", width)?;
     } else if number == line.number {
-        return Ok(());
+        if begin == line.part().begin {
+            return Ok(());
+        }
     } else if number > 0 && number.saturating_add(1) != line.number {
         out.push_str("...\n")?;
     }
