@@ -150,9 +150,8 @@ fn document_for(task: Task) -> Document {
     match task {
         Task::Lower => Document::Trees,
         Task::Stats => Document::Sizes,
-        Task::Check | Task::Rust | Task::Explain | Task::Compare | Task::Samples | Task::Run => {
-            Document::Check
-        }
+        // the other tasks have no JSON
+        _ => Document::Check,
     }
 }
 
