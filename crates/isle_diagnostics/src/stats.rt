@@ -39,12 +39,12 @@ pub fn stats(alloc: Global, lowered: &Lowered) -> Result<String, AllocError> {
 
 /// How large each term with rules is, the one with most rules first and those with as many in order.
 pub fn sizes(alloc: Global, lowered: &Lowered) -> Result<Vec<TermSize>, AllocError> {
-    let mut sizes = Vec::new(alloc);
+    let mut listed = Vec::new(alloc);
     for term in &lowered.terms {
-        sizes.push(size_of(term))?;
+        listed.push(size_of(term))?;
     }
-    sizes.sort_by_key(|size| Reverse(size.rules))?;
-    Ok(sizes)
+    listed.sort_by_key(|size| Reverse(size.rules))?;
+    Ok(listed)
 }
 
 // How large a term is.

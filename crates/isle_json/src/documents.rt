@@ -83,7 +83,7 @@ pub fn document_of_terms(
 ) -> Result<String, AllocError>
     ensures { IfOk result (λ text. string_bytes text ≢ []) }
 {
-    let unexpanded = unexpanded(alloc, defs, lowered)?;
+    let unexpanded = environments_as_written(alloc, defs, lowered)?;
     let places = Places::new(alloc, files)?;
     let names = Names {
         tyenv: &lowered.tyenv,
@@ -105,9 +105,9 @@ pub fn document_of_terms(
     ended(alloc, json)
 }
 
-// The typed rules in which internal extractors stand as they are written, where `lowered` has others. None where they can't be
-// typed so.
-fn unexpanded(
+// The environments in which internal extractors stand as they are written, where `lowered` has others. None where rules can't
+// be typed so.
+fn environments_as_written(
     alloc: Global,
     defs: &[Def],
     lowered: &Lowered,
