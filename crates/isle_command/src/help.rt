@@ -16,6 +16,8 @@ definitions. Tasks:
                          runs a term on values (docs/RUNNING.md). Each term that it calls returns its first argument. An
                          impure term returns the number of impure calls before it. A value with parentheses is quoted:
                          isle run a.isle -- f 1 '(T.A 2)'
+  fmt FILE..             lays out files, in place. The layout of - goes to standard output. --check only names the files
+                         that would change.
   samples [NAME]         lists the built-in samples, or prints the tree of one
 Options:
   --terms NAME,..        lower, compare: only these terms

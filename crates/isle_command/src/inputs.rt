@@ -36,7 +36,8 @@ pub fn read_files<R: std::rt::Files + AllocGlobal, I: Read + Drop>(
     input: I,
 ) -> Result<Files, Unread> {
     let alloc = rt.alloc();
-    let standard = standard_text(alloc, asked, input)?;
+    let wants = asked.files.iter().any(|name| *name == "-");
+    let standard = standard_text(alloc, wants, input)?;
     let mut files = Files {
         names: Vec::new(alloc),
         texts: Vec::new(alloc),
@@ -53,13 +54,13 @@ pub fn read_files<R: std::rt::Files + AllocGlobal, I: Read + Drop>(
     Ok(files)
 }
 
-// The text of standard input where it is asked for, else the empty text.
-fn standard_text<I: Read + Drop>(
+/// The text of standard input where it is wanted, else the empty text.
+pub(crate) fn standard_text<I: Read + Drop>(
     alloc: Global,
-    asked: &Request<'_>,
+    wants: bool,
     input: I,
 ) -> Result<String, Unread> {
-    if !asked.files.iter().any(|name| *name == "-") {
+    if !wants {
         return Ok(String::new(alloc));
     }
     match io::read_to_string(alloc, input) {
@@ -68,8 +69,8 @@ fn standard_text<I: Read + Drop>(
     }
 }
 
-// The text of a file.
-fn file_text<R: std::rt::Files + AllocGlobal>(
+/// The text of a file.
+pub(crate) fn file_text<R: std::rt::Files + AllocGlobal>(
     rt: &R,
     folder: &str,
     name: &str,
@@ -82,8 +83,8 @@ fn file_text<R: std::rt::Files + AllocGlobal>(
     }
 }
 
-// The path of a file.
-fn path_of(alloc: Global, folder: &str, name: &str) -> Result<String, AllocError> {
+/// The path of a file.
+pub(crate) fn path_of(alloc: Global, folder: &str, name: &str) -> Result<String, AllocError> {
     if folder.is_empty() || name.starts_with('/') {
         return String::from_str(alloc, name);
     }

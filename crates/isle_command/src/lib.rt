@@ -4,6 +4,7 @@
 pub mod answers;
 pub mod code;
 mod comparison;
+pub mod formatting;
 mod graphs;
 mod help;
 mod inputs;

@@ -83,8 +83,8 @@ fn read_text(
     }
 }
 
-// The report of what is wrong with a text.
-fn syntax_report(alloc: Global, error: TextError) -> Result<Report, AllocError> {
+/// The report of what is wrong with a text.
+pub(crate) fn syntax_report(alloc: Global, error: TextError) -> Result<Report, AllocError> {
     let mut report = Report {
         level: Level::Error,
         kind: "syntax",
