@@ -1,6 +1,7 @@
 // Containers; trees of syntax; errors as lines.
 mod errors;
 mod last_digit;
+mod layout;
 mod partition;
 mod stable;
 mod syntax;

@@ -20,6 +20,8 @@ definitions. Tasks:
                          isle run a.isle -- f 1 '(T.A 2)'
   why RULE FILE.. -- TERM VALUE..
                          says whether a rule is taken on a call, and why not. RULE is as in explain.
+  fmt FILE..             lays out files, in place. The layout of - goes to standard output. --check only names the files
+                         that would change.
   samples [NAME]         lists the built-in samples, or prints the tree of one
 Options:
   --terms NAME,..        lower, compare: only these terms

@@ -36,7 +36,8 @@ pub fn read_files<R: std::rt::Files + AllocGlobal, I: Read + Drop>(
     input: I,
 ) -> Result<Files, Unread> {
     let alloc = rt.alloc();
-    let standard = standard_text(alloc, asked, input)?;
+    let wants = asked.files.iter().any(|name| *name == "-");
+    let standard = standard_text(alloc, wants, input)?;
     let mut files = Files {
         names: Vec::new(alloc),
         texts: Vec::new(alloc),
@@ -53,14 +54,14 @@ pub fn read_files<R: std::rt::Files + AllocGlobal, I: Read + Drop>(
     Ok(files)
 }
 
-// The text of standard input where it is asked for, else the empty text.
-fn standard_text<I: Read + Drop>(
+/// The text of standard input where it is wanted, else the empty text.
+pub(crate) fn standard_text<I: Read + Drop>(
     alloc: Global,
-    asked: &Request<'_>,
+    wants: bool,
     mut input: I,
 ) -> Result<String, Unread> {
     let mut bytes = Vec::new(alloc);
-    if asked.files.iter().any(|name| *name == "-") {
+    if wants {
         if let Err(error) = input.read_to_end(&mut bytes) {
             return Err(unread(alloc, "<stdin>", &error));
         }
@@ -68,21 +69,33 @@ fn standard_text<I: Read + Drop>(
     text_of(alloc, "<stdin>", bytes)
 }
 
-// The text of a file.
-fn file_text<R: std::rt::Files + AllocGlobal>(
+/// The text of a file.
+pub(crate) fn file_text<R: std::rt::Files + AllocGlobal>(
     rt: &R,
     folder: &str,
     name: &str,
 ) -> Result<String, Unread> {
-    let alloc = rt.alloc();
-    if folder.is_empty() || name.starts_with('/') {
-        return text_at(rt, name, name);
+    if is_in_folder(folder, name) {
+        if let Some(why) = unread_folder(rt, folder) {
+            return Err(why);
+        }
     }
-    if let Some(why) = unread_folder(rt, folder) {
-        return Err(why);
-    }
-    let path = format!(in alloc; "{folder}/{name}")?;
+    let path = path_of(rt.alloc(), folder, name)?;
     text_at(rt, &path, name)
+}
+
+// Whether a file is looked for in a folder.
+fn is_in_folder(folder: &str, name: &str) -> bool {
+    !folder.is_empty() && !name.starts_with('/')
+}
+
+/// The path of a file.
+pub(crate) fn path_of(alloc: Global, folder: &str, name: &str) -> Result<String, AllocError> {
+    if is_in_folder(folder, name) {
+        format!(in alloc; "{folder}/{name}")
+    } else {
+        String::from_str(alloc, name)
+    }
 }
 
 // The text of the file at a path.

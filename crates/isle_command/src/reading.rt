@@ -84,8 +84,12 @@ fn read_text(
     }
 }
 
-// The report of what is wrong with a text.
-fn syntax_report(alloc: Global, text: &str, error: TextError) -> Result<Report, AllocError> {
+/// The report of what is wrong with a text.
+pub(crate) fn syntax_report(
+    alloc: Global,
+    text: &str,
+    error: TextError,
+) -> Result<Report, AllocError> {
     let message = format!(in alloc; "{error}")?;
     let mut report = Report::new(alloc, Level::Error, "syntax", message);
     report.add_label(error.pos, String::new(alloc))?;

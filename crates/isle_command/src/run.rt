@@ -6,6 +6,7 @@ ghost use Rattle.isle_command.specs.declared.words.Task.TheVariants.{Samples};
 ghost use Rattle.isle_command.specs.Statuses.{IsStatusFor, IsStatusOfUnread, IsWritten};
 
 use crate::answers::{Answer, answer_to};
+use crate::formatting::run_formatting;
 use crate::help::{HELP, VERSION};
 use crate::inputs::{Unread, read_files};
 use crate::words::{Asked, Request, Task, Unasked, asked_by};
@@ -39,6 +40,7 @@ pub fn run<R: std::rt::Files + Env + AllocGlobal, I: Read + Drop, O: Write, E: W
     match asked_by(rt.alloc(), words, colors) {
         Ok(Asked::Help) => write_text(HELP, out, err),
         Ok(Asked::Version) => write_text(VERSION, out, err),
+        Ok(Asked::Formatting(asked)) => run_formatting(rt, &asked, input, out, err),
         Ok(Asked::Request(asked)) => run_request(rt, &asked, input, terminal, out, err),
         Err(Unasked::Words(why)) => wrong_words(rt.alloc(), &why, err),
         Err(Unasked::Memory) => no_memory(err),
@@ -132,7 +134,7 @@ fn write_both<O: Write, E: Write>(answer: &Answer, out: &mut O, err: &mut E) -> 
 }
 
 // Says why files can't be read, and answers the status for it.
-fn cannot_read<E: Write>(alloc: Global, why: Unread, err: &mut E) -> u8
+pub(crate) fn cannot_read<E: Write>(alloc: Global, why: Unread, err: &mut E) -> u8
     ensures { IsStatusOfUnread why result }
 {
     match why {
@@ -142,8 +144,8 @@ fn cannot_read<E: Write>(alloc: Global, why: Unread, err: &mut E) -> u8
     }
 }
 
-// Says why files can't be read, and answers this status, or 3 where memory is refused.
-fn say<E: Write>(alloc: Global, text: &str, why: &str, status: u8, err: &mut E) -> u8
+/// Says why files can't be read, and answers this status, or 3 where memory is refused.
+pub(crate) fn say<E: Write>(alloc: Global, text: &str, why: &str, status: u8, err: &mut E) -> u8
     ensures { (result ≡ status) ⊎ (result ≡ 3) }
 {
     match format!(in alloc; "{text}{why}\n") {

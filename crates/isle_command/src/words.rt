@@ -1,5 +1,6 @@
 //! What the command is asked by its words.
 
+use crate::formatting::{Formatting, formatting_by};
 use isle_answers::samples::sample_text;
 use isle_printing::layout::Layout;
 use isle_rust::code::{CodegenOptions, Prefix};
@@ -186,7 +187,9 @@ pub enum Asked<'a> {
     Help,
     /// Which program this is.
     Version,
-    /// Something to be done.
+    /// Files in the usual layout.
+    Formatting(Formatting<'a>),
+    /// Something else to be done.
     Request(Request<'a>),
 }
 
@@ -289,7 +292,12 @@ pub fn asked_by<'a>(
 ) -> Result<Asked<'a>, Unasked> {
     match asked_of_program(words) {
         Some(asked) => Ok(asked),
-        None => Ok(Asked::Request(request_by(Given { alloc, colors }, words)?)),
+        None => match words {
+            [task, rest @ ..] if task.as_str() == "fmt" => {
+                Ok(Asked::Formatting(formatting_by(alloc, rest)?))
+            }
+            _ => Ok(Asked::Request(request_by(Given { alloc, colors }, words)?)),
+        },
     }
 }
 

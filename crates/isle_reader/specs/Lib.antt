@@ -4,3 +4,11 @@ pub mod Forms
 pub mod Tokens
 pub mod Lets
 pub mod Lists
+pub mod Numbers
+pub mod Lexemes
+pub mod Pieces
+pub mod Lexing
+pub mod Views
+pub mod FormTrees
+pub mod FormViews
+pub mod Solid

@@ -1,9 +1,14 @@
 //! Tokens to forms: words, numbers, constants, bindings, and lists in parentheses.
 #![tactic(auto, using(crate::proofs::Rows::form_parts))]
 
-ghost use Rattle.std.specs.Prelude.{ℕ, MatchResult, OnOk, ⊤};
+ghost use Rattle.std.specs.Prelude.{◌≡◌, ℕ, List, [], ◌∷◌, IfOk, MatchResult, OnOk, ⊤};
+ghost use Rattle.isle_base.specs.SyntaxViews.{name_view, position};
 ghost use Rattle.isle_reader.specs.Faults.{FaultIsWithin};
 ghost use Rattle.isle_reader.specs.Forms.{FormIsWithin, FormsAreWithin, IdentIsWithin, OpensAreWithin, OpenIsWithin, PosIsWithin};
+ghost use Rattle.isle_reader.specs.Lexemes.{Lexeme, end_list, word};
+ghost use Rattle.isle_reader.specs.FormTrees.{all_spelled, spelled};
+ghost use Rattle.isle_reader.specs.FormViews.{all_view, erased, erased_tokens, form_view, open_spelled, so_far, stack_spelled};
+ghost use Rattle.isle_reader.specs.Views.{token_view};
 ghost use Rattle.isle_reader.specs.Tokens.{TokenIsWithin, TokensAreWithin};
 
 use crate::errors::{Mistake, Problem, ReadFault, TextError, fault};
@@ -47,7 +52,9 @@ impl Form {
 /// The forms of a text.
 pub fn forms(at: Source, tokens: Vec<Token>) -> Result<Vec<Form>, ReadFault>
     requires { TokensAreWithin at.file at.len tokens.items }
-    ensures { MatchResult result (λ fs. FormsAreWithin at.file at.len fs.items) (FaultIsWithin at.file at.len) }
+    ensures within { MatchResult result (λ fs. FormsAreWithin at.file at.len fs.items) (FaultIsWithin at.file at.len) }
+    // The forms are spelled by these tokens, and by them alone.
+    ensures spelled { IfOk result (λ fs. all_spelled (all_view fs.items) [] ≡ erased_tokens tokens.items) }
 {
     let mut stack = Vec::new(at.alloc);
     let mut forms = Vec::new(at.alloc);
@@ -89,6 +96,7 @@ fn add(
     ensures error { MatchResult result (λ _. ⊤) (FaultIsWithin at.file at.len) }
     ensures stack { OnOk result (OpensAreWithin at.file at.len stack.new.items) }
     ensures forms { OnOk result (FormsAreWithin at.file at.len forms.new.items) }
+    ensures spelled { OnOk result ((after : List Lexeme) → so_far forms.new.items stack.new.items after ≡ so_far forms.old.items stack.old.items (erased (token_view token) ∷ after)) }
 {
     match token {
         Token::Open(pos) => start(at, Open::Group(Vec::new(at.alloc), pos), pos, stack),
@@ -117,6 +125,7 @@ fn dash(
     ensures error { MatchResult result (λ _. ⊤) (FaultIsWithin at.file at.len) }
     ensures stack { OnOk result (OpensAreWithin at.file at.len stack.new.items) }
     ensures forms { OnOk result (FormsAreWithin at.file at.len forms.new.items) }
+    ensures spelled { OnOk result ((after : List Lexeme) → so_far forms.new.items stack.new.items after ≡ so_far forms.old.items stack.old.items (word (name_view name) ∷ after)) }
 {
     if !passes_over(stack.first()) {
         return Err(fault(Mistake::Digits, name.1));
@@ -136,11 +145,13 @@ fn passes_over(outermost: Option<&Open>) -> bool {
 }
 
 // Begins a form, unless it stands too deep.
+#[tactic(auto, using(crate::proofs::Rows::form_parts, crate::proofs::Stacks::stack_parts))]
 fn start(at: Source, begun: Open, pos: Pos, stack: &mut Vec<Open>) -> Result<(), ReadFault>
     requires begun { OpenIsWithin at.file at.len begun }
     requires pos { PosIsWithin at.file at.len pos }
     requires stack { OpensAreWithin at.file at.len stack.old.items }
-    ensures { MatchResult result (λ _. OpensAreWithin at.file at.len stack.new.items) (FaultIsWithin at.file at.len) }
+    ensures within { MatchResult result (λ _. OpensAreWithin at.file at.len stack.new.items) (FaultIsWithin at.file at.len) }
+    ensures spelled { OnOk result ((after : List Lexeme) → stack_spelled stack.new.items after ≡ stack_spelled stack.old.items (open_spelled begun after)) }
 {
     if stack.len() >= DEEPEST {
         return Err(fault(Mistake::Depth, pos));
@@ -162,6 +173,7 @@ fn close(
     ensures error { MatchResult result (λ _. ⊤) (FaultIsWithin at.file at.len) }
     ensures stack { OnOk result (OpensAreWithin at.file at.len stack.new.items) }
     ensures forms { OnOk result (FormsAreWithin at.file at.len forms.new.items) }
+    ensures spelled { OnOk result ((after : List Lexeme) → so_far forms.new.items stack.new.items after ≡ so_far forms.old.items stack.old.items (end_list (position end) ∷ after)) }
 {
     match stack.pop() {
         None => Err(fault(Mistake::ListBegin, end)),
@@ -183,6 +195,7 @@ fn put(
     ensures error { MatchResult result (λ _. ⊤) (FaultIsWithin at.file at.len) }
     ensures stack { OnOk result (OpensAreWithin at.file at.len stack.new.items) }
     ensures forms { OnOk result (FormsAreWithin at.file at.len forms.new.items) }
+    ensures spelled { OnOk result ((after : List Lexeme) → so_far forms.new.items stack.new.items after ≡ so_far forms.old.items stack.old.items (spelled (form_view form) after)) }
 {
     let mut form = form;
     while let Some(begun) = stack.pop() {

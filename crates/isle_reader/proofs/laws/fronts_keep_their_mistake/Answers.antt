@@ -1,0 +1,5 @@
+use Rattle.isle_reader.proofs.Fronts.{same_front}
+use Rattle.isle_reader.proofs.laws.fronts_keep_their_mistake.Goals as goal
+
+pub returns : goal.returns
+returns c = same_front
