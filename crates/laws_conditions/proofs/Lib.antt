@@ -1,0 +1,15 @@
+mod Answers
+mod Assumptions
+mod Collected
+mod Followed
+mod plain
+mod SampleAnswers
+mod SampleBelow
+mod SampleConditions
+mod SampleLists
+mod SampleNumbers
+mod SamplePriorities
+mod SampleUnwraps
+mod SampleWritten
+mod TotalAnswers
+mod Valuations

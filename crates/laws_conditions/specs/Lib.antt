@@ -1,0 +1,14 @@
+pub mod Words
+pub mod Specs
+pub mod Conditions
+pub mod Meets
+pub mod CollectLaws
+pub mod ConditionLaws
+pub mod Samples
+pub mod SampleCalls
+pub mod SampleBelow
+pub mod SampleLists
+pub mod SampleNumbers
+pub mod SamplePriorities
+pub mod TotalLaws
+pub mod SampleUnwraps

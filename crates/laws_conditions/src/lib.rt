@@ -1,0 +1,122 @@
+//! Laws of conditions: where what is asked of a solver holds of each rule, what a term answers is as its spec says.
+//!
+//! A function here has no code: its clause is a law, and its proof stands in `proofs/`.
+#![tactic(auto)]
+
+ghost use Rattle.laws_conditions.specs.CollectLaws.{BagsAreAsSaid, CollectsAsSaid, LoweredTermsCollectAsSaid};
+ghost use Rattle.laws_conditions.specs.ConditionLaws.{ChoosesAsSaid, ComputesAsSaid, ChoosesAsSaidByPriority, ComputesAsSaidByPriority, LoweredTermsComputeAsSaid};
+ghost use Rattle.laws_conditions.specs.SampleCalls.{PremisesHold, OthersAreRefused};
+ghost use Rattle.laws_conditions.specs.SampleBelow.{PriorityPremisesHold};
+ghost use Rattle.laws_conditions.specs.SampleLists.{ListsAreSaid, BagPremisesHold};
+ghost use Rattle.laws_conditions.specs.SampleNumbers.{NumbersExcludeNothing};
+ghost use Rattle.laws_conditions.specs.SamplePriorities.{PrioritiesCount};
+ghost use Rattle.laws_conditions.specs.SampleUnwraps.{UnusedCallsShowNothing};
+ghost use Rattle.laws_conditions.specs.Samples.{SumsAreSaid, WordsAreFormed, SumsAreRight, CallsAreRequired};
+ghost use Rattle.laws_conditions.specs.TotalLaws.{TotalMeaningsAnswerAsSaid};
+
+/// Where the condition of each rule of a term that isn't multi is valid, and what is called meets its spec, the choice among
+/// source rules gives what the term's spec says, and each impure call meets its require.
+pub fn chooses_as_said()
+    ensures { ChoosesAsSaid }
+{}
+
+/// So a tree that runs as chosen computes what the term's spec says.
+pub fn computes_as_said()
+    ensures { ComputesAsSaid }
+{}
+
+/// It is enough that conditions are valid where no rule of greater priority matches, if atoms stand for numbers.
+pub fn chooses_as_said_by_priority()
+    ensures { ChoosesAsSaidByPriority }
+{}
+
+/// So a tree that runs as chosen computes what the spec says under the weaker premise too.
+pub fn computes_as_said_by_priority()
+    ensures { ComputesAsSaidByPriority }
+{}
+
+/// Each tree that lowering gives of accepted definitions computes what its term's spec says, in terms that aren't multi.
+pub fn lowered_terms_compute_as_said()
+    ensures { LoweredTermsComputeAsSaid }
+{}
+
+/// By well-typed functions that meet specs a tree that runs as chosen computes what its term's spec says.
+pub fn total_meanings_answer_as_said()
+    ensures { TotalMeaningsAnswerAsSaid }
+{}
+
+/// Each result of the bag of a term's rules, where they make no impure call, is a value that the term's spec provides.
+pub fn bags_are_as_said()
+    ensures { BagsAreAsSaid }
+{}
+
+/// So is each result that a tree collects which collects the bag.
+pub fn collects_as_said()
+    ensures { CollectsAsSaid }
+{}
+
+/// Each tree that lowering gives of accepted definitions collects values that its term's spec provides, in multi terms whose
+/// rules make no impure call and leave no multi call of an if-let unused.
+pub fn lowered_terms_collect_as_said()
+    ensures { LoweredTermsCollectAsSaid }
+{}
+
+/// Sums of words are taken modulo two to their width, and nothing is said where widths or places don't fit.
+pub fn sums_are_said()
+    ensures { SumsAreSaid }
+{}
+
+/// Words lie below two to their width, and literals are read modulo it.
+pub fn words_are_formed()
+    ensures { WordsAreFormed }
+{}
+
+/// The sum of an argument with itself is twice it; the argument alone isn't, and a call whose require fails shows nothing.
+pub fn sums_are_right()
+    ensures { SumsAreRight }
+{}
+
+/// The require of an impure call is to be shown, and what is provided, also where operands don't fit.
+pub fn calls_are_required()
+    ensures { CallsAreRequired }
+{}
+
+/// The premises of the law hold together: of a program with one rule, a sum, the choice gives 200 for 100.
+pub fn premises_hold()
+    ensures { PremisesHold }
+{}
+
+/// A meaning that answers 201 doesn't meet the specs, and 201 isn't what is provided.
+pub fn others_are_refused()
+    ensures { OthersAreRefused }
+{}
+
+/// Each answer of a multi call is as the call's spec says, so a rule that gives them is right, and one that gives its argument isn't.
+pub fn lists_are_said()
+    ensures { ListsAreSaid }
+{}
+
+/// The premises of the law of bags hold together: of a program with one rule, a multi call, the bag has 200 twice for 100.
+pub fn bag_premises_hold()
+    ensures { BagPremisesHold }
+{}
+
+/// A rule that is wrong alone is right where the one above it doesn't match.
+pub fn priorities_count()
+    ensures { PrioritiesCount }
+{}
+
+/// The premises of the law by priority hold together of these rules: A gives 10, and B gives 20.
+pub fn priority_premises_hold()
+    ensures { PriorityPremisesHold }
+{}
+
+/// A rule that is wrong of a number stays wrong below the rule that names the number: another value may stand for it too.
+pub fn numbers_exclude_nothing()
+    ensures { NumbersExcludeNothing }
+{}
+
+/// What the spec of a call says that the result doesn't use, and that gives no value, makes no wrong rule right.
+pub fn unused_calls_show_nothing()
+    ensures { UnusedCallsShowNothing }
+{}
