@@ -58,13 +58,22 @@ impl Page {
     // Writes a part, and the white space before it.
     fn add(&mut self, placed: &Placed) -> Result<(), AllocError> {
         match self.breaks_before(placed) {
-            0 => self.push_spaces(self.spaces_before(placed))?,
+            0 => {
+                let spaces = self.spaces_before(placed);
+                self.push_spaces(spaces)?;
+            }
             breaks => {
                 self.push_breaks(breaks)?;
-                self.push_spaces(self.lists.indent(&placed.part))?;
+                let indent = self.indent(&placed.part);
+                self.push_spaces(indent)?;
             }
         }
         self.write(&placed.part)
+    }
+
+    // The column where a line begins whose first part is this.
+    fn indent(&self, part: &Part) -> usize {
+        self.lists.indent(part)
     }
 
     // How many line breaks a part gets.

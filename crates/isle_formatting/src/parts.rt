@@ -3,7 +3,7 @@
 use std::alloc::{AllocError, Global};
 
 /// What a text is made of, besides white space.
-#[derive(Clone, PartialEq, Eq, Drop)]
+#[derive(PartialEq, Eq, Drop)]
 pub enum Part {
     /// The parenthesis that begins a list.
     Open,
