@@ -1,8 +1,9 @@
 //! Integer literals that are no numbers of their types.
 
+use crate::coverage::int_type;
 use crate::kinds::{Warning, add_place, begun};
 use cranelift_isle::lower::Lowered;
-use cranelift_isle::sema::{BuiltinType, IntType, TermId, Type, TypeId};
+use cranelift_isle::sema::{IntType, TermId, TypeId};
 use cranelift_isle::syntax::{Def, Expr, Ident, IfLet, Pattern, Pos, Rule};
 use isle_diagnostics::diagnosis::add_help;
 use isle_printing::report::Report;
@@ -58,11 +59,8 @@ fn type_of_expr(lowered: &Lowered, expr: &Expr) -> Option<TypeId> {
 }
 
 // The built-in integer type that a type is.
-fn int_type(lowered: &Lowered, ty: Option<TypeId>) -> Option<IntType> {
-    match lowered.tyenv.types.get(ty?.index())? {
-        Type::Builtin(BuiltinType::Int(int)) => Some(*int),
-        _ => None,
-    }
+fn int_of(lowered: &Lowered, ty: Option<TypeId>) -> Option<IntType> {
+    int_type(&lowered.tyenv, ty?)
 }
 
 // Those of a rule.
@@ -103,7 +101,7 @@ fn add_in_pattern(
 ) -> Result<(), AllocError> {
     match pattern {
         Pattern::ConstInt { val, pos } => {
-            add_literal(alloc, reports, int_type(lowered, ty), *val, *pos)
+            add_literal(alloc, reports, int_of(lowered, ty), *val, *pos)
         }
         Pattern::BindPattern { subpat, .. } => add_in_pattern(alloc, reports, lowered, subpat, ty),
         Pattern::Term { sym, args, .. } => {
@@ -135,7 +133,7 @@ fn add_in_expr(
 ) -> Result<(), AllocError> {
     match expr {
         Expr::ConstInt { val, pos } => {
-            add_literal(alloc, reports, int_type(lowered, ty), *val, *pos)
+            add_literal(alloc, reports, int_of(lowered, ty), *val, *pos)
         }
         Expr::Term { sym, args, .. } => {
             let term = term_of(lowered, sym);
