@@ -113,7 +113,7 @@ fn what_a_document_says(rt: HostRuntime) -> Result<(), Fail> {
         ("/terms/0/sites/0/types/0", "S"),
         ("/terms/0/rules/0/written/arguments/0/name", "S"),
         ("/constants/0/name", "K"),
-        ("/all_terms/0/name", "T.A"),
+        ("/all_terms/1/name", "T.A"),
     ] {
         assert_eq!(&rt; text_at(&value, path), Some(want), "{path}");
     }
