@@ -77,12 +77,7 @@ fn wrong(why: Result<String, AllocError>) -> Unasked {
 
 impl<'a> Formatting<'a> {
     // Reads a word, and answers what is awaited then.
-    fn read(
-        &mut self,
-        alloc: Global,
-        awaited: Awaited,
-        word: &'a str,
-    ) -> Result<Awaited, Unasked> {
+    fn read(&mut self, alloc: Global, awaited: Awaited, word: &'a str) -> Result<Awaited, Unasked> {
         if awaited == Awaited::Folder {
             self.folder = word;
             return Ok(Awaited::Any);
@@ -170,7 +165,17 @@ fn format_text<R: std::rt::Files + AllocGlobal, O: Write, E: Write>(
     ensures { result ≤ 4 }
 {
     match formatted(rt.alloc(), 0, text) {
-        Ok(Some(made)) => hand_over(rt, asked, Laid { name, text, made: &made }, out, err),
+        Ok(Some(made)) => hand_over(
+            rt,
+            asked,
+            Laid {
+                name,
+                text,
+                made: &made,
+            },
+            out,
+            err,
+        ),
         Ok(None) => say(rt.alloc(), "isle: cannot lay out ", name, 1, err),
         Err(ReadFault::Text(error)) => refuse(rt.alloc(), name, text, error, err),
         Err(ReadFault::Memory(_)) => no_memory(err),
@@ -235,12 +240,7 @@ fn refuse<E: Write>(alloc: Global, name: &str, text: &str, error: TextError, err
 }
 
 // The report of what is wrong with a text.
-fn refusal(
-    alloc: Global,
-    name: &str,
-    text: &str,
-    error: TextError,
-) -> Result<String, AllocError> {
+fn refusal(alloc: Global, name: &str, text: &str, error: TextError) -> Result<String, AllocError> {
     let mut files = Files {
         names: Vec::new(alloc),
         texts: Vec::new(alloc),

@@ -58,9 +58,24 @@ fn definitions(rt: HostRuntime) -> Result<(), Fail> {
 #[test]
 fn white_space(rt: HostRuntime) -> Result<(), Fail> {
     expect_laid(&rt, rt.alloc(), "", "")?;
-    expect_laid(&rt, rt.alloc(), "\n\n ; a\r\n\n\n\n( pragma )", "; a\n\n(pragma)\n")?;
-    expect_laid(&rt, rt.alloc(), "\u{feff}(pragma)\t(; b ;)", "\u{feff}(pragma) (; b ;)\n")?;
-    expect_laid(&rt, rt.alloc(), "(pragma ; c\n)( ; d\n)", "(pragma ; c\n) ( ; d\n  )\n")?;
+    expect_laid(
+        &rt,
+        rt.alloc(),
+        "\n\n ; a\r\n\n\n\n( pragma )",
+        "; a\n\n(pragma)\n",
+    )?;
+    expect_laid(
+        &rt,
+        rt.alloc(),
+        "\u{feff}(pragma)\t(; b ;)",
+        "\u{feff}(pragma) (; b ;)\n",
+    )?;
+    expect_laid(
+        &rt,
+        rt.alloc(),
+        "(pragma ; c\n)( ; d\n)",
+        "(pragma ; c\n) ( ; d\n  )\n",
+    )?;
     expect_laid(
         &rt,
         rt.alloc(),
