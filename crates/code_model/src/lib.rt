@@ -1,0 +1,101 @@
+//! Code as data, what it does, and the code of a tree.
+//!
+//! A function here has no code: its clause is a law.
+#![tactic(auto)]
+
+ghost use Rattle.code_model.specs.PrintedCode.{PrintedCodeRuns};
+ghost use Rattle.code_model.specs.Flat.{FlatRunsSame};
+ghost use Rattle.code_model.specs.Labels.{OpenedRunsSame};
+ghost use Rattle.code_model.specs.Modes.{FlatKeepsModes, PassesByTypesFit};
+ghost use Rattle.code_model.specs.Moves.{FlatKeepsMoves};
+ghost use Rattle.code_model.specs.PrintedNames.{NamesAreApart};
+ghost use Rattle.code_model.specs.Samples.{SamplesAreJudged};
+ghost use Rattle.code_model.specs.Scopes.{FlatKeepsScopes, PrintedCodeIsScoped};
+ghost use Rattle.code_model.specs.CodeLaws.{BestTreesBindNoneInPlace, CodeOfBestTreesRuns, CodeRunsAsTree, CodeStopsAtBound};
+
+/// However values are handed on, the code of a tree that binds nothing written in place runs as the tree.
+#[tactic(auto, using(crate::proofs::CodeRunning::code_runs_as_tree_lem))]
+pub fn code_runs_as_tree()
+    ensures { CodeRunsAsTree }
+{}
+
+/// Where the list of results is full, code stops: what it gave and called is the beginning of what it gives and calls without a
+/// bound, and all of it where there are fewer results.
+#[tactic(auto, using(crate::proofs::CodeCut::code_stops_at_bound_lem))]
+pub fn code_stops_at_bound()
+    ensures { CodeStopsAtBound }
+{}
+
+/// Best trees bind nothing that is written in place.
+#[tactic(auto, using(crate::proofs::NothingInPlace::best_trees_bind_none_in_place_lem))]
+pub fn best_trees_bind_none_in_place()
+    ensures { BestTreesBindNoneInPlace }
+{}
+
+/// Within a label, a test that leaves it where it isn't met may stand for one with braces around all that follows.
+#[tactic(auto, using(crate::proofs::Opening::opened_runs_same_lem))]
+pub fn opened_runs_same()
+    ensures { OpenedRunsSame }
+{}
+
+/// The code of a best tree runs as the tree.
+#[tactic(auto, using(crate::proofs::BestCode::code_of_best_trees_runs_lem))]
+pub fn code_of_best_trees_runs()
+    ensures { CodeOfBestTreesRuns }
+{}
+
+/// At whatever depths the bodies of tests get labels, the run is the same.
+#[tactic(auto, using(crate::proofs::Flattening::flat_runs_same_lem))]
+pub fn flat_runs_same()
+    ensures { FlatRunsSame }
+{}
+
+/// However values are handed on, and at whatever depths bodies get labels, the code of a best tree runs as the tree, cut where
+/// the list of results is full.
+#[tactic(auto, using(crate::proofs::PrintedCode::printed_code_runs_lem))]
+pub fn printed_code_runs()
+    ensures { PrintedCodeRuns }
+{}
+
+/// At whatever depths the bodies of tests get labels, what is read is in scope as before.
+#[tactic(auto, using(crate::proofs::FlatScopes::flat_keeps_scopes_lem))]
+pub fn flat_keeps_scopes()
+    ensures { FlatKeepsScopes }
+{}
+
+/// And in the code of a best tree it is: each variable that is read was bound before, in the block or in one around it.
+#[tactic(auto, using(crate::proofs::TreeScopes::printed_code_is_scoped_lem))]
+pub fn printed_code_is_scoped()
+    ensures { PrintedCodeIsScoped }
+{}
+
+/// Different variables and parameters print as different names.
+#[tactic(auto, using(crate::proofs::PrintedNames::names_are_apart_lem))]
+pub fn names_are_apart()
+    ensures { NamesAreApart }
+{}
+
+/// At whatever depths the bodies of tests get labels, uses fit as before.
+#[tactic(auto, using(crate::proofs::Modes::flat_keeps_modes_lem))]
+pub fn flat_keeps_modes()
+    ensures { FlatKeepsModes }
+{}
+
+/// In the code of a typed tree, where values are handed on by their types, each use gives what is wanted there, and nothing
+/// that isn't Copy is given away but by the return that ends the function.
+#[tactic(auto, using(crate::proofs::Modes::passes_by_types_fit_lem))]
+pub fn passes_by_types_fit()
+    ensures { PassesByTypesFit }
+{}
+
+/// A sample is judged to be in scope and to fit, and near ones aren't.
+#[tactic(auto, using(crate::proofs::Samples::samples_are_judged_lem))]
+pub fn samples_are_judged()
+    ensures { SamplesAreJudged }
+{}
+
+/// And loops take what was bound right before, as before.
+#[tactic(auto, using(crate::proofs::FlatMoves::flat_keeps_moves_lem))]
+pub fn flat_keeps_moves()
+    ensures { FlatKeepsMoves }
+{}

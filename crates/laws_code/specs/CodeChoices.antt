@@ -1,0 +1,71 @@
+-- The chain said once: the code that is printed of accepted definitions means what their source rules mean.
+use Rattle.std.specs.Prelude.{[], ◌≡◌, ◌≤◌, ◌<◌, ◌++◌, ℕ, suc, Bool, true, false, List, length, Some, None, All, IsTrue, IsPermutation}
+use Rattle.model.specs.lists.Syntax.{Definition}
+use Rattle.model.specs.lists.Elaborated.{TypedRules}
+use Rattle.model.specs.rules.Values.{Value, args_well_typed}
+use Rattle.model.specs.rules.Meaning.{Content, Meaning}
+use Rattle.model.specs.rules.Outcome.{Outcome}
+use Rattle.model.specs.rules.Program.{Program, is_multi, arg_types, rules_of}
+use Rattle.model.specs.rules.Choice.{choice, MatchesOnce}
+use Rattle.model.specs.rules.Picks.{bag}
+use Rattle.model.specs.sites.Sites.{Site}
+use Rattle.model.specs.sites.Serves.{Serves, TellsConstantsApart}
+use Rattle.model.specs.sites.RuleSets.{IsBuilt}
+use Rattle.model.specs.trees.Run.{world_of}
+use Rattle.model.specs.trees.Best.{IsBestTree}
+use Rattle.model.specs.trees.Collects.{Collects, HasCollectedResults}
+use Rattle.model.specs.claims.Layers.{own_program, IsAccepted, IsLoweredTerm, LoweredTerm}
+use Rattle.code_model.specs.Code.{Block}
+use Rattle.code_model.specs.CodeRuns.{code_run}
+use Rattle.code_model.specs.TreeCode.{Passes, tree_code}
+use Rattle.code_model.specs.Flat.{flat}
+
+-- what holds on all well-typed arguments, under every meaning that serves the term's rules and tells constants apart
+abbrev pub OnServed : Program → ℕ → (Meaning → List Value → Type 0) → Type 0
+OnServed p t Holds =
+    (m : Meaning) (args : List Value) → IsTrue (args_well_typed p.types (arg_types p t) args) → Serves p m args (rules_of p t) → TellsConstantsApart p m (rules_of p t)
+    → Holds m args
+
+-- in a term that isn't multi, code without a bound has the outcome of the matching source rule of greatest priority, its
+-- result or failure and its impure calls in order, or no rule and no impure calls; and no second rule of that priority
+-- matches
+abbrev pub CodeRunsAsChosen : Program → ℕ → List Site → Block → Type 0
+CodeRunsAsChosen p t sites code =
+    is_multi p t ≡ false
+    → OnServed p t (λ m args. (code_run code (world_of p t sites m args) None ≡ choice p m (rules_of p t) args) × MatchesOnce p m (rules_of p t) args)
+
+-- results of a run with a bound: a part of the bag, so many where there are as many, and where there are fewer all of it,
+-- run through; without impure calls
+pub record CollectsUpTo (most : ℕ) (o : Outcome) (expected : List Content) : Type 0 where
+  pub calls : o.calls ≡ []
+  pub part : (left : List Content) × IsPermutation expected (o.results ++ left)
+  pub full : most ≤ length expected → length o.results ≡ most
+  pub all : length expected < most → Collects o expected
+
+-- in a multi term whose rules make no impure call and leave no multi call of an if-let unused, code without a bound collects
+-- the bag of the rules' results, and with one a part of it up to there
+abbrev pub CodeCollectsTheBag : Program → ℕ → List Site → Block → Type 0
+CodeCollectsTheBag p t sites code =
+    is_multi p t ≡ true → All (HasCollectedResults p) (rules_of p t)
+    → OnServed p t (λ m args.
+    Collects (code_run code (world_of p t sites m args) None) (bag p m (rules_of p t) args)
+    × ((n : ℕ) → CollectsUpTo (suc n) (code_run code (world_of p t sites m args) (Some (suc n))) (bag p m (rules_of p t) args)))
+
+pub record MeansItsSource (p : Program) (l : LoweredTerm) (code : Block) : Type 0 where
+  pub chooses : CodeRunsAsChosen p l.term l.set.sites code
+  pub collects : CodeCollectsTheBag p l.term l.set.sites code
+
+-- the code of a term, however its values are handed on, and at whatever depths its bodies get labels
+abbrev pub EachCodeMeansItsSource : Program → LoweredTerm → Type 0
+EachCodeMeansItsSource p l = (passes : Passes) (deep : ℕ → Bool) (n : ℕ) → MeansItsSource p l (flat (tree_code l.tree l.set.sites passes) deep n)
+
+-- of each term that was lowered: what `lower` promises of its answer
+abbrev pub CodeOfLoweredTermsMeans : Type 0
+CodeOfLoweredTermsMeans = (p : Program) (l : LoweredTerm) → IsLoweredTerm p l → EachCodeMeansItsSource p l
+
+-- of each best tree of a set that is built of accepted definitions
+abbrev pub CodeChoosesAsSource : Type 0
+CodeChoosesAsSource =
+    (defs : List Definition) (expand : Bool) (rules : TypedRules) (l : LoweredTerm)
+    → IsAccepted defs expand rules → IsBuilt (own_program defs rules) l.term l.set → IsBestTree l.set l.tree
+    → EachCodeMeansItsSource (own_program defs rules) l
