@@ -713,10 +713,13 @@ impl<'a> Request<'a> {
         Ok(Awaited::Any)
     }
 
-    // Whether a file was given.
+    // Whether a file was given, of the same version.
     fn has_file(&self, word: &str) -> bool {
         let path = plain(word);
-        self.files.iter().any(|file| plain(file) == path)
+        self.files
+            .iter()
+            .skip(self.old)
+            .any(|file| plain(file) == path)
     }
 }
 
