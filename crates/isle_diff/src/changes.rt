@@ -1,6 +1,6 @@
 //! What changed between two versions of definitions: the trees of terms, and rules.
 
-use crate::takers::{Taker, taker};
+use crate::takers::{Taker, taker_of};
 use crate::versions::{Version, term_called, term_name};
 use cranelift_isle::lower::{Lowered, LoweredTerm};
 use cranelift_isle::syntax::{Def, Rule};
@@ -204,7 +204,7 @@ impl<'a> Rules<'a> {
         before: &str,
         out: &mut String,
     ) -> Result<(), AllocError> {
-        match taker(self.alloc, self.term, version, other, rule)? {
+        match taker_of(self.alloc, self.term, version, other, rule)? {
             Taker::Rule(value, found) => {
                 write!(out, "    `{value}`{before}")?;
                 push_rule_name(out, other, found)?;

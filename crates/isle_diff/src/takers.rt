@@ -26,7 +26,7 @@ pub enum Taker<'a> {
 /// # Errors
 ///
 /// Where memory is refused.
-pub fn taker<'a>(
+pub fn taker_of<'a>(
     alloc: Global,
     term: &str,
     own: Version<'_>,

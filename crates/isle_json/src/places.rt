@@ -41,13 +41,17 @@ impl<'a> Places<'a> {
         let number = lines_up_to(begins, offset);
         let begin = line_begin(begins, number);
         let text = file_text(self.files, file);
-        let text = match begins.get(number) {
-            Some(next) => text.get(begin..next.saturating_sub(1)),
-            None => text.get(begin..),
+        let end = match begins.get(number) {
+            Some(next) => next.saturating_sub(1),
+            None => text.len(),
+        };
+        let text = match text.get(begin..end) {
+            Some(text) => text,
+            None => "",
         };
         Line {
             number: number as u64,
-            text: text.unwrap_or(""),
+            text,
             at: offset.saturating_sub(begin),
         }
     }

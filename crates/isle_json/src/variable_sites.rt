@@ -97,7 +97,7 @@ impl<'a> KnownSites<'a> {
         self.note_arguments(&rule.args, &mut found);
         for iflet in &rule.iflets {
             let value = self.value_of(&iflet.rhs, &mut found)?;
-            self.note_pattern(&iflet.lhs, value, &mut found);
+            self.note_pattern(&iflet.lhs, &value, &mut found);
         }
         let _result = self.value_of(&rule.rhs, &mut found)?;
         found.sites.clone()
@@ -113,17 +113,17 @@ impl<'a> KnownSites<'a> {
         for (place, argument) in arguments.iter().enumerate() {
             if let Ok(index) = TupleIndex::try_from(place) {
                 let site = self.find(&Binding::Argument { index });
-                self.note_pattern(argument, site, found);
+                self.note_pattern(argument, &site, found);
             }
         }
     }
 
     // Notes the variables in a pattern of this site.
     #[cycle(patterns)]
-    fn note_pattern(&self, pattern: &Pattern, site: Option<BindingId>, found: &mut Found) {
+    fn note_pattern(&self, pattern: &Pattern, site: &Option<BindingId>, found: &mut Found) {
         match pattern {
             Pattern::BindPattern(_, variable, inner) => {
-                found.note(*variable, site);
+                found.note(*variable, *site);
                 self.note_pattern(inner, site, found);
             }
             Pattern::Term(_, term, parts) => self.note_parts(*term, parts, site, found),
@@ -146,12 +146,12 @@ impl<'a> KnownSites<'a> {
         &self,
         term: TermId,
         parts: &[Pattern],
-        site: Option<BindingId>,
+        site: &Option<BindingId>,
         found: &mut Found,
     ) {
         for (place, part) in parts.iter().enumerate() {
             let inner = self.part_of(term, site, place, parts.len());
-            self.note_pattern(part, inner, found);
+            self.note_pattern(part, &inner, found);
         }
     }
 
@@ -159,11 +159,11 @@ impl<'a> KnownSites<'a> {
     fn part_of(
         &self,
         term: TermId,
-        site: Option<BindingId>,
+        site: &Option<BindingId>,
         place: usize,
         count: usize,
     ) -> Option<BindingId> {
-        let source = site?;
+        let source = (*site)?;
         let field = TupleIndex::try_from(place).ok()?;
         match &self.terms.get(term.index())?.kind {
             TermKind::EnumVariant { variant } => self.find(&Binding::MatchVariant {

@@ -461,7 +461,7 @@ fn taken_in(alloc: Global, events: &[Event]) -> Result<Vec<Pos>, AllocError> {
     for event in events {
         match event {
             Event::Return(pos, _) => taken.push(*pos)?,
-            Event::Test(..) | Event::Fails(_) => {}
+            _ => {}
         }
     }
     Ok(taken)

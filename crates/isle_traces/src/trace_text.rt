@@ -42,9 +42,21 @@ pub fn push_events(
     let mut way = Way::new(&sites)?;
     for event in &walked.events {
         match event {
-            Event::Test(test, held) => {
-                let end = end_of(alloc, &shown, test, *held)?;
-                way.push_test(test, &end, out)?;
+            Event::Is(site, constraint, held) => {
+                let test = Test::Is(*site, *constraint);
+                push_held(alloc, &mut way, &shown, &test, *held, out)?;
+            }
+            Event::Gives(site, value, held) => {
+                let test = Test::Gives(*site, *value);
+                push_held(alloc, &mut way, &shown, &test, *held, out)?;
+            }
+            Event::Equal(a, b, held) => {
+                let test = Test::Equal(*a, *b);
+                push_held(alloc, &mut way, &shown, &test, *held, out)?;
+            }
+            Event::Each(site) => {
+                let test = Test::Each(*site);
+                push_held(alloc, &mut way, &shown, &test, true, out)?;
             }
             Event::Fails(site) => push_failure(alloc, entry, &mut way, *site, out)?,
             Event::Return(pos, site) => push_return(
@@ -90,6 +102,19 @@ fn show(alloc: Global, place: &mut String, text: String) -> Result<(), AllocErro
         *place = String::from_str(alloc, "..")?;
     }
     Ok(())
+}
+
+// Adds a test, and whether it holds.
+fn push_held(
+    alloc: Global,
+    way: &mut Way<'_, '_>,
+    shown: &[String],
+    test: &Test,
+    held: bool,
+    out: &mut String,
+) -> Result<(), AllocError> {
+    let end = end_of(alloc, shown, test, held)?;
+    way.push_test(test, &end, out)
 }
 
 // What stands at the end of a test's line: whether it holds, and the value that a call gives.

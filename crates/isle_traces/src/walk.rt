@@ -5,9 +5,7 @@ use crate::known::{Answered, key_of, known_in};
 use cranelift_isle::lower::LoweredTerm;
 use cranelift_isle::serialize::{Block, ControlFlow, EvalStep, MatchArm};
 use cranelift_isle::syntax::Pos;
-use cranelift_isle::trie_again::{Binding, BindingId};
-use isle_diagnostics::way_text::Test;
-use isle_diagnostics::ways::test_of;
+use cranelift_isle::trie_again::{Binding, BindingId, Constraint};
 use isle_interpreter::binds::bind_all;
 use isle_interpreter::env::{bound, used, used_value, used_values};
 use isle_interpreter::fields::{bind_fields, content_fields};
@@ -18,8 +16,14 @@ use std::alloc::{AllocError, Global};
 /// What happens in a run.
 #[derive(Clone, Copy)]
 pub enum Event {
-    /// A test is made, and holds or doesn't.
-    Test(Test, bool),
+    /// A value meets a constraint, or doesn't.
+    Is(BindingId, Constraint, bool),
+    /// A call gives a value, or none. The value's site, if it is looked at.
+    Gives(BindingId, Option<BindingId>, bool),
+    /// Two values are equal, or aren't.
+    Equal(BindingId, BindingId, bool),
+    /// One of the answers of the call that a loop of this site goes over.
+    Each(BindingId),
     /// The value of this site is taken out of an answer that is none.
     Fails(BindingId),
     /// The rule at this place gives this site as the result.
@@ -191,14 +195,22 @@ impl<'a, 'b> Walk<'a, 'b> {
         content: &Content,
     ) -> Result<Ending, AllocError> {
         for arm in arms {
-            let fields = content_fields(&self.stage, arm.constraint, content)?;
-            self.events
-                .push(Event::Test(test_of(source, arm), fields.is_some()))?;
+            let fields = self.fields_of(arm.constraint, content)?;
+            self.note(event_of(source, arm, fields.is_some()))?;
             if let Some(fields) = fields {
                 return self.arm(arm, &fields);
             }
         }
         Ok(Ending::RanThrough)
+    }
+
+    // The fields that a constraint brings, where a content meets it.
+    fn fields_of(
+        &self,
+        constraint: Constraint,
+        content: &Content,
+    ) -> Result<Option<Vec<Content>>, AllocError> {
+        content_fields(&self.stage, constraint, content)
     }
 
     // The body of an arm whose constraint brings these fields.
@@ -237,7 +249,7 @@ impl<'a, 'b> Walk<'a, 'b> {
         content: &Content,
     ) -> Result<Ending, AllocError> {
         let depth = self.env.len();
-        self.events.push(Event::Test(Test::Each(site), true))?;
+        self.note(Event::Each(site))?;
         self.env.push((site, content.clone()?))?;
         let ending = self.block(body)?;
         self.env.truncate(depth);
@@ -253,7 +265,7 @@ impl<'a, 'b> Walk<'a, 'b> {
             return Ok(None);
         };
         let equal = same_value(&one, &other);
-        self.events.push(Event::Test(Test::Equal(a, b), equal))?;
+        self.note(Event::Equal(a, b, equal))?;
         Ok(Some(equal))
     }
 
@@ -274,13 +286,25 @@ impl<'a, 'b> Walk<'a, 'b> {
         let Some(content) = used(&self.stage, &self.env, site)? else {
             return Ok(Ending::Stuck);
         };
-        self.trace.results.push(content)?;
-        self.events.push(Event::Return(pos, site))?;
+        self.add_result(content)?;
+        self.note(Event::Return(pos, site))?;
         if self.stage.multi {
             Ok(Ending::RanThrough)
         } else {
             Ok(Ending::Ended)
         }
+    }
+
+    // Adds a result.
+    fn add_result(&mut self, content: Content) -> Result<(), AllocError> {
+        self.trace.results.push(content)?;
+        Ok(())
+    }
+
+    // Notes what happens.
+    fn note(&mut self, event: Event) -> Result<(), AllocError> {
+        self.events.push(event)?;
+        Ok(())
     }
 
     // Sites are bound in order, until one can't be.
@@ -299,13 +323,18 @@ impl<'a, 'b> Walk<'a, 'b> {
         if self.is_asked(site)? {
             return Ok(Bound::Missing);
         }
-        let bound = bind_all(&self.stage, &mut self.env, &mut self.trace.calls, &[site])?;
+        let bound = self.bind(site)?;
         match bound {
             Bound::All => self.note_answer(site)?,
-            Bound::Failed => self.events.push(Event::Fails(site))?,
+            Bound::Failed => self.note(Event::Fails(site))?,
             Bound::Missing => {}
         }
         Ok(bound)
+    }
+
+    // Binds a site, where all calls have answers.
+    fn bind(&mut self, site: BindingId) -> Result<Bound, AllocError> {
+        bind_all(&self.stage, &mut self.env, &mut self.trace.calls, &[site])
     }
 
     // Notes what a call answered.
@@ -394,5 +423,21 @@ pub fn is_known(
             let key = key_of(alloc, &asked.args)?;
             Ok(known_in(answered.called, asked.term, &key).is_some())
         }
+    }
+}
+
+// The site of the value that an arm takes out of an answer, if it is looked at.
+fn value_in(arm: &MatchArm) -> Option<BindingId> {
+    match arm.bindings.as_slice() {
+        [Some(value)] => Some(*value),
+        _ => None,
+    }
+}
+
+// What happens at an arm whose constraint is met, or isn't.
+fn event_of(source: BindingId, arm: &MatchArm, held: bool) -> Event {
+    match arm.constraint {
+        Constraint::Some => Event::Gives(source, value_in(arm), held),
+        _ => Event::Is(source, arm.constraint, held),
     }
 }

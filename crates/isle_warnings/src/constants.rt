@@ -179,7 +179,7 @@ fn add_at(
 ) -> Result<(), AllocError> {
     let mut seen: Vec<Asked> = Vec::new(alloc);
     for asked in asked_of(alloc, term, site)? {
-        if let Some(other) = first_like(lowered, &seen, asked.constraint) {
+        if let Some(other) = first_like(lowered, &seen, &asked.constraint) {
             reports.push(beside(alloc, defs, lowered, other, asked)?)?;
             return Ok(());
         }
@@ -203,9 +203,9 @@ fn asked_of(alloc: Global, term: &LoweredTerm, site: BindingId) -> Result<Vec<As
 }
 
 // The first of these that asks for another constant, which may be equal to this one.
-fn first_like(lowered: &Lowered, seen: &[Asked], constraint: Constraint) -> Option<Asked> {
+fn first_like(lowered: &Lowered, seen: &[Asked], constraint: &Constraint) -> Option<Asked> {
     for asked in seen {
-        if may_be_equal(lowered, asked.constraint, constraint) {
+        if may_be_equal(lowered, &asked.constraint, constraint) {
             return Some(*asked);
         }
     }
@@ -213,7 +213,7 @@ fn first_like(lowered: &Lowered, seen: &[Asked], constraint: Constraint) -> Opti
 }
 
 // Whether two different constants may be equal: one has a name, and not both are known.
-fn may_be_equal(lowered: &Lowered, first: Constraint, second: Constraint) -> bool {
+fn may_be_equal(lowered: &Lowered, first: &Constraint, second: &Constraint) -> bool {
     if first == second || !(is_named(first) || is_named(second)) {
         return false;
     }
@@ -223,15 +223,15 @@ fn may_be_equal(lowered: &Lowered, first: Constraint, second: Constraint) -> boo
     }
 }
 
-fn is_named(constraint: Constraint) -> bool {
+fn is_named(constraint: &Constraint) -> bool {
     matches!(constraint, Constraint::ConstPrim { .. })
 }
 
 // The truth value that a constant is, if it is known. Rust code has `$true` and `$false` as its own.
-fn known_bool(lowered: &Lowered, constraint: Constraint) -> Option<bool> {
+fn known_bool(lowered: &Lowered, constraint: &Constraint) -> Option<bool> {
     match constraint {
-        Constraint::ConstBool { val, .. } => Some(val),
-        Constraint::ConstPrim { val } => match lowered.tyenv.text_of(val) {
+        Constraint::ConstBool { val, .. } => Some(*val),
+        Constraint::ConstPrim { val } => match lowered.tyenv.text_of(*val) {
             "true" => Some(true),
             "false" => Some(false),
             _ => None,

@@ -18,7 +18,12 @@ const MOST_CONDITIONS: usize = 3;
 // A piece of a call.
 #[derive(Clone, Copy)]
 enum Piece {
-    Text(&'static str),
+    // A blank before a part.
+    Blank,
+    // The end of a pattern.
+    Close,
+    // Any value.
+    Any,
     Site(BindingId),
 }
 
@@ -71,6 +76,14 @@ pub(crate) fn push_untaken(
     writing.push_conditions(out)
 }
 
+// Whether a constraint has fields: that of a variant or a struct.
+fn has_fields(constraint: &Constraint) -> bool {
+    matches!(
+        constraint,
+        Constraint::Variant { .. } | Constraint::Struct { .. }
+    )
+}
+
 impl<'a> Writing<'a> {
     // Adds the call.
     fn push_call(&mut self, term: &Term, out: &mut String) -> Result<(), AllocError> {
@@ -88,7 +101,7 @@ impl<'a> Writing<'a> {
     fn argument(&self, place: usize) -> Piece {
         match TupleIndex::try_from(place) {
             Ok(index) => self.piece_of(&Binding::Argument { index }),
-            Err(_) => Piece::Text("_"),
+            Err(_) => Piece::Any,
         }
     }
 
@@ -96,7 +109,7 @@ impl<'a> Writing<'a> {
     fn piece_of(&self, binding: &Binding) -> Piece {
         match self.set.find_binding(binding) {
             Some(site) => Piece::Site(site),
-            None => Piece::Text("_"),
+            None => Piece::Any,
         }
     }
 
@@ -106,7 +119,9 @@ impl<'a> Writing<'a> {
         waiting.push(piece)?;
         for _ in 0..MOST_PIECES {
             match waiting.pop() {
-                Some(Piece::Text(text)) => out.push_str(text)?,
+                Some(Piece::Blank) => out.push(' ')?,
+                Some(Piece::Close) => out.push(')')?,
+                Some(Piece::Any) => out.push('_')?,
                 Some(Piece::Site(site)) => self.push_site(site, &mut waiting, out)?,
                 None => return Ok(()),
             }
@@ -125,31 +140,27 @@ impl<'a> Writing<'a> {
             return out.push('_');
         };
         self.told.push(site)?;
-        match constraint {
-            Constraint::Variant { .. } | Constraint::Struct { .. } => {
-                out.push('(')?;
-                push_head(out, self.names, constraint)?;
-                self.wait_for_fields(site, constraint, waiting)
-            }
-            Constraint::ConstBool { .. }
-            | Constraint::ConstInt { .. }
-            | Constraint::ConstPrim { .. }
-            | Constraint::Some => push_head(out, self.names, constraint),
+        if !has_fields(&constraint) {
+            return push_head(out, self.names, constraint);
         }
+        self.wait_for_fields(site, &constraint, waiting)?;
+        out.push('(')?;
+        push_head(out, self.names, constraint)
     }
 
     // The fields of a variant or a struct wait, and the end of its pattern.
     fn wait_for_fields(
         &self,
         site: BindingId,
-        constraint: Constraint,
+        constraint: &Constraint,
         waiting: &mut Vec<Piece>,
     ) -> Result<(), AllocError> {
-        waiting.push(Piece::Text(")"))?;
+        waiting.push(Piece::Close)?;
         let fields = constraint.bindings_for(self.alloc, site)?;
         for field in fields.iter().rev() {
-            waiting.push(self.piece_of(field))?;
-            waiting.push(Piece::Text(" "))?;
+            let piece = self.piece_of(field);
+            waiting.push(piece)?;
+            waiting.push(Piece::Blank)?;
         }
         Ok(())
     }
