@@ -24,7 +24,8 @@ enum Piece {
     Close,
     // Any value.
     Any,
-    Site(BindingId),
+    // The site of this number.
+    Site(usize),
 }
 
 // A call that is written by what a run found.
@@ -108,7 +109,7 @@ impl<'a> Writing<'a> {
     // The piece of what a site stands for. No rule asks anything of it if there is no such site.
     fn piece_of(&self, binding: &Binding) -> Piece {
         match self.set.find_binding(binding) {
-            Some(site) => Piece::Site(site),
+            Some(site) => Piece::Site(site.index()),
             None => Piece::Any,
         }
     }
@@ -122,7 +123,11 @@ impl<'a> Writing<'a> {
                 Some(Piece::Blank) => out.push(' ')?,
                 Some(Piece::Close) => out.push(')')?,
                 Some(Piece::Any) => out.push('_')?,
-                Some(Piece::Site(site)) => self.push_site(site, &mut waiting, out)?,
+                Some(Piece::Site(number)) => {
+                    if let Ok(site) = BindingId::try_from(number) {
+                        self.push_site(site, &mut waiting, out)?;
+                    }
+                }
                 None => return Ok(()),
             }
         }
