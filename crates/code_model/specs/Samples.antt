@@ -36,7 +36,7 @@ only_v1 (variable v) = v == 1
 only_v1 place = false
 
 abbrev pub types : Types
-types = record { variables = modes; parameters = λ i. a_reference; is_copy = only_v1; takes_reference = λ term i. true }
+types = record { variables = modes; parameters = λ i. a_reference; is_copy = only_v1; extracts_reference = λ term. true; takes_reference = λ term i. true }
 
 abbrev pub use_of : Place → Pass → Use
 use_of place pass = record { place = place; pass = pass }
@@ -80,7 +80,7 @@ pub record SamplesAreJudged : Type 0 where
   pub made : tree_code tree sites (passes_of types false sites) ≡ code
   pub typed : tree_typed types sites tree ≡ true
   pub scoped : block_scoped false [] code ≡ true
-  pub fits : block_fits types false code ≡ true
+  pub fits : block_fits types false false code ≡ true
   -- with a label too; behind the label nothing of it is in scope, and without it there is none to leave
   pub label_scoped : block_scoped false [] with_label ≡ true
   pub behind_label : block_scoped false [] (statement (labelled (statement (unless_let arg0 is_a (Some 1 ∷ [])) (in_arm arg0 cloned no_statement))) give_v3) ≡ false
@@ -89,16 +89,16 @@ pub record SamplesAreJudged : Type 0 where
   pub behind_arm : block_scoped false [] (matching (in_arm arg0 cloned no_statement) give_v3) ≡ false
   pub before_bound : block_scoped false [] (matching (in_arm (plain 3) cloned give_v3) no_statement) ≡ false
   -- a reference isn't kept in a field, nor is its place; it is lent once alone; a parameter that is a reference takes no clone
-  pub reference_kept : block_fits types false (matching (in_arm arg0 as_it_is give_v3) no_statement) ≡ false
-  pub place_kept : block_fits types false (matching (in_arm arg0 seen_through give_v3) no_statement) ≡ false
-  pub lent_twice : block_fits types false (matching (in_arm (use_of (parameter 0) lent) cloned give_v3) no_statement) ≡ false
-  pub clone_taken : block_fits types false (matching (in_arm (use_of (parameter 0) cloned) cloned give_v3) no_statement) ≡ false
+  pub reference_kept : block_fits types false false (matching (in_arm arg0 as_it_is give_v3) no_statement) ≡ false
+  pub place_kept : block_fits types false false (matching (in_arm arg0 seen_through give_v3) no_statement) ≡ false
+  pub lent_twice : block_fits types false false (matching (in_arm (use_of (parameter 0) lent) cloned give_v3) no_statement) ≡ false
+  pub clone_taken : block_fits types false false (matching (in_arm (use_of (parameter 0) cloned) cloned give_v3) no_statement) ≡ false
   -- a reference is compared with another, or with what it refers to
-  pub unlike_compared : block_fits types false (statement (if_equal (plain 2) (plain 3) no_statement) no_statement) ≡ false
-  pub alike_compared : block_fits types false (statement (if_equal (use_of (variable 2) seen_through) (plain 3) no_statement) no_statement) ≡ true
+  pub unlike_compared : block_fits types false false (statement (if_equal (plain 2) (plain 3) no_statement) no_statement) ≡ false
+  pub alike_compared : block_fits types false false (statement (if_equal (use_of (variable 2) seen_through) (plain 3) no_statement) no_statement) ≡ true
   -- what isn't Copy is given away where that ends the function: not in a multi term
-  pub given_on : block_fits types true code ≡ false
-  pub cloned_on : block_fits types true (matching (in_arm arg0 cloned (statement (give somewhere (use_of (variable 3) cloned)) no_statement)) no_statement) ≡ true
+  pub given_on : block_fits types true false code ≡ false
+  pub cloned_on : block_fits types true false (matching (in_arm arg0 cloned (statement (give somewhere (use_of (variable 3) cloned)) no_statement)) no_statement) ≡ true
   -- a loop takes what was bound right before, once; nothing else reads that, and no loop within takes what was bound outside
   pub taken_once : block_takes v1_taken [] (let_v1 (each_v1 (let_v1 (each_v1 no_statement)))) ≡ true
   pub taken_twice : block_takes v1_taken [] (let_v1 (each_v1 (each_v1 no_statement))) ≡ false

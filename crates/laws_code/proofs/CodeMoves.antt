@@ -8,10 +8,11 @@ use Rattle.model.specs.trees.Trees.{Marked, m_no_step, m_step, MarkedCheck, m_ma
 use Rattle.model.specs.trees.Places.{Around, nothing_around, is_in, is_in_place, waits, is_available, available, below, all_below, uses, emits, each_after, listed_below, bind_order, field_sites, joins_in, constraint_at, in_arm, in_equal, in_loop, after_step}
 use Rattle.model.specs.trees.Tests.{Test, match_test, equal_test, needs, is_needed, needs_at, is_lower, is_covered, IsOpen, sources_around, is_at_hand}
 use Rattle.model.specs.trees.Best.{IsMade, BestSteps, BestArms}
-use Rattle.model.proofs.Members.{nothing_in, in_head, in_tail, in_cases, in_alone, some_member, member_from_get, get_from_member, get_within, each_passes, one_passes, passes_any, in_filter, from_filter, in_flat_map, from_flat_map, member_found, member_is_in}
+use Rattle.model.proofs.Members.{nothing_in, in_head, in_tail, in_cases, in_alone, some_member, member_from_get, get_from_member, get_within, each_passes, one_passes, passes_any, in_filter, from_filter, in_flat_map, from_flat_map, member_found, member_is_in, constraint_in}
+use Rattle.model.proofs.Options.{is_there}
 use Rattle.model.proofs.SameSites.{number_same}
 use Rattle.laws_trees.proofs.JudgeExactness.{not_exact}
-use Rattle.laws_trees.proofs.binding.BroughtSites.{brought_is_field}
+use Rattle.laws_code.proofs.BroughtSites.{IsFieldOf, is_brought, brought_is_field}
 use Rattle.code_model.specs.Code.{Block, statement}
 use Rattle.code_model.specs.TreeCode.{Passes, place_of, arguments_from, fields_of, bind_code, binds_code, loop_code, tree_code, check_code, arms_code}
 use Rattle.code_model.specs.Scopes.{LoopsAreOverBound}
@@ -19,7 +20,8 @@ use Rattle.code_model.specs.Moves.{other, others, fresh_after, block_takes, stat
 use Rattle.code_model.proofs.FlatMoves.{flat_keeps_moves_lem}
 use Rattle.code_model.proofs.PrintedCode.{tree_unlabelled}
 use Rattle.code_model.proofs.TreeScopes.{ended_or}
-use Rattle.laws_code.specs.CodeMoves.{IsCalled, CallsAreGoneOver, PrintedLoopsTakeOnce}
+use Rattle.laws_code.specs.CodeMoves.{IsCalled, CallsAreGoneOver, CallsAreGoneOverInBuiltSets, LoopsTakeOnce, CodeOfAcceptedTakesOnce}
+use Rattle.laws_code.specs.CodeScopes.{BuiltSetsLoopOverBound}
 
 pub or_split : (a b : Bool) → (a || b) ≡ true → (a ≡ true) ⊎ (b ≡ true)
 or_split true b h = inl refl
@@ -80,7 +82,7 @@ module _ (set : SiteSet) (p : Passes) (calls : CallsAreGoneOver set) (over : Loo
   pick_waits s c at = ap waits at
 
   waiting_free : (s : ℕ) → waits (slice_get sites s) ≡ true → IsCalled sites s → ⊥
-  waiting_free s w k = true≢false (sym w ∙ calls.sites.waits_not s k)
+  waiting_free s w k = true≢false (sym w ∙ calls.waits_not s k)
 
   module _ (ar : Around) (inv : Looped ar) where
     abbrev Down : ℕ → Type 0
@@ -94,7 +96,7 @@ module _ (set : SiteSet) (p : Passes) (calls : CallsAreGoneOver set) (over : Loo
           | inr b ↦
               let hs = and_parts (not (waits (slice_get sites s))) (list_all (is_available n sites ar.brought) (sources_at sites s)) b in
               down n u c (each_passes (is_available n sites ar.brought) (sources_at sites s) hs.1 u source)
-              (λ q. false≢true (sym ((not_exact (waits (slice_get sites s))).0 hs.0) ∙ pick_waits s u (calls.sites.made u s q source))) k i
+              (λ q. false≢true (sym ((not_exact (waits (slice_get sites s))).0 hs.0) ∙ pick_waits s u (calls.made u s q source))) k i
         ]
 
     -- a call below what is available, and isn't it, is gone over around
@@ -136,8 +138,8 @@ module _ (set : SiteSet) (p : Passes) (calls : CallsAreGoneOver set) (over : Loo
       ];
     }
       where
-        of_field : (x : ℕ) → Contains (field_sites fields) x → Rattle.laws_trees.proofs.binding.BroughtSites.IsFieldOf sites source x
-        of_field x c = brought_is_field sites source constraint x (subst (λ l. Contains (field_sites l) x) exact c)
+        of_field : (x : ℕ) → Contains (field_sites fields) x → IsFieldOf sites source x
+        of_field x c = brought_is_field sites source constraint x (is_brought sites source constraint x (subst (λ l. Contains (field_sites l) x) exact c))
 
         alone : (s : ℕ) → Contains (source ∷ []) s → (available sites ar s ≡ true) × (IsCalled sites s → ⊥)
         alone s c = let e = in_alone source s c in (subst (λ y. available sites ar y ≡ true) e a, λ q. free (subst (IsCalled sites) (sym e) q))
@@ -234,7 +236,7 @@ module _ (set : SiteSet) (p : Passes) (calls : CallsAreGoneOver set) (over : Loo
 
   -- what another site than a pick is made of isn't taken
   free_source : (t c : ℕ) (o : Option Site) → slice_get sites t ≡ o → picks o ≡ false → Contains (made_of o) c → taken c ≡ false
-  free_source t c o at n i = free_is sites c (λ k. false≢true (sym n ∙ ap picks (sym at ∙ calls.sites.made c t k (subst (λ q. Contains (made_of q) c) (sym at) i))))
+  free_source t c o at n i = free_is sites c (λ k. false≢true (sym n ∙ ap picks (sym at ∙ calls.made c t k (subst (λ q. Contains (made_of q) c) (sym at) i))))
 
   other_at : (s : ℕ) (o : Option Site) → slice_get sites s ≡ o → taken s ≡ false → other taken (place_of o s) ≡ true
   other_at s None at f = not_false (taken s) f
@@ -349,13 +351,7 @@ module _ (set : SiteSet) (p : Passes) (calls : CallsAreGoneOver set) (over : Loo
       (ended_or (check_code (plain_check set.rules check) sites p) _ (ap (λ f. block_takes taken f (tree_code (plain set.rules rest) sites p)) (check_fresh check fresh') ∙ after)))
 
   constrained_free : (r : SetRule) (s : ℕ) → Contains set.rules r → needs (match_test s) r ≡ true → IsCalled sites s → ⊥
-  constrained_free r s c h k = false≢true (ap is_some (sym (calls.constrained r s c k)) ∙ h)
-
-  first_free : (r : SetRule) (a b : ℕ) → Contains set.rules r → needs (equal_test a b) r ≡ true → IsCalled sites a → ⊥
-  first_free r a b c h k = (calls.equated r a b c h).0 k
-
-  second_free : (r : SetRule) (a b : ℕ) → Contains set.rules r → needs (equal_test a b) r ≡ true → IsCalled sites b → ⊥
-  second_free r a b c h k = (calls.equated r a b c h).1 k
+  constrained_free r s c h k = let d = is_there (constraint_at r.constraints s) h in calls.constrained r s d.0 c (constraint_in r.constraints s d.0 d.1) k
 
   alone_there : (ar : Around) (s : ℕ) → available sites ar s ≡ true → (IsCalled sites s → ⊥) → (x : ℕ) → Contains (s ∷ []) x → (available sites ar x ≡ true) × (IsCalled sites x → ⊥)
   alone_there ar s a n x c = let e = in_alone s x c in (subst (λ y. available sites ar y ≡ true) e a, λ q. n (subst (IsCalled sites) (sym e) q))
@@ -381,15 +377,14 @@ module _ (set : SiteSet) (p : Passes) (calls : CallsAreGoneOver set) (over : Loo
         let second = and_parts _ (is_at_hand set ar b) pair.0 in
         let first = and_parts _ (is_at_hand set ar a) second.0 in
         let need = made_is_needed set ar _ _ (equal_test a b) check.1 in
-        let free_a = first_free need.0 a b need.1 need.2 in
-        let free_b = second_free need.0 a b need.1 need.2 in
+        let free = calls.equated need.0 a b need.1 (ltb-true a b first.0) need.2 in
         let both : (s : ℕ) → Contains (a ∷ (b ∷ [])) s → (available sites ar s ≡ true) × (IsCalled sites s → ⊥) = λ s c. elim (in_cases a s (b ∷ []) c) [
-          | inl e ↦ alone_there ar a (and_parts _ (available sites ar a) first.1).1 free_a s (subst (Contains (a ∷ [])) e (in_head a []))
-          | inr d ↦ alone_there ar b (and_parts _ (available sites ar b) second.1).1 free_b s d
+          | inl e ↦ alone_there ar a (and_parts _ (available sites ar a) first.1).1 free.0 s (subst (Contains (a ∷ [])) e (in_head a []))
+          | inr d ↦ alone_there ar b (and_parts _ (available sites ar b) second.1).1 free.1 s d
         ] in
         let emitted = after_emitted ar w (a ∷ (b ∷ [])) both in
         step_takes binds (m_equal a b body) rest fresh
-        (λ fresh' g. and_from _ _ (and_from _ _ (other_is a (free_is sites a free_a)) (other_is b (free_is sites b free_b)))
+        (λ fresh' g. and_from _ _ (and_from _ _ (other_is a (free_is sites a free.0)) (other_is b (free_is sites b free.1)))
         (steps_take body (in_equal set ar a b) false [] (λ q. record { emitted = emitted; brought = w.brought }) check.2 (λ i c. ks i (Contains-append_left (marks body) (marks rest) i c))))
         (steps_take rest (after_step set ar (m_equal a b body)) false [] (λ q. record { emitted = emitted; brought = w.brought }) best.2 (λ i c. ks i (Contains-append_right (marks body) (marks rest) i c)))
     steps_take (m_step binds (m_loop result body) rest) ar closing fresh inv best ks =
@@ -418,8 +413,8 @@ module _ (set : SiteSet) (p : Passes) (calls : CallsAreGoneOver set) (over : Loo
         (steps_take body (in_arm set ar source constraint fields) false [] (λ q. arm_looped ar w source constraint fields best.3 a free) best.4 (λ i c. ks i (Contains-append_left (marks body) (marks_arms rest) i c)))
         (arms_take_once rest ar source (Some constraint) w a free best.5 (λ i c. ks i (Contains-append_right (marks body) (marks_arms rest) i c)))
 
-pub printed_loops_take_once_lem : PrintedLoopsTakeOnce
-printed_loops_take_once_lem set tree p deep n best calls over = (
+pub loops_take_once_lem : LoopsTakeOnce
+loops_take_once_lem set tree p deep n best calls over = (
   is_called set.sites,
   flat_keeps_moves_lem (is_called set.sites) (tree_code tree set.sites p) deep n (tree_unlabelled set.sites p tree)
       (subst (λ t. block_takes (is_called set.sites) [] (tree_code t set.sites p) ≡ true) best.returns.same
@@ -427,3 +422,8 @@ printed_loops_take_once_lem set tree p deep n best calls over = (
       (λ q. record { emitted = λ c k i. absurd (nothing_in c i); brought = λ c s m k b i. absurd (nothing_in s b) })
       best.steps (λ i c. All-contains (λ j. j < length set.rules) (marks best.marked) i best.returns.known c))),
 )
+
+pub code_of_accepted_takes_once_lem : LoopsTakeOnce → CallsAreGoneOverInBuiltSets → BuiltSetsLoopOverBound → CodeOfAcceptedTakesOnce
+code_of_accepted_takes_once_lem take calls over defs expand rules l accepted built best passes deep n =
+    let h = read_programs_are_well_typed accepted.read in
+    take l.set l.tree passes deep n best (calls (own_program defs rules) l.term l.set h built) (over (own_program defs rules) l.term l.set h built)

@@ -3,12 +3,17 @@
 //! A function here has no code, or calls the laws that its proof rests on: its clause is a law.
 #![tactic(auto)]
 
+ghost use Rattle.laws_code.specs.Bounds.{CodeKeepsBound};
 ghost use Rattle.laws_code.specs.ChoiceSamples.{BoundsAreKept};
 ghost use Rattle.laws_code.specs.CodeChoices.{CodeChoosesAsSource, CodeOfLoweredTermsMeans};
-ghost use Rattle.laws_code.specs.CodeMoves.{BuiltSetsPickAlone, PrintedLoopsTakeOnce};
+ghost use Rattle.laws_code.specs.CodeMoves.{CallsAreGoneOverInBuiltSets, CodeOfAcceptedTakesOnce, LoopsTakeOnce};
 ghost use Rattle.laws_code.specs.CodeScopes.{BuiltSetsLoopOverBound, CodeOfAcceptedIsScoped};
+ghost use Rattle.laws_code.specs.TypedTrees.{BuiltSetsAreTyped, CodeOfAcceptedIsWellMade, TypedSetsHaveTypedTrees};
 
-use code_model::{printed_code_is_scoped, printed_code_runs};
+use code_model::{
+    fitting_code_moves_once, passes_by_types_fit, printed_code_is_scoped, printed_code_runs,
+    with_moves_is_made_well, with_moves_says_same,
+};
 use laws_trees::{best_trees_bind_before_use, best_trees_keep_the_headline};
 
 /// The printed code of each term that was lowered means what its source rules do: in a term that isn't multi the outcome of
@@ -27,7 +32,15 @@ pub fn code_chooses_as_source()
     code_of_lowered_terms_means();
 }
 
+/// With a bound of results, the code of a best tree gives what the tree gives where that is less; else so many of its first results.
+pub fn code_keeps_bound()
+    ensures { CodeKeepsBound }
+{
+    printed_code_runs();
+}
+
 /// In a built set no loop goes over what is written in place.
+#[tactic(auto, using(crate::proofs::CodeScopes::built_sets_loop_over_bound_lem))]
 pub fn built_sets_loop_over_bound()
     ensures { BuiltSetsLoopOverBound }
 {}
@@ -41,17 +54,58 @@ pub fn code_of_accepted_is_scoped()
     built_sets_loop_over_bound();
 }
 
-/// What the loops of a best tree's code go over is bound right before each, and read by nothing else.
-pub fn printed_loops_take_once()
-    ensures { PrintedLoopsTakeOnce }
+/// What the loops of a best tree's code go over is bound right before each, and read by nothing else, where picks alone are made of
+/// it, and no rule equates, constrains or returns it.
+#[tactic(auto, using(crate::proofs::CodeMoves::loops_take_once_lem))]
+pub fn loops_take_once()
+    ensures { LoopsTakeOnce }
 {}
 
-/// In a built set picks alone are made of the calls that loops go over, and rules equate none.
-pub fn built_sets_pick_alone()
-    ensures { BuiltSetsPickAlone }
+/// So it is in a built set.
+#[tactic(auto, using(crate::proofs::PickedCalls::calls_are_gone_over_in_built_sets_lem))]
+pub fn calls_are_gone_over_in_built_sets()
+    ensures { CallsAreGoneOverInBuiltSets }
 {}
+
+/// And the loops of the printed code take what they go over once.
+pub fn code_of_accepted_takes_once()
+    ensures { CodeOfAcceptedTakesOnce }
+{
+    loops_take_once();
+    calls_are_gone_over_in_built_sets();
+    built_sets_loop_over_bound();
+}
+
+/// The best trees of a typed set are typed.
+#[tactic(auto, using(crate::proofs::TypedTrees::typed_sets_have_typed_trees_lem))]
+pub fn typed_sets_have_typed_trees()
+    ensures { TypedSetsHaveTypedTrees }
+{}
+
+/// A built set is typed by the types of its program, where its rules constrain by types.
+#[tactic(auto, using(crate::proofs::TypedSets::built_sets_are_typed_lem))]
+pub fn built_sets_are_typed()
+    ensures { BuiltSetsAreTyped }
+{}
+
+/// So the code of accepted definitions is well made: what it reads is in scope, each use gives a reference or a value as is wanted,
+/// what isn't Copy is moved once at most, and it means what its source rules do.
+pub fn code_of_accepted_is_well_made()
+    ensures { CodeOfAcceptedIsWellMade }
+{
+    typed_sets_have_typed_trees();
+    built_sets_are_typed();
+    passes_by_types_fit();
+    fitting_code_moves_once();
+    with_moves_says_same();
+    with_moves_is_made_well();
+    code_of_accepted_is_scoped();
+    code_of_accepted_takes_once();
+    code_chooses_as_source();
+}
 
 /// A sample collects up to its bound, and near ones don't.
+#[tactic(auto, using(crate::proofs::ChoiceSamples::bounds_are_kept_lem))]
 pub fn bounds_are_kept()
     ensures { BoundsAreKept }
 {}

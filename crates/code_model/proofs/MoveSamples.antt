@@ -1,0 +1,23 @@
+-- By computing.
+use Rattle.std.proofs.Common.{refl}
+use Rattle.code_model.specs.MoveSamples.{MovesAreJudged}
+
+pub moves_are_judged_lem : MovesAreJudged
+moves_are_judged_lem = record {
+  last = refl;
+  twice = refl;
+  read_after = refl;
+  both = refl;
+  one_of_both = refl;
+  both_cloned = refl;
+  in_turn = refl;
+  each_turn = refl;
+  given_last = refl;
+  given_first = refl;
+  saved_last = refl;
+  saved_none = refl;
+  whole_and_part = refl;
+  part_and_whole = refl;
+  two_parts = refl;
+  two_parameters = refl;
+}
