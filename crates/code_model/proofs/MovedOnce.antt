@@ -1,13 +1,13 @@
 -- Code whose uses fit and whose loops take what was bound right before moves once.
-use Rattle.std.proofs.Common.{◌≡◌, ◌&&◌, ◌||◌, ◌++◌, ◌∷◌, ◌==◌, [], ℕ, suc, Bool, true, false, not, List, refl, sym, ap, ◌∙◌, subst, inl, inr, eqb-true}
+use Rattle.std.proofs.Common.{◌≡◌, ◌&&◌, ◌||◌, ◌++◌, ◌∷◌, ◌==◌, [], ℕ, suc, Bool, true, false, not, if◌then◌else◌, List, refl, sym, ap, ◌∙◌, subst, inl, inr, eqb-true}
 use Rattle.std.proofs.lemmas.Bool.{and_parts, and_from, cases_Bool, false≢true, true≢false}
 use Rattle.model.specs.sites.Sites.{Constraint, is_variant, is_struct, is_bool, is_int, is_prim, is_present}
 use Rattle.model.specs.trees.Places.{is_in, field_sites}
 use Rattle.code_model.specs.Code.{Place, variable, parameter, part_of, int_written, name_written, variant_written, struct_written, Use, Expr, truth_written, read, extraction, call, variant_of, struct_of, some_of, Block, no_statement, statement, Statement, bind, bind_some, no_way, match_on, if_equal, for_each_of, give, labelled, unless_let, unless_equal, CodeArms, no_code_arm, code_arm}
-use Rattle.code_model.specs.Scopes.{scope_after, unless_ended}
+use Rattle.code_model.specs.Scopes.{unless_ended}
 use Rattle.code_model.specs.Modes.{Types, Given, gives_reference, gives_value, gives_away, gives_sight, gives_nothing, given, is_value, fits_reference, fits_value, fits_parameter, fits_result, fits_equal, fits_pattern, fits_inside, fits_fields, fits_parameters, fit_values, expr_fits, block_fits, statement_fits, arms_fit}
 use Rattle.code_model.specs.Moves.{other, others, reads_other, fresh_after, block_takes, statement_takes, arms_take}
-use Rattle.code_model.specs.MovedOnce.{touches, any_touch, expr_reads, is_of, read_behind, block_reads, statement_reads, arms_read, is_away, may_move, moves_well, beside, all_move_well, expr_moves, behind, around_loop, around_arms, read_no_more, block_moves, statement_moves, arms_move, FittingCodeMovesOnce}
+use Rattle.code_model.specs.MovedOnce.{touches, any_touch, expr_reads, is_of, read_behind, block_reads, statement_reads, arms_read, is_away, may_move, moves_well, beside, all_move_well, expr_moves, without, unlooked, movable_after, behind, around_loop, around_arms, read_no_more, block_moves, statement_moves, arms_move, FittingCodeMovesOnce}
 
 pub or_false : (a b : Bool) → a ≡ false → b ≡ false → (a || b) ≡ false
 or_false true b h k = h
@@ -130,24 +130,26 @@ module _ (taken : ℕ → Bool) (c : ℕ) (takes : taken c ≡ true) where
   other_variable : (from : ℕ) (fresh : List ℕ) → is_in c fresh ≡ false → is_in from fresh ≡ true → (c == from) ≡ false
   other_variable from fresh f i = elim (cases_Bool (c == from)) [ inl t ↦ absurd (false≢true (sym f ∙ ap (λ x. is_in x fresh) (eqb-true c from t) ∙ i)) | inr g ↦ g ]
 
+  -- behind a statement, where the rest is quiet
+  quiet_behind : (s : Statement) (rest : Block) (fresh : List ℕ) → ((next : List ℕ) → is_in c next ≡ false → block_takes taken next rest ≡ true → block_reads (variable c) rest ≡ false)
+      → is_in c fresh ≡ false → unless_ended s (block_takes taken (fresh_after fresh s) rest) ≡ true → read_behind (variable c) s (block_reads (variable c) rest) ≡ false
+  quiet_behind (bind v e) rest fresh later f h = renewed v fresh (block_reads (variable c) rest) f (λ g. later (v ∷ fresh) g h)
+  quiet_behind (bind_some v u) rest fresh later f h = renewed v fresh (block_reads (variable c) rest) f (λ g. later (v ∷ fresh) g h)
+  quiet_behind no_way rest fresh later f h = refl
+  quiet_behind (match_on u arms) rest fresh later f h = later [] refl h
+  quiet_behind (if_equal a b body) rest fresh later f h = later [] refl h
+  quiet_behind (for_each_of v from body) rest fresh later f h = later [] refl h
+  quiet_behind (give at u) rest fresh later f h = later [] refl h
+  quiet_behind (labelled body) rest fresh later f h = later [] refl h
+  quiet_behind (unless_let u pattern fields) rest fresh later f h = and_false (not (is_of (field_sites fields) (variable c))) _ (later [] refl h)
+  quiet_behind (unless_equal a b) rest fresh later f h = later [] refl h
+
   mutual
     quiet : (b : Block) (fresh : List ℕ) → is_in c fresh ≡ false → block_takes taken fresh b ≡ true → block_reads (variable c) b ≡ false
     quiet no_statement fresh f h = refl
     quiet (statement s rest) fresh f h =
         let hs = and_parts (statement_takes taken fresh s) (unless_ended s (block_takes taken (fresh_after fresh s) rest)) h in
-        or_false _ _ (quiet_at s fresh f hs.0) (quiet_behind s rest fresh f hs.1)
-
-    quiet_behind : (s : Statement) (rest : Block) (fresh : List ℕ) → is_in c fresh ≡ false → unless_ended s (block_takes taken (fresh_after fresh s) rest) ≡ true → read_behind (variable c) s (block_reads (variable c) rest) ≡ false
-    quiet_behind (bind v e) rest fresh f h = renewed v fresh (block_reads (variable c) rest) f (λ g. quiet rest (v ∷ fresh) g h)
-    quiet_behind (bind_some v u) rest fresh f h = renewed v fresh (block_reads (variable c) rest) f (λ g. quiet rest (v ∷ fresh) g h)
-    quiet_behind no_way rest fresh f h = refl
-    quiet_behind (match_on u arms) rest fresh f h = quiet rest [] refl h
-    quiet_behind (if_equal a b body) rest fresh f h = quiet rest [] refl h
-    quiet_behind (for_each_of v from body) rest fresh f h = quiet rest [] refl h
-    quiet_behind (give at u) rest fresh f h = quiet rest [] refl h
-    quiet_behind (labelled body) rest fresh f h = quiet rest [] refl h
-    quiet_behind (unless_let u pattern fields) rest fresh f h = and_false (not (is_of (field_sites fields) (variable c))) _ (quiet rest [] refl h)
-    quiet_behind (unless_equal a b) rest fresh f h = quiet rest [] refl h
+        or_false _ _ (quiet_at s fresh f hs.0) (quiet_behind s rest fresh (λ next g k. quiet rest next g k) f hs.1)
 
     quiet_at : (s : Statement) (fresh : List ℕ) → is_in c fresh ≡ false → statement_takes taken fresh s ≡ true → statement_reads (variable c) s ≡ false
     quiet_at (bind v e) fresh f h = unread e h
@@ -172,6 +174,17 @@ module _ (taken : ℕ → Bool) (c : ℕ) (takes : taken c ≡ true) where
         let hs = and_parts (block_takes taken [] body) (arms_take taken rest) h in
         or_false _ _ (and_false (not (is_of (field_sites fields) (variable c))) _ (quiet body [] refl hs.0)) (quiet_arms rest hs.1)
 
+-- another variable than the one that is looked into can still be moved
+kept_without : (v x : ℕ) → (v == x) ≡ false → (xs : List ℕ) → is_in x xs ≡ true → is_in x (without v xs) ≡ true
+kept_without v x n [] h = absurd (false≢true h)
+kept_without v x n (y ∷ xs) h = by (y == v) (y == x) refl refl h (kept_without v x n xs)
+  where
+    by : (a b : Bool) → (y == v) ≡ a → (y == x) ≡ b → (b || is_in x xs) ≡ true → (is_in x xs ≡ true → is_in x (without v xs) ≡ true) → is_in x (if a then without v xs else y ∷ without v xs) ≡ true
+    by true true e f k rest = absurd (false≢true (sym n ∙ ap (λ z. z == x) (sym (eqb-true y v e)) ∙ f))
+    by true false e f k rest = rest k
+    by false true e f k rest = ap (λ b. b || is_in x (without v xs)) f
+    by false false e f k rest = ap (λ b. b || is_in x (without v xs)) f ∙ rest k
+
 -- 3. by induction on the code
 module _ (types : Types) (multi : Bool) (taken : ℕ → Bool) where
   -- what loops take isn't read behind
@@ -179,17 +192,43 @@ module _ (types : Types) (multi : Bool) (taken : ℕ → Bool) where
   Unread after = (c : ℕ) → taken c ≡ true → after (variable c) ≡ false
 
   abbrev Within : List ℕ → List ℕ → Type 0
-  Within fresh inside = (x : ℕ) → is_in x fresh ≡ true → is_in x inside ≡ true
+  Within fresh inside = (x : ℕ) → taken x ≡ true → is_in x fresh ≡ true → is_in x inside ≡ true
+
+  parted : (v x : ℕ) → not (taken v) ≡ true → taken x ≡ true → (v == x) ≡ false
+  parted v x o t = elim (cases_Bool (v == x)) [ inl e ↦ absurd (false≢true (sym (not_true (taken v) o) ∙ ap taken (eqb-true v x e) ∙ t)) | inr f ↦ f ]
 
   within_more : (v : ℕ) (fresh inside : List ℕ) → Within fresh inside → Within (v ∷ fresh) (v ∷ inside)
-  within_more v fresh inside w x h = by (v == x) h
+  within_more v fresh inside w x t h = by (v == x) h
     where
       by : (b : Bool) → (b || is_in x fresh) ≡ true → (b || is_in x inside) ≡ true
       by true k = refl
-      by false k = w x k
+      by false k = w x t k
 
   nothing_within : (inside : List ℕ) → Within [] inside
-  nothing_within inside x h = absurd (false≢true h)
+  nothing_within inside x t h = absurd (false≢true h)
+
+  within_unlooked : (fresh inside : List ℕ) (place : Place) → other taken place ≡ true → Within fresh inside → Within fresh (unlooked inside place)
+  within_unlooked fresh inside (variable v) o w x t h = kept_without v x (parted v x o t) inside (w x t h)
+  within_unlooked fresh inside (part_of v i) o w x t h = kept_without v x (parted v x o t) inside (w x t h)
+  within_unlooked fresh inside (parameter i) o w x t h = w x t h
+  within_unlooked fresh inside (int_written z ty) o w x t h = w x t h
+  within_unlooked fresh inside (name_written name) o w x t h = w x t h
+  within_unlooked fresh inside (variant_written ty variant) o w x t h = w x t h
+  within_unlooked fresh inside (struct_written ty) o w x t h = w x t h
+
+  -- behind a statement, where the rest moves well
+  rest_well : (s : Statement) (rest : Block) (fresh inside : List ℕ) (after : Place → Bool) → ((next movable : List ℕ) → Within next movable → block_takes taken next rest ≡ true → block_moves types multi movable after rest ≡ true)
+      → Within fresh inside → statement_takes taken fresh s ≡ true → unless_ended s (block_takes taken (fresh_after fresh s) rest) ≡ true → unless_ended s (block_moves types multi (movable_after inside s) after rest) ≡ true
+  rest_well (bind v e) rest fresh inside after later w k h = later (v ∷ fresh) (v ∷ inside) (within_more v fresh inside w) h
+  rest_well (bind_some v u) rest fresh inside after later w k h = later (v ∷ fresh) (v ∷ unlooked inside u.place) (within_more v fresh (unlooked inside u.place) (within_unlooked fresh inside u.place k w)) h
+  rest_well no_way rest fresh inside after later w k h = refl
+  rest_well (match_on u arms) rest fresh inside after later w k h = later [] inside (nothing_within inside) h
+  rest_well (if_equal a b body) rest fresh inside after later w k h = later [] inside (nothing_within inside) h
+  rest_well (for_each_of v from body) rest fresh inside after later w k h = later [] inside (nothing_within inside) h
+  rest_well (give at u) rest fresh inside after later w k h = later [] inside (nothing_within inside) h
+  rest_well (labelled body) rest fresh inside after later w k h = later [] inside (nothing_within inside) h
+  rest_well (unless_let u pattern fields) rest fresh inside after later w k h = later [] (field_sites fields ++ unlooked inside u.place) (nothing_within (field_sites fields ++ unlooked inside u.place)) h
+  rest_well (unless_equal a b) rest fresh inside after later w k h = later [] inside (nothing_within inside) h
 
   mutual
     block_well : (b : Block) (fresh inside : List ℕ) (after : Place → Bool) → Within fresh inside → Unread after → block_fits types multi false b ≡ true → block_takes taken fresh b ≡ true → block_moves types multi inside after b ≡ true
@@ -197,22 +236,9 @@ module _ (types : Types) (multi : Bool) (taken : ℕ → Bool) where
     block_well (statement s rest) fresh inside after w n f h =
         let fs = and_parts (statement_fits types multi false s) (block_fits types multi false rest) f in
         let hs = and_parts (statement_takes taken fresh s) (unless_ended s (block_takes taken (fresh_after fresh s) rest)) h in
-        and_from (statement_moves types multi inside (behind s rest after) s) (unless_ended s (block_moves types multi (scope_after inside s) after rest))
+        and_from (statement_moves types multi inside (behind s rest after) s) (unless_ended s (block_moves types multi (movable_after inside s) after rest))
         (statement_well s rest fresh inside after w n fs.0 hs.0 hs.1)
-        (rest_well s rest fresh inside after w n fs.1 hs.1)
-
-    rest_well : (s : Statement) (rest : Block) (fresh inside : List ℕ) (after : Place → Bool) → Within fresh inside → Unread after → block_fits types multi false rest ≡ true → unless_ended s (block_takes taken (fresh_after fresh s) rest) ≡ true
-        → unless_ended s (block_moves types multi (scope_after inside s) after rest) ≡ true
-    rest_well (bind v e) rest fresh inside after w n f h = block_well rest (v ∷ fresh) (v ∷ inside) after (within_more v fresh inside w) n f h
-    rest_well (bind_some v u) rest fresh inside after w n f h = block_well rest (v ∷ fresh) (v ∷ inside) after (within_more v fresh inside w) n f h
-    rest_well no_way rest fresh inside after w n f h = refl
-    rest_well (match_on u arms) rest fresh inside after w n f h = block_well rest [] inside after (nothing_within inside) n f h
-    rest_well (if_equal a b body) rest fresh inside after w n f h = block_well rest [] inside after (nothing_within inside) n f h
-    rest_well (for_each_of v from body) rest fresh inside after w n f h = block_well rest [] inside after (nothing_within inside) n f h
-    rest_well (give at u) rest fresh inside after w n f h = block_well rest [] inside after (nothing_within inside) n f h
-    rest_well (labelled body) rest fresh inside after w n f h = block_well rest [] inside after (nothing_within inside) n f h
-    rest_well (unless_let u pattern fields) rest fresh inside after w n f h = block_well rest [] (field_sites fields ++ inside) after (nothing_within (field_sites fields ++ inside)) n f h
-    rest_well (unless_equal a b) rest fresh inside after w n f h = block_well rest [] inside after (nothing_within inside) n f h
+        (rest_well s rest fresh inside after (λ next movable v k. block_well rest next movable after v n fs.1 k) w hs.0 hs.1)
 
     statement_well : (s : Statement) (rest : Block) (fresh inside : List ℕ) (after : Place → Bool) → Within fresh inside → Unread after → statement_fits types multi false s ≡ true → statement_takes taken fresh s ≡ true
         → unless_ended s (block_takes taken (fresh_after fresh s) rest) ≡ true → statement_moves types multi inside (behind s rest after) s ≡ true
@@ -220,7 +246,7 @@ module _ (types : Types) (multi : Bool) (taken : ℕ → Bool) where
     statement_well (bind_some v u) rest fresh inside after w n f h k = stays_well types inside (behind (bind_some v u) rest after) u (inside_stays types (given types u) v f)
     statement_well no_way rest fresh inside after w n f h k = refl
     statement_well (match_on u arms) rest fresh inside after w n f h k =
-        arms_well arms inside (behind (match_on u arms) rest after) (given types u) (moves_well types inside (around_arms arms (behind (match_on u arms) rest after)) u)
+        arms_well arms (unlooked inside u.place) (behind (match_on u arms) rest after) (given types u) (moves_well types inside (around_arms arms (behind (match_on u arms) rest after)) u)
         (λ c t. or_false _ _ (quiet taken c t rest [] refl k) (n c t)) (stays_well types inside (around_arms arms (behind (match_on u arms) rest after)) u) f
         (and_parts (other taken u.place) (arms_take taken arms) h).1
     statement_well (if_equal a b body) rest fresh inside after w n f h k =
@@ -232,7 +258,7 @@ module _ (types : Types) (multi : Bool) (taken : ℕ → Bool) where
         let os = and_parts (taken from) (is_in from fresh) hs.0 in
         let unread_behind = or_false _ _ (and_false (not (is_of (v ∷ []) (variable from))) _ (quiet taken from os.0 body [] refl hs.1)) (or_false _ _ (quiet taken from os.0 rest [] refl k) (n from os.0)) in
         and_from _ _
-        (and_from _ _ (w from os.1) (ap not unread_behind))
+        (and_from _ _ (w from os.0 os.1) (ap not unread_behind))
         (block_well body [] (v ∷ []) read_no_more (nothing_within (v ∷ [])) (λ c t. refl) (and_parts (is_value (types.variables v) && is_value (types.variables from)) (block_fits types multi false body) f).1 hs.1)
     statement_well (give at u) rest fresh inside after w n f h k = given_well multi f
       where

@@ -11,8 +11,14 @@ use Rattle.code_model.specs.CodeRuns.{held, held_value, held_values, bind_expr, 
 use Rattle.code_model.specs.Scopes.{knows, knows_all, reads_known, scope_after, unless_ended, block_scoped, statement_scoped, arms_scoped}
 use Rattle.code_model.specs.Modes.{Mode, a_value, a_reference, Types, mode_at, is_new, is_value, is_owned, Given, gives_reference, gives_value, gives_away, gives_sight, gives_nothing, given, given_by, fits_value, fits_result, fits_equal, fits_pattern, fits_fields, fit_values, expr_fits, block_fits, statement_fits, arms_fit}
 use Rattle.code_model.specs.Moves.{other, others, reads_other, fresh_after, block_takes, statement_takes, arms_take}
-use Rattle.code_model.specs.MovedOnce.{touches, any_touch, expr_reads, is_of, read_behind, block_reads, statement_reads, arms_read, is_away, may_move, moves_well, beside, all_move_well, expr_moves, behind, around_loop, around_arms, read_no_more, block_moves, statement_moves, arms_move}
+use Rattle.code_model.specs.MovedOnce.{touches, any_touch, expr_reads, is_of, read_behind, block_reads, statement_reads, arms_read, is_away, may_move, moves_well, beside, all_move_well, expr_moves, unlooked, movable_after, behind, around_loop, around_arms, read_no_more, block_moves, statement_moves, arms_move}
 use Rattle.code_model.specs.Saving.{may_save, saved_pass, saved_use, all_saved, saved_expr, saved, saved_at, saved_arms, WithMovesSaysSame, WithMovesIsMadeWell}
+
+both : {a b x y : Bool} → a ≡ b → x ≡ y → (a && x) ≡ (b && y)
+both e f = λ i. e i && f i
+
+one_of : {a b x y : Bool} → a ≡ b → x ≡ y → (a || x) ≡ (b || y)
+one_of e f = λ i. e i || f i
 
 module _ (types : Types) where
   -- 1. statements bind and end as before
@@ -23,6 +29,10 @@ module _ (types : Types) where
   after_same : (s : Statement) (inside : List ℕ) (later : Place → Bool) (scope : List ℕ) → scope_after scope (saved_at types inside later s) ≡ scope_after scope s
   after_same no_way inside later scope = refl
   after_same s inside later scope = refl
+
+  movable_same : (s : Statement) (inside : List ℕ) (later : Place → Bool) (movable : List ℕ) → movable_after movable (saved_at types inside later s) ≡ movable_after movable s
+  movable_same no_way inside later movable = refl
+  movable_same s inside later movable = refl
 
   fresh_same : (s : Statement) (inside : List ℕ) (later : Place → Bool) (fresh : List ℕ) → fresh_after fresh (saved_at types inside later s) ≡ fresh_after fresh s
   fresh_same no_way inside later fresh = refl
@@ -50,13 +60,13 @@ module _ (types : Types) where
     mutual
       block_runs : (b : Block) (inside : List ℕ) (after : Place → Bool) (env : Env) (t : Trace) → run_block (saved types inside after b) w most env t ≡ run_block b w most env t
       block_runs no_statement inside after env t = refl
-      block_runs (statement s rest) inside after env t = λ i. then_flow (statement_runs s inside (behind s rest after) env t i) (λ env' t'. block_runs rest (scope_after inside s) after env' t' i)
+      block_runs (statement s rest) inside after env t = λ i. then_flow (statement_runs s inside (behind s rest after) env t i) (λ env' t'. block_runs rest (movable_after inside s) after env' t' i)
 
       statement_runs : (s : Statement) (inside : List ℕ) (later : Place → Bool) (env : Env) (t : Trace) → run_statement (saved_at types inside later s) w most env t ≡ run_statement s w most env t
       statement_runs (bind v e) inside later env t = λ i. flow_of_bound (expr_runs inside later env t.calls v e i) t
       statement_runs (bind_some v u) inside later env t = refl
       statement_runs no_way inside later env t = refl
-      statement_runs (match_on u arms) inside later env t = λ i. in_braces env (on_content (held w env u.place) t (λ c. arms_run arms inside later c env t i))
+      statement_runs (match_on u arms) inside later env t = λ i. in_braces env (on_content (held w env u.place) t (λ c. arms_run arms (unlooked inside u.place) later c env t i))
       statement_runs (if_equal a b body) inside later env t = λ i. in_braces env (where_equal (held_value w env a) (held_value w env b) t (block_runs body inside later env t i) (goes_on env t))
       statement_runs (for_each_of v from body) inside later env t = λ i. on_answers (bound_to env from) (λ c t'. block_runs body (v ∷ []) read_no_more ((v, c) ∷ env) t' i) env t
       statement_runs (give at u) inside later env t = refl
@@ -83,12 +93,16 @@ module _ (types : Types) where
     block_known : (b : Block) (label : Bool) (scope inside : List ℕ) (after : Place → Bool) → block_scoped label scope (saved types inside after b) ≡ block_scoped label scope b
     block_known no_statement label scope inside after = refl
     block_known (statement s rest) label scope inside after =
-        (λ i. statement_known s label scope inside (behind s rest after) i && ended_same s inside (behind s rest after) (block_scoped label (after_same s inside (behind s rest after) scope i) (saved types (scope_after inside s) after rest)) i)
-        ∙ ap (λ b. statement_scoped label scope s && unless_ended s b) (block_known rest label (scope_after scope s) (scope_after inside s) after)
+        let later = behind s rest after in
+        let more = saved types (movable_after inside s) after rest in
+        both (statement_known s label scope inside later)
+        (ended_same s inside later (block_scoped label (scope_after scope (saved_at types inside later s)) more)
+        ∙ ap (λ l. unless_ended s (block_scoped label l more)) (after_same s inside later scope)
+        ∙ ap (unless_ended s) (block_known rest label (scope_after scope s) (movable_after inside s) after))
 
     statement_known : (s : Statement) (label : Bool) (scope inside : List ℕ) (later : Place → Bool) → statement_scoped label scope (saved_at types inside later s) ≡ statement_scoped label scope s
     statement_known (bind v e) label scope inside later = expr_known scope inside later e
-    statement_known (match_on u arms) label scope inside later = ap (λ b. knows scope u.place && b) (arms_known arms label scope inside later)
+    statement_known (match_on u arms) label scope inside later = ap (λ b. knows scope u.place && b) (arms_known arms label scope (unlooked inside u.place) later)
     statement_known (if_equal a b body) label scope inside later = ap (λ x. (knows scope a.place && knows scope b.place) && x) (block_known body label scope inside later)
     statement_known (for_each_of v from body) label scope inside later = ap (λ x. is_in from scope && x) (block_known body label (v ∷ scope) (v ∷ []) read_no_more)
     statement_known (labelled body) label scope inside later = block_known body true scope inside later
@@ -114,12 +128,16 @@ module _ (types : Types) where
       block_takes_same : (b : Block) (fresh inside : List ℕ) (after : Place → Bool) → block_takes taken fresh (saved types inside after b) ≡ block_takes taken fresh b
       block_takes_same no_statement fresh inside after = refl
       block_takes_same (statement s rest) fresh inside after =
-          (λ i. statement_takes_same s fresh inside (behind s rest after) i && ended_same s inside (behind s rest after) (block_takes taken (fresh_same s inside (behind s rest after) fresh i) (saved types (scope_after inside s) after rest)) i)
-          ∙ ap (λ b. statement_takes taken fresh s && unless_ended s b) (block_takes_same rest (fresh_after fresh s) (scope_after inside s) after)
+          let later = behind s rest after in
+          let more = saved types (movable_after inside s) after rest in
+          both (statement_takes_same s fresh inside later)
+          (ended_same s inside later (block_takes taken (fresh_after fresh (saved_at types inside later s)) more)
+          ∙ ap (λ l. unless_ended s (block_takes taken l more)) (fresh_same s inside later fresh)
+          ∙ ap (unless_ended s) (block_takes_same rest (fresh_after fresh s) (movable_after inside s) after))
 
       statement_takes_same : (s : Statement) (fresh inside : List ℕ) (later : Place → Bool) → statement_takes taken fresh (saved_at types inside later s) ≡ statement_takes taken fresh s
       statement_takes_same (bind v e) fresh inside later = expr_others inside later e
-      statement_takes_same (match_on u arms) fresh inside later = ap (λ b. other taken u.place && b) (arms_take_same arms inside later)
+      statement_takes_same (match_on u arms) fresh inside later = ap (λ b. other taken u.place && b) (arms_take_same arms (unlooked inside u.place) later)
       statement_takes_same (if_equal a b body) fresh inside later = ap (λ x. (other taken a.place && other taken b.place) && x) (block_takes_same body [] inside later)
       statement_takes_same (for_each_of v from body) fresh inside later = ap (λ x. (taken from && is_in from fresh) && x) (block_takes_same body [] (v ∷ []) read_no_more)
       statement_takes_same (labelled body) fresh inside later = block_takes_same body [] inside later
@@ -144,12 +162,12 @@ module _ (types : Types) where
       block_reads_same : (b : Block) (inside : List ℕ) (after : Place → Bool) → block_reads q (saved types inside after b) ≡ block_reads q b
       block_reads_same no_statement inside after = refl
       block_reads_same (statement s rest) inside after =
-          (λ i. statement_reads_same s inside (behind s rest after) i || behind_same q s inside (behind s rest after) (block_reads q (saved types (scope_after inside s) after rest)) i)
-          ∙ ap (λ b. statement_reads q s || read_behind q s b) (block_reads_same rest (scope_after inside s) after)
+          one_of (statement_reads_same s inside (behind s rest after))
+          (behind_same q s inside (behind s rest after) (block_reads q (saved types (movable_after inside s) after rest)) ∙ ap (read_behind q s) (block_reads_same rest (movable_after inside s) after))
 
       statement_reads_same : (s : Statement) (inside : List ℕ) (later : Place → Bool) → statement_reads q (saved_at types inside later s) ≡ statement_reads q s
       statement_reads_same (bind v e) inside later = expr_reads_same inside later e
-      statement_reads_same (match_on u arms) inside later = ap (λ b. touches q u.place || b) (arms_read_same arms inside later)
+      statement_reads_same (match_on u arms) inside later = ap (λ b. touches q u.place || b) (arms_read_same arms (unlooked inside u.place) later)
       statement_reads_same (if_equal a b body) inside later = ap (λ x. (touches q a.place || touches q b.place) || x) (block_reads_same body inside later)
       statement_reads_same (for_each_of v from body) inside later = ap (λ x. touches q (variable from) || (not (is_of (v ∷ []) q) && x)) (block_reads_same body (v ∷ []) read_no_more)
       statement_reads_same (labelled body) inside later = block_reads_same body inside later
@@ -182,7 +200,7 @@ module _ (types : Types) where
       let hs = and_parts (moves_well types inside (beside before us later) u) (all_move_well types inside later (u ∷ before) us) h in
       and_from _ _
       (subst (λ (l : Place → Bool). moves_well types inside l (saved_use types inside (beside before us later) u) ≡ true)
-      (λ i q. (sym (same q) i || sym (all_touch_same q inside later (u ∷ before) us) i) || later q) (use_well inside (beside before us later) u hs.0))
+      (λ i. λ q. (sym (same q) i || sym (all_touch_same q inside later (u ∷ before) us) i) || later q) (use_well inside (beside before us later) u hs.0))
       (all_well inside later (u ∷ before) us (saved_use types inside (beside before us later) u ∷ made) (λ q. ap (λ b. touches q u.place || b) (same q)) hs.1)
 
   expr_well : (inside : List ℕ) (later : Place → Bool) (e : Expr) → expr_moves types inside later e ≡ true → expr_moves types inside later (saved_expr types inside later e) ≡ true
@@ -208,27 +226,28 @@ module _ (types : Types) where
       block_well no_statement inside after h = refl
       block_well (statement s rest) inside after h =
           let later = behind s rest after in
-          let hs = and_parts (statement_moves types multi inside later s) (unless_ended s (block_moves types multi (scope_after inside s) after rest)) h in
+          let hs = and_parts (statement_moves types multi inside later s) (unless_ended s (block_moves types multi (movable_after inside s) after rest)) h in
           let moved = saved_at types inside later s in
-          let more = saved types (scope_after inside s) after rest in
-          and_from (statement_moves types multi inside (behind moved more after) moved) (unless_ended moved (block_moves types multi (scope_after inside moved) after more))
+          let more = saved types (movable_after inside s) after rest in
+          and_from (statement_moves types multi inside (behind moved more after) moved) (unless_ended moved (block_moves types multi (movable_after inside moved) after more))
           (subst (λ (l : Place → Bool). statement_moves types multi inside l moved ≡ true)
-          (λ i q. sym (behind_same q s inside later (block_reads q more) ∙ ap (read_behind q s) (block_reads_same q rest (scope_after inside s) after)) i || after q)
+          (λ i. λ q. sym (behind_same q s inside later (block_reads q more) ∙ ap (read_behind q s) (block_reads_same q rest (movable_after inside s) after)) i || after q)
           (statement_well s inside later hs.0))
-          (ended_same s inside later (block_moves types multi (scope_after inside moved) after more)
-          ∙ ap (λ l. unless_ended s (block_moves types multi l after more)) (after_same s inside later inside)
-          ∙ ended_either s (block_moves types multi (scope_after inside s) after rest) (block_moves types multi (scope_after inside s) after more) (block_well rest (scope_after inside s) after) hs.1)
+          (ended_same s inside later (block_moves types multi (movable_after inside moved) after more)
+          ∙ ap (λ l. unless_ended s (block_moves types multi l after more)) (movable_same s inside later inside)
+          ∙ ended_either s (block_moves types multi (movable_after inside s) after rest) (block_moves types multi (movable_after inside s) after more) (λ k. block_well rest (movable_after inside s) after k) hs.1)
 
       statement_well : (s : Statement) (inside : List ℕ) (later : Place → Bool) → statement_moves types multi inside later s ≡ true → statement_moves types multi inside later (saved_at types inside later s) ≡ true
       statement_well (bind v e) inside later h = expr_well inside later e h
       statement_well (match_on u arms) inside later h =
-          subst (λ (l : Place → Bool). arms_move types multi inside later (moves_well types inside l u) (saved_arms types inside later arms) ≡ true) (λ i q. sym (arms_read_same q arms inside later) i || later q)
-          (arms_well arms inside later (moves_well types inside (around_arms arms later) u) h)
+          let out = unlooked inside u.place in
+          subst (λ (l : Place → Bool). arms_move types multi out later (moves_well types inside l u) (saved_arms types out later arms) ≡ true) (λ i. λ q. sym (arms_read_same q arms out later) i || later q)
+          (arms_well arms out later (moves_well types inside (around_arms arms later) u) h)
       statement_well (if_equal a b body) inside later h = block_well body inside later h
       statement_well (for_each_of v from body) inside later h =
           let hs = and_parts (may_move inside (around_loop v body later) (variable from)) (block_moves types multi (v ∷ []) read_no_more body) h in
           and_from _ _
-          (subst (λ (l : Place → Bool). may_move inside l (variable from) ≡ true) (λ i q. (not (is_of (v ∷ []) q) && sym (block_reads_same q body (v ∷ []) read_no_more) i) || later q) hs.0)
+          (subst (λ (l : Place → Bool). may_move inside l (variable from) ≡ true) (λ i. λ q. (not (is_of (v ∷ []) q) && sym (block_reads_same q body (v ∷ []) read_no_more) i) || later q) hs.0)
           (block_well body (v ∷ []) read_no_more hs.1)
       statement_well (give at u) inside later h = given_well inside later u multi h
       statement_well (labelled body) inside later h = block_well body inside later h
@@ -302,13 +321,13 @@ module _ (types : Types) where
       block_kept no_statement inside after h = refl
       block_kept (statement s rest) inside after h =
           let hs = and_parts (statement_fits types multi false s) (block_fits types multi false rest) h in
-          and_from _ _ (statement_kept s inside (behind s rest after) hs.0) (block_kept rest (scope_after inside s) after hs.1)
+          and_from _ _ (statement_kept s inside (behind s rest after) hs.0) (block_kept rest (movable_after inside s) after hs.1)
 
       statement_kept : (s : Statement) (inside : List ℕ) (later : Place → Bool) → statement_fits types multi false s ≡ true → statement_fits types multi true (saved_at types inside later s) ≡ true
       statement_kept (bind v e) inside later h = expr_kept inside later v e h
       statement_kept (bind_some v u) inside later h = h
       statement_kept no_way inside later h = refl
-      statement_kept (match_on u arms) inside later h = arms_kept arms inside later (given types u) h
+      statement_kept (match_on u arms) inside later h = arms_kept arms (unlooked inside u.place) later (given types u) h
       statement_kept (if_equal a b body) inside later h =
           let hs = and_parts (fits_equal (given types a) (given types b)) (block_fits types multi false body) h in and_from _ _ hs.0 (block_kept body inside later hs.1)
       statement_kept (for_each_of v from body) inside later h =

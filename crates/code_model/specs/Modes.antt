@@ -1,5 +1,6 @@
 -- Modes, on code as data: each use gives what is wanted there, a reference or a value, and what isn't Copy is given away by
--- nothing but the return that ends the function (and a loop, which takes the call that it goes over).
+-- nothing but the return that ends the function, or where moves may stand for clones (and by a loop, which takes the call that it goes
+-- over).
 use Rattle.std.specs.Prelude.{[], ◌≡◌, ◌&&◌, ◌||◌, ◌∷◌, ℕ, suc, Bool, true, false, not, List, Option, Some, None, slice_get, Contains}
 use Rattle.model.specs.sites.Sites.{Site, bool_site, extractor_site, constructor_site, iterator_site, make_variant_site, make_struct_site, make_some_site, match_some_site, match_variant_site, extract_struct_site, Constraint, is_variant, is_struct, is_present, SetRule, SiteSet}
 use Rattle.model.specs.trees.Trees.{Tree, no_step, step, Check, match_at, equal_at, loop_at, return_at, Arms, no_arm, arm}

@@ -1,10 +1,10 @@
--- Moves, on code as data: what isn't Copy is moved once at most on each way, by what binds it in the same turn of the same loop, and
--- nothing reads it after.
-use Rattle.std.specs.Prelude.{[], ◌≡◌, ◌&&◌, ◌||◌, ◌++◌, ◌∷◌, ℕ, Bool, true, false, not, List}
+-- Moves, on code as data: what isn't Copy is moved once at most on each way, in the turn of the loop around that bound it, and nothing
+-- reads it after; nor is it moved while names for what is within it are in scope.
+use Rattle.std.specs.Prelude.{[], ◌≡◌, ◌&&◌, ◌||◌, ◌++◌, ◌∷◌, ℕ, Bool, true, false, not, if◌then◌else◌, List}
 use Rattle.std.specs.Bool.{◌==◌}
 use Rattle.model.specs.trees.Places.{is_in, field_sites}
 use Rattle.code_model.specs.Code.{Place, variable, parameter, part_of, Use, Expr, truth_written, read, extraction, call, variant_of, struct_of, some_of, Block, no_statement, statement, Statement, bind, bind_some, no_way, match_on, if_equal, for_each_of, give, labelled, unless_let, unless_equal, CodeArms, no_code_arm, code_arm}
-use Rattle.code_model.specs.Scopes.{scope_after, unless_ended}
+use Rattle.code_model.specs.Scopes.{unless_ended}
 use Rattle.code_model.specs.Modes.{Types, Given, gives_away, given, block_fits}
 use Rattle.code_model.specs.Moves.{block_takes}
 
@@ -69,7 +69,7 @@ abbrev pub is_away : Given → Bool
 is_away gives_away = true
 is_away g = false
 
--- a move may stand: of what was bound in this turn of the loop around, and is read no more
+-- a move may stand: of what can be moved, and is read no more
 abbrev pub may_move : List ℕ → (Place → Bool) → Place → Bool
 may_move inside later place = is_of inside place && not (later place)
 
@@ -93,6 +93,23 @@ expr_moves types inside later (variant_of ty variant us) = all_move_well types i
 expr_moves types inside later (struct_of ty us) = all_move_well types inside later [] us
 expr_moves types inside later (some_of u) = moves_well types inside later u
 
+abbrev pub without : ℕ → List ℕ → List ℕ
+without v [] = []
+without v (x ∷ xs) = if x == v then without v xs else x ∷ without v xs
+
+-- what is looked into can't be moved: a pattern may see what is within it by reference
+abbrev pub unlooked : List ℕ → Place → List ℕ
+unlooked inside (variable v) = without v inside
+unlooked inside (part_of v i) = without v inside
+unlooked inside place = inside
+
+-- what can be moved from a statement to the end of its block
+abbrev pub movable_after : List ℕ → Statement → List ℕ
+movable_after inside (bind v e) = v ∷ inside
+movable_after inside (bind_some v u) = v ∷ unlooked inside u.place
+movable_after inside (unless_let u pattern fields) = field_sites fields ++ unlooked inside u.place
+movable_after inside s = inside
+
 -- what is read behind a statement: by the rest of its block, and by what follows that
 abbrev pub behind : Statement → Block → (Place → Bool) → Place → Bool
 behind s rest after q = read_behind q s (block_reads q rest) || after q
@@ -108,18 +125,18 @@ around_arms arms later q = arms_read q arms || later q
 abbrev pub read_no_more : Place → Bool
 read_no_more q = false
 
--- `inside` are the variables that were bound in this turn, `after` and `later` say what is read behind. A loop takes what it goes over. A
+-- `inside` are the variables that can be moved, which were bound in this turn; `after` and `later` say what is read behind. A loop takes what it goes over. A
 -- return that ends the function may give away what it likes
 abbrev mutual
   pub block_moves : Types → Bool → List ℕ → (Place → Bool) → Block → Bool
   block_moves types multi inside after no_statement = true
-  block_moves types multi inside after (statement s rest) = statement_moves types multi inside (behind s rest after) s && unless_ended s (block_moves types multi (scope_after inside s) after rest)
+  block_moves types multi inside after (statement s rest) = statement_moves types multi inside (behind s rest after) s && unless_ended s (block_moves types multi (movable_after inside s) after rest)
 
   pub statement_moves : Types → Bool → List ℕ → (Place → Bool) → Statement → Bool
   statement_moves types multi inside later (bind v e) = expr_moves types inside later e
   statement_moves types multi inside later (bind_some v u) = moves_well types inside later u
   statement_moves types multi inside later no_way = true
-  statement_moves types multi inside later (match_on u arms) = arms_move types multi inside later (moves_well types inside (around_arms arms later) u) arms
+  statement_moves types multi inside later (match_on u arms) = arms_move types multi (unlooked inside u.place) later (moves_well types inside (around_arms arms later) u) arms
   statement_moves types multi inside later (if_equal a b body) = block_moves types multi inside later body
   statement_moves types multi inside later (for_each_of v from body) = may_move inside (around_loop v body later) (variable from) && block_moves types multi (v ∷ []) read_no_more body
   statement_moves types multi inside later (give at u) = not multi || moves_well types inside later u

@@ -4,9 +4,9 @@ use Rattle.model.specs.trees.Run.{World, Env, Trace}
 use Rattle.model.specs.trees.Places.{field_sites}
 use Rattle.code_model.specs.Code.{Place, Pass, as_it_is, cloned, Use, Expr, truth_written, read, extraction, call, variant_of, struct_of, some_of, Block, no_statement, statement, Statement, bind, bind_some, no_way, match_on, if_equal, for_each_of, give, labelled, unless_let, unless_equal, CodeArms, no_code_arm, code_arm}
 use Rattle.code_model.specs.CodeRuns.{run_block}
-use Rattle.code_model.specs.Scopes.{scope_after, block_scoped}
+use Rattle.code_model.specs.Scopes.{block_scoped}
 use Rattle.code_model.specs.Modes.{Types, mode_at, is_value, is_owned, block_fits}
-use Rattle.code_model.specs.MovedOnce.{may_move, beside, behind, around_arms, read_no_more, block_moves}
+use Rattle.code_model.specs.MovedOnce.{may_move, beside, unlooked, movable_after, behind, read_no_more, block_moves}
 use Rattle.code_model.specs.Moves.{block_takes}
 
 -- a value that isn't behind a reference, and that a move may take
@@ -14,8 +14,9 @@ abbrev pub may_save : Types → List ℕ → (Place → Bool) → Place → Bool
 may_save types inside later place = (is_value (mode_at types place) && is_owned types place) && may_move inside later place
 
 abbrev pub saved_pass : Bool → Pass → Pass
+saved_pass false pass = pass
 saved_pass true cloned = as_it_is
-saved_pass may pass = pass
+saved_pass true pass = pass
 
 abbrev pub saved_use : Types → List ℕ → (Place → Bool) → Use → Use
 saved_use types inside later u = record { place = u.place; pass = saved_pass (may_save types inside later u.place) u.pass }
@@ -34,11 +35,11 @@ saved_expr types inside later e = e
 abbrev mutual
   pub saved : Types → List ℕ → (Place → Bool) → Block → Block
   saved types inside after no_statement = no_statement
-  saved types inside after (statement s rest) = statement (saved_at types inside (behind s rest after) s) (saved types (scope_after inside s) after rest)
+  saved types inside after (statement s rest) = statement (saved_at types inside (behind s rest after) s) (saved types (movable_after inside s) after rest)
 
   pub saved_at : Types → List ℕ → (Place → Bool) → Statement → Statement
   saved_at types inside later (bind v e) = bind v (saved_expr types inside later e)
-  saved_at types inside later (match_on u arms) = match_on u (saved_arms types inside later arms)
+  saved_at types inside later (match_on u arms) = match_on u (saved_arms types (unlooked inside u.place) later arms)
   saved_at types inside later (if_equal a b body) = if_equal a b (saved types inside later body)
   saved_at types inside later (for_each_of v from body) = for_each_of v from (saved types (v ∷ []) read_no_more body)
   saved_at types inside later (give at u) = give at (saved_use types inside later u)

@@ -1,5 +1,5 @@
 -- A call that a loop goes over is emitted only around that loop's body, so bind orders list it before each loop.
-use Rattle.std.proofs.Common.{◌≡◌, ◌⊎◌, inl, inr, ℕ, zero, suc, ◌<◌, ◌&&◌, ◌||◌, Bool, true, false, not, if◌then◌else◌, List, [], ◌∷◌, ◌++◌, length, Option, Some, None, slice_get, is_some, Contains, flat_map, refl, sym, ap, subst, ◌∙◌, eqb-true}
+use Rattle.std.proofs.Common.{◌≡◌, ◌⊎◌, inl, inr, ℕ, zero, suc, ◌<◌, ◌&&◌, ◌||◌, Bool, true, false, not, if◌then◌else◌, List, [], ◌∷◌, ◌++◌, length, Option, Some, None, slice_get, is_some, Contains, flat_map, refl, sym, ap, subst, ◌∙◌, eqb-true, ltb-true}
 use Rattle.std.specs.List.{list_all}
 use Rattle.std.proofs.lemmas.Bool.{cases_Bool, and_parts, and_from, false≢true, true≢false}
 use Rattle.std.proofs.lemmas.List.Elements.{All-contains, Contains-append_left, Contains-append_right, Contains-append_cases}
@@ -11,6 +11,8 @@ use Rattle.model.specs.trees.Best.{IsMade, BestSteps, BestArms}
 use Rattle.model.proofs.Members.{nothing_in, in_head, in_tail, in_cases, in_alone, some_member, member_from_get, get_from_member, get_within, each_passes, one_passes, passes_any, in_filter, from_filter, in_flat_map, from_flat_map, member_found, member_is_in, constraint_in}
 use Rattle.model.proofs.Options.{is_there}
 use Rattle.model.proofs.SameSites.{number_same}
+use Rattle.model.specs.claims.Layers.{own_program}
+use Rattle.laws_typing.proofs.WellTypedRules.{read_programs_are_well_typed}
 use Rattle.laws_trees.proofs.JudgeExactness.{not_exact}
 use Rattle.laws_code.proofs.BroughtSites.{IsFieldOf, is_brought, brought_is_field}
 use Rattle.code_model.specs.Code.{Block, statement}

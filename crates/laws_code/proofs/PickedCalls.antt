@@ -2,7 +2,7 @@
 use Rattle.std.proofs.Common.{◌≡◌, ◌≢◌, ◌⊎◌, ◌<◌, ℕ, suc, Bool, true, false, List, [], ◌∷◌, length, Option, Some, None, slice_get, Contains, refl, sym, ap, subst, ◌∙◌, inl, inr, arith}
 use Rattle.std.proofs.lemmas.Bool.{false≢true}
 use Rattle.std.proofs.lemmas.Option.{slice_get_within}
-use Rattle.model.specs.rules.Program.{Program, a_call, kind, flags_of, is_multi, arg_types, rules_of}
+use Rattle.model.specs.rules.Program.{Program, Kind, a_call, kind, flags_of, is_multi, arg_types, rules_of}
 use Rattle.model.specs.rules.Typed.{TypedRule}
 use Rattle.model.specs.sites.Sites.{Site, bool_site, int_site, prim_site, argument_site, extractor_site, constructor_site, iterator_site, make_variant_site, match_variant_site, make_struct_site, extract_struct_site, make_some_site, match_some_site, match_tuple_site, Constraint, SetRule, SiteTerm, bool_term, int_term, prim_term, argument, extractor_call, constructor_call, pick_of, variant_made, variant_field, struct_made, struct_field, some_made, some_part, tuple_part, no_site, each_term, layer, layer_at, unfolded, unfold_site, sources_of, field_terms}
 use Rattle.model.specs.sites.Closure.{Joined, given, itself, turned, chained, at_field, closed}
@@ -17,8 +17,8 @@ use Rattle.laws_typing.specs.WellTypedPrograms.{IsWellTypedProgram}
 use Rattle.laws_visits.proofs.Patterns.{by_field}
 use Rattle.laws_visits.proofs.WithSites.{by_leaf, KeptWithSites, rule_given}
 use Rattle.laws_closure.proofs.Closing.{closing_is_sound_lem}
-use Rattle.laws_closure.proofs.built.BuiltGates.{set_rule, was_built}
-use Rattle.laws_closure.proofs.built.BuiltSets.{BuiltSet}
+use Rattle.laws_closure.proofs.built.BuiltGates.{set_rule, WasBuilt, was_built}
+use Rattle.laws_closure.proofs.built.BuiltSets.{BuiltSet, RuleOfSet}
 use Rattle.laws_closure.proofs.built.DistinctSites.{one_number}
 use Rattle.laws_closure.proofs.built.MultiCalls.{multi_calls_are_gone_over_lem}
 use Rattle.laws_runs.proofs.runs.Contents.{unfolded_layer}
@@ -74,7 +74,7 @@ module _ (p : Program) where
   abbrev OtherIn : Demands → SiteTerm → Type 0
   OtherIn d u = IsOther p u
 
-  other_call : (t : ℕ) (k : _) → kind p t ≡ k → (flags_of k).multi ≡ false → is_multi p t ≡ true → ⊥
+  other_call : (t : ℕ) (k : Kind) → kind p t ≡ k → (flags_of k).multi ≡ false → is_multi p t ≡ true → ⊥
   other_call t k e f m = false≢true (sym f ∙ sym (ap (λ x. (flags_of x).multi) e) ∙ m)
 
   other_kept : KeptWithSites AnyDemands OtherIn p
@@ -107,7 +107,7 @@ module _ (p : Program) where
 -- 3. two sites that must be equal are one, or no multi calls
 module _ (p : Program) (neither : HasNoPartialMulti p) (r : TypedRule) where
   field_other : (c : Constraint) (s : SiteTerm) (i : ℕ) (u : SiteTerm) → slice_get (field_terms c s) i ≡ Some u → IsOther p u
-  field_other c s i u e = by_field (IsOther p) s (λ variant j m. m) (λ j m. m) c u (in_slice _ i u e)
+  field_other c s i u e = by_field (IsOther p) s (λ variant j m. m) (λ j m. m) c u (in_slice (field_terms c s) i u e)
 
   joined_apart : {a b : SiteTerm} → Joined (demands_of p r) a b → (a ≡ b) ⊎ (IsOther p a × IsOther p b)
   joined_apart (given {a = a} {b = b} c) = inr ((multi_calls_are_gone_over_lem p r neither).equal a b c)
@@ -180,33 +180,33 @@ module _ (b : BuiltSet) (h : IsWellTypedProgram b.program) where
 
   -- a rule of the set, with the rule that it stands for
   module _ (r : SetRule) (i : Contains b.set.rules r) where
-    abbrev built_of : _
-    built_of = let x = set_rule b r (in_from_contains b.set.rules r i) in was_built p [] (rules_of p b.term) x.typed x.listed
+    abbrev here : RuleOfSet b
+    here = set_rule b r (in_from_contains b.set.rules r i)
 
-    stands : IsRuleOf p sites (built_rule p built_of.before built_of.rule) r
-    stands = let x = set_rule b r (in_from_contains b.set.rules r i) in subst (λ (y : BuiltRule). IsRuleOf p sites y r) (sym built_of.same) x.is
+    abbrev w : WasBuilt p (rules_of p b.term) here.typed
+    w = was_built p [] (rules_of p b.term) here.typed here.listed
 
-    abbrev own : Demands
-    own = demands_of p built_of.rule
+    stands : IsRuleOf p sites (built_rule p w.before w.rule) r
+    stands = subst (λ (y : BuiltRule). IsRuleOf p sites y r) (sym w.same) here.is
 
     unconstrained : (c : ℕ) (k : Constraint) → IsMultiCall p (U c) → Contains r.constraints (c, k) → ⊥
     unconstrained c k m j =
-        let x = (closing_is_sound_lem built_of.before own).constraints (U c) k (stands.constraints.asked c k j).1 in
-        elim (joined_apart p h.not_both built_of.rule x.joined) [
-          | inl e ↦ (multi_calls_are_gone_over_lem p built_of.rule h.not_both).asked x.source k x.asked (subst (IsMultiCall p) (sym e) m)
+        let x = (closing_is_sound_lem w.before (demands_of p w.rule)).constraints (U c) k (stands.constraints.asked c k j).1 in
+        elim (joined_apart p h.not_both w.rule x.joined) [
+          | inl e ↦ (multi_calls_are_gone_over_lem p w.rule h.not_both).asked x.source k x.asked (subst (IsMultiCall p) (sym e) m)
           | inr o ↦ o.1 m
         ]
 
     apart : (a c : ℕ) → a < c → joins_in r.classes a c ≡ true → IsOther p (U a) × IsOther p (U c)
     apart a c l j =
         let x = stands.classes.joined a c j in
-        elim (joined_apart p h.not_both built_of.rule ((closing_is_sound_lem built_of.before own).classes x.2 (U a) (U c) x.3 x.4 x.5)) [
+        elim (joined_apart p h.not_both w.rule ((closing_is_sound_lem w.before (demands_of p w.rule)).classes x.2 (U a) (U c) x.3 x.4 x.5)) [
           | inl e ↦ absurd (let same = one_number p b.term b.set b.built a c x.0 x.1 e in omega (arith, l, same))
           | inr o ↦ o
         ]
 
     unreturned : IsOther p (U r.result)
-    unreturned = subst (IsOther p) (sym stands.result.1) (result_other p built_of.rule)
+    unreturned = subst (IsOther p) (sym stands.result.1) (result_other p w.rule)
 
   pub gone_over : CallsAreGoneOver b.set
   gone_over = record {

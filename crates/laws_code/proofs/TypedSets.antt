@@ -196,7 +196,8 @@ module _ (b : BuiltSet) (h : IsWellTypedProgram b.program) (by_types : Constrain
 
   asked_there : (s : ℕ) (x : Site) → slice_get sites s ≡ Some x → (IsField (layer U x) → ⊥) → (uses : Uses) × (uses.args ≡ args) × HasShape p uses (layer U x)
   asked_there s x at other =
-      elim (sites_stand b h s (slice_get_within sites s x at)).asks [
+      let g = sites_stand b h s (slice_get_within sites s x at) in
+      elim g.asks [
         | inl c ↦ shape_of (layer U x) (subst (Contains (asked p (rules_of p b.term))) (unfolds s x at) c)
         | inr f ↦ absurd (other (subst IsField (unfolds s x at) f))
       ]

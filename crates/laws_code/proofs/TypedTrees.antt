@@ -3,9 +3,9 @@ use Rattle.std.proofs.Common.{◌≡◌, ◌<◌, ◌∷◌, [], ℕ, Bool, true
 use Rattle.std.proofs.lemmas.Bool.{and_parts, and_from}
 use Rattle.std.proofs.lemmas.List.Elements.{Contains-append_left, Contains-append_right}
 use Rattle.model.specs.sites.Sites.{Site, match_variant_site, extract_struct_site, match_some_site, Constraint, is_variant, is_struct, is_bool, is_int, is_prim, is_present, SetRule, SiteSet}
-use Rattle.model.specs.trees.Trees.{Marked, m_no_step, m_step, MarkedCheck, m_match, m_equal, m_loop, m_return, MarkedArms, m_no_arm, m_arm, plain, plain_check, plain_arms, return_of, marks, marks_arms}
+use Rattle.model.specs.trees.Trees.{Marked, m_no_step, m_step, m_match, m_equal, m_loop, m_return, MarkedArms, m_no_arm, m_arm, plain, plain_arms, return_of, marks, marks_arms}
 use Rattle.model.specs.trees.Places.{Around, nothing_around, fields_of, field_sites, constraint_at, in_arm, in_equal, in_loop, after_step}
-use Rattle.model.specs.trees.Sound.{AllAsk, is_return}
+use Rattle.model.specs.trees.Sound.{AllAsk}
 use Rattle.model.specs.trees.Best.{BestSteps, BestArms}
 use Rattle.model.proofs.Members.{in_head, in_tail, some_member, member_from_get, get_within, constraint_in}
 use Rattle.std.proofs.lemmas.List.Elements.{All-contains}
@@ -51,22 +51,22 @@ module _ (types : Types) (set : SiteSet) (typed : IsTypedSet types set) where
   mutual
     steps_are : (m : Marked) (ar : Around) (closing : Bool) → BestSteps set ar closing m → AreOfRules (marks m) → tree_typed types sites (plain set.rules m) ≡ true
     steps_are m_no_step ar closing best ks = refl
-    steps_are (m_step binds check rest) ar closing best ks =
-        and_from _ _ (binds_are binds)
-        (and_from _ _ (check_is check ar closing binds rest best ks) (rest_is check ar closing binds rest best ks))
-
-    rest_is : (check : MarkedCheck) (ar : Around) (closing : Bool) (binds : List ℕ) (rest : Marked) → BestSteps set ar closing (m_step binds check rest) → AreOfRules (marks (m_step binds check rest)) → tree_typed types sites (plain set.rules rest) ≡ true
-    rest_is (m_match source arms) ar closing binds rest best ks = steps_are rest (after_step set ar (m_match source arms)) false best.2 (λ i c. ks i (Contains-append_right (marks_arms arms) (marks rest) i c))
-    rest_is (m_equal a b body) ar closing binds rest best ks = steps_are rest (after_step set ar (m_equal a b body)) false best.2 (λ i c. ks i (Contains-append_right (marks body) (marks rest) i c))
-    rest_is (m_loop result body) ar closing binds rest best ks = steps_are rest (after_step set ar (m_loop result body)) false best.2 (λ i c. ks i (Contains-append_right (marks body) (marks rest) i c))
-    rest_is (m_return rule) ar closing binds rest best ks = steps_are rest (after_step set ar (m_return rule)) true best.2 (λ i c. ks i (in_tail rule i (marks rest) c))
-
-    check_is : (check : MarkedCheck) (ar : Around) (closing : Bool) (binds : List ℕ) (rest : Marked) → BestSteps set ar closing (m_step binds check rest) → AreOfRules (marks (m_step binds check rest)) → check_typed types sites (plain_check set.rules check) ≡ true
-    check_is (m_match source arms) ar closing binds rest best ks =
-        and_from _ _ (typed.places source) (arms_are arms ar source None best.1.2 (λ i c. ks i (Contains-append_left (marks_arms arms) (marks rest) i c)))
-    check_is (m_equal a b body) ar closing binds rest best ks = steps_are body (in_equal set ar a b) false best.1.2 (λ i c. ks i (Contains-append_left (marks body) (marks rest) i c))
-    check_is (m_loop result body) ar closing binds rest best ks = and_from _ _ (typed.sites result) (steps_are body (in_loop set ar result) false best.1.2 (λ i c. ks i (Contains-append_left (marks body) (marks rest) i c)))
-    check_is (m_return rule) ar closing binds rest best ks = return_is (slice_get set.rules rule)
+    steps_are (m_step binds (m_match source arms) rest) ar closing best ks =
+        and_from _ _ (binds_are binds) (and_from _ _
+        (and_from _ _ (typed.places source) (arms_are arms ar source None best.1.2 (λ i c. ks i (Contains-append_left (marks_arms arms) (marks rest) i c))))
+        (steps_are rest (after_step set ar (m_match source arms)) false best.2 (λ i c. ks i (Contains-append_right (marks_arms arms) (marks rest) i c))))
+    steps_are (m_step binds (m_equal a b body) rest) ar closing best ks =
+        and_from _ _ (binds_are binds) (and_from _ _
+        (steps_are body (in_equal set ar a b) false best.1.2 (λ i c. ks i (Contains-append_left (marks body) (marks rest) i c)))
+        (steps_are rest (after_step set ar (m_equal a b body)) false best.2 (λ i c. ks i (Contains-append_right (marks body) (marks rest) i c))))
+    steps_are (m_step binds (m_loop result body) rest) ar closing best ks =
+        and_from _ _ (binds_are binds) (and_from _ _
+        (and_from _ _ (typed.sites result) (steps_are body (in_loop set ar result) false best.1.2 (λ i c. ks i (Contains-append_left (marks body) (marks rest) i c))))
+        (steps_are rest (after_step set ar (m_loop result body)) false best.2 (λ i c. ks i (Contains-append_right (marks body) (marks rest) i c))))
+    steps_are (m_step binds (m_return rule) rest) ar closing best ks =
+        and_from _ _ (binds_are binds) (and_from _ _
+        (return_is (slice_get set.rules rule))
+        (steps_are rest (after_step set ar (m_return rule)) true best.2 (λ i c. ks i (in_tail rule i (marks rest) c))))
 
     arms_are : (arms : MarkedArms) (ar : Around) (source : ℕ) (prior : Option Constraint) → BestArms set ar source prior arms → AreOfRules (marks_arms arms) → arms_typed types sites (copied source) (plain_arms set.rules arms) ≡ true
     arms_are m_no_arm ar source prior best ks = refl

@@ -32,7 +32,7 @@ means_same p l a b same means = record {
 }
 
 -- the laws that it rests on
-pub record CodeLaws : Type 0 where
+pub record LawsOfCode : Type 0 where
   pub trees : TypedSetsHaveTypedTrees
   pub sets : BuiltSetsAreTyped
   pub fit : PassesByTypesFit
@@ -43,7 +43,7 @@ pub record CodeLaws : Type 0 where
   pub taken : CodeOfAcceptedTakesOnce
   pub means : CodeChoosesAsSource
 
-pub code_of_accepted_is_well_made_lem : CodeLaws → CodeOfAcceptedIsWellMade
+pub code_of_accepted_is_well_made_lem : LawsOfCode → CodeOfAcceptedIsWellMade
 code_of_accepted_is_well_made_lem laws defs expand rules l accepted built best by_types deep n =
     let p = own_program defs rules in
     let types = types_of p (arg_types p l.term) l.set.sites in
