@@ -41,9 +41,8 @@ use Rattle.laws_conditions.specs.ConditionLaws.{IsCalled, ChoosesAsSaid, Compute
 use Rattle.laws_conditions.proofs.Valuations.{Called, told_of, told_there, values_there, value_there, argument_back, part_back, each_told, content, values, sites_as, args_as, told_site, told_values}
 use Rattle.laws_conditions.proofs.Assumptions.{met, same, own_constructed, constructed, call_typed, assumed}
 use Rattle.laws_conditions.proofs.Followed.{calls_of, result_calls, next_at, calls_made, made_at}
-use Rattle.laws_conditions.proofs.plain.Numbered.{InOrder}
-use Rattle.laws_conditions.proofs.plain.Outcomes.{plain_outcome, holds_matches}
-use Rattle.laws_conditions.proofs.plain.Served.{AreServed}
+use Rattle.laws_runs.proofs.taking.CallsIn.{InOrder}
+use Rattle.laws_conditions.proofs.PlainOutcomes.{AreServed, plain_outcome, holds_matches}
 
 -- 1. lists, and answers
 split_in : (us : List SiteTerm) (u : SiteTerm) → In us u → (before : List SiteTerm) × (after : List SiteTerm) × (us ≡ before ++ u ∷ after)

@@ -25,7 +25,7 @@ use Rattle.laws_conditions.specs.Specs.{Specs, IsRequired, IsProvided}
 use Rattle.laws_conditions.specs.Meets.{Atoms, stands_for, content_as, IsResultAsSaid}
 use Rattle.laws_conditions.specs.ConditionLaws.{AreValid, IsCalled}
 use Rattle.laws_conditions.specs.CollectLaws.{MakesNoImpureCall, BagsAreAsSaid, CollectsAsSaid, LoweredTermsCollectAsSaid}
-use Rattle.laws_conditions.proofs.plain.Served.{served}
+use Rattle.laws_conditions.proofs.PlainOutcomes.{served}
 use Rattle.laws_conditions.proofs.Valuations.{Called, args_as, sites_as, told_site}
 use Rattle.laws_conditions.proofs.Assumptions.{assumed}
 use Rattle.laws_conditions.proofs.Answers.{result_is}

@@ -12,7 +12,7 @@ use Rattle.laws_conditions.specs.Words.{Denoted}
 use Rattle.laws_conditions.specs.Specs.{Specs, literal_of}
 use Rattle.laws_conditions.specs.Meets.{stands_for, MeetsSpecs}
 use Rattle.laws_conditions.specs.SampleCalls.{bytes_as, written}
-use Rattle.laws_conditions.proofs.plain.Served.{made_asked}
+use Rattle.laws_conditions.proofs.PlainOutcomes.{made_asked}
 
 -- an argument or a literal byte
 abbrev pub IsPlainSite : SiteTerm → Type 0
