@@ -1,8 +1,8 @@
 //! What can be tested at a place of a tree, and which test is the greatest. The rules of a place stand in order: by
 //! descending priority, then by their numbers.
 
-ghost use Rattle.std.specs.Prelude.{◌≡◌, ◌≤◌, not, IsTrue, option_map, IfOk, MatchOption, length, slice_get};
-ghost use Rattle.std.specs.List.{filter, find, prefix_len};
+ghost use Rattle.std.specs.Prelude.{◌≡◌, ◌≤◌, [], not, IsTrue, option_map, IfOk, MatchOption, length, slice_get};
+ghost use Rattle.std.specs.List.{filter, prefix_len};
 ghost use Rattle.model.specs.trees.Best.{descend};
 ghost use Rattle.model.specs.trees.Places.{is_in, joins_in};
 ghost use Rattle.model.specs.trees.Tests as Tests;
@@ -134,13 +134,21 @@ pub fn reach_count(set: &RuleSet, here: &[usize], bar: Option<usize>) -> usize
         .count()
 }
 
-// The first rule of a place that doesn't need a test: of rules in order it is the test's bar.
-fn bar_of(set: &RuleSet, here: &[usize], test: &Test) -> Option<usize>
-    ensures { result ≡ find (λ i. not (Tests.needs_at (set_view set.now).rules (test_view test.now) i)) here.now }
+// How many rules at the head of a place need a test: of rules in order the one behind them is the test's bar.
+fn leading_count(set: &RuleSet, here: &[usize], test: &Test) -> usize
+    ensures value { result ≡ prefix_len (Tests.needs_at (set_view set.now).rules (test_view test.now)) here.now }
+    ensures within { result ≤ length here.now }
 {
     here.iter()
-        .copied()
-        .find(|number| !needs_at(set, test, *number))
+        .take_while(|number| needs_at(set, test, **number))
+        .count()
+}
+
+// The rule behind so many at the head of a place.
+fn behind_leading(here: &[usize], leading: usize) -> Option<usize>
+    ensures { result ≡ slice_get here.now leading }
+{
+    here.get(leading).copied()
 }
 
 // Whether a rule isn't below the bar of a test, and needs it.
@@ -170,6 +178,14 @@ fn parted_at(
     Ok((reaching, others))
 }
 
+// All rules of a place, and none.
+fn all_and_none(alloc: Global, here: &[usize]) -> Result<(Vec<usize>, Vec<usize>), AllocError>
+    ensures { IfOk result (λ p. (p.0.items ≡ here.now) × (p.1.items ≡ [])) }
+{
+    let all = Vec::from_slice(alloc, here)?;
+    Ok((all, Vec::new(alloc)))
+}
+
 /// The rules of a place that a test covers, and those that it doesn't: it covers a rule that needs it, where each rule of
 /// the place needs it too or isn't above that one.
 pub fn parted(
@@ -182,10 +198,15 @@ pub fn parted(
     ensures covered { IfOk result (λ p. p.0.items ≡ Tests.cover (set_view set.now).rules here.now (test_view test.now)) }
     ensures others { IfOk result (λ p. p.1.items ≡ filter (λ i. not (Tests.is_covered (set_view set.now).rules here.now (test_view test.now) i)) here.now) }
 {
-    let bar = bar_of(set, here, test);
+    let leading = leading_count(set, here, test);
+    if leading == here.len() {
+        return all_and_none(alloc, here);
+    }
+    let bar = behind_leading(here, leading);
     parted_at(alloc, set, here, test, bar)
 }
 
+// How many of some rules need a test.
 fn needing_count(set: &RuleSet, numbers: &[usize], test: &Test) -> usize
     ensures { result ≡ length (filter (Tests.needs_at (set_view set.now).rules (test_view test.now)) numbers.now) }
 {
@@ -195,13 +216,19 @@ fn needing_count(set: &RuleSet, numbers: &[usize], test: &Test) -> usize
         .count()
 }
 
+// How many rules of a place a test covers. Each rule is asked once: those behind the bar that are below it aren't.
 fn cover_count(set: &RuleSet, here: &[usize], test: &Test) -> usize
     requires { IsTrue (descend (set_view set.now).rules here.now) }
     ensures { result ≡ length (Tests.cover (set_view set.now).rules here.now (test_view test.now)) }
 {
-    let bar = bar_of(set, here, test);
-    let reaching = reach_count(set, here, bar);
-    needing_count(set, &here[..reaching], test)
+    let leading = leading_count(set, here, test);
+    if leading == here.len() {
+        return leading;
+    }
+    let bar = behind_leading(here, leading);
+    let behind = &here[leading + 1..];
+    let reaching = reach_count(set, behind, bar);
+    leading + needing_count(set, &behind[..reaching], test)
 }
 
 /// The score of a test at a place.
