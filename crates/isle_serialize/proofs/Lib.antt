@@ -15,6 +15,7 @@ mod Ascents
 mod Descents
 mod StepsJoined
 mod BodySteps
+mod ListChanges
 mod EndSteps
 mod UntriedTests
 mod PlaceSteps

@@ -1,16 +1,16 @@
 //! Sets of sites, most of which are small.
 
-ghost use Rattle.std.specs.Prelude.{◌≡◌, ◌==◌, ◌||◌, ℕ, true, false, if◌then◌else◌, IfOk, OnOk};
+ghost use Rattle.std.specs.Prelude.{◌≡◌, ◌==◌, ◌||◌, ℕ, true, false, if◌then◌else◌, OnOk};
 ghost use Rattle.isle_base.specs.Stable.{contains};
 ghost use Rattle.model.specs.trees.Places.{is_in};
-ghost use Rattle.isle_serialize.specs.AroundViews.{has, IsSetOf};
+ghost use Rattle.isle_serialize.specs.AroundViews.{has};
 
 use isle_base::stablemapset::StableSet;
 use isle_rule_sets::trie_again::BindingId;
 use std::alloc::{AllocError, Global};
 
-/// So many sites are walked faster than one is looked up.
-pub const FEW: usize = 32;
+// So many sites are walked faster than one is looked up.
+const FEW: usize = 32;
 
 /// A set of sites: the first few are walked, all others looked up.
 #[derive(Drop)]
@@ -30,17 +30,6 @@ impl SmallSet {
             few: Vec::new(alloc),
             others: StableSet::new(alloc),
         }
-    }
-
-    /// The set of a few sites.
-    #[tactic(auto, using(crate::proofs::SiteSets::few_alone))]
-    pub fn of_few(alloc: Global, sites: &[BindingId]) -> Result<SmallSet, AllocError>
-        ensures { IfOk result (IsSetOf sites.now) }
-    {
-        Ok(SmallSet {
-            few: Vec::from_slice(alloc, sites)?,
-            others: StableSet::new(alloc),
-        })
     }
 
     /// Adds a site.

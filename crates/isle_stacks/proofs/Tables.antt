@@ -1,8 +1,10 @@
 -- Numbers that are found by a table of their places.
-use Rattle.std.proofs.Common.{◌≡◌, ◌≢◌, ℕ, zero, suc, ◌+◌, ◌<◌, ◌≤◌, ◌==◌, ◌||◌, Bool, true, false, List, [], ◌∷◌, ◌++◌, length, take, set, get_or, Option, Some, None, slice_get, refl, sym, ap, ◌∙◌, subst, inl, inr, ◌⊎◌, arith, eqb-true, eq-eqb}
-use Rattle.std.proofs.lemmas.Bool.{cases_Bool, or_cases, or_left, or_right, false≢true}
+use Rattle.std.proofs.Common.{◌≡◌, ◌≢◌, ℕ, zero, suc, ◌+◌, ◌<◌, ◌==◌, ◌||◌, Bool, true, false, cond, List, [], ◌∷◌, ◌++◌, length, take, get_or, Option, Some, None, slice_get, refl, sym, ap, ◌∙◌, inl, inr, ◌⊎◌, eqb-true, eq-eqb}
+use Rattle.std.proofs.lemmas.Bool.{cases_Bool, cond-true, cond-false, or_cases, or_left, or_right, false≢true}
+use Rattle.std.proofs.lemmas.List.{append_assoc, append-nil}
+use Rattle.std.proofs.lemmas.List.Folds.{list_any-append, list_any_more}
 use Rattle.std.proofs.lemmas.Option.{none-some, same_Some}
-use Rattle.isle_stacks.specs.Places.{is_at, is_in, AreFound, Keeps, KeepsOthers}
+use Rattle.isle_stacks.specs.Places.{is_at, is_in, AreFound, Extends, Keeps, KeepsOthers}
 
 -- 1. a number of a list stands somewhere in it
 place_of : (n : ℕ) (list : List ℕ) → is_in n list ≡ true → (i : ℕ) × (slice_get list i ≡ Some n)
@@ -78,3 +80,52 @@ in_front (suc k) (x ∷ list) (suc i) m e = in_front k list i m e
 
 pub found_first : (k : ℕ) (list places : List ℕ) → AreFound list places → AreFound (take k list) places
 found_first k list places h i n e = h i n (in_front k list i n e)
+
+-- 4. numbers that are added where they aren't there
+abbrev inserted : ℕ → List ℕ → List ℕ
+inserted x list = cond (is_in x list) list (list ++ x ∷ [])
+
+behind_or : (a b : Bool) → (b || (a || false)) ≡ (a || b)
+behind_or true true = refl
+behind_or true false = refl
+behind_or false true = refl
+behind_or false false = refl
+
+in_inserted : (n x : ℕ) (list : List ℕ) → is_in n (inserted x list) ≡ ((x == n) || is_in n list)
+in_inserted n x list =
+    elim (cases_Bool (is_in x list)) [
+      | inl t ↦ ap (is_in n) (cond-true (is_in x list) list (list ++ x ∷ []) t) ∙ there t
+      | inr f ↦ ap (is_in n) (cond-false (is_in x list) list (list ++ x ∷ []) f) ∙ list_any-append (λ m. m == n) list (x ∷ []) ∙ behind_or (x == n) (is_in n list)
+    ]
+  where
+    there : is_in x list ≡ true → is_in n list ≡ ((x == n) || is_in n list)
+    there t =
+        elim (cases_Bool (x == n)) [
+          | inl e ↦ ap (λ k. is_in k list) (sym (eqb-true x n e)) ∙ t ∙ sym (or_left (x == n) (is_in n list) e)
+          | inr f ↦ sym (ap (λ b. b || is_in n list) f)
+        ]
+
+swapped : (a b c : Bool) → (a || (b || c)) ≡ ((b || a) || c)
+swapped true true c = refl
+swapped true false c = refl
+swapped false true c = refl
+swapped false false c = refl
+
+pub in_more : (xs : List ℕ) (i n : ℕ) (start now next : List ℕ) → i < length xs → next ≡ inserted (get_or xs i 0) now → is_in n now ≡ (is_in n (take i xs) || is_in n start)
+    → is_in n next ≡ (is_in n (take (i + 1) xs) || is_in n start)
+in_more xs i n start now next l e h =
+    ap (is_in n) e
+    ∙ in_inserted n (get_or xs i 0) now
+    ∙ ap (λ b. (get_or xs i 0 == n) || b) h
+    ∙ swapped (get_or xs i 0 == n) (is_in n (take i xs)) (is_in n start)
+    ∙ ap (λ b. b || is_in n start) (sym (list_any_more (λ m. m == n) xs i 0 l))
+
+pub grown_first : (list : List ℕ) → Extends list list
+grown_first list = ([], sym (append-nil list))
+
+pub grown_more : (start now next : List ℕ) (x : ℕ) → next ≡ inserted x now → Extends start now → Extends start next
+grown_more start now next x e g =
+    elim (cases_Bool (is_in x now)) [
+      | inl t ↦ (g.0, e ∙ cond-true (is_in x now) now (now ++ x ∷ []) t ∙ g.1)
+      | inr f ↦ (g.0 ++ x ∷ [], e ∙ cond-false (is_in x now) now (now ++ x ∷ []) f ∙ ap (λ l. l ++ x ∷ []) g.1 ∙ append_assoc start g.0 (x ∷ []))
+    ]

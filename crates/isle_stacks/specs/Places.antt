@@ -1,5 +1,5 @@
 -- Lists of numbers, and tables of their places.
-use Rattle.std.specs.Prelude.{◌≡◌, ◌≢◌, ℕ, Bool, false, List, Option, Some, None, slice_get}
+use Rattle.std.specs.Prelude.{◌≡◌, ◌≢◌, ℕ, Bool, false, List, ◌++◌, Option, Some, None, slice_get}
 use Rattle.std.specs.Bool.{◌==◌}
 use Rattle.std.specs.List.{list_any}
 
@@ -22,3 +22,7 @@ Keeps old new = (i p : ℕ) → slice_get old i ≡ Some p → slice_get new i �
 -- but for one place
 abbrev pub KeepsOthers : ℕ → List ℕ → List ℕ → Type 0
 KeepsOthers n old new = (i p : ℕ) → i ≢ n → slice_get old i ≡ Some p → slice_get new i ≡ Some p
+
+-- a list with more at its end
+abbrev pub Extends : List ℕ → List ℕ → Type 0
+Extends old new = (more : List ℕ) × (new ≡ old ++ more)

@@ -1,7 +1,7 @@
 //! A list of numbers, each once, to which numbers are pushed at its end and from which they are cut off again. A table says
 //! at which place each stands, so that none is looked for.
-ghost use Rattle.std.specs.Prelude.{◌≡◌, ◌∷◌, ◌++◌, [], ℕ, true, false, cond, if◌then◌else◌, Some, length, take, slice_get, OnOk, OnErr};
-ghost use Rattle.isle_stacks.specs.Places.{is_at, is_in, AreFound, Keeps, KeepsOthers};
+ghost use Rattle.std.specs.Prelude.{◌≡◌, ◌∷◌, ◌++◌, [], ℕ, ◌||◌, false, if◌then◌else◌, Some, drop, length, take, slice_get, OnOk, OnErr};
+ghost use Rattle.isle_stacks.specs.Places.{is_at, is_in, AreFound, Extends, Keeps, KeepsOthers};
 
 use std::alloc::{AllocError, Global};
 use std::marker::Model;
@@ -44,11 +44,14 @@ impl Stack {
         self.list.len()
     }
 
-    /// The numbers, in the order in which they came.
-    pub fn numbers(&self) -> &[u16]
-        ensures { result.now ≡ self.now }
+    /// The numbers behind the first ones, so many.
+    pub fn behind(&self, count: usize) -> &[u16]
+        ensures { result.now ≡ drop count self.now }
     {
-        &self.list
+        match self.list.get(count..) {
+            Some(rest) => rest,
+            None => &[],
+        }
     }
 
     /// Whether the list has a number.
@@ -90,6 +93,21 @@ impl Stack {
             return Ok(());
         }
         self.push(number)
+    }
+
+    /// Adds each of these numbers at the end of the list, where it isn't there.
+    ///
+    /// # Errors
+    ///
+    /// Where memory is refused.
+    pub fn insert_all(&mut self, numbers: &[u16]) -> Result<(), AllocError>
+        ensures added { OnOk result ((n : ℕ) → is_in n self.new ≡ (is_in n numbers.now || is_in n self.old)) }
+        ensures grown { OnOk result (Extends self.old self.new) }
+    {
+        for number in numbers {
+            self.insert(*number)?;
+        }
+        Ok(())
     }
 
     /// Keeps the first of the numbers, so many.
