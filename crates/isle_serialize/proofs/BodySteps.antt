@@ -49,7 +49,7 @@ module _ (set : SiteSet) (ar : Places.Around) (around : Around) where
   -- in a loop over a call
   pub loop_inside : (call result : ℕ) → slice_get set.sites result ≡ Some (iterator_site call) → IsAfter set ar (loop_test call) now → Alike (brings now call (result ∷ [])) (in_loop set ar result)
   loop_inside call result at h = record {
-    sources = λ s. looped_alike set (call ∷ []) [] ar.tested now.looped ar.looped h.sources s ∙ ap (λ l. is_in s (map (λ d. d.0) ar.tested ++ (l ++ ar.looped))) (sym (sources_there set result call at));
+    sources = λ s. looped_alike set (call ∷ []) [] ar.tested now.looped ar.looped h.sources s ∙ ap (λ l. is_in s (map (λ (d : ℕ × Constraint). d.0) ar.tested ++ (l ++ ar.looped))) (sym (sources_there set result call at));
     joined = h.joined;
     brought = λ s. ap (λ b. (result == s) || b) (h.brought s);
     emitted = λ s. ap (λ b. (result == s) || b) (h.emitted s) ∙ ap (λ l. is_in s (result ∷ (l ++ ar.emitted))) (sym (below_call set call result at));

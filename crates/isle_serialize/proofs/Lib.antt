@@ -1,6 +1,5 @@
 pub mod TreeLaws
 mod Tables
-mod SiteSets
 mod AroundSteps
 mod TestSteps
 mod BarSteps

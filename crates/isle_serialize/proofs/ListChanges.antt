@@ -1,5 +1,5 @@
 -- Lists of what stands around a place that grow and are cut again.
-use Rattle.std.proofs.Common.{◌≡◌, ℕ, true, ◌||◌, List, [], ◌++◌, Contains, length, take, refl, sym, ap, ◌∙◌, subst}
+use Rattle.std.proofs.Common.{◌≡◌, ℕ, true, ◌||◌, List, [], ◌∷◌, ◌++◌, Contains, length, take, refl, sym, ap, ◌∙◌, subst}
 use Rattle.std.proofs.lemmas.Bool.{or_left}
 use Rattle.std.proofs.lemmas.List.{append_assoc, append-nil, take_at}
 use Rattle.model.specs.sites.Sites.{Site, SiteSet}
@@ -8,7 +8,7 @@ use Rattle.model.specs.trees.Places.{is_in}
 use Rattle.isle_stacks.specs.Places.{Extends}
 use Rattle.isle_serialize.specs.declared.around.Around.{Around}
 use Rattle.isle_serialize.specs.declared.around.Mark.{Mark}
-use Rattle.isle_serialize.specs.AroundViews.{around_view, Alike, after_uses, where_emitted, AreEmitted}
+use Rattle.isle_serialize.specs.AroundViews.{around_view, Alike, after_uses, where_emitted, where_joined, AreEmitted}
 use Rattle.isle_serialize.specs.Changes.{Emits, Goes, IsBack, IsCut, IsKept, IsMark}
 use Rattle.isle_serialize.proofs.Tables.{is_in_append}
 
@@ -112,3 +112,7 @@ emits_view a b h =
 
 pub emits_alike : (set : SiteSet) (a b : Around) (used : List ℕ) → Emits a b → AreEmitted set (around_view a) used b.emitted → Alike (around_view b) (after_uses set (around_view a) used)
 emits_alike set a b used h k = record { sources = λ s. ap (is_in s) h.sources; joined = h.joined; brought = λ s. ap (is_in s) h.brought; emitted = k }
+
+-- one more pair
+pub joined_view : (a b : Around) (x y : ℕ) → b.sources ≡ a.sources → b.joined.items ≡ (x, y) ∷ a.joined.items → b.brought ≡ a.brought → b.emitted ≡ a.emitted → around_view b ≡ where_joined (around_view a) x y
+joined_view a b x y s j r e = λ i. record { tested = []; joined = j i; looped = s i; brought = r i; emitted = e i }

@@ -1,13 +1,11 @@
 -- What stands around a place, as it is kept: the sources of arms and loops in one list.
-use Rattle.std.specs.Prelude.{◌≡◌, ℕ, Bool, true, ◌==◌, ◌||◌, if◌then◌else◌, List, [], ◌∷◌, ◌++◌}
+use Rattle.std.specs.Prelude.{◌≡◌, ℕ, true, ◌==◌, if◌then◌else◌, List, [], ◌∷◌, ◌++◌}
 use Rattle.std.specs.List.{flat_map}
 use Rattle.model.specs.sites.Sites.{Site, SiteSet}
 use Rattle.model.specs.trees.Places as Places
 use Rattle.model.specs.trees.Places.{is_in, class, all_below, available}
 use Rattle.model.specs.trees.Tests.{sources_around}
-use Rattle.isle_base.specs.Stable.{contains}
 use Rattle.isle_serialize.specs.declared.around.Around.{Around}
-use Rattle.isle_serialize.specs.declared.small_set.SmallSet.{SmallSet}
 
 -- of the arms around only the sources are kept, and they stand with those of the loops: no more is asked of them
 abbrev pub around_view : Around → Places.Around
@@ -26,13 +24,9 @@ class_name_in (e ∷ es) s = if e.0 == s then e.1 else class_name_in es s
 abbrev pub IsNaming : List (ℕ × ℕ) → List (ℕ × ℕ) → Type 0
 IsNaming pairs names = (s : ℕ) → class_name_in names s ≡ class pairs s
 
--- whether a set has a site
-abbrev pub has : SmallSet → ℕ → Bool
-has set s = is_in s set.few.items || contains ◌==◌ set.others s
-
--- each site of the set is available
-abbrev pub AreAtHand : List Site → Places.Around → SmallSet → Type 0
-AreAtHand sites ar found = (s : ℕ) → has found s ≡ true → available sites ar s ≡ true
+-- each of some sites is available
+abbrev pub AreAtHand : List Site → Places.Around → List ℕ → Type 0
+AreAtHand sites ar found = (s : ℕ) → is_in s found ≡ true → available sites ar s ≡ true
 
 -- what is around two places says the same of both: the sources of the arms and loops, the joined pairs, which sites were
 -- brought and which are emitted

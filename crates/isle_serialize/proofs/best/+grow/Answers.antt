@@ -1,19 +1,22 @@
 use Rattle.std.proofs.Common.{◌≡◌, ◌<◌, ◌∙◌, ◌∷◌, [], None, ap, drop, length, refl, sym, subst, arith, rules}
 use Rattle.model.specs.trees.Places.{field_sites}
 use Rattle.model.specs.trees.Trees as Trees
+use Rattle.std.specs.List.{remove}
+use Rattle.isle_serialize.specs.declared.around.Around.{Around}
+use Rattle.isle_serialize.specs.declared.serialize.ControlFlow.{Match, Equal, Loop}
 use Rattle.isle_serialize.specs.declared.serialize.MatchArm.{roll-MatchArm}
 use Rattle.isle_serialize.specs.AroundViews.{around_view, Alike, after_uses, brings}
-use Rattle.isle_serialize.specs.Changes.{IsNewSource}
+use Rattle.isle_serialize.specs.Changes.{IsAfter, IsNewSource}
 use Rattle.isle_serialize.specs.Growing.{IsBestFrom, IsBestBody, IsStepOf, test_emits, AreEnds, IsNextTest, IsNext}
 use Rattle.isle_serialize.specs.TestViews.{test_view, IsChosen}
 use Rattle.isle_serialize.specs.ArmOrder.{asked_numbers, AreInTurn, IsNextArm, IsNextArmOf}
-use Rattle.isle_serialize.specs.TreeViews.{tree_view, steps_view}
+use Rattle.isle_serialize.specs.TreeViews.{tree_view, arms_view, check_view, steps_view}
 use Rattle.isle_serialize.specs.PlaceViews.{set_in}
 use Rattle.isle_serialize.proofs.ArmSteps.{ArmsGrow, arms_start, fewer_left, asking_ordered, arms_more, arms_whole}
 use Rattle.isle_serialize.proofs.Growth.{from_alike}
-use Rattle.isle_serialize.proofs.ListChanges.{back_itself, back_more, emits_alike, emits_back, emits_cut, emits_itself, emits_more, emits_view, goes_cut, kept_back, kept_goes, same_view}
-use Rattle.isle_serialize.proofs.PlaceSteps.{covered_ordered, covered_step, fewer_others, block_more, block_whole, match_source, source_fewer, step_emitted, untried_after}
-use Rattle.isle_serialize.proofs.TreeLaws.{block_seen, arm_seen}
+use Rattle.isle_serialize.proofs.ListChanges.{back_itself, back_more, emits_alike, emits_back, emits_cut, emits_itself, emits_more, emits_view, goes_cut, joined_view, kept_back, kept_goes, same_view}
+use Rattle.isle_serialize.proofs.PlaceSteps.{covered_ordered, covered_step, fewer_others, block_more, block_whole, equal_body, equal_fewer, loop_body, loop_source, match_source, pick_made, source_fewer, step_emitted, untried_after}
+use Rattle.isle_serialize.proofs.TreeLaws.{block_seen, arm_seen, match_seen}
 use Rattle.isle_serialize.proofs.UntriedTests.{untried}
 use Rattle.isle_serialize.proofs.best.+grow.Goals as goal
 
@@ -189,4 +192,101 @@ body_of-returns t c =
     record {
       best = from_alike set (around_view inside) (brings (around_view old) c.args.source c.args.sites.now) c.args.here.items (tree_view c.in_ok-body.body) e.inside c.in_ok-body.ensures.best;
       back = goes_cut old inside c.block_of.new.around c.go_back.new.self c.mark-start.result c.mark-start.ensures e.goes c.in_ok-body.ensures.back c.go_back.ensures;
+    }
+
+pub joined_body-block_of-requires : goal.joined_body-block_of-requires
+joined_body-block_of-requires t c =
+    let set = set_in c.args.indexed.now in
+    let old = c.args.around.now in
+    let joined = c.insert.new.self in
+    let inside : Around = record { sources = old.sources; joined = joined; brought = old.brought; emitted = old.emitted; closed = old.closed } in
+    let view = joined_view old inside c.args.a c.args.b refl c.in_ok-insert.ensures.items refl refl in
+    let smaller : untried (length set.sites) (around_view inside) < untried (length set.sites) (around_view old) = equal_fewer set old c.args.a c.args.b (around_view inside) c.requires.pair view in
+    (search (rules, arith, smaller), (c.requires.order, record { closed = c.requires.kept.closed; within = c.requires.kept.within }))
+
+pub joined_body-remove-requires : goal.joined_body-remove-requires
+joined_body-remove-requires t c =
+    let blocked = c.block_of.new.around in
+    let many = ap length (c.in_ok-body.ensures.back.joined ∙ c.in_ok-insert.ensures.items) in
+    omega (arith, many, blocked.joined.ok.0)
+
+pub joined_body-returns : goal.joined_body-returns
+joined_body-returns t c =
+    let set = set_in c.args.indexed.now in
+    let old = c.args.around.now in
+    let joined = c.insert.new.self in
+    let inside : Around = record { sources = old.sources; joined = joined; brought = old.brought; emitted = old.emitted; closed = old.closed } in
+    let view = joined_view old inside c.args.a c.args.b refl c.in_ok-insert.ensures.items refl refl in
+    let back = c.in_ok-body.ensures.back in
+    record {
+      best = subst (λ v. IsBestFrom set v c.args.here.items (tree_view c.in_ok-body.body)) view c.in_ok-body.ensures.best;
+      back = record {
+        sources = back.sources;
+        joined = c.remove.ensures.items ∙ ap (λ l. remove l 0) (back.joined ∙ c.in_ok-insert.ensures.items);
+        brought = back.brought;
+        emitted = back.emitted;
+        closed = back.closed;
+      };
+    }
+
+-- tests
+pub check_of-joined_body-requires : goal.check_of-joined_body-requires
+check_of-joined_body-requires t c =
+    let set = set_in c.args.indexed.now in
+    let ar = around_view c.args.around.now in
+    let h = subst (λ u. IsStepOf set ar (test_view u) c.args.here.items) c.in-Equal.is c.requires.step in
+    (search (rules, arith), (c.requires.order, (h.open_here, c.requires.kept)))
+
+pub check_of-pick_of-result-requires : goal.check_of-pick_of-result-requires
+check_of-pick_of-result-requires t c =
+    let set = set_in c.args.indexed.now in
+    let ar = around_view c.args.around.now in
+    pick_made set c.args.indexed.now.can_grow ar c.in-Loop.source c.args.here.items (subst (λ u. IsStepOf set ar (test_view u) c.args.here.items) c.in-Loop.is c.requires.step)
+
+pub check_of-body_of-requires : goal.check_of-body_of-requires
+check_of-body_of-requires t c =
+    let set = set_in c.args.indexed.now in
+    let ar = around_view c.args.around.now in
+    let h = subst (λ u. IsStepOf set ar (test_view u) c.args.here.items) c.in-Loop.is c.requires.step in
+    (search (rules, arith), (c.requires.order, (loop_source set c.args.around.now c.in-Loop.source h.open_here, c.requires.kept)))
+
+pub check_of-returns-in_ok-arms-in-Match : goal.check_of-returns-in_ok-arms-in-Match
+check_of-returns-in_ok-arms-in-Match t c =
+    let set = set_in c.args.indexed.now in
+    let now = around_view c.args.around.now in
+    let s = c.in-Match.source in
+    let arms = c.in_ok-arms-in-Match.arms in
+    record {
+      best = λ ar after. subst (λ u. IsBestBody set ar (test_view u) c.args.here.items (check_view (Match s arms))) (sym c.in-Match.is)
+          (arms_view arms.items, match_seen s arms, c.in_ok-arms-in-Match.ensures.best ar (subst (λ u. IsAfter set ar (test_view u) now) c.in-Match.is after));
+      back = c.in_ok-arms-in-Match.ensures.back;
+    }
+
+pub check_of-returns-in_ok-body-in-Equal : goal.check_of-returns-in_ok-body-in-Equal
+check_of-returns-in_ok-body-in-Equal t c =
+    let set = set_in c.args.indexed.now in
+    let around = c.args.around.now in
+    let here = c.args.here.items in
+    let a = c.in-Equal.a in
+    let b = c.in-Equal.b in
+    let body = c.in_ok-body-in-Equal.body in
+    record {
+      best = λ ar after. subst (λ u. IsBestBody set ar (test_view u) here (check_view (Equal a b body))) (sym c.in-Equal.is)
+          (equal_body set around ar here a b body (subst (λ u. IsAfter set ar (test_view u) (around_view around)) c.in-Equal.is after) c.in_ok-body-in-Equal.ensures.best);
+      back = c.in_ok-body-in-Equal.ensures.back;
+    }
+
+pub check_of-returns-in_ok-body-in-Loop : goal.check_of-returns-in_ok-body-in-Loop
+check_of-returns-in_ok-body-in-Loop t c =
+    let set = set_in c.args.indexed.now in
+    let around = c.args.around.now in
+    let here = c.args.here.items in
+    let call = c.in-Loop.source in
+    let result = c.pick_of-result.result in
+    let body = c.in_ok-body-in-Loop.body in
+    let best = subst (λ n. IsBestFrom set (brings (around_view around) call (n ∷ [])) here (tree_view body)) c.number_of.ensures c.in_ok-body-in-Loop.ensures.best in
+    record {
+      best = λ ar after. subst (λ u. IsBestBody set ar (test_view u) here (check_view (Loop result body))) (sym c.in-Loop.is)
+          (loop_body set around ar here call result body c.pick_of-result.ensures (subst (λ u. IsAfter set ar (test_view u) (around_view around)) c.in-Loop.is after) best);
+      back = c.in_ok-body-in-Loop.ensures.back;
     }
