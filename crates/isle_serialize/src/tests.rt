@@ -1,7 +1,7 @@
 //! What can be tested at a place of a tree, and which test is the greatest. The rules of a place stand in order: by
 //! descending priority, then by their numbers.
 
-ghost use Rattle.std.specs.Prelude.{◌≡◌, ◌≤◌, [], not, IsTrue, option_map, IfOk, MatchOption, length, slice_get};
+ghost use Rattle.std.specs.Prelude.{◌≡◌, ◌≤◌, [], true, false, not, Some, IsTrue, option_map, IfOk, MatchOption, length, slice_get};
 ghost use Rattle.std.specs.List.{filter, prefix_len};
 ghost use Rattle.model.specs.trees.Best.{descend};
 ghost use Rattle.model.specs.trees.Places.{is_in, joins_in};
@@ -10,7 +10,7 @@ ghost use Rattle.isle_rule_sets.specs.SiteViews.{set_rule_view, set_view};
 ghost use Rattle.isle_serialize.specs.Bars as Bars;
 ghost use Rattle.isle_serialize.specs.Bars.{reaches};
 ghost use Rattle.isle_serialize.specs.PlaceViews.{around_at, set_at};
-ghost use Rattle.isle_serialize.specs.TestViews.{test_view, score_view, greater_test, IsGreatestScored, IsScored};
+ghost use Rattle.isle_serialize.specs.TestViews.{test_view, counted_score, score_view, greater_test, IsGreatestScored, IsScored};
 
 use crate::around::is_emitted;
 use crate::parts::part;
@@ -231,12 +231,10 @@ fn cover_count(set: &RuleSet, here: &[usize], test: &Test) -> usize
     leading + needing_count(set, &behind[..reaching], test)
 }
 
-/// The score of a test at a place.
-pub fn score_of(place: &Place<'_>, here: &[usize], test: &Test) -> Score
-    requires { IsTrue (descend (set_at place.now).rules here.now) }
-    ensures { score_view result ≡ Tests.score (set_at place.now) (around_at place.now) here.now (test_view test.now) }
+// The score of a test at a place, where it covers so many rules.
+fn score_by(place: &Place<'_>, test: &Test, count: usize) -> Score
+    ensures { score_view result ≡ counted_score (around_at place.now) (test_view test.now) count }
 {
-    let count = cover_count(place.indexed.set, here, test);
     match test {
         Test::Match { source } => Score {
             count,
@@ -260,6 +258,15 @@ pub fn score_of(place: &Place<'_>, here: &[usize], test: &Test) -> Score
             other: BindingId::from(0),
         },
     }
+}
+
+/// The score of a test at a place.
+pub fn score_of(place: &Place<'_>, here: &[usize], test: &Test) -> Score
+    requires { IsTrue (descend (set_at place.now).rules here.now) }
+    ensures { score_view result ≡ Tests.score (set_at place.now) (around_at place.now) here.now (test_view test.now) }
+{
+    let count = cover_count(place.indexed.set, here, test);
+    score_by(place, test, count)
 }
 
 /// Whether a score is greater than another: more rules, then emitted sites, then a match before an equality before a
@@ -303,20 +310,41 @@ fn with_score(place: &Place<'_>, here: &[usize], test: &Test) -> Scored
     }
 }
 
-// The greater one of a test whose score is known and of another one.
+// Whether the score of a test can't be greater than this one, though the test covered all rules.
+fn stays_below(place: &Place<'_>, here: &[usize], test: &Test, best: Score) -> bool
+    ensures { result ≡ true → Tests.is_greater (Tests.score (set_at place.now) (around_at place.now) here.now (test_view test.now)) (score_view best) ≡ false }
+{
+    let most = score_by(place, test, here.len());
+    !is_greater(most, best)
+}
+
+// The greater one of a test whose score is known and of another one, which is scored only where that may be the other.
+fn greater_of_two(place: &Place<'_>, here: &[usize], best: Scored, test: &Test) -> Scored
+    requires order { IsTrue (descend (set_at place.now).rules here.now) }
+    requires best { IsScored (set_at place.now) (around_at place.now) here.now best }
+    ensures test { result.test ≡ greater_test (set_at place.now) (around_at place.now) here.now (Some best.test) test.now }
+    ensures score { IsScored (set_at place.now) (around_at place.now) here.now result }
+{
+    if stays_below(place, here, test, best.score) {
+        return best;
+    }
+    let next = with_score(place, here, test);
+    if is_greater(next.score, best.score) {
+        next
+    } else {
+        best
+    }
+}
+
+// The greater one of a test and of another one, if there is one.
 fn greater_of(place: &Place<'_>, here: &[usize], best: Option<Scored>, test: &Test) -> Scored
     requires order { IsTrue (descend (set_at place.now).rules here.now) }
     requires best { MatchOption best (Unit {0}) (IsScored (set_at place.now) (around_at place.now) here.now) }
     ensures test { result.test ≡ greater_test (set_at place.now) (around_at place.now) here.now (option_map (λ s. s.test) best) test.now }
     ensures score { IsScored (set_at place.now) (around_at place.now) here.now result }
 {
-    let next = with_score(place, here, test);
     match best {
-        Some(other) => if is_greater(next.score, other.score) {
-            next
-        } else {
-            other
-        },
-        None => next,
+        Some(other) => greater_of_two(place, here, other, test),
+        None => with_score(place, here, test),
     }
 }
