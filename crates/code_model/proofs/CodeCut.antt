@@ -4,7 +4,7 @@ use Rattle.std.proofs.lemmas.Bool.{false≢true, true≢false, cases_Bool}
 use Rattle.std.proofs.lemmas.List.{append_assoc, append-nil, length_push, length-append, take_at}
 use Rattle.model.specs.rules.Values.{Value, Values, value_eq}
 use Rattle.model.specs.rules.Meaning.{Content, one, parts, nothing, just, many, contents, pure_answer, impure_answer}
-use Rattle.model.specs.rules.Outcome.{Call}
+use Rattle.model.specs.rules.Outcome.{Call, ended}
 use Rattle.model.specs.trees.Run.{World, Env, bound_to, Bound, all_bound, unwrap_failed, no_content_there, now_bound, unwrapped, constructed, Trace, content_fields, bind_fields, at_start}
 use Rattle.code_model.specs.Code.{Expr, truth_written, read, extraction, call, variant_of, struct_of, some_of, Block, no_statement, statement, Statement, bind, bind_some, no_way, match_on, if_equal, for_each_of, give, labelled, unless_let, unless_equal, CodeArms, no_code_arm, code_arm}
 use Rattle.code_model.specs.CodeRuns.{held, held_value, held_values, bind_expr, Flow, goes_on, leaves, returns, fails, sticks, then_flow, in_braces, in_label, flow_of_bound, at_least, with_result, after_result, give_content, with_bindings, where_met, on_content, where_equal, each_flow, on_answers, run_block, run_statement, run_code_arms, outcome_of}
@@ -165,13 +165,14 @@ module _ (w : World) where
     arms_begin (code_arm pattern fields body rest) c env t =
         met_begins (content_fields w.meaning pattern c) fields env t (λ env'. run_block body w None env' t) (run_code_arms rest w None c env t) (λ env'. block_begins body env' t) (arms_begin rest c env t)
 
--- 2. the flow with a bound beside that without: the same while there is room, or a return that came first
+-- 2. the flow with a bound beside that without: the same while there is room, or a return that came first. A return alone fills
+-- the last room
 abbrev Under : ℕ → Flow → Type 0
 Under n (goes_on env t) = length t.results < n
 Under n (leaves t) = length t.results < n
 Under n (returns t) = length t.results ≤ n
-Under n (fails t) = length t.results ≤ n
-Under n (sticks t) = length t.results ≤ n
+Under n (fails t) = length t.results < n
+Under n (sticks t) = length t.results < n
 
 record Stopped (n : ℕ) (f g : Flow) : Type 0 where
   at : Trace
@@ -222,15 +223,15 @@ below_at_most m n h = omega (arith, h)
 
 cut_bound : (n : ℕ) (b : Bound) (t : Trace) → length t.results < n → Cut n (flow_of_bound b t) (flow_of_bound b t)
 cut_bound n (all_bound env calls) t u = inl (refl, u)
-cut_bound n (unwrap_failed calls) t u = inl (refl, below_at_most _ _ u)
-cut_bound n (no_content_there calls) t u = inl (refl, below_at_most _ _ u)
+cut_bound n (unwrap_failed calls) t u = inl (refl, u)
+cut_bound n (no_content_there calls) t u = inl (refl, u)
 
 cut_content : (n : ℕ) (o : Option Content) (t : Trace) (go ho : Content → Flow) → length t.results < n → ((c : Content) → Cut n (go c) (ho c)) → Cut n (on_content o t go) (on_content o t ho)
-cut_content n None t go ho u h = inl (refl, below_at_most _ _ u)
+cut_content n None t go ho u h = inl (refl, u)
 cut_content n (Some c) t go ho u h = h c
 
 cut_bindings : (n : ℕ) (o : Option Env) (t : Trace) (go ho : Env → Flow) → length t.results < n → ((env : Env) → Cut n (go env) (ho env)) → Cut n (with_bindings o t go) (with_bindings o t ho)
-cut_bindings n None t go ho u h = inl (refl, below_at_most _ _ u)
+cut_bindings n None t go ho u h = inl (refl, u)
 cut_bindings n (Some env) t go ho u h = h env
 
 cut_met : (n : ℕ) (o : Option (List Content)) (fields : List (Option ℕ)) (env : Env) (t : Trace) (go ho : Env → Flow) (f g : Flow)
@@ -243,8 +244,8 @@ cut_if n true f g x y h k = h
 cut_if n false f g x y h k = k
 
 cut_equal : (n : ℕ) (a b : Option Value) (t : Trace) (f g x y : Flow) → length t.results < n → Cut n f x → Cut n g y → Cut n (where_equal a b t f g) (where_equal a b t x y)
-cut_equal n None b t f g x y u h k = inl (refl, below_at_most _ _ u)
-cut_equal n (Some v) None t f g x y u h k = inl (refl, below_at_most _ _ u)
+cut_equal n None b t f g x y u h k = inl (refl, u)
+cut_equal n (Some v) None t f g x y u h k = inl (refl, u)
 cut_equal n (Some v) (Some z) t f g x y u h k = cut_if n (value_eq v z) f g x y h k
 
 cut_each : (n : ℕ) (cs : List Content) (go ho : Content → Trace → Flow) (env : Env) → ((c : Content) (t : Trace) → length t.results < n → Cut n (go c t) (ho c t))
@@ -256,11 +257,11 @@ cut_each n (c ∷ cs) go ho env h b t u =
 
 cut_answers : (n : ℕ) (o : Option Content) (go ho : Content → Trace → Flow) (env : Env) (t : Trace) → length t.results < n → ((c : Content) (t : Trace) → length t.results < n → Cut n (go c t) (ho c t))
     → ((c : Content) (t : Trace) → Begins t (trace_of (go c t))) → Cut n (on_answers o go env t) (on_answers o ho env t)
-cut_answers n None go ho env t u h b = inl (refl, below_at_most _ _ u)
-cut_answers n (Some (one v)) go ho env t u h b = inl (refl, below_at_most _ _ u)
-cut_answers n (Some (parts vs)) go ho env t u h b = inl (refl, below_at_most _ _ u)
-cut_answers n (Some nothing) go ho env t u h b = inl (refl, below_at_most _ _ u)
-cut_answers n (Some (just c)) go ho env t u h b = inl (refl, below_at_most _ _ u)
+cut_answers n None go ho env t u h b = inl (refl, u)
+cut_answers n (Some (one v)) go ho env t u h b = inl (refl, u)
+cut_answers n (Some (parts vs)) go ho env t u h b = inl (refl, u)
+cut_answers n (Some nothing) go ho env t u h b = inl (refl, u)
+cut_answers n (Some (just c)) go ho env t u h b = inl (refl, u)
 cut_answers n (Some (many cs)) go ho env t u h b = cut_each n (contents cs) go ho env h b t u
 
 -- a result
@@ -287,7 +288,7 @@ cut_result n true env t c u = go (cases_Bool (at_least n (length (t.results ++ c
     go (inr e) = inl (ap (λ b. if b then returns (with_result t c) else goes_on env (with_result t c)) e, not_reached n (length (t.results ++ c ∷ [])) e)
 
 cut_give : (n : ℕ) (o : Option Content) (multi : Bool) (env : Env) (t : Trace) → length t.results < n → Cut n (give_content o multi None env t) (give_content o multi (Some n) env t)
-cut_give n None multi env t u = inl (refl, below_at_most _ _ u)
+cut_give n None multi env t u = inl (refl, u)
 cut_give n (Some c) multi env t u = cut_result n multi env t c u
 
 module _ (w : World) (n : ℕ) where
@@ -300,7 +301,7 @@ module _ (w : World) (n : ℕ) where
     statement_cut : (s : Statement) (env : Env) (t : Trace) → length t.results < n → Cut n (run_statement s w None env t) (run_statement s w (Some n) env t)
     statement_cut (bind v e) env t u = cut_bound n (bind_expr w env t.calls v e) t u
     statement_cut (bind_some v x) env t u = cut_bound n (unwrapped env t.calls v (held w env x.place)) t u
-    statement_cut no_way env t u = inl (refl, below_at_most _ _ u)
+    statement_cut no_way env t u = inl (refl, u)
     statement_cut (match_on x arms) env t u =
         cut_braces n env (on_content (held w env x.place) t (λ c. run_code_arms arms w None c env t)) (on_content (held w env x.place) t (λ c. run_code_arms arms w (Some n) c env t))
         (cut_content n (held w env x.place) t (λ c. run_code_arms arms w None c env t) (λ c. run_code_arms arms w (Some n) c env t) u (λ c. arms_cut arms c env t u))
@@ -341,8 +342,16 @@ room : (n : ℕ) (f : Flow) → Under n f → length (trace_of f).results ≤ n
 room n (goes_on env t) u = below_at_most _ _ u
 room n (leaves t) u = below_at_most _ _ u
 room n (returns t) u = u
-room n (fails t) u = u
-room n (sticks t) u = u
+room n (fails t) u = below_at_most _ _ u
+room n (sticks t) u = below_at_most _ _ u
+
+-- what has no room left returned
+full_returns : (n : ℕ) (f : Flow) → Under n f → n ≤ length (outcome_of f).results → (outcome_of f).ending ≡ ended
+full_returns n (goes_on env t) u h = absurd (omega (arith, u, h))
+full_returns n (leaves t) u h = absurd (omega (arith, u, h))
+full_returns n (returns t) u h = refl
+full_returns n (fails t) u h = absurd (omega (arith, u, h))
+full_returns n (sticks t) u h = absurd (omega (arith, u, h))
 
 all_taken : {X : Type 0} (n : ℕ) (xs : List X) → length xs ≤ n → xs ≡ take n xs
 all_taken zero [] h = refl
@@ -356,12 +365,14 @@ outcomes_cut n f g (inl e) =
       results = ap (λ x. (outcome_of x).results) e.0 ∙ results_of f ∙ all_taken n (trace_of f).results (room n f e.1) ∙ ap (take n) (sym (results_of f));
       calls = subst (λ x. IsBeginning (outcome_of x).calls (outcome_of f).calls) (sym e.0) (beginning_self (outcome_of f).calls);
       below = λ h. ap outcome_of e.0;
+      ending = λ h. ap (λ x. (outcome_of x).ending) e.0 ∙ full_returns n f e.1 h;
     }
 outcomes_cut n f g (inr s) =
     record {
       results = ap (λ x. (outcome_of x).results) s.same ∙ sym (take_at s.at.results s.begins.results.0 n s.full) ∙ ap (take n) (sym s.begins.results.1) ∙ ap (take n) (sym (results_of f));
       calls = (s.begins.calls.0, calls_made f ∙ s.begins.calls.1 ∙ ap (λ x. (outcome_of x).calls ++ s.begins.calls.0) (sym s.same));
       below = λ h. let l = ap length (results_of f ∙ s.begins.results.1) ∙ length-append s.at.results s.begins.results.0 in let k = s.full in absurd (omega (arith, l, k, h));
+      ending = λ h. ap (λ x. (outcome_of x).ending) s.same;
     }
 
 pub code_stops_at_bound_lem : CodeStopsAtBound

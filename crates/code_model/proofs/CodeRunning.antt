@@ -10,7 +10,7 @@ use Rattle.model.specs.trees.Places.{is_in_place}
 use Rattle.model.specs.trees.Run.{World, Env, bound_to, as_value, from_value, part_at, in_place, or_else, used, used_value, used_values, Bound, all_bound, unwrap_failed, no_content_there, now_bound, unwrapped, constructed, bind_site, then_bind, bind_all, Trace, ending_at, with_calls, on_bound, or_next, content_fields, bind_fields, with_env, with_content, on_met, on_equal, for_each, on_many, iterated, returned, run_tree, run_check, run_arms, at_start}
 use Rattle.code_model.specs.Code.{Block, statement}
 use Rattle.code_model.specs.CodeRuns.{held, held_value, held_values, Flow, goes_on, leaves, returns, fails, sticks, then_flow, in_braces, flow_of_bound, give_content, with_bindings, where_met, on_content, where_equal, each_flow, on_answers, run_block, run_statement, run_code_arms, outcome_of}
-use Rattle.code_model.specs.TreeCode.{Taker, to_parameter, to_field, to_compare, Passes, place_of, use_at, arguments_from, fields_of, bind_code, binds_code, loop_code, tree_code, check_code, arms_code}
+use Rattle.code_model.specs.TreeCode.{Taker, to_extractor, to_parameter, to_field, to_compare, Passes, place_of, use_at, arguments_from, fields_of, bind_code, binds_code, loop_code, tree_code, check_code, arms_code}
 use Rattle.code_model.specs.CodeLaws.{not_in_place, none_in_place, no_field_in_place, binds_none_in_place, check_binds_none, arms_bind_none, CodeRunsAsTree}
 
 pub left_of : (a b : Bool) → (a && b) ≡ true → a ≡ true
@@ -25,7 +25,7 @@ right_of false b h = absurd (false≢true h)
 abbrev Clean : List Site → Env → Type 0
 Clean sites env = (s : ℕ) → is_in_place (slice_get sites s) ≡ true → bound_to env s ≡ None
 
-outside : (b : Bool) → (if b then false else true) ≡ true → b ≡ false
+pub outside : (b : Bool) → (if b then false else true) ≡ true → b ≡ false
 outside true h = absurd (false≢true h)
 outside false h = refl
 
@@ -87,7 +87,7 @@ module _ (w : World) (env : Env) (p : Passes) (clean : Clean w.sites env) where
   binds_site t s (Some (int_site z ty)) h = absurd (true≢false h)
   binds_site t s (Some (prim_site name)) h = absurd (true≢false h)
   binds_site t s (Some (argument_site i)) h = absurd (true≢false h)
-  binds_site t s (Some (extractor_site term source)) h = ap (λ o. flow_of_bound (now_bound env t.calls s (then_option o (extractor_answer w.meaning term))) t) (value_used (to_parameter term 0) source)
+  binds_site t s (Some (extractor_site term source)) h = ap (λ o. flow_of_bound (now_bound env t.calls s (then_option o (extractor_answer w.meaning term))) t) (value_used (to_extractor term) source)
   binds_site t s (Some (constructor_site term sources instance)) h = ap (λ o. flow_of_bound (constructed w env t.calls s term instance o) t) (arguments_used term 0 sources)
   binds_site t s (Some (iterator_site source)) h = refl
   binds_site t s (Some (make_variant_site ty variant [])) h = absurd (true≢false h)

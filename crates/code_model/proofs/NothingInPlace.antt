@@ -11,28 +11,23 @@ use Rattle.model.specs.trees.Best.{BestSteps, BestCheck, BestArms}
 use Rattle.code_model.specs.CodeLaws.{not_in_place, none_in_place, no_field_in_place, binds_none_in_place, check_binds_none, arms_bind_none, BestTreesBindNoneInPlace}
 
 -- 1. the sites of fields
-plus_zero : (n : ℕ) → n ≡ n + 0
-plus_zero n = omega arith
-
-plus_suc : (n k : ℕ) → suc n + k ≡ n + suc k
-plus_suc n k = omega arith
-
-module _ (p : Site → Bool) where
-  site_from_is : (sites : List Site) (n x : ℕ) → site_from n p sites ≡ Some x → (k : ℕ) × (b : Site) × (x ≡ n + k) × (slice_get sites k ≡ Some b) × (p b ≡ true)
-  site_from_is [] n x e = absurd (none-some x e)
-  site_from_is (b ∷ sites) n x e =
+module _ (p : Site → Bool) (out : (b : Site) → p b ≡ true → is_in_place (Some b) ≡ false) where
+  -- the first that passes isn't written in place
+  first_outside : (sites : List Site) (n x : ℕ) → site_from n p sites ≡ Some x → (k : ℕ) × (x ≡ n + k) × (is_in_place (slice_get sites k) ≡ false)
+  first_outside [] n x e = absurd (none-some x e)
+  first_outside (b ∷ sites) n x e =
       elim (cases_Bool (p b)) [
-        | inl t ↦ (0, b, sym (same_Some n x (sym (cond-true (p b) (Some n) (site_from (suc n) p sites) t) ∙ e)) ∙ plus_zero n, refl, t)
+        | inl t ↦ let q = same_Some n x (sym (cond-true (p b) (Some n) (site_from (suc n) p sites) t) ∙ e) in (0, omega (arith, q), out b t)
         | inr f ↦
-            let r = site_from_is sites (suc n) x (sym (cond-false (p b) (Some n) (site_from (suc n) p sites) f) ∙ e) in
-            (suc r.0, r.1, r.2 ∙ plus_suc n r.0, r.3, r.4)
+            let r = first_outside sites (suc n) x (sym (cond-false (p b) (Some n) (site_from (suc n) p sites) f) ∙ e) in
+            (suc r.0, omega (arith, r.1), r.2)
       ]
 
-  site_outside : ((b : Site) → p b ≡ true → is_in_place (Some b) ≡ false) → (sites : List Site) (x : ℕ) → site_from 0 p sites ≡ Some x → not_in_place sites x ≡ true
-  site_outside out sites x e =
-      let r = site_from_is sites 0 x e in
-      let same : x ≡ r.0 = (let q = r.2 in omega arith) in
-      ap (λ b. if b then false else true) (ap (λ y. is_in_place (slice_get sites y)) same ∙ ap is_in_place r.3 ∙ out r.1 r.4)
+  site_outside : (sites : List Site) (x : ℕ) → site_from 0 p sites ≡ Some x → not_in_place sites x ≡ true
+  site_outside sites x e =
+      let r = first_outside sites 0 x e in
+      let same : x ≡ r.0 = (let q = r.1 in omega arith) in
+      ap (λ b. if b then false else true) (ap (λ y. is_in_place (slice_get sites y)) same ∙ r.2)
 
 variant_outside : (s v i : ℕ) (b : Site) → is_variant_field s v i b ≡ true → is_in_place (Some b) ≡ false
 variant_outside s v i (bool_site b ty) h = refl

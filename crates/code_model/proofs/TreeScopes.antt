@@ -1,5 +1,5 @@
 -- The code of a tree that binds sites before it uses them reads what is in scope, by induction on the marked tree.
-use Rattle.std.proofs.Common.{◌≡◌, ◌⊎◌, inl, inr, ℕ, suc, ◌<◌, ◌&&◌, ◌||◌, Bool, true, false, not, if◌then◌else◌, List, [], ◌∷◌, ◌++◌, length, Option, Some, None, slice_get, Contains, refl, sym, ap, subst, ◌∙◌}
+use Rattle.std.proofs.Common.{◌≡◌, inl, inr, ℕ, suc, ◌<◌, ◌&&◌, ◌||◌, Bool, true, false, not, if◌then◌else◌, List, [], ◌∷◌, ◌++◌, length, Option, Some, None, slice_get, Contains, refl, sym, ap, subst, ◌∙◌}
 use Rattle.std.specs.List.{list_all}
 use Rattle.std.proofs.lemmas.Bool.{and_parts, and_from, false≢true, true≢false}
 use Rattle.std.proofs.lemmas.Option.{none-some}
@@ -9,26 +9,20 @@ use Rattle.model.specs.trees.Trees.{Marked, m_no_step, m_step, MarkedCheck, m_ma
 use Rattle.model.specs.trees.Places.{is_in, is_in_place, return_uses, uses, field_sites}
 use Rattle.model.specs.trees.Sound.{is_return}
 use Rattle.model.specs.claims.Layers.{gone_over, can_be_used, brings_new, binds_once, binds_before_use, binds_in_check, binds_in_arms}
+use Rattle.model.proofs.Elements.{or_split}
 use Rattle.model.proofs.Members.{nothing_in, in_head, in_tail, in_cases, each_passes, member_found, member_is_in, get_within}
 use Rattle.code_model.specs.Code.{Block, statement, Statement, bind, bind_some, no_way, match_on, if_equal, for_each_of, give, labelled, unless_let, unless_equal}
 use Rattle.code_model.specs.TreeCode.{Passes, place_of, arguments_from, fields_of, bind_code, binds_code, loop_code, tree_code, check_code, arms_code}
 use Rattle.code_model.specs.CodeLaws.{not_in_place, none_in_place, no_field_in_place, binds_none_in_place, check_binds_none, arms_bind_none}
 use Rattle.code_model.specs.Scopes.{knows, knows_all, scope_after, unless_ended, block_scoped, statement_scoped, arms_scoped, LoopsAreOverBound, PrintedCodeIsScoped}
+use Rattle.code_model.proofs.CodeRunning.{outside}
 use Rattle.code_model.proofs.FlatScopes.{flat_keeps_scopes_lem}
 use Rattle.code_model.proofs.NothingInPlace.{best_trees_bind_none_in_place_lem}
 use Rattle.code_model.proofs.PrintedCode.{tree_unlabelled}
 
-or_split : (a b : Bool) → (a || b) ≡ true → (a ≡ true) ⊎ (b ≡ true)
-or_split true b h = inl refl
-or_split false b h = inr h
-
 first_only : (a : Bool) → (a || false) ≡ true → a ≡ true
 first_only true h = refl
 first_only false h = absurd (false≢true h)
-
-outside : (b : Bool) → (if b then false else true) ≡ true → b ≡ false
-outside true h = absurd (false≢true h)
-outside false h = refl
 
 abbrev made_of : Option Site → List ℕ
 made_of o = elim o as (λ _. List ℕ) [ None ↦ [] | Some b ↦ sources_of b ]

@@ -1,11 +1,11 @@
 -- The code of a tree runs as the tree.
-use Rattle.std.specs.Prelude.{◌≡◌, ◌<◌, ◌&&◌, ◌++◌, length, take, ℕ, suc, Bool, true, false, List, [], ◌∷◌, Option, Some, None, slice_get, if◌then◌else◌}
+use Rattle.std.specs.Prelude.{◌≡◌, ◌<◌, ◌≤◌, ◌&&◌, ◌++◌, length, take, ℕ, suc, Bool, true, false, List, [], ◌∷◌, Option, Some, None, slice_get, if◌then◌else◌}
 use Rattle.model.specs.sites.Sites.{Site, SiteSet}
 use Rattle.model.specs.trees.Trees.{Tree, no_step, step, Check, match_at, equal_at, loop_at, return_at, Arms, no_arm, arm}
 use Rattle.model.specs.trees.Best.{IsBestTree}
 use Rattle.model.specs.trees.Places.{is_in_place}
 use Rattle.model.specs.trees.Run.{World, run}
-use Rattle.model.specs.rules.Outcome.{Outcome}
+use Rattle.model.specs.rules.Outcome.{ended, Outcome}
 use Rattle.code_model.specs.Code.{Block}
 use Rattle.code_model.specs.CodeRuns.{code_run}
 use Rattle.code_model.specs.TreeCode.{Passes, tree_code}
@@ -47,12 +47,14 @@ CodeRunsAsTree =
 abbrev pub IsBeginning : {X : Type 0} → List X → List X → Type 0
 IsBeginning {X} xs ys = (more : List X) × (ys ≡ xs ++ more)
 
--- a run that stopped where its list of results was full, beside the whole run: the first results, the calls up to there, and
--- all of it where there are fewer results
+-- a run that stopped where its list of results was full, beside the whole run: the first results, and a return; all of it
+-- where there are fewer results. Of calls it made some first ones. How many isn't said here, since an outcome doesn't say which
+-- calls came before which result: the run itself makes none after the last result that it gives
 pub record IsCut (most : ℕ) (whole part : Outcome) : Type 0 where
   pub results : part.results ≡ take most whole.results
   pub calls : IsBeginning part.calls whole.calls
   pub below : length whole.results < most → part ≡ whole
+  pub ending : most ≤ length whole.results → part.ending ≡ ended
 
 -- with a bound of results the code of whatever function does what it does without one, cut there
 abbrev pub CodeStopsAtBound : Type 0

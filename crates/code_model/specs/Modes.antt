@@ -1,10 +1,11 @@
 -- Modes, on code as data: each use gives what is wanted there, a reference or a value, and what isn't Copy is given away by
--- nothing but the return that ends the function (and a loop, which takes the call that it goes over).
-use Rattle.std.specs.Prelude.{[], ◌≡◌, ◌&&◌, ◌||◌, ◌∷◌, ℕ, suc, Bool, true, false, not, List, Option, Some, None, slice_get}
-use Rattle.model.specs.sites.Sites.{Site, bool_site, extractor_site, constructor_site, iterator_site, make_variant_site, make_struct_site, make_some_site, match_some_site, Constraint, is_variant, is_struct, is_present}
+-- nothing but the return that ends the function, or where moves may stand for clones (and by a loop, which takes the call that it goes
+-- over).
+use Rattle.std.specs.Prelude.{[], ◌≡◌, ◌&&◌, ◌||◌, ◌∷◌, ℕ, suc, Bool, true, false, not, List, Option, Some, None, slice_get, Contains}
+use Rattle.model.specs.sites.Sites.{Site, bool_site, extractor_site, constructor_site, iterator_site, make_variant_site, make_struct_site, make_some_site, match_some_site, match_variant_site, extract_struct_site, Constraint, is_variant, is_struct, is_present, SetRule, SiteSet}
 use Rattle.model.specs.trees.Trees.{Tree, no_step, step, Check, match_at, equal_at, loop_at, return_at, Arms, no_arm, arm}
 use Rattle.code_model.specs.Code.{Place, variable, parameter, part_of, Pass, as_it_is, lent, cloned, seen_through, Use, Expr, truth_written, read, extraction, call, variant_of, struct_of, some_of, Block, no_statement, statement, Statement, bind, bind_some, no_way, match_on, if_equal, for_each_of, give, labelled, unless_let, unless_equal, CodeArms, no_code_arm, code_arm}
-use Rattle.code_model.specs.TreeCode.{Taker, to_parameter, to_field, to_some, to_match, to_compare, to_result, Passes, place_of, tree_code}
+use Rattle.code_model.specs.TreeCode.{Taker, to_extractor, to_parameter, to_field, to_some, to_match, to_compare, to_result, Passes, place_of, tree_code}
 use Rattle.code_model.specs.Flat.{unlabelled, flat}
 
 pub data Mode : Type 0 where
@@ -12,11 +13,12 @@ pub data Mode : Type 0 where
   a_reference : Mode
 
 -- what types say: whether a variable and a parameter is a reference, whether what stands at a place is Copy, and whether a
--- term's function takes a parameter by reference
+-- term's extractor, and its constructor at a parameter, take it by reference
 pub record Types : Type 0 where
   pub variables : ℕ → Mode
   pub parameters : ℕ → Mode
   pub is_copy : Place → Bool
+  pub extracts_reference : (term : ℕ) → Bool
   pub takes_reference : (term i : ℕ) → Bool
 
 -- a part of a tuple is a place of its own, also behind a reference
@@ -80,19 +82,21 @@ abbrev pub fits_reference : Given → Bool
 fits_reference gives_reference = true
 fits_reference _ = false
 
-abbrev pub fits_value : Given → Bool
-fits_value gives_value = true
-fits_value _ = false
+-- to keep; `away` says whether what isn't Copy may be given away there
+abbrev pub fits_value : Bool → Given → Bool
+fits_value away gives_value = true
+fits_value away gives_away = away
+fits_value away _ = false
 
 abbrev pub fits_parameter : Bool → Given → Bool
 fits_parameter true g = fits_reference g
-fits_parameter false g = fits_value g
+fits_parameter false g = fits_value false g
 
 -- a result may be given away where it ends the function
-abbrev pub fits_result : Bool → Given → Bool
-fits_result multi gives_value = true
-fits_result multi gives_away = not multi
-fits_result multi _ = false
+abbrev pub fits_result : (multi away : Bool) → Given → Bool
+fits_result multi away gives_value = true
+fits_result multi away gives_away = away || not multi
+fits_result multi away _ = false
 
 -- both are references, or neither
 abbrev pub fits_equal : Given → Given → Bool
@@ -106,8 +110,8 @@ fits_equal _ _ = true
 abbrev pub fits_pattern : Constraint → Given → Bool
 fits_pattern (is_variant ty variant fields) g = fits_reference g
 fits_pattern (is_struct ty fields) g = fits_reference g
-fits_pattern is_present g = fits_reference g || fits_value g
-fits_pattern _ g = fits_value g
+fits_pattern is_present g = fits_reference g || fits_value false g
+fits_pattern _ g = fits_value false g
 
 abbrev pub fits_inside : Types → Given → ℕ → Bool
 fits_inside types gives_reference v = not (is_value (types.variables v))
@@ -127,40 +131,40 @@ abbrev pub fits_parameters : Types → (term i : ℕ) → List Use → Bool
 fits_parameters types term i [] = true
 fits_parameters types term i (u ∷ us) = fits_parameter (types.takes_reference term i) (given types u) && fits_parameters types term (suc i) us
 
-abbrev pub fit_values : Types → List Use → Bool
-fit_values types [] = true
-fit_values types (u ∷ us) = fits_value (given types u) && fit_values types us
+abbrev pub fit_values : Types → Bool → List Use → Bool
+fit_values types away [] = true
+fit_values types away (u ∷ us) = fits_value away (given types u) && fit_values types away us
 
 -- what a call answers is bound by `let v = &C::f(..)` where v is a reference
-abbrev pub expr_fits : Types → ℕ → Expr → Bool
-expr_fits types v (truth_written b ty) = is_value (types.variables v)
-expr_fits types v (read u) = is_value (types.variables v) && fits_value (given types u)
-expr_fits types v (extraction term u) = fits_parameter (types.takes_reference term 0) (given types u)
-expr_fits types v (call term us instance) = fits_parameters types term 0 us
-expr_fits types v (variant_of ty variant us) = is_value (types.variables v) && fit_values types us
-expr_fits types v (struct_of ty us) = is_value (types.variables v) && fit_values types us
-expr_fits types v (some_of u) = is_value (types.variables v) && fits_value (given types u)
+abbrev pub expr_fits : Types → Bool → ℕ → Expr → Bool
+expr_fits types away v (truth_written b ty) = is_value (types.variables v)
+expr_fits types away v (read u) = is_value (types.variables v) && fits_value away (given types u)
+expr_fits types away v (extraction term u) = fits_parameter (types.extracts_reference term) (given types u)
+expr_fits types away v (call term us instance) = fits_parameters types term 0 us
+expr_fits types away v (variant_of ty variant us) = is_value (types.variables v) && fit_values types away us
+expr_fits types away v (struct_of ty us) = is_value (types.variables v) && fit_values types away us
+expr_fits types away v (some_of u) = is_value (types.variables v) && fits_value away (given types u)
 
 abbrev mutual
-  pub block_fits : Types → Bool → Block → Bool
-  block_fits types multi no_statement = true
-  block_fits types multi (statement s rest) = statement_fits types multi s && block_fits types multi rest
+  pub block_fits : Types → (multi away : Bool) → Block → Bool
+  block_fits types multi away no_statement = true
+  block_fits types multi away (statement s rest) = statement_fits types multi away s && block_fits types multi away rest
 
-  pub statement_fits : Types → Bool → Statement → Bool
-  statement_fits types multi (bind v e) = expr_fits types v e
-  statement_fits types multi (bind_some v u) = fits_inside types (given types u) v
-  statement_fits types multi no_way = true
-  statement_fits types multi (match_on u arms) = arms_fit types multi (given types u) arms
-  statement_fits types multi (if_equal a b body) = fits_equal (given types a) (given types b) && block_fits types multi body
-  statement_fits types multi (for_each_of v from body) = (is_value (types.variables v) && is_value (types.variables from)) && block_fits types multi body
-  statement_fits types multi (give at u) = fits_result multi (given types u)
-  statement_fits types multi (labelled body) = block_fits types multi body
-  statement_fits types multi (unless_let u pattern fields) = fits_pattern pattern (given types u) && fits_fields types pattern (given types u) fields
-  statement_fits types multi (unless_equal a b) = fits_equal (given types a) (given types b)
+  pub statement_fits : Types → (multi away : Bool) → Statement → Bool
+  statement_fits types multi away (bind v e) = expr_fits types away v e
+  statement_fits types multi away (bind_some v u) = fits_inside types (given types u) v
+  statement_fits types multi away no_way = true
+  statement_fits types multi away (match_on u arms) = arms_fit types multi away (given types u) arms
+  statement_fits types multi away (if_equal a b body) = fits_equal (given types a) (given types b) && block_fits types multi away body
+  statement_fits types multi away (for_each_of v from body) = (is_value (types.variables v) && is_value (types.variables from)) && block_fits types multi away body
+  statement_fits types multi away (give at u) = fits_result multi away (given types u)
+  statement_fits types multi away (labelled body) = block_fits types multi away body
+  statement_fits types multi away (unless_let u pattern fields) = fits_pattern pattern (given types u) && fits_fields types pattern (given types u) fields
+  statement_fits types multi away (unless_equal a b) = fits_equal (given types a) (given types b)
 
-  pub arms_fit : Types → Bool → Given → CodeArms → Bool
-  arms_fit types multi g no_code_arm = true
-  arms_fit types multi g (code_arm pattern fields body rest) = (fits_pattern pattern g && fits_fields types pattern g fields) && (block_fits types multi body && arms_fit types multi g rest)
+  pub arms_fit : Types → (multi away : Bool) → Given → CodeArms → Bool
+  arms_fit types multi away g no_code_arm = true
+  arms_fit types multi away g (code_arm pattern fields body rest) = (fits_pattern pattern g && fits_fields types pattern g fields) && (block_fits types multi away body && arms_fit types multi away g rest)
 
 -- how sites are handed on, by types
 abbrev pub lend : Mode → (copy : Bool) → Pass
@@ -182,6 +186,7 @@ look_at a_reference a_value = seen_through
 look_at _ _ = as_it_is
 
 abbrev pub pass_at : Types → Bool → (ℕ → Place) → Place → Taker → Pass
+pass_at types multi at place (to_extractor term) = lend (mode_at types place) (types.is_copy place)
 pass_at types multi at place (to_parameter term i) = lend (mode_at types place) (types.is_copy place)
 pass_at types multi at place to_field = keep_or_clone (is_new place || types.is_copy place)
 pass_at types multi at place to_some = keep_or_clone (is_new place || types.is_copy place)
@@ -209,12 +214,12 @@ abbrev pub takes_what_is : (by_reference copy : Bool) → Bool
 takes_what_is true copy = not copy
 takes_what_is false copy = copy
 
-abbrev pub argument_typed : Types → (term i : ℕ) → Place → Bool
-argument_typed types term i place = is_typed_at types place && takes_what_is (types.takes_reference term i) (types.is_copy place)
+abbrev pub argument_typed : Types → (by_reference : Bool) → Place → Bool
+argument_typed types by_reference place = is_typed_at types place && takes_what_is by_reference (types.is_copy place)
 
 abbrev pub arguments_typed : Types → List Site → (term i : ℕ) → List ℕ → Bool
 arguments_typed types sites term i [] = true
-arguments_typed types sites term i (s ∷ rest) = argument_typed types term i (place_in sites s) && arguments_typed types sites term (suc i) rest
+arguments_typed types sites term i (s ∷ rest) = argument_typed types (types.takes_reference term i) (place_in sites s) && arguments_typed types sites term (suc i) rest
 
 abbrev pub fields_typed : Types → List Site → List ℕ → Bool
 fields_typed types sites [] = true
@@ -224,13 +229,20 @@ abbrev pub inside_typed : Types → (copy : Bool) → ℕ → Bool
 inside_typed types true v = is_value (types.variables v) && types.is_copy (variable v)
 inside_typed types false v = not (is_value (types.variables v))
 
+-- a field that isn't Copy is seen by reference
+abbrev pub is_seen : Types → ℕ → Bool
+is_seen types v = not (is_value (types.variables v)) || types.is_copy (variable v)
+
 abbrev pub site_typed : Types → List Site → ℕ → Option Site → Bool
 site_typed types sites s (Some (bool_site b ty)) = is_value (types.variables s)
-site_typed types sites s (Some (extractor_site term source)) = argument_typed types term 0 (place_in sites source)
+site_typed types sites s (Some (extractor_site term source)) = argument_typed types (types.extracts_reference term) (place_in sites source)
 site_typed types sites s (Some (constructor_site term sources instance)) = arguments_typed types sites term 0 sources
 site_typed types sites s (Some (make_variant_site ty variant fields)) = is_value (types.variables s) && fields_typed types sites fields
 site_typed types sites s (Some (make_struct_site ty fields)) = is_value (types.variables s) && fields_typed types sites fields
 site_typed types sites s (Some (make_some_site source)) = is_value (types.variables s) && is_typed_at types (place_in sites source)
+site_typed types sites s (Some (iterator_site source)) = is_value (types.variables s) && is_value (types.variables source)
+site_typed types sites s (Some (match_variant_site source variant field)) = is_seen types s
+site_typed types sites s (Some (extract_struct_site source field)) = is_seen types s
 site_typed types sites s (Some (match_some_site source)) = is_typed_at types (place_in sites source) && inside_typed types (types.is_copy (place_in sites source)) s
 site_typed types sites s _ = true
 
@@ -246,16 +258,12 @@ pattern_typed _ copy = copy
 
 abbrev pub field_typed : Types → Constraint → (copy : Bool) → ℕ → Bool
 field_typed types is_present copy v = inside_typed types copy v
-field_typed types _ copy v = not (is_value (types.variables v)) || types.is_copy (variable v)
+field_typed types _ copy v = is_seen types v
 
 abbrev pub brought_typed : Types → Constraint → (copy : Bool) → List (Option ℕ) → Bool
 brought_typed types pattern copy [] = true
 brought_typed types pattern copy (None ∷ rest) = brought_typed types pattern copy rest
 brought_typed types pattern copy (Some v ∷ rest) = field_typed types pattern copy v && brought_typed types pattern copy rest
-
-abbrev pub loop_typed : Types → ℕ → Option Site → Bool
-loop_typed types result (Some (iterator_site source)) = is_value (types.variables result) && is_value (types.variables source)
-loop_typed types result _ = true
 
 abbrev mutual
   pub tree_typed : Types → List Site → Tree → Bool
@@ -265,7 +273,7 @@ abbrev mutual
   pub check_typed : Types → List Site → Check → Bool
   check_typed types sites (match_at source arms) = is_typed_at types (place_in sites source) && arms_typed types sites (types.is_copy (place_in sites source)) arms
   check_typed types sites (equal_at a b body) = tree_typed types sites body
-  check_typed types sites (loop_at result body) = loop_typed types result (slice_get sites result) && tree_typed types sites body
+  check_typed types sites (loop_at result body) = site_typed types sites result (slice_get sites result) && tree_typed types sites body
   check_typed types sites (return_at at result) = is_typed_at types (place_in sites result)
 
   pub arms_typed : Types → List Site → (copy : Bool) → Arms → Bool
@@ -274,10 +282,18 @@ abbrev mutual
 
 -- labels, put at whatever depths, keep modes
 abbrev pub FlatKeepsModes : Type 0
-FlatKeepsModes = (types : Types) (multi : Bool) (b : Block) (deep : ℕ → Bool) (n : ℕ) → unlabelled b ≡ true → block_fits types multi b ≡ true → block_fits types multi (flat b deep n) ≡ true
+FlatKeepsModes =
+    (types : Types) (multi away : Bool) (b : Block) (deep : ℕ → Bool) (n : ℕ) → unlabelled b ≡ true → block_fits types multi away b ≡ true
+    → block_fits types multi away (flat b deep n) ≡ true
 
 -- where a tree is typed, values handed on by types fit
 abbrev pub PassesByTypesFit : Type 0
 PassesByTypesFit =
     (types : Types) (multi : Bool) (sites : List Site) (tree : Tree) (deep : ℕ → Bool) (n : ℕ) → tree_typed types sites tree ≡ true
-    → block_fits types multi (flat (tree_code tree sites (passes_of types multi sites)) deep n) ≡ true
+    → block_fits types multi false (flat (tree_code tree sites (passes_of types multi sites)) deep n) ≡ true
+
+-- a set is typed: each site is, each is a value or a reference as its type says, and rules constrain what their constraints fit
+pub record IsTypedSet (types : Types) (set : SiteSet) : Type 0 where
+  pub sites : (s : ℕ) → site_typed types set.sites s (slice_get set.sites s) ≡ true
+  pub places : (s : ℕ) → is_typed_at types (place_in set.sites s) ≡ true
+  pub constrained : (r : SetRule) (s : ℕ) (c : Constraint) → Contains set.rules r → Contains r.constraints (s, c) → pattern_typed c (types.is_copy (place_in set.sites s)) ≡ true

@@ -1,4 +1,4 @@
--- The code that is printed of a best tree runs as the tree.
+-- The code of a best tree, with labels wherever they may stand, runs as the tree.
 use Rattle.std.specs.Prelude.{◌≡◌, ℕ, suc, Bool, Some, None}
 use Rattle.model.specs.sites.Sites.{SiteSet}
 use Rattle.model.specs.trees.Trees.{Tree}

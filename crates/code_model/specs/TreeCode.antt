@@ -6,7 +6,8 @@ use Rattle.code_model.specs.Code.{Place, variable, parameter, part_of, int_writt
 
 -- what a site is handed on to
 pub data Taker : Type 0 where
-  -- the parameter of this place of a term's function
+  -- the parameter of a term's extractor, and that of this place of its constructor
+  to_extractor : (term : ℕ) → Taker
   to_parameter : (term i : ℕ) → Taker
   to_field : Taker
   to_some : Taker
@@ -42,7 +43,7 @@ fields_of sites p ss = map (use_at sites p to_field) ss
 -- the statement that binds a site which isn't written in place
 abbrev pub bind_code : List Site → Passes → ℕ → Option Site → Statement
 bind_code sites p s (Some (bool_site b ty)) = bind s (truth_written b ty)
-bind_code sites p s (Some (extractor_site term source)) = bind s (extraction term (use_at sites p (to_parameter term 0) source))
+bind_code sites p s (Some (extractor_site term source)) = bind s (extraction term (use_at sites p (to_extractor term) source))
 bind_code sites p s (Some (constructor_site term sources instance)) = bind s (call term (arguments_from sites p term 0 sources) instance)
 bind_code sites p s (Some (make_variant_site ty variant fields)) = bind s (variant_of ty variant (fields_of sites p fields))
 bind_code sites p s (Some (make_struct_site ty fields)) = bind s (struct_of ty (fields_of sites p fields))

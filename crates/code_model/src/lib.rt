@@ -7,10 +7,14 @@ ghost use Rattle.code_model.specs.PrintedCode.{PrintedCodeRuns};
 ghost use Rattle.code_model.specs.Flat.{FlatRunsSame};
 ghost use Rattle.code_model.specs.Labels.{OpenedRunsSame};
 ghost use Rattle.code_model.specs.Modes.{FlatKeepsModes, PassesByTypesFit};
+ghost use Rattle.code_model.specs.MoveSamples.{MovesAreJudged};
+ghost use Rattle.code_model.specs.MovedOnce.{FittingCodeMovesOnce};
 ghost use Rattle.code_model.specs.Moves.{FlatKeepsMoves};
 ghost use Rattle.code_model.specs.PrintedNames.{NamesAreApart};
 ghost use Rattle.code_model.specs.Samples.{SamplesAreJudged};
+ghost use Rattle.code_model.specs.Saving.{WithMovesIsMadeWell, WithMovesSaysSame};
 ghost use Rattle.code_model.specs.Scopes.{FlatKeepsScopes, PrintedCodeIsScoped};
+ghost use Rattle.code_model.specs.TypeSamples.{TypesAreThose};
 ghost use Rattle.code_model.specs.CodeLaws.{BestTreesBindNoneInPlace, CodeOfBestTreesRuns, CodeRunsAsTree, CodeStopsAtBound};
 
 /// However values are handed on, the code of a tree that binds nothing written in place runs as the tree.
@@ -19,8 +23,8 @@ pub fn code_runs_as_tree()
     ensures { CodeRunsAsTree }
 {}
 
-/// Where the list of results is full, code stops: what it gave and called is the beginning of what it gives and calls without a
-/// bound, and all of it where there are fewer results.
+/// Where the list of results is full, code returns: what it gave and called is the beginning of what it gives and calls without
+/// a bound, and all of it where there are fewer results.
 #[tactic(auto, using(crate::proofs::CodeCut::code_stops_at_bound_lem))]
 pub fn code_stops_at_bound()
     ensures { CodeStopsAtBound }
@@ -98,4 +102,34 @@ pub fn samples_are_judged()
 #[tactic(auto, using(crate::proofs::FlatMoves::flat_keeps_moves_lem))]
 pub fn flat_keeps_moves()
     ensures { FlatKeepsMoves }
+{}
+
+/// Code whose uses fit, and whose loops take what was bound right before, moves what isn't Copy once at most on each way.
+#[tactic(auto, using(crate::proofs::MovedOnce::fitting_code_moves_once_lem))]
+pub fn fitting_code_moves_once()
+    ensures { FittingCodeMovesOnce }
+{}
+
+/// Moves in place of clones, wherever a move may stand, change nothing of what code does, of its scopes, and of what its loops take.
+#[tactic(auto, using(crate::proofs::Saving::with_moves_says_same_lem))]
+pub fn with_moves_says_same()
+    ensures { WithMovesSaysSame }
+{}
+
+/// And they keep that it moves once and fits, where what isn't Copy may be given away.
+#[tactic(auto, using(crate::proofs::Saving::with_moves_is_made_well_lem))]
+pub fn with_moves_is_made_well()
+    ensures { WithMovesIsMadeWell }
+{}
+
+/// Samples move once, near ones don't, and a last clone becomes a move.
+#[tactic(auto, using(crate::proofs::MoveSamples::moves_are_judged_lem))]
+pub fn moves_are_judged()
+    ensures { MovesAreJudged }
+{}
+
+/// The types of the sample's sites are those that its program says.
+#[tactic(auto, using(crate::proofs::TypeSamples::types_are_those_lem))]
+pub fn types_are_those()
+    ensures { TypesAreThose }
 {}

@@ -3,6 +3,7 @@ use Rattle.std.proofs.Common.{◌≡◌, ℕ, ◌+◌, ◌-◌, true, false, not
 use Rattle.std.specs.Prelude.{Result, Ok, Err, nat_le}
 use Rattle.std.specs.List.{list_all}
 use Rattle.std.proofs.lemmas.Bool.{cases_Bool, eqb-true}
+use Rattle.std.proofs.Math.Nat.{add-zero}
 use Rattle.model.specs.lists.Syntax.{Position, Name}
 use Rattle.isle_reader.specs.declared.errors.Mistake.{Mistake}
 use Rattle.isle_reader.specs.declared.errors.Mistake.TheVariants.{ConstantName}
@@ -38,9 +39,6 @@ past o c cs = omega (arith, size_more c cs)
 
 pub past_one : (o c : ℕ) → o + width c ≡ o + size (c ∷ [])
 past_one o c = omega (arith, size_one c)
-
-pub past_none : (o : ℕ) → o + 0 ≡ o
-past_none o = omega arith
 
 module _ (file end : ℕ) where
   -- what characters from an offset on are read as, where no token is begun
@@ -233,10 +231,10 @@ module _ (file end : ℕ) where
     text = refl;
     all = refl;
     ends = rw e refl;
-    are = subst (λ n. AreIn n (c ∷ cs) h.0) (sym (past_none o)) h.1;
-    names = λ n done. rw (e, append-nil n.text, past_none o)
+    are = subst (λ n. AreIn n (c ∷ cs) h.0) (sym (add-zero o)) h.1;
+    names = λ n done. rw (e, append-nil n.text, add-zero o)
         (bind_twice (word_token n >>= (λ t. Ok (done ++ t ∷ []))) (begun (at file o) c) _ ∙ bind_same (word_token n >>= (λ t. Ok (done ++ t ∷ []))) _ _ h.2);
-    constants = λ n s done. rw (e, append-nil n.text, past_none o) (h.2 _);
+    constants = λ n s done. rw (e, append-nil n.text, add-zero o) (h.2 _);
   }
 
   word_step : (o c : ℕ) (cs : List ℕ) → Reads (o + width c) cs → InWord o (c ∷ cs)
@@ -268,8 +266,8 @@ module _ (file end : ℕ) where
     text = refl;
     all = refl;
     ends = refl;
-    are = (cs, refl, refl, subst (λ n. AreIn (n + 1) cs h.read.0) (sym (past_none o)) h.read.1);
-    reads = λ done. rw (past_none o) (h.read.2 done);
+    are = (cs, refl, refl, subst (λ n. AreIn (n + 1) cs h.read.0) (sym (add-zero o)) h.read.1);
+    reads = λ done. rw (add-zero o) (h.read.2 done);
   }
 
   line_step : (o c : ℕ) (cs : List ℕ) → Reads (o + width c) cs → InLine o (c ∷ cs)
@@ -358,7 +356,7 @@ module _ (file end : ℕ) where
   }
 
   reads : (cs : List ℕ) (o : ℕ) → o + size cs ≡ end → Reads o cs
-  reads [] o e = at_end o (sym (past_none o) ∙ e)
+  reads [] o e = at_end o (sym (add-zero o) ∙ e)
   reads (c ∷ cs) o e = more o c cs (reads cs (o + width c) (past o c cs ∙ e))
 
 -- each text has pieces, and what it is read as, character by character, is what they give

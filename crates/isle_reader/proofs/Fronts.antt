@@ -1,16 +1,17 @@
 -- A mistake that shows at a character is that of every text with this front.
 use Rattle.std.proofs.Common.{◌≡◌, ℕ, ◌+◌, List, [], ◌∷◌, ◌++◌, refl, sym, ap, ◌∙◌}
 use Rattle.std.specs.Prelude.{Err}
+use Rattle.std.proofs.Math.Nat.{add-zero}
 use Rattle.model.specs.lists.Syntax.{Position}
 use Rattle.isle_reader.specs.Lexemes.{Wrong, ◌>>=◌}
 use Rattle.isle_reader.specs.Pieces.{size}
 use Rattle.isle_reader.specs.Lexing.{Tokens, Mode, between, in_line, opened, in_block, signed, in_name, in_constant, step, run, reached}
-use Rattle.isle_reader.proofs.Dividing.{at, width, bind_twice, bind_same, past, past_none}
+use Rattle.isle_reader.proofs.Dividing.{at, width, bind_twice, bind_same, past}
 
 run_past : (file end : ℕ) (front rest : List ℕ) (m : Mode) (o : ℕ) (done : Tokens)
     → run file end m o (front ++ rest) done ≡ reached file end m o front done >>= (λ s. run file end s.0 (o + size front) rest s.1)
 unfolding run
-run_past file end [] rest m o done = ap (λ k. run file end m k rest done) (sym (past_none o))
+run_past file end [] rest m o done = ap (λ k. run file end m k rest done) (sym (add-zero o))
 run_past file end (c ∷ cs) rest m o done =
     bind_same (step end m (at file o) c done) _ _ (λ s. run_past file end cs rest s.0 (o + width c) s.1
     ∙ bind_same (reached file end s.0 (o + width c) cs s.1) _ _ (λ t. ap (λ k. run file end t.0 k rest t.1) (past o c cs)))

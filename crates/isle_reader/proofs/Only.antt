@@ -1,21 +1,18 @@
 -- Whatever pieces a text is divided into, reading it character by character gives what they give.
-use Rattle.std.proofs.Common.{◌≡◌, ℕ, ◌+◌, ◌-◌, ◌<◌, Bool, true, false, not, ◌&&◌, ◌==◌, List, [], ◌∷◌, ◌++◌, length, refl, sym, ap, ◌∙◌, subst, inl, inr, arith, append-nil, length-append, encode_utf8, encode_utf8_all}
+use Rattle.std.proofs.Common.{◌≡◌, ℕ, ◌+◌, ◌-◌, ◌<◌, true, false, not, ◌&&◌, ◌==◌, List, [], ◌∷◌, ◌++◌, length, refl, sym, ap, ◌∙◌, subst, inl, inr, arith, append-nil, length-append, encode_utf8, encode_utf8_all}
 use Rattle.std.specs.Prelude.{Result, Ok, Err, nat_le}
 use Rattle.std.specs.List.{list_all}
-use Rattle.std.proofs.lemmas.Bool.{cases_Bool, eqb-true, and_parts, false≢true}
+use Rattle.std.proofs.lemmas.Bool.{cases_Bool, eqb-true, not-true, and_parts, false≢true}
 use Rattle.std.proofs.lemmas.Bool.Decides.{nat_tests}
 use Rattle.std.proofs.lemmas.Str.{encodes-append}
+use Rattle.std.proofs.Math.Nat.{add-zero}
 use Rattle.model.specs.lists.Syntax.{Position, Name}
 use Rattle.isle_reader.specs.declared.errors.Mistake.{Mistake}
 use Rattle.isle_reader.specs.declared.errors.Mistake.TheVariants.{ConstantName}
 use Rattle.isle_reader.specs.Lexemes.{expected, constant, Wrong, ◌>>=◌, word_token, last_bound, or_mistake}
 use Rattle.isle_reader.specs.Pieces.{Piece, space, line, block, left, right, bind, name, sign, endless, alone, spelling, size, is_in_word, is_space, begins_word, after_comment, ends_word, ends_line, Stands, AreIn}
 use Rattle.isle_reader.specs.Lexing.{Tokens, tokens_after, added, between, in_line, in_block, in_name, in_constant, begun, in_comment, run, with_char}
-use Rattle.isle_reader.proofs.Dividing.{at, width, bind_twice, bind_same, past, past_one, past_none, grown_name, size_more}
-
-not_true : (b : Bool) → not b ≡ true → b ≡ false
-not_true true h = absurd (false≢true h)
-not_true false h = refl
+use Rattle.isle_reader.proofs.Dividing.{at, width, bind_twice, bind_same, past, past_one, grown_name, size_more}
 
 bind_done : (r : Result Tokens Wrong) → r ≡ r >>= (λ d. Ok d)
 bind_done (Ok x) = refl
@@ -26,12 +23,12 @@ module _ (file end : ℕ) where
   name_ends : (rest : List ℕ) (o : ℕ) (n : Name) (done : Tokens) → ends_word rest ≡ true → run file end (in_name n) o rest done ≡ (word_token n >>= (λ t. Ok (done ++ t ∷ []))) >>= run file end between o rest
   unfolding run
   name_ends [] o n done e = bind_done (word_token n >>= (λ t. Ok (done ++ t ∷ [])))
-  name_ends (d ∷ ds) o n done e = rw (not_true (is_in_word d) e) (bind_twice (word_token n >>= (λ t. Ok (done ++ t ∷ []))) (begun (at file o) d) _)
+  name_ends (d ∷ ds) o n done e = rw (not-true (is_in_word d) e) (bind_twice (word_token n >>= (λ t. Ok (done ++ t ∷ []))) (begun (at file o) d) _)
 
   name_runs : (more rest : List ℕ) (o : ℕ) (n : Name) (done : Tokens) → list_all is_in_word more ≡ true → ends_word rest ≡ true
       → run file end (in_name n) o (more ++ rest) done ≡ (word_token (record n { text = n.text ++ encode_utf8_all more }) >>= (λ t. Ok (done ++ t ∷ []))) >>= run file end between (o + size more) rest
   unfolding run
-  name_runs [] rest o n done a e = rw (append-nil n.text, past_none o) (name_ends rest o n done e)
+  name_runs [] rest o n done a e = rw (append-nil n.text, add-zero o) (name_ends rest o n done e)
   name_runs (c ∷ more) rest o n done a e =
       let h = and_parts (is_in_word c) (list_all is_in_word more) a in
       rw h.0 (name_runs more rest (o + width c) (with_char n c) done h.1 e
@@ -41,12 +38,12 @@ module _ (file end : ℕ) where
   constant_ends : (rest : List ℕ) (o : ℕ) (n : Name) (s : Position) (done : Tokens) → ends_word rest ≡ true → run file end (in_constant n s) o rest done ≡ run file end between o rest (done ++ constant n s ∷ [])
   unfolding run
   constant_ends [] o n s done e = refl
-  constant_ends (d ∷ ds) o n s done e = rw (not_true (is_in_word d) e) refl
+  constant_ends (d ∷ ds) o n s done e = rw (not-true (is_in_word d) e) refl
 
   constant_runs : (more rest : List ℕ) (o : ℕ) (n : Name) (s : Position) (done : Tokens) → list_all is_in_word more ≡ true → ends_word rest ≡ true
       → run file end (in_constant n s) o (more ++ rest) done ≡ run file end between (o + size more) rest (done ++ constant (record n { text = n.text ++ encode_utf8_all more }) s ∷ [])
   unfolding run
-  constant_runs [] rest o n s done a e = rw (append-nil n.text, past_none o) (constant_ends rest o n s done e)
+  constant_runs [] rest o n s done a e = rw (append-nil n.text, add-zero o) (constant_ends rest o n s done e)
   constant_runs (c ∷ more) rest o n s done a e =
       let h = and_parts (is_in_word c) (list_all is_in_word more) a in
       rw h.0 (constant_runs more rest (o + width c) (with_char n c) s done h.1 e
@@ -60,10 +57,10 @@ module _ (file end : ℕ) where
 
   line_runs : (more rest : List ℕ) (o : ℕ) (done : Tokens) → list_all (λ c. not (c == 10)) more ≡ true → ends_line rest ≡ true → run file end in_line o (more ++ rest) done ≡ run file end between (o + size more) rest done
   unfolding run
-  line_runs [] rest o done a e = rw (past_none o) (line_ends_there rest o done e)
+  line_runs [] rest o done a e = rw (add-zero o) (line_ends_there rest o done e)
   line_runs (c ∷ more) rest o done a e =
       let h = and_parts (not (c == 10)) (list_all (λ c. not (c == 10)) more) a in
-      rw (not_true (c == 10) h.0) (line_runs more rest (o + width c) done h.1 e ∙ ap (λ k. run file end between k rest done) (past o c more))
+      rw (not-true (c == 10) h.0) (line_runs more rest (o + width c) done h.1 e ∙ ap (λ k. run file end between k rest done) (past o c more))
 
   one_more : (c : ℕ) (cs more : List ℕ) → c ∷ cs ≡ more ++ cs → c ∷ [] ≡ more
   one_more c cs [] e = absurd (omega (arith, ap length e))
@@ -143,7 +140,7 @@ module _ (file end : ℕ) where
   one (endless cs) rest o done s e =
       rw (s.0, append-nil cs, s.2) (subst (Ended ((o + 1) + 1) cs cs 1 32) s.2 (comment_runs cs ((o + 1) + 1) 1 32 cs) (at file o) done)
   one alone [] o done s e = ap (λ k. Err (expected ConstantName, at file k)) (sym (e refl))
-  one alone (d ∷ ds) o done s e = rw (not_true (is_in_word d) s) refl
+  one alone (d ∷ ds) o done s e = rw (not-true (is_in_word d) s) refl
 
   size_joined : (a b : List ℕ) → size (a ++ b) ≡ size a + size b
   size_joined a b = ap length (encodes-append a b) ∙ length-append (encode_utf8_all a) (encode_utf8_all b)

@@ -1,4 +1,4 @@
--- The chain: printed code runs as its tree, the tree as the source rules choose.
+-- The chain: the code of a tree runs as the tree, the tree as the source rules choose.
 use Rattle.std.proofs.Common.{◌≡◌, ◌≤◌, ◌<◌, ◌++◌, ℕ, suc, List, [], ◌∷◌, length, drop, refl, sym, ap, subst, ◌∙◌}
 use Rattle.std.specs.Prelude.{IsPermutation}
 use Rattle.std.proofs.lemmas.List.{take-append-drop, length-take-le}
@@ -28,6 +28,7 @@ cut_collects n whole cut expected c k = record {
   calls = none_before cut.calls k.calls.0 (sym k.calls.1 ∙ c.calls);
   part = (drop (suc n) whole.results, subst (IsPermutation expected) (sym (ap (λ xs. xs ++ drop (suc n) whole.results) k.results ∙ take-append-drop (suc n) whole.results)) c.same);
   full = λ le. ap length k.results ∙ length-take-le (suc n) whole.results (subst (λ x. suc n ≤ x) (sym same) le);
+  ending = λ le. k.ending (subst (λ x. suc n ≤ x) (sym same) le);
   all = λ lt. subst (λ o. Collects o expected) (sym (k.below (subst (λ x. x < suc n) (sym same) lt))) c;
 }
   where

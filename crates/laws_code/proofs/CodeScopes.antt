@@ -1,6 +1,6 @@
 -- Loops go over calls, and code is in scope.
-use Rattle.std.proofs.Common.{◌≡◌, ℕ, true, [], ◌∷◌, length, Option, Some, None, slice_get, refl, ap, subst, inl, inr}
-use Rattle.std.proofs.lemmas.Bool.{cases_Bool, false≢true, true≢false}
+use Rattle.std.proofs.Common.{◌≡◌, ℕ, Bool, true, false, [], length, Option, Some, None, slice_get, refl, ap, subst}
+use Rattle.std.proofs.lemmas.Bool.{true≢false}
 use Rattle.std.proofs.lemmas.Option.{slice_get_within}
 use Rattle.model.specs.rules.Program.{Program, arg_types}
 use Rattle.model.specs.sites.Sites.{Site, int_site, prim_site, argument_site, iterator_site, make_variant_site, make_struct_site, match_tuple_site, SiteSet, SiteTerm, layer, unfold_site}
@@ -16,17 +16,18 @@ use Rattle.laws_trees.specs.BuiltLaws.{BestTreesBindBeforeUse}
 use Rattle.code_model.specs.Scopes.{LoopsAreOverBound, PrintedCodeIsScoped}
 use Rattle.laws_code.specs.CodeScopes.{BuiltSetsLoopOverBound, CodeOfAcceptedIsScoped}
 
--- what is written in place is one value
-placed_value : (p : Program) (n : ℕ) (f : ℕ → SiteTerm) (b : Site) (q : Form) → is_in_place (Some b) ≡ true → IsOfForm p n (layer f b) q → q ≡ a_value
-placed_value p n f (int_site z ty) q h g = g.1
-placed_value p n f (prim_site name) q h g = g
-placed_value p n f (argument_site i) q h g = g.1
-placed_value p n f (match_tuple_site source field) q h g = g.3
-placed_value p n f (make_variant_site ty variant []) q h g = g.4
-placed_value p n f (make_variant_site ty variant (x ∷ xs)) q h g = absurd (false≢true h)
-placed_value p n f (make_struct_site ty []) q h g = g.4
-placed_value p n f (make_struct_site ty (x ∷ xs)) q h g = absurd (false≢true h)
-placed_value p n f _ q h g = absurd (false≢true h)
+one_answer : (optional : Bool) (k : ℕ) → form true optional k ≡ a_value → ⊥
+one_answer optional k e = true≢false (ap (λ (q : Form). q.multi) e)
+
+-- what has several answers isn't written in place
+several_bound : (p : Program) (n : ℕ) (f : ℕ → SiteTerm) (b : Site) (optional : Bool) (k : ℕ) → IsOfForm p n (layer f b) (form true optional k) → is_in_place (Some b) ≡ false
+several_bound p n f (int_site z ty) optional k g = absurd (one_answer optional k g.1)
+several_bound p n f (prim_site name) optional k g = absurd (one_answer optional k g)
+several_bound p n f (argument_site i) optional k g = absurd (one_answer optional k g.1)
+several_bound p n f (match_tuple_site source field) optional k g = absurd (one_answer optional k g.3)
+several_bound p n f (make_variant_site ty variant []) optional k g = absurd (one_answer optional k g.4)
+several_bound p n f (make_struct_site ty []) optional k g = absurd (one_answer optional k g.4)
+several_bound p n f _ optional k g = refl
 
 module _ (b : BuiltSet) (h : IsWellTypedProgram b.program) where
   abbrev p : Program
@@ -38,21 +39,16 @@ module _ (b : BuiltSet) (h : IsWellTypedProgram b.program) where
   abbrev n : ℕ
   n = length (arg_types p b.term)
 
-  -- what has several answers isn't
-  answered : (source : ℕ) (o : Option Site) (optional : _) (k : ℕ) → slice_get set.sites source ≡ o → is_in_place o ≡ true → IsOfForm p n (unfold_site set.sites source) (form true optional k) → ⊥
-  answered source None optional k at i f = false≢true i
-  answered source (Some x) optional k at i f =
-      let same = placed_value p n (unfold_site set.sites) x (form true optional k) i (subst (λ u. IsOfForm p n u (form true optional k)) (unfolded_layer set.sites b.built.sources source x at) f) in
-      true≢false (ap (λ (q : Form). q.multi) same)
+  called : (source : ℕ) (o : Option Site) (optional : Bool) (k : ℕ) → slice_get set.sites source ≡ o → IsOfForm p n (unfold_site set.sites source) (form true optional k) → is_in_place o ≡ false
+  called source None optional k at f = refl
+  called source (Some x) optional k at f =
+      several_bound p n (unfold_site set.sites) x optional k (subst (λ u. IsOfForm p n u (form true optional k)) (unfolded_layer set.sites b.built.sources source x at) f)
 
   pub loops_are_over_bound : LoopsAreOverBound set.sites
   loops_are_over_bound s source at =
       let g = (sites_stand b h s (slice_get_within set.sites s (iterator_site source) at)).form in
       let f = subst (λ u. IsOfForm p n u g.0) (unfolded_layer set.sites b.built.sources s (iterator_site source) at) g.1 in
-      elim (cases_Bool (is_in_place (slice_get set.sites source))) [
-        | inl i ↦ absurd (answered source (slice_get set.sites source) f.0 f.1 refl i f.2)
-        | inr k ↦ k
-      ]
+      called source (slice_get set.sites source) f.0 f.1 refl f.2
 
 pub built_sets_loop_over_bound_lem : BuiltSetsLoopOverBound
 built_sets_loop_over_bound_lem p t set h b = loops_are_over_bound (record { program = p; term = t; set = set; built = b }) h

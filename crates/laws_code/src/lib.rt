@@ -1,16 +1,23 @@
-//! What the code that is printed of accepted definitions means: what their source rules mean.
+//! What the code of a tree of accepted definitions means: what their source rules mean.
 //!
 //! A function here has no code, or calls the laws that its proof rests on: its clause is a law.
 #![tactic(auto)]
 
+ghost use Rattle.laws_code.specs.Bounds.{CodeKeepsBound};
 ghost use Rattle.laws_code.specs.ChoiceSamples.{BoundsAreKept};
 ghost use Rattle.laws_code.specs.CodeChoices.{CodeChoosesAsSource, CodeOfLoweredTermsMeans};
+ghost use Rattle.laws_code.specs.CodeMoves.{CallsAreGoneOverInBuiltSets, CodeOfAcceptedTakesOnce, LoopsTakeOnce};
 ghost use Rattle.laws_code.specs.CodeScopes.{BuiltSetsLoopOverBound, CodeOfAcceptedIsScoped};
+ghost use Rattle.laws_code.specs.TypedSamples.{ConstraintsAreJudged};
+ghost use Rattle.laws_code.specs.TypedTrees.{BuiltSetsAreTyped, BuiltSetsConstrainByTypes, CodeOfAcceptedIsWellMade, CodeWithoutSuchConstantsIsWellMade, TypedSetsHaveTypedTrees};
 
-use code_model::{printed_code_is_scoped, printed_code_runs};
+use code_model::{
+    fitting_code_moves_once, passes_by_types_fit, printed_code_is_scoped, printed_code_runs,
+    with_moves_is_made_well, with_moves_says_same,
+};
 use laws_trees::{best_trees_bind_before_use, best_trees_keep_the_headline};
 
-/// The printed code of each term that was lowered means what its source rules do: in a term that isn't multi the outcome of
+/// The code of the tree of each term that was lowered means what its source rules do: in a term that isn't multi the outcome of
 /// the matching rule of greatest priority, in a multi term the bag of results, or with a bound a part of it up to there.
 pub fn code_of_lowered_terms_means()
     ensures { CodeOfLoweredTermsMeans }
@@ -26,12 +33,21 @@ pub fn code_chooses_as_source()
     code_of_lowered_terms_means();
 }
 
+/// With a bound of results, the code of a best tree gives what the tree gives where that is less; else so many of its first results,
+/// and returns.
+pub fn code_keeps_bound()
+    ensures { CodeKeepsBound }
+{
+    printed_code_runs();
+}
+
 /// In a built set no loop goes over what is written in place.
+#[tactic(auto, using(crate::proofs::CodeScopes::built_sets_loop_over_bound_lem))]
 pub fn built_sets_loop_over_bound()
     ensures { BuiltSetsLoopOverBound }
 {}
 
-/// And what the printed code reads is in scope.
+/// And what this code reads is in scope.
 pub fn code_of_accepted_is_scoped()
     ensures { CodeOfAcceptedIsScoped }
 {
@@ -40,7 +56,77 @@ pub fn code_of_accepted_is_scoped()
     built_sets_loop_over_bound();
 }
 
+/// What the loops of a best tree's code go over is bound right before each, and read by nothing else, where picks alone are made of
+/// it, and no rule equates, constrains or returns it.
+#[tactic(auto, using(crate::proofs::CodeMoves::loops_take_once_lem))]
+pub fn loops_take_once()
+    ensures { LoopsTakeOnce }
+{}
+
+/// So it is in a built set.
+#[tactic(auto, using(crate::proofs::PickedCalls::calls_are_gone_over_in_built_sets_lem))]
+pub fn calls_are_gone_over_in_built_sets()
+    ensures { CallsAreGoneOverInBuiltSets }
+{}
+
+/// And the loops of the code of such a tree take what they go over once.
+pub fn code_of_accepted_takes_once()
+    ensures { CodeOfAcceptedTakesOnce }
+{
+    loops_take_once();
+    calls_are_gone_over_in_built_sets();
+    built_sets_loop_over_bound();
+}
+
+/// The best trees of a typed set are typed.
+#[tactic(auto, using(crate::proofs::TypedTrees::typed_sets_have_typed_trees_lem))]
+pub fn typed_sets_have_typed_trees()
+    ensures { TypedSetsHaveTypedTrees }
+{}
+
+/// A built set is typed by the types of its program, where its rules constrain by types.
+#[tactic(auto, using(crate::proofs::TypedSets::built_sets_are_typed_lem))]
+pub fn built_sets_are_typed()
+    ensures { BuiltSetsAreTyped }
+{}
+
+/// So the code of accepted definitions is well made: what it reads is in scope, each use gives a reference or a value as is wanted,
+/// what isn't Copy is moved once at most, and it means what its source rules do.
+pub fn code_of_accepted_is_well_made()
+    ensures { CodeOfAcceptedIsWellMade }
+{
+    typed_sets_have_typed_trees();
+    built_sets_are_typed();
+    passes_by_types_fit();
+    fitting_code_moves_once();
+    with_moves_says_same();
+    with_moves_is_made_well();
+    code_of_accepted_is_scoped();
+    code_of_accepted_takes_once();
+    code_chooses_as_source();
+}
+
+/// The rules of a built set constrain by types, where no pattern names a constant of an enum or struct type.
+pub fn built_sets_constrain_by_types()
+    ensures { BuiltSetsConstrainByTypes }
+{}
+
+/// So the code of a term of accepted definitions is well made, where no pattern of its rules names such a constant.
+pub fn code_without_such_constants_is_well_made()
+    ensures { CodeWithoutSuchConstantsIsWellMade }
+{
+    built_sets_constrain_by_types();
+    code_of_accepted_is_well_made();
+}
+
 /// A sample collects up to its bound, and near ones don't.
+#[tactic(auto, using(crate::proofs::ChoiceSamples::bounds_are_kept_lem))]
 pub fn bounds_are_kept()
     ensures { BoundsAreKept }
+{}
+
+/// Sets constrain by types, and near ones don't: one that names a constant of an enum in a pattern is such.
+#[tactic(auto, using(crate::proofs::TypedSamples::constraints_are_judged_lem))]
+pub fn constraints_are_judged()
+    ensures { ConstraintsAreJudged }
 {}

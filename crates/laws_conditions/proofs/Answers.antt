@@ -2,7 +2,7 @@
 use Rattle.std.proofs.Common.{◌≡◌, ◌+◌, ◌==◌, ◌&&◌, ℕ, ℤ, ◌<ℤ◌, ◌≤ℤ◌, suc, cond, flat_map, arith, Bool, true, false, List, [], ◌∷◌, ◌++◌, length, take, Option, Some, None, is_some, All, Contains, slice_get, refl, sym, ap, subst, ◌∙◌, inl, inr, append_assoc}
 use Rattle.std.proofs.lemmas.Bool.{false≢true, cond-true}
 use Rattle.std.proofs.lemmas.Int.{ints}
-use Rattle.std.proofs.lemmas.List.Elements.{All-nil, All-cons, All-contains}
+use Rattle.std.proofs.lemmas.List.Elements.{All-contains}
 use Rattle.std.proofs.Math.Seq.{take-append_seam}
 use Rattle.std.specs.Ordering.{int_cmp, is_lt}
 use Rattle.model.specs.rules.Values.{Value, truth, atom, of_variant, of_struct, Values, value_eq, listed, args_well_typed}
@@ -30,6 +30,7 @@ use Rattle.laws_runs.proofs.choosing.OtherRules.{most}
 use Rattle.laws_runs.proofs.picks.NoIterators.{calls_no_multi}
 use Rattle.laws_runs.proofs.taking.FollowedCalls.{Followed, goes_on, stops, answered_call, follow, follow_there, result_after}
 use Rattle.laws_closure.proofs.built.BuiltSets.{of_term}
+use Rattle.laws_closure.proofs.built.WellBuiltSets.{all_from_in}
 use Rattle.laws_typing.proofs.WellTypedRules.{elaborated_programs_are_well_typed_lem}
 use Rattle.laws_matching.proofs.NoMulti.{rules_without_multi_go_over_no_calls_lem}
 use Rattle.laws_typing.specs.WellTypedPrograms.{IsWellTypedProgram}
@@ -41,19 +42,14 @@ use Rattle.laws_conditions.specs.ConditionLaws.{IsCalled, ChoosesAsSaid, Compute
 use Rattle.laws_conditions.proofs.Valuations.{Called, told_of, told_there, values_there, value_there, argument_back, part_back, each_told, content, values, sites_as, args_as, told_site, told_values}
 use Rattle.laws_conditions.proofs.Assumptions.{met, same, own_constructed, constructed, call_typed, assumed}
 use Rattle.laws_conditions.proofs.Followed.{calls_of, result_calls, next_at, calls_made, made_at}
-use Rattle.laws_conditions.proofs.plain.Numbered.{InOrder}
-use Rattle.laws_conditions.proofs.plain.Outcomes.{plain_outcome, holds_matches}
-use Rattle.laws_conditions.proofs.plain.Served.{AreServed}
+use Rattle.laws_runs.proofs.taking.CallsIn.{InOrder}
+use Rattle.laws_conditions.proofs.PlainOutcomes.{AreServed, plain_outcome, holds_matches}
 
 -- 1. lists, and answers
 split_in : (us : List SiteTerm) (u : SiteTerm) → In us u → (before : List SiteTerm) × (after : List SiteTerm) × (us ≡ before ++ u ∷ after)
 split_in [] u i = absurd i
 split_in (x ∷ us) u (inl e) = ([], us, ap (λ y. y ∷ us) e)
 split_in (x ∷ us) u (inr i) = let a = split_in us u i in (x ∷ a.0, a.1, ap (λ l. x ∷ l) a.2)
-
-all_from_in : (P : SiteTerm → Type 0) (us : List SiteTerm) → ((u : SiteTerm) → In us u → P u) → All P us
-all_from_in P [] h = All-nil P
-all_from_in P (u ∷ us) h = All-cons P u us (h u (inl refl)) (all_from_in P us (λ x i. h x (inr i)))
 
 call_same : (u : SiteTerm) → call_of u ≡ answered_call u
 call_same (bool_term b ty) = refl
@@ -92,7 +88,7 @@ result_is d false v = refl
 record Taken (k : Called) (t : ℕ) : Type 0 where
   rule : TypedRule
   calls : k.calls ≡ (result_after (content k (result_of k.program rule)) (follow k.meaning k.args k.pick (demands_of k.program rule).impure [])).calls
-  root : rule.root_term ≡ t
+  listed : Contains (rules_of k.program t) rule
   shown : IsShown k.program k.specs (condition k.program rule) (args_as k) (sites_as k)
   served : AreServed k.program k.meaning k.args k.pick (demands_of k.program rule)
   order : InOrder (demands_of k.program rule).made [] (demands_of k.program rule).impure
@@ -150,7 +146,7 @@ module _ (k : Called) (t : ℕ) (x : Taken k t) where
   gives b v e =
       let a = result_there (content k result) goes (result_content b v) e in
       let all = (follow_there k.meaning k.args k.pick impure [] a.0 a.1).0 in
-      subst (λ n. IsProvided k.specs n (args_as k) (stands_for k.atoms v)) x.root
+      subst (λ n. IsProvided k.specs n (args_as k) (stands_for k.atoms v)) (of_term k.program t x.rule x.listed).1
       (x.shown.provides (content_as k.atoms (result_content b v)) (stands_for k.atoms v)
       (λ u i. are_made impure [] (sym (append_none impure)) (λ y j. All-contains Gave impure y all (contains_from_in impure y j)) u i)
       (told_site k result (result_content b v) a.2) (result_is k.atoms b v))
@@ -231,7 +227,7 @@ module _ (p : Program) (specs : Specs) (t : ℕ) (d : Atoms) (m : Meaning) (args
       (record {
         rule = r;
         calls = ap (λ (o : Outcome). o.calls) (ap (outcome_of_rule p m args) e ∙ ap (with_vars p m r) q ∙ plain.right);
-        root = root;
+        listed = i;
         shown = shows r (record { is_chosen = e; listed = i; holds = plain.holds; is_assumed = given_all });
         served = plain.impures;
         order = plain.order;

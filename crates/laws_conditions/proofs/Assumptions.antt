@@ -20,7 +20,7 @@ use Rattle.laws_conditions.specs.Words.{Denoted, DenotedList, no_denoted, denote
 use Rattle.laws_conditions.specs.Specs.{IsRequired}
 use Rattle.laws_conditions.specs.Conditions.{Told, told, told_parts, told_nothing, told_just, told_many, told_outputs, answered_as, as_denoted, result_as, are_of_entries, IsTypedAs, IsMetAs, IsExtractedAsSaid, IsConstructedAsSaid, IsAnsweredAsSaid, is_impure_call, condition, IsAssumed}
 use Rattle.laws_conditions.specs.Meets.{Atoms, stands_for, stand_for, content_as, answers_in}
-use Rattle.laws_conditions.proofs.plain.Served.{Served}
+use Rattle.laws_conditions.proofs.PlainOutcomes.{Served}
 use Rattle.laws_conditions.proofs.Valuations.{Called, content, values, sites_as, args_as, each_told, told_site, told_there, is_value, values_there, value_there, site_held, site_formed, values_typed}
 
 module _ (k : Called) where

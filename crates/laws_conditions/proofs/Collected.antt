@@ -1,6 +1,6 @@
 -- Each result that a term whose rules make no impure call collects is as its spec says, where its rules' conditions are valid.
-use Rattle.std.proofs.Common.{◌≡◌, ℕ, Bool, List, [], ◌∷◌, Option, Some, None, is_some, All, Contains, flat_map, refl, sym, ap, subst, ◌∙◌, inl, inr}
-use Rattle.std.proofs.lemmas.List.Elements.{All-nil, All-cons, All-contains}
+use Rattle.std.proofs.Common.{◌≡◌, ℕ, Bool, List, [], Option, Some, None, is_some, All, Contains, flat_map, refl, sym, ap, subst, ◌∙◌, inl, inr}
+use Rattle.std.proofs.lemmas.List.Elements.{All-contains}
 use Rattle.std.proofs.lemmas.List.Sorted.{All-permutation}
 use Rattle.model.specs.rules.Values.{Value}
 use Rattle.model.specs.rules.Meaning.{Content, Meaning}
@@ -15,6 +15,7 @@ use Rattle.model.specs.claims.Environments.{types_read}
 use Rattle.model.specs.claims.Layers.{own_program}
 use Rattle.model.proofs.Elements.{In, from_flat_map, in_from_contains, contains_from_in}
 use Rattle.laws_closure.proofs.built.BuiltSets.{of_term}
+use Rattle.laws_closure.proofs.built.WellBuiltSets.{all_from_in}
 use Rattle.laws_matching.specs.MatchLaws.{IsTried}
 use Rattle.laws_matching.proofs.Visits.{given, tried, visits_match_lem}
 use Rattle.laws_matching.proofs.results.Held.{result_held}
@@ -25,14 +26,10 @@ use Rattle.laws_conditions.specs.Specs.{Specs, IsRequired, IsProvided}
 use Rattle.laws_conditions.specs.Meets.{Atoms, stands_for, content_as, IsResultAsSaid}
 use Rattle.laws_conditions.specs.ConditionLaws.{AreValid, IsCalled}
 use Rattle.laws_conditions.specs.CollectLaws.{MakesNoImpureCall, BagsAreAsSaid, CollectsAsSaid, LoweredTermsCollectAsSaid}
-use Rattle.laws_conditions.proofs.plain.Served.{served}
+use Rattle.laws_conditions.proofs.PlainOutcomes.{served}
 use Rattle.laws_conditions.proofs.Valuations.{Called, args_as, sites_as, told_site}
 use Rattle.laws_conditions.proofs.Assumptions.{assumed}
 use Rattle.laws_conditions.proofs.Answers.{result_is}
-
-all_from_in : {X : Type 0} (P : X → Type 0) (xs : List X) → ((x : X) → In xs x → P x) → All P xs
-all_from_in P [] h = All-nil P
-all_from_in P (x ∷ xs) h = All-cons P x xs (h x (inl refl)) (all_from_in P xs (λ y i. h y (inr i)))
 
 -- a result is one value, of a partial term Some of it
 given_value : (partial : Bool) (ev : Eval) (c : Content) → In (outcome_of partial ev).results c → (v : Value) × (c ≡ result_content partial v)

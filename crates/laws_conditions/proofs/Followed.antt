@@ -9,7 +9,7 @@ use Rattle.model.specs.sites.Sites.{SiteTerm, constructor_call, some_part, SiteT
 use Rattle.model.proofs.Elements.{In, in_either}
 use Rattle.model.proofs.Options.{is_there, then_some}
 use Rattle.laws_runs.proofs.taking.FollowedCalls.{Followed, goes_on, stops, then_follow, follow_with, answered_call, follow_call, follow, result_after}
-use Rattle.laws_conditions.proofs.plain.Numbered.{IsNext, InOrder}
+use Rattle.laws_runs.proofs.taking.CallsIn.{IsNext, InOrder}
 
 abbrev pub calls_of : Followed → List Call
 calls_of (goes_on calls) = calls

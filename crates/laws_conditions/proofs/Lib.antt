@@ -2,7 +2,7 @@ mod Answers
 mod Assumptions
 mod Collected
 mod Followed
-mod plain
+mod PlainOutcomes
 mod SampleAnswers
 mod SampleBelow
 mod SampleConditions

@@ -1,5 +1,6 @@
 -- The premises of the law by priority hold together of the letters and their codes.
 use Rattle.std.proofs.Common.{◌≡◌, ℕ, zero, suc, pos, false, List, [], ◌∷◌, None, Some, slice_get, refl, sym, ap, subst, ◌∙◌, inl, inr}
+use Rattle.std.specs.List.{AllByRecursion}
 use Rattle.std.proofs.lemmas.Bool.{false≢true}
 use Rattle.std.proofs.lemmas.List.Elements.{All-nil}
 use Rattle.model.specs.lists.Tables.{TypeEntry, TermEntry, variant_term, struct_term}
@@ -7,7 +8,7 @@ use Rattle.model.specs.lists.KnownTypes.{entry_id}
 use Rattle.model.specs.rules.Values.{of_list, variant_types}
 use Rattle.model.specs.rules.Program.{is_multi}
 use Rattle.model.specs.sites.Sites.{SiteTerm, int_term, argument}
-use Rattle.model.proofs.Elements.{In, in_from_contains, some_is, none_some}
+use Rattle.model.proofs.Elements.{in_from_contains, some_is, none_some}
 use Rattle.laws_typing.specs.WellTypedPrograms.{IsWellTypedRule, IsWellTypedProgram}
 use Rattle.laws_conditions.specs.Specs.{word_of, IsSaid}
 use Rattle.laws_conditions.specs.Conditions.{IsValidBelow}
@@ -89,12 +90,8 @@ valid r i =
 abbrev asked_sites : List SiteTerm
 asked_sites = argument 0 ∷ (int_term (pos 10) 1 ∷ (argument 0 ∷ (int_term (pos 20) 1 ∷ [])))
 
-plain_site : (u : SiteTerm) → In asked_sites u → IsPlainSite u
-plain_site u (inl e) = inl e
-plain_site u (inr (inl e)) = inr (pos 10, e)
-plain_site u (inr (inr (inl e))) = inl e
-plain_site u (inr (inr (inr (inl e)))) = inr (pos 20, e)
-plain_site u (inr (inr (inr (inr n)))) = absurd n
+plain_sites : AllByRecursion IsPlainSite asked_sites
+plain_sites = (inl refl, (inr (pos 10, refl), (inl refl, (inr (pos 20, refl), tt))))
 
 denotes : IsDenotation codes code_specs bytes_as
 denotes = record {
@@ -107,7 +104,7 @@ called_a : IsCalled codes code_specs 2 bytes_as written (one_of_letter 0) []
 called_a = record {
   denotes = denotes;
   typed = refl;
-  serves = written_serves codes 2 (one_of_letter 0) refl (λ u i. plain_site u (in_from_contains asked_sites u i));
+  serves = written_serves codes 2 (one_of_letter 0) refl plain_sites;
   meets = written_meets code_specs [] byte_numbered;
   required = All-nil (IsSaid (stand_for bytes_as (of_list (one_of_letter 0))) None);
 }
@@ -116,7 +113,7 @@ called_b : IsCalled codes code_specs 2 bytes_as written (one_of_letter 1) []
 called_b = record {
   denotes = denotes;
   typed = refl;
-  serves = written_serves codes 2 (one_of_letter 1) refl (λ u i. plain_site u (in_from_contains asked_sites u i));
+  serves = written_serves codes 2 (one_of_letter 1) refl plain_sites;
   meets = written_meets code_specs [] byte_numbered;
   required = All-nil (IsSaid (stand_for bytes_as (of_list (one_of_letter 1))) None);
 }

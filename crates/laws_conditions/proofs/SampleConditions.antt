@@ -65,6 +65,9 @@ told_is None a e = absurd (none_some a e)
 told_is (Some (told y)) a e = ap (λ z. Some (told z)) (some_is y a e)
 told_is (Some _) a e = absurd (none_some a e)
 
+pub part_is : (u v w : Denoted) → Some u ≡ Some v → told w ≡ told v → w ≡ u
+part_is u v w e f = cc
+
 abbrev pub sum_args : SiteTerms
 sum_args = site_term_and (argument 0) (site_term_and (argument 0) no_site_term)
 
@@ -96,9 +99,6 @@ sum_provided b f a h y e q =
     let both : denoted_at_each f sum_args ≡ Some (two b b) = ap (λ o. then_option o (λ z. then_option (then_option o (λ w. Some (denoted_and w no_denoted))) (λ zs. Some (denoted_and z zs)))) (first.1 ∙ ap Some same) in
     let said = a.calls sum_call (contains_from_in (argument 0 ∷ (sum_call ∷ [])) sum_call (inr (inl refl))) refl (two b b) h both e (All-nil (IsSaid (two b b) None)) y q in
     just_one (IsSaid (denoted_and b no_denoted) (Some y)) doubled (only_one (IsSaid (two b b) (Some y)) (is_sum (its_argument 0) (its_argument 1)) said)
-  where
-    part_is : (u v w : Denoted) → Some u ≡ Some v → told w ≡ told v → w ≡ u
-    part_is u v w e f = cc
 
 pub sum_right : IsRight (doubled ∷ []) [] [] (adding x x)
 sum_right no_denoted f a = absurd (false≢true a.arguments)

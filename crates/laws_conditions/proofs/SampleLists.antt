@@ -2,6 +2,7 @@
 use Rattle.std.proofs.Common.{◌≡◌, ◌==◌, ◌&&◌, ℕ, ℤ, zero, suc, Bool, true, false, List, [], ◌∷◌, Some, None, slice_get, IsSomeAnd, IsTrue, Contains, refl, sym, ap, subst, ◌∙◌, inl, inr}
 use Rattle.std.proofs.lemmas.Bool.{and_parts, cases_Bool, cond-true, cond-false, false≢true, eqb-true}
 use Rattle.std.proofs.lemmas.List.Elements.{All-nil}
+use Rattle.std.proofs.Math.Nat.{suc-ne-zero}
 use Rattle.model.specs.lists.Tables.{TypeEntry, TermEntry, variant_term, struct_term}
 use Rattle.model.specs.lists.KnownTypes.{entry_id}
 use Rattle.model.specs.rules.Values.{Values, no_value, value_and, values_eq, of_list}
@@ -26,7 +27,7 @@ use Rattle.laws_conditions.specs.Samples.{byte, x, a_term, rule_of, doubled}
 use Rattle.laws_conditions.specs.SampleCalls.{bytes_as, a_byte, hundred}
 use Rattle.laws_conditions.specs.SampleLists.{answering_lists, lists_with, liking, list_specs, twice_200, liking_100, ListsAreSaid, BagPremisesHold}
 use Rattle.laws_conditions.proofs.SampleAnswers.{byte_formed, byte_sorted, byte_numbered}
-use Rattle.laws_conditions.proofs.SampleConditions.{no_picks, told_is, alone, alone_held, alone_formed, one_argument, only_one, just_one, truths_same, none_first, none_made}
+use Rattle.laws_conditions.proofs.SampleConditions.{no_picks, told_is, part_is, alone, alone_held, alone_formed, one_argument, only_one, just_one, truths_same, none_first, none_made}
 
 -- 1. (like x)
 abbrev like_args : SiteTerms
@@ -47,9 +48,6 @@ like_provided b f a h y e q =
     let same : first.0 ≡ b = part_is b part.part first.0 part.there part.held in
     let args : denoted_at_each f like_args ≡ Some (denoted_and b no_denoted) = ap (λ o. then_option o (λ z. Some (denoted_and z no_denoted))) (first.1 ∙ ap Some same) in
     a.picks like_call (contains_from_in made_sites like_call (inr (inl refl))) refl (denoted_and b no_denoted) h args e (All-nil (IsSaid (denoted_and b no_denoted) None)) y q
-  where
-    part_is : (u v w : Denoted) → Some u ≡ Some v → told w ≡ told v → w ≡ u
-    part_is u v w e f = cc
 
 like_right : IsValid (lists_with liking) list_specs (condition (lists_with liking) (rule_of liking))
 like_right no_denoted f a = absurd (false≢true a.arguments)
@@ -187,13 +185,10 @@ serves = record {
         subst (λ n. IsSomeAnd (pure_answer liking_100 n vs) (λ c. IsTrue (fits_constructor (lists_with liking) n (kind (lists_with liking) n) c))) a
         (subst (λ ws. IsSomeAnd (pure_answer liking_100 1 ws) (λ c. IsTrue (fits_constructor (lists_with liking) 1 (kind (lists_with liking) 1) c))) same refl)
 
-    none : (n : ℕ) → 0 ≡ suc n → ⊥
-    none n e = cc
-
     not_impure : (r : TypedRule) (t before : ℕ) (ss : SiteTerms) → Contains (rules_of (lists_with liking) 0) r → Contains (demands_of (lists_with liking) r).made (constructor_call t ss (suc before)) → ⊥
     not_impure r t before ss i made =
         let here = subst (λ q. Contains (demands_of (lists_with liking) q).made (constructor_call t ss (suc before))) (sym (in_alone (rule_of liking) r i)) made in
-        none before (call_term t (suc before) ss (one_call t (suc before) ss (in_from_contains made_sites (constructor_call t ss (suc before)) here))).2
+        suc-ne-zero before (sym (call_term t (suc before) ss (one_call t (suc before) ss (in_from_contains made_sites (constructor_call t ss (suc before)) here))).2)
 
 -- 5. the program
 ids : (i : ℕ) (t : TypeEntry) → slice_get (lists_with liking).types i ≡ Some t → entry_id t ≡ i

@@ -1,5 +1,6 @@
 -- A rule that is wrong of a number is refuted by a run on another value that stands for the number too.
 use Rattle.std.proofs.Common.{◌≡◌, ℕ, zero, suc, pos, true, false, List, [], ◌∷◌, Some, None, slice_get, Contains, refl, sym, ap, subst, ◌∙◌, inl, inr}
+use Rattle.std.specs.List.{AllByRecursion}
 use Rattle.std.proofs.lemmas.Bool.{and_parts, false≢true}
 use Rattle.std.proofs.lemmas.List.Elements.{All-nil}
 use Rattle.model.specs.lists.Tables.{TypeEntry, TermEntry, TermKindEntry, variant_term, struct_term, declared_term, internal_constructor}
@@ -8,7 +9,7 @@ use Rattle.model.specs.rules.Values.{Value, of_list}
 use Rattle.model.specs.rules.Choice.{choice}
 use Rattle.model.specs.rules.Program.{is_multi, rules_of}
 use Rattle.model.specs.sites.Sites.{Constraint, is_int, SiteTerm, int_term, argument}
-use Rattle.model.proofs.Elements.{In, in_from_contains, contains_from_in, some_is, none_some}
+use Rattle.model.proofs.Elements.{in_from_contains, contains_from_in, some_is, none_some}
 use Rattle.laws_typing.specs.WellTypedPrograms.{IsWellTypedRule, IsWellTypedProgram}
 use Rattle.laws_conditions.specs.Words.{Denoted, DenotedList, no_denoted, denoted_and}
 use Rattle.laws_conditions.specs.Specs.{word_of, IsSaid}
@@ -21,7 +22,7 @@ use Rattle.laws_conditions.specs.SamplePriorities.{ten_where}
 use Rattle.laws_conditions.specs.SampleNumbers.{for_five, for_rest, numbers, number_specs, NumbersExcludeNothing}
 use Rattle.laws_conditions.proofs.Answers.{chooses_as_said_by_priority_lem}
 use Rattle.laws_conditions.proofs.SampleAnswers.{byte_formed, byte_sorted, byte_numbered}
-use Rattle.laws_conditions.proofs.SampleConditions.{only_one, just_one, truths_same, none_first}
+use Rattle.laws_conditions.proofs.SampleConditions.{part_is, only_one, just_one, truths_same, none_first}
 use Rattle.laws_conditions.proofs.SamplePriorities.{given_is}
 use Rattle.laws_conditions.proofs.SampleWritten.{IsPlainSite, written_serves, written_meets}
 
@@ -36,13 +37,9 @@ five_listed : Contains (asked_five ∷ []) asked_five
 five_listed = contains_from_in (asked_five ∷ []) asked_five (inl refl)
 
 is_five : (b : Denoted) (f : Valuation) → IsAssumed numbers number_specs (condition numbers for_five) (one_number b) f → b ≡ byte 5
-is_five b f a = same part.part part.there part.held
-  where
-    part : IsPartHeld (one_number b) 0 (told (byte 5))
-    part = a.held (argument 0) (told (byte 5)) (a.constraints (argument 0) (is_int (pos 5) 1) five_listed (byte 5) refl)
-
-    same : (y : Denoted) → Some b ≡ Some y → told (byte 5) ≡ told y → b ≡ byte 5
-    same y q r = cc
+is_five b f a =
+    let part : IsPartHeld (one_number b) 0 (told (byte 5)) = a.held (argument 0) (told (byte 5)) (a.constraints (argument 0) (is_int (pos 5) 1) five_listed (byte 5) refl) in
+    sym (part_is b part.part (byte 5) part.there part.held)
 
 five_right : IsValidBelow numbers number_specs for_five
 five_right no_denoted f a none = absurd (false≢true a.arguments)
@@ -62,13 +59,8 @@ odd = a_byte 261 ∷ []
 abbrev asked_sites : List SiteTerm
 asked_sites = argument 0 ∷ (int_term (pos 10) 1 ∷ (int_term (pos 5) 1 ∷ (argument 0 ∷ (int_term (pos 20) 1 ∷ []))))
 
-plain_site : (u : SiteTerm) → In asked_sites u → IsPlainSite u
-plain_site u (inl e) = inl e
-plain_site u (inr (inl e)) = inr (pos 10, e)
-plain_site u (inr (inr (inl e))) = inr (pos 5, e)
-plain_site u (inr (inr (inr (inl e)))) = inl e
-plain_site u (inr (inr (inr (inr (inl e))))) = inr (pos 20, e)
-plain_site u (inr (inr (inr (inr (inr n))))) = absurd n
+plain_sites : AllByRecursion IsPlainSite asked_sites
+plain_sites = (inl refl, (inr (pos 10, refl), (inr (pos 5, refl), (inl refl, (inr (pos 20, refl), tt)))))
 
 denotes : IsDenotation numbers number_specs bytes_as
 denotes = record {
@@ -129,7 +121,7 @@ rest_wrong right = false≢true (truths_same false true (only_one (IsSaid (one_n
         ]
 
     is_called : IsCalled numbers number_specs 0 bytes_as written odd (choice numbers written (rules_of numbers 0) odd).calls
-    is_called = record { denotes = denotes; typed = refl; serves = written_serves numbers 0 odd refl (λ u i. plain_site u (in_from_contains asked_sites u i)); meets = written_meets number_specs (choice numbers written (rules_of numbers 0) odd).calls byte_numbered; required = All-nil (IsSaid (stand_for bytes_as (of_list odd)) None) }
+    is_called = record { denotes = denotes; typed = refl; serves = written_serves numbers 0 odd refl plain_sites; meets = written_meets number_specs (choice numbers written (rules_of numbers 0) odd).calls byte_numbered; required = All-nil (IsSaid (stand_for bytes_as (of_list odd)) None) }
 
     said : AnswersAsSaid numbers number_specs 0 bytes_as odd (choice numbers written (rules_of numbers 0) odd)
     said = chooses_as_said_by_priority_lem numbers number_specs 0 bytes_as written odd well_typed_program refl valid (λ ty z. refl) is_called

@@ -1,5 +1,7 @@
 -- The meaning that gives literals the values that they write serves rules that ask for nothing else, and meets specs of bytes.
 use Rattle.std.proofs.Common.{◌≡◌, ◌⊎◌, ℕ, ℤ, suc, Bool, true, List, Some, slice_get, Contains, refl, sym, ap, subst, ◌∙◌, inl, inr}
+use Rattle.std.specs.List.{AllByRecursion}
+use Rattle.std.proofs.lemmas.List.Elements.{All-contains, All-from_recursion}
 use Rattle.model.specs.lists.Tables.{builtin_type}
 use Rattle.model.specs.rules.Values.{Value, truth, atom, is_atom_type, well_typed}
 use Rattle.model.specs.rules.Outcome.{Call}
@@ -12,7 +14,7 @@ use Rattle.laws_conditions.specs.Words.{Denoted}
 use Rattle.laws_conditions.specs.Specs.{Specs, literal_of}
 use Rattle.laws_conditions.specs.Meets.{stands_for, MeetsSpecs}
 use Rattle.laws_conditions.specs.SampleCalls.{bytes_as, written}
-use Rattle.laws_conditions.proofs.plain.Served.{made_asked}
+use Rattle.laws_conditions.proofs.PlainOutcomes.{made_asked}
 
 -- an argument or a literal byte
 abbrev pub IsPlainSite : SiteTerm → Type 0
@@ -38,8 +40,8 @@ int_type : (z : ℤ) (ty : ℕ) → IsPlainSite (int_term z ty) → 1 ≡ ty
 int_type z ty (inl e) = absurd (cc)
 int_type z ty (inr (y, e)) = cc
 
-pub written_serves : (p : Program) (t : ℕ) (args : List Value) → slice_get p.types 1 ≡ Some (builtin_type 1) → ((u : SiteTerm) → Contains (asked p (rules_of p t)) u → IsPlainSite u) → Serves p written args (rules_of p t)
-written_serves p t args bytes only = record {
+pub written_serves : (p : Program) (t : ℕ) (args : List Value) → slice_get p.types 1 ≡ Some (builtin_type 1) → AllByRecursion IsPlainSite (asked p (rules_of p t)) → Serves p written args (rules_of p t)
+written_serves p t args bytes sites = record {
   bools = λ b ty i. absurd (no_bool b ty (only (bool_term b ty) i));
   ints = λ z ty i. subst (λ n. well_typed p.types n (atom n z) ≡ true) (int_type z ty (only (int_term z ty) i)) (ap is_atom_type bytes);
   written_bools = λ b ty i. refl;
@@ -50,6 +52,9 @@ written_serves p t args bytes only = record {
   impures = λ k r u before ss vs i matched made gave e.
       absurd (no_constructor u (suc before) ss (only (constructor_call u ss (suc before)) (made_asked p (rules_of p t) r (constructor_call u ss (suc before)) i (in_from_contains (demands_of p r).made (constructor_call u ss (suc before)) made))));
 }
+  where
+    only : (u : SiteTerm) → Contains (asked p (rules_of p t)) u → IsPlainSite u
+    only u i = All-contains IsPlainSite (asked p (rules_of p t)) u (All-from_recursion IsPlainSite (asked p (rules_of p t)) sites) i
 
 pub written_meets : (specs : Specs) (calls : List Call) → ((ty : ℕ) (z : ℤ) (y : Denoted) → literal_of specs z ty ≡ Some y → bytes_as ty z ≡ y) → MeetsSpecs specs bytes_as written calls
 written_meets specs calls numbered = record {

@@ -1,6 +1,6 @@
 -- What the sites of a run stand for: values, fields, answers and results, by their parts.
-use Rattle.std.proofs.Common.{◌≡◌, ℕ, ℤ, zero, suc, ◌==◌, ◌&&◌, ◌||◌, Bool, true, false, List, [], ◌∷◌, Option, Some, None, cond, slice_get, refl, sym, ap, subst, ◌∙◌}
-use Rattle.std.proofs.lemmas.Bool.{and_parts, false≢true, eqb-true}
+use Rattle.std.proofs.Common.{◌≡◌, ℕ, ℤ, zero, suc, ◌==◌, ◌&&◌, Bool, true, false, List, [], ◌∷◌, Option, Some, None, cond, slice_get, refl, sym, ap, subst, ◌∙◌}
+use Rattle.std.proofs.lemmas.Bool.{and_parts, and_from, false≢true, eqb-true}
 use Rattle.model.specs.lists.Tables.{TypeEntry}
 use Rattle.model.specs.rules.Values.{Value, truth, atom, of_variant, of_struct, Values, no_value, value_and, listed, of_list, well_typed, all_well_typed, is_truth_type, is_atom_type, variant_types, struct_types}
 use Rattle.model.specs.rules.Meaning.{Content, one, parts, nothing, just, many, Meaning, bool_literal, int_literal, literal_value, constant_value, extractor_answer}
@@ -9,8 +9,9 @@ use Rattle.model.specs.rules.Program.{Program}
 use Rattle.model.specs.rules.Picks.{Pick, picked, part_of_some, field_of_variant, field_of_struct, call_answer, site_content, site_values}
 use Rattle.model.specs.sites.Sites.{SiteTerm, bool_term, int_term, prim_term, argument, extractor_call, constructor_call, pick_of, variant_made, variant_field, struct_made, struct_field, some_made, some_part, tuple_part, no_site, SiteTerms, no_site_term, site_term_and}
 use Rattle.model.specs.trees.Run.{as_value, from_value, part_at}
-use Rattle.model.proofs.Elements.{some_is, none_some}
+use Rattle.model.proofs.Elements.{or_left, or_right, some_is, none_some}
 use Rattle.model.proofs.Options.{then_some}
+use Rattle.laws_runs.proofs.picks.HeldContents.{is_just}
 use Rattle.laws_conditions.specs.Words.{Denoted, a_truth, an_integer, a_word, variant_of, struct_of, DenotedList, denoted_and, denoted_list, is_formed, are_formed}
 use Rattle.laws_conditions.specs.Specs.{Sort, Specs, sort_of}
 use Rattle.laws_conditions.specs.Conditions.{Told, told, told_many, is_told_formed, as_denoted, denoted_at_each, IsPartHeld, IsHeldAs, is_modelled_as, is_of_atoms, is_of_type, are_of_types}
@@ -71,9 +72,9 @@ value_there d o x e =
     let b = one_told d a.0 x a.2 in
     (b.0, a.1 ∙ ap Some b.1, b.2)
 
-from_there : (o : Option Value) (c : Content) → from_value o ≡ Some c → (v : Value) × (o ≡ Some v) × (c ≡ one v)
-from_there None c e = absurd (none_some c e)
-from_there (Some v) c e = (v, refl, sym (some_is (one v) c e))
+value_held : (d : Atoms) (o : Option Value) (c : Content) → from_value o ≡ Some c → (v : Value) × (o ≡ Some v) × (content_as d c ≡ told (stands_for d v))
+value_held d None c e = absurd (none_some c e)
+value_held d (Some v) c e = (v, refl, ap (content_as d) (sym (some_is (one v) c e)))
 
 -- a field of values
 pub field_there : (d : Atoms) (vs : Values) (i : ℕ) (v : Value) → slice_get (listed vs) i ≡ Some v → slice_get (denoted_list (stand_for d vs)) i ≡ Some (stands_for d v)
@@ -88,8 +89,8 @@ argument_there d (w ∷ args) (suc i) v e = argument_there d args i v e
 
 part_held : (d : Atoms) (vs : Values) (i : ℕ) (c : Content) → from_value (slice_get (listed vs) i) ≡ Some c → IsPartHeld (stand_for d vs) i (content_as d c)
 part_held d vs i c e =
-    let a = from_there (slice_get (listed vs) i) c e in
-    record { part = stands_for d a.0; there = field_there d vs i a.0 a.1; held = ap (content_as d) a.2 }
+    let a = value_held d (slice_get (listed vs) i) c e in
+    record { part = stands_for d a.0; there = field_there d vs i a.0 a.1; held = a.2 }
 
 -- and back
 pub field_back : (d : Atoms) (vs : Values) (i : ℕ) (x : Denoted) → slice_get (denoted_list (stand_for d vs)) i ≡ Some x → (v : Value) × (slice_get (listed vs) i ≡ Some v) × (stands_for d v ≡ x)
@@ -130,13 +131,6 @@ parts_there i (one v) c e = absurd (none_some c e)
 parts_there i nothing c e = absurd (none_some c e)
 parts_there i (just b) c e = absurd (none_some c e)
 parts_there i (many cs) c e = absurd (none_some c e)
-
-some_there : (a c : Content) → part_of_some a ≡ Some c → a ≡ just c
-some_there (just b) c e = ap just (some_is b c e)
-some_there (one v) c e = absurd (none_some c e)
-some_there (parts vs) c e = absurd (none_some c e)
-some_there nothing c e = absurd (none_some c e)
-some_there (many cs) c e = absurd (none_some c e)
 
 many_there : (d : Atoms) (k : Pick) (s : SiteTerm) (a c : Content) → picked k s a ≡ Some c → content_as d a ≡ told_many
 many_there d k s (many cs) c e = refl
@@ -191,12 +185,12 @@ module _ (k : Called) where
 
   content_held : (s : SiteTerm) (c : Content) → content s ≡ Some c → IsHeldAs k.specs args_as sites_as s (content_as d c)
   content_held (bool_term b ty) c e =
-      let a = from_there (literal_value m (bool_literal b ty)) c e in ap (content_as d) a.2 ∙ ap told (k.meets.bools b ty a.0 a.1)
+      let a = value_held d (literal_value m (bool_literal b ty)) c e in a.2 ∙ ap told (k.meets.bools b ty a.0 a.1)
   content_held (int_term z ty) c e = λ x l.
-      let a = from_there (literal_value m (int_literal z ty)) c e in ap (content_as d) a.2 ∙ ap told (k.meets.ints z ty a.0 x a.1 l)
-  content_held (prim_term name) c e = λ x l. let a = from_there (constant_value m name) c e in ap (content_as d) a.2 ∙ ap told (k.meets.constants name a.0 x a.1 l)
+      let a = value_held d (literal_value m (int_literal z ty)) c e in a.2 ∙ ap told (k.meets.ints z ty a.0 x a.1 l)
+  content_held (prim_term name) c e = λ x l. let a = value_held d (constant_value m name) c e in a.2 ∙ ap told (k.meets.constants name a.0 x a.1 l)
   content_held (argument i) c e =
-      let a = from_there (slice_get k.args i) c e in record { part = stands_for d a.0; there = argument_there d k.args i a.0 a.1; held = ap (content_as d) a.2 }
+      let a = value_held d (slice_get k.args i) c e in record { part = stands_for d a.0; there = argument_there d k.args i a.0 a.1; held = a.2 }
   content_held (extractor_call t s) c e =
       let a = then_some (then_option (content s) as_value) (extractor_answer m t) c e in (stands_for d a.0, told_site s (one a.0) (is_value (content s) a.0 a.1))
   content_held (constructor_call t ss n) c e = let a = then_some (values ss) (call_answer m t n) c e in (stand_for d a.0, told_values ss a.0 a.1)
@@ -217,7 +211,7 @@ module _ (k : Called) where
       (b.0, stand_for d b.1, told_site s (one a.0) (is_value (content s) a.0 a.1) ∙ ap (λ v. Some (told (stands_for d v))) b.2, part_held d b.1 i c b.3)
   content_held (some_made s) c e =
       let a = then_some (content s) (λ x. Some (just x)) c e in (content_as d a.0, told_site s a.0 a.1, ap (content_as d) (sym (some_is (just a.0) c a.2)))
-  content_held (some_part s) c e = let a = then_some (content s) part_of_some c e in told_site s a.0 a.1 ∙ ap (λ x. Some (content_as d x)) (some_there a.0 c a.2)
+  content_held (some_part s) c e = let a = then_some (content s) part_of_some c e in told_site s a.0 a.1 ∙ ap (λ x. Some (content_as d x)) (is_just a.0 c a.2)
   content_held (tuple_part s i) c e =
       let a = then_some (content s) (λ x. part_at x i) c e in
       let b = parts_there i a.0 c a.2 in
@@ -253,24 +247,12 @@ module _ (k : Called) where
   abbrev types : List TypeEntry
   types = k.program.types
 
-  or_first : (a b : Bool) → a ≡ true → (a || b) ≡ true
-  or_first true b h = refl
-  or_first false b h = absurd (false≢true h)
-
-  or_second : (a b : Bool) → b ≡ true → (a || b) ≡ true
-  or_second true b h = refl
-  or_second false b h = h
-
-  and_both : (a b : Bool) → a ≡ true → b ≡ true → (a && b) ≡ true
-  and_both true b h g = g
-  and_both false b h g = h
-
   atoms_typed : (ty : ℕ) (x : Denoted) → is_of_atoms types k.specs ty x ≡ true → is_of_type types k.specs ty x ≡ true
   atoms_typed ty (a_truth b) h = h
   atoms_typed ty (an_integer z) h = h
   atoms_typed ty (a_word w n) h = h
-  atoms_typed ty (variant_of t i xs) h = or_first (is_of_atoms types k.specs ty (variant_of t i xs)) ((t == ty) && are_of_types types k.specs (variant_types (slice_get types ty) i) xs) h
-  atoms_typed ty (struct_of t xs) h = or_first (is_of_atoms types k.specs ty (struct_of t xs)) ((t == ty) && are_of_types types k.specs (struct_types (slice_get types ty)) xs) h
+  atoms_typed ty (variant_of t i xs) h = or_left (is_of_atoms types k.specs ty (variant_of t i xs)) ((t == ty) && are_of_types types k.specs (variant_types (slice_get types ty) i) xs) h
+  atoms_typed ty (struct_of t xs) h = or_left (is_of_atoms types k.specs ty (struct_of t xs)) ((t == ty) && are_of_types types k.specs (struct_types (slice_get types ty)) xs) h
 
   modelled : (ty : ℕ) (z : ℤ) (o : Option Sort) → sort_of k.specs ty ≡ o → is_modelled_as o (d ty z) ≡ true
   modelled ty z None e = refl
@@ -278,18 +260,18 @@ module _ (k : Called) where
 
   mutual
     value_typed : (ty : ℕ) (v : Value) → well_typed types ty v ≡ true → is_of_type types k.specs ty (stands_for d v) ≡ true
-    value_typed ty (truth b) h = or_first (is_truth_type (slice_get types ty) && true) _ (and_both (is_truth_type (slice_get types ty)) true h refl)
+    value_typed ty (truth b) h = or_left (is_truth_type (slice_get types ty) && true) _ (and_from (is_truth_type (slice_get types ty)) true h refl)
     value_typed ty (atom s z) h =
         let a = and_parts (s == ty) (is_atom_type (slice_get types ty)) h in
         let same = eqb-true s ty a.0 in
         subst (λ n. is_of_type types k.specs ty (d n z) ≡ true) (sym same)
-        (atoms_typed ty (d ty z) (or_second _ _ (and_both (is_atom_type (slice_get types ty)) (is_modelled_as (sort_of k.specs ty) (d ty z)) a.1 (modelled ty z (sort_of k.specs ty) refl))))
+        (atoms_typed ty (d ty z) (or_right _ _ (and_from (is_atom_type (slice_get types ty)) (is_modelled_as (sort_of k.specs ty) (d ty z)) a.1 (modelled ty z (sort_of k.specs ty) refl))))
     value_typed ty (of_variant s i vs) h =
         let a = and_parts (s == ty) (all_well_typed types (variant_types (slice_get types ty) i) vs) h in
-        or_second _ _ (and_both (s == ty) (are_of_types types k.specs (variant_types (slice_get types ty) i) (stand_for d vs)) a.0 (values_typed (variant_types (slice_get types ty) i) vs a.1))
+        or_right _ _ (and_from (s == ty) (are_of_types types k.specs (variant_types (slice_get types ty) i) (stand_for d vs)) a.0 (values_typed (variant_types (slice_get types ty) i) vs a.1))
     value_typed ty (of_struct s vs) h =
         let a = and_parts (s == ty) (all_well_typed types (struct_types (slice_get types ty)) vs) h in
-        or_second _ _ (and_both (s == ty) (are_of_types types k.specs (struct_types (slice_get types ty)) (stand_for d vs)) a.0 (values_typed (struct_types (slice_get types ty)) vs a.1))
+        or_right _ _ (and_from (s == ty) (are_of_types types k.specs (struct_types (slice_get types ty)) (stand_for d vs)) a.0 (values_typed (struct_types (slice_get types ty)) vs a.1))
 
     pub values_typed : (tys : Option (List ℕ)) (vs : Values) → all_well_typed types tys vs ≡ true → are_of_types types k.specs tys (stand_for d vs) ≡ true
     values_typed None vs h = absurd (false≢true h)
@@ -298,4 +280,4 @@ module _ (k : Called) where
     values_typed (Some (ty ∷ tys)) no_value h = absurd (false≢true h)
     values_typed (Some (ty ∷ tys)) (value_and v vs) h =
         let a = and_parts (well_typed types ty v) (all_well_typed types (Some tys) vs) h in
-        and_both (is_of_type types k.specs ty (stands_for d v)) (are_of_types types k.specs (Some tys) (stand_for d vs)) (value_typed ty v a.0) (values_typed (Some tys) vs a.1)
+        and_from (is_of_type types k.specs ty (stands_for d v)) (are_of_types types k.specs (Some tys) (stand_for d vs)) (value_typed ty v a.0) (values_typed (Some tys) vs a.1)

@@ -1,5 +1,5 @@
 -- Taking a rule gives its right side's outcome.
-mod Evals
+pub mod Evals
 mod Ordered
 pub mod Outcomes
-mod RightSides
+pub mod RightSides

@@ -1,0 +1,221 @@
+-- What a pick is made of is a multi call: picks alone are made of multi calls, and no rule constrains, equates or returns one.
+use Rattle.std.proofs.Common.{◌≡◌, ◌⊎◌, ◌<◌, ℕ, suc, Bool, true, false, List, [], ◌∷◌, length, Option, Some, None, slice_get, Contains, refl, sym, ap, subst, ◌∙◌, inl, inr, arith}
+use Rattle.std.proofs.lemmas.Bool.{false≢true}
+use Rattle.std.proofs.lemmas.Option.{slice_get_within}
+use Rattle.model.specs.rules.Program.{Program, Kind, a_call, kind, flags_of, is_multi, arg_types, rules_of}
+use Rattle.model.specs.rules.Typed.{TypedRule}
+use Rattle.model.specs.sites.Sites.{Site, extractor_site, constructor_site, iterator_site, make_variant_site, match_variant_site, make_struct_site, extract_struct_site, make_some_site, match_some_site, match_tuple_site, Constraint, SetRule, SiteTerm, bool_term, int_term, prim_term, argument, extractor_call, constructor_call, pick_of, variant_made, variant_field, struct_made, struct_field, some_made, some_part, tuple_part, no_site, each_term, layer, layer_at, unfolded, unfold_site, sources_of, field_terms}
+use Rattle.model.specs.sites.Closure.{Joined, given, itself, turned, chained, at_field}
+use Rattle.model.specs.sites.DemandedGates.{IsMultiCall, HasNoPartialMulti}
+use Rattle.model.specs.sites.Overlap.{BuiltRule, built_rule}
+use Rattle.model.specs.sites.RuleSets.{IsRuleOf}
+use Rattle.model.specs.visits.Demands.{Demands, demands_of, result_of}
+use Rattle.model.specs.trees.Places.{waits, joins_in}
+use Rattle.model.proofs.Elements.{in_from_contains, in_slice}
+use Rattle.model.proofs.Members.{nothing_in, in_cases, in_alone}
+use Rattle.laws_typing.specs.WellTypedPrograms.{IsWellTypedProgram}
+use Rattle.laws_visits.proofs.Patterns.{by_field}
+use Rattle.laws_visits.proofs.WithSites.{by_leaf, KeptWithSites, rule_given}
+use Rattle.laws_closure.proofs.Closing.{closing_is_sound_lem}
+use Rattle.laws_closure.proofs.built.BuiltGates.{set_rule, WasBuilt, was_built}
+use Rattle.laws_closure.proofs.built.BuiltSets.{BuiltSet, RuleOfSet}
+use Rattle.laws_closure.proofs.built.DistinctSites.{one_number}
+use Rattle.laws_closure.proofs.built.MultiCalls.{multi_calls_are_gone_over_lem}
+use Rattle.laws_runs.proofs.runs.Contents.{unfolded_layer}
+use Rattle.laws_matching.proofs.taken.BuiltSites.{sites_stand}
+use Rattle.laws_matching.proofs.taken.Forms.{Form, form, a_value, IsCall, IsOfForm, AreValues}
+use Rattle.laws_code.specs.CodeMoves.{IsCalled, CallsAreGoneOver, CallsAreGoneOverInBuiltSets}
+
+abbrev IsOther : Program → SiteTerm → Type 0
+IsOther p u = IsMultiCall p u → ⊥
+
+-- 1. multi calls, and nothing else, have several answers
+module _ (p : Program) (n : ℕ) where
+  abbrev multi_of : Form → Bool
+  multi_of q = q.multi
+
+  its_multi : (t : ℕ) (c : IsCall p t) → is_multi p t ≡ c.flags.multi
+  its_multi t c = ap (λ k. (flags_of k).multi) c.call
+
+  one_answer : (q r : Form) → q ≡ r → multi_of r ≡ false → multi_of q ≡ true → ⊥
+  one_answer q r e f m = false≢true (sym f ∙ sym (ap multi_of e) ∙ m)
+
+  multi_call : (u : SiteTerm) (q : Form) → IsOfForm p n u q → q.multi ≡ true → IsMultiCall p u
+  multi_call (bool_term b ty) q f m = one_answer q _ f refl m
+  multi_call (int_term z ty) q f m = one_answer q _ f.1 refl m
+  multi_call (prim_term name) q f m = one_answer q _ f refl m
+  multi_call (argument i) q f m = one_answer q _ f.1 refl m
+  multi_call (extractor_call t s) q f m = its_multi t f.0 ∙ sym (ap multi_of f.2) ∙ m
+  multi_call (constructor_call t ss i) q f m = its_multi t f.0 ∙ sym (ap multi_of f.2) ∙ m
+  multi_call (pick_of s) q f m = one_answer q _ f.3 refl m
+  multi_call (variant_made ty i ss) q f m = one_answer q _ f.4 refl m
+  multi_call (variant_field s i j) q f m = one_answer q _ f.1 refl m
+  multi_call (struct_made ty ss) q f m = one_answer q _ f.4 refl m
+  multi_call (struct_field s j) q f m = one_answer q _ f.1 refl m
+  multi_call (some_made s) q f m = one_answer q _ f.2 refl m
+  multi_call (some_part s) q f m = one_answer q _ f.2 refl m
+  multi_call (tuple_part s j) q f m = one_answer q _ f.3 refl m
+  multi_call no_site q f m = absurd f
+
+  single : (u : SiteTerm) (q : Form) → IsOfForm p n u q → q.multi ≡ false → IsOther p u
+  single (extractor_call t s) q f e m = false≢true (sym e ∙ ap multi_of f.2 ∙ sym (its_multi t f.0) ∙ m)
+  single (constructor_call t ss i) q f e m = false≢true (sym e ∙ ap multi_of f.2 ∙ sym (its_multi t f.0) ∙ m)
+  single _ q f e m = absurd m
+
+  values_at : (f : ℕ → SiteTerm) (ss : List ℕ) (c : ℕ) → AreValues p n (each_term f ss) → Contains ss c → IsOfForm p n (f c) a_value
+  values_at f [] c v i = absurd (nothing_in c i)
+  values_at f (s ∷ ss) c v i = elim (in_cases s c ss i) [ inl e ↦ subst (λ y. IsOfForm p n (f y) a_value) e v.0 | inr d ↦ values_at f ss c v.1 d ]
+
+-- 2. what a visit values is no multi call
+module _ (p : Program) where
+  abbrev AnyDemands : Demands → Type 0
+  AnyDemands d = Unit {0}
+
+  abbrev OtherIn : Demands → SiteTerm → Type 0
+  OtherIn d u = IsOther p u
+
+  other_call : (t : ℕ) (k : Kind) → kind p t ≡ k → (flags_of k).multi ≡ false → is_multi p t ≡ true → ⊥
+  other_call t k e f m = false≢true (sym f ∙ sym (ap (λ x. (flags_of x).multi) e) ∙ m)
+
+  other_kept : KeptWithSites AnyDemands OtherIn p
+  other_kept = record {
+    unbound = λ d m. m;
+    leaf = λ d s l n. by_leaf (IsOther p) (λ i m. m) (λ b ty m. m) (λ z ty m. m) (λ name m. m) s l;
+    variant = λ d ty variant us n h m. m;
+    struct = λ d ty us n h m. m;
+    result = λ d s n h m. m;
+    tuple = λ d s i n h m. m;
+    field = λ d c s x n a i h. by_field (IsOther p) s (λ variant j m. m) (λ j m. m) c x i;
+    extracted = λ d t s flags e f n h. other_call t (a_call flags true) e f;
+    answer = λ d t i us flags b e f c n h m. m;
+    pick = λ d t i us c n h m. m;
+    call = λ d t i us flags b e f g n h. other_call t (a_call flags b) e g;
+    counts = λ c v h. record { holds = tt; stays = λ s o. o };
+    makes = λ ts v h. record { holds = tt; stays = λ s o. o };
+    calls = λ s v h m. record { holds = tt; stays = λ s o. o };
+    equates = λ a b v h m n. record { holds = tt; stays = λ s o. o };
+    asks = λ s c v f h m. record { holds = tt; stays = λ s o. o };
+    asks_all = λ s v h m. record { holds = tt; stays = λ s o. o };
+    asks_call = λ t s v flags e f c n h m. record { onward = record { holds = tt; stays = λ s o. o }; site = λ k. k };
+    iterates_extractor = λ t s v flags b e f c n h m. record { onward = record { holds = tt; stays = λ s o. o }; site = λ k. k };
+    iterates_constructor = λ t i us v flags b e f n m h. record { holds = tt; stays = λ s o. o };
+  }
+
+  result_other : (r : TypedRule) → IsOther p (result_of p r)
+  result_other r = (rule_given p AnyDemands OtherIn other_kept r tt).1
+
+-- 3. two sites that must be equal are one, or no multi calls
+module _ (p : Program) (neither : HasNoPartialMulti p) (r : TypedRule) where
+  field_other : (c : Constraint) (s : SiteTerm) (i : ℕ) (u : SiteTerm) → slice_get (field_terms c s) i ≡ Some u → IsOther p u
+  field_other c s i u e = by_field (IsOther p) s (λ variant j m. m) (λ j m. m) c u (in_slice (field_terms c s) i u e)
+
+  joined_apart : {a b : SiteTerm} → Joined (demands_of p r) a b → (a ≡ b) ⊎ (IsOther p a × IsOther p b)
+  joined_apart (given {a = a} {b = b} c) = inr ((multi_calls_are_gone_over_lem p r neither).equal a b c)
+  joined_apart itself = inl refl
+  joined_apart (turned j) = elim (joined_apart j) [ inl e ↦ inl (sym e) | inr o ↦ inr (o.1, o.0) ]
+  joined_apart (chained {a = a} {b = b} {c = c} j k) =
+      elim (joined_apart j) [
+        | inl e ↦ elim (joined_apart k) [ inl f ↦ inl (e ∙ f) | inr o ↦ inr (subst (IsOther p) (sym e) o.0, o.1) ]
+        | inr o ↦ elim (joined_apart k) [ inl f ↦ inr (o.0, subst (IsOther p) f o.1) | inr q ↦ inr (o.0, q.1) ]
+      ]
+  joined_apart (at_field {a = a} {b = b} {x = x} {y = y} {k = k} i j l c e f) = inr (field_other k a i x e, field_other k b i y f)
+
+abbrev made_of : Option Site → List ℕ
+made_of o = elim o as (λ _. List ℕ) [ None ↦ [] | Some b ↦ sources_of b ]
+
+-- 4. sets
+module _ (b : BuiltSet) (h : IsWellTypedProgram b.program) where
+  abbrev p : Program
+  p = b.program
+
+  abbrev sites : List Site
+  sites = b.set.sites
+
+  abbrev n : ℕ
+  n = length (arg_types p b.term)
+
+  abbrev U : ℕ → SiteTerm
+  U s = unfold_site sites s
+
+  -- what a site is made of, by its form
+  form_there : (s : ℕ) (x : Site) → slice_get sites s ≡ Some x → (q : Form) × IsOfForm p n (layer U x) q
+  form_there s x at =
+      let g = (sites_stand b h s (slice_get_within sites s x at)).form in
+      (g.0, subst (λ u. IsOfForm p n u g.0) (unfolded_layer sites b.built.sources s x at) g.1)
+
+  pub called_is_multi : (c : ℕ) → IsCalled sites c → IsMultiCall p (U c)
+  called_is_multi c k = let f = form_there k.0 (iterator_site c) k.1 in multi_call p n (U c) (form true f.1.0 f.1.1) f.1.2 refl
+
+  waits_not : (c : ℕ) (o : Option Site) → slice_get sites c ≡ o → IsMultiCall p (U c) → waits o ≡ false
+  waits_not c None at m = absurd (subst (λ o. IsMultiCall p (layer_at (unfolded c sites) o)) at m)
+  waits_not c (Some x) at m = by x (subst (IsMultiCall p) (unfolded_layer sites b.built.sources c x at) m)
+    where
+      by : (x : Site) → IsMultiCall p (layer U x) → waits (Some x) ≡ false
+      by (iterator_site source) m = absurd m
+      by (match_variant_site source variant field) m = absurd m
+      by (extract_struct_site source field) m = absurd m
+      by (match_some_site source) m = absurd m
+      by _ m = refl
+
+  -- what a site is made of has one answer, but for a pick's
+  from_one : (c source : ℕ) (q : Form) → IsMultiCall p (U c) → Contains (source ∷ []) c → IsOfForm p n (U source) q → q.multi ≡ false → ⊥
+  from_one c source q m i g e = single p n (U c) q (subst (λ y. IsOfForm p n (U y) q) (in_alone source c i) g) e m
+
+  from_values : (c : ℕ) (ss : List ℕ) → IsMultiCall p (U c) → Contains ss c → AreValues p n (each_term U ss) → ⊥
+  from_values c ss m i v = single p n (U c) a_value (values_at p n U ss c v i) refl m
+
+  picked : (c t : ℕ) (o : Option Site) → slice_get sites t ≡ o → IsMultiCall p (U c) → Contains (made_of o) c → slice_get sites t ≡ Some (iterator_site c)
+  picked c t None at m i = absurd (nothing_in c i)
+  picked c t (Some (iterator_site source)) at m i = at ∙ ap (λ y. Some (iterator_site y)) (in_alone source c i)
+  picked c t (Some (extractor_site term source)) at m i = absurd (let f = form_there t (extractor_site term source) at in from_one c source a_value m i f.1.1 refl)
+  picked c t (Some (constructor_site term sources instance)) at m i = absurd (let f = form_there t (constructor_site term sources instance) at in from_values c sources m i f.1.1)
+  picked c t (Some (make_variant_site ty variant fields)) at m i = absurd (let f = form_there t (make_variant_site ty variant fields) at in from_values c fields m i f.1.3)
+  picked c t (Some (match_variant_site source variant field)) at m i = absurd (let f = form_there t (match_variant_site source variant field) at in from_one c source a_value m i f.1.0 refl)
+  picked c t (Some (make_struct_site ty fields)) at m i = absurd (let f = form_there t (make_struct_site ty fields) at in from_values c fields m i f.1.3)
+  picked c t (Some (extract_struct_site source field)) at m i = absurd (let f = form_there t (extract_struct_site source field) at in from_one c source a_value m i f.1.0 refl)
+  picked c t (Some (make_some_site source)) at m i = absurd (let f = form_there t (make_some_site source) at in from_one c source (form false false f.1.0) m i f.1.1 refl)
+  picked c t (Some (match_some_site source)) at m i = absurd (let f = form_there t (match_some_site source) at in from_one c source (form false true f.1.0) m i f.1.1 refl)
+  picked c t (Some (match_tuple_site source field)) at m i = absurd (let f = form_there t (match_tuple_site source field) at in from_one c source (form false false (suc (suc f.1.0))) m i f.1.1 refl)
+  picked c t (Some _) at m i = absurd (nothing_in c i)
+
+  -- a rule of the set, with the rule that it stands for
+  module _ (r : SetRule) (i : Contains b.set.rules r) where
+    abbrev here : RuleOfSet b
+    here = set_rule b r (in_from_contains b.set.rules r i)
+
+    abbrev w : WasBuilt p (rules_of p b.term) here.typed
+    w = was_built p [] (rules_of p b.term) here.typed here.listed
+
+    stands : IsRuleOf p sites (built_rule p w.before w.rule) r
+    stands = subst (λ (y : BuiltRule). IsRuleOf p sites y r) (sym w.same) here.is
+
+    unconstrained : (c : ℕ) (k : Constraint) → IsMultiCall p (U c) → Contains r.constraints (c, k) → ⊥
+    unconstrained c k m j =
+        let x = (closing_is_sound_lem w.before (demands_of p w.rule)).constraints (U c) k (stands.constraints.asked c k j).1 in
+        elim (joined_apart p h.not_both w.rule x.joined) [
+          | inl e ↦ (multi_calls_are_gone_over_lem p w.rule h.not_both).asked x.source k x.asked (subst (IsMultiCall p) (sym e) m)
+          | inr o ↦ o.1 m
+        ]
+
+    apart : (a c : ℕ) → a < c → joins_in r.classes a c ≡ true → IsOther p (U a) × IsOther p (U c)
+    apart a c l j =
+        let x = stands.classes.joined a c j in
+        elim (joined_apart p h.not_both w.rule ((closing_is_sound_lem w.before (demands_of p w.rule)).classes x.2 (U a) (U c) x.3 x.4 x.5)) [
+          | inl e ↦ absurd (let same = one_number p b.term b.set b.built a c x.0 x.1 e in omega (arith, l, same))
+          | inr o ↦ o
+        ]
+
+    unreturned : IsOther p (U r.result)
+    unreturned = subst (IsOther p) (sym stands.result.1) (result_other p w.rule)
+
+  pub gone_over : CallsAreGoneOver b.set
+  gone_over = record {
+    waits_not = λ c k. waits_not c (slice_get sites c) refl (called_is_multi c k);
+    made = λ c t k i. picked c t (slice_get sites t) refl (called_is_multi c k) i;
+    equated = λ r a c i l j. let o = apart r i a c l j in (λ k. o.0 (called_is_multi a k), λ k. o.1 (called_is_multi c k));
+    constrained = λ r c k i d j. unconstrained r i c k (called_is_multi c j) d;
+    returned = λ r i k. unreturned r i (called_is_multi r.result k);
+  }
+
+pub calls_are_gone_over_in_built_sets_lem : CallsAreGoneOverInBuiltSets
+calls_are_gone_over_in_built_sets_lem p t set h b = gone_over (record { program = p; term = t; set = set; built = b }) h

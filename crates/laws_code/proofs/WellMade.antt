@@ -1,0 +1,67 @@
+-- The code of accepted definitions is well made: what code by types, and moves in place of clones, keep.
+use Rattle.std.proofs.Common.{◌≡◌, [], ℕ, suc, false, Option, Some, None, sym, ap, ◌∙◌, subst}
+use Rattle.model.specs.rules.Program.{Program, is_multi, arg_types, rules_of}
+use Rattle.model.specs.rules.Picks.{bag}
+use Rattle.model.specs.trees.Run.{World, world_of, at_start}
+use Rattle.model.specs.trees.Collects.{Collects}
+use Rattle.model.specs.claims.Layers.{own_program, LoweredTerm}
+use Rattle.laws_typing.proofs.WellTypedRules.{read_programs_are_well_typed}
+use Rattle.code_model.specs.Code.{Block}
+use Rattle.code_model.specs.CodeRuns.{outcome_of, code_run}
+use Rattle.code_model.specs.TreeCode.{tree_code}
+use Rattle.code_model.specs.Flat.{flat}
+use Rattle.code_model.specs.Modes.{passes_of, PassesByTypesFit}
+use Rattle.code_model.specs.MovedOnce.{FittingCodeMovesOnce}
+use Rattle.code_model.specs.Saving.{WithMovesSaysSame, WithMovesIsMadeWell}
+use Rattle.code_model.specs.SiteTypes.{types_of}
+use Rattle.laws_code.specs.CodeChoices.{CollectsUpTo, MeansItsSource, CodeChoosesAsSource}
+use Rattle.laws_code.specs.CodeScopes.{CodeOfAcceptedIsScoped}
+use Rattle.laws_code.specs.CodeMoves.{CodeOfAcceptedTakesOnce}
+use Rattle.laws_code.specs.TypedTrees.{TypedSetsHaveTypedTrees, BuiltSetsAreTyped, BuiltSetsConstrainByTypes, CodeOfAcceptedIsWellMade, CodeWithoutSuchConstantsIsWellMade}
+
+-- what runs the same means the same
+means_same : (p : Program) (l : LoweredTerm) (a b : Block) → ((w : World) (most : Option ℕ) → code_run a w most ≡ code_run b w most) → MeansItsSource p l a → MeansItsSource p l b
+means_same p l a b same means = record {
+  chooses = λ single m args typed served apart.
+      let c = means.chooses single m args typed served apart in (sym (same (world_of p l.term l.set.sites m args) None) ∙ c.0, c.1);
+  collects = λ multi needed m args typed served apart.
+      let c = means.collects multi needed m args typed served apart in
+      let w = world_of p l.term l.set.sites m args in
+      let all = bag p m (rules_of p l.term) args in
+      (subst (λ o. Collects o all) (same w None) c.0, λ n. subst (λ o. CollectsUpTo (suc n) o all) (same w (Some (suc n))) (c.1 n));
+}
+
+-- the laws that it rests on
+pub record LawsOfCode : Type 0 where
+  pub trees : TypedSetsHaveTypedTrees
+  pub sets : BuiltSetsAreTyped
+  pub fit : PassesByTypesFit
+  pub once : FittingCodeMovesOnce
+  pub same : WithMovesSaysSame
+  pub made : WithMovesIsMadeWell
+  pub scoped : CodeOfAcceptedIsScoped
+  pub taken : CodeOfAcceptedTakesOnce
+  pub means : CodeChoosesAsSource
+
+pub code_of_accepted_is_well_made_lem : LawsOfCode → CodeOfAcceptedIsWellMade
+code_of_accepted_is_well_made_lem laws defs expand rules l accepted built best by_types deep n =
+    let p = own_program defs rules in
+    let types = types_of p (arg_types p l.term) l.set.sites in
+    let multi = is_multi p l.term in
+    let passes = passes_of types multi l.set.sites in
+    let code = flat (tree_code l.tree l.set.sites passes) deep n in
+    let typed = laws.trees types l.set l.tree (laws.sets p l.term l.set (read_programs_are_well_typed accepted.read) built by_types) best in
+    let fits = laws.fit types multi l.set.sites l.tree deep n typed in
+    let taken = laws.taken defs expand rules l accepted built best passes deep n in
+    let same = laws.same types code in
+    let made = laws.made types multi code in
+    record {
+      scoped = same.scoped false [] ∙ laws.scoped defs expand rules l accepted built best passes deep n;
+      fits = made.fits fits;
+      once = made.once (laws.once types multi taken.0 code fits taken.1);
+      means = means_same p l code _ (λ w most. ap outcome_of (sym (same.runs w most [] at_start))) (laws.means defs expand rules l accepted built best passes deep n);
+    }
+
+pub code_without_such_constants_is_well_made_lem : BuiltSetsConstrainByTypes → CodeOfAcceptedIsWellMade → CodeWithoutSuchConstantsIsWellMade
+code_without_such_constants_is_well_made_lem constrained code defs expand rules l accepted built best plain =
+    code defs expand rules l accepted built best (constrained (own_program defs rules) l.term l.set (read_programs_are_well_typed accepted.read) built plain)

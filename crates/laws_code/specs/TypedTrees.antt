@@ -1,0 +1,69 @@
+-- The types of accepted definitions make the trees of their terms typed, where constraints are of their sites' types: that is, where
+-- no pattern names a constant of an enum or struct type. So their code is well made.
+use Rattle.std.specs.Prelude.{◌≡◌, ℕ, Bool, true, false, List, Some, slice_get, Contains}
+use Rattle.model.specs.rules.Program.{Program, arg_types, is_multi, rules_of}
+use Rattle.model.specs.rules.Typed.{TypedRule}
+use Rattle.model.specs.sites.Serves.{constant_type, is_type_with_parts}
+use Rattle.model.specs.sites.Sites.{Constraint, is_prim, SetRule, SiteSet, SiteTerm, unfold_site}
+use Rattle.model.specs.visits.Demands.{demands_of}
+use Rattle.model.specs.trees.Trees.{Tree}
+use Rattle.model.specs.trees.Best.{IsBestTree}
+use Rattle.model.specs.claims.Layers.{LoweredTerm}
+use Rattle.laws_closure.specs.BuiltSets.{OfBuiltSets}
+use Rattle.code_model.specs.Code.{Block}
+use Rattle.code_model.specs.TreeCode.{tree_code}
+use Rattle.code_model.specs.Flat.{flat}
+use Rattle.code_model.specs.Scopes.{IsScoped}
+use Rattle.code_model.specs.Modes.{Types, block_fits, passes_of, pattern_typed, tree_typed, IsTypedSet}
+use Rattle.code_model.specs.MovedOnce.{IsMovedOnce}
+use Rattle.code_model.specs.Saving.{with_moves}
+use Rattle.code_model.specs.SiteTypes.{types_at, are_copied, types_of}
+use Rattle.laws_code.specs.AcceptedCode.{OfBestTrees}
+use Rattle.laws_code.specs.CodeChoices.{MeansItsSource}
+
+-- the best trees of a typed set are typed
+abbrev pub TypedSetsHaveTypedTrees : Type 0
+TypedSetsHaveTypedTrees = (types : Types) (set : SiteSet) (tree : Tree) → IsTypedSet types set → IsBestTree set tree → tree_typed types set.sites tree ≡ true
+
+-- rules constrain to variants and structs what has an enum or a struct in it, and to constants what hasn't. It is false where a
+-- pattern of one of them names a constant of an enum or struct type, of which `isle check` warns
+abbrev pub ConstrainsByTypes : Program → ℕ → SiteSet → Type 0
+ConstrainsByTypes p t set =
+    (r : SetRule) (s : ℕ) (c : Constraint) → Contains set.rules r → Contains r.constraints (s, c)
+    → pattern_typed c (are_copied p (types_at p (arg_types p t) (unfold_site set.sites s))) ≡ true
+
+-- no pattern of these rules names such a constant. That a meaning tells constants apart (`TellsConstantsApart`) asks this too
+abbrev pub NamesConstantsWithoutParts : Program → List TypedRule → Type 0
+NamesConstantsWithoutParts p rs =
+    (r : TypedRule) (s : SiteTerm) (name ty : ℕ) → Contains rs r → Contains (demands_of p r).constraints (s, is_prim name) → constant_type p name ≡ Some ty
+    → is_type_with_parts (slice_get p.types ty) ≡ false
+
+-- then a built set constrains by types
+abbrev pub BuiltSetsConstrainByTypes : Type 0
+BuiltSetsConstrainByTypes = OfBuiltSets (λ p t set. NamesConstantsWithoutParts p (rules_of p t) → ConstrainsByTypes p t set)
+
+-- a built set is typed
+abbrev pub BuiltSetsAreTyped : Type 0
+BuiltSetsAreTyped = OfBuiltSets (λ p t set. ConstrainsByTypes p t set → IsTypedSet (types_of p (arg_types p t) set.sites) set)
+
+-- code by types, with moves in place of clones
+abbrev pub code_by_types : Program → LoweredTerm → (ℕ → Bool) → ℕ → Block
+code_by_types p l deep n =
+    let types = types_of p (arg_types p l.term) l.set.sites in
+    with_moves types (flat (tree_code l.tree l.set.sites (passes_of types (is_multi p l.term) l.set.sites)) deep n)
+
+-- what it reads is in scope; each use gives what is wanted, a reference or a value; what isn't Copy is moved once at most on each way;
+-- and it means what its source rules do
+pub record IsWellMade (p : Program) (l : LoweredTerm) (code : Block) : Type 0 where
+  pub scoped : IsScoped code
+  pub fits : block_fits (types_of p (arg_types p l.term) l.set.sites) (is_multi p l.term) true code ≡ true
+  pub once : IsMovedOnce (types_of p (arg_types p l.term) l.set.sites) (is_multi p l.term) code
+  pub means : MeansItsSource p l code
+
+abbrev pub CodeOfAcceptedIsWellMade : Type 0
+CodeOfAcceptedIsWellMade = OfBestTrees (λ p l. ConstrainsByTypes p l.term l.set → (deep : ℕ → Bool) (n : ℕ) → IsWellMade p l (code_by_types p l deep n))
+
+-- so the code of each term whose patterns name no constant of an enum or struct type is
+abbrev pub CodeWithoutSuchConstantsIsWellMade : Type 0
+CodeWithoutSuchConstantsIsWellMade =
+    OfBestTrees (λ p l. NamesConstantsWithoutParts p (rules_of p l.term) → (deep : ℕ → Bool) (n : ℕ) → IsWellMade p l (code_by_types p l deep n))
