@@ -2,7 +2,7 @@
 mod forms;
 
 use cranelift_isle::syntax::Files;
-use forms::check_document;
+use forms::{check_document, check_sizes};
 use isle_answers::samples::SAMPLES;
 use isle_command::answers::answer_to;
 use isle_command::words::{Asked, asked_by};
@@ -58,13 +58,24 @@ fn is_accepted(value: &Value) -> bool {
     }
 }
 
+// The keys of a document of trees.
+const TREES: [&str; 6] = [
+    "schema",
+    "types",
+    "terms",
+    "constants",
+    "all_terms",
+    "errors",
+];
+
 // Every sample has trees or errors, and its document the documented form.
 #[test]
 fn samples_are_read_back(rt: HostRuntime) -> Result<(), Fail> {
     let alloc = rt.alloc();
     for (_, text) in SAMPLES {
         let lowered = document(&rt, alloc, "lower --format json a.isle", text)?;
-        check_document(alloc, &lowered, &["schema", "types", "terms", "errors"])?;
+        check_document(alloc, &lowered, &TREES)?;
+        check_sizes(&document(&rt, alloc, "stats --format json a.isle", text)?)?;
         let checked = document(&rt, alloc, "check --format json a.isle", text)?;
         let keys: &[&str] = if is_accepted(&checked) {
             &["schema", "errors", "warnings"]
@@ -90,7 +101,7 @@ fn number_at(value: &Value, path: &str) -> Option<u64> {
 fn what_a_document_says(rt: HostRuntime) -> Result<(), Fail> {
     let alloc = rt.alloc();
     let value = document(&rt, alloc, "lower --format json a.isle", TYPES)?;
-    check_document(alloc, &value, &["schema", "types", "terms", "errors"])?;
+    check_document(alloc, &value, &TREES)?;
     for (path, want) in [
         ("/types/0/kind", "primitive"),
         ("/types/1/variants/0/fields/1/type", "P"),
@@ -99,6 +110,10 @@ fn what_a_document_says(rt: HostRuntime) -> Result<(), Fail> {
         ("/terms/0/signature/arguments/0", "S"),
         ("/terms/0/signature/result", "u8"),
         ("/terms/0/sites/0/what/kind", "argument"),
+        ("/terms/0/sites/0/types/0", "S"),
+        ("/terms/0/rules/0/written/arguments/0/name", "S"),
+        ("/constants/0/name", "K"),
+        ("/all_terms/1/name", "T.A"),
     ] {
         assert_eq!(&rt; text_at(&value, path), Some(want), "{path}");
     }
@@ -108,6 +123,8 @@ fn what_a_document_says(rt: HostRuntime) -> Result<(), Fail> {
         ("/terms/0/rules/1/priority", 1),
         ("/terms/0/rules/2/id", 2),
         ("/terms/0/rules/2/column", 63),
+        ("/terms/0/rules/0/end/column", 38),
+        ("/terms/0/rules/2/higher/1", 1),
     ] {
         assert_eq!(&rt; number_at(&value, path), Some(want), "{path}");
     }

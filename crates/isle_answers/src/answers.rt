@@ -41,8 +41,8 @@ pub fn answer_to(
 }
 
 /// Writes what is answered, and answers the program's status for it: 0 where trees are on `out`, 1 where errors
-/// are on `err`, 3 where memory was refused, 4 where `out` can't be written or flushed. A failure of `err` changes
-/// no status.
+/// are on `err`, 3 where memory was refused, 4 where `out` can't be written or flushed. Neither a failure of `err` nor an `out`
+/// that nobody reads changes a status.
 pub fn write_answer<O: Write, E: Write>(
     answer: Result<Answer, AllocError>,
     out: &mut O,
@@ -60,12 +60,14 @@ pub fn write_answer<O: Write, E: Write>(
     }
 }
 
-/// Writes a text to `out` and flushes it. The answer is the program's status: 0, or 4 where that fails.
+/// Writes a text to `out` and flushes it. The answer is the program's status: 0, or 4 where that fails. It is 0 too where nobody
+/// reads any more: who asked has had enough.
 pub fn write_text<O: Write, E: Write>(text: &str, out: &mut O, err: &mut E) -> u8
     ensures { (result ≡ 0) ⊎ (result ≡ 4) }
 {
     match write_whole(out, text) {
         Ok(()) => 0,
+        Err(error) if error.kind() == ErrorKind::BrokenPipe => 0,
         Err(_) => end(err, "cannot write\n", 4),
     }
 }

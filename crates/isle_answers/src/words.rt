@@ -6,25 +6,17 @@ use std::env::{Env, FillError};
 // The longest word that is read.
 const WORD_BYTES: usize = 4096;
 
-/// The words after the program's name. One that is not UTF-8 or is longer than 4,096 bytes is handed on as
-/// the empty text, which no program asks for.
+/// The words after the program's name. One that is longer than 4,096 bytes is handed on as the empty text, which no program asks
+/// for. What isn't UTF-8 in a word is U+FFFD.
 pub fn words(rt: &impl Env, alloc: Global) -> Result<Vec<String>, AllocError> {
     let mut words = Vec::new(alloc);
     let mut buf = [0u8; WORD_BYTES];
     for i in 1..usize::MAX {
         match rt.arg(i, &mut buf) {
-            Ok(n) => words.push(word(alloc, &buf[..n])?)?,
+            Ok(n) => words.push(String::from_utf8_lossy(alloc, &buf[..n])?)?,
             Err(FillError::TooLong) => words.push(String::new(alloc))?,
             Err(FillError::NotPresent) => break,
         }
     }
     Ok(words)
-}
-
-// The text of a word, or the empty text where it is not UTF-8.
-fn word(alloc: Global, bytes: &[u8]) -> Result<String, AllocError> {
-    match str::from_utf8(bytes) {
-        Ok(text) => String::from_str(alloc, text),
-        Err(_) => Ok(String::new(alloc)),
-    }
 }

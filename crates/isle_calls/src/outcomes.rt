@@ -48,9 +48,13 @@ fn push_calls(out: &mut String, lowered: &Lowered, calls: &[Call]) -> Result<(),
     Ok(())
 }
 
-// Adds a content: a value, values in brackets, or what is in one that is there.
+/// Adds a content: a value, values in brackets, or what is in one that is there.
 #[cycle(contents)]
-fn push_content(out: &mut String, lowered: &Lowered, content: &Content) -> Result<(), AllocError> {
+pub fn push_content(
+    out: &mut String,
+    lowered: &Lowered,
+    content: &Content,
+) -> Result<(), AllocError> {
     match content {
         Content::One(value) => push_value(out, lowered, value),
         Content::Parts(values) => {
@@ -71,8 +75,9 @@ fn push_content(out: &mut String, lowered: &Lowered, content: &Content) -> Resul
     }
 }
 
+/// Adds a value.
 #[cycle(values)]
-fn push_value(out: &mut String, lowered: &Lowered, value: &Value) -> Result<(), AllocError> {
+pub fn push_value(out: &mut String, lowered: &Lowered, value: &Value) -> Result<(), AllocError> {
     match value {
         Value::Truth(truth) => out.push_str(if *truth { "true" } else { "false" }),
         Value::Atom(ty, number) => push_atom(out, lowered, *ty, *number),
@@ -86,9 +91,9 @@ fn push_value(out: &mut String, lowered: &Lowered, value: &Value) -> Result<(), 
     }
 }
 
-// Adds a name with values, in parentheses.
+/// Adds a name with values, in parentheses.
 #[cycle(values)]
-fn push_composed(
+pub fn push_composed(
     out: &mut String,
     lowered: &Lowered,
     name: Option<&str>,

@@ -71,9 +71,9 @@ fn wrong_count(alloc: Global, lowered: &Lowered, term: &Term, given: usize) -> U
     wrong(format!(in alloc; "wrong number of arguments of `{name}`: {given} instead of {wanted}"))
 }
 
-// The value of a type that an expression writes: an integer, a truth value, a constant, a variant or a struct.
+/// The value of a type that an expression writes: an integer, a truth value, a constant, a variant or a struct.
 #[cycle(values)]
-fn value_of(
+pub fn value_of(
     alloc: Global,
     lowered: &Lowered,
     expr: &Expr,
@@ -117,8 +117,13 @@ fn composed(
     }
 }
 
-// An integer as a value of a type: of a built-in one the number of its range that it stands for.
-fn integer(alloc: Global, lowered: &Lowered, val: i128, ty: TypeId) -> Result<Value, Unanswered> {
+/// An integer as a value of a type: of a built-in one the number of its range that it stands for.
+pub fn integer(
+    alloc: Global,
+    lowered: &Lowered,
+    val: i128,
+    ty: TypeId,
+) -> Result<Value, Unanswered> {
     match lowered.tyenv.types.get(ty.index()) {
         Some(Type::Builtin(BuiltinType::Int(int))) => Ok(Value::Atom(ty, int.reduce(val))),
         Some(Type::Primitive(..)) => Ok(Value::Atom(ty, val)),

@@ -1,5 +1,5 @@
 -- What a status and a text that are handed over say of what was read.
-use Rattle.std.proofs.Common.{◌≡◌, ◌≢◌, ◌≤◌, ◌⊎◌, ℕ, Bool, true, false, List, [], Option, Some, None, inl, inr, refl, sym, subst, arith, is_none, is_some, nat_eq, if◌then◌else◌, Result, Ok, Err, IfOk}
+use Rattle.std.proofs.Common.{◌≡◌, ◌≢◌, ◌≤◌, ◌⊎◌, ℕ, Bool, true, false, List, [], Option, Some, None, inl, inr, refl, sym, ap, ◌∙◌, ◌||◌, subst, arith, is_none, is_some, nat_eq, if◌then◌else◌, Result, Ok, Err, IfOk}
 use Rattle.std.proofs.lemmas.Bool.{eqb-false, eqb-true}
 use Rattle.std.specs.declared.alloc.AllocError.{AllocError}
 use Rattle.isle_command.specs.declared.answers.Answer.{Answer}
@@ -8,7 +8,7 @@ use Rattle.isle_command.specs.declared.words.Request.{Request}
 use Rattle.isle_command.specs.Codes.{IsNamesLine}
 use Rattle.isle_command.specs.Readings.{IsAcceptedReading}
 use Rattle.isle_command.specs.Statuses.{may_fail, IsStatusOfReading}
-use Rattle.isle_command.specs.TaskAnswers.{IsAnswerToReading}
+use Rattle.isle_command.specs.TaskAnswers.{denies, has_one, IsAnswerToReading}
 use Rattle.isle_capi.specs.declared.options.Asked.{Asked}
 use Rattle.isle_capi.specs.declared.options.Task.{Task}
 use Rattle.isle_capi.specs.declared.options.Task.TheVariants as A
@@ -27,8 +27,12 @@ none_is_not_some : {T : Type 0} (o : Option T) → is_none o ≡ true → is_som
 none_is_not_some None e = refl
 none_is_not_some (Some x) e = cc
 
+-- no warnings are denied
+denies_none : (request : Request) → request.deny ≡ false → request.denied.items ≡ [] → denies request ≡ false
+denies_none request deny denied = ap (λ b. b || has_one request.denied.items) deny ∙ ap has_one denied
+
 -- a task of a call can't fail by itself
-cannot_fail : (task : Task) (request : Request) → request.task ≡ command_task task → request.deny ≡ false → is_none request.terms ≡ true
+cannot_fail : (task : Task) (request : Request) → request.task ≡ command_task task → denies request ≡ false → is_none request.terms ≡ true
     → may_fail request.task request ≡ false
 cannot_fail A.Trees request e deny terms = subst (λ t. may_fail t request ≡ false) (sym e) (none_is_not_some request.terms terms)
 cannot_fail A.Check request e deny terms = subst (λ t. may_fail t request ≡ false) (sym e) deny
@@ -63,7 +67,7 @@ says_of_command asked reading answer h =
       done = λ e. subst (λ x. IsAcceptedReading x reading) h.asks.expand (h.says.done (none_if_done answer.status e));
       errors = λ e accepted.
           h.says.refused (one_if_errors answer.status h.says.known e)
-          (cannot_fail asked.task h.request h.asks.task h.asks.deny h.asks.terms)
+          (cannot_fail asked.task h.request h.asks.task (denies_none h.request h.asks.deny h.asks.denied) h.asks.terms)
           (subst (λ x. IsAcceptedReading x reading) (sym h.asks.expand) accepted);
       no_code = λ e. absurd (never_no_code (nat_eq answer.status 0) e);
     }

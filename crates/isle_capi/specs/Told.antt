@@ -40,6 +40,7 @@ pub record IsRequestOf (asked : Asked) (request : Request) : Type 0 where
   pub format : request.format ≡ command_format asked.format
   pub expand : request.expand ≡ asked.expand
   pub deny : request.deny ≡ false
+  pub denied : request.denied.items ≡ []
   pub terms : is_none request.terms ≡ true
 
 -- what the command answers to what was read, for a call

@@ -156,6 +156,8 @@ fn request_of<'a>(alloc: Global, asked: Asked) -> Request<'a>
         task: task_of(asked.task),
         expand: asked.expand,
         deny: false,
+        denied: Vec::new(alloc),
+        allowed: Vec::new(alloc),
         all: false,
         format: format_of(asked.format),
         colored: asked.format == Format::Colored,
@@ -164,7 +166,10 @@ fn request_of<'a>(alloc: Global, asked: Asked) -> Request<'a>
         rule: "",
         code: CodegenOptions::included(alloc),
         progress: false,
+        answers: None,
+        trace: false,
         files: Vec::new(alloc),
+        old: 0,
         call: Vec::new(alloc),
     }
 }

@@ -1,5 +1,5 @@
 -- What the status of an answer says, and what lowered definitions are answered.
-use Rattle.std.proofs.Common.{◌≡◌, ◌≤◌, ◌⊎◌, ℕ, Bool, true, false, List, inl, inr, refl, subst, arith, Result, Ok, Err, IfOk, MatchResult}
+use Rattle.std.proofs.Common.{◌≡◌, ◌≢◌, ◌≤◌, ◌⊎◌, ℕ, Bool, true, false, List, inl, inr, refl, subst, arith, Result, Ok, Err, IfOk, MatchResult}
 use Rattle.std.specs.declared.alloc.AllocError.{AllocError}
 use Rattle.cranelift_isle.specs.Syntax.{Definition}
 use Rattle.cranelift_isle.specs.declared.lower.Lowered.{Lowered}
@@ -13,7 +13,7 @@ use Rattle.isle_command.specs.declared.words.Request.{Request}
 use Rattle.isle_command.specs.declared.words.Task.{Task}
 use Rattle.isle_command.specs.declared.words.Task.TheVariants as T
 use Rattle.isle_command.specs.Codes.{IsAnswerOfCode}
-use Rattle.isle_command.specs.TaskAnswers.{lowered_terms, IsAnswerBy, IsAnswerToDefinitions, IsAnswerToReading, IsAnswerToTexts}
+use Rattle.isle_command.specs.TaskAnswers.{lowered_terms, IsAnswerBy, IsAnswerToBoth, IsAnswerToDefinitions, IsAnswerToReading, IsAnswerToTexts}
 use Rattle.isle_command.specs.Statuses.{may_fail, IsStatusFor, IsStatusOfReading, IsWritten}
 
 -- code is answered with the status 0, and that there is none with the status 1
@@ -30,12 +30,15 @@ status_of_task T.Rust asked terms answer told = status_of_code told.0 answer tol
 status_of_task T.Check asked terms answer told = elim told.1 [ inl none ↦ inl none | inr denied ↦ inr (denied.1, denied.0) ]
 status_of_task T.Explain asked terms answer (inl done) = inl done.0.0
 status_of_task T.Explain asked terms answer (inr failed) = inr (failed.0, refl)
-status_of_task T.Stats asked terms answer done = inl done.0
+status_of_task T.Stats asked terms answer done = inl done.0.0
 status_of_task T.Compare asked terms answer (inl done) = inl done.0.0
 status_of_task T.Compare asked terms answer (inr failed) = inr (failed.0, refl)
+status_of_task T.Diff asked terms answer done = inl done.0.0
 status_of_task T.Samples asked terms answer done = inl done.0.0
 status_of_task T.Run asked terms answer (inl done) = inl done.0.0
 status_of_task T.Run asked terms answer (inr failed) = inr (failed.0, refl)
+status_of_task T.Why asked terms answer (inl done) = inl done.0.0
+status_of_task T.Why asked terms answer (inr failed) = inr (failed.0, refl)
 
 -- a status that is 0 or 1 is at most 1
 at_most_one : (status : ℕ) (P : Type 0) → (status ≡ 0) ⊎ ((status ≡ 1) × P) → status ≤ 1
@@ -81,3 +84,23 @@ pub status_written : (asked : Request) (texts : List (List ℕ)) (answer : Resul
     → IfOk answer (IsAnswerToTexts asked texts) → MatchResult answer (λ a. IsWritten a status) (λ _. status ≡ 3) → IsStatusFor asked texts status
 status_written asked texts (Ok answer) status of written = inr (answer, of, written)
 status_written asked texts (Err e) status of refused = inl refused
+
+-- what two versions are answered has the status 0 or 1
+status_of_both : (Old New : Type 0) (asked : Request) (answer : Answer) → IsAnswerToBoth Old New asked answer → answer.status ≤ 1
+status_of_both Old New asked answer (inl (old, new, inl done)) = let e = done.0.0 in omega (arith, e)
+status_of_both Old New asked answer (inl (old, new, inr different)) = let e = different.0 in omega (arith, e)
+status_of_both Old New asked answer (inr refused) = let e = refused.1.0 in omega (arith, e)
+
+-- and so has what texts are answered
+status_of_texts : (asked : Request) (texts : List (List ℕ)) (answer : Answer) → IsAnswerToTexts asked texts answer → answer.status ≤ 1
+status_of_texts asked texts answer (inl one) = (status_of_answer asked one.1.0 answer one.1.2).known
+status_of_texts asked texts answer (inr two) = status_of_both _ _ asked answer two.1.4
+
+-- no answer that is written has the status 2, and none a greater one than 4
+pub texts_written : (asked : Request) (texts : List (List ℕ)) (answer : Result Answer AllocError) (status : ℕ)
+    → IfOk answer (IsAnswerToTexts asked texts) → MatchResult answer (λ a. IsWritten a status) (λ _. status ≡ 3) → (status ≤ 4) × (status ≢ 2)
+texts_written asked texts (Ok answer) status of (inl same) =
+    let low = status_of_texts asked texts answer of in
+    (omega (arith, same, low), λ two. omega (arith, same, low, two))
+texts_written asked texts (Ok answer) status of (inr four) = let e = four.0 in (omega (arith, e), λ two. omega (arith, e, two))
+texts_written asked texts (Err e) status of refused = (omega (arith, refused), λ two. omega (arith, refused, two))

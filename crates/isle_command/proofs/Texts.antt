@@ -1,7 +1,15 @@
--- Texts that aren't empty.
-use Rattle.std.proofs.Common.{◌≢◌, ℕ, List, [], ◌∷◌, ◌++◌, arith}
+-- Texts that aren't empty, and texts that are copied.
+use Rattle.std.proofs.Common.{◌≡◌, ◌≢◌, ℕ, List, [], ◌∷◌, ◌++◌, map, string_bytes, String, Global, refl, ap, ◌∙◌, arith}
+use Rattle.std.specs.List.{AllZip}
 
 -- a text with something behind it
 pub ended_text : (text : List ℕ) (last : ℕ) → text ++ last ∷ [] ≢ []
 ended_text [] last = grind arith
 ended_text (x ∷ text) last = grind arith
+
+-- texts are the same as those that they are copied from
+pub same_texts : (xs ys : List (String Global)) → AllZip (λ x y. string_bytes y ≡ string_bytes x) xs ys → map string_bytes ys ≡ map string_bytes xs
+same_texts [] [] h = refl
+same_texts (x ∷ xs) (y ∷ ys) h = ap (λ b. b ∷ map string_bytes ys) h.0 ∙ ap (λ bs. string_bytes x ∷ bs) (same_texts xs ys h.1)
+same_texts [] (y ∷ ys) h = absurd h
+same_texts (x ∷ xs) [] h = absurd h

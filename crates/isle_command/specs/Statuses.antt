@@ -8,18 +8,20 @@ use Rattle.isle_command.specs.declared.words.Request.{Request}
 use Rattle.isle_command.specs.declared.words.Task.{Task}
 use Rattle.isle_command.specs.declared.words.Task.TheVariants as T
 use Rattle.isle_command.specs.Readings.{IsAcceptedReading}
-use Rattle.isle_command.specs.TaskAnswers.{IsAnswerToTexts}
+use Rattle.isle_command.specs.TaskAnswers.{denies, IsAnswerToTexts}
 
 -- whether a task may fail on accepted definitions
 abbrev pub may_fail : Task → Request → Bool
 may_fail T.Lower asked = is_some asked.terms
 may_fail T.Rust asked = true
-may_fail T.Check asked = asked.deny
+may_fail T.Check asked = denies asked
 may_fail T.Explain asked = true
 may_fail T.Stats asked = false
 may_fail T.Compare asked = true
+may_fail T.Diff asked = false
 may_fail T.Samples asked = false
 may_fail T.Run asked = true
+may_fail T.Why asked = true
 
 -- an answer's status is 0 only for texts that are accepted, and 1 only for others, unless the task may fail by itself
 pub record IsStatusOfReading (asked : Request) (reading : Reading) (status : ℕ) : Type 0 where

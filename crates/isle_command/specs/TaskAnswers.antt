@@ -1,5 +1,5 @@
 -- What the command answers to definitions, by what it is asked.
-use Rattle.std.specs.Prelude.{ℕ, ◌≡◌, ◌≢◌, ◌≤◌, ◌⊎◌, true, List, [], is_none, is_some, length, map, string_bytes}
+use Rattle.std.specs.Prelude.{ℕ, ◌≡◌, ◌≢◌, ◌≤◌, ◌⊎◌, ◌||◌, Bool, true, false, List, [], ◌∷◌, drop, is_none, is_some, length, map, string_bytes, take}
 use Rattle.cranelift_isle.specs.SyntaxViews.{definition_views}
 use Rattle.cranelift_isle.specs.Layers.{own_program, IsAccepted}
 use Rattle.cranelift_isle.specs.Elaborated.{TypedRules}
@@ -17,7 +17,7 @@ use Rattle.isle_command.specs.declared.words.Request.{Request}
 use Rattle.isle_command.specs.declared.words.Task.{Task}
 use Rattle.isle_command.specs.declared.words.Task.TheVariants as T
 use Rattle.isle_command.specs.Codes.{IsAnswerOfCode, IsCode}
-use Rattle.isle_command.specs.Readings.{IsReadingOf}
+use Rattle.isle_command.specs.Readings.{IsAcceptedReading, IsReadingOf}
 
 -- nothing stands on standard error
 abbrev pub IsOnOut : Answer → Type 0
@@ -42,6 +42,10 @@ IsDoneWithoutText answer = IsDone answer × IsOnErr answer
 -- it isn't done, and standard error alone says why
 abbrev pub IsFailed : Answer → Type 0
 IsFailed answer = (answer.status ≡ 1) × IsOnErr answer × (string_bytes answer.err ≢ [])
+
+-- two versions differ, and standard output alone says how
+abbrev pub IsDifferent : Answer → Type 0
+IsDifferent answer = (answer.status ≡ 1) × IsOnOut answer × (string_bytes answer.out ≢ [])
 
 -- reports may stand on one side: as JSON, which is never empty, on standard output, else on standard error
 abbrev pub AreReports : Format → Answer → Type 0
@@ -72,18 +76,33 @@ AsksForAll asked = is_none asked.terms ≡ true
 abbrev pub AsksByName : Request → Type 0
 AsksByName asked = is_some asked.terms ≡ true
 
+-- the text of the trees of some terms: of all where all are asked for
+abbrev pub HasTrees : Request → (terms : List ℕ) → (text : List ℕ) → Type 0
+HasTrees asked terms text = (count : ℕ) × (AsksForAll asked → count ≡ length terms) × AreTrees asked.format count text
+
+-- whether there is one of something
+abbrev pub has_one : {T : Type 0} → List T → Bool
+has_one [] = false
+has_one (x ∷ xs) = true
+
+-- whether warnings may count as errors: all do, or those of some kinds
+abbrev pub denies : Request → Bool
+denies asked = asked.deny || has_one asked.denied.items
+
 -- what accepted definitions with these terms with rules are answered, by the task. A task that may fail may do so on all of
 -- them: when it does isn't said; warnings have the status 1 only where they are denied
 abbrev pub IsAnswerBy : Task → Request → (terms : List ℕ) → Answer → Type 0
 IsAnswerBy T.Lower asked terms answer =
-    (IsDone answer × (AsksForAll asked → AreTrees asked.format (length terms) (string_bytes answer.out))) ⊎ (AsksByName asked × IsFailed answer)
+    (IsDone answer × HasTrees asked terms (string_bytes answer.out)) ⊎ (AsksByName asked × IsFailed answer)
 IsAnswerBy T.Rust asked terms answer = (code : Code) × IsCode code × IsAnswerOfCode code answer
-IsAnswerBy T.Check asked terms answer = AreReports asked.format answer × ((answer.status ≡ 0) ⊎ ((asked.deny ≡ true) × (answer.status ≡ 1)))
+IsAnswerBy T.Check asked terms answer = AreReports asked.format answer × ((answer.status ≡ 0) ⊎ ((denies asked ≡ true) × (answer.status ≡ 1)))
 IsAnswerBy T.Explain asked terms answer = IsDoneWithText answer ⊎ IsFailed answer
-IsAnswerBy T.Stats asked terms answer = IsDone answer
+IsAnswerBy T.Stats asked terms answer = IsDoneWithText answer
 IsAnswerBy T.Compare asked terms answer = IsDoneWithoutText answer ⊎ IsFailed answer
+IsAnswerBy T.Diff asked terms answer = IsDoneWithoutText answer
 IsAnswerBy T.Samples asked terms answer = IsDoneWithoutText answer
 IsAnswerBy T.Run asked terms answer = IsDoneWithText answer ⊎ IsFailed answer
+IsAnswerBy T.Why asked terms answer = IsDoneWithText answer ⊎ IsFailed answer
 
 -- definitions are accepted and the task is done or fails, or they aren't and are refused
 abbrev pub IsAnswerToDefinitions : List Definition → Request → Answer → Type 0
@@ -97,5 +116,21 @@ IsAnswerToReading asked (Defs defs) answer = IsAnswerToDefinitions (definition_v
 IsAnswerToReading asked (Unread reports) answer = IsRefusal asked answer
 
 -- texts are answered as something that they are read as
+abbrev pub IsAnswerToOneReading : Request → List (List ℕ) → Answer → Type 0
+IsAnswerToOneReading asked texts answer = (reading : Reading) × IsReadingOf texts reading × IsAnswerToReading asked reading answer
+
+-- two versions, each accepted or not, are answered: both are, and nothing is said, or how they differ; or one isn't, and is refused
+abbrev pub IsAnswerToBoth : (Old New : Type 0) → Request → Answer → Type 0
+IsAnswerToBoth Old New asked answer =
+    (Old × New × (IsDoneWithoutText answer ⊎ IsDifferent answer)) ⊎ ((Old → New → ⊥) × IsRefusal asked answer)
+
+-- so many texts are answered as the old version, and the others as the new one
+abbrev pub IsAnswerToVersions : Request → List (List ℕ) → Answer → Type 0
+IsAnswerToVersions asked texts answer =
+    (old : Reading) × (new : Reading) × IsReadingOf (take asked.old texts) old × IsReadingOf (drop asked.old texts) new
+    × IsAnswerToBoth (IsAcceptedReading asked.expand old) (IsAcceptedReading asked.expand new) asked answer
+
+-- texts are answered together, or as two versions where that is the task
 abbrev pub IsAnswerToTexts : Request → List (List ℕ) → Answer → Type 0
-IsAnswerToTexts asked texts answer = (reading : Reading) × IsReadingOf texts reading × IsAnswerToReading asked reading answer
+IsAnswerToTexts asked texts answer =
+    ((asked.task ≢ T.Diff) × IsAnswerToOneReading asked texts answer) ⊎ ((asked.task ≡ T.Diff) × IsAnswerToVersions asked texts answer)

@@ -1,38 +1,42 @@
 //! What the command answers to texts.
 
-ghost use Rattle.std.specs.Prelude.{◌≡◌, ◌≢◌, ◌⊎◌, ◌≤◌, ◌<◌, true, [], length, is_none, map, string_bytes, string_len, IfOk};
+ghost use Rattle.std.specs.Prelude.{◌≡◌, ◌≢◌, ◌⊎◌, ◌≤◌, ◌<◌, true, false, [], length, is_none, map, string_bytes, string_len, IfOk};
 ghost use Rattle.cranelift_isle.specs.SyntaxViews.{definition_views};
 ghost use Rattle.isle_command.specs.declared.code.Code.{Code};
 ghost use Rattle.isle_command.specs.declared.words.Task.TheVariants.{Lower};
 ghost use Rattle.isle_command.specs.Codes.{IsAnswerOfCode, IsCode};
-ghost use Rattle.isle_command.specs.TaskAnswers.{lowered_terms, AsksForAll, IsAnswerBy, IsAnswerToDefinitions, IsAnswerToReading, IsAnswerToTexts};
-ghost use Rattle.isle_command.specs.TaskAnswers.{AreReports, AreTrees, IsDoneWithText, IsDoneWithoutText, IsFailed, IsRefusal};
+ghost use Rattle.isle_command.specs.TaskAnswers.{AreReports, AreTrees, IsDoneWithText, IsDoneWithoutText, IsFailed, IsRefusal, denies};
+ghost use Rattle.isle_command.specs.TaskAnswers.{lowered_terms, AsksForAll, IsAnswerBy, IsAnswerToDefinitions, IsAnswerToOneReading, IsAnswerToReading, IsAnswerToTexts};
 ghost use Rattle.isle_command.specs.Statuses.{IsStatusOfReading};
 
+use crate::calls::{Told, ran, told_why};
 use crate::code::{Code, code_of_lowered};
-use crate::comparison::difference;
+use crate::comparison::{difference, differences};
 use crate::graphs::graph_of;
-use crate::json::documents::{document_of_reports, document_of_terms, document_of_warnings};
 use crate::progress::Teller;
 use crate::reading::{Reading, reading_of};
+use crate::versions::answer_to_versions;
 use crate::words::{Format, Request, Task};
 use cranelift_isle::lower::{Lowered, LoweredTerm, lower};
-use cranelift_isle::syntax::{Def, Fault, Files};
-use isle_calls::calls::answer_to_call;
-use isle_calls::values::Unanswered;
+use cranelift_isle::syntax::{Def, Error, Fault, Files};
 use isle_diagnostics::diagnosis::reports_of;
 use isle_diagnostics::explanation::{explanation, with_rules};
-use isle_diagnostics::lints::warnings;
 use isle_diagnostics::stats::stats;
+use isle_json::documents::{
+    Document, document_of_reports, document_of_sizes, document_of_terms, document_of_warnings,
+};
 use isle_printing::layout::push_reports;
 use isle_printing::print::{Names, print_bindings, print_block};
 use isle_printing::report::Report;
+use isle_warnings::kinds::is_one_of;
+use isle_warnings::lints::warnings;
 use std::alloc::{AllocError, Global};
 use std::io::Write;
 
 /// What the command answers.
 pub struct Answer {
-    /// Its status: 0, or 1 where something is wrong with the files or there is nothing of a name that is asked for.
+    /// Its status: 0, or 1 where something is wrong with the files, there is nothing of a name that is asked for, or versions or
+    /// trees differ.
     pub status: u8,
     /// What goes to standard output.
     pub out: String,
@@ -62,19 +66,36 @@ pub fn answer_to<E: Write>(
     ensures { IfOk result (IsAnswerToTexts asked.now (map string_bytes files.now.texts.items)) }
 {
     let mut teller = Teller::new(asked.progress, terminal, err);
-    let answer = answer_to_texts(alloc, asked, files, &mut teller);
+    let answer = answer_to_files(alloc, asked, files, &mut teller);
     teller.end();
     answer
 }
 
 // The same, by what tells what is being done.
-fn answer_to_texts<E: Write>(
+fn answer_to_files<E: Write>(
     alloc: Global,
     asked: &Request<'_>,
     files: &Files,
     teller: &mut Teller<'_, E>,
 ) -> Result<Answer, AllocError>
     ensures { IfOk result (IsAnswerToTexts asked.now (map string_bytes files.now.texts.items)) }
+{
+    if asked.task == Task::Diff {
+        let answer = answer_to_versions(alloc, asked, files, teller)?;
+        return Ok(answer);
+    }
+    let answer = answer_to_texts(alloc, asked, files, teller)?;
+    Ok(answer)
+}
+
+// What is answered to files that together are one list of definitions.
+fn answer_to_texts<E: Write>(
+    alloc: Global,
+    asked: &Request<'_>,
+    files: &Files,
+    teller: &mut Teller<'_, E>,
+) -> Result<Answer, AllocError>
+    ensures { IfOk result (IsAnswerToOneReading asked.now (map string_bytes files.now.texts.items)) }
 {
     let reading = reading_of(alloc, asked, files, teller)?;
     answer_to_reading(alloc, asked, files, &reading, teller)
@@ -97,8 +118,8 @@ pub fn answer_to_reading<E: Write>(
     }
 }
 
-// The answer where something is wrong: these reports, and how many more there are.
-fn refusal(
+/// The answer where something is wrong: these reports, and how many more there are.
+pub(crate) fn refusal(
     alloc: Global,
     asked: &Request<'_>,
     files: &Files,
@@ -108,10 +129,9 @@ fn refusal(
     ensures { IfOk result (IsRefusal asked.now) }
 {
     if asked.format == Format::Json {
-        let parts = asked.task == Task::Lower;
         return Ok(Answer {
             status: 1,
-            out: document_of_reports(alloc, files, reports, parts)?,
+            out: document_of_reports(alloc, files, reports, document_for(asked.task))?,
             err: String::new(alloc),
         });
     }
@@ -123,6 +143,16 @@ fn refusal(
         out: String::new(alloc),
         err,
     })
+}
+
+// What a JSON document is made for.
+fn document_for(task: Task) -> Document {
+    match task {
+        Task::Lower => Document::Trees,
+        Task::Stats => Document::Sizes,
+        // the other tasks have no JSON
+        _ => Document::Check,
+    }
 }
 
 // Adds how many more errors there are.
@@ -146,14 +176,25 @@ fn answer_to_defs<E: Write>(
     teller.tell("lowering", "all terms");
     match lower(alloc, defs, asked.expand) {
         Ok(lowered) => answer_to_lowered(alloc, asked, files, defs, &lowered, teller),
-        Err(Fault::Errors(errors)) => {
-            teller.tell("explaining", "errors");
-            let reports = reports_of(alloc, defs, asked.expand, &errors, asked.wants_all())?;
-            let rest = errors.len().saturating_sub(reports.len());
-            refusal(alloc, asked, files, &reports, rest)
-        }
+        Err(Fault::Errors(errors)) => refused(alloc, asked, files, defs, &errors, teller),
         Err(Fault::Memory(error)) => Err(error),
     }
+}
+
+/// The answer where definitions have errors.
+pub(crate) fn refused<E: Write>(
+    alloc: Global,
+    asked: &Request<'_>,
+    files: &Files,
+    defs: &[Def],
+    errors: &[Error],
+    teller: &mut Teller<'_, E>,
+) -> Result<Answer, AllocError>
+    ensures { IfOk result (IsRefusal asked.now) }
+{
+    teller.tell("explaining", "errors");
+    let found = reports_of(alloc, defs, asked.expand, errors, asked.wants_all())?;
+    refusal(alloc, asked, files, &found.reports, found.rest)
 }
 
 // What is answered to definitions with trees.
@@ -168,19 +209,22 @@ fn answer_to_lowered<E: Write>(
     ensures { IfOk result (IsAnswerBy asked.now.task asked.now (lowered_terms lowered.now)) }
 {
     match asked.task {
-        Task::Lower => trees(alloc, asked, files, lowered, teller),
+        Task::Lower => trees(alloc, asked, files, defs, lowered, teller),
         Task::Rust => {
             teller.tell("printing", "all terms");
             coded(alloc, asked, files, lowered)
         }
         Task::Check => {
             teller.tell("checking", "all rules");
-            warned(alloc, asked, files, &warnings(alloc, defs, lowered)?)
+            let warnings = warnings(alloc, defs, lowered, &asked.allowed)?;
+            warned(alloc, asked, files, &warnings)
         }
-        Task::Samples => Ok(accepted(alloc, String::new(alloc))),
-        Task::Stats => Ok(accepted(alloc, stats(alloc, lowered)?)),
+        // one list of definitions is no second version
+        Task::Samples | Task::Diff => Ok(accepted(alloc, String::new(alloc))),
+        Task::Stats => counted(alloc, asked, lowered),
         Task::Compare => compared(alloc, asked, files, lowered, teller),
-        Task::Run => ran(alloc, asked, lowered),
+        Task::Run => answer_of_call(alloc, ran(alloc, asked, files, lowered)?),
+        Task::Why => answer_of_call(alloc, told_why(alloc, asked, files, defs, lowered)?),
         Task::Explain => explained(alloc, asked, files, defs, lowered),
     }
 }
@@ -210,6 +254,18 @@ fn answer_of_code(alloc: Global, code: Code) -> Answer
             err: why,
         },
     }
+}
+
+// How large terms are.
+fn counted(alloc: Global, asked: &Request<'_>, lowered: &Lowered) -> Result<Answer, AllocError>
+    ensures { IfOk result IsDoneWithText }
+{
+    let out = if asked.format == Format::Json {
+        document_of_sizes(alloc, lowered)?
+    } else {
+        stats(alloc, lowered)?
+    };
+    Ok(accepted(alloc, out))
 }
 
 // What is said of the rules that are so called.
@@ -251,16 +307,12 @@ fn warned(
     warnings: &[Report],
 ) -> Result<Answer, AllocError>
     ensures reports { IfOk result (AreReports asked.now.format) }
-    // warnings have the status 1 exactly where they are denied and there are some
+    // warnings have the status 1 where all are denied and there are some, and only where some are denied
     ensures denied { asked.now.deny ≡ true → warnings.now ≢ [] → IfOk result (λ a. a.status ≡ 1) }
     ensures none { warnings.now ≡ [] → IfOk result (λ a. a.status ≡ 0) }
-    ensures allowed { IfOk result (λ a. (a.status ≡ 0) ⊎ ((asked.now.deny ≡ true) × (a.status ≡ 1))) }
+    ensures allowed { IfOk result (λ a. (a.status ≡ 0) ⊎ ((denies asked.now ≡ true) × (a.status ≡ 1))) }
 {
-    let status = if asked.deny && !warnings.is_empty() {
-        1
-    } else {
-        0
-    };
+    let status = if has_denied(asked, warnings) { 1 } else { 0 };
     let mut out = String::new(alloc);
     let mut err = String::new(alloc);
     if asked.format == Format::Json {
@@ -269,6 +321,21 @@ fn warned(
         push_reports(&mut err, files, warnings, asked.layout())?;
     }
     Ok(Answer { status, out, err })
+}
+
+// Whether one of these warnings counts as an error.
+fn has_denied(asked: &Request<'_>, warnings: &[Report]) -> bool
+    ensures all { asked.now.deny ≡ true → warnings.now ≢ [] → result ≡ true }
+    ensures none { warnings.now ≡ [] → result ≡ false }
+    ensures some { result ≡ true → denies asked.now ≡ true }
+{
+    if asked.deny {
+        return !warnings.is_empty();
+    }
+    !asked.denied.is_empty()
+        && warnings
+            .iter()
+            .any(|report| is_one_of(report, &asked.denied))
 }
 
 // The answer where there is nothing of a name.
@@ -282,40 +349,18 @@ fn missing(alloc: Global, what: &str, name: &str) -> Result<Answer, AllocError>
     })
 }
 
-// The outcome of the call that is asked for, or what is wrong with it.
-fn ran(alloc: Global, asked: &Request<'_>, lowered: &Lowered) -> Result<Answer, AllocError>
+// The answer to a call, or what is wrong with it.
+fn answer_of_call(alloc: Global, told: Told) -> Result<Answer, AllocError>
     ensures { IfOk result (λ a. IsDoneWithText a ⊎ IsFailed a) }
 {
-    let call = call_text(alloc, &asked.call)?;
-    match answer_to_call(alloc, lowered, &call) {
-        Ok(outcome) => Ok(accepted(alloc, format!(in alloc; "{outcome}\n")?)),
-        Err(Unanswered::Call(why)) => failed(alloc, &why),
-        Err(Unanswered::Memory) => Err(AllocError),
+    match told {
+        Told::Text(text) => Ok(accepted(alloc, format!(in alloc; "{text}\n")?)),
+        Told::Wrong(why) => Ok(Answer {
+            status: 1,
+            out: String::new(alloc),
+            err: format!(in alloc; "{why}\n")?,
+        }),
     }
-}
-
-// The answer where definitions are accepted and a task fails, for this reason.
-fn failed(alloc: Global, why: &str) -> Result<Answer, AllocError>
-    ensures { IfOk result IsFailed }
-{
-    Ok(Answer {
-        status: 1,
-        out: String::new(alloc),
-        err: format!(in alloc; "error: {why}\n")?,
-    })
-}
-
-// The text of a call whose words are these, in parentheses where the words have none.
-fn call_text(alloc: Global, words: &[&str]) -> Result<String, AllocError> {
-    let mut text = String::new(alloc);
-    for (i, word) in words.iter().enumerate() {
-        text.push_str(if i == 0 { "" } else { " " })?;
-        text.push_str(word)?;
-    }
-    if text.starts_with('(') {
-        return Ok(text);
-    }
-    format!(in alloc; "({text})")
 }
 
 // The terms that are asked for.
@@ -350,17 +395,21 @@ fn compared<E: Write>(
     }
     let wanted = wanted(alloc, asked, lowered)?;
     let trees = drawn(alloc, Format::Text, files, lowered, &wanted, teller)?;
-    compared_with(alloc, files, &trees)
+    compared_with(alloc, asked.all, files, &trees)
 }
 
-// Where the trees of the last file depart from these.
-fn compared_with(alloc: Global, files: &Files, trees: &str) -> Result<Answer, AllocError>
+// Where the trees of the last file depart from these: in all terms, or the first line.
+fn compared_with(alloc: Global, all: bool, files: &Files, trees: &str) -> Result<Answer, AllocError>
     ensures { IfOk result (λ a. IsDoneWithoutText a ⊎ IsFailed a) }
 {
     let (Some(name), Some(text)) = (files.names.last(), files.texts.last()) else {
         return Ok(accepted(alloc, String::new(alloc)));
     };
-    let err = difference(alloc, name, text, trees)?;
+    let err = if all {
+        differences(alloc, name, text, trees)?
+    } else {
+        difference(alloc, name, text, trees)?
+    };
     let status = if err.is_empty() { 0 } else { 1 };
     Ok(Answer {
         status,
@@ -374,6 +423,7 @@ fn trees<E: Write>(
     alloc: Global,
     asked: &Request<'_>,
     files: &Files,
+    defs: &[Def],
     lowered: &Lowered,
     teller: &mut Teller<'_, E>,
 ) -> Result<Answer, AllocError>
@@ -383,7 +433,7 @@ fn trees<E: Write>(
         return missing(alloc, "term with rules", name);
     }
     let wanted = wanted(alloc, asked, lowered)?;
-    let out = text_of_trees(alloc, asked.format, files, lowered, &wanted, teller)?;
+    let out = text_of_trees(alloc, asked.format, files, defs, lowered, &wanted, teller)?;
     Ok(accepted(alloc, out))
 }
 
@@ -392,6 +442,7 @@ fn text_of_trees<E: Write>(
     alloc: Global,
     format: Format,
     files: &Files,
+    defs: &[Def],
     lowered: &Lowered,
     terms: &[&LoweredTerm],
     teller: &mut Teller<'_, E>,
@@ -401,7 +452,7 @@ fn text_of_trees<E: Write>(
     match format {
         Format::Json => {
             teller.tell("printing", "all terms");
-            document_of_terms(alloc, files, lowered, terms)
+            document_of_terms(alloc, files, defs, lowered, terms)
         }
         Format::Dot | Format::Text | Format::Line => {
             drawn(alloc, format, files, lowered, terms, teller)

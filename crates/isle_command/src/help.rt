@@ -12,22 +12,35 @@ definitions. Tasks:
                          in the rule, or FILE:LINE. FILE may be the end of a path.
   stats FILE..           counts the rules, sites, tests, arms and returns of each term, and how deep its tests nest
   compare FILE.. TREES   shows where the printed trees in the last file differ from the trees of the other files
+  diff OLD.. -- NEW..    says which terms' trees differ between two versions of rules, and which rules came, went or have
+                         another priority
   run FILE.. -- TERM VALUE..
                          runs a term on values (docs/RUNNING.md). Each term that it calls returns its first argument. An
                          impure term returns the number of impure calls before it. A value with parentheses is quoted:
                          isle run a.isle -- f 1 '(T.A 2)'
+  why RULE FILE.. -- TERM VALUE..
+                         says whether a rule is taken on a call, and why not. RULE is as in explain.
+  fmt FILE..             lays out files, in place. The layout of - goes to standard output. --check only names the files
+                         that would change.
   samples [NAME]         lists the built-in samples, or prints the tree of one
 Options:
   --terms NAME,..        lower, compare: only these terms
   --prefix FROM=TO       rust: shows TO in place of FROM where a file name begins with FROM. May be given many times.
   --log                  rust: the code logs each result, by the crate log
   --with-allows          rust: the code begins with attributes #![allow(..)], so it can be a file of its own
+  --answers FILE         run, why: takes the answers to calls from a file, and runs called terms with rules (docs/RUNNING.md)
+  --trace                run: shows each test that is made, and the rule of each return
   --no-expand            does not expand internal extractors. The task rust always expands them.
-  --deny                 check: warnings are errors
-  --all                  shows all errors. Otherwise only the first 20 are shown.
+  --deny                 check: all warnings are errors
+  --deny=NAME,..         check: the warnings of these names are errors
+  --allow NAME,..        check: the warnings of these names are not shown. May be given many times. --allow=NAME,.. is the
+                         same. The names are never-run, priority, uncovered, recursion, constant, name, unused and literal
+                         (docs/USING.md).
+  --all                  shows all errors. Otherwise only the first 20, and none that follows from another one. compare: the
+                         first line of each term that differs. Otherwise only the first line of all is shown.
   --format text          shows each error with its source lines. This is the default.
   --format line          shows each error on one line
-  --format json          lower, check: prints one JSON object, which has the errors too (docs/JSON.md)
+  --format json          lower, check, stats: prints one JSON object, which has the errors too (docs/JSON.md)
   --format dot           lower: prints each tree as a Graphviz graph
   --color WHEN           colours errors: always, never or auto. The default is auto. It colours them if standard error is a
                          terminal and NO_COLOR is not set.

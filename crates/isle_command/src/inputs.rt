@@ -11,9 +11,9 @@ use std::{fs, io};
 pub enum Unread {
     /// Memory was refused.
     Memory,
-    /// The text of a file of this name isn't UTF-8.
+    /// A text isn't UTF-8: what it is instead, the name of its file, and where.
     Text(String),
-    /// There is no file of this name, or it can't be read.
+    /// A file, or the folder of files, can't be read: its name and why.
     File(String),
 }
 
@@ -36,7 +36,8 @@ pub fn read_files<R: std::rt::Files + AllocGlobal, I: Read + Drop>(
     input: I,
 ) -> Result<Files, Unread> {
     let alloc = rt.alloc();
-    let standard = standard_text(alloc, asked, input)?;
+    let wants = asked.files.iter().any(|name| *name == "-");
+    let standard = standard_text(alloc, wants, input)?;
     let mut files = Files {
         names: Vec::new(alloc),
         texts: Vec::new(alloc),
@@ -53,51 +54,120 @@ pub fn read_files<R: std::rt::Files + AllocGlobal, I: Read + Drop>(
     Ok(files)
 }
 
-// The text of standard input where it is asked for, else the empty text.
-fn standard_text<I: Read + Drop>(
+/// The text of standard input where it is wanted, else the empty text.
+pub(crate) fn standard_text<I: Read + Drop>(
     alloc: Global,
-    asked: &Request<'_>,
-    input: I,
+    wants: bool,
+    mut input: I,
 ) -> Result<String, Unread> {
-    if !asked.files.iter().any(|name| *name == "-") {
-        return Ok(String::new(alloc));
+    let mut bytes = Vec::new(alloc);
+    if wants {
+        if let Err(error) = input.read_to_end(&mut bytes) {
+            return Err(why_unread(alloc, "<stdin>", &error));
+        }
     }
-    match io::read_to_string(alloc, input) {
-        Ok(text) => Ok(text),
-        Err(error) => Err(why_unread(alloc, error.kind(), "<stdin>")),
-    }
+    text_of(alloc, "<stdin>", bytes)
 }
 
-// The text of a file.
-fn file_text<R: std::rt::Files + AllocGlobal>(
+/// The text of a file.
+pub(crate) fn file_text<R: std::rt::Files + AllocGlobal>(
     rt: &R,
     folder: &str,
     name: &str,
 ) -> Result<String, Unread> {
+    if is_in_folder(folder, name) {
+        if let Some(why) = unread_folder(rt, folder) {
+            return Err(why);
+        }
+    }
+    let path = path_of(rt.alloc(), folder, name)?;
+    text_at(rt, &path, name)
+}
+
+// Whether a file is looked for in a folder.
+fn is_in_folder(folder: &str, name: &str) -> bool {
+    !folder.is_empty() && !name.starts_with('/')
+}
+
+/// The path of a file.
+pub(crate) fn path_of(alloc: Global, folder: &str, name: &str) -> Result<String, AllocError> {
+    if is_in_folder(folder, name) {
+        format!(in alloc; "{folder}/{name}")
+    } else {
+        String::from_str(alloc, name)
+    }
+}
+
+// The text of the file at a path.
+fn text_at<R: std::rt::Files + AllocGlobal>(
+    rt: &R,
+    path: &str,
+    name: &str,
+) -> Result<String, Unread> {
     let alloc = rt.alloc();
-    let path = path_of(alloc, folder, name)?;
-    match fs::read_to_string(rt, path.as_str()) {
-        Ok(text) => Ok(text),
-        Err(error) => Err(why_unread(alloc, error.kind(), name)),
+    match fs::read(rt, path) {
+        Ok(bytes) => text_of(alloc, name, bytes),
+        Err(error) => Err(why_unread(alloc, name, &error)),
     }
 }
 
-// The path of a file.
-fn path_of(alloc: Global, folder: &str, name: &str) -> Result<String, AllocError> {
-    if folder.is_empty() || name.starts_with('/') {
-        return String::from_str(alloc, name);
-    }
-    format!(in alloc; "{folder}/{name}")
-}
-
-// Why a file of this name can't be read.
-fn why_unread(alloc: Global, why: ErrorKind, name: &str) -> Unread {
-    let Ok(name) = String::from_str(alloc, name) else {
-        return Unread::Memory;
+// Why files in a folder can't be read, where that is the folder.
+fn unread_folder<R: std::rt::Files + AllocGlobal>(rt: &R, folder: &str) -> Option<Unread> {
+    let alloc = rt.alloc();
+    let why = match fs::metadata(rt, folder) {
+        Ok(found) if found.is_dir() => return None,
+        Ok(_) => "it is no folder",
+        Err(error) if error.kind() == ErrorKind::NotFound => "no such folder",
+        Err(_) => "no permission",
     };
-    match why {
-        ErrorKind::OutOfMemory => Unread::Memory,
-        ErrorKind::InvalidData => Unread::Text(name),
-        _ => Unread::File(name),
+    Some(file(format!(in alloc; "the folder {folder}: {why}")))
+}
+
+// The text that a file's bytes are.
+fn text_of(alloc: Global, name: &str, bytes: Vec<u8>) -> Result<String, Unread> {
+    if let Some(at) = utf16_at(&bytes) {
+        return Err(Unread::Text(format!(in alloc;
+            "this looks like UTF-16, and must be UTF-8: {name}, at byte {at}"
+        )?));
+    }
+    match String::from_utf8(bytes) {
+        Ok(text) => Ok(text),
+        Err(error) => {
+            let at = error.utf8_error().valid_up_to();
+            Err(Unread::Text(format!(in alloc; "this text isn't UTF-8: {name}, at byte {at}")?))
+        }
+    }
+}
+
+// Where bytes look like UTF-16: they begin with a mark for it, or a character of two bytes has a byte 0.
+fn utf16_at(bytes: &[u8]) -> Option<usize> {
+    match bytes {
+        [0xff, 0xfe, ..] | [0xfe, 0xff, ..] | [0, ..] => Some(0),
+        [_, 0, ..] => Some(1),
+        _ => None,
+    }
+}
+
+// Why a file can't be read.
+fn why_unread(alloc: Global, name: &str, error: &io::Error) -> Unread {
+    // the words of a program have this character in place of what isn't UTF-8
+    let is_named = !name.contains('\u{fffd}');
+    let why = match error.kind() {
+        ErrorKind::OutOfMemory => return Unread::Memory,
+        ErrorKind::NotFound if is_named => "no such file",
+        ErrorKind::NotFound => "no such file, or its name isn't UTF-8",
+        ErrorKind::IsADirectory => "it is a folder",
+        ErrorKind::NotADirectory => "a part of its path is no folder",
+        ErrorKind::PermissionDenied => "no permission",
+        _ => return file(format!(in alloc; "{name}: {error}")),
+    };
+    file(format!(in alloc; "{name}: {why}"))
+}
+
+// That a file can't be read, in these words.
+fn file(words: Result<String, AllocError>) -> Unread {
+    match words {
+        Ok(words) => Unread::File(words),
+        Err(AllocError) => Unread::Memory,
     }
 }

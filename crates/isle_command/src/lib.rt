@@ -2,13 +2,15 @@
 #![tactic(auto)]
 
 pub mod answers;
+mod calls;
 pub mod code;
 mod comparison;
+pub mod formatting;
 mod graphs;
 mod help;
 mod inputs;
-mod json;
 pub mod progress;
 pub mod reading;
 pub mod run;
+mod versions;
 pub mod words;

@@ -8,10 +8,12 @@ ghost use Rattle.isle_command.specs.Readings.{IsReadingOf, IsUnread};
 
 use crate::progress::Teller;
 use crate::words::Request;
-use cranelift_isle::syntax::{Def, Files};
+use cranelift_isle::syntax::{Def, Files, Pos};
+use isle_causes::misspelled::question_at;
+use isle_causes::unclosed::line_with_list;
 use isle_printing::lines::file_name;
-use isle_printing::report::{Label, Level, Report};
-use isle_reader::errors::{Problem, ReadFault, TextError};
+use isle_printing::report::{Level, Report};
+use isle_reader::errors::{Mistake, Problem, ReadFault, TextError};
 use isle_reader::read;
 use std::alloc::{AllocError, Global};
 use std::io::Write;
@@ -33,7 +35,7 @@ impl Drop for Reading {
     }
 }
 
-/// Reads the texts of files, but for those that have printed trees, and tells of each that it is read.
+/// Reads the texts of files, but for those that have no definitions, and tells of each that it is read.
 pub fn reading_of<E: Write>(
     alloc: Global,
     asked: &Request<'_>,
@@ -45,7 +47,7 @@ pub fn reading_of<E: Write>(
     let mut defs = Vec::new(alloc);
     let mut reports = Vec::new(alloc);
     for (number, text) in files.texts.iter().enumerate() {
-        if !asked.has_trees(number) {
+        if !asked.has_no_definitions(number) {
             teller.tell("reading", file_name(files, number));
             read_text(alloc, number, text, &mut defs, &mut reports)?;
         }
@@ -76,31 +78,71 @@ fn read_text(
             Ok(())
         }
         Err(ReadFault::Text(error)) => {
-            reports.push(syntax_report(alloc, error)?)?;
+            reports.push(syntax_report(alloc, text, error)?)?;
             Ok(())
         }
         Err(ReadFault::Memory(error)) => Err(error),
     }
 }
 
-// The report of what is wrong with a text.
-fn syntax_report(alloc: Global, error: TextError) -> Result<Report, AllocError> {
-    let mut report = Report {
-        level: Level::Error,
-        kind: "syntax",
-        message: format!(in alloc; "{error}")?,
-        labels: Vec::new(alloc),
-        notes: Vec::new(alloc),
-    };
-    report.labels.push(Label {
-        pos: error.pos,
-        text: String::new(alloc),
-    })?;
+/// The report of what is wrong with a text.
+pub(crate) fn syntax_report(
+    alloc: Global,
+    text: &str,
+    error: TextError,
+) -> Result<Report, AllocError> {
+    let message = format!(in alloc; "{error}")?;
+    let mut report = Report::new(alloc, Level::Error, "syntax", message);
+    report.add_label(error.pos, String::new(alloc))?;
     if let Problem::Unclosed(open) = &error.problem {
-        report.labels.push(Label {
-            pos: *open,
-            text: String::from_str(alloc, "begins here")?,
-        })?;
+        report.add_label(*open, String::from_str(alloc, "begins here")?)?;
+        add_next_line(alloc, &mut report, text, *open)?;
     }
+    add_question(alloc, &mut report, text, &error)?;
     Ok(report)
 }
+
+// The words that may stand before a declaration's name.
+const FLAGS: [&str; 4] = ["pure", "multi", "partial", "rec"];
+
+// The words that a further condition of a rule may begin with.
+const STATEMENTS: [&str; 2] = ["if-let", "if"];
+
+// Adds the word that may be meant where one of a few is expected.
+fn add_question(
+    alloc: Global,
+    report: &mut Report,
+    text: &str,
+    error: &TextError,
+) -> Result<(), AllocError> {
+    let offset = error.pos.offset;
+    let question = match &error.problem {
+        Problem::Expected(Mistake::Flag) => question_at(alloc, text, offset, &FLAGS)?,
+        Problem::Expected(Mistake::Statement) => question_at(alloc, text, offset, &STATEMENTS)?,
+        _ => None,
+    };
+    match question {
+        Some(question) => report.add_note("help", question),
+        None => Ok(()),
+    }
+}
+
+// Adds the line behind a list that isn't ended where the next form seems to begin.
+fn add_next_line(
+    alloc: Global,
+    report: &mut Report,
+    text: &str,
+    open: Pos,
+) -> Result<(), AllocError> {
+    let Some(offset) = line_with_list(text, open.offset) else {
+        return Ok(());
+    };
+    let pos = Pos {
+        file: open.file,
+        offset,
+    };
+    report.add_label(pos, String::from_str(alloc, NEXT_LINE)?)
+}
+
+// What is said of a line that begins with a list, inside a list that isn't ended.
+const NEXT_LINE: &str = "this line begins a new form: is a `)` missing before it?";

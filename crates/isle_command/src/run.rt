@@ -6,6 +6,7 @@ ghost use Rattle.isle_command.specs.declared.words.Task.TheVariants.{Samples};
 ghost use Rattle.isle_command.specs.Statuses.{IsStatusFor, IsStatusOfUnread, IsWritten};
 
 use crate::answers::{Answer, answer_to};
+use crate::formatting::run_formatting;
 use crate::help::{HELP, VERSION};
 use crate::inputs::{Unread, read_files};
 use crate::words::{Asked, Request, Task, Unasked, asked_by};
@@ -22,8 +23,8 @@ use std::io::{Read, Write};
 /// has no `NO_COLOR`.
 ///
 /// 0: what is asked is on `out`. 1: what is wrong with the files is on `err`, or on `out` as JSON; or `err` says what there
-/// isn't. 2: the words ask nothing, and `err` says why. 3: memory was refused. 4: a file can't be read, or `out` can't be
-/// written. A failure of `err` changes no status.
+/// isn't; or two versions differ, as `out` says. 2: the words ask nothing, and `err` says why. 3: memory was refused. 4: a file
+/// can't be read, or `out` can't be written. Neither a failure of `err` nor an `out` that nobody reads changes a status.
 pub fn run<R: std::rt::Files + Env + AllocGlobal, I: Read + Drop, O: Write, E: Write>(
     rt: &R,
     words: &[String],
@@ -39,6 +40,7 @@ pub fn run<R: std::rt::Files + Env + AllocGlobal, I: Read + Drop, O: Write, E: W
     match asked_by(rt.alloc(), words, colors) {
         Ok(Asked::Help) => write_text(HELP, out, err),
         Ok(Asked::Version) => write_text(VERSION, out, err),
+        Ok(Asked::Formatting(asked)) => run_formatting(rt, &asked, input, out, err),
         Ok(Asked::Request(asked)) => run_request(rt, &asked, input, terminal, out, err),
         Err(Unasked::Words(why)) => wrong_words(rt.alloc(), &why, err),
         Err(Unasked::Memory) => no_memory(err),
@@ -132,27 +134,21 @@ fn write_both<O: Write, E: Write>(answer: &Answer, out: &mut O, err: &mut E) -> 
 }
 
 // Says why files can't be read, and answers the status for it.
-fn cannot_read<E: Write>(alloc: Global, why: Unread, err: &mut E) -> u8
+pub(crate) fn cannot_read<E: Write>(alloc: Global, why: Unread, err: &mut E) -> u8
     ensures { IsStatusOfUnread why result }
 {
     match why {
         Unread::Memory => no_memory(err),
-        Unread::Text(name) => say(
-            alloc,
-            "error[syntax]: this text isn't UTF-8: ",
-            &name,
-            1,
-            err,
-        ),
-        Unread::File(name) => say(alloc, "isle: cannot read ", &name, 4, err),
+        Unread::Text(why) => say(alloc, "error[syntax]: ", &why, 1, err),
+        Unread::File(why) => say(alloc, "isle: cannot read ", &why, 4, err),
     }
 }
 
-// Says something of a file, and answers this status, or 3 where memory is refused.
-fn say<E: Write>(alloc: Global, text: &str, name: &str, status: u8, err: &mut E) -> u8
+/// Says why files can't be read, and answers this status, or 3 where memory is refused.
+pub(crate) fn say<E: Write>(alloc: Global, text: &str, why: &str, status: u8, err: &mut E) -> u8
     ensures { (result ≡ status) ⊎ (result ≡ 3) }
 {
-    match format!(in alloc; "{text}{name}\n") {
+    match format!(in alloc; "{text}{why}\n") {
         Ok(line) => end(err, &line, status),
         Err(AllocError) => no_memory(err),
     }

@@ -1,8 +1,10 @@
 //! What the command is asked by its words.
 
+use crate::formatting::{Formatting, formatting_by};
 use isle_answers::samples::sample_text;
 use isle_printing::layout::Layout;
 use isle_rust::code::{CodegenOptions, Prefix};
+use isle_warnings::kinds::{Warning, warning_names};
 use std::alloc::{AllocError, AllocFailed, Global};
 
 /// What is to be done.
@@ -20,22 +22,28 @@ pub enum Task {
     Stats,
     /// Where the printed trees of the last file depart from those of the others.
     Compare,
+    /// What changed between two versions of definitions.
+    Diff,
     /// The names of the samples, or the trees of one.
     Samples,
     /// The outcome of a call of a term.
     Run,
+    /// Whether a rule is taken on a call.
+    Why,
 }
 
 // All tasks.
-const TASKS: [Task; 8] = [
+const TASKS: [Task; 10] = [
     Task::Lower,
     Task::Rust,
     Task::Check,
     Task::Explain,
     Task::Stats,
     Task::Compare,
+    Task::Diff,
     Task::Samples,
     Task::Run,
+    Task::Why,
 ];
 
 impl Task {
@@ -48,9 +56,16 @@ impl Task {
             Task::Explain => "explain",
             Task::Stats => "stats",
             Task::Compare => "compare",
+            Task::Diff => "diff",
             Task::Samples => "samples",
             Task::Run => "run",
+            Task::Why => "why",
         }
+    }
+
+    // Whether a task is about a call.
+    fn has_call(self) -> bool {
+        self == Task::Run || self == Task::Why
     }
 
     // The task of a word.
@@ -93,7 +108,7 @@ impl Format {
     fn is_of(self, task: Task) -> bool {
         match self {
             Format::Text | Format::Line => true,
-            Format::Json => task == Task::Lower || task == Task::Check,
+            Format::Json => matches!(task, Task::Lower | Task::Check | Task::Stats),
             Format::Dot => task == Task::Lower,
         }
     }
@@ -105,9 +120,13 @@ pub struct Request<'a> {
     pub task: Task,
     /// Whether uses of internal extractors are replaced by their templates.
     pub expand: bool,
-    /// Whether warnings count as errors.
+    /// Whether all warnings count as errors.
     pub deny: bool,
-    /// Whether a person sees all errors, and not only the first ones.
+    /// The kinds of warnings that count as errors even if not all do.
+    pub denied: Vec<Warning>,
+    /// The kinds of warnings that aren't looked for.
+    pub allowed: Vec<Warning>,
+    /// Whether a person sees all errors, and not only the first ones; of printed trees, the first of each term.
     pub all: bool,
     /// The form of the answer.
     pub format: Format,
@@ -117,16 +136,22 @@ pub struct Request<'a> {
     pub terms: Option<&'a str>,
     /// Where files are looked for whose names don't begin with `/`; the empty text for where the command runs.
     pub folder: &'a str,
-    /// The rules that are to be explained: the name of a rule or of a term, the number of a line in the rules, or the end of a
+    /// The rules that are asked about: the name of a rule or of a term, the number of a line in the rules, or the end of a
     /// file's path, a colon and such a number.
     pub rule: &'a str,
     /// How Rust code is written.
     pub code: CodegenOptions,
     /// Whether it is told what is being done.
     pub progress: bool,
+    /// The file that has the answers to what a call calls, where there is one. It is the last of `files`.
+    pub answers: Option<&'a str>,
+    /// Whether the tests of a run are told.
+    pub trace: bool,
     /// The files, where `-` is standard input, or the sample. The last one has printed trees where they are compared.
     pub files: Vec<&'a str>,
-    /// The words of the call that is to be run.
+    /// How many of the files are of the old version, where two versions are compared.
+    pub old: usize,
+    /// The words of the call.
     pub call: Vec<&'a str>,
 }
 
@@ -136,6 +161,8 @@ impl<'a> Drop for Request<'a> {
             task: _,
             expand: _,
             deny: _,
+            denied: _,
+            allowed: _,
             all: _,
             format: _,
             colored: _,
@@ -144,7 +171,10 @@ impl<'a> Drop for Request<'a> {
             rule: _,
             code: _,
             progress: _,
+            answers: _,
+            trace: _,
             files: _,
+            old: _,
             call: _,
         } = self;
     }
@@ -157,7 +187,9 @@ pub enum Asked<'a> {
     Help,
     /// Which program this is.
     Version,
-    /// Something to be done.
+    /// Files in the usual layout.
+    Formatting(Formatting<'a>),
+    /// Something else to be done.
     Request(Request<'a>),
 }
 
@@ -205,10 +237,33 @@ enum Awaited {
     Format,
     Color,
     Prefix,
+    Allowed,
+    Answers,
     // An option or a file.
     Any,
     // A word of a call.
     Call,
+}
+
+// Adds the kinds of warnings that a word names, with commas between them.
+fn push_kinds(alloc: Global, kinds: &mut Vec<Warning>, word: &str) -> Result<(), Unasked> {
+    for name in word.split(',') {
+        match Warning::of(name) {
+            Some(kind) => kinds.push(kind)?,
+            None => return Err(no_kind(alloc, name)),
+        }
+    }
+    Ok(())
+}
+
+// That there is no kind of warnings of a name.
+fn no_kind(alloc: Global, name: &str) -> Unasked {
+    match warning_names(alloc) {
+        Ok(names) => wrong(format!(in alloc;
+            "no warning is called '{name}'. The warnings are {names}"
+        )),
+        Err(AllocError) => Unasked::Memory,
+    }
 }
 
 // What the words are read with.
@@ -222,9 +277,10 @@ struct Given {
 /// What these words ask. `colors` says whether errors have a terminal's colours where no word says so.
 ///
 /// Where a word is `--help`, `-h` or `--version`, that is all they ask. Else the first word is the name of a task. For `explain`
-/// the rule follows. Then there are files; the last one of `compare` has trees, and `samples` has at most one name of a
-/// sample. For `run` then come `--` and the words of a call: the term and its arguments. Options may stand everywhere behind the
-/// task and before `--`: `isle --help` lists them.
+/// and `why` the rule follows. Then there are files; the last one of `compare` has trees, and `samples` has at most one name
+/// of a sample. For `run` and `why` then come `--` and the words of a call: the term and its arguments. For `diff` then come
+/// `--` and the files of the new version. Options may stand everywhere behind the task, but not in a call: `isle --help` lists
+/// them.
 ///
 /// # Errors
 ///
@@ -236,7 +292,12 @@ pub fn asked_by<'a>(
 ) -> Result<Asked<'a>, Unasked> {
     match asked_of_program(words) {
         Some(asked) => Ok(asked),
-        None => Ok(Asked::Request(request_by(Given { alloc, colors }, words)?)),
+        None => match words {
+            [task, rest @ ..] if task.as_str() == "fmt" => {
+                Ok(Asked::Formatting(formatting_by(alloc, rest)?))
+            }
+            _ => Ok(Asked::Request(request_by(Given { alloc, colors }, words)?)),
+        },
     }
 }
 
@@ -259,6 +320,8 @@ fn request_by<'a>(given: Given, words: &'a [String]) -> Result<Request<'a>, Unas
         task: Task::Lower,
         expand: true,
         deny: false,
+        denied: Vec::new(given.alloc),
+        allowed: Vec::new(given.alloc),
         all: false,
         format: Format::Text,
         colored: given.colors,
@@ -267,7 +330,10 @@ fn request_by<'a>(given: Given, words: &'a [String]) -> Result<Request<'a>, Unas
         rule: "",
         code: CodegenOptions::included(given.alloc),
         progress: false,
+        answers: None,
+        trace: false,
         files: Vec::new(given.alloc),
+        old: 0,
         call: Vec::new(given.alloc),
     };
     let mut awaited = Awaited::Task;
@@ -276,25 +342,47 @@ fn request_by<'a>(given: Given, words: &'a [String]) -> Result<Request<'a>, Unas
     }
     match asked.missing(awaited) {
         Some(why) => Err(wrong_as(given.alloc, why)),
-        None => Ok(asked),
+        None => {
+            asked.add_answers()?;
+            Ok(asked)
+        }
     }
 }
 
 impl<'a> Request<'a> {
+    // The file with answers is read behind all others.
+    fn add_answers(&mut self) -> Result<(), AllocError> {
+        if let Some(name) = self.answers {
+            self.files.push(name)?;
+        }
+        Ok(())
+    }
+
     // What is missing behind the last word, where something is.
     fn missing(&self, awaited: Awaited) -> Option<&'static str> {
         match awaited {
             Awaited::Task => Some("no task"),
-            Awaited::Rule => Some("no rule to explain"),
+            Awaited::Rule => Some(self.missing_rule()),
             Awaited::Terms => Some("nothing after '--terms'"),
             Awaited::Folder => Some("nothing after '-C'"),
             Awaited::Format => Some("nothing after '--format'"),
             Awaited::Color => Some("nothing after '--color'"),
             Awaited::Prefix => Some("nothing after '--prefix'"),
+            Awaited::Allowed => Some("nothing after '--allow'"),
+            Awaited::Answers => Some("nothing after '--answers'"),
             Awaited::Any | Awaited::Call => match self.wrong_files() {
                 Some(why) => Some(why),
                 None => self.missing_call(awaited),
             },
+        }
+    }
+
+    // That the rule is missing that is asked about.
+    fn missing_rule(&self) -> &'static str {
+        if self.task == Task::Why {
+            "no rule to ask about"
+        } else {
+            "no rule to explain"
         }
     }
 
@@ -314,12 +402,15 @@ impl<'a> Request<'a> {
         if count == 1 && self.task == Task::Compare {
             return Some("no trees to compare");
         }
+        if self.task == Task::Diff && (self.old == 0 || self.old == count) {
+            return Some("no new version after the files, such as -- new.isle");
+        }
         None
     }
 
     // What is missing where a call is wanted.
     fn missing_call(&self, awaited: Awaited) -> Option<&'static str> {
-        if self.task != Task::Run || !self.call.is_empty() {
+        if !self.task.has_call() || !self.call.is_empty() {
             return None;
         }
         if awaited == Awaited::Call {
@@ -351,9 +442,10 @@ impl<'a> Request<'a> {
         }
     }
 
-    /// Whether the file of a number has printed trees, and no definitions.
-    pub fn has_trees(&self, number: usize) -> bool {
-        self.task == Task::Compare && number.saturating_add(1) == self.files.len()
+    /// Whether the file of a number has printed trees or answers, and no definitions.
+    pub fn has_no_definitions(&self, number: usize) -> bool {
+        let has_other = self.task == Task::Compare || self.answers.is_some();
+        has_other && number.saturating_add(1) == self.files.len()
     }
 
     // Reads a word, and answers what is awaited then.
@@ -363,6 +455,7 @@ impl<'a> Request<'a> {
             Awaited::Format => self.read_format(given.alloc, word),
             Awaited::Color => self.read_color(given, word),
             Awaited::Prefix => self.read_prefix(given.alloc, word),
+            Awaited::Allowed => self.read_allowed(given.alloc, word),
             Awaited::Any => self.read_any(given.alloc, word),
             Awaited::Rule => {
                 self.rule = word;
@@ -374,6 +467,10 @@ impl<'a> Request<'a> {
             }
             Awaited::Folder => {
                 self.folder = word;
+                Ok(Awaited::Any)
+            }
+            Awaited::Answers => {
+                self.answers = Some(word);
                 Ok(Awaited::Any)
             }
             Awaited::Call => {
@@ -392,7 +489,7 @@ impl<'a> Request<'a> {
             return Err(wrong(format!(in alloc; "no task is called '{word}'")));
         };
         self.task = task;
-        Ok(if task == Task::Explain {
+        Ok(if task == Task::Explain || task == Task::Why {
             Awaited::Rule
         } else {
             Awaited::Any
@@ -444,6 +541,7 @@ impl<'a> Request<'a> {
         match word {
             "--no-expand" => self.read_no_expand(alloc),
             "--deny" => self.read_deny(alloc),
+            "--allow" => self.begin_allowed(alloc),
             "--all" => {
                 self.all = true;
                 Ok(Awaited::Any)
@@ -455,12 +553,14 @@ impl<'a> Request<'a> {
             "--with-allows" => self.read_with_allows(alloc),
             "--log" => self.read_log(alloc),
             "--prefix" => self.begin_prefix(alloc),
-            "--" => self.begin_call(alloc),
+            "--answers" => self.begin_answers(alloc),
+            "--trace" => self.read_trace(alloc),
+            "--" => self.begin_last(alloc),
             "--terms" => Ok(Awaited::Terms),
             "--format" => Ok(Awaited::Format),
             "--color" => Ok(Awaited::Color),
             "-C" => Ok(Awaited::Folder),
-            _ => self.read_file(alloc, word),
+            _ => self.read_kinds_or_file(alloc, word),
         }
     }
 
@@ -503,22 +603,96 @@ impl<'a> Request<'a> {
     }
 
     // Only `check` has warnings.
-    fn read_deny(&mut self, alloc: Global) -> Result<Awaited, Unasked> {
+    fn needs_warnings(&self, alloc: Global) -> Result<(), Unasked> {
         if self.task != Task::Check {
             let task = self.task.word();
             return Err(wrong(format!(in alloc; "{task} has no warnings")));
         }
+        Ok(())
+    }
+
+    // All warnings count as errors.
+    fn read_deny(&mut self, alloc: Global) -> Result<Awaited, Unasked> {
+        self.needs_warnings(alloc)?;
         self.deny = true;
         Ok(Awaited::Any)
     }
 
-    // Only `run` has a call.
-    fn begin_call(&mut self, alloc: Global) -> Result<Awaited, Unasked> {
+    // The next word names kinds of warnings.
+    fn begin_allowed(&self, alloc: Global) -> Result<Awaited, Unasked> {
+        self.needs_warnings(alloc)?;
+        Ok(Awaited::Allowed)
+    }
+
+    // Reads kinds of warnings that aren't looked for.
+    fn read_allowed(&mut self, alloc: Global, word: &str) -> Result<Awaited, Unasked> {
+        self.needs_warnings(alloc)?;
+        push_kinds(alloc, &mut self.allowed, word)?;
+        Ok(Awaited::Any)
+    }
+
+    // Reads kinds of warnings that count as errors.
+    fn read_denied(&mut self, alloc: Global, word: &str) -> Result<Awaited, Unasked> {
+        self.needs_warnings(alloc)?;
+        push_kinds(alloc, &mut self.denied, word)?;
+        Ok(Awaited::Any)
+    }
+
+    // Reads an option that kinds of warnings are joined to, or a file.
+    fn read_kinds_or_file(&mut self, alloc: Global, word: &'a str) -> Result<Awaited, Unasked> {
+        if let Some(kinds) = word.strip_prefix("--deny=") {
+            return self.read_denied(alloc, kinds);
+        }
+        if let Some(kinds) = word.strip_prefix("--allow=") {
+            return self.read_allowed(alloc, kinds);
+        }
+        self.read_file(alloc, word)
+    }
+
+    // Calls may have their answers from a file.
+    fn begin_answers(&mut self, alloc: Global) -> Result<Awaited, Unasked> {
+        self.needs_call(alloc)?;
+        Ok(Awaited::Answers)
+    }
+
+    // Only `run` tells its tests.
+    fn read_trace(&mut self, alloc: Global) -> Result<Awaited, Unasked> {
         if self.task != Task::Run {
+            let task = self.task.word();
+            return Err(wrong(format!(in alloc; "{task} has no trace")));
+        }
+        self.trace = true;
+        Ok(Awaited::Any)
+    }
+
+    // Only some tasks are about a call.
+    fn needs_call(&self, alloc: Global) -> Result<(), Unasked> {
+        if !self.task.has_call() {
             let task = self.task.word();
             return Err(wrong(format!(in alloc; "{task} runs no call")));
         }
+        Ok(())
+    }
+
+    // Only `run` and `why` have a call, and only `diff` has a new version.
+    fn begin_last(&mut self, alloc: Global) -> Result<Awaited, Unasked> {
+        if self.task == Task::Diff {
+            return self.begin_new(alloc);
+        }
+        self.needs_call(alloc)?;
         Ok(Awaited::Call)
+    }
+
+    // The files behind are those of the new version.
+    fn begin_new(&mut self, alloc: Global) -> Result<Awaited, Unasked> {
+        if self.files.is_empty() {
+            return Err(wrong_as(alloc, "no old version before '--'"));
+        }
+        if self.old > 0 {
+            return Err(wrong_as(alloc, "more than two versions"));
+        }
+        self.old = self.files.len();
+        Ok(Awaited::Any)
     }
 
     // Reads the name of a file, or of a sample.
@@ -532,7 +706,24 @@ impl<'a> Request<'a> {
         if self.task == Task::Samples && sample_text(word).is_none() {
             return Err(wrong(format!(in alloc; "no sample is called '{word}'")));
         }
+        if self.task != Task::Samples && self.has_file(word) {
+            return Err(wrong(format!(in alloc; "the file '{word}' is given twice")));
+        }
         self.files.push(word)?;
         Ok(Awaited::Any)
     }
+
+    // Whether a file was given, of the same version.
+    fn has_file(&self, word: &str) -> bool {
+        let path = plain(word);
+        self.files
+            .iter()
+            .skip(self.old)
+            .any(|file| plain(file) == path)
+    }
+}
+
+// A path without `./` before it.
+fn plain(path: &str) -> &str {
+    path.strip_prefix("./").unwrap_or(path)
 }

@@ -1,7 +1,7 @@
 //! The conditions of a rule in its own words, a line for each.
 
-use crate::forms::is_constant;
-use crate::parts::Parts;
+use crate::forms::{Form, is_constant};
+use crate::parts::{Head, Parts};
 use crate::parts_text::Writing;
 use crate::rule_parts::parts_of;
 use crate::witness::term_of;
@@ -12,37 +12,89 @@ use std::alloc::{AllocError, Global};
 const MOST_CONDITIONS: usize = 1 << 20;
 
 /// The conditions of a rule, as text.
-pub struct Conditions {
+pub struct Conditions<'a> {
     /// The rule's term with the names of its arguments.
     pub call: String,
     /// The names of the arguments. `_` is an argument without a name or a condition.
     pub arguments: Vec<String>,
     /// The conditions.
     pub lines: Vec<String>,
+    /// The values that the arguments are. Equal numbers are equal values.
+    pub values: Vec<usize>,
+    /// What is demanded of the values, in order.
+    pub demands: Vec<Demand<'a>>,
 }
 
-impl Drop for Conditions {
+impl<'a> Drop for Conditions<'a> {
     fn drop(self) {
         let Conditions {
             call: _,
             arguments: _,
             lines: _,
+            values: _,
+            demands: _,
         } = self;
     }
 }
 
+/// A demand of a rule.
+pub struct Demand<'a> {
+    /// The demand as text.
+    pub text: String,
+    /// What is demanded.
+    pub what: Demanded<'a>,
+}
+
+impl<'a> Drop for Demand<'a> {
+    fn drop(self) {
+        let Demand { text: _, what: _ } = self;
+    }
+}
+
+/// A value that a demand speaks of.
+#[derive(Clone, Copy)]
+pub enum Spoken<'a> {
+    /// The value of this number.
+    Value(usize),
+    /// A constant.
+    Constant(Form<'a>),
+}
+
+/// What a rule demands.
+#[derive(Drop)]
+pub enum Demanded<'a> {
+    /// The value of a number has a form that is made of these.
+    Form(usize, Form<'a>, Vec<Spoken<'a>>),
+    /// A call of these gives the value of a number.
+    Call(Form<'a>, Vec<Spoken<'a>>, usize),
+    /// All that is the value of a number is equal.
+    Equal(usize),
+}
+
 /// The conditions of a rule.
-pub fn conditions_of(alloc: Global, rule: &Rule) -> Result<Conditions, AllocError> {
+pub fn conditions_of<'a>(alloc: Global, rule: &'a Rule) -> Result<Conditions<'a>, AllocError> {
     let parts = parts_of(alloc, Vec::new(alloc), &[rule])?;
     let mut lines = Lines::new(alloc, &parts)?;
     let mut call = String::new(alloc);
     let arguments = lines.push_term(term_of(rule), &mut call)?;
     lines.add_all()?;
+    let (lines, demands) = lines.into_parts();
     Ok(Conditions {
         call,
         arguments,
-        lines: lines.into_lines(),
+        lines,
+        values: classes_of(alloc, &parts)?,
+        demands,
     })
+}
+
+// The values that the arguments are.
+fn classes_of(alloc: Global, parts: &Parts<'_>) -> Result<Vec<usize>, AllocError> {
+    let mut values = Vec::new(alloc);
+    for part in parts.arguments() {
+        values.push(parts.class_of(*part))?;
+    }
+    Ok(values)
 }
 
 // The lines of conditions that are written so far.
@@ -53,6 +105,7 @@ struct Lines<'p, 'a> {
     // Whether the conditions of each class are written.
     done: Vec<bool>,
     lines: Vec<String>,
+    demands: Vec<Demand<'a>>,
 }
 
 impl<'p, 'a> Drop for Lines<'p, 'a> {
@@ -63,6 +116,7 @@ impl<'p, 'a> Drop for Lines<'p, 'a> {
             writing: _,
             done: _,
             lines: _,
+            demands: _,
         } = self;
     }
 }
@@ -80,18 +134,28 @@ impl<'p, 'a> Lines<'p, 'a> {
             writing: Writing::new(alloc, parts, true)?,
             done,
             lines: Vec::new(alloc),
+            demands: Vec::new(alloc),
         })
     }
 
-    fn into_lines(self) -> Vec<String> {
+    fn into_parts(self) -> (Vec<String>, Vec<Demand<'a>>) {
         let Lines {
             alloc: _,
             parts: _,
             writing: _,
             done: _,
             lines,
+            demands,
         } = self;
-        lines
+        (lines, demands)
+    }
+
+    // Adds a condition.
+    fn push(&mut self, line: String, what: Demanded<'a>) -> Result<(), AllocError> {
+        let text = line.clone()?;
+        self.lines.push(line)?;
+        self.demands.push(Demand { text, what })?;
+        Ok(())
     }
 
     // Adds the term with the names of its arguments. The names.
@@ -139,9 +203,12 @@ impl<'p, 'a> Lines<'p, 'a> {
     // Adds the further conditions.
     fn add_calls(&mut self) -> Result<(), AllocError> {
         let parts = self.parts;
+        let mut first = 0;
         for (number, call) in parts.calls().iter().enumerate() {
             if call.asked && !is_constant(call.form) {
-                self.add_call(number, call.part)?;
+                let text = self.add_call(number, call.part)?;
+                self.push_calls(first, number, &text)?;
+                first = number.saturating_add(1);
                 self.add_part(call.part)?;
             }
         }
@@ -181,7 +248,58 @@ impl<'p, 'a> Lines<'p, 'a> {
             let mut line = String::from_str(self.alloc, self.writing.names.name(part))?;
             line.push_str(" is ")?;
             self.writing.push_taken(part, number, &mut line)?;
-            self.lines.push(line)?;
+            self.push_form(part, number, line)?;
+        }
+        Ok(())
+    }
+
+    // Adds a form of a part, which has this text.
+    fn push_form(&mut self, part: usize, number: usize, line: String) -> Result<(), AllocError> {
+        let parts = self.parts;
+        let Some(head) = parts.heads(part).get(number) else {
+            return Ok(());
+        };
+        let taken = self.taken_by(head)?;
+        let class = parts.class_of(part);
+        self.push(line, Demanded::Form(class, head.form, taken))
+    }
+
+    // What a form is made of, as its text says it: a part that is a constant and has no name stands there as the constant.
+    fn taken_by(&self, head: &Head<'a>) -> Result<Vec<Spoken<'a>>, AllocError> {
+        let mut taken = Vec::new(self.alloc);
+        for part in &head.parts {
+            taken.push(if self.writing.names.name(*part).is_empty() {
+                self.spoken(*part)
+            } else {
+                Spoken::Value(self.parts.class_of(*part))
+            })?;
+        }
+        Ok(taken)
+    }
+
+    // A part: the constant that it is, or its value.
+    fn spoken(&self, part: usize) -> Spoken<'a> {
+        match self.parts.heads(part) {
+            [head] if is_constant(head.form) => Spoken::Constant(head.form),
+            _ => Spoken::Value(self.parts.class_of(part)),
+        }
+    }
+
+    // Adds that the calls from one number up to another one give their values. Only the last one has a text.
+    fn push_calls(&mut self, first: usize, last: usize, text: &str) -> Result<(), AllocError> {
+        let parts = self.parts;
+        for (number, call) in parts.calls().iter().enumerate() {
+            if number >= first && number <= last && !is_constant(call.form) {
+                let text = String::from_str(self.alloc, if number == last { text } else { "" })?;
+                let mut given = Vec::new(self.alloc);
+                for part in &call.parts {
+                    given.push(self.spoken(*part))?;
+                }
+                self.demands.push(Demand {
+                    text,
+                    what: Demanded::Call(call.form, given, parts.class_of(call.part)),
+                })?;
+            }
         }
         Ok(())
     }
@@ -202,8 +320,8 @@ impl<'p, 'a> Lines<'p, 'a> {
         }
     }
 
-    // Adds what a call gives. A result without a name is named by its call.
-    fn add_call(&mut self, number: usize, part: usize) -> Result<(), AllocError> {
+    // Adds what a call gives. A result without a name is named by its call. The text of it.
+    fn add_call(&mut self, number: usize, part: usize) -> Result<String, AllocError> {
         let mut line = String::new(self.alloc);
         let named = !self.parts.name(part).is_empty() || !self.writing.names.name(part).is_empty();
         if named {
@@ -213,14 +331,16 @@ impl<'p, 'a> Lines<'p, 'a> {
         }
         self.writing.push_call(number, &mut line)?;
         if named {
-            self.lines.push(line)?;
-        } else if self.parts.heads(part).is_empty() {
-            line.push_str(" gives a value")?;
-            self.lines.push(line)?;
+            self.lines.push(line.clone()?)?;
+            return Ok(line);
+        }
+        let given = format!(in self.alloc; "{line} gives a value")?;
+        if self.parts.heads(part).is_empty() {
+            self.lines.push(given.clone()?)?;
         } else {
             self.writing.names.set_name(part, line);
         }
-        Ok(())
+        Ok(given)
     }
 
     // Adds the variables that name a part with another name, and those that are used at several places.
@@ -237,7 +357,7 @@ impl<'p, 'a> Lines<'p, 'a> {
                 self.lines.push(line)?;
             } else if parts.is_again(var.part) {
                 line.push_str(" is the same value everywhere")?;
-                self.lines.push(line)?;
+                self.push(line, Demanded::Equal(parts.class_of(var.part)))?;
             }
         }
         Ok(())
@@ -251,9 +371,9 @@ pub fn given_of(alloc: Global, rule: &Rule) -> Result<String, AllocError> {
     Ok(text)
 }
 
-// Adds an expression.
+/// Adds an expression, as it is written.
 #[cycle(exprs)]
-fn push_expr(expr: &Expr, out: &mut String) -> Result<(), AllocError> {
+pub(crate) fn push_expr(expr: &Expr, out: &mut String) -> Result<(), AllocError> {
     match expr {
         Expr::Term { sym, args, .. } => {
             out.push('(')?;

@@ -7,4 +7,6 @@ mod part_names;
 mod parts;
 mod parts_text;
 mod rule_parts;
+pub mod rule_text;
+pub mod templates;
 pub mod witness;

@@ -77,6 +77,23 @@ pub(crate) fn parts_of<'a>(
     Ok(reader.into_parts())
 }
 
+/// What an internal extractor asks of a value, whatever stands for its arguments. These extractors are replaced by their
+/// templates.
+pub(crate) fn parts_of_template<'a>(
+    alloc: Global,
+    extractors: Vec<&'a Extractor>,
+    extractor: &'a Extractor,
+) -> Result<Parts<'a>, AllocError> {
+    let mut reader = Reader {
+        alloc,
+        parts: Parts::new(alloc),
+        scopes: Vec::new(alloc),
+        extractors,
+    };
+    reader.add_template(extractor)?;
+    Ok(reader.into_parts())
+}
+
 impl<'a> Reader<'a> {
     fn into_parts(self) -> Parts<'a> {
         let Reader {
@@ -104,6 +121,23 @@ impl<'a> Reader<'a> {
             self.add_iflet(iflet, scope)?;
         }
         Ok(())
+    }
+
+    // Adds what a template asks that no use has patterns for.
+    fn add_template(&mut self, extractor: &'a Extractor) -> Result<(), AllocError> {
+        let scope = self.scopes.len();
+        self.scopes.push(Scope {
+            args: &extractor.args,
+            uses: &[],
+            outer: scope,
+            place: None,
+        })?;
+        let part = self.parts.argument(0)?;
+        self.add_pattern(Task {
+            part,
+            pattern: &extractor.template,
+            scope,
+        })
     }
 
     // Adds what is asked of the arguments.
@@ -223,7 +257,8 @@ impl<'a> Reader<'a> {
         }
     }
 
-    // Adds that a part has a variable's value. In a template the name may mean a pattern of the use.
+    // Adds that a part has a variable's value. In a template the name may mean a pattern of the use, or any pattern where there
+    // is no use.
     fn add_var(
         &mut self,
         name: &'a str,
@@ -236,6 +271,9 @@ impl<'a> Reader<'a> {
                 pattern,
                 scope,
             })?;
+            return Ok(());
+        }
+        if self.is_argument(name, task.scope) {
             return Ok(());
         }
         match self.parts.bound(name, task.scope) {
@@ -253,6 +291,14 @@ impl<'a> Reader<'a> {
             }
         }
         None
+    }
+
+    // Whether a name is that of an argument of the template.
+    fn is_argument(&self, name: &str, scope: usize) -> bool {
+        match self.scopes.get(scope) {
+            Some(scope) => scope.args.iter().any(|arg| arg.0.as_str() == name),
+            None => false,
+        }
     }
 
     // Binds a variable. Those of rules name their parts.

@@ -1,13 +1,13 @@
 //! Which rules a person means.
 
+use crate::extents::end_of_form;
 use crate::names::name_of;
 use cranelift_isle::syntax::{Files, Rule};
 use isle_conditions::witness::term_of;
-use isle_printing::lines::depth_after;
 use std::alloc::{AllocError, Global};
 
 /// What a person calls rules, and where that may be a line, the piece of each file that the line is.
-pub(crate) struct Called<'a> {
+pub struct Called<'a> {
     called: &'a str,
     // Where the line begins in a file, and where it ends.
     lines: Vec<Option<(usize, usize)>>,
@@ -84,57 +84,4 @@ fn line_of(text: &str, wanted: u64) -> Option<(usize, usize)> {
         number = number.saturating_add(1);
     }
     None
-}
-
-// Where a walk over a form is.
-#[derive(Clone, Copy, PartialEq, Eq)]
-enum Walk {
-    // In the form.
-    Text,
-    // In a comment up to the line's end.
-    Line,
-    // In so many comments that parentheses end.
-    Block(u64),
-}
-
-// Where the form in parentheses ends that begins at an offset.
-fn end_of_form(text: &str, offset: usize) -> usize {
-    let rest = text.get(offset..).unwrap_or("");
-    let mut walk = Walk::Text;
-    let mut depth = 0u64;
-    let mut last = ' ';
-    for (at, c) in rest.char_indices() {
-        let before = walk;
-        walk = after(before, last, c);
-        if walk == Walk::Text && before == Walk::Text {
-            depth = depth_after(depth, c);
-            if depth == 0 && c == ')' {
-                return offset.saturating_add(at).saturating_add(1);
-            }
-        } else if before == Walk::Text && walk != Walk::Line {
-            depth = depth.saturating_sub(1);
-        }
-        last = if walk == before { c } else { ' ' };
-    }
-    text.len()
-}
-
-// Where a walk is after a character, behind another one.
-fn after(walk: Walk, last: char, c: char) -> Walk {
-    match walk {
-        Walk::Text if c == ';' && last == '(' => Walk::Block(1),
-        Walk::Text if c == ';' => Walk::Line,
-        Walk::Text => Walk::Text,
-        Walk::Line if c == '\n' => Walk::Text,
-        Walk::Line => Walk::Line,
-        Walk::Block(depth) if last == '(' && c == ';' => Walk::Block(depth.saturating_add(1)),
-        Walk::Block(depth) if last == ';' && c == ')' => {
-            if depth <= 1 {
-                Walk::Text
-            } else {
-                Walk::Block(depth.saturating_sub(1))
-            }
-        }
-        Walk::Block(depth) => Walk::Block(depth),
-    }
 }

@@ -1,11 +1,15 @@
 //! What is wrong with definitions, as reports.
 
 use crate::names::{name_of, priority_of, rule_at};
-use crate::numbered::by_names;
+use crate::numbered::{named_forms, only_place};
+use crate::templates::{Templates, report_of_template};
 use cranelift_isle::syntax::{Def, Error, Limit, Pos, Span};
+use isle_causes::order::Order;
+use isle_causes::reports::report_of as report_of_type_error;
+use isle_causes::uses::add_uses;
 use isle_conditions::forms::{Form, push_form};
-use isle_conditions::witness::{Conflict, conflict_in, witness};
-use isle_printing::report::{Label, Level, Note, Report};
+use isle_conditions::witness::{Conflict, conflict_in, left_side, witness};
+use isle_printing::report::{Level, Report};
 use std::alloc::{AllocError, Global};
 
 // How many errors are reported, if not all are wanted.
@@ -28,35 +32,90 @@ struct Source<'a> {
     most_rules: usize,
 }
 
-/// A report for each error of lowering these definitions, in order. If not `all` are wanted, only the first 20 errors have one,
-/// and only the first 5 rules that overlap a rule are shown. Overlaps are reported with what both rules match.
+/// The reports of errors.
+pub struct Reports {
+    /// A report for each error that is shown.
+    pub reports: Vec<Report>,
+    /// How many more there are.
+    pub rest: usize,
+}
+
+impl Drop for Reports {
+    fn drop(self) {
+        let Reports {
+            reports: _,
+            rest: _,
+        } = self;
+    }
+}
+
+/// The reports of the errors of lowering these definitions. If `all` are wanted, each error has one, in order. Else those have
+/// one that say no more than another one, causes before what follows from them, and rules that can't match only because of an
+/// internal extractor are told with the extractor, once; only the first 20 are shown, and only the first 5 rules that overlap a
+/// rule. Overlaps are reported with what both rules match.
 pub fn reports_of(
     alloc: Global,
     defs: &[Def],
     expand: bool,
     errors: &[Error],
     all: bool,
-) -> Result<Vec<Report>, AllocError> {
+) -> Result<Reports, AllocError> {
     let source = Source {
         alloc,
         defs,
         expand,
         most_rules: if all { usize::MAX } else { MOST_RULES },
     };
+    let order = if all {
+        Order::of_all(alloc, errors.len())?
+    } else {
+        Order::by_causes(alloc, defs, errors)?
+    };
+    let templates = if all || !expand {
+        Templates::none(alloc)
+    } else {
+        Templates::behind(alloc, defs, errors)?
+    };
+    let shown = templates.leading(alloc, &order.shown)?;
     let most = if all { usize::MAX } else { MOST_ERRORS };
     let mut reports = Vec::new(alloc);
-    for (i, error) in errors.iter().enumerate() {
-        if i >= most {
-            break;
+    for number in shown.iter().take(most) {
+        match templates.told_with(*number) {
+            Some(one) => reports.push(report_of_template(alloc, defs, one)?)?,
+            None => add_report(source, &mut reports, errors, &order, *number)?,
         }
-        let before = times_before(errors, i, error);
-        reports.push(report_of(source, error, before)?)?;
     }
-    Ok(reports)
+    let rest = shown.len().saturating_sub(reports.len());
+    Ok(Reports { reports, rest })
 }
 
-// How many of the first errors, so many, say that the rule of an error can't match.
-fn times_before(errors: &[Error], count: usize, error: &Error) -> usize {
+// Adds the report of the error of a number.
+fn add_report(
+    source: Source<'_>,
+    reports: &mut Vec<Report>,
+    errors: &[Error],
+    order: &Order,
+    number: usize,
+) -> Result<(), AllocError> {
+    let Some(error) = errors.get(number) else {
+        return Ok(());
+    };
+    let before = times_before(errors, number, error);
+    let mut report = report_of(source, error, before)?;
+    add_uses(
+        source.alloc,
+        &mut report,
+        source.defs,
+        errors,
+        order,
+        number,
+    )?;
+    reports.push(report)?;
+    Ok(())
+}
+
+/// How many of the first errors, so many, say that the rule of an error can't match.
+pub(crate) fn times_before(errors: &[Error], count: usize, error: &Error) -> usize {
     let Error::UnreachableError { span, .. } = error else {
         return 0;
     };
@@ -78,7 +137,9 @@ fn is_unreachable(error: &Error, place: Span) -> bool {
 // The report of an error. `before` is how many reports say that its rule can't match.
 fn report_of(source: Source<'_>, error: &Error, before: usize) -> Result<Report, AllocError> {
     match error {
-        Error::TypeError { msg, span } => simple(source.alloc, "type", msg, *span),
+        Error::TypeError { msg, span } => {
+            report_of_type_error(source.alloc, source.defs, msg, span.from)
+        }
         Error::UnreachableError { msg, span } => unreachable(source, msg, *span, before),
         Error::LimitError { limit, msg, span } => of_rule(
             source,
@@ -87,9 +148,7 @@ fn report_of(source: Source<'_>, error: &Error, before: usize) -> Result<Report,
             way_below(*limit),
         ),
         Error::OverlapError { rules, .. } => overlap(source, rules),
-        Error::ShadowedError { shadowed, mask } => {
-            shadow(source.alloc, source.defs, shadowed, *mask)
-        }
+        Error::ShadowedError { shadowed, mask } => shadow(source, shadowed, *mask),
     }
 }
 
@@ -106,10 +165,42 @@ fn unreachable(
     };
     match found {
         Some(conflict) => of_conflict(source, span, conflict),
-        None => {
-            let message = by_names(source.alloc, source.defs, source.expand, msg)?;
-            of_rule(source, ("unreachable", &message), span, WAY_OUT)
+        None => of_words(source, msg, span),
+    }
+}
+
+// The report of a rule that can't match, by the library's words.
+fn of_words(source: Source<'_>, msg: &str, span: Span) -> Result<Report, AllocError> {
+    let alloc = source.alloc;
+    let Some((first, second)) = named_forms(alloc, source.defs, source.expand, msg)? else {
+        return of_rule(source, ("unreachable", msg), span, WAY_OUT);
+    };
+    let mut message = String::new(alloc);
+    push_rule(&mut message, source.defs, span.from)?;
+    write!(
+        message,
+        " can never match: no value is both `{first}` and `{second}`"
+    )?;
+    let mut report = begun(alloc, "unreachable", &message)?;
+    match (
+        place_of_form(source, span.from, &first)?,
+        place_of_form(source, span.from, &second)?,
+    ) {
+        (Some(left), Some(right)) => {
+            report.add_label(left, format!(in alloc; "must be `{first}`")?)?;
+            report.add_label(right, format!(in alloc; "must be `{second}`")?)?;
         }
+        _ => add_rule(alloc, &mut report, source.defs, span.from, "", "")?,
+    }
+    add_help(alloc, &mut report, WAY_OUT)?;
+    Ok(report)
+}
+
+// The place of a form in the patterns of the rule at a position, if it stands there once.
+fn place_of_form(source: Source<'_>, rule: Pos, form: &str) -> Result<Option<Pos>, AllocError> {
+    match rule_at(source.defs, rule) {
+        Some(rule) => only_place(source.alloc, rule, form),
+        None => Ok(None),
     }
 }
 
@@ -137,8 +228,8 @@ fn of_conflict(
     Ok(report)
 }
 
-// Adds the place where a rule demands a form.
-fn add_form(
+/// Adds the place where a form is demanded.
+pub(crate) fn add_form(
     alloc: Global,
     report: &mut Report,
     before: &str,
@@ -146,8 +237,7 @@ fn add_form(
 ) -> Result<(), AllocError> {
     let mut text = String::from_str(alloc, before)?;
     push_quoted(&mut text, form)?;
-    report.labels.push(Label { pos, text })?;
-    Ok(())
+    report.add_label(pos, text)
 }
 
 // Adds a form as a quotation.
@@ -159,29 +249,8 @@ fn push_quoted(out: &mut String, form: Form<'_>) -> Result<(), AllocError> {
 
 // A report with these words and places to come.
 fn begun(alloc: Global, kind: &'static str, message: &str) -> Result<Report, AllocError> {
-    Ok(Report {
-        level: Level::Error,
-        kind,
-        message: String::from_str(alloc, message)?,
-        labels: Vec::new(alloc),
-        notes: Vec::new(alloc),
-    })
-}
-
-// A report of one place.
-fn simple(
-    alloc: Global,
-    kind: &'static str,
-    message: &str,
-    span: Span,
-) -> Result<Report, AllocError> {
-    let mut report = begun(alloc, kind, message)?;
-    let text = String::new(alloc);
-    report.labels.push(Label {
-        pos: span.from,
-        text,
-    })?;
-    Ok(report)
+    let message = String::from_str(alloc, message)?;
+    Ok(Report::new(alloc, Level::Error, kind, message))
 }
 
 // A report of one rule, with what helps.
@@ -223,24 +292,97 @@ fn overlap(source: Source<'_>, rules: &[Span]) -> Result<Report, AllocError> {
         "rules of the same priority match the same values",
     )?;
     let shown = source.most_rules.saturating_add(1);
-    for (i, span) in rules.iter().enumerate() {
-        if i >= shown {
-            break;
-        }
-        let before = if i == 0 { "" } else { "overlaps " };
-        add_rule(alloc, &mut report, source.defs, span.from, before, "")?;
-    }
+    let alike = add_overlapping(source, &mut report, rules, shown)?;
     add_values(source, &mut report, rules)?;
     add_rest(alloc, &mut report, rules.len().saturating_sub(shown))?;
-    let above = priority_above(source.defs, rules);
-    let help = format!(in alloc;
-        "give one of the rules a greater priority, as (rule {above} ..), or make one pattern narrower"
-    )?;
-    add_note(&mut report, "help", help)?;
+    add_way_out(source, &mut report, rules, alike)?;
     if !source.expand {
         add_help(alloc, &mut report, NO_TEMPLATES)?;
     }
     Ok(report)
+}
+
+// Adds the places of so many rules of which the first overlaps each of the others. How many of the others have its left side.
+fn add_overlapping(
+    source: Source<'_>,
+    report: &mut Report,
+    rules: &[Span],
+    shown: usize,
+) -> Result<usize, AllocError> {
+    let first = match rules.first() {
+        Some(span) => left_side_at(source.alloc, source.defs, span.from)?,
+        None => String::new(source.alloc),
+    };
+    let mut alike = 0usize;
+    for (i, span) in rules.iter().take(shown).enumerate() {
+        let own = left_side_at(source.alloc, source.defs, span.from)?;
+        let is_alike = i > 0 && are_one(&first, &own);
+        if is_alike {
+            alike = alike.saturating_add(1);
+        }
+        let (before, after) = words_of_overlap(i, is_alike);
+        add_rule(source.alloc, report, source.defs, span.from, before, after)?;
+    }
+    Ok(alike)
+}
+
+// The left side of the rule at a place; the empty text if there is none.
+fn left_side_at(alloc: Global, defs: &[Def], place: Pos) -> Result<String, AllocError> {
+    match rule_at(defs, place) {
+        Some(rule) => left_side(alloc, rule),
+        None => Ok(String::new(alloc)),
+    }
+}
+
+// Whether two left sides are known and the same.
+fn are_one(left: &str, right: &str) -> bool {
+    !left.is_empty() && left == right
+}
+
+// What stands before and behind the name of a rule of this number, where rules overlap.
+fn words_of_overlap(number: usize, is_alike: bool) -> (&'static str, &'static str) {
+    if number == 0 {
+        ("", "")
+    } else if is_alike {
+        ("", " has the same pattern")
+    } else {
+        ("overlaps ", "")
+    }
+}
+
+// Adds what to do about rules of which the first overlaps each of the others, so many of which are alike.
+fn add_way_out(
+    source: Source<'_>,
+    report: &mut Report,
+    rules: &[Span],
+    alike: usize,
+) -> Result<(), AllocError> {
+    if alike > 0 {
+        add_help(source.alloc, report, ONE_OF_ALIKE)?;
+    }
+    if alike.saturating_add(1) < rules.len() {
+        let above = priority_above(source.defs, rules);
+        let help = format!(in source.alloc;
+            "give one of the rules a greater priority, as (rule {above} ..), or make one pattern narrower"
+        )?;
+        report.add_note("help", help)?;
+    }
+    Ok(())
+}
+
+/// What to do about rules that have the same pattern.
+pub const ONE_OF_ALIKE: &str =
+    "of rules with the same pattern only one is ever taken: remove the others";
+
+/// Whether the rules at two places have the same left side, but for the names of variables that stand there once.
+///
+/// # Errors
+///
+/// If memory is refused.
+pub fn are_alike(alloc: Global, defs: &[Def], left: Pos, right: Pos) -> Result<bool, AllocError> {
+    let first = left_side_at(alloc, defs, left)?;
+    let second = left_side_at(alloc, defs, right)?;
+    Ok(are_one(&first, &second))
 }
 
 // Why more rules overlap if internal extractors aren't expanded.
@@ -252,7 +394,7 @@ fn add_rest(alloc: Global, report: &mut Report, count: usize) -> Result<(), Allo
         return Ok(());
     }
     let text = format!(in alloc; "it overlaps {count} more, shown by `--all`")?;
-    add_note(report, "help", text)
+    report.add_note("help", text)
 }
 
 // A priority above that of rules of one priority, where there is one.
@@ -267,34 +409,44 @@ fn priority_above(defs: &[Def], rules: &[Span]) -> i64 {
 }
 
 // A report of rules that another one shadows.
-fn shadow(
-    alloc: Global,
-    defs: &[Def],
-    shadowed: &[Span],
-    mask: Span,
-) -> Result<Report, AllocError> {
+fn shadow(source: Source<'_>, shadowed: &[Span], mask: Span) -> Result<Report, AllocError> {
+    let alloc = source.alloc;
     let mut report = begun(alloc, "shadow", "a rule is never taken")?;
+    let mut alike = 0usize;
     for span in shadowed {
-        add_rule(alloc, &mut report, defs, span.from, "", " is never taken")?;
+        let is_alike = are_alike(alloc, source.defs, mask.from, span.from)?;
+        if is_alike {
+            alike = alike.saturating_add(1);
+        }
+        let after = if is_alike {
+            " has the same pattern, and is never taken"
+        } else {
+            " is never taken"
+        };
+        add_rule(alloc, &mut report, source.defs, span.from, "", after)?;
     }
     add_rule(
         alloc,
         &mut report,
-        defs,
+        source.defs,
         mask.from,
         "",
         " matches these values too, and comes first",
     )?;
-    add_help(
-        alloc,
-        &mut report,
-        "give the rule that is never taken a greater priority, or remove it",
-    )?;
+    if alike > 0 {
+        add_help(alloc, &mut report, ONE_OF_ALIKE)?;
+    }
+    if alike < shadowed.len() {
+        add_help(alloc, &mut report, FIRST_TAKEN)?;
+    }
     Ok(report)
 }
 
-// Adds the place of a rule, with its name and priority between two texts.
-pub(crate) fn add_rule(
+// What to do about a rule that another one is taken before.
+const FIRST_TAKEN: &str = "give the rule that is never taken a greater priority, or remove it";
+
+/// Adds the place of a rule, with its name and priority between two texts.
+pub fn add_rule(
     alloc: Global,
     report: &mut Report,
     defs: &[Def],
@@ -305,8 +457,7 @@ pub(crate) fn add_rule(
     let mut text = String::from_str(alloc, before)?;
     push_rule(&mut text, defs, pos)?;
     text.push_str(after)?;
-    report.labels.push(Label { pos, text })?;
-    Ok(())
+    report.add_label(pos, text)
 }
 
 // Adds a rule's name and priority.
@@ -324,15 +475,9 @@ fn push_rule(text: &mut String, defs: &[Def], pos: Pos) -> Result<(), AllocError
     write!(text, " (priority {priority})")
 }
 
-// Adds a line that helps.
-pub(crate) fn add_help(alloc: Global, report: &mut Report, text: &str) -> Result<(), AllocError> {
-    add_note(report, "help", String::from_str(alloc, text)?)
-}
-
-// Adds a line below the places.
-fn add_note(report: &mut Report, word: &'static str, text: String) -> Result<(), AllocError> {
-    report.notes.push(Note { word, text })?;
-    Ok(())
+/// Adds a line that helps.
+pub fn add_help(alloc: Global, report: &mut Report, text: &str) -> Result<(), AllocError> {
+    report.add_note("help", String::from_str(alloc, text)?)
 }
 
 // Adds what the first of some rules and each of the others match.
@@ -359,7 +504,7 @@ fn add_value(
     };
     let found = witness(alloc, source.defs, left, right)?;
     let text = value_text(alloc, found)?;
-    add_note(report, "note", text)
+    report.add_note("note", text)
 }
 
 // What is said of a value that two rules match, or that none was found.

@@ -73,6 +73,8 @@ fn push_rule(
             names,
             bindings: &term.rules.bindings,
             arguments: &conditions.arguments,
+            shown: &[],
+            indent: 4,
         },
         rule: rule.pos,
     };
@@ -83,7 +85,7 @@ fn push_rule(
 // Adds what a rule demands, a line each.
 fn push_conditions(
     alloc: Global,
-    conditions: &Conditions,
+    conditions: &Conditions<'_>,
     out: &mut String,
 ) -> Result<(), AllocError> {
     let call = conditions.call.as_str();
@@ -98,8 +100,20 @@ fn push_conditions(
     Ok(())
 }
 
-// Adds a rule's name, place and priority.
-fn push_title(
+/// Adds a rule's name, place and priority.
+pub fn push_title(
+    files: &Files,
+    lowered: &Lowered,
+    rule: &Rule,
+    out: &mut String,
+) -> Result<(), AllocError> {
+    push_rule_place(files, lowered, rule, out)?;
+    let priority = rule.prio;
+    write!(out, " (priority {priority})")
+}
+
+/// Adds a rule's name and place.
+pub fn push_rule_place(
     files: &Files,
     lowered: &Lowered,
     rule: &Rule,
@@ -111,9 +125,7 @@ fn push_title(
         write!(out, "`{name}` ")?;
     }
     out.push_str("at ")?;
-    push_place(out, files, rule.pos)?;
-    let priority = rule.prio;
-    write!(out, " (priority {priority})")
+    push_place(out, files, rule.pos)
 }
 
 fn push_two(out: &mut String, first: &str, second: &str) -> Result<(), AllocError> {
@@ -165,8 +177,8 @@ fn has_first(term: &LoweredTerm, rule: &Rule) -> bool {
     false
 }
 
-// Whether another rule may match together with this one, and comes first then.
-fn comes_first(rule: &Rule, other: &Rule) -> bool {
+/// Whether another rule of a set may match together with this one, and comes first then.
+pub fn comes_first(rule: &Rule, other: &Rule) -> bool {
     other.prio > rule.prio && overlaps(rule, other)
 }
 

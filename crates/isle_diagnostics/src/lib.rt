@@ -1,17 +1,16 @@
 //! What a person asks about rules: why they are refused, what a rule demands and when it is taken, and how large trees are.
 #![tactic(auto)]
 
-mod called;
+pub mod called;
 pub mod demands;
 pub mod diagnosis;
 pub mod explanation;
-mod lines;
-pub mod lints;
-mod literals;
+pub mod extents;
+pub mod lines;
 pub mod names;
 mod numbered;
 pub mod stats;
-mod trees;
-mod variables;
-mod way_text;
-mod ways;
+mod templates;
+pub mod trees;
+pub mod way_text;
+pub mod ways;

@@ -5,7 +5,7 @@ use isle_printing::wrapping::push_wrapped;
 use std::alloc::AllocError;
 
 /// Adds a line behind so many spaces. A line that is too long goes on in a new line, behind four more spaces.
-pub(crate) fn push_line(out: &mut String, indent: u64, text: &str) -> Result<(), AllocError> {
+pub fn push_line(out: &mut String, indent: u64, text: &str) -> Result<(), AllocError> {
     push_spaces(out, indent)?;
     push_wrapped(out, indent, indent.saturating_add(4), text)?;
     out.push('\n')

@@ -8,7 +8,7 @@ use std::alloc::{AllocError, Global};
 
 /// A test on the way to a return.
 #[derive(Clone, Copy)]
-pub(crate) enum Test {
+pub enum Test {
     /// A value meets a constraint.
     Is(BindingId, Constraint),
     /// A call gives a value. The value's site, if it is looked at.
@@ -21,7 +21,7 @@ pub(crate) enum Test {
 
 /// The sites of a term, and what names them.
 #[derive(Clone, Copy)]
-pub(crate) struct Sites<'a> {
+pub struct Sites<'a> {
     /// The memory for texts.
     pub alloc: Global,
     /// The names of terms and types.
@@ -30,10 +30,14 @@ pub(crate) struct Sites<'a> {
     pub bindings: &'a [Binding],
     /// The names of the arguments. `_` is none.
     pub arguments: &'a [String],
+    /// What calls answered, by their sites, where that is to be told.
+    pub shown: &'a [String],
+    /// How many spaces stand before each line.
+    pub indent: u64,
 }
 
 /// The text of a way, as far as it is written.
-pub(crate) struct Way<'s, 'a> {
+pub struct Way<'s, 'a> {
     sites: &'s Sites<'a>,
     // The name of each site, or the empty text.
     texts: Vec<String>,
@@ -65,14 +69,24 @@ impl<'s, 'a> Way<'s, 'a> {
         })
     }
 
-    /// Adds a test.
-    pub fn push_test(&mut self, test: &Test, out: &mut String) -> Result<(), AllocError> {
+    /// Adds a test, and behind it this end.
+    pub fn push_test(
+        &mut self,
+        test: &Test,
+        end: &str,
+        out: &mut String,
+    ) -> Result<(), AllocError> {
         match test {
-            Test::Is(source, constraint) => self.push_is(*source, constraint, out),
-            Test::Gives(source, value) => self.push_given(*source, *value, out),
-            Test::Equal(left, right) => self.push_equal(*left, *right, out),
-            Test::Each(each) => self.push_each(*each, out),
+            Test::Is(source, constraint) => self.push_is(*source, constraint, end, out),
+            Test::Gives(source, value) => self.push_given((*source, *value), end, out),
+            Test::Equal(left, right) => self.push_equal((*left, *right), end, out),
+            Test::Each(each) => self.push_each(*each, end, out),
         }
+    }
+
+    // Adds a line.
+    fn push_line(&self, line: &str, out: &mut String) -> Result<(), AllocError> {
+        push_line(out, self.sites.indent, line)
     }
 
     // Adds that a value meets a constraint. A struct's own form is no test.
@@ -80,14 +94,16 @@ impl<'s, 'a> Way<'s, 'a> {
         &mut self,
         source: BindingId,
         constraint: &Constraint,
+        end: &str,
         out: &mut String,
     ) -> Result<(), AllocError> {
         if is_struct(constraint) {
             return Ok(());
         }
         self.name(source, out)?;
-        let line = self.line_of(source, constraint)?;
-        push_line(out, 4, &line)
+        let mut line = self.line_of(source, constraint)?;
+        line.push_str(end)?;
+        self.push_line(&line, out)
     }
 
     // The line that says that a value meets a constraint.
@@ -102,47 +118,52 @@ impl<'s, 'a> Way<'s, 'a> {
     // Adds that two values are equal.
     fn push_equal(
         &mut self,
-        left: BindingId,
-        right: BindingId,
+        (left, right): (BindingId, BindingId),
+        end: &str,
         out: &mut String,
     ) -> Result<(), AllocError> {
         self.name(left, out)?;
         self.name(right, out)?;
         let left = text_at(&self.texts, left);
         let right = text_at(&self.texts, right);
-        let line = format!(in self.sites.alloc; "test {left} = {right}")?;
-        push_line(out, 4, &line)
+        let line = format!(in self.sites.alloc; "test {left} = {right}{end}")?;
+        self.push_line(&line, out)
     }
 
     // Adds that a call gives a value.
     fn push_given(
         &mut self,
-        source: BindingId,
-        value: Option<BindingId>,
+        (source, value): (BindingId, Option<BindingId>),
+        end: &str,
         out: &mut String,
     ) -> Result<(), AllocError> {
         let call = self.call(source, out)?;
         let Some(value) = value else {
-            let line = format!(in self.sites.alloc; "test {call} gives a value")?;
-            return push_line(out, 4, &line);
+            let line = format!(in self.sites.alloc; "test {call} gives a value{end}")?;
+            return self.push_line(&line, out);
         };
         let name = self.new_name()?;
-        let line = format!(in self.sites.alloc; "test {call} gives {name}")?;
+        let line = format!(in self.sites.alloc; "test {call} gives {name}{end}")?;
         self.set_text(value, name);
-        push_line(out, 4, &line)
+        self.push_line(&line, out)
     }
 
     // Adds that each answer of a call is gone on with.
-    fn push_each(&mut self, each: BindingId, out: &mut String) -> Result<(), AllocError> {
+    fn push_each(
+        &mut self,
+        each: BindingId,
+        end: &str,
+        out: &mut String,
+    ) -> Result<(), AllocError> {
         let bindings = self.sites.bindings;
         let Some(Binding::Iterator { source }) = bindings.get(each.index()) else {
             return Ok(());
         };
         let call = self.call(*source, out)?;
         let name = self.new_name()?;
-        let line = format!(in self.sites.alloc; "for each {name} of {call}")?;
+        let line = format!(in self.sites.alloc; "for each {name} of {call}{end}")?;
         self.set_text(each, name);
-        push_line(out, 4, &line)
+        self.push_line(&line, out)
     }
 
     // A name that no site has.
@@ -183,8 +204,8 @@ impl<'s, 'a> Way<'s, 'a> {
         !text_at(&self.texts, site).is_empty()
     }
 
-    // The text of a call, whose arguments have names then.
-    fn call(&mut self, site: BindingId, out: &mut String) -> Result<String, AllocError> {
+    /// The text of a call, whose arguments have names then.
+    pub fn call(&mut self, site: BindingId, out: &mut String) -> Result<String, AllocError> {
         let bindings = self.sites.bindings;
         let mut text = String::new(self.sites.alloc);
         if let Some(binding) = bindings.get(site.index()) {
@@ -244,12 +265,24 @@ impl<'s, 'a> Way<'s, 'a> {
         self.push_text(binding, &mut text)?;
         if is_call(binding) {
             let name = self.new_name()?;
-            let line = format!(in self.sites.alloc; "{name} = {text}")?;
-            push_line(out, 4, &line)?;
+            let mut line = format!(in self.sites.alloc; "{name} = {text}")?;
+            self.push_shown(site, &mut line)?;
+            self.push_line(&line, out)?;
             text = name;
         }
         self.set_text(site, text);
         Ok(())
+    }
+
+    // Adds what a call answered, where that is to be told.
+    fn push_shown(&self, site: BindingId, line: &mut String) -> Result<(), AllocError> {
+        match self.sites.shown.get(site.index()) {
+            Some(shown) if !shown.is_empty() => {
+                line.push_str(": ")?;
+                line.push_str(shown)
+            }
+            _ => Ok(()),
+        }
     }
 
     // Adds what a site stands for, by the names of those that it is made of.

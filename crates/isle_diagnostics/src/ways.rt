@@ -91,14 +91,14 @@ impl<'a> Search<'a> {
     fn push_way(&self, tests: &[Test], out: &mut String) -> Result<(), AllocError> {
         let mut way = Way::new(&self.sites)?;
         for test in tests {
-            way.push_test(test, out)?;
+            way.push_test(test, "", out)?;
         }
         out.push_str("    return\n")
     }
 }
 
-// The test that a match makes for an arm.
-fn test_of(source: BindingId, arm: &MatchArm) -> Test {
+/// The test that a match makes for an arm.
+pub fn test_of(source: BindingId, arm: &MatchArm) -> Test {
     match arm.constraint {
         Constraint::Some => Test::Gives(source, value_in(arm)),
         _ => Test::Is(source, arm.constraint),

@@ -4,7 +4,7 @@ ghost use Rattle.std.specs.Prelude.{IfOk, IfSome, string_bytes};
 ghost use Rattle.isle_reader.specs.Solid.{HaveSameTokens};
 
 use crate::layout::laid_out;
-use crate::parts::{parts_of, same_parts};
+use crate::parts::{Placed, parts_of, same_parts};
 use isle_reader::errors::ReadFault;
 use isle_reader::sameness::{has_lists, has_same_tokens};
 use std::alloc::{AllocError, Global};
@@ -21,16 +21,17 @@ pub fn formatted(alloc: Global, file: usize, text: &str) -> Result<Option<String
     ensures { IfOk result (λ made. IfSome made (λ new. HaveSameTokens file text.now (string_bytes new))) }
 {
     has_lists(alloc, file, text)?;
-    let made = laid_out_text(alloc, text)?;
-    if has_same_tokens(alloc, file, text, &made)? && has_same_parts(alloc, text, &made)? {
+    let parts = parts_of(alloc, without_mark(text))?;
+    let made = laid_out_text(alloc, text, &parts)?;
+    if has_same_tokens(alloc, file, text, &made)? && has_parts(alloc, &made, &parts)? {
         return Ok(Some(made));
     }
     Ok(None)
 }
 
-// The text, laid out.
-fn laid_out_text(alloc: Global, text: &str) -> Result<String, AllocError> {
-    let laid = laid_out(alloc, &parts_of(alloc, without_mark(text))?)?;
+// The parts of a text, laid out, behind its byte order mark.
+fn laid_out_text(alloc: Global, text: &str, parts: &[Placed]) -> Result<String, AllocError> {
+    let laid = laid_out(alloc, parts)?;
     if !text.starts_with('\u{feff}') {
         return Ok(laid);
     }
@@ -39,11 +40,10 @@ fn laid_out_text(alloc: Global, text: &str) -> Result<String, AllocError> {
     Ok(marked)
 }
 
-// Whether two texts have the same parts.
-fn has_same_parts(alloc: Global, text: &str, other: &str) -> Result<bool, AllocError> {
-    let parts = parts_of(alloc, without_mark(text))?;
-    let others = parts_of(alloc, without_mark(other))?;
-    Ok(same_parts(&parts, &others))
+// Whether a text has these parts.
+fn has_parts(alloc: Global, text: &str, parts: &[Placed]) -> Result<bool, AllocError> {
+    let others = parts_of(alloc, without_mark(text))?;
+    Ok(same_parts(parts, &others))
 }
 
 // A text without its byte order mark.

@@ -2,7 +2,7 @@
 
 use crate::lines::{Line, file_name, file_text, line_at, push_spaces, push_times};
 use crate::report::{Label, Level, Note, Report};
-use crate::wrapping::push_wrapped;
+use crate::wrapping::{has_room, push_wrapped};
 use isle_base::syntax::{Files, Pos};
 use std::alloc::{AllocError, Global};
 
@@ -163,6 +163,12 @@ fn push_note_lines(out: &mut String, note: &Note, width: u64) -> Result<(), Allo
     out.push('\n')
 }
 
+// How many columns the bar beside lines of text takes.
+const BAR_COLUMNS: u64 = 3;
+
+// How far to the right of the bar what is told of a place stands at most, where it stands below the place's marks.
+const MOST_INDENT: u64 = 40;
+
 // Adds the places of a report: those in the file of the first one before others, in the order of the text. Each file has a
 // place in words before its lines, and a line that has several places is shown once.
 fn push_labels(
@@ -176,7 +182,7 @@ fn push_labels(
         return Ok(());
     };
     push_arrow(out, files, first.pos, "-->", width)?;
-    let mut last = (first.pos.file, 0);
+    let mut last = (first.pos.file, 0, 0);
     for label in &in_order(*out.allocator(), report, first.pos.file)? {
         let line = line_of(files, label.pos);
         push_source(out, files, label.pos, line, last, width)?;
@@ -188,10 +194,11 @@ fn push_labels(
         push_bar(out, width, " ")?;
         push_spaces(out, line.indent())?;
         push_code(out, code, colored)?;
-        push_marks(out, line, &label.text, mark)?;
+        push_times(out, mark, line.extent())?;
+        push_beside(out, line, &label.text, width)?;
         push_code(out, PLAIN, colored)?;
         out.push('\n')?;
-        last = (label.pos.file, line.number);
+        last = (label.pos.file, line.number, line.part().begin);
     }
     if !report.notes.is_empty() {
         push_bar(out, width, "\n")?;
@@ -210,20 +217,22 @@ fn in_order(alloc: Global, report: &Report, file: usize) -> Result<Vec<&Label>, 
 }
 
 // Adds the line of a place, where the last place wasn't in it, and what leads from there to it. No place was before where the
-// last line is 0.
+// last line is 0. A long line is shown again where another part of it is shown.
 fn push_source(
     out: &mut String,
     files: &Files,
     pos: Pos,
     line: Line<'_>,
-    last: (usize, u64),
+    last: (usize, u64, u64),
     width: u64,
 ) -> Result<(), AllocError> {
-    let (file, number) = last;
+    let (file, number, begin) = last;
     if file != pos.file {
         push_arrow(out, files, pos, ":::", width)?;
     } else if number == line.number {
-        return Ok(());
+        if begin == line.part().begin {
+            return Ok(());
+        }
     } else if number > 0 && number.saturating_add(1) != line.number {
         out.push_str("...\n")?;
     }
@@ -256,14 +265,25 @@ fn push_numbered(out: &mut String, line: Line<'_>, width: u64) -> Result<(), All
     out.push('\n')
 }
 
-// Adds marks below what is meant in a line, and what it has to do with the report.
-fn push_marks(out: &mut String, line: Line<'_>, text: &str, mark: char) -> Result<(), AllocError> {
-    push_times(out, mark, line.extent())?;
-    if !text.is_empty() {
-        out.push(' ')?;
-        out.push_str(text)?;
+// Adds what a place has to do with the report: beside its marks, or below them where it has no room.
+fn push_beside(out: &mut String, line: Line<'_>, text: &str, width: u64) -> Result<(), AllocError> {
+    if text.is_empty() {
+        return Ok(());
     }
-    Ok(())
+    let behind = width.saturating_add(BAR_COLUMNS);
+    let column = behind
+        .saturating_add(line.indent())
+        .saturating_add(line.extent());
+    if has_room(column, text) {
+        out.push(' ')?;
+        return out.push_str(text);
+    }
+    out.push('\n')?;
+    push_bar(out, width, " ")?;
+    let indent = line.indent().min(MOST_INDENT);
+    push_spaces(out, indent)?;
+    let column = behind.saturating_add(indent);
+    push_wrapped(out, column, column, text)
 }
 
 // Adds the bar beside lines of text, where no number stands.

@@ -7,6 +7,17 @@ use unicode_width::UnicodeWidthChar;
 // How many columns a tab takes. Lines are shown with spaces in its place, so that what is below stands below.
 const TAB: &str = "    ";
 
+// How many columns of a line are shown. A line that has more is cut.
+const WIDEST: u64 = 200;
+
+// How many columns are shown before the offset where a line is cut.
+const BEFORE: u64 = 60;
+
+// What stands where a line is cut, and how many columns it takes.
+const CUT: &str = "..";
+
+const CUT_COLUMNS: u64 = 2;
+
 // Marks the beginning of some texts, and is no part of their first line.
 const BYTE_ORDER_MARK: char = '\u{feff}';
 
@@ -70,15 +81,45 @@ impl<'a> Line<'a> {
         column
     }
 
-    /// How many columns stand before the offset where the line is shown.
-    pub fn indent(self) -> u64 {
+    // How many columns of the whole line stand before a character that begins at this offset or behind it.
+    fn columns_before(self, offset: usize) -> u64 {
         let mut columns = 0u64;
         for (at, c) in self.text.char_indices() {
-            if at < self.at {
+            if at < offset {
                 columns = columns.saturating_add(columns_of(c));
             }
         }
         columns
+    }
+
+    /// The columns of the whole line that are shown: all, or those around the offset of a line that is too long.
+    pub fn part(self) -> Part {
+        let count = self.columns_before(self.text.len());
+        if count <= WIDEST {
+            return Part {
+                begin: 0,
+                end: count,
+                count,
+            };
+        }
+        let shown = WIDEST.saturating_sub(CUT_COLUMNS.saturating_mul(2));
+        let begin = self
+            .columns_before(self.at)
+            .saturating_sub(BEFORE)
+            .min(count.saturating_sub(shown));
+        Part {
+            begin,
+            end: begin.saturating_add(shown).min(count),
+            count,
+        }
+    }
+
+    /// How many columns stand before the offset where the line is shown.
+    pub fn indent(self) -> u64 {
+        let part = self.part();
+        self.columns_before(self.at)
+            .saturating_sub(part.begin)
+            .saturating_add(part.cut_columns())
     }
 
     /// How many columns the form or the word at the offset takes where the line is shown: at least one, and no more than the
@@ -95,15 +136,46 @@ impl<'a> Line<'a> {
                 form = form.after(c);
             }
         }
-        form.seen.max(1)
+        let room = self.part().end.saturating_sub(self.columns_before(self.at));
+        form.seen.min(room).max(1)
     }
 
-    /// Adds the line as it is shown: tabs are spaces, and what takes no column is left out.
+    /// Adds the line as it is shown: tabs are spaces, what takes no column is left out, and a long line is cut.
     pub fn push(self, out: &mut String) -> Result<(), AllocError> {
+        let part = self.part();
+        if part.begin > 0 {
+            out.push_str(CUT)?;
+        }
+        let mut column = 0u64;
         for c in self.text.chars() {
-            push_char(out, c)?;
+            let next = column.saturating_add(columns_of(c));
+            if column >= part.begin && next <= part.end {
+                push_char(out, c)?;
+            }
+            column = next;
+        }
+        if part.end < part.count {
+            out.push_str(CUT)?;
         }
         Ok(())
+    }
+}
+
+/// The columns of a line that are shown.
+#[derive(Clone, Copy)]
+pub struct Part {
+    /// The first.
+    pub begin: u64,
+    /// How many stand before the end.
+    pub end: u64,
+    /// How many the line has.
+    pub count: u64,
+}
+
+impl Part {
+    // How many columns show that the beginning is left out.
+    fn cut_columns(self) -> u64 {
+        if self.begin > 0 { CUT_COLUMNS } else { 0 }
     }
 }
 

@@ -131,18 +131,25 @@ fn definition_at(defs: &[Def], offset: usize) -> usize {
 
 // Whether a definition begins at an offset or before it. One that is passed over has no place.
 fn begins_by(def: &Def, offset: usize) -> bool {
-    let pos = match def {
-        Def::TypeDef(ty) => ty.pos,
-        Def::Decl(decl) => decl.pos,
-        Def::Extractor(extractor) => extractor.pos,
-        Def::Converter(converter) => converter.pos,
-        Def::Rule(rule) => rule.pos,
+    match position_of(def) {
+        Some(pos) => pos.offset <= offset,
+        None => false,
+    }
+}
+
+/// Where a definition begins. One that is passed over has no place.
+pub fn position_of(def: &Def) -> Option<Pos> {
+    match def {
+        Def::TypeDef(ty) => Some(ty.pos),
+        Def::Decl(decl) => Some(decl.pos),
+        Def::Extractor(extractor) => Some(extractor.pos),
+        Def::Converter(converter) => Some(converter.pos),
+        Def::Rule(rule) => Some(rule.pos),
         Def::Extern(
             Extern::Constructor { pos, .. }
             | Extern::Extractor { pos, .. }
             | Extern::Const { pos, .. },
-        ) => *pos,
-        Def::Other => return false,
-    };
-    pos.offset <= offset
+        ) => Some(*pos),
+        Def::Other => None,
+    }
 }

@@ -1,6 +1,7 @@
 //! A report: what is said of some files, apart from how it is laid out.
 
 use isle_base::syntax::Pos;
+use std::alloc::{AllocError, Global};
 
 /// How grave a report is.
 #[derive(Clone, Copy, PartialEq, Eq)]
@@ -33,6 +34,51 @@ pub struct Report {
     pub labels: Vec<Label>,
     /// What helps to understand it, or to mend what is wrong.
     pub notes: Vec<Note>,
+}
+
+impl Report {
+    /// A report that says this, of no places yet.
+    pub fn new(alloc: Global, level: Level, kind: &'static str, message: String) -> Report {
+        Report {
+            level,
+            kind,
+            message,
+            labels: Vec::new(alloc),
+            notes: Vec::new(alloc),
+        }
+    }
+
+    /// Adds a place.
+    ///
+    /// # Errors
+    ///
+    /// Where memory is refused.
+    pub fn add_label(&mut self, pos: Pos, text: String) -> Result<(), AllocError> {
+        self.labels.push(Label { pos, text })?;
+        Ok(())
+    }
+
+    /// Adds a place, unless another label has it.
+    ///
+    /// # Errors
+    ///
+    /// Where memory is refused.
+    pub fn add_new_label(&mut self, pos: Pos, text: String) -> Result<(), AllocError> {
+        if self.labels.iter().any(|label| label.pos == pos) {
+            return Ok(());
+        }
+        self.add_label(pos, text)
+    }
+
+    /// Adds a line below the places.
+    ///
+    /// # Errors
+    ///
+    /// Where memory is refused.
+    pub fn add_note(&mut self, word: &'static str, text: String) -> Result<(), AllocError> {
+        self.notes.push(Note { word, text })?;
+        Ok(())
+    }
 }
 
 /// A place that a report speaks of.

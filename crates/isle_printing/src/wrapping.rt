@@ -16,7 +16,7 @@ pub fn push_wrapped(
 ) -> Result<(), AllocError> {
     let mut column = column;
     for (i, word) in text.split(' ').enumerate() {
-        let width = columns_of_word(word);
+        let width = columns_of_text(word);
         if i > 0 {
             column = push_blank(out, column, width, indent)?;
         }
@@ -37,10 +37,15 @@ fn push_blank(out: &mut String, column: u64, width: u64, indent: u64) -> Result<
     Ok(indent)
 }
 
-// How many columns a word takes.
-fn columns_of_word(word: &str) -> u64 {
+/// Whether a blank and a text have room in a line behind so many columns.
+pub fn has_room(column: u64, text: &str) -> bool {
+    column.saturating_add(columns_of_text(text)) < WIDTH
+}
+
+// How many columns a text takes in one line.
+fn columns_of_text(text: &str) -> u64 {
     let mut columns = 0u64;
-    for c in word.chars() {
+    for c in text.chars() {
         columns = columns.saturating_add(columns_of(c));
     }
     columns

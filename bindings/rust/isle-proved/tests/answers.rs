@@ -91,17 +91,19 @@ fn errors_in_colours() {
 
 #[test]
 fn errors_as_json() {
+    let end = "\"end\":{\"line\":1,\"column\":6,\"offset\":5}";
     let document = |lists: &str| {
         format!(
             "{{\"schema\":1,{lists}\"errors\":[{{\"kind\":\"syntax\",\"message\":\"expected `)`\",\
-            \"places\":[{{\"file\":\"a.isle\",\"line\":1,\"column\":6,\"text\":\"\"}},\
-            {{\"file\":\"a.isle\",\"line\":1,\"column\":1,\"text\":\"begins here\"}}],\"help\":[],\"witness\":[]}}]}}\n"
+            \"places\":[{{\"file\":\"a.isle\",\"line\":1,\"column\":6,\"offset\":5,{end},\"text\":\"\"}},\
+            {{\"file\":\"a.isle\",\"line\":1,\"column\":1,\"offset\":0,{end},\"text\":\"begins here\"}}],\
+            \"help\":[],\"witness\":[]}}]}}\n"
         )
     };
     let files = [("a.isle", "(decl")];
     assert_eq!(
         json(&files, Options::default()),
-        wrong(&document("\"types\":[],\"terms\":[],"))
+        wrong(&document("\"types\":[],\"terms\":[],\"constants\":[],\"all_terms\":[],"))
     );
     assert_eq!(compile(&files, written(Format::Json)), wrong(&document("")));
 }

@@ -45,6 +45,8 @@ pub fn check_document(alloc: Global, value: &Value, keys: &[&str]) -> Result<(),
         match *key {
             "types" => check_types(list(value, "types")?)?,
             "terms" => check_terms(alloc, list(value, "terms")?)?,
+            "constants" => check_constants(list(value, "constants")?)?,
+            "all_terms" => check_heads(list(value, "all_terms")?)?,
             "errors" | "warnings" => check_reports(list(value, key)?)?,
             _ => {}
         }
@@ -57,37 +59,108 @@ fn check_reports(reports: &[Value]) -> Result<(), Fail> {
         let keys = ["kind", "message", "places", "help", "witness"];
         expect(has_keys(report, &keys), "keys of a report")?;
         for place in list(report, "places")? {
-            let keys = ["file", "line", "column", "text"];
+            let keys = ["file", "line", "column", "offset", "end", "text"];
             expect(has_keys(place, &keys), "keys of a place")?;
+            check_end(place)?;
         }
+    }
+    Ok(())
+}
+
+// What stands at a place ends at a place.
+fn check_end(value: &Value) -> Result<(), Fail> {
+    match value.get("end") {
+        Some(end) => expect(
+            has_keys(end, &["line", "column", "offset"]),
+            "keys of an end",
+        ),
+        None => Err(Fail::from("an end")),
+    }
+}
+
+/// A document of sizes has just its keys, and so has each of its terms.
+pub fn check_sizes(value: &Value) -> Result<(), Fail> {
+    expect(
+        has_keys(value, &["schema", "terms", "errors"]),
+        "keys of sizes",
+    )?;
+    check_reports(list(value, "errors")?)?;
+    for term in list(value, "terms")? {
+        let keys = [
+            "name", "rules", "sites", "tests", "arms", "returns", "depth",
+        ];
+        expect(has_keys(term, &keys), "keys of a size")?;
+    }
+    Ok(())
+}
+
+fn check_constants(constants: &[Value]) -> Result<(), Fail> {
+    for constant in constants {
+        let keys = ["name", "type", "file", "line", "column", "offset", "end"];
+        expect(has_keys(constant, &keys), "keys of a constant")?;
+        check_end(constant)?;
+    }
+    Ok(())
+}
+
+fn check_heads(terms: &[Value]) -> Result<(), Fail> {
+    for term in terms {
+        let keys = [
+            "kind",
+            "name",
+            "signature",
+            "flags",
+            "file",
+            "line",
+            "column",
+            "offset",
+            "end",
+            "constructor",
+            "extractor",
+        ];
+        expect(has_keys(term, &keys), "keys of a term's head")?;
+        check_end(term)?;
     }
     Ok(())
 }
 
 fn check_types(types: &[Value]) -> Result<(), Fail> {
     for ty in types {
+        expect(has_keys(ty, type_keys(ty)?), "keys of a type")?;
+        check_end(ty)?;
         match word(ty, "kind")? {
-            "primitive" => expect(has_keys(ty, &["name", "kind"]), "keys of a type")?,
-            "enum" => check_enum(ty)?,
-            _ => {
-                expect(
-                    has_keys(ty, &["name", "kind", "fields"]),
-                    "keys of a struct",
-                )?;
-                check_fields(ty)?;
-            }
+            "enum" => check_variants(list(ty, "variants")?)?,
+            "struct" => check_fields(ty)?,
+            _ => {}
         }
     }
     Ok(())
 }
 
-fn check_enum(ty: &Value) -> Result<(), Fail> {
-    expect(
-        has_keys(ty, &["name", "kind", "variants"]),
-        "keys of an enum",
-    )?;
-    for variant in list(ty, "variants")? {
-        expect(has_keys(variant, &["name", "fields"]), "keys of a variant")?;
+// The keys of a type, by its kind.
+fn type_keys(ty: &Value) -> Result<&'static [&'static str], Fail> {
+    Ok(match word(ty, "kind")? {
+        "primitive" => &[
+            "name", "kind", "declared", "extern", "nodebug", "file", "line", "column", "offset",
+            "end",
+        ],
+        "enum" => &[
+            "name", "kind", "declared", "extern", "nodebug", "file", "line", "column", "offset",
+            "end", "variants",
+        ],
+        "struct" => &[
+            "name", "kind", "declared", "extern", "nodebug", "file", "line", "column", "offset",
+            "end", "fields",
+        ],
+        _ => return Err(Fail::from("the kind of a type")),
+    })
+}
+
+fn check_variants(variants: &[Value]) -> Result<(), Fail> {
+    for variant in variants {
+        let keys = ["name", "file", "line", "column", "offset", "end", "fields"];
+        expect(has_keys(variant, &keys), "keys of a variant")?;
+        check_end(variant)?;
         check_fields(variant)?;
     }
     Ok(())
@@ -105,7 +178,7 @@ fn check_terms(alloc: Global, terms: &[Value]) -> Result<(), Fail> {
         let keys = ["name", "signature", "flags", "sites", "rules", "tree"];
         expect(has_keys(term, &keys), "keys of a term")?;
         check_sites(list(term, "sites")?)?;
-        check_rules(list(term, "rules")?)?;
+        check_rules(alloc, list(term, "rules")?)?;
         check_tree(alloc, list(term, "tree")?)?;
     }
     Ok(())
@@ -114,7 +187,8 @@ fn check_terms(alloc: Global, terms: &[Value]) -> Result<(), Fail> {
 // Sites stand at their ids.
 fn check_sites(sites: &[Value]) -> Result<(), Fail> {
     for (id, site) in sites.iter().enumerate() {
-        expect(has_keys(site, &["id", "what", "bound"]), "keys of a site")?;
+        let keys = ["id", "what", "bound", "types", "answer"];
+        expect(has_keys(site, &keys), "keys of a site")?;
         let number = site.get("id").and_then(Value::as_u64);
         expect(number == Some(id as u64), "a site's id")?;
         match site.get("what") {
@@ -139,7 +213,7 @@ fn what_keys(what: &Value) -> Result<&'static [&'static str], Fail> {
     })
 }
 
-fn check_rules(rules: &[Value]) -> Result<(), Fail> {
+fn check_rules(alloc: Global, rules: &[Value]) -> Result<(), Fail> {
     for rule in rules {
         let keys = [
             "id",
@@ -147,13 +221,21 @@ fn check_rules(rules: &[Value]) -> Result<(), Fail> {
             "file",
             "line",
             "column",
+            "offset",
+            "end",
             "priority",
             "constraints",
             "equal",
             "impure",
             "result",
+            "higher",
+            "written",
+            "expanded",
         ];
         expect(has_keys(rule, &keys), "keys of a rule")?;
+        check_end(rule)?;
+        check_typed(alloc, rule, "written")?;
+        check_typed(alloc, rule, "expanded")?;
         for constraint in list(rule, "constraints")? {
             expect(
                 has_keys(constraint, &["site", "is"]),
@@ -179,7 +261,97 @@ fn check_demand(value: &Value) -> Result<(), Fail> {
     expect(has_keys(is, keys), "keys of a demand")
 }
 
-// More steps than any of these trees has.
+// A typed rule at a key has just its keys, and so has what is in it.
+fn check_typed(alloc: Global, value: &Value, key: &str) -> Result<(), Fail> {
+    let Some(rule) = value.get(key) else {
+        return Err(Fail::from("a typed rule"));
+    };
+    let keys = ["variables", "arguments", "iflets", "right_side"];
+    expect(has_keys(rule, &keys), "keys of a typed rule")?;
+    let keys: &[&str] = if key == "expanded" {
+        &["id", "name", "type", "site"]
+    } else {
+        &["id", "name", "type"]
+    };
+    for variable in list(rule, "variables")? {
+        expect(has_keys(variable, keys), "keys of a variable")?;
+    }
+    let mut waiting: Vec<&Value> = Vec::new(alloc);
+    push_all(&mut waiting, list(rule, "arguments")?)?;
+    push_iflets(&mut waiting, list(rule, "iflets")?)?;
+    push_at(&mut waiting, rule, "right_side")?;
+    check_forms(&mut waiting)
+}
+
+// The forms in the further conditions of a rule wait.
+fn push_iflets<'a>(waiting: &mut Vec<&'a Value>, iflets: &'a [Value]) -> Result<(), Fail> {
+    for iflet in iflets {
+        expect(has_keys(iflet, &["pattern", "value"]), "keys of an if-let")?;
+        push_at(waiting, iflet, "pattern")?;
+        push_at(waiting, iflet, "value")?;
+    }
+    Ok(())
+}
+
+// The form behind a key waits.
+fn push_at<'a>(waiting: &mut Vec<&'a Value>, value: &'a Value, key: &str) -> Result<(), Fail> {
+    match value.get(key) {
+        Some(form) => {
+            waiting.push(form)?;
+            Ok(())
+        }
+        None => Err(Fail::from("no form")),
+    }
+}
+
+// Patterns and expressions, with those inside them.
+fn check_forms<'a>(waiting: &mut Vec<&'a Value>) -> Result<(), Fail> {
+    for _ in 0..STEPS {
+        let Some(form) = waiting.pop() else {
+            return Ok(());
+        };
+        check_form(waiting, form)?;
+    }
+    Err(Fail::from("too many forms"))
+}
+
+// A pattern or an expression, whose parts then wait.
+fn check_form<'a>(waiting: &mut Vec<&'a Value>, form: &'a Value) -> Result<(), Fail> {
+    let keys: &[&str] = match word(form, "kind")? {
+        "bind" => &["kind", "type", "variable", "pattern"],
+        "variable" => &["kind", "type", "variable"],
+        "bool" | "int" => &["kind", "value", "type"],
+        "constant" => &["kind", "name", "type"],
+        "term" => &["kind", "type", "name", "arguments"],
+        "any" => &["kind", "type"],
+        "and" => &["kind", "type", "patterns"],
+        "let" => &["kind", "type", "variables", "body"],
+        _ => return Err(Fail::from("the kind of a form")),
+    };
+    expect(has_keys(form, keys), "keys of a form")?;
+    match word(form, "kind")? {
+        "bind" => push_at(waiting, form, "pattern"),
+        "term" => push_all(waiting, list(form, "arguments")?),
+        "and" => push_all(waiting, list(form, "patterns")?),
+        "let" => {
+            push_values(waiting, list(form, "variables")?)?;
+            push_at(waiting, form, "body")
+        }
+        _ => Ok(()),
+    }
+}
+
+// The values of a let wait.
+fn push_values<'a>(waiting: &mut Vec<&'a Value>, variables: &'a [Value]) -> Result<(), Fail> {
+    for variable in variables {
+        let keys = ["variable", "type", "value"];
+        expect(has_keys(variable, &keys), "keys of a let's variable")?;
+        push_at(waiting, variable, "value")?;
+    }
+    Ok(())
+}
+
+// More steps than any of these trees has, and more forms than any of these rules.
 const STEPS: usize = 1_000;
 
 // The steps of a tree, with those in their bodies.

@@ -6,17 +6,18 @@ use std::io::{ErrorKind, Write};
 use std::process::Abort;
 use std::test::Fail;
 
-// A writer that takes up to 16 bytes at a time and refuses all after some writes, or to be flushed.
+// A writer that takes up to 16 bytes at a time and refuses all after some writes, or to be flushed, for this reason.
 #[derive(Drop)]
 struct Failing {
     writes: usize,
     flushes: bool,
+    why: ErrorKind,
 }
 
 impl Write for Failing {
     fn write(&mut self, buf: &[u8]) -> io::Result<usize> {
         if self.writes == 0 {
-            return Err(io::Error::from(ErrorKind::BrokenPipe));
+            return Err(io::Error::from(self.why));
         }
         self.writes -= 1;
         Ok(buf.len().min(16))
@@ -26,7 +27,7 @@ impl Write for Failing {
         if self.flushes {
             Ok(())
         } else {
-            Err(io::Error::from(ErrorKind::BrokenPipe))
+            Err(io::Error::from(self.why))
         }
     }
 }
@@ -40,12 +41,20 @@ fn expect(
     want: (u8, &str),
 ) -> Result<(), AllocError> {
     let words = vec![in alloc; String::from_str(alloc, word)?]?;
-    let mut out = Failing { writes, flushes };
+    let why = ErrorKind::StorageFull;
+    let mut out = Failing {
+        writes,
+        flushes,
+        why,
+    };
     let mut err: Vec<u8> = Vec::new(alloc);
     assert_eq!(rt; run_sample(alloc, &words, &mut out, &mut err), want.0);
     assert!(rt; err.as_slice() == want.1.as_bytes());
-    let (writes, flushes) = (0, false);
-    let mut silent = Failing { writes, flushes };
+    let mut silent = Failing {
+        writes: 0,
+        flushes: false,
+        why,
+    };
     assert_eq!(rt; run_sample(alloc, &words, &mut out, &mut silent), want.0);
     Ok(())
 }
@@ -67,6 +76,24 @@ fn says_why_it_ends(rt: HostRuntime) -> Result<(), Fail> {
         ("", (9, true), (2, "usage: isle-tree SAMPLE\n")),
     ] {
         expect(&rt, alloc, word, out, want)?;
+    }
+    Ok(())
+}
+
+// Where nobody reads standard output any more, nothing is told, and the status is the same.
+#[test]
+fn ends_quietly(rt: HostRuntime) -> Result<(), Fail> {
+    let alloc = rt.alloc();
+    let words = vec![in alloc; String::from_str(alloc, "fall")?]?;
+    for writes in 0..3usize {
+        let mut out = Failing {
+            writes,
+            flushes: true,
+            why: ErrorKind::BrokenPipe,
+        };
+        let mut err: Vec<u8> = Vec::new(alloc);
+        assert_eq!(rt; run_sample(alloc, &words, &mut out, &mut err), 0);
+        assert!(rt; err.is_empty());
     }
     Ok(())
 }

@@ -1,6 +1,0 @@
-use Rattle.std.proofs.Common.{rules}
-use Rattle.isle_command.proofs.Texts.{ended_text}
-use Rattle.isle_command.proofs.answers.ran.Goals as goal
-
-pub returns-in-Ok : goal.returns-in-Ok
-returns-in-Ok c = search (rules, ended_text)

@@ -1,0 +1,6 @@
+//! What changed between two versions of definitions.
+#![tactic(auto)]
+
+pub mod changes;
+mod takers;
+pub mod versions;

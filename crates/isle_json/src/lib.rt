@@ -1,0 +1,20 @@
+//! What the command answers, as JSON: docs/JSON.md says in which form.
+#![tactic(auto)]
+
+pub mod documents;
+mod expressions;
+mod heads;
+mod patterns;
+mod places;
+mod reports;
+mod rules;
+mod site_types;
+mod sites;
+mod sizes;
+mod templates;
+mod terms;
+mod trees;
+mod typed_rules;
+mod types;
+mod variable_sites;
+mod writer;

@@ -1,0 +1,81 @@
+//! What is meant by names of variables that look like something else.
+
+use std::alloc::{AllocError, Global};
+
+/// The literals that may stand where a variable does.
+#[derive(Clone, Copy, PartialEq, Eq)]
+pub(crate) enum Possible {
+    /// It isn't known which.
+    Unknown,
+    /// Integers.
+    Integers,
+    /// `true` and `false`.
+    Truths,
+    /// There are none.
+    Nothing,
+}
+
+// What to write where nothing else can be meant.
+const ANY_VALUE: &str = "write _ for any value, or choose another name";
+
+/// What to write in place of a variable's name that looks like a variant, an integer, a truth value or a comparison, where these
+/// literals may stand; the empty text for any other name.
+pub(crate) fn meant_by(
+    alloc: Global,
+    name: &str,
+    possible: Possible,
+) -> Result<String, AllocError> {
+    if name.contains('.') {
+        return format!(in alloc; "a variant without fields is written ({name})");
+    }
+    if let Some(number) = number_in(name) {
+        return match possible {
+            Possible::Unknown | Possible::Integers => {
+                format!(in alloc; "the integer is written {number}")
+            }
+            Possible::Truths | Possible::Nothing => String::from_str(alloc, ANY_VALUE),
+        };
+    }
+    if let Some(value) = truth_in(name) {
+        return match possible {
+            Possible::Unknown | Possible::Truths => {
+                format!(in alloc; "the truth value is written {value}")
+            }
+            Possible::Integers | Possible::Nothing => String::from_str(alloc, ANY_VALUE),
+        };
+    }
+    if let Some(variable) = compared_in(name) {
+        return format!(in alloc; "an equal value is asked for by the name alone, as {variable}");
+    }
+    Ok(String::new(alloc))
+}
+
+// The number behind a plus sign.
+fn number_in(name: &str) -> Option<&str> {
+    let number = name.strip_prefix('+')?;
+    let first = number.chars().next()?;
+    if first.is_ascii_digit() {
+        Some(number)
+    } else {
+        None
+    }
+}
+
+// The truth value that other languages write so.
+fn truth_in(name: &str) -> Option<&'static str> {
+    match name {
+        "#t" | "#true" => Some("true"),
+        "#f" | "#false" => Some("false"),
+        _ => None,
+    }
+}
+
+// The variable behind an equals sign.
+fn compared_in(name: &str) -> Option<&str> {
+    let variable = name.strip_prefix('=')?;
+    if variable.is_empty() {
+        None
+    } else {
+        Some(variable)
+    }
+}
