@@ -23,7 +23,7 @@ use Rattle.code_model.specs.Moves.{other, others, fresh_after, block_takes, stat
 use Rattle.code_model.proofs.FlatMoves.{flat_keeps_moves_lem}
 use Rattle.code_model.proofs.PrintedCode.{tree_unlabelled}
 use Rattle.code_model.proofs.TreeScopes.{ended_or}
-use Rattle.laws_code.specs.CodeMoves.{IsCalled, CallsAreGoneOver, CallsAreGoneOverInBuiltSets, LoopsTakeOnce, CodeOfAcceptedTakesOnce}
+use Rattle.laws_code.specs.CodeMoves.{HasLoopOver, CallsAreGoneOver, CallsAreGoneOverInBuiltSets, LoopsTakeOnce, CodeOfAcceptedTakesOnce}
 use Rattle.laws_code.specs.CodeScopes.{BuiltSetsLoopOverBound}
 
 abbrev made_of : Option Site → List ℕ
@@ -38,16 +38,16 @@ called_by : (c : ℕ) (b : Site) → goes_over c b ≡ true → b ≡ iterator_s
 called_by c (iterator_site source) h = ap iterator_site (eqb-true source c h)
 called_by c _ h = absurd (false≢true h)
 
-called_from : (sites : List Site) (c : ℕ) → is_called sites c ≡ true → IsCalled sites c
+called_from : (sites : List Site) (c : ℕ) → is_called sites c ≡ true → HasLoopOver sites c
 called_from sites c h =
     let b = one_passes (goes_over c) sites h in
     let i = get_from_member sites b.0 b.1 in
     (i.0, i.1 ∙ ap Some (called_by c b.0 b.2))
 
-called_is : (sites : List Site) (c : ℕ) → IsCalled sites c → is_called sites c ≡ true
+called_is : (sites : List Site) (c : ℕ) → HasLoopOver sites c → is_called sites c ≡ true
 called_is sites c k = passes_any (goes_over c) sites (iterator_site c) (member_from_get sites k.0 (iterator_site c) k.1) (number_same c)
 
-free_is : (sites : List Site) (c : ℕ) → (IsCalled sites c → ⊥) → is_called sites c ≡ false
+free_is : (sites : List Site) (c : ℕ) → (HasLoopOver sites c → ⊥) → is_called sites c ≡ false
 free_is sites c n = elim (cases_Bool (is_called sites c)) [ inl t ↦ absurd (n (called_from sites c t)) | inr f ↦ f ]
 
 not_false : (b : Bool) → b ≡ false → not b ≡ true
@@ -74,20 +74,20 @@ module _ (set : SiteSet) (p : Passes) (calls : CallsAreGoneOver set) (over : Loo
 
   -- 3. what is emitted of calls
   pub record Looped (ar : Around) : Type 0 where
-    pub emitted : (c : ℕ) → IsCalled sites c → Contains ar.emitted c → Contains ar.looped c
-    pub brought : (c s m : ℕ) → IsCalled sites c → Contains ar.brought s → Contains (below m sites s) c → Contains ar.looped c
+    pub emitted : (c : ℕ) → HasLoopOver sites c → Contains ar.emitted c → Contains ar.looped c
+    pub brought : (c s m : ℕ) → HasLoopOver sites c → Contains ar.brought s → Contains (below m sites s) c → Contains ar.looped c
 
   pick_waits : (s c : ℕ) → slice_get sites s ≡ Some (iterator_site c) → waits (slice_get sites s) ≡ true
   pick_waits s c at = ap waits at
 
-  waiting_free : (s : ℕ) → waits (slice_get sites s) ≡ true → IsCalled sites s → ⊥
+  waiting_free : (s : ℕ) → waits (slice_get sites s) ≡ true → HasLoopOver sites s → ⊥
   waiting_free s w k = true≢false (sym w ∙ calls.waits_not s k)
 
   module _ (ar : Around) (inv : Looped ar) where
     abbrev Down : ℕ → Type 0
-    Down m = (n s c : ℕ) → is_available n sites ar.brought s ≡ true → (IsCalled sites s → ⊥) → IsCalled sites c → Contains (below m sites s) c → Contains ar.looped c
+    Down m = (n s c : ℕ) → is_available n sites ar.brought s ≡ true → (HasLoopOver sites s → ⊥) → HasLoopOver sites c → Contains (below m sites s) c → Contains ar.looped c
 
-    beneath : (m : ℕ) → Down m → (n s u c : ℕ) → is_available n sites ar.brought s ≡ true → Contains (sources_at sites s) u → IsCalled sites c → Contains (below m sites u) c → Contains ar.looped c
+    beneath : (m : ℕ) → Down m → (n s u c : ℕ) → is_available n sites ar.brought s ≡ true → Contains (sources_at sites s) u → HasLoopOver sites c → Contains (below m sites u) c → Contains ar.looped c
     beneath m down zero s u c a source k i = absurd (false≢true a)
     beneath m down (suc n) s u c a source k i =
         elim (or_split (is_in s ar.brought) (not (waits (slice_get sites s)) && list_all (is_available n sites ar.brought) (sources_at sites s)) a) [
@@ -103,26 +103,26 @@ module _ (set : SiteSet) (p : Passes) (calls : CallsAreGoneOver set) (over : Loo
     deep zero n s c a free k i = absurd (nothing_in c i)
     deep (suc m) n s c a free k i =
         elim (in_cases s c (flat_map (below m sites) (sources_at sites s)) i) [
-          | inl e ↦ absurd (free (subst (IsCalled sites) (sym e) k))
+          | inl e ↦ absurd (free (subst (HasLoopOver sites) (sym e) k))
           | inr d ↦ let u = from_flat_map (below m sites) (sources_at sites s) c d in beneath m (deep m) n s u.0 c a u.1 k u.2
         ]
 
-    under : (m n s u c : ℕ) → is_available n sites ar.brought s ≡ true → Contains (sources_at sites s) u → IsCalled sites c → Contains (below m sites u) c → Contains ar.looped c
+    under : (m n s u c : ℕ) → is_available n sites ar.brought s ≡ true → Contains (sources_at sites s) u → HasLoopOver sites c → Contains (below m sites u) c → Contains ar.looped c
     under m = beneath m (deep m)
 
     -- what a test emits
-    all_deep : (ss : List ℕ) (c : ℕ) → ((s : ℕ) → Contains ss s → (available sites ar s ≡ true) × (IsCalled sites s → ⊥)) → IsCalled sites c → Contains (all_below sites ss) c → Contains ar.looped c
+    all_deep : (ss : List ℕ) (c : ℕ) → ((s : ℕ) → Contains ss s → (available sites ar s ≡ true) × (HasLoopOver sites s → ⊥)) → HasLoopOver sites c → Contains (all_below sites ss) c → Contains ar.looped c
     all_deep ss c h k i =
         let s = from_flat_map (λ y. below (suc y) sites y) ss c i in
         let a = h s.0 s.1 in
         deep (suc s.0) (suc s.0) s.0 c a.0 a.1 k s.2
 
-    after_emitted : (ss : List ℕ) → ((s : ℕ) → Contains ss s → (available sites ar s ≡ true) × (IsCalled sites s → ⊥)) → (c : ℕ) → IsCalled sites c → Contains (all_below sites ss ++ ar.emitted) c → Contains ar.looped c
+    after_emitted : (ss : List ℕ) → ((s : ℕ) → Contains ss s → (available sites ar s ≡ true) × (HasLoopOver sites s → ⊥)) → (c : ℕ) → HasLoopOver sites c → Contains (all_below sites ss ++ ar.emitted) c → Contains ar.looped c
     after_emitted ss h c k i = elim (Contains-append_cases (all_below sites ss) ar.emitted c i) [ inl d ↦ all_deep ss c h k d | inr d ↦ inv.emitted c k d ]
 
     -- in an arm
     arm_looped : (source : ℕ) (constraint : Constraint) (fields : List (Option ℕ)) → fields ≡ Rattle.model.specs.trees.Places.fields_of sites source constraint
-        → available sites ar source ≡ true → (IsCalled sites source → ⊥) → Looped (in_arm set ar source constraint fields)
+        → available sites ar source ≡ true → (HasLoopOver sites source → ⊥) → Looped (in_arm set ar source constraint fields)
     arm_looped source constraint fields exact a free = record {
       emitted = λ c k i. elim (Contains-append_cases (field_sites fields ++ all_below sites (source ∷ [])) ar.emitted c (arm_split c i)) [
         | inr d ↦ inv.emitted c k d
@@ -146,13 +146,13 @@ module _ (set : SiteSet) (p : Passes) (calls : CallsAreGoneOver set) (over : Loo
         field_source : (x : ℕ) → Contains (field_sites fields) x → sources_at sites x ≡ source ∷ []
         field_source x c = brought_source sites source constraint x (of_field x c)
 
-        alone : (s : ℕ) → Contains (source ∷ []) s → (available sites ar s ≡ true) × (IsCalled sites s → ⊥)
-        alone s c = let e = in_alone source s c in (subst (λ y. available sites ar y ≡ true) e a, λ q. free (subst (IsCalled sites) (sym e) q))
+        alone : (s : ℕ) → Contains (source ∷ []) s → (available sites ar s ≡ true) × (HasLoopOver sites s → ⊥)
+        alone s c = let e = in_alone source s c in (subst (λ y. available sites ar y ≡ true) e a, λ q. free (subst (HasLoopOver sites) (sym e) q))
 
         arm_split : (c : ℕ) → Contains (in_arm set ar source constraint fields).emitted c → Contains ((field_sites fields ++ all_below sites (source ∷ [])) ++ ar.emitted) c
         arm_split c i = i
 
-        of_brought : (c s m : ℕ) → IsCalled sites c → Contains (field_sites fields) s → Contains (below m sites s) c → Contains ar.looped c
+        of_brought : (c s m : ℕ) → HasLoopOver sites c → Contains (field_sites fields) s → Contains (below m sites s) c → Contains ar.looped c
         of_brought c s zero k f i = absurd (nothing_in c i)
         of_brought c s (suc m) k f i =
             elim (in_cases s c (flat_map (below m sites) (sources_at sites s)) i) [
@@ -168,26 +168,26 @@ module _ (set : SiteSet) (p : Passes) (calls : CallsAreGoneOver set) (over : Loo
       one : sources_at sites result ≡ source ∷ []
       one = ap made_of at
 
-      called : IsCalled sites source
+      called : HasLoopOver sites source
       called = (result, at)
 
       is_source : (x : ℕ) → Contains (sources_at sites result) x → source ≡ x
       is_source x c = in_alone source x (subst (λ l. Contains l x) one c)
 
       -- what is below the sources of the call
-      lower : (c : ℕ) → IsCalled sites c → Contains (flat_map (λ s. all_below sites (sources_at sites s)) (sources_at sites result)) c → Contains ar.looped c
+      lower : (c : ℕ) → HasLoopOver sites c → Contains (flat_map (λ s. all_below sites (sources_at sites s)) (sources_at sites result)) c → Contains ar.looped c
       lower c k i =
           let x = from_flat_map (λ s. all_below sites (sources_at sites s)) (sources_at sites result) c i in
           let u = from_flat_map (λ y. below (suc y) sites y) (sources_at sites x.0) c x.2 in
           under (suc u.0) (suc source) source u.0 c a (subst (λ y. Contains (sources_at sites y) u.0) (sym (is_source x.0 x.1)) u.1) k u.2
 
-      after_loop : (c : ℕ) → IsCalled sites c → Contains (flat_map (λ s. all_below sites (sources_at sites s)) (sources_at sites result) ++ ar.emitted) c → Contains ar.looped c
+      after_loop : (c : ℕ) → HasLoopOver sites c → Contains (flat_map (λ s. all_below sites (sources_at sites s)) (sources_at sites result) ++ ar.emitted) c → Contains ar.looped c
       after_loop c k i = elim (Contains-append_cases (flat_map (λ s. all_below sites (sources_at sites s)) (sources_at sites result)) ar.emitted c i) [ inl d ↦ lower c k d | inr d ↦ inv.emitted c k d ]
 
       within : (c : ℕ) → Contains ar.looped c → Contains (in_loop set ar result).looped c
       within c i = Contains-append_right (sources_at sites result) ar.looped c i
 
-      below_call : (c m : ℕ) → IsCalled sites c → Contains (below m sites source) c → Contains (in_loop set ar result).looped c
+      below_call : (c m : ℕ) → HasLoopOver sites c → Contains (below m sites source) c → Contains (in_loop set ar result).looped c
       below_call c zero k i = absurd (nothing_in c i)
       below_call c (suc m) k i =
           elim (in_cases source c (flat_map (below m sites) (sources_at sites source)) i) [
@@ -195,7 +195,7 @@ module _ (set : SiteSet) (p : Passes) (calls : CallsAreGoneOver set) (over : Loo
             | inr d ↦ let u = from_flat_map (below m sites) (sources_at sites source) c d in within c (under m (suc source) source u.0 c a u.1 k u.2)
           ]
 
-      below_pick : (c m : ℕ) → IsCalled sites c → Contains (below m sites result) c → Contains (in_loop set ar result).looped c
+      below_pick : (c m : ℕ) → HasLoopOver sites c → Contains (below m sites result) c → Contains (in_loop set ar result).looped c
       below_pick c zero k i = absurd (nothing_in c i)
       below_pick c (suc m) k i =
           elim (in_cases result c (flat_map (below m sites) (sources_at sites result)) i) [
@@ -355,11 +355,11 @@ module _ (set : SiteSet) (p : Passes) (calls : CallsAreGoneOver set) (over : Loo
       (λ fresh' g. and_from (statement_takes taken fresh' (check_code (plain_check set.rules check) sites p)) _ (here fresh' (λ x c. g x (inl c)))
       (ended_or (check_code (plain_check set.rules check) sites p) _ (ap (λ f. block_takes taken f (tree_code (plain set.rules rest) sites p)) (check_fresh check fresh') ∙ after)))
 
-  constrained_free : (r : SetRule) (s : ℕ) → Contains set.rules r → needs (match_test s) r ≡ true → IsCalled sites s → ⊥
+  constrained_free : (r : SetRule) (s : ℕ) → Contains set.rules r → needs (match_test s) r ≡ true → HasLoopOver sites s → ⊥
   constrained_free r s c h k = let d = is_there (constraint_at r.constraints s) h in calls.constrained r s d.0 c (constraint_in r.constraints s d.0 d.1) k
 
-  alone_there : (ar : Around) (s : ℕ) → available sites ar s ≡ true → (IsCalled sites s → ⊥) → (x : ℕ) → Contains (s ∷ []) x → (available sites ar x ≡ true) × (IsCalled sites x → ⊥)
-  alone_there ar s a n x c = let e = in_alone s x c in (subst (λ y. available sites ar y ≡ true) e a, λ q. n (subst (IsCalled sites) (sym e) q))
+  alone_there : (ar : Around) (s : ℕ) → available sites ar s ≡ true → (HasLoopOver sites s → ⊥) → (x : ℕ) → Contains (s ∷ []) x → (available sites ar x ≡ true) × (HasLoopOver sites x → ⊥)
+  alone_there ar s a n x c = let e = in_alone s x c in (subst (λ y. available sites ar y ≡ true) e a, λ q. n (subst (HasLoopOver sites) (sym e) q))
 
   mutual
     steps_take : (m : Marked) (ar : Around) (closing : Bool) (fresh : List ℕ) → (closing ≡ false → Looped ar) → BestSteps set ar closing m → AreOfRules (marks m)
@@ -383,7 +383,7 @@ module _ (set : SiteSet) (p : Passes) (calls : CallsAreGoneOver set) (over : Loo
         let first = and_parts _ (is_at_hand set ar a) second.0 in
         let need = made_is_needed set ar _ _ (equal_test a b) check.1 in
         let free = calls.equated need.0 a b need.1 (ltb-true a b first.0) need.2 in
-        let both : (s : ℕ) → Contains (a ∷ (b ∷ [])) s → (available sites ar s ≡ true) × (IsCalled sites s → ⊥) = λ s c. elim (in_cases a s (b ∷ []) c) [
+        let both : (s : ℕ) → Contains (a ∷ (b ∷ [])) s → (available sites ar s ≡ true) × (HasLoopOver sites s → ⊥) = λ s c. elim (in_cases a s (b ∷ []) c) [
           | inl e ↦ alone_there ar a (and_parts _ (available sites ar a) first.1).1 free.0 s (subst (Contains (a ∷ [])) e (in_head a []))
           | inr d ↦ alone_there ar b (and_parts _ (available sites ar b) second.1).1 free.1 s d
         ] in
@@ -410,7 +410,7 @@ module _ (set : SiteSet) (p : Passes) (calls : CallsAreGoneOver set) (over : Loo
         (λ fresh' g. return_takes (slice_get set.rules rule) r.0 fresh' r.1 (free_is sites r.0.result (calls.returned r.0 (member_from_get set.rules rule r.0 r.1))))
         (steps_take rest (after_step set ar (m_return rule)) true [] (λ q. absurd (true≢false q)) best.2 (λ i c. ks i (in_tail rule i (marks rest) c)))
 
-    arms_take_once : (arms : MarkedArms) (ar : Around) (source : ℕ) (prior : Option Constraint) → Looped ar → available sites ar source ≡ true → (IsCalled sites source → ⊥) → BestArms set ar source prior arms → AreOfRules (marks_arms arms)
+    arms_take_once : (arms : MarkedArms) (ar : Around) (source : ℕ) (prior : Option Constraint) → Looped ar → available sites ar source ≡ true → (HasLoopOver sites source → ⊥) → BestArms set ar source prior arms → AreOfRules (marks_arms arms)
         → arms_take taken (arms_code (plain_arms set.rules arms) sites p) ≡ true
     arms_take_once m_no_arm ar source prior w a free best ks = refl
     arms_take_once (m_arm constraint fields body rest) ar source prior w a free best ks =

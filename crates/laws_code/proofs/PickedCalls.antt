@@ -24,7 +24,7 @@ use Rattle.laws_closure.proofs.built.MultiCalls.{multi_calls_are_gone_over_lem}
 use Rattle.laws_runs.proofs.runs.Contents.{unfolded_layer}
 use Rattle.laws_matching.proofs.taken.BuiltSites.{sites_stand}
 use Rattle.laws_matching.proofs.taken.Forms.{Form, form, a_value, IsCall, IsOfForm, AreValues}
-use Rattle.laws_code.specs.CodeMoves.{IsCalled, CallsAreGoneOver, CallsAreGoneOverInBuiltSets}
+use Rattle.laws_code.specs.CodeMoves.{HasLoopOver, CallsAreGoneOver, CallsAreGoneOverInBuiltSets}
 
 abbrev IsOther : Program → SiteTerm → Type 0
 IsOther p u = IsMultiCall p u → ⊥
@@ -143,7 +143,7 @@ module _ (b : BuiltSet) (h : IsWellTypedProgram b.program) where
       let g = (sites_stand b h s (slice_get_within sites s x at)).form in
       (g.0, subst (λ u. IsOfForm p n u g.0) (unfolded_layer sites b.built.sources s x at) g.1)
 
-  pub called_is_multi : (c : ℕ) → IsCalled sites c → IsMultiCall p (U c)
+  pub called_is_multi : (c : ℕ) → HasLoopOver sites c → IsMultiCall p (U c)
   called_is_multi c k = let f = form_there k.0 (iterator_site c) k.1 in multi_call p n (U c) (form true f.1.0 f.1.1) f.1.2 refl
 
   waits_not : (c : ℕ) (o : Option Site) → slice_get sites c ≡ o → IsMultiCall p (U c) → waits o ≡ false

@@ -12,17 +12,17 @@ use Rattle.code_model.specs.Flat.{flat}
 use Rattle.laws_code.specs.AcceptedCode.{OfBestTrees, EachCode}
 
 -- a call that a loop may go over
-abbrev pub IsCalled : List Site → ℕ → Type 0
-IsCalled sites c = (s : ℕ) × (slice_get sites s ≡ Some (iterator_site c))
+abbrev pub HasLoopOver : List Site → ℕ → Type 0
+HasLoopOver sites c = (s : ℕ) × (slice_get sites s ≡ Some (iterator_site c))
 
 -- no arm and no loop brings such a call; picks alone are made of it; and no rule equates it with another site, constrains it,
 -- or returns it
 pub record CallsAreGoneOver (set : SiteSet) : Type 0 where
-  pub waits_not : (c : ℕ) → IsCalled set.sites c → waits (slice_get set.sites c) ≡ false
-  pub made : (c t : ℕ) → IsCalled set.sites c → Contains (sources_at set.sites t) c → slice_get set.sites t ≡ Some (iterator_site c)
-  pub equated : (r : SetRule) (a c : ℕ) → Contains set.rules r → a < c → joins_in r.classes a c ≡ true → (IsCalled set.sites a → ⊥) × (IsCalled set.sites c → ⊥)
-  pub constrained : (r : SetRule) (c : ℕ) (k : Constraint) → Contains set.rules r → Contains r.constraints (c, k) → IsCalled set.sites c → ⊥
-  pub returned : (r : SetRule) → Contains set.rules r → IsCalled set.sites r.result → ⊥
+  pub waits_not : (c : ℕ) → HasLoopOver set.sites c → waits (slice_get set.sites c) ≡ false
+  pub made : (c t : ℕ) → HasLoopOver set.sites c → Contains (sources_at set.sites t) c → slice_get set.sites t ≡ Some (iterator_site c)
+  pub equated : (r : SetRule) (a c : ℕ) → Contains set.rules r → a < c → joins_in r.classes a c ≡ true → (HasLoopOver set.sites a → ⊥) × (HasLoopOver set.sites c → ⊥)
+  pub constrained : (r : SetRule) (c : ℕ) (k : Constraint) → Contains set.rules r → Contains r.constraints (c, k) → HasLoopOver set.sites c → ⊥
+  pub returned : (r : SetRule) → Contains set.rules r → HasLoopOver set.sites r.result → ⊥
 
 -- so it is in each set that is built of a well-typed program's rules
 abbrev pub CallsAreGoneOverInBuiltSets : Type 0
