@@ -1,0 +1,7 @@
+mod SizeLemmas
+mod Walking
+mod LineLemmas
+mod UnitLemmas
+mod OffsetLemmas
+mod PlaceLemmas
+mod EditLemmas

@@ -1,0 +1,11 @@
+//! The text of one document as an editor sees it: places are lines and UTF-16 units (LSP 3.17, `Position`), changes replace the
+//! whole text or what is between two places.
+#![tactic(auto)]
+
+pub mod documents;
+pub mod edits;
+pub mod laws;
+mod lines;
+pub mod places;
+#[cfg(test)]
+mod tests;
