@@ -1,8 +1,10 @@
 //! How reports are laid out: as rustc's, or each in one line.
 
+ghost use Rattle.std.specs.Prelude.{◌≡◌, ◌≢◌, [], OnOk, string_bytes};
+
 use crate::lines::{Line, file_name, file_text, line_at, push_spaces, push_times};
 use crate::report::{Label, Level, Note, Report};
-use crate::wrapping::{has_room, push_wrapped};
+use crate::wrapping::{has_room, push_wrapped, room_before};
 use isle_base::syntax::{Files, Pos};
 use std::alloc::{AllocError, Global};
 
@@ -23,7 +25,11 @@ pub fn push_reports(
     files: &Files,
     reports: &[Report],
     layout: Layout,
-) -> Result<(), AllocError> {
+) -> Result<(), AllocError>
+    // of no reports nothing is said, and of any something
+    ensures none { reports.now ≡ [] → OnOk result (string_bytes out.new ≡ string_bytes out.old) }
+    ensures some { reports.now ≢ [] → OnOk result (string_bytes out.new ≢ []) }
+{
     for report in reports {
         match layout {
             Layout::Text => push_text(out, files, report, false)?,
@@ -49,7 +55,9 @@ fn line_of(files: &Files, pos: Pos) -> Line<'_> {
 }
 
 // Adds a report in one line.
-fn push_line(out: &mut String, files: &Files, report: &Report) -> Result<(), AllocError> {
+fn push_line(out: &mut String, files: &Files, report: &Report) -> Result<(), AllocError>
+    ensures { OnOk result (string_bytes out.new ≢ []) }
+{
     for (i, label) in report.labels.iter().enumerate() {
         if i == 0 {
             push_place(out, files, label.pos)?;
@@ -139,7 +147,9 @@ fn push_text(
     files: &Files,
     report: &Report,
     colored: bool,
-) -> Result<(), AllocError> {
+) -> Result<(), AllocError>
+    ensures { OnOk result (string_bytes out.new ≢ []) }
+{
     push_head(out, report, colored)?;
     out.push('\n')?;
     let width = number_width(files, report);
@@ -166,7 +176,7 @@ fn push_note_lines(out: &mut String, note: &Note, width: u64) -> Result<(), Allo
 // How many columns the bar beside lines of text takes.
 const BAR_COLUMNS: u64 = 3;
 
-// How far to the right of the bar what is told of a place stands at most, where it stands below the place's marks.
+// How far to the right of the bar what is told of a place stands at most, where it takes several lines below the place's marks.
 const MOST_INDENT: u64 = 40;
 
 // Adds the places of a report: those in the file of the first one before others, in the order of the text. Each file has a
@@ -280,10 +290,17 @@ fn push_beside(out: &mut String, line: Line<'_>, text: &str, width: u64) -> Resu
     }
     out.push('\n')?;
     push_bar(out, width, " ")?;
-    let indent = line.indent().min(MOST_INDENT);
+    let indent = indent_below(line.indent(), behind, text);
     push_spaces(out, indent)?;
     let column = behind.saturating_add(indent);
     push_wrapped(out, column, column, text)
+}
+
+// How far to the right of the bar a text stands below marks that begin there: right below them, or as near to that as it has
+// room in one line.
+fn indent_below(marks: u64, behind: u64, text: &str) -> u64 {
+    let room = room_before(text).saturating_sub(behind);
+    marks.min(room.max(MOST_INDENT))
 }
 
 // Adds the bar beside lines of text, where no number stands.

@@ -42,6 +42,11 @@ pub fn has_room(column: u64, text: &str) -> bool {
     column.saturating_add(columns_of_text(text)) < WIDTH
 }
 
+/// Behind how many columns a text has room in a line at most: 0 where it has no room in any.
+pub fn room_before(text: &str) -> u64 {
+    WIDTH.saturating_sub(columns_of_text(text))
+}
+
 // How many columns a text takes in one line.
 fn columns_of_text(text: &str) -> u64 {
     let mut columns = 0u64;

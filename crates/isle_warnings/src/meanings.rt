@@ -16,7 +16,7 @@ pub(crate) enum Possible {
 }
 
 // What to write where nothing else can be meant.
-const ANY_VALUE: &str = "write _ for any value, or choose another name";
+const ANY_VALUE: &str = "choose another name, or write _ if the value isn't needed";
 
 /// What to write in place of a variable's name that looks like a variant, an integer, a truth value or a comparison, where these
 /// literals may stand; the empty text for any other name.
