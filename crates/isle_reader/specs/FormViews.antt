@@ -9,6 +9,8 @@ use Rattle.isle_reader.specs.declared.forms.Open.TheVariants as V
 use Rattle.isle_reader.specs.Lexemes.{Lexeme, begin_list, end_list, word, dash, binder, number, constant}
 use Rattle.isle_reader.specs.FormTrees.{FormTree, a_word, a_number, a_constant, a_binding, a_list, FormTrees, no_form, form_and, all_spelled}
 use Rattle.isle_reader.specs.Views.{token_view}
+use Rattle.isle_reader.specs.declared.parts.Parts.{Parts}
+use Rattle.isle_reader.specs.Grammar.{Listed, listed}
 
 abbrev mutual
   pub form_view : Form → FormTree
@@ -49,3 +51,7 @@ stack_spelled (o ∷ os) after = open_spelled o (stack_spelled os after)
 
 abbrev pub so_far : List Form → List Open → List Lexeme → List Lexeme
 so_far forms stack after = all_spelled (all_view forms) (stack_spelled stack after)
+
+-- the list that is left
+abbrev pub parts_view : Parts → Listed
+parts_view l = listed (all_view l.forms.now) (position l.pos) (position l.end)

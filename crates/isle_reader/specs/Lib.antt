@@ -12,3 +12,12 @@ pub mod Views
 pub mod FormTrees
 pub mod FormViews
 pub mod Solid
+pub mod Grammar
+pub mod TypeGrammar
+pub mod PatternGrammar
+pub mod ExprGrammar
+pub mod TermGrammar
+pub mod RuleGrammar
+pub mod Definitions
+pub mod LetViews
+pub mod FlagViews

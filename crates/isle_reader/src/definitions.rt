@@ -1,11 +1,15 @@
 //! Forms to definitions.
 #![tactic(auto, using(crate::proofs::Rows::definition_parts))]
 
-ghost use Rattle.std.specs.Prelude.{MatchResult};
-ghost use Rattle.isle_base.specs.SyntaxViews.{definition_view, definition_views};
+ghost use Rattle.std.specs.Prelude.{Err, MatchResult, string_bytes};
+ghost use Rattle.isle_base.specs.SyntaxViews.{definition_view, definition_views, position};
 ghost use Rattle.isle_reader.specs.Faults.{FaultIsWithin};
 ghost use Rattle.isle_reader.specs.Forms.{FormIsWithin, FormsAreWithin, IdentIsWithin};
 ghost use Rattle.isle_reader.specs.Within.{AreWithin, DefinitionIsWithin};
+ghost use Rattle.isle_reader.specs.FormViews.{all_view, form_view};
+ghost use Rattle.isle_reader.specs.Definitions.{definition_of, definitions_of};
+ghost use Rattle.isle_reader.specs.Lexemes.{unknown};
+ghost use Rattle.isle_reader.specs.Views.{Gives};
 
 use crate::errors::{Mistake, Problem, ReadFault, TextError};
 use crate::forms::Form;
@@ -20,7 +24,8 @@ use isle_base::syntax::{Def, Ident};
 /// The definitions that forms are.
 pub fn definitions(at: Source, forms: &[Form]) -> Result<Vec<Def>, ReadFault>
     requires { FormsAreWithin at.file at.len forms.now }
-    ensures { MatchResult result (λ ds. AreWithin at.file at.len (definition_views ds.items)) (FaultIsWithin at.file at.len) }
+    ensures read { Gives (λ ds. definition_views ds.items) result (definitions_of (all_view forms.now)) }
+    ensures within { MatchResult result (λ ds. AreWithin at.file at.len (definition_views ds.items)) (FaultIsWithin at.file at.len) }
 {
     let mut defs = Vec::new(at.alloc);
     for form in forms {
@@ -32,7 +37,8 @@ pub fn definitions(at: Source, forms: &[Form]) -> Result<Vec<Def>, ReadFault>
 // The definition that a form is.
 fn definition(at: Source, form: &Form) -> Result<Def, ReadFault>
     requires { FormIsWithin at.file at.len form.now }
-    ensures { MatchResult result (λ d. DefinitionIsWithin at.file at.len (definition_view d)) (FaultIsWithin at.file at.len) }
+    ensures read { Gives definition_view result (definition_of (form_view form.now)) }
+    ensures within { MatchResult result (λ d. DefinitionIsWithin at.file at.len (definition_view d)) (FaultIsWithin at.file at.len) }
 {
     let (head, rest) = headed(at, form, Mistake::Definition)?;
     match head.0.as_str() {
@@ -50,7 +56,8 @@ fn definition(at: Source, form: &Form) -> Result<Def, ReadFault>
 // No definition: a list begins with a word that none begins with.
 fn unknown(at: Source, head: &Ident) -> Result<Def, ReadFault>
     requires { IdentIsWithin at.file at.len head.now }
-    ensures { MatchResult result (λ d. DefinitionIsWithin at.file at.len (definition_view d)) (FaultIsWithin at.file at.len) }
+    ensures read { Gives definition_view result (Err (unknown (string_bytes head.now.0), position head.now.1)) }
+    ensures within { MatchResult result (λ d. DefinitionIsWithin at.file at.len (definition_view d)) (FaultIsWithin at.file at.len) }
 {
     let word = head.0.clone()?;
     Err(ReadFault::Text(TextError {

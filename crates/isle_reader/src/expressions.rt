@@ -1,12 +1,17 @@
 //! Forms to expressions.
 #![tactic(auto, using(crate::proofs::Rows::expr_parts))]
 
-ghost use Rattle.std.specs.Prelude.{All, MatchResult};
-ghost use Rattle.isle_base.specs.SyntaxViews.{expr_view};
+ghost use Rattle.std.specs.Prelude.{◌≡◌, All, MatchResult, Ok};
+ghost use Rattle.model.specs.lists.Syntax.{let_expr, term_expr};
+ghost use Rattle.isle_base.specs.SyntaxViews.{expr_view, expr_views, let_views, name_view, position};
 ghost use Rattle.isle_reader.specs.Faults.{FaultIsWithin};
 ghost use Rattle.isle_reader.specs.Forms.{FormIsWithin, FormsAreWithin, IdentIsWithin, PosIsWithin};
 ghost use Rattle.isle_reader.specs.Lets.{LetIsWithin};
 ghost use Rattle.isle_reader.specs.Within.{ExprIsWithin};
+ghost use Rattle.isle_reader.specs.FormViews.{all_view, form_view};
+ghost use Rattle.isle_reader.specs.LetViews.{let_tuple};
+ghost use Rattle.isle_reader.specs.ExprGrammar.{defined_in, expr_arguments_of, expr_of, let_definition_of, let_of, lets_in, lets_of, word_expr_of};
+ghost use Rattle.isle_reader.specs.Views.{Gives};
 
 use crate::errors::{Mistake, ReadFault, fault};
 use crate::forms::Form;
@@ -18,7 +23,8 @@ use isle_base::syntax::{Expr, Ident, LetDef, Pos};
 #[cycle(expression)]
 pub fn expression(at: Source, form: &Form) -> Result<Expr, ReadFault>
     requires { FormIsWithin at.file at.len form.now }
-    ensures { MatchResult result (λ e. ExprIsWithin at.file at.len (expr_view e)) (FaultIsWithin at.file at.len) }
+    ensures read { Gives expr_view result (expr_of (form_view form.now)) }
+    ensures within { MatchResult result (λ e. ExprIsWithin at.file at.len (expr_view e)) (FaultIsWithin at.file at.len) }
 {
     match form {
         Form::Word(name) => word_expression(at, name),
@@ -50,7 +56,8 @@ fn let_expression(at: Source, forms: &[Form], pos: Pos, end: Pos) -> Result<Expr
     requires forms { FormsAreWithin at.file at.len forms.now }
     requires pos { PosIsWithin at.file at.len pos }
     requires end { PosIsWithin at.file at.len end }
-    ensures { MatchResult result (λ e. ExprIsWithin at.file at.len (expr_view e)) (FaultIsWithin at.file at.len) }
+    ensures read { Gives expr_view result (let_of (all_view forms.now) (position pos) (position end)) }
+    ensures within { MatchResult result (λ e. ExprIsWithin at.file at.len (expr_view e)) (FaultIsWithin at.file at.len) }
 {
     match forms {
         [_, defs, body] => {
@@ -68,7 +75,8 @@ fn let_expression(at: Source, forms: &[Form], pos: Pos, end: Pos) -> Result<Expr
 #[cycle(expression)]
 fn let_definitions(at: Source, form: &Form) -> Result<Vec<LetDef>, ReadFault>
     requires { FormIsWithin at.file at.len form.now }
-    ensures { MatchResult result (λ ds. All (LetIsWithin at.file at.len) ds.items) (FaultIsWithin at.file at.len) }
+    ensures read { Gives (λ ds. let_views ds.items) result (lets_of (form_view form.now)) }
+    ensures within { MatchResult result (λ ds. All (LetIsWithin at.file at.len) ds.items) (FaultIsWithin at.file at.len) }
 {
     match form {
         Form::Group(parts, _, _) => {
@@ -84,7 +92,8 @@ fn let_definitions(at: Source, form: &Form) -> Result<Vec<LetDef>, ReadFault>
 #[cycle(expression)]
 fn let_definitions_of(at: Source, forms: &[Form]) -> Result<Vec<LetDef>, ReadFault>
     requires { FormsAreWithin at.file at.len forms.now }
-    ensures { MatchResult result (λ ds. All (LetIsWithin at.file at.len) ds.items) (FaultIsWithin at.file at.len) }
+    ensures read { Gives (λ ds. let_views ds.items) result (lets_in (all_view forms.now)) }
+    ensures within { MatchResult result (λ ds. All (LetIsWithin at.file at.len) ds.items) (FaultIsWithin at.file at.len) }
 {
     let mut defs = Vec::new(at.alloc);
     for form in forms {
@@ -97,7 +106,8 @@ fn let_definitions_of(at: Source, forms: &[Form]) -> Result<Vec<LetDef>, ReadFau
 #[cycle(expression)]
 fn let_definition(at: Source, form: &Form) -> Result<LetDef, ReadFault>
     requires { FormIsWithin at.file at.len form.now }
-    ensures { MatchResult result (LetIsWithin at.file at.len) (FaultIsWithin at.file at.len) }
+    ensures read { Gives let_tuple result (let_definition_of (form_view form.now)) }
+    ensures within { MatchResult result (LetIsWithin at.file at.len) (FaultIsWithin at.file at.len) }
 {
     match form {
         Form::Group(parts, pos, _) => {
@@ -114,22 +124,27 @@ fn let_definition(at: Source, form: &Form) -> Result<LetDef, ReadFault>
 fn let_definition_of(at: Source, parts: &[Form], pos: Pos) -> Result<LetDef, ReadFault>
     requires parts { FormsAreWithin at.file at.len parts.now }
     requires pos { PosIsWithin at.file at.len pos }
-    ensures { MatchResult result (LetIsWithin at.file at.len) (FaultIsWithin at.file at.len) }
+    ensures read { Gives let_tuple result (defined_in (all_view parts.now) (position pos)) }
+    ensures within { MatchResult result (LetIsWithin at.file at.len) (FaultIsWithin at.file at.len) }
 {
-    let [var, ty, val] = parts else {
-        return Err(fault(Mistake::LetDefinitions, pos));
-    };
-    let var = name(at, var)?;
-    let ty = name(at, ty)?;
-    let val = expression(at, val)?;
-    defined(at, var, ty, val, pos)
+    match parts {
+        [var, ty, val] => {
+            let var = name(at, var)?;
+            let ty = name(at, ty)?;
+            let val = expression(at, val)?;
+            defined(at, var, ty, val, pos)
+        }
+        [_, _, _, _, ..] => Err(fault(Mistake::LetDefinitions, pos)),
+        _ => Err(fault(Mistake::LetDefinitions, pos)),
+    }
 }
 
 // The expressions that a list's parts after its head are.
 #[cycle(expression)]
 fn arguments(at: Source, parts: &[Form]) -> Result<Vec<Expr>, ReadFault>
     requires { FormsAreWithin at.file at.len parts.now }
-    ensures { MatchResult result (λ es. All (λ e. ExprIsWithin at.file at.len (expr_view e)) es.items) (FaultIsWithin at.file at.len) }
+    ensures read { Gives (λ es. expr_views es.items) result (expr_arguments_of (all_view parts.now)) }
+    ensures within { MatchResult result (λ es. All (λ e. ExprIsWithin at.file at.len (expr_view e)) es.items) (FaultIsWithin at.file at.len) }
 {
     let mut expressions = Vec::new(at.alloc);
     for i in 1..parts.len() {
@@ -143,7 +158,8 @@ fn call(at: Source, sym: Ident, args: Vec<Expr>, pos: Pos) -> Expr
     requires sym { IdentIsWithin at.file at.len sym }
     requires args { All (λ e. ExprIsWithin at.file at.len (expr_view e)) args.items }
     requires pos { PosIsWithin at.file at.len pos }
-    ensures { ExprIsWithin at.file at.len (expr_view result) }
+    ensures read { expr_view result ≡ term_expr (name_view sym) (expr_views args.items) (position pos) }
+    ensures within { ExprIsWithin at.file at.len (expr_view result) }
 {
     Expr::Term { sym, args, pos }
 }
@@ -153,7 +169,8 @@ fn let_in(at: Source, defs: Vec<LetDef>, body: Expr, pos: Pos) -> Result<Expr, R
     requires defs { All (LetIsWithin at.file at.len) defs.items }
     requires body { ExprIsWithin at.file at.len (expr_view body) }
     requires pos { PosIsWithin at.file at.len pos }
-    ensures { MatchResult result (λ e. ExprIsWithin at.file at.len (expr_view e)) (FaultIsWithin at.file at.len) }
+    ensures read { Gives expr_view result (Ok (let_expr (let_views defs.items) (expr_view body) (position pos))) }
+    ensures within { MatchResult result (λ e. ExprIsWithin at.file at.len (expr_view e)) (FaultIsWithin at.file at.len) }
 {
     let body = Box::new(at.alloc, body)?;
     Ok(Expr::Let { defs, body, pos })
@@ -165,7 +182,8 @@ fn defined(at: Source, var: Ident, ty: Ident, val: Expr, pos: Pos) -> Result<Let
     requires ty { IdentIsWithin at.file at.len ty }
     requires val { ExprIsWithin at.file at.len (expr_view val) }
     requires pos { PosIsWithin at.file at.len pos }
-    ensures { MatchResult result (LetIsWithin at.file at.len) (FaultIsWithin at.file at.len) }
+    ensures read { Gives let_tuple result (Ok (name_view var, name_view ty, expr_view val, position pos)) }
+    ensures within { MatchResult result (LetIsWithin at.file at.len) (FaultIsWithin at.file at.len) }
 {
     let val = Box::new(at.alloc, val)?;
     Ok(LetDef { var, ty, val, pos })
@@ -174,7 +192,8 @@ fn defined(at: Source, var: Ident, ty: Ident, val: Expr, pos: Pos) -> Result<Let
 // A word as an expression.
 fn word_expression(at: Source, word: &Ident) -> Result<Expr, ReadFault>
     requires { IdentIsWithin at.file at.len word.now }
-    ensures { MatchResult result (λ e. ExprIsWithin at.file at.len (expr_view e)) (FaultIsWithin at.file at.len) }
+    ensures read { Gives expr_view result (Ok (word_expr_of (name_view word.now))) }
+    ensures within { MatchResult result (λ e. ExprIsWithin at.file at.len (expr_view e)) (FaultIsWithin at.file at.len) }
 {
     let pos = word.1;
     match word.0.as_str() {

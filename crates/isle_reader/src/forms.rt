@@ -7,6 +7,7 @@ ghost use Rattle.isle_reader.specs.Faults.{FaultIsWithin};
 ghost use Rattle.isle_reader.specs.Forms.{FormIsWithin, FormsAreWithin, IdentIsWithin, OpensAreWithin, OpenIsWithin, PosIsWithin};
 ghost use Rattle.isle_reader.specs.Lexemes.{Lexeme, end_list, word};
 ghost use Rattle.isle_reader.specs.FormTrees.{all_spelled, spelled};
+ghost use Rattle.isle_reader.specs.Grammar.{place_of};
 ghost use Rattle.isle_reader.specs.FormViews.{all_view, erased, erased_tokens, form_view, open_spelled, so_far, stack_spelled};
 ghost use Rattle.isle_reader.specs.Views.{token_view};
 ghost use Rattle.isle_reader.specs.Tokens.{TokenIsWithin, TokensAreWithin};
@@ -40,7 +41,8 @@ pub enum Open {
 impl Form {
     /// The position of the form.
     pub fn pos(&self) -> Pos
-        ensures { (file size : ℕ) → FormIsWithin file size self.now → PosIsWithin file size result }
+        ensures within { (file size : ℕ) → FormIsWithin file size self.now → PosIsWithin file size result }
+        ensures place { position result ≡ place_of (form_view self.now) }
     {
         match self {
             Form::Word(name) | Form::Bound(name, _) => name.1,

@@ -1,6 +1,8 @@
 //! What holds of the notation, whatever reads it.
 
 ghost use Rattle.std.specs.Prelude.{◌≡◌, ◌++◌, ℕ, List, [], Err};
+ghost use Rattle.model.specs.lists.Syntax.{Definition};
+ghost use Rattle.isle_reader.specs.Definitions.{Spells};
 ghost use Rattle.isle_reader.specs.FormTrees.{FormTrees, all_spelled};
 ghost use Rattle.isle_reader.specs.Lexemes.{Wrong};
 ghost use Rattle.isle_reader.specs.Lexing.{between, reached, run, tokens_after};
@@ -10,6 +12,11 @@ ghost use Rattle.isle_reader.specs.Solid.{solid, stripped};
 /// Tokens spell one list of forms.
 pub fn tokens_have_one_reading()
     ensures { (fs gs : FormTrees) → all_spelled fs [] ≡ all_spelled gs [] → fs ≡ gs }
+{}
+
+/// A text spells one list of definitions.
+pub fn texts_have_one_reading()
+    ensures { (file : ℕ) (text : List ℕ) (ds es : List Definition) → Spells file text ds → Spells file text es → ds ≡ es }
 {}
 
 /// A mistake that shows at a character is that of every text with this front.

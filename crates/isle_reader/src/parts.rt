@@ -1,10 +1,14 @@
 //! The parts of a list, one after another: what comes next, and that nothing does.
 #![tactic(auto, using(crate::proofs::Rows::form_parts))]
 
-ghost use Rattle.std.specs.Prelude.{MatchResult, ⊤};
+ghost use Rattle.std.specs.Prelude.{◌≡◌, MatchResult, map, ⊤};
+ghost use Rattle.isle_base.specs.SyntaxViews.{name_view, position};
 ghost use Rattle.isle_reader.specs.Faults.{FaultIsWithin};
 ghost use Rattle.isle_reader.specs.Forms.{FormIsWithin, FormsAreWithin, IdentIsWithin, IdentsAreWithin, PosIsWithin};
+ghost use Rattle.isle_reader.specs.FormViews.{all_view, form_view, parts_view};
+ghost use Rattle.isle_reader.specs.Grammar.{ended, head_of, headed_of, list_of, name_of, names_of, next_if_of, next_name_of, next_of, word_at};
 ghost use Rattle.isle_reader.specs.Lists.{PartsAreWithin};
+ghost use Rattle.isle_reader.specs.Views.{Gives};
 
 use crate::errors::{Mistake, ReadFault, fault};
 use crate::forms::Form;
@@ -28,7 +32,8 @@ pub fn next<'a>(
     mistake: Mistake,
 ) -> Result<(&'a Form, Parts<'a>), ReadFault>
     requires { PartsAreWithin at.file at.len parts }
-    ensures { MatchResult result
+    ensures read { Gives (λ p. (form_view p.0.now, parts_view p.1)) result (next_of mistake (parts_view parts.entry)) }
+    ensures within { MatchResult result
         (λ p. FormIsWithin at.file at.len p.0.now × PartsAreWithin at.file at.len p.1)
         (FaultIsWithin at.file at.len) }
 {
@@ -47,7 +52,8 @@ pub fn next<'a>(
 /// The next part, a name, and the list after it.
 pub fn next_name<'a>(at: Source, parts: Parts<'a>) -> Result<(Ident, Parts<'a>), ReadFault>
     requires { PartsAreWithin at.file at.len parts }
-    ensures { MatchResult result
+    ensures read { Gives (λ p. (name_view p.0, parts_view p.1)) result (next_name_of (parts_view parts.entry)) }
+    ensures within { MatchResult result
         (λ p. IdentIsWithin at.file at.len p.0 × PartsAreWithin at.file at.len p.1)
         (FaultIsWithin at.file at.len) }
 {
@@ -58,7 +64,8 @@ pub fn next_name<'a>(at: Source, parts: Parts<'a>) -> Result<(Ident, Parts<'a>),
 /// The name that a form is.
 pub fn name(at: Source, form: &Form) -> Result<Ident, ReadFault>
     requires { FormIsWithin at.file at.len form.now }
-    ensures { MatchResult result (IdentIsWithin at.file at.len) (FaultIsWithin at.file at.len) }
+    ensures read { Gives name_view result (name_of (form_view form.now)) }
+    ensures within { MatchResult result (IdentIsWithin at.file at.len) (FaultIsWithin at.file at.len) }
 {
     match form {
         Form::Word(name) => Ok(name.clone()?),
@@ -70,7 +77,8 @@ pub fn name(at: Source, form: &Form) -> Result<Ident, ReadFault>
 pub fn head(at: Source, forms: &[Form], end: Pos) -> Result<Ident, ReadFault>
     requires forms { FormsAreWithin at.file at.len forms.now }
     requires end { PosIsWithin at.file at.len end }
-    ensures { MatchResult result (IdentIsWithin at.file at.len) (FaultIsWithin at.file at.len) }
+    ensures read { Gives name_view result (head_of (all_view forms.now) (position end)) }
+    ensures within { MatchResult result (IdentIsWithin at.file at.len) (FaultIsWithin at.file at.len) }
 {
     match forms {
         [first, ..] => name(at, first),
@@ -90,7 +98,8 @@ pub fn seen(at: Source, forms: &[Form])
 /// Whether the next part is this word, and the list after it; or all of the list, where it isn't.
 pub fn next_if<'a>(at: Source, parts: Parts<'a>, word: &str) -> (bool, Parts<'a>)
     requires { PartsAreWithin at.file at.len parts }
-    ensures { PartsAreWithin at.file at.len result.1 }
+    ensures read { (result.0, parts_view result.1) ≡ next_if_of word.now (parts_view parts.entry) }
+    ensures within { PartsAreWithin at.file at.len result.1 }
 {
     match parts.forms {
         [Form::Word(name), rest @ ..] if name.0.as_str() == word => (
@@ -107,7 +116,8 @@ pub fn next_if<'a>(at: Source, parts: Parts<'a>, word: &str) -> (bool, Parts<'a>
 /// Nothing comes next.
 pub fn no_more(at: Source, parts: Parts<'_>) -> Result<(), ReadFault>
     requires { PartsAreWithin at.file at.len parts }
-    ensures { MatchResult result (λ _. ⊤) (FaultIsWithin at.file at.len) }
+    ensures read { Gives (λ _. tt) result (ended (all_view parts.entry.forms.now)) }
+    ensures within { MatchResult result (λ _. ⊤) (FaultIsWithin at.file at.len) }
 {
     match parts.forms {
         [] => Ok(()),
@@ -118,7 +128,8 @@ pub fn no_more(at: Source, parts: Parts<'_>) -> Result<(), ReadFault>
 /// The list that a form is.
 pub fn list<'a>(at: Source, form: &'a Form, mistake: Mistake) -> Result<Parts<'a>, ReadFault>
     requires { FormIsWithin at.file at.len form.now }
-    ensures { MatchResult result (PartsAreWithin at.file at.len) (FaultIsWithin at.file at.len) }
+    ensures read { Gives parts_view result (list_of mistake (form_view form.now)) }
+    ensures within { MatchResult result (PartsAreWithin at.file at.len) (FaultIsWithin at.file at.len) }
 {
     match form {
         Form::Group(forms, pos, end) => Ok(Parts {
@@ -137,7 +148,8 @@ pub fn headed<'a>(
     mistake: Mistake,
 ) -> Result<(&'a Ident, Parts<'a>), ReadFault>
     requires { FormIsWithin at.file at.len form.now }
-    ensures { MatchResult result
+    ensures read { Gives (λ p. (name_view p.0.now, parts_view p.1)) result (headed_of mistake (form_view form.now)) }
+    ensures within { MatchResult result
         (λ p. IdentIsWithin at.file at.len p.0.now × PartsAreWithin at.file at.len p.1)
         (FaultIsWithin at.file at.len) }
 {
@@ -158,7 +170,8 @@ pub fn headed<'a>(
 fn word<'a>(at: Source, form: &'a Form, mistake: Mistake, pos: Pos) -> Result<&'a Ident, ReadFault>
     requires form { FormIsWithin at.file at.len form.now }
     requires pos { PosIsWithin at.file at.len pos }
-    ensures { MatchResult result (λ w. IdentIsWithin at.file at.len w.now) (FaultIsWithin at.file at.len) }
+    ensures read { Gives (λ w. name_view w.now) result (word_at mistake (position pos) (form_view form.now)) }
+    ensures within { MatchResult result (λ w. IdentIsWithin at.file at.len w.now) (FaultIsWithin at.file at.len) }
 {
     match form {
         Form::Word(word) => Ok(word),
@@ -169,7 +182,8 @@ fn word<'a>(at: Source, form: &'a Form, mistake: Mistake, pos: Pos) -> Result<&'
 /// The names that forms are.
 pub fn names(at: Source, forms: &[Form]) -> Result<Vec<Ident>, ReadFault>
     requires { FormsAreWithin at.file at.len forms.now }
-    ensures { MatchResult result (λ ns. IdentsAreWithin at.file at.len ns.items) (FaultIsWithin at.file at.len) }
+    ensures read { Gives (λ ns. map name_view ns.items) result (names_of (all_view forms.now)) }
+    ensures within { MatchResult result (λ ns. IdentsAreWithin at.file at.len ns.items) (FaultIsWithin at.file at.len) }
 {
     let mut names = Vec::new(at.alloc);
     for form in forms {

@@ -1,12 +1,16 @@
 //! Forms to patterns.
 #![tactic(auto, using(crate::proofs::Rows::pattern_parts))]
 
-ghost use Rattle.std.specs.Prelude.{All, MatchResult};
-ghost use Rattle.isle_base.specs.SyntaxViews.{pattern_view};
+ghost use Rattle.std.specs.Prelude.{◌≡◌, All, MatchResult, Ok};
+ghost use Rattle.model.specs.lists.Syntax.{bind_pattern};
+ghost use Rattle.isle_base.specs.SyntaxViews.{name_view, pattern_view, pattern_views, position};
 ghost use Rattle.isle_reader.specs.Faults.{FaultIsWithin};
 ghost use Rattle.isle_reader.specs.Forms.{FormIsWithin, FormsAreWithin, IdentIsWithin, PosIsWithin};
 ghost use Rattle.isle_reader.specs.Lists.{PartsAreWithin};
 ghost use Rattle.isle_reader.specs.Within.{PatternIsWithin};
+ghost use Rattle.isle_reader.specs.FormViews.{all_view, form_view, parts_view};
+ghost use Rattle.isle_reader.specs.PatternGrammar.{arguments_of, list_pattern_of, macro_arg_of, pattern_of, term_pattern_of, word_pattern_of};
+ghost use Rattle.isle_reader.specs.Views.{Gives};
 
 use crate::errors::{Mistake, ReadFault, fault};
 use crate::forms::Form;
@@ -18,7 +22,8 @@ use isle_base::syntax::{Ident, Pattern, Pos};
 #[cycle(pattern)]
 pub fn pattern(at: Source, form: &Form) -> Result<Pattern, ReadFault>
     requires { FormIsWithin at.file at.len form.now }
-    ensures { MatchResult result (λ p. PatternIsWithin at.file at.len (pattern_view p)) (FaultIsWithin at.file at.len) }
+    ensures read { Gives pattern_view result (pattern_of (form_view form.now)) }
+    ensures within { MatchResult result (λ p. PatternIsWithin at.file at.len (pattern_view p)) (FaultIsWithin at.file at.len) }
 {
     match form {
         Form::Word(name) => word_pattern(at, name),
@@ -50,7 +55,8 @@ pub fn pattern(at: Source, form: &Form) -> Result<Pattern, ReadFault>
 #[cycle(pattern)]
 fn arguments(at: Source, forms: &[Form]) -> Result<Vec<Pattern>, ReadFault>
     requires { FormsAreWithin at.file at.len forms.now }
-    ensures { MatchResult result (λ ps. All (λ p. PatternIsWithin at.file at.len (pattern_view p)) ps.items) (FaultIsWithin at.file at.len) }
+    ensures read { Gives (λ ps. pattern_views ps.items) result (arguments_of (all_view forms.now)) }
+    ensures within { MatchResult result (λ ps. All (λ p. PatternIsWithin at.file at.len (pattern_view p)) ps.items) (FaultIsWithin at.file at.len) }
 {
     let mut patterns = Vec::new(at.alloc);
     for i in 1..forms.len() {
@@ -69,7 +75,8 @@ fn list_pattern(
     requires parts { PartsAreWithin at.file at.len parts }
     requires sym { IdentIsWithin at.file at.len sym }
     requires args { All (λ p. PatternIsWithin at.file at.len (pattern_view p)) args.items }
-    ensures { MatchResult result (λ p. PatternIsWithin at.file at.len (pattern_view p)) (FaultIsWithin at.file at.len) }
+    ensures read { Gives pattern_view result (list_pattern_of (name_view sym) (pattern_views args.items) (parts_view parts.entry)) }
+    ensures within { MatchResult result (λ p. PatternIsWithin at.file at.len (pattern_view p)) (FaultIsWithin at.file at.len) }
 {
     if sym.0.as_str() == "macro-arg" {
         return macro_arg(at, parts);
@@ -81,7 +88,8 @@ fn list_pattern(
 fn bound(at: Source, name: &Ident, of: Pattern) -> Result<Pattern, ReadFault>
     requires name { IdentIsWithin at.file at.len name.now }
     requires of { PatternIsWithin at.file at.len (pattern_view of) }
-    ensures { MatchResult result (λ p. PatternIsWithin at.file at.len (pattern_view p)) (FaultIsWithin at.file at.len) }
+    ensures read { Gives pattern_view result (Ok (bind_pattern (name_view name.now) (pattern_view of) (position name.now.1))) }
+    ensures within { MatchResult result (λ p. PatternIsWithin at.file at.len (pattern_view p)) (FaultIsWithin at.file at.len) }
 {
     let pos = name.1;
     Ok(Pattern::BindPattern {
@@ -96,7 +104,8 @@ fn term(at: Source, sym: Ident, args: Vec<Pattern>, pos: Pos) -> Pattern
     requires sym { IdentIsWithin at.file at.len sym }
     requires args { All (λ p. PatternIsWithin at.file at.len (pattern_view p)) args.items }
     requires pos { PosIsWithin at.file at.len pos }
-    ensures { PatternIsWithin at.file at.len (pattern_view result) }
+    ensures read { pattern_view result ≡ term_pattern_of (name_view sym) (pattern_views args.items) (position pos) }
+    ensures within { PatternIsWithin at.file at.len (pattern_view result) }
 {
     if sym.0.as_str() == "and" {
         return Pattern::And { subpats: args, pos };
@@ -107,7 +116,8 @@ fn term(at: Source, sym: Ident, args: Vec<Pattern>, pos: Pos) -> Pattern
 // A word as a pattern.
 fn word_pattern(at: Source, word: &Ident) -> Result<Pattern, ReadFault>
     requires { IdentIsWithin at.file at.len word.now }
-    ensures { MatchResult result (λ p. PatternIsWithin at.file at.len (pattern_view p)) (FaultIsWithin at.file at.len) }
+    ensures read { Gives pattern_view result (Ok (word_pattern_of (name_view word.now))) }
+    ensures within { MatchResult result (λ p. PatternIsWithin at.file at.len (pattern_view p)) (FaultIsWithin at.file at.len) }
 {
     let pos = word.1;
     match word.0.as_str() {
@@ -124,7 +134,8 @@ fn word_pattern(at: Source, word: &Ident) -> Result<Pattern, ReadFault>
 // The argument of a template: the list's second part is its number.
 fn macro_arg(at: Source, parts: Parts<'_>) -> Result<Pattern, ReadFault>
     requires { PartsAreWithin at.file at.len parts }
-    ensures { MatchResult result (λ p. PatternIsWithin at.file at.len (pattern_view p)) (FaultIsWithin at.file at.len) }
+    ensures read { Gives pattern_view result (macro_arg_of (parts_view parts.entry)) }
+    ensures within { MatchResult result (λ p. PatternIsWithin at.file at.len (pattern_view p)) (FaultIsWithin at.file at.len) }
 {
     let (_, rest) = next(at, parts, Mistake::Name)?;
     let (form, rest) = next(at, rest, Mistake::Index)?;

@@ -1,19 +1,23 @@
 //! What terms are: declarations, extractors, conversions, and what is defined outside.
 #![tactic(auto, using(crate::proofs::Rows::term_parts))]
 
-ghost use Rattle.std.specs.Prelude.{MatchResult, ⊤};
-ghost use Rattle.isle_base.specs.SyntaxViews.{definition_view};
+ghost use Rattle.std.specs.Prelude.{◌≡◌, MatchResult, Some, ⊤};
+ghost use Rattle.isle_base.specs.SyntaxViews.{definition_view, position};
 ghost use Rattle.isle_reader.specs.Faults.{FaultIsWithin};
-ghost use Rattle.isle_reader.specs.Forms.{FormIsWithin, FormsAreWithin};
+ghost use Rattle.isle_reader.specs.Forms.{FormIsWithin, FormsAreWithin, PosIsWithin};
 ghost use Rattle.isle_reader.specs.Lists.{PartsAreWithin};
 ghost use Rattle.isle_reader.specs.Within.{DefinitionIsWithin};
+ghost use Rattle.isle_reader.specs.FormViews.{all_view, form_view, parts_view};
+ghost use Rattle.isle_reader.specs.FlagViews.{flags_view};
+ghost use Rattle.isle_reader.specs.TermGrammar.{conversion_of, declaration_of, declared_of, external_constant_of, external_constructor_of, external_extractor_of, external_of, extractor_of, flags_of, infallible_of, no_flags, once_of, with_flag_of};
+ghost use Rattle.isle_reader.specs.Views.{Gives};
 
 use crate::errors::{Mistake, ReadFault, fault};
 use crate::forms::Form;
 use crate::parts::{Parts, list, name, names, next, next_if, next_name, no_more};
 use crate::patterns::pattern;
 use crate::source::Source;
-use isle_base::syntax::{Converter, Decl, Def, Extern, Extractor};
+use isle_base::syntax::{Converter, Decl, Def, Extern, Extractor, Pos};
 
 // What a declaration's flags say.
 #[derive(Clone, Copy)]
@@ -27,11 +31,33 @@ struct Flags {
 /// The declaration with these parts after its head.
 pub fn declaration(at: Source, parts: Parts<'_>) -> Result<Def, ReadFault>
     requires { PartsAreWithin at.file at.len parts }
-    ensures { MatchResult result (λ d. DefinitionIsWithin at.file at.len (definition_view d)) (FaultIsWithin at.file at.len) }
+    ensures read { Gives definition_view result (declaration_of (parts_view parts.entry)) }
+    ensures within { MatchResult result (λ d. DefinitionIsWithin at.file at.len (definition_view d)) (FaultIsWithin at.file at.len) }
 {
-    let [before @ .., term, args, ret] = parts.forms else {
-        return Err(fault(Mistake::Declaration, parts.pos));
-    };
+    match parts.forms {
+        [before @ .., term, args, ret] => declared(at, parts.pos, before, term, args, ret),
+        _ => Err(fault(Mistake::Declaration, parts.pos)),
+    }
+}
+
+// `FLAG .. NAME (TYPE ..) TYPE`, in the list that begins there.
+fn declared(
+    at: Source,
+    pos: Pos,
+    before: &[Form],
+    term: &Form,
+    args: &Form,
+    ret: &Form,
+) -> Result<Def, ReadFault>
+    requires pos { PosIsWithin at.file at.len pos }
+    requires before { FormsAreWithin at.file at.len before.now }
+    requires term { FormIsWithin at.file at.len term.now }
+    requires args { FormIsWithin at.file at.len args.now }
+    requires ret { FormIsWithin at.file at.len ret.now }
+    ensures read { Gives definition_view result
+        (declared_of (position pos) (Some (all_view before.now, form_view term.now, form_view args.now, form_view ret.now))) }
+    ensures within { MatchResult result (λ d. DefinitionIsWithin at.file at.len (definition_view d)) (FaultIsWithin at.file at.len) }
+{
     let flags = read_flags(at, before)?;
     let args = list(at, args, Mistake::Names)?;
     let term = name(at, term)?;
@@ -45,14 +71,15 @@ pub fn declaration(at: Source, parts: Parts<'_>) -> Result<Def, ReadFault>
         multi: flags.multi,
         partial: flags.partial,
         rec: flags.rec,
-        pos: parts.pos,
+        pos,
     }))
 }
 
 // What the words before a declaration's name say.
 fn read_flags(at: Source, forms: &[Form]) -> Result<Flags, ReadFault>
     requires { FormsAreWithin at.file at.len forms.now }
-    ensures { MatchResult result (λ _. ⊤) (FaultIsWithin at.file at.len) }
+    ensures read { Gives flags_view result (flags_of no_flags (all_view forms.now)) }
+    ensures within { MatchResult result (λ _. ⊤) (FaultIsWithin at.file at.len) }
 {
     let mut flags = Flags {
         pure: false,
@@ -67,31 +94,65 @@ fn read_flags(at: Source, forms: &[Form]) -> Result<Flags, ReadFault>
 }
 
 // The flags with one more.
-fn with_flag(at: Source, mut flags: Flags, form: &Form) -> Result<Flags, ReadFault>
+fn with_flag(at: Source, flags: Flags, form: &Form) -> Result<Flags, ReadFault>
     requires { FormIsWithin at.file at.len form.now }
-    ensures { MatchResult result (λ _. ⊤) (FaultIsWithin at.file at.len) }
+    ensures read { Gives flags_view result (with_flag_of (flags_view flags) (form_view form.now)) }
+    ensures within { MatchResult result (λ _. ⊤) (FaultIsWithin at.file at.len) }
 {
     let Form::Word(word) = form else {
         return Err(fault(Mistake::Flag, form.pos()));
     };
-    let flag = match word.0.as_str() {
-        "pure" => &mut flags.pure,
-        "multi" => &mut flags.multi,
-        "partial" => &mut flags.partial,
-        "rec" => &mut flags.rec,
-        _ => return Err(fault(Mistake::Flag, word.1)),
-    };
-    if *flag {
-        return Err(fault(Mistake::OtherFlag, word.1));
+    match word.0.as_str() {
+        "pure" => once(
+            at,
+            flags.pure,
+            word.1,
+            Flags {
+                pure: true,
+                ..flags
+            },
+        ),
+        "multi" => once(
+            at,
+            flags.multi,
+            word.1,
+            Flags {
+                multi: true,
+                ..flags
+            },
+        ),
+        "partial" => once(
+            at,
+            flags.partial,
+            word.1,
+            Flags {
+                partial: true,
+                ..flags
+            },
+        ),
+        "rec" => once(at, flags.rec, word.1, Flags { rec: true, ..flags }),
+        _ => Err(fault(Mistake::Flag, word.1)),
     }
-    *flag = true;
+}
+
+// These flags, if the one that is new in them wasn't there before.
+fn once(at: Source, was: bool, pos: Pos, flags: Flags) -> Result<Flags, ReadFault>
+    requires { PosIsWithin at.file at.len pos }
+    ensures read { Gives flags_view result (once_of was (position pos) (flags_view flags)) }
+    ensures within { MatchResult result (λ _. ⊤) (FaultIsWithin at.file at.len) }
+{
+    let _ = at.len;
+    if was {
+        return Err(fault(Mistake::OtherFlag, pos));
+    }
     Ok(flags)
 }
 
 /// The extractor with these parts after its head.
 pub fn extractor(at: Source, parts: Parts<'_>) -> Result<Def, ReadFault>
     requires { PartsAreWithin at.file at.len parts }
-    ensures { MatchResult result (λ d. DefinitionIsWithin at.file at.len (definition_view d)) (FaultIsWithin at.file at.len) }
+    ensures read { Gives definition_view result (extractor_of (parts_view parts.entry)) }
+    ensures within { MatchResult result (λ d. DefinitionIsWithin at.file at.len (definition_view d)) (FaultIsWithin at.file at.len) }
 {
     let (use_of, rest) = next(at, parts, Mistake::Names)?;
     let (term, args) = next_name(at, list(at, use_of, Mistake::Names)?)?;
@@ -110,7 +171,8 @@ pub fn extractor(at: Source, parts: Parts<'_>) -> Result<Def, ReadFault>
 /// The conversion with these parts after its head.
 pub fn conversion(at: Source, parts: Parts<'_>) -> Result<Def, ReadFault>
     requires { PartsAreWithin at.file at.len parts }
-    ensures { MatchResult result (λ d. DefinitionIsWithin at.file at.len (definition_view d)) (FaultIsWithin at.file at.len) }
+    ensures read { Gives definition_view result (conversion_of (parts_view parts.entry)) }
+    ensures within { MatchResult result (λ d. DefinitionIsWithin at.file at.len (definition_view d)) (FaultIsWithin at.file at.len) }
 {
     let (inner_ty, rest) = next_name(at, parts)?;
     let (outer_ty, rest) = next_name(at, rest)?;
@@ -127,7 +189,8 @@ pub fn conversion(at: Source, parts: Parts<'_>) -> Result<Def, ReadFault>
 /// What these parts after the head `extern` define outside.
 pub fn external(at: Source, parts: Parts<'_>) -> Result<Def, ReadFault>
     requires { PartsAreWithin at.file at.len parts }
-    ensures { MatchResult result (λ d. DefinitionIsWithin at.file at.len (definition_view d)) (FaultIsWithin at.file at.len) }
+    ensures read { Gives definition_view result (external_of (parts_view parts.entry)) }
+    ensures within { MatchResult result (λ d. DefinitionIsWithin at.file at.len (definition_view d)) (FaultIsWithin at.file at.len) }
 {
     let (kind, rest) = next(at, parts, Mistake::Extern)?;
     let Form::Word(word) = kind else {
@@ -144,7 +207,8 @@ pub fn external(at: Source, parts: Parts<'_>) -> Result<Def, ReadFault>
 // `NAME NAME`, after `extern constructor`.
 fn external_constructor(at: Source, parts: Parts<'_>) -> Result<Def, ReadFault>
     requires { PartsAreWithin at.file at.len parts }
-    ensures { MatchResult result (λ d. DefinitionIsWithin at.file at.len (definition_view d)) (FaultIsWithin at.file at.len) }
+    ensures read { Gives definition_view result (external_constructor_of (parts_view parts.entry)) }
+    ensures within { MatchResult result (λ d. DefinitionIsWithin at.file at.len (definition_view d)) (FaultIsWithin at.file at.len) }
 {
     let (term, rest) = next_name(at, parts)?;
     let (func, rest) = next_name(at, rest)?;
@@ -156,16 +220,13 @@ fn external_constructor(at: Source, parts: Parts<'_>) -> Result<Def, ReadFault>
     }))
 }
 
-// `infallible? NAME NAME`, after `extern extractor`. Of two words, the first is a name.
+// `infallible? NAME NAME`, after `extern extractor`.
 fn external_extractor(at: Source, parts: Parts<'_>) -> Result<Def, ReadFault>
     requires { PartsAreWithin at.file at.len parts }
-    ensures { MatchResult result (λ d. DefinitionIsWithin at.file at.len (definition_view d)) (FaultIsWithin at.file at.len) }
+    ensures read { Gives definition_view result (external_extractor_of (parts_view parts.entry)) }
+    ensures within { MatchResult result (λ d. DefinitionIsWithin at.file at.len (definition_view d)) (FaultIsWithin at.file at.len) }
 {
-    let (infallible, rest) = if parts.forms.len() <= 2 {
-        (false, parts)
-    } else {
-        next_if(at, parts, "infallible")
-    };
+    let (infallible, rest) = is_infallible(at, parts);
     let (term, rest) = next_name(at, rest)?;
     let (func, rest) = next_name(at, rest)?;
     no_more(at, rest)?;
@@ -177,10 +238,24 @@ fn external_extractor(at: Source, parts: Parts<'_>) -> Result<Def, ReadFault>
     }))
 }
 
+// Whether `infallible` comes next, and the list after it. Of two words, the first is a name.
+fn is_infallible<'a>(at: Source, parts: Parts<'a>) -> (bool, Parts<'a>)
+    requires { PartsAreWithin at.file at.len parts }
+    ensures read { (result.0, parts_view result.1) ≡ infallible_of (parts_view parts.entry) }
+    ensures within { PartsAreWithin at.file at.len result.1 }
+{
+    if parts.forms.len() <= 2 {
+        (false, parts)
+    } else {
+        next_if(at, parts, "infallible")
+    }
+}
+
 // `CONST NAME`, after `extern const`.
 fn external_constant(at: Source, parts: Parts<'_>) -> Result<Def, ReadFault>
     requires { PartsAreWithin at.file at.len parts }
-    ensures { MatchResult result (λ d. DefinitionIsWithin at.file at.len (definition_view d)) (FaultIsWithin at.file at.len) }
+    ensures read { Gives definition_view result (external_constant_of (parts_view parts.entry)) }
+    ensures within { MatchResult result (λ d. DefinitionIsWithin at.file at.len (definition_view d)) (FaultIsWithin at.file at.len) }
 {
     let (constant, rest) = next(at, parts, Mistake::Constant)?;
     let Form::Constant(name, _) = constant else {

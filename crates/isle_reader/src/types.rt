@@ -1,12 +1,15 @@
 //! Definitions of types.
 #![tactic(auto, using(crate::proofs::Rows::type_parts))]
 
-ghost use Rattle.std.specs.Prelude.{All, MatchResult};
-ghost use Rattle.isle_base.specs.SyntaxViews.{definition_view, field_view, fields_view, tuple_field_view, type_value_view, variant_view};
+ghost use Rattle.std.specs.Prelude.{All, MatchResult, map};
+ghost use Rattle.isle_base.specs.SyntaxViews.{definition_view, field_view, fields_view, type_value_view, variant_view};
 ghost use Rattle.isle_reader.specs.Faults.{FaultIsWithin};
 ghost use Rattle.isle_reader.specs.Forms.{FormIsWithin, FormsAreWithin};
 ghost use Rattle.isle_reader.specs.Lists.{PartsAreWithin};
-ghost use Rattle.isle_reader.specs.Within.{DefinitionIsWithin, FieldIsWithin, FieldsAreWithin, TupleFieldIsWithin, TypeValueIsWithin, VariantIsWithin};
+ghost use Rattle.isle_reader.specs.Within.{DefinitionIsWithin, FieldIsWithin, FieldsAreWithin, TypeValueIsWithin, VariantIsWithin};
+ghost use Rattle.isle_reader.specs.FormViews.{all_view, form_view, parts_view};
+ghost use Rattle.isle_reader.specs.TypeGrammar.{enumeration_of, fields_of, named_field_of, primitive_of, type_definition_of, type_value_of, variant_of, variants_of, with_fields_of, with_names_of, with_numbers_of};
+ghost use Rattle.isle_reader.specs.Views.{Gives};
 
 use crate::errors::{Mistake, ReadFault, fault};
 use crate::forms::Form;
@@ -19,7 +22,8 @@ use isle_base::syntax::{
 /// The type with these parts after the head `type`.
 pub fn type_definition(at: Source, parts: Parts<'_>) -> Result<Def, ReadFault>
     requires { PartsAreWithin at.file at.len parts }
-    ensures { MatchResult result (λ d. DefinitionIsWithin at.file at.len (definition_view d)) (FaultIsWithin at.file at.len) }
+    ensures read { Gives definition_view result (type_definition_of (parts_view parts.entry)) }
+    ensures within { MatchResult result (λ d. DefinitionIsWithin at.file at.len (definition_view d)) (FaultIsWithin at.file at.len) }
 {
     let (name, rest) = next_name(at, parts)?;
     let (is_extern, rest) = next_if(at, rest, "extern");
@@ -39,7 +43,8 @@ pub fn type_definition(at: Source, parts: Parts<'_>) -> Result<Def, ReadFault>
 // What a type is.
 fn type_value(at: Source, form: &Form) -> Result<TypeValue, ReadFault>
     requires { FormIsWithin at.file at.len form.now }
-    ensures { MatchResult result (λ v. TypeValueIsWithin at.file at.len (type_value_view v)) (FaultIsWithin at.file at.len) }
+    ensures read { Gives type_value_view result (type_value_of (form_view form.now)) }
+    ensures within { MatchResult result (λ v. TypeValueIsWithin at.file at.len (type_value_view v)) (FaultIsWithin at.file at.len) }
 {
     let (head, rest) = headed(at, form, Mistake::TypeValue)?;
     match head.0.as_str() {
@@ -53,7 +58,8 @@ fn type_value(at: Source, form: &Form) -> Result<TypeValue, ReadFault>
 // Variants, after `enum`.
 fn enumeration(at: Source, parts: Parts<'_>) -> Result<TypeValue, ReadFault>
     requires { PartsAreWithin at.file at.len parts }
-    ensures { MatchResult result (λ v. TypeValueIsWithin at.file at.len (type_value_view v)) (FaultIsWithin at.file at.len) }
+    ensures read { Gives type_value_view result (enumeration_of (parts_view parts.entry)) }
+    ensures within { MatchResult result (λ v. TypeValueIsWithin at.file at.len (type_value_view v)) (FaultIsWithin at.file at.len) }
 {
     let variants = variants(at, parts.forms)?;
     Ok(TypeValue::Enum(variants, parts.pos))
@@ -62,7 +68,8 @@ fn enumeration(at: Source, parts: Parts<'_>) -> Result<TypeValue, ReadFault>
 // `NAME`, after `primitive`.
 fn primitive(at: Source, parts: Parts<'_>) -> Result<TypeValue, ReadFault>
     requires { PartsAreWithin at.file at.len parts }
-    ensures { MatchResult result (λ v. TypeValueIsWithin at.file at.len (type_value_view v)) (FaultIsWithin at.file at.len) }
+    ensures read { Gives type_value_view result (primitive_of (parts_view parts.entry)) }
+    ensures within { MatchResult result (λ v. TypeValueIsWithin at.file at.len (type_value_view v)) (FaultIsWithin at.file at.len) }
 {
     let (name, rest) = next_name(at, parts)?;
     no_more(at, rest)?;
@@ -72,7 +79,8 @@ fn primitive(at: Source, parts: Parts<'_>) -> Result<TypeValue, ReadFault>
 // The variants that forms are.
 fn variants(at: Source, forms: &[Form]) -> Result<Vec<Variant>, ReadFault>
     requires { FormsAreWithin at.file at.len forms.now }
-    ensures { MatchResult result (λ vs. All (λ v. VariantIsWithin at.file at.len (variant_view v)) vs.items) (FaultIsWithin at.file at.len) }
+    ensures read { Gives (λ vs. map variant_view vs.items) result (variants_of (all_view forms.now)) }
+    ensures within { MatchResult result (λ vs. All (λ v. VariantIsWithin at.file at.len (variant_view v)) vs.items) (FaultIsWithin at.file at.len) }
 {
     let mut variants = Vec::new(at.alloc);
     for form in forms {
@@ -84,7 +92,8 @@ fn variants(at: Source, forms: &[Form]) -> Result<Vec<Variant>, ReadFault>
 // The variant that a form is: a name, or a list of a name and fields.
 fn variant(at: Source, form: &Form) -> Result<Variant, ReadFault>
     requires { FormIsWithin at.file at.len form.now }
-    ensures { MatchResult result (λ v. VariantIsWithin at.file at.len (variant_view v)) (FaultIsWithin at.file at.len) }
+    ensures read { Gives variant_view result (variant_of (form_view form.now)) }
+    ensures within { MatchResult result (λ v. VariantIsWithin at.file at.len (variant_view v)) (FaultIsWithin at.file at.len) }
 {
     match form {
         Form::Word(name) => Ok(Variant {
@@ -99,7 +108,8 @@ fn variant(at: Source, form: &Form) -> Result<Variant, ReadFault>
 // A list of a name and fields.
 fn variant_with_fields(at: Source, form: &Form) -> Result<Variant, ReadFault>
     requires { FormIsWithin at.file at.len form.now }
-    ensures { MatchResult result (λ v. VariantIsWithin at.file at.len (variant_view v)) (FaultIsWithin at.file at.len) }
+    ensures read { Gives variant_view result (with_fields_of (form_view form.now)) }
+    ensures within { MatchResult result (λ v. VariantIsWithin at.file at.len (variant_view v)) (FaultIsWithin at.file at.len) }
 {
     let parts = list(at, form, Mistake::Variant)?;
     let (name, rest) = next_name(at, parts)?;
@@ -114,7 +124,8 @@ fn variant_with_fields(at: Source, form: &Form) -> Result<Variant, ReadFault>
 // The fields that forms are: with names if the first is a list, else without.
 fn fields(at: Source, forms: &[Form]) -> Result<Fields, ReadFault>
     requires { FormsAreWithin at.file at.len forms.now }
-    ensures { MatchResult result (λ fs. FieldsAreWithin at.file at.len (fields_view fs)) (FaultIsWithin at.file at.len) }
+    ensures read { Gives fields_view result (fields_of (all_view forms.now)) }
+    ensures within { MatchResult result (λ fs. FieldsAreWithin at.file at.len (fields_view fs)) (FaultIsWithin at.file at.len) }
 {
     match forms {
         [] => Ok(Fields::Unit),
@@ -126,7 +137,8 @@ fn fields(at: Source, forms: &[Form]) -> Result<Fields, ReadFault>
 // Fields with names.
 fn named_fields(at: Source, forms: &[Form]) -> Result<Fields, ReadFault>
     requires { FormsAreWithin at.file at.len forms.now }
-    ensures { MatchResult result (λ fs. FieldsAreWithin at.file at.len (fields_view fs)) (FaultIsWithin at.file at.len) }
+    ensures read { Gives fields_view result (with_names_of (all_view forms.now)) }
+    ensures within { MatchResult result (λ fs. FieldsAreWithin at.file at.len (fields_view fs)) (FaultIsWithin at.file at.len) }
 {
     let mut fields = Vec::new(at.alloc);
     for form in forms {
@@ -138,7 +150,8 @@ fn named_fields(at: Source, forms: &[Form]) -> Result<Fields, ReadFault>
 // `(NAME TYPE)`.
 fn named_field(at: Source, form: &Form) -> Result<StructField, ReadFault>
     requires { FormIsWithin at.file at.len form.now }
-    ensures { MatchResult result (λ f. FieldIsWithin at.file at.len (field_view f)) (FaultIsWithin at.file at.len) }
+    ensures read { Gives field_view result (named_field_of (form_view form.now)) }
+    ensures within { MatchResult result (λ f. FieldIsWithin at.file at.len (field_view f)) (FaultIsWithin at.file at.len) }
 {
     let parts = list(at, form, Mistake::Field)?;
     let (name, rest) = next_name(at, parts)?;
@@ -154,7 +167,8 @@ fn named_field(at: Source, form: &Form) -> Result<StructField, ReadFault>
 // Fields without names, which their places stand for.
 fn tuple_fields(at: Source, forms: &[Form]) -> Result<Fields, ReadFault>
     requires { FormsAreWithin at.file at.len forms.now }
-    ensures { MatchResult result (λ fs. FieldsAreWithin at.file at.len (fields_view fs)) (FaultIsWithin at.file at.len) }
+    ensures read { Gives fields_view result (with_numbers_of (all_view forms.now)) }
+    ensures within { MatchResult result (λ fs. FieldsAreWithin at.file at.len (fields_view fs)) (FaultIsWithin at.file at.len) }
 {
     let mut fields = Vec::new(at.alloc);
     for form in forms {

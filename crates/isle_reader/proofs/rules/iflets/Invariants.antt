@@ -1,7 +1,12 @@
-use Rattle.std.proofs.Common.{All}
+-- The conditions so far, and those that follow, are what all forms are.
+use Rattle.std.proofs.Common.{All, map}
 use Rattle.isle_base.specs.SyntaxViews.{iflet_view}
 use Rattle.isle_reader.specs.Within.{IfLetIsWithin}
+use Rattle.isle_reader.specs.RuleGrammar.{statement_of}
+use Rattle.isle_reader.proofs.ReadOn.{IsReadOn}
 use Rattle.isle_reader.proofs.rules.iflets.Given as goal
 
 abbrev pub invariant-loop-form : goal.invariant-loop-form
-invariant-loop-form l = All (λ i. IfLetIsWithin l.at.file l.at.len (iflet_view i)) l.iflets.items
+invariant-loop-form l =
+    All (λ i. IfLetIsWithin l.at.file l.at.len (iflet_view i)) l.iflets.items
+    × IsReadOn statement_of l.forms l.form-index (map iflet_view l.iflets.items)

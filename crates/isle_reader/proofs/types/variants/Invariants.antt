@@ -1,7 +1,12 @@
-use Rattle.std.proofs.Common.{All}
+-- The variants so far, and those that follow, are what all forms are.
+use Rattle.std.proofs.Common.{All, map}
 use Rattle.isle_base.specs.SyntaxViews.{variant_view}
+use Rattle.isle_reader.specs.TypeGrammar.{variant_of}
 use Rattle.isle_reader.specs.Within.{VariantIsWithin}
+use Rattle.isle_reader.proofs.ReadOn.{IsReadOn}
 use Rattle.isle_reader.proofs.types.variants.Given as goal
 
 abbrev pub invariant-loop-form : goal.invariant-loop-form
-invariant-loop-form l = All (λ v. VariantIsWithin l.at.file l.at.len (variant_view v)) l.variants.items
+invariant-loop-form l =
+    All (λ v. VariantIsWithin l.at.file l.at.len (variant_view v)) l.variants.items
+    × IsReadOn variant_of l.forms l.form-index (map variant_view l.variants.items)
