@@ -23,7 +23,7 @@ pub command_answer : (asked : Asked) (reading : Reading) (request : Request) (an
 command_answer asked reading request (Ok answer) asks answers says = record { request = request; asks = asks; answers = answers; says = says }
 command_answer asked reading request (Err e) asks answers says = tt
 
-none_is_not_some : {T : Type 0} (o : Option T) → is_none o ≡ true → is_some o ≡ false
+pub none_is_not_some : {T : Type 0} (o : Option T) → is_none o ≡ true → is_some o ≡ false
 none_is_not_some None e = refl
 none_is_not_some (Some x) e = cc
 

@@ -8,7 +8,7 @@ use Rattle.isle_command.specs.declared.words.Request.{Request}
 use Rattle.isle_command.specs.declared.words.Task as CommandTask
 use Rattle.isle_command.specs.declared.words.Task.TheVariants as T
 use Rattle.isle_command.specs.Codes.{IsNamesLine}
-use Rattle.isle_command.specs.Readings.{IsAcceptedReading, IsReadingOf}
+use Rattle.isle_command.specs.Readings.{none_without, IsAcceptedReading, IsReadingOf}
 use Rattle.isle_command.specs.Statuses.{IsStatusOfReading}
 use Rattle.isle_command.specs.TaskAnswers.{IsAnswerToReading}
 use Rattle.isle_capi.specs.declared.options.Asked.{Asked}
@@ -34,7 +34,7 @@ command_format F.Line = C.Line
 command_format F.Colored = C.Text
 command_format F.Json = C.Json
 
--- what the command is asked for a call: all terms, and warnings count as no errors
+-- what the command is asked for a call: all terms, warnings count as no errors, and each text has definitions
 pub record IsRequestOf (asked : Asked) (request : Request) : Type 0 where
   pub task : request.task ≡ command_task asked.task
   pub format : request.format ≡ command_format asked.format
@@ -42,6 +42,7 @@ pub record IsRequestOf (asked : Asked) (request : Request) : Type 0 where
   pub deny : request.deny ≡ false
   pub denied : request.denied.items ≡ []
   pub terms : is_none request.terms ≡ true
+  pub answers : is_none request.answers ≡ true
 
 -- what the command answers to what was read, for a call
 pub record IsCommandAnswer (asked : Asked) (reading : Reading) (answer : Answer) : Type 0 where
@@ -109,7 +110,7 @@ IsToldOf asked reading out out' sizes result =
 -- texts are answered as something that they are read as
 abbrev pub IsToldOfTexts : Asked → List (List ℕ) → (out out' : List ℕ) → Sizes → ℕ → Type 0
 IsToldOfTexts asked texts out out' sizes result =
-    (result ≡ NO_MEMORY) ⊎ ((reading : Reading) × IsReadingOf texts reading × IsToldOf asked reading out out' sizes result)
+    (result ≡ NO_MEMORY) ⊎ ((reading : Reading) × IsReadingOf none_without texts reading × IsToldOf asked reading out out' sizes result)
 
 -- and a call, as its options ask
 abbrev pub IsToldByCall : Options → List (List ℕ) → (out out' : List ℕ) → Sizes → ℕ → Type 0

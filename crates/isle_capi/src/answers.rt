@@ -1,7 +1,7 @@
 //! What is answered to files: Rust code, or what the command answers.
 
 ghost use Rattle.std.specs.Prelude.{◌≡◌, map, string_bytes, IfOk};
-ghost use Rattle.isle_command.specs.Readings.{IsReadingOf};
+ghost use Rattle.isle_command.specs.Readings.{none_without, IsReadingOf};
 ghost use Rattle.isle_capi.specs.Calls.{HasText, IsAnswered, LeavesBehind};
 ghost use Rattle.isle_capi.specs.declared.options.Task.TheVariants.{Code};
 ghost use Rattle.isle_capi.specs.Told.{command_format, command_task, status_of, text_of, IsCommandAnswer, IsRequestOf, IsSaidTo, IsToldOf, IsToldOfTexts};
@@ -125,7 +125,7 @@ fn refused(sizes: &mut Sizes) -> u32
 
 // What these files are read as. Nobody is told what is being done.
 fn read_silently(alloc: Global, asked: Asked, files: &Files) -> Result<Reading, AllocError>
-    ensures { IfOk result (IsReadingOf (map string_bytes files.now.texts.items)) }
+    ensures { IfOk result (IsReadingOf none_without (map string_bytes files.now.texts.items)) }
 {
     let request = request_of(alloc, asked);
     let mut nobody = sink();

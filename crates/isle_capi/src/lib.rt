@@ -60,7 +60,7 @@ pub extern "C" fn isle_capi_lower(
     ensures prefixed { result ≡ WRONG_PREFIX → ¬ (ArePrefixes prefixes.now prefix_bytes.now) }
     // what is written is UTF-8 and no more than there is room for, and nothing behind it is touched
     ensures left { LeavesBehind out.old out.new sizes.new result }
-    // of some definitions that lie in the texts, or as of texts that can't be read, the status says whether they are accepted,
+    // of the definitions that the texts spell, or as of texts that can't be read, the status says whether they are accepted,
     // and what is written is made of them
     ensures told { AreOptions options.now → AddUp files.now bytes.now → are_texts files.now bytes.now ≡ true
         → ArePrefixes prefixes.now prefix_bytes.now → IsToldByCall options.now (texts_in files.now bytes.now) out.old out.new sizes.new result }

@@ -27,7 +27,7 @@ pub status_of_task : (task : Task) (asked : Request) (terms : List ℕ) (answer 
 status_of_task T.Lower asked terms answer (inl done) = inl done.0.0
 status_of_task T.Lower asked terms answer (inr failed) = inr (failed.1.0, failed.0)
 status_of_task T.Rust asked terms answer told = status_of_code told.0 answer told.2
-status_of_task T.Check asked terms answer told = elim told.1 [ inl none ↦ inl none | inr denied ↦ inr (denied.1, denied.0) ]
+status_of_task T.Check asked terms answer told = elim told.1 [ inl none ↦ inl none.0 | inr denied ↦ inr (denied.1, denied.0) ]
 status_of_task T.Explain asked terms answer (inl done) = inl done.0.0
 status_of_task T.Explain asked terms answer (inr failed) = inr (failed.0, refl)
 status_of_task T.Stats asked terms answer done = inl done.0.0
@@ -68,8 +68,8 @@ status_of_answer asked (Defs defs) answer (inr refused) =
     }
 status_of_answer asked (Unread reports) answer refused =
     record {
-      known = omega (arith, refused.0);
-      done = λ none. absurd (omega (arith, refused.0, none));
+      known = omega (arith, refused.0.0);
+      done = λ none. absurd (omega (arith, refused.0.0, none));
       refused = λ _ _ h. h;
     }
 

@@ -2,10 +2,14 @@
 use Rattle.std.proofs.Common.{◌≡◌, ◌≢◌, ℕ, List, [], ◌∷◌, ◌++◌, map, string_bytes, String, Global, refl, ap, ◌∙◌, arith}
 use Rattle.std.specs.List.{AllZip}
 
--- a text with something behind it
+-- a list with something behind it
+pub ended : {T : Type 0} (list : List T) (last : T) → list ++ last ∷ [] ≢ []
+ended [] last = grind arith
+ended (x ∷ list) last = grind arith
+
+-- and a text
 pub ended_text : (text : List ℕ) (last : ℕ) → text ++ last ∷ [] ≢ []
-ended_text [] last = grind arith
-ended_text (x ∷ text) last = grind arith
+ended_text text last = ended text last
 
 -- texts are the same as those that they are copied from
 pub same_texts : (xs ys : List (String Global)) → AllZip (λ x y. string_bytes y ≡ string_bytes x) xs ys → map string_bytes ys ≡ map string_bytes xs

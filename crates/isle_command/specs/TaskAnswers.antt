@@ -1,5 +1,5 @@
 -- What the command answers to definitions, by what it is asked.
-use Rattle.std.specs.Prelude.{ℕ, ◌≡◌, ◌≢◌, ◌≤◌, ◌⊎◌, ◌||◌, Bool, true, false, List, [], ◌∷◌, drop, is_none, is_some, length, map, string_bytes, take}
+use Rattle.std.specs.Prelude.{ℕ, ◌≡◌, ◌≢◌, ◌≤◌, ◌⊎◌, ◌||◌, ⊤, Bool, true, false, List, [], ◌∷◌, drop, is_none, is_some, length, map, string_bytes, take}
 use Rattle.cranelift_isle.specs.SyntaxViews.{definition_views}
 use Rattle.cranelift_isle.specs.Layers.{own_program, IsAccepted}
 use Rattle.cranelift_isle.specs.Elaborated.{TypedRules}
@@ -17,7 +17,7 @@ use Rattle.isle_command.specs.declared.words.Request.{Request}
 use Rattle.isle_command.specs.declared.words.Task.{Task}
 use Rattle.isle_command.specs.declared.words.Task.TheVariants as T
 use Rattle.isle_command.specs.Codes.{IsAnswerOfCode, IsCode}
-use Rattle.isle_command.specs.Readings.{IsAcceptedReading, IsReadingOf}
+use Rattle.isle_command.specs.Readings.{has_no_definitions, IsAcceptedReading, IsReadingOf}
 
 -- nothing stands on standard error
 abbrev pub IsOnOut : Answer → Type 0
@@ -54,6 +54,19 @@ AreReports F.Text answer = IsOnErr answer
 AreReports F.Line answer = IsOnErr answer
 AreReports F.Dot answer = IsOnErr answer
 
+-- no report stands there, or one does: of a JSON document neither is said
+abbrev pub HasNoReport : Format → Answer → Type 0
+HasNoReport F.Json answer = ⊤
+HasNoReport F.Text answer = string_bytes answer.err ≡ []
+HasNoReport F.Line answer = string_bytes answer.err ≡ []
+HasNoReport F.Dot answer = string_bytes answer.err ≡ []
+
+abbrev pub HasReport : Format → Answer → Type 0
+HasReport F.Json answer = ⊤
+HasReport F.Text answer = string_bytes answer.err ≢ []
+HasReport F.Line answer = string_bytes answer.err ≢ []
+HasReport F.Dot answer = string_bytes answer.err ≢ []
+
 -- something is wrong with texts or definitions: the status says so, and reports may
 abbrev pub IsRefusal : Request → Answer → Type 0
 IsRefusal asked answer = (answer.status ≡ 1) × AreReports asked.format answer
@@ -89,13 +102,19 @@ has_one (x ∷ xs) = true
 abbrev pub denies : Request → Bool
 denies asked = asked.deny || has_one asked.denied.items
 
+-- the status 0 says that there is no warning, where all count as errors; the status 1 that there is one, where some may
+abbrev pub IsStatusOfWarnings : Request → Answer → Type 0
+IsStatusOfWarnings asked answer =
+    ((answer.status ≡ 0) × (asked.deny ≡ true → HasNoReport asked.format answer))
+    ⊎ ((denies asked ≡ true) × (answer.status ≡ 1) × HasReport asked.format answer)
+
 -- what accepted definitions with these terms with rules are answered, by the task. A task that may fail may do so on all of
--- them: when it does isn't said; warnings have the status 1 only where they are denied
+-- them: when it does isn't said
 abbrev pub IsAnswerBy : Task → Request → (terms : List ℕ) → Answer → Type 0
 IsAnswerBy T.Lower asked terms answer =
     (IsDone answer × HasTrees asked terms (string_bytes answer.out)) ⊎ (AsksByName asked × IsFailed answer)
 IsAnswerBy T.Rust asked terms answer = (code : Code) × IsCode code × IsAnswerOfCode code answer
-IsAnswerBy T.Check asked terms answer = AreReports asked.format answer × ((answer.status ≡ 0) ⊎ ((denies asked ≡ true) × (answer.status ≡ 1)))
+IsAnswerBy T.Check asked terms answer = AreReports asked.format answer × IsStatusOfWarnings asked answer
 IsAnswerBy T.Explain asked terms answer = IsDoneWithText answer ⊎ IsFailed answer
 IsAnswerBy T.Stats asked terms answer = IsDoneWithText answer
 IsAnswerBy T.Compare asked terms answer = IsDoneWithoutText answer ⊎ IsFailed answer
@@ -110,14 +129,14 @@ IsAnswerToDefinitions defs asked answer =
     ((rules : TypedRules) × IsAccepted defs asked.expand rules × IsAnswerBy asked.task asked (terms_with_rules (own_program defs rules)) answer)
     ⊎ ((AreAccepted defs asked.expand → ⊥) × IsRefusal asked answer)
 
--- what was read is answered: definitions, or reports of texts
+-- what was read is answered: definitions, or reports of texts, which are told
 abbrev pub IsAnswerToReading : Request → Reading → Answer → Type 0
 IsAnswerToReading asked (Defs defs) answer = IsAnswerToDefinitions (definition_views defs.items) asked answer
-IsAnswerToReading asked (Unread reports) answer = IsRefusal asked answer
+IsAnswerToReading asked (Unread reports) answer = IsRefusal asked answer × (reports.items ≢ [] → HasReport asked.format answer)
 
 -- texts are answered as something that they are read as
 abbrev pub IsAnswerToOneReading : Request → List (List ℕ) → Answer → Type 0
-IsAnswerToOneReading asked texts answer = (reading : Reading) × IsReadingOf texts reading × IsAnswerToReading asked reading answer
+IsAnswerToOneReading asked texts answer = (reading : Reading) × IsReadingOf (has_no_definitions asked) texts reading × IsAnswerToReading asked reading answer
 
 -- two versions, each accepted or not, are answered: both are, and nothing is said, or how they differ; or one isn't, and is refused
 abbrev pub IsAnswerToBoth : (Old New : Type 0) → Request → Answer → Type 0
@@ -127,7 +146,8 @@ IsAnswerToBoth Old New asked answer =
 -- so many texts are answered as the old version, and the others as the new one
 abbrev pub IsAnswerToVersions : Request → List (List ℕ) → Answer → Type 0
 IsAnswerToVersions asked texts answer =
-    (old : Reading) × (new : Reading) × IsReadingOf (take asked.old texts) old × IsReadingOf (drop asked.old texts) new
+    (old : Reading) × (new : Reading) × IsReadingOf (has_no_definitions asked) (take asked.old texts) old
+    × IsReadingOf (has_no_definitions asked) (drop asked.old texts) new
     × IsAnswerToBoth (IsAcceptedReading asked.expand old) (IsAcceptedReading asked.expand new) asked answer
 
 -- texts are answered together, or as two versions where that is the task

@@ -1,11 +1,11 @@
 //! What the command answers to texts.
 
-ghost use Rattle.std.specs.Prelude.{◌≡◌, ◌≢◌, ◌⊎◌, ◌≤◌, ◌<◌, true, false, [], length, is_none, map, string_bytes, string_len, IfOk};
+ghost use Rattle.std.specs.Prelude.{◌≡◌, ◌≢◌, ◌⊎◌, ◌≤◌, ◌<◌, true, false, [], length, is_none, map, string_bytes, string_len, IfOk, OnOk};
 ghost use Rattle.cranelift_isle.specs.SyntaxViews.{definition_views};
 ghost use Rattle.isle_command.specs.declared.code.Code.{Code};
 ghost use Rattle.isle_command.specs.declared.words.Task.TheVariants.{Lower};
 ghost use Rattle.isle_command.specs.Codes.{IsAnswerOfCode, IsCode};
-ghost use Rattle.isle_command.specs.TaskAnswers.{AreReports, AreTrees, IsDoneWithText, IsDoneWithoutText, IsFailed, IsRefusal, denies};
+ghost use Rattle.isle_command.specs.TaskAnswers.{AreReports, AreTrees, HasNoReport, HasReport, IsDoneWithText, IsDoneWithoutText, IsFailed, IsRefusal, IsStatusOfWarnings, denies};
 ghost use Rattle.isle_command.specs.TaskAnswers.{lowered_terms, AsksForAll, IsAnswerBy, IsAnswerToDefinitions, IsAnswerToOneReading, IsAnswerToReading, IsAnswerToTexts};
 ghost use Rattle.isle_command.specs.Statuses.{IsStatusOfReading};
 
@@ -126,7 +126,8 @@ pub(crate) fn refusal(
     reports: &[Report],
     rest: usize,
 ) -> Result<Answer, AllocError>
-    ensures { IfOk result (IsRefusal asked.now) }
+    ensures refusal { IfOk result (IsRefusal asked.now) }
+    ensures told { reports.now ≢ [] → IfOk result (HasReport asked.now.format) }
 {
     if asked.format == Format::Json {
         return Ok(Answer {
@@ -156,7 +157,9 @@ fn document_for(task: Task) -> Document {
 }
 
 // Adds how many more errors there are.
-fn push_rest(err: &mut String, count: usize) -> Result<(), AllocError> {
+fn push_rest(err: &mut String, count: usize) -> Result<(), AllocError>
+    ensures { OnOk result (string_bytes err.old ≢ [] → string_bytes err.new ≢ []) }
+{
     if count == 0 {
         return Ok(());
     }
@@ -307,10 +310,10 @@ fn warned(
     warnings: &[Report],
 ) -> Result<Answer, AllocError>
     ensures reports { IfOk result (AreReports asked.now.format) }
-    // warnings have the status 1 where all are denied and there are some, and only where some are denied
-    ensures denied { asked.now.deny ≡ true → warnings.now ≢ [] → IfOk result (λ a. a.status ≡ 1) }
-    ensures none { warnings.now ≡ [] → IfOk result (λ a. a.status ≡ 0) }
-    ensures allowed { IfOk result (λ a. (a.status ≡ 0) ⊎ ((denies asked.now ≡ true) × (a.status ≡ 1))) }
+    // what is told are the warnings
+    ensures none { warnings.now ≡ [] → IfOk result (HasNoReport asked.now.format) }
+    ensures some { warnings.now ≢ [] → IfOk result (HasReport asked.now.format) }
+    ensures status { IfOk result (IsStatusOfWarnings asked.now) }
 {
     let status = if has_denied(asked, warnings) { 1 } else { 0 };
     let mut out = String::new(alloc);

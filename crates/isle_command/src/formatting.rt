@@ -3,7 +3,6 @@
 ghost use Rattle.std.specs.Prelude.{◌≡◌, ◌≢◌, ◌⊎◌, ◌≤◌, ◌↔◌, true};
 
 use crate::inputs::{file_text, path_of, standard_text};
-use crate::reading::syntax_report;
 use crate::run::{cannot_read, say};
 use crate::words::Unasked;
 use cranelift_isle::syntax::Files;
@@ -11,6 +10,7 @@ use isle_answers::answers::{end, no_memory, write_text};
 use isle_formatting::formatted::formatted;
 use isle_printing::layout::{Layout, push_reports};
 use isle_reader::errors::{ReadFault, TextError};
+use isle_unread::syntax_report;
 use std::alloc::{AllocError, Global};
 use std::fs::{self, File, OpenFile};
 use std::io::{self, Read, Write};

@@ -1,5 +1,8 @@
 //! What the command is asked by its words.
 
+ghost use Rattle.std.specs.Prelude.{◌≡◌};
+ghost use Rattle.isle_command.specs.Readings.{has_no_definitions};
+
 use crate::formatting::{Formatting, formatting_by};
 use isle_answers::samples::sample_text;
 use isle_printing::layout::Layout;
@@ -443,9 +446,11 @@ impl<'a> Request<'a> {
     }
 
     /// Whether the file of a number has printed trees or answers, and no definitions.
-    pub fn has_no_definitions(&self, number: usize) -> bool {
-        let has_other = self.task == Task::Compare || self.answers.is_some();
-        has_other && number.saturating_add(1) == self.files.len()
+    pub fn has_no_definitions(&self, number: usize) -> bool
+        ensures { result ≡ has_no_definitions self.now number }
+    {
+        let has_other = matches!(self.task, Task::Compare) || self.answers.is_some();
+        has_other && number.checked_add(1) == Some(self.files.len())
     }
 
     // Reads a word, and answers what is awaited then.

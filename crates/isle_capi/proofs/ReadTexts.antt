@@ -1,0 +1,39 @@
+-- What the texts of a call are read as: each has definitions.
+use Rattle.std.proofs.Common.{◌≡◌, ℕ, ◌+◌, ◌==◌, Bool, false, List, [], ◌∷◌, refl, ap, ◌∙◌, subst, ◌&&◌, ◌||◌, is_some, length, Result, Ok, Err, IfOk}
+use Rattle.std.specs.declared.alloc.AllocError.{AllocError}
+use Rattle.cranelift_isle.specs.Syntax.{Definition}
+use Rattle.isle_command.specs.declared.reading.Reading.{Reading}
+use Rattle.isle_command.specs.declared.reading.Reading.TheVariants.{Defs, Unread}
+use Rattle.isle_command.specs.declared.words.Request.{Request}
+use Rattle.isle_command.specs.Readings.{has_no_definitions, is_comparison, none_without, AreOfText, AreOfTexts, IsReadingOf}
+use Rattle.isle_capi.specs.declared.options.Asked.{Asked}
+use Rattle.isle_capi.specs.declared.options.Task.{Task}
+use Rattle.isle_capi.specs.declared.options.Task.TheVariants as A
+use Rattle.isle_capi.specs.Told.{command_task, IsRequestOf}
+use Rattle.isle_capi.proofs.Telling.{none_is_not_some}
+
+no_comparison : (task : Task) → is_comparison (command_task task) ≡ false
+no_comparison A.Trees = refl
+no_comparison A.Check = refl
+no_comparison A.Code = refl
+
+each_has : (asked : Asked) (request : Request) → IsRequestOf asked request → (number : ℕ) → has_no_definitions request number ≡ false
+each_has asked request asks number =
+    ap (λ b. (b || is_some request.answers) && (number + 1 == length request.files.items)) (ap is_comparison asks.task ∙ no_comparison asked.task)
+    ∙ ap (λ b. b && (number + 1 == length request.files.items)) (none_is_not_some request.answers asks.answers)
+
+same_definitions : (v w : ℕ → Bool) → ((number : ℕ) → v number ≡ w number) → (texts : List (List ℕ)) (number : ℕ) (defs : List Definition)
+    → AreOfTexts v number texts defs → AreOfTexts w number texts defs
+same_definitions v w same [] number defs are = are
+same_definitions v w same (text ∷ texts) number defs are =
+    (are.0, are.1, are.2, subst (λ b. AreOfText b number text are.0) (same number) are.3, same_definitions v w same texts (number + 1) are.1 are.4)
+
+same_reading : (v w : ℕ → Bool) → ((number : ℕ) → v number ≡ w number) → (texts : List (List ℕ)) (reading : Reading) → IsReadingOf v texts reading → IsReadingOf w texts reading
+same_reading v w same texts (Defs defs) is = (same_definitions v w same texts 0 _ is.0, is.1)
+same_reading v w same texts (Unread reports) is = is
+
+-- so they are read by the request for a call
+pub read_for_call : (asked : Asked) (request : Request) (texts : List (List ℕ)) (reading : Result Reading AllocError) → IsRequestOf asked request
+    → IfOk reading (IsReadingOf (has_no_definitions request) texts) → IfOk reading (IsReadingOf none_without texts)
+read_for_call asked request texts (Ok reading) asks is = same_reading (has_no_definitions request) none_without (each_has asked request asks) texts reading is
+read_for_call asked request texts (Err e) asks is = tt
