@@ -1,0 +1,8 @@
+mod SizeLemmas
+mod Walking
+mod LineLemmas
+mod UnitLemmas
+mod OffsetLemmas
+mod PlaceLemmas
+mod EditLemmas
+mod ChangeLemmas

@@ -1,0 +1,5 @@
+pub mod Lines
+pub mod Places
+pub mod Changes
+pub mod Walks
+pub mod Contents

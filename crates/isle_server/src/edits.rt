@@ -1,0 +1,53 @@
+//! Edits of files.
+
+use crate::analysis::Analysis;
+use crate::ranges::range_value;
+use serde_json::{Value, json};
+use std::alloc::{AllocError, Global};
+
+/// What takes the place of a piece of a file.
+#[derive(Clone, Copy)]
+pub struct Edit<'a> {
+    /// The file.
+    pub file: usize,
+    /// Where the piece begins.
+    pub begin: usize,
+    /// Where it ends.
+    pub end: usize,
+    /// The new text.
+    pub text: &'a str,
+}
+
+/// Edits as a change of the workspace, file by file.
+pub fn changes_value(
+    alloc: Global,
+    analysis: &Analysis,
+    edits: &[Edit<'_>],
+) -> Result<Value, AllocError> {
+    let mut changes = json!(in alloc; {})?;
+    for file in 0..analysis.sources.uris.len() {
+        let found = edits_in(alloc, analysis, edits, file)?;
+        if let (false, Some(object)) = (found.is_empty(), changes.as_object_mut()) {
+            serde_json::put(object, alloc, analysis.uri(file), Value::Array(found))?;
+        }
+    }
+    json!(in alloc; {"changes": changes})
+}
+
+// The edits of a file.
+fn edits_in(
+    alloc: Global,
+    analysis: &Analysis,
+    edits: &[Edit<'_>],
+    file: usize,
+) -> Result<Vec<Value>, AllocError> {
+    let text = analysis.text(file);
+    let mut found = Vec::new(alloc);
+    for edit in edits {
+        if edit.file == file {
+            let range = range_value(alloc, text, edit.begin, edit.end)?;
+            found.push(json!(in alloc; {"range": range, "newText": edit.text})?)?;
+        }
+    }
+    Ok(found)
+}

@@ -1,0 +1,84 @@
+//! Why a request has no answer: the errors of the protocol.
+
+use std::alloc::{AllocError, AllocFailed};
+
+/// Why a request has no answer.
+#[derive(Clone, Copy, PartialEq, Eq)]
+pub enum Refusal {
+    /// Memory was refused.
+    Memory,
+    /// Bytes that are no head, or a head without the length of a message.
+    NoHead,
+    /// What a head announces is no JSON.
+    NoJson,
+    /// The JSON is no message.
+    NoMessage,
+    /// There is no such request.
+    NoMethod,
+    /// `initialize` has to come first.
+    NotInitialized,
+    /// `initialize` came before.
+    InitializedTwice,
+    /// `shutdown` came before.
+    ShutDown,
+    /// A parameter isn't there, or isn't what it has to be.
+    NoParameter,
+    /// The document isn't open.
+    NotOpen,
+    /// A place isn't in its document.
+    Outside,
+    /// A new name is none.
+    NoName,
+    /// A new name has another meaning there.
+    Taken,
+    /// Nothing that can be renamed stands there.
+    NotRenamed,
+}
+
+impl Refusal {
+    /// The error's number in the protocol.
+    pub fn code(self) -> i64 {
+        match self {
+            Refusal::NoJson => -32700,
+            Refusal::NoHead | Refusal::NoMessage | Refusal::InitializedTwice | Refusal::ShutDown =>
+                -32600,
+            Refusal::NoMethod => -32601,
+            Refusal::NoParameter | Refusal::NotOpen | Refusal::Outside => -32602,
+            Refusal::Memory => -32603,
+            Refusal::NotInitialized => -32002,
+            Refusal::NoName | Refusal::Taken | Refusal::NotRenamed => -32803,
+        }
+    }
+
+    /// What it says. It has no quotes, so it can stand in JSON as it is.
+    pub fn text(self) -> &'static str {
+        match self {
+            Refusal::Memory => "out of memory",
+            Refusal::NoHead => "expected a head with Content-Length",
+            Refusal::NoJson => "the message is no JSON, or its length is wrong",
+            Refusal::NoMessage => "the JSON is no message",
+            Refusal::NoMethod => "no such method",
+            Refusal::NotInitialized => "initialize has to come first",
+            Refusal::InitializedTwice => "initialize came before",
+            Refusal::ShutDown => "shutdown came before",
+            Refusal::NoParameter => "a parameter is missing or wrong",
+            Refusal::NotOpen => "the document is not open",
+            Refusal::Outside => "the place is not in the document",
+            Refusal::NoName => "this is no name",
+            Refusal::Taken => "this name has another meaning there",
+            Refusal::NotRenamed => "only variables and rules can be renamed",
+        }
+    }
+}
+
+impl From<AllocError> for Refusal {
+    fn from(_: AllocError) -> Refusal {
+        Refusal::Memory
+    }
+}
+
+impl<T: Drop> From<AllocFailed<T>> for Refusal {
+    fn from(_: AllocFailed<T>) -> Refusal {
+        Refusal::Memory
+    }
+}

@@ -1,0 +1,208 @@
+//! The files that together are one list of definitions, and their order.
+
+use crate::documents::{Documents, OpenDocument};
+use crate::uris::uri_of;
+use cranelift_isle::syntax::Files;
+use std::alloc::{AllocError, Global};
+use std::fs;
+
+/// Where the files are that the client works on, and what it says of their order.
+pub struct Workspace {
+    /// The path of the folder, or the empty text.
+    pub root: String,
+    /// The files that the client names, in order.
+    pub named: Vec<String>,
+}
+
+impl Drop for Workspace {
+    fn drop(self) {
+        let Workspace { root: _, named: _ } = self;
+    }
+}
+
+/// The files of a workspace, in order.
+pub struct Sources {
+    /// Their names, below the folder of the workspace, and their texts.
+    pub files: Files,
+    /// Their URIs.
+    pub uris: Vec<String>,
+    /// What they are known by: their paths.
+    pub paths: Vec<String>,
+}
+
+impl Drop for Sources {
+    fn drop(self) {
+        let Sources {
+            files: _,
+            uris: _,
+            paths: _,
+        } = self;
+    }
+}
+
+// The file of a workspace that names its rule files, one in each line.
+const LIST: &str = "isle.files";
+
+/// The files of a workspace: those that its list names, or else the client, and then other documents that are open, in the
+/// order in which they were opened. The text of a file that isn't open is read. One that can't be read is left out.
+pub fn sources_of<R: std::rt::Files + AllocGlobal>(
+    rt: &R,
+    workspace: &Workspace,
+    documents: &Documents,
+) -> Result<Sources, AllocError> {
+    let alloc = rt.alloc();
+    let mut sources = Sources {
+        files: Files {
+            names: Vec::new(alloc),
+            texts: Vec::new(alloc),
+        },
+        uris: Vec::new(alloc),
+        paths: Vec::new(alloc),
+    };
+    for path in &paths_of(rt, workspace)? {
+        add_path(rt, &mut sources, workspace, documents, path)?;
+    }
+    for open in &documents.open {
+        add_document(alloc, &mut sources, workspace, open)?;
+    }
+    Ok(sources)
+}
+
+// The paths of the files that are named.
+fn paths_of<R: std::rt::Files + AllocGlobal>(
+    rt: &R,
+    workspace: &Workspace,
+) -> Result<Vec<String>, AllocError> {
+    let alloc = rt.alloc();
+    let list = text_at(rt, &in_folder(alloc, workspace, LIST)?)?;
+    let mut paths = Vec::new(alloc);
+    match &list {
+        Some(text) => push_listed(alloc, workspace, text, &mut paths)?,
+        None => push_named(alloc, workspace, &mut paths)?,
+    }
+    Ok(paths)
+}
+
+// Adds the paths that a list of files names. `#` begins a comment.
+fn push_listed(
+    alloc: Global,
+    workspace: &Workspace,
+    text: &str,
+    paths: &mut Vec<String>,
+) -> Result<(), AllocError> {
+    for line in text.lines() {
+        let name = line.trim();
+        if !name.is_empty() && !name.starts_with('#') {
+            paths.push(in_folder(alloc, workspace, name)?)?;
+        }
+    }
+    Ok(())
+}
+
+// Adds the paths that the client names.
+fn push_named(
+    alloc: Global,
+    workspace: &Workspace,
+    paths: &mut Vec<String>,
+) -> Result<(), AllocError> {
+    for name in &workspace.named {
+        paths.push(in_folder(alloc, workspace, name)?)?;
+    }
+    Ok(())
+}
+
+// The path of a file of the workspace.
+fn in_folder(alloc: Global, workspace: &Workspace, name: &str) -> Result<String, AllocError> {
+    let name = name.strip_prefix("./").unwrap_or(name);
+    if workspace.root.is_empty() || name.starts_with('/') {
+        return String::from_str(alloc, name);
+    }
+    let root = workspace.root.as_str();
+    format!(in alloc; "{root}/{name}")
+}
+
+// Adds the file at a path.
+fn add_path<R: std::rt::Files + AllocGlobal>(
+    rt: &R,
+    sources: &mut Sources,
+    workspace: &Workspace,
+    documents: &Documents,
+    path: &str,
+) -> Result<(), AllocError> {
+    let alloc = rt.alloc();
+    if let Some(open) = documents.named(path) {
+        return add_document(alloc, sources, workspace, open);
+    }
+    match text_at(rt, path)? {
+        Some(text) => add(
+            alloc,
+            sources,
+            workspace,
+            (uri_of(alloc, path)?, path),
+            text,
+        ),
+        None => Ok(()),
+    }
+}
+
+// Adds a document, if it isn't there.
+fn add_document(
+    alloc: Global,
+    sources: &mut Sources,
+    workspace: &Workspace,
+    open: &OpenDocument,
+) -> Result<(), AllocError> {
+    let uri = open.uri.clone()?;
+    let text = String::from_str(alloc, open.document.text())?;
+    add(alloc, sources, workspace, (uri, open.name.as_str()), text)
+}
+
+// Adds a file, if it isn't there.
+fn add(
+    alloc: Global,
+    sources: &mut Sources,
+    workspace: &Workspace,
+    (uri, path): (String, &str),
+    text: String,
+) -> Result<(), AllocError> {
+    if sources.number_of(path).is_some() {
+        return Ok(());
+    }
+    let name = String::from_str(alloc, name_below(workspace, path))?;
+    let path = String::from_str(alloc, path)?;
+    sources.files.names.push(name)?;
+    sources.files.texts.push(text)?;
+    sources.uris.push(uri)?;
+    sources.paths.push(path)?;
+    Ok(())
+}
+
+// The name of a file below the folder of the workspace.
+fn name_below<'a>(workspace: &Workspace, path: &'a str) -> &'a str {
+    if workspace.root.is_empty() {
+        return path;
+    }
+    match path.strip_prefix(workspace.root.as_str()) {
+        Some(rest) => rest.strip_prefix("/").unwrap_or(path),
+        None => path,
+    }
+}
+
+// The text of the file at a path, or None where it can't be read, or isn't UTF-8.
+fn text_at<R: std::rt::Files + AllocGlobal>(
+    rt: &R,
+    path: &str,
+) -> Result<Option<String>, AllocError> {
+    match fs::read(rt, path) {
+        Ok(bytes) => Ok(String::from_utf8(bytes).ok()),
+        Err(error) if error.kind() == std::io::ErrorKind::OutOfMemory => Err(AllocError),
+        Err(_) => Ok(None),
+    }
+}
+
+impl Sources {
+    /// The number of the file at a path.
+    pub fn number_of(&self, path: &str) -> Option<usize> {
+        self.paths.iter().position(|other| other.as_str() == path)
+    }
+}
