@@ -2,8 +2,7 @@
 use Rattle.std.proofs.Common.{◌≡◌, ℕ, ◌+◌, List, [], map, Result, Ok, sym, ap, ◌∙◌, arith}
 use Rattle.std.specs.Str.{chars}
 use Rattle.model.specs.lists.Syntax.{Definition}
-use Rattle.isle_reader.specs.Lexemes.{Wrong}
-use Rattle.isle_reader.specs.FormViews.{erased}
+use Rattle.isle_reader.specs.Lexemes.{Wrong, erased}
 use Rattle.isle_reader.specs.Lexing.{tokens_after}
 use Rattle.isle_reader.specs.Pieces.{size}
 use Rattle.isle_reader.specs.Definitions.{definitions_of, Spells}

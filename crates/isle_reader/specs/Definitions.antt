@@ -1,24 +1,17 @@
 -- Which definitions a text gives.
-use Rattle.std.specs.Prelude.{◌≡◌, ℕ, Bool, ◌||◌, List, [], codes, map, Result, Ok, Err, if◌then◌else◌}
-use Rattle.std.specs.Str.{bytes_eq, chars}
+use Rattle.std.specs.Prelude.{◌≡◌, ℕ, ◌≤◌, true, List, [], codes, map, Result, Ok, Err, if◌then◌else◌}
+use Rattle.std.specs.Str.{chars}
 use Rattle.model.specs.lists.Syntax.{Name, Definition, other_definition}
 use Rattle.isle_reader.specs.declared.errors.Mistake.TheVariants as M
-use Rattle.isle_reader.specs.Lexemes.{Lexeme, unknown, Wrong, ◌>>=◌}
+use Rattle.isle_reader.specs.Lexemes.{Lexeme, unknown, Wrong, ◌>>=◌, erased}
 use Rattle.isle_reader.specs.Lexing.{tokens_after}
 use Rattle.isle_reader.specs.Pieces.{Piece, AreIn}
-use Rattle.isle_reader.specs.FormTrees.{FormTree, FormTrees, all_spelled}
-use Rattle.isle_reader.specs.FormViews.{erased}
+use Rattle.isle_reader.specs.FormTrees.{FormTree, FormTrees, all_spelled, all_depth}
+use Rattle.isle_reader.specs.PassedOver.{passes_over, dashes_are_passed_over}
 use Rattle.isle_reader.specs.Grammar.{Listed, reads, each_of, headed_of}
 use Rattle.isle_reader.specs.TypeGrammar.{type_definition_of}
 use Rattle.isle_reader.specs.TermGrammar.{declaration_of, extractor_of, external_of, conversion_of}
 use Rattle.isle_reader.specs.RuleGrammar.{rule_of}
-
--- whether a definition that begins with this word says nothing of types, terms and rules
-abbrev pub passes_over : List ℕ → Bool
-passes_over w =
-    bytes_eq w (codes "pragma") || bytes_eq w (codes "spec") || bytes_eq w (codes "model") || bytes_eq w (codes "form")
-    || bytes_eq w (codes "instantiate") || bytes_eq w (codes "attr") || bytes_eq w (codes "state") || bytes_eq w (codes "macro")
-    || bytes_eq w (codes "spec_macro")
 
 -- what a list is that begins with this word
 abbrev pub defined_by : Name → Listed → Result Definition Wrong
@@ -38,7 +31,8 @@ definition_of f = headed_of M.Definition f >>= (λ h. defined_by h.0 h.1)
 abbrev pub definitions_of : FormTrees → Result (List Definition) Wrong
 definitions_of fs = each_of definition_of fs
 
--- a text spells definitions: its pieces are tokens, these spell forms, and the definitions are what these forms are
+-- a text spells definitions: its pieces are tokens, these spell forms, and the definitions are what these forms are.
+-- Lists and bindings nest 1,000 deep at most, and words that begin with `-` stand in forms that are passed over.
 pub record Spells (file : ℕ) (text : List ℕ) (ds : List Definition) : Type 0 where
   pub pieces : List Piece
   pub are : AreIn 0 (chars text) pieces
@@ -46,4 +40,6 @@ pub record Spells (file : ℕ) (text : List ℕ) (ds : List Definition) : Type 0
   pub lexed : tokens_after file 0 pieces [] ≡ Ok tokens
   pub forms : FormTrees
   pub lists : all_spelled forms [] ≡ map erased tokens
+  pub shallow : all_depth forms ≤ 1000
+  pub dashes : dashes_are_passed_over forms ≡ true
   pub defined : definitions_of forms ≡ Ok ds
