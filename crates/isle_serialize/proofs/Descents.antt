@@ -16,6 +16,10 @@ pub none_kept : {X : Type 0} (p : X → Bool) (xs : List X) → ((x : X) → Con
 none_kept p [] h = refl
 none_kept p (x ∷ xs) h = cond-false (p x) (x ∷ filter p xs) (filter p xs) (h x (in_head x xs)) ∙ none_kept p xs (λ y c. h y (in_tail x y xs c))
 
+pub all_kept : {X : Type 0} (p : X → Bool) (xs : List X) → ((x : X) → Contains xs x → p x ≡ true) → filter p xs ≡ xs
+all_kept p [] h = refl
+all_kept p (x ∷ xs) h = cond-true (p x) (x ∷ filter p xs) (filter p xs) (h x (in_head x xs)) ∙ ap (λ l. x ∷ l) (all_kept p xs (λ y c. h y (in_tail x y xs c)))
+
 module _ (rules : List SetRule) where
   pub descend_kept : (p : ℕ → Bool) (xs : List ℕ) → descend rules xs ≡ true → descend rules (filter p xs) ≡ true
   descend_kept p [] h = refl

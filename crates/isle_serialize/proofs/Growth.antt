@@ -16,7 +16,8 @@ use Rattle.model.specs.trees.Best.{IsGreatest, IsMade, comes_first, descend, Bes
 use Rattle.model.proofs.Members.{in_head, in_tail, each_passes, all_pass, from_filter}
 use Rattle.laws_closure.proofs.overlaps.Overlaps.{bool_same}
 use Rattle.isle_serialize.specs.Growing.{IsBestFrom, AreEnds, AreBestArms}
-use Rattle.isle_serialize.proofs.EqualSurroundings.{Alike, steps_alike}
+use Rattle.isle_serialize.specs.AroundViews.{Alike}
+use Rattle.isle_serialize.proofs.EqualSurroundings.{steps_alike}
 
 -- 1. whatever the order of a place's rules
 module _ (xs ys : List ℕ) (moved : IsPermutation xs ys) where

@@ -1,6 +1,5 @@
 pub mod TreeLaws
 mod Tables
-mod SiteSets
 mod AroundSteps
 mod TestSteps
 mod BarSteps
@@ -15,6 +14,7 @@ mod Ascents
 mod Descents
 mod StepsJoined
 mod BodySteps
+mod ListChanges
 mod EndSteps
 mod UntriedTests
 mod PlaceSteps

@@ -7,6 +7,7 @@ use Rattle.model.specs.trees.Tests as Tests
 use Rattle.model.specs.trees.Tests.{match_test, equal_test, loop_test, needs, needs_at, IsOpen}
 use Rattle.isle_serialize.specs.declared.tests.Test.{Test}
 use Rattle.isle_serialize.specs.declared.place.Place.{Place}
+use Rattle.isle_serialize.specs.AroundViews.{AreAtHand}
 use Rattle.isle_serialize.specs.PlaceViews.{around_at, set_at}
 use Rattle.isle_serialize.specs.TestViews.{test_view}
 
@@ -23,6 +24,10 @@ pub record AddsOpen (set : SiteSet) (ar : Around) (Kind : Tests.Test → Type 0)
 -- the same at a place
 abbrev pub AddsAt : Place → (Tests.Test → Type 0) → List Test → List Test → Type 0
 AddsAt place Kind old new = AddsOpen (set_at place) (around_at place) Kind old new
+
+-- what was found to be available at a place is
+abbrev pub AreFoundAt : Place → List ℕ → Type 0
+AreFoundAt place found = AreAtHand (set_at place).sites (around_at place) found
 
 -- of the kind that one of these is of
 abbrev pub OfSome : {X : Type 0} → (X → Tests.Test → Type 0) → List X → Tests.Test → Type 0

@@ -1,7 +1,7 @@
 -- Tests and scores, sites by their numbers.
-use Rattle.std.specs.Prelude.{◌≡◌, ◌≢◌, ◌⊎◌, ℕ, Bool, false, List, [], Option, Some, None, Contains, if◌then◌else◌}
+use Rattle.std.specs.Prelude.{◌≡◌, ◌≢◌, ◌⊎◌, ◌&&◌, ℕ, Bool, false, List, [], Option, Some, None, Contains, if◌then◌else◌}
 use Rattle.model.specs.sites.Sites.{SiteSet}
-use Rattle.model.specs.trees.Places.{Around}
+use Rattle.model.specs.trees.Places.{Around, is_in}
 use Rattle.model.specs.trees.Sound.{as_number}
 use Rattle.model.specs.trees.Tests as Tests
 use Rattle.model.specs.trees.Tests.{match_test, equal_test, loop_test, cover, IsOpen, score, is_greater}
@@ -18,6 +18,12 @@ test_view (Loop source) = loop_test source
 
 abbrev pub score_view : Score → Tests.Score
 score_view s = record { count = s.count; emitted = as_number s.is_emitted; form = s.form; site = s.site; other = s.other }
+
+-- the score of a test where it covers so many rules
+abbrev pub counted_score : Around → Tests.Test → ℕ → Tests.Score
+counted_score ar (match_test s) n = record { count = n; emitted = as_number (is_in s ar.emitted); form = 0; site = s; other = 0 }
+counted_score ar (equal_test a b) n = record { count = n; emitted = as_number (is_in a ar.emitted && is_in b ar.emitted); form = 1; site = a; other = b }
+counted_score ar (loop_test s) n = record { count = n; emitted = as_number (is_in s ar.emitted); form = 2; site = s; other = 0 }
 
 -- the test that is made at a place: the greatest one, where it covers some rule; and where none does, none
 abbrev pub IsChosen : SiteSet → Around → List ℕ → Option Tests.Test → Type 0

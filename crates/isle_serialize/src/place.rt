@@ -1,13 +1,13 @@
 //! A place of a tree, and the set that the tree is made of.
 
 ghost use Rattle.isle_rule_sets.specs.SiteViews.{set_view};
-ghost use Rattle.isle_serialize.specs.AroundViews.{around_view, IsKnown};
+ghost use Rattle.isle_serialize.specs.AroundViews.{around_view, IsNaming};
 ghost use Rattle.isle_serialize.specs.FieldTests.{AreFields};
 ghost use Rattle.isle_serialize.specs.Growing.{CanGrow};
 
-use crate::around::{Around, Known};
+use crate::around::Around;
 use crate::fields::Fields;
-use isle_rule_sets::trie_again::RuleSet;
+use isle_rule_sets::trie_again::{BindingId, RuleSet};
 
 /// A set of which a tree can be grown, and its fields by their sources. All places of the tree share it.
 #[derive(Clone, Copy)]
@@ -27,7 +27,7 @@ pub struct Place<'a> {
     pub indexed: IndexedSet<'a>,
     /// What stands around the place.
     pub around: &'a Around,
-    /// What is looked up of it.
-    pub known: &'a Known,
-    pub ghost is_known: { IsKnown (around_view around.now) known.now },
+    /// The names of the classes of all sites that equalities around joined.
+    pub names: &'a [(BindingId, BindingId)],
+    pub ghost are_names: { IsNaming (around_view around.now).joined names.now },
 }

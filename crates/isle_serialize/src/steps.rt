@@ -1,16 +1,17 @@
 //! The test steps of a place: which test comes next, and what its step binds, covers and leaves.
 
-ghost use Rattle.std.specs.Prelude.{◌≡◌, IfOk, IsTrue, option_map};
+ghost use Rattle.std.specs.Prelude.{◌≡◌, IfOk, IsTrue, OnOk, option_map};
 ghost use Rattle.model.specs.trees.Best.{descend};
-ghost use Rattle.isle_serialize.specs.AroundViews.{around_view, AreEmitted};
+ghost use Rattle.model.specs.trees.Places as Places;
+ghost use Rattle.isle_serialize.specs.AroundViews.{around_view};
+ghost use Rattle.isle_serialize.specs.Changes.{Emits, IsKept};
 ghost use Rattle.isle_serialize.specs.FieldTests.{HasIterator, IsIteratorOf};
 ghost use Rattle.isle_serialize.specs.Growing.{test_sites, AreEmittedBy, IsNext};
 ghost use Rattle.isle_serialize.specs.PlaceViews.{around_at, set_at, set_in};
 ghost use Rattle.isle_serialize.specs.TestViews.{test_view, AreUseful, IsChosen};
 
-use crate::around::{Around, known_of};
-use crate::binds::{bind_order, sources_of};
-use crate::bodies::emitted_after;
+use crate::around::{Around, class_names};
+use crate::binds::{bind, sources_of};
 use crate::fields::iterator_of;
 use crate::open_tests::useful_tests;
 use crate::place::{IndexedSet, Place};
@@ -23,56 +24,45 @@ use std::alloc::{AllocError, Global};
 pub struct NextTest {
     /// The test.
     pub test: Test,
-    /// What its step binds first.
-    pub binds: Vec<BindingId>,
     /// The rules that it covers: its step holds these.
     pub covered: Vec<usize>,
     /// The other rules of the place: they are left for the steps behind it.
     pub others: Vec<usize>,
-    /// The sites that are emitted after it.
-    pub emitted: Vec<BindingId>,
 }
 
-fn sites_of(alloc: Global, test: &Test) -> Result<Vec<BindingId>, AllocError>
-    ensures { IfOk result (λ v. v.items ≡ test_sites (test_view test.now)) }
-{
-    let mut sites = Vec::new(alloc);
-    match test {
-        Test::Match { source } | Test::Loop { source } => sites.push(*source)?,
-        Test::Equal { a, b } => {
-            sites.push(*a)?;
-            sites.push(*b)?;
-        }
-    }
-    Ok(sites)
-}
-
-// The sites that are emitted once these are used too.
-fn used_too(
+/// What is bound before the step of a test. What the test emits is emitted then.
+pub fn bind_test(
     alloc: Global,
-    place: &Place<'_>,
-    used: &[BindingId],
+    indexed: &IndexedSet<'_>,
+    around: &mut Around,
+    test: &Test,
 ) -> Result<Vec<BindingId>, AllocError>
-    ensures { IfOk result (λ v. AreEmitted (set_at place.now) (around_at place.now) used.now v.items) }
-{
-    emitted_after(
-        alloc,
-        &place.indexed,
-        &place.around.emitted,
-        &place.known.emitted,
-        used,
-    )
-}
-
-// The sites that are emitted after a test.
-fn emitted_by(alloc: Global, place: &Place<'_>, test: &Test) -> Result<Vec<BindingId>, AllocError>
-    ensures { IfOk result (λ v. AreEmittedBy (set_at place.now) (around_at place.now) (test_view test.now) v.items) }
+    requires { IsKept (set_in indexed.now).sites around.old }
+    ensures binds { IfOk result (λ v. v.items ≡ Places.bind_order (set_in indexed.now).sites (around_view around.old) (test_sites (test_view test.now))) }
+    ensures emitted { OnOk result (AreEmittedBy (set_in indexed.now) (around_view around.old) (test_view test.now) around.new.emitted) }
+    ensures emits { OnOk result (Emits around.old around.new) }
+    ensures kept { OnOk result (IsKept (set_in indexed.now).sites around.new) }
 {
     match test {
-        Test::Match { source } => used_too(alloc, place, &[*source]),
-        Test::Equal { a, b } => used_too(alloc, place, &[*a, *b]),
+        Test::Match { source } => {
+            let used = [*source];
+            bind(alloc, indexed, around, &used, &used)
+        }
+        Test::Equal { a, b } => {
+            let used = [*a, *b];
+            bind(alloc, indexed, around, &used, &used)
+        }
         // the call itself may be bound again, so that its sources alone are emitted
-        Test::Loop { source } => used_too(alloc, place, sources_of(place.indexed.set, *source)),
+        Test::Loop { source } => {
+            let call = [*source];
+            bind(
+                alloc,
+                indexed,
+                around,
+                &call,
+                sources_of(indexed.set, *source),
+            )
+        }
     }
 }
 
@@ -110,25 +100,20 @@ pub fn next_test(
     if here.is_empty() {
         return Ok(None);
     }
-    let known = known_of(alloc, around)?;
+    let names = class_names(alloc, around)?;
     let place = Place {
         indexed: *indexed,
         around,
-        known: &known,
+        names: &names,
     };
     let Some(test) = chosen_test(alloc, &place, here)? else {
         return Ok(None);
     };
-    let sites = sites_of(alloc, &test)?;
     let (covered, others) = parted(alloc, indexed.set, here, &test)?;
-    let emitted = emitted_by(alloc, &place, &test)?;
-    let mut settled = known.emitted;
     Ok(Some(NextTest {
         test,
-        binds: bind_order(alloc, indexed, around, &mut settled, &sites)?,
         covered,
         others,
-        emitted,
     }))
 }
 

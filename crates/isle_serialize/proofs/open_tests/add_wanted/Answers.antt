@@ -20,5 +20,8 @@ returns c =
     let old = c.args.tests.now.items in
     let mid = c.add_matches.new.tests.items in
     let new = c.add_equalities.new.tests.items in
-    adds_as set ar (λ u. IsMatchOf r u ⊎ IsEqualOf r u) (IsWanted set.rules i) old new (wanted_of set ar i r at)
-    (adds_both set ar (IsMatchOf r) (IsEqualOf r) old mid new c.in_ok-add_matches.ensures c.in_ok-add_equalities.ensures)
+    record {
+      adds = adds_as set ar (λ u. IsMatchOf r u ⊎ IsEqualOf r u) (IsWanted set.rules i) old new (wanted_of set ar i r at)
+          (adds_both set ar (IsMatchOf r) (IsEqualOf r) old mid new c.in_ok-add_matches.ensures.adds c.in_ok-add_equalities.ensures.adds);
+      found = c.in_ok-add_equalities.ensures.found;
+    }
