@@ -20,7 +20,7 @@ use Rattle.isle_serialize.specs.declared.around.Around.{Around}
 use Rattle.isle_serialize.specs.declared.arms.NextArm.{NextArm}
 use Rattle.isle_serialize.specs.declared.serialize.MatchArm.{MatchArm}
 use Rattle.isle_serialize.specs.AroundViews.{around_view, brings}
-use Rattle.isle_serialize.specs.Changes.{IsAfter}
+use Rattle.isle_serialize.specs.Changes.{IsAfter as IsAfterTest}
 use Rattle.isle_serialize.specs.declared.arms.Asked.{Asked}
 use Rattle.isle_serialize.specs.Growing.{IsBestFrom, AreBestArms, IsStepOf}
 use Rattle.isle_serialize.specs.ArmOrder.{constraint_asked, asked_at, asks, asks_some, asked_constraint, asked_numbers, AreTurns, AreInTurn, IsNextArm}
@@ -54,7 +54,7 @@ pub record ArmsGrow (set : SiteSet) (now : Places.Around) (s : ℕ) (here : List
   pub ordered : (a : Asked) → descend set.rules (filter (asks set.rules s (asked_constraint a)) (asked_numbers left)) ≡ true
   pub last : Option Constraint
   pub later : (i : ℕ) (c : Constraint) → Contains (asked_numbers left) i → asked_at set.rules s i ≡ Some c → IsAfter last c
-  pub far : (ar : Places.Around) → IsAfter set ar (match_test s) now → (t : Arms) → AreBestArms set ar s last (asked_numbers left) t → AreBestArms set ar s None here (arms_before arms t)
+  pub far : (ar : Places.Around) → IsAfterTest set ar (match_test s) now → (t : Arms) → AreBestArms set ar s last (asked_numbers left) t → AreBestArms set ar s None here (arms_before arms t)
 
 -- rules of one constraint that stand in order do so behind some
 ordered_behind : (rules : List SetRule) (p : ℕ → Bool) (k : ℕ) (xs : List Asked) → descend rules (filter p (asked_numbers xs)) ≡ true → descend rules (filter p (asked_numbers (drop k xs))) ≡ true
@@ -148,6 +148,6 @@ module _ (set : SiteSet) (around : Around) (s : ℕ) (here : List ℕ) where
         other i k = from_filter (λ i. not (mine i)) (asked_numbers left) i (subst (λ l. Contains l i) others k)
 
   -- where no rule is left, all arms are made
-  pub arms_whole : (left : List Asked) (arms : List MatchArm) → asked_numbers left ≡ [] → ArmsGrow set now s here left arms → (ar : Places.Around) → IsAfter set ar (match_test s) now → AreBestArms set ar s None here (arms_view arms)
+  pub arms_whole : (left : List Asked) (arms : List MatchArm) → asked_numbers left ≡ [] → ArmsGrow set now s here left arms → (ar : Places.Around) → IsAfterTest set ar (match_test s) now → AreBestArms set ar s None here (arms_view arms)
   arms_whole left arms none g ar after =
       subst (AreBestArms set ar s None here) (arms_end arms) (g.far ar after no_arm (subst (λ l. AreBestArms set ar s g.last l no_arm) (sym none) (no_arms set ar s g.last)))

@@ -1,8 +1,11 @@
 -- The bar of a test, and what it says of the test's cover.
-use Rattle.std.proofs.Common.{◌≡◌, ℕ, Bool, true, false, not, ◌&&◌, ◌||◌, cond, List, [], ◌∷◌, Option, Some, Contains, refl, sym, ap, ◌∙◌, subst, inl, inr, slice_get, length, take, drop, zero, suc, ◌+◌, None, arith}
+use Rattle.std.proofs.Common.{◌≡◌, ℕ, Bool, true, false, not, ◌&&◌, ◌||◌, cond, List, [], ◌∷◌, Option, Some, Contains, refl, sym, ap, ◌∙◌, subst, inl, inr, slice_get, length, take, drop, zero, suc, ◌+◌, ◌-◌, ◌<◌, ◌≤◌, None, get_or, arith}
 use Rattle.std.specs.List.{filter, find, list_all, list_any, prefix_len}
 use Rattle.std.proofs.lemmas.Bool.{cases_Bool, cond-true, cond-false, and_parts, and_from, false≢true, or_cases, or_left, or_right}
 use Rattle.std.proofs.Math.Bool.{and-true, and-false}
+use Rattle.std.proofs.lemmas.List.{length-drop, take_all}
+use Rattle.std.proofs.lemmas.List.Filters.{length-filter_both}
+use Rattle.std.proofs.lemmas.Option.{slice_get-get_or}
 use Rattle.model.specs.sites.Sites.{SetRule}
 use Rattle.model.specs.trees.Best.{descend}
 use Rattle.model.specs.trees.Tests.{Test, needs_at, is_lower, is_covered, cover}
@@ -166,15 +169,34 @@ module _ (rules : List SetRule) where
   descend_behind (suc n) [] o = o
   descend_behind (suc n) (x ∷ xs) o = descend_behind n xs (descend_rest rules x xs o)
 
-  pub covered_count : (here : List ℕ) (t : Test) (b n reaching count : ℕ) → descend rules here ≡ true → n ≡ leading t here → slice_get here n ≡ Some b
+  counted_at : (here : List ℕ) (t : Test) (b n reaching count : ℕ) → descend rules here ≡ true → n ≡ leading t here → slice_get here n ≡ Some b
       → reaching ≡ prefix_len (reaches rules (Some b)) (drop (n + 1) here) → count ≡ length (filter (needs_at rules t) (take reaching (drop (n + 1) here)))
       → n + count ≡ length (cover rules here t)
-  covered_count here t b n reaching count o e s f g =
+  counted_at here t b n reaching count o e s f g =
       let behind = drop (n + 1) here in
       let counted : count ≡ length (needing_at t b behind) = g ∙ ap length (ap (λ k. filter (needs_at rules t) (take k behind)) f ∙ ap (filter (needs_at rules t)) (reaching_first rules (Some b) behind (descend_behind (n + 1) here o))) in
       let whole = counted_behind t b here n o e s in
       let covers = ap length (needing_reach here t (Some b) (behind_is_bar t here b n o e s)) in
       omega (arith, counted, whole, covers)
+
+  -- the rules behind the bar, as they are cut out of those here
+  abbrev pub behind_bar : ℕ → List ℕ → List ℕ
+  behind_bar n here = take (length here - (n + 1)) (drop (n + 1) here)
+
+  all_behind : (n : ℕ) (here : List ℕ) → behind_bar n here ≡ drop (n + 1) here
+  all_behind n here = let many = length-drop (n + 1) here in take_all (length here - (n + 1)) (drop (n + 1) here) (omega (arith, many))
+
+  pub covered_count : (here : List ℕ) (t : Test) (bar : Option ℕ) (n reaching count : ℕ) → descend rules here ≡ true → n ≡ leading t here → n < length here → bar ≡ slice_get here n
+      → reaching ≡ prefix_len (reaches rules bar) (behind_bar n here) → count ≡ length (filter (needs_at rules t) (take reaching (behind_bar n here)))
+      → n + count ≡ length (cover rules here t)
+  covered_count here t bar n reaching count o e l s f g =
+      let b = get_or here n 0 in
+      let at : slice_get here n ≡ Some b = slice_get-get_or here n 0 l in
+      counted_at here t b n reaching count o e at (f ∙ ap (prefix_len (reaches rules bar)) (all_behind n here) ∙ ap (λ x. prefix_len (reaches rules x) (drop (n + 1) here)) (s ∙ at))
+      (g ∙ ap (λ xs. length (filter (needs_at rules t) (take reaching xs))) (all_behind n here))
+
+  pub covers_most : (here : List ℕ) (t : Test) → length (cover rules here t) ≤ length here
+  covers_most here t = let both = length-filter_both (is_covered rules here t) (λ i. not (is_covered rules here t i)) (λ i. refl) here in omega (arith, both)
 
   -- 4. what none of the highest rules needs covers no rule
   abbrev highest_of : ℕ → List ℕ → List ℕ

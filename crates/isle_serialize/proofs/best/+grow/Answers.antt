@@ -21,8 +21,8 @@ use Rattle.isle_serialize.proofs.UntriedTests.{untried}
 use Rattle.isle_serialize.proofs.best.+grow.Goals as goal
 
 -- blocks
-pub block_of-loop-around-init : goal.block_of-loop-around-init
-block_of-loop-around-init t c = record {
+pub block_of-loop-left-init : goal.block_of-loop-left-init
+block_of-loop-left-init t c = record {
   grows = record {
     ordered = c.requires.order;
     as_many = refl;
@@ -35,9 +35,9 @@ block_of-loop-around-init t c = record {
 pub block_of-check_of-requires : goal.block_of-check_of-requires
 block_of-check_of-requires t c =
     let set = set_in c.args.indexed.now in
-    let now = c.loop-around.around in
+    let now = c.loop-left.around in
     let ar = around_view now in
-    let left = c.loop-around.left.items in
+    let left = c.loop-left.left.items in
     let next = c.in-Some.next in
     let bound = c.bind_test.new.around in
     let emits = c.in_ok-bind_order.ensures.emits in
@@ -45,22 +45,22 @@ block_of-check_of-requires t c =
     let step = subst (λ v. IsStepOf set v (test_view next.test) next.covered.items) (sym (emits_view now bound emits)) (step_emitted set ar bound.emitted (test_view next.test) next.covered.items (covered_step set ar left next h)) in
     let alike = emits_alike set now bound (test_emits set (test_view next.test)) emits c.in_ok-bind_order.ensures.emitted in
     let same : untried (length set.sites) (around_view bound) ≡ untried (length set.sites) (around_view c.args.around.now) =
-    untried_after set ar (around_view bound) (test_emits set (test_view next.test)) alike ∙ c.loop-around.invariant.grows.as_many in
-    (search (rules, arith, same), (covered_ordered set ar left next h c.loop-around.invariant.grows.ordered, (step, c.in_ok-bind_order.ensures.kept)))
+    untried_after set ar (around_view bound) (test_emits set (test_view next.test)) alike ∙ c.loop-left.invariant.grows.as_many in
+    (search (rules, arith, same), (covered_ordered set ar left next h c.loop-left.invariant.grows.ordered, (step, c.in_ok-bind_order.ensures.kept)))
 
-pub block_of-loop-around-smaller : goal.block_of-loop-around-smaller
-block_of-loop-around-smaller t c =
+pub block_of-loop-left-smaller : goal.block_of-loop-left-smaller
+block_of-loop-left-smaller t c =
     let set = set_in c.args.indexed.now in
-    let ar = around_view c.loop-around.around in
+    let ar = around_view c.loop-left.around in
     let next = c.in-Some.next in
     let h = subst (λ l. IsNextTest set ar l next) c.deref.ensures.value (subst (IsNext set ar c.deref.result.now) c.in-Some.is c.in_ok-next.ensures) in
-    fewer_others set ar c.loop-around.left.items next h
+    fewer_others set ar c.loop-left.left.items next h
 
-pub block_of-loop-around-preserved : goal.block_of-loop-around-preserved
-block_of-loop-around-preserved t c =
+pub block_of-loop-left-preserved : goal.block_of-loop-left-preserved
+block_of-loop-left-preserved t c =
     let set = set_in c.args.indexed.now in
     let start = c.args.around.now in
-    let now = c.loop-around.around in
+    let now = c.loop-left.around in
     let ar = around_view now in
     let next = c.in-Some.next in
     let bound = c.bind_test.new.around in
@@ -72,9 +72,9 @@ block_of-loop-around-preserved t c =
     let alike = emits_alike set now bound used e.emits e.emitted in
     let after = subst (λ v. Alike v (after_uses set ar used)) (sym (same_view bound checked back)) alike in
     record {
-      grows = block_more set (around_view start) c.args.here.items ar (around_view checked) c.loop-around.left.items next c.loop-around.steps.items c.push.new.self.items
-          (record { bind_order = c.in_ok-bind_order.bind_order; check = c.in_ok-check.check }) h after e.binds (c.in_ok-check.ensures.best ar alike) c.in_ok-push.ensures.items c.loop-around.invariant.grows;
-      emits = emits_back start bound checked (emits_more start now bound c.loop-around.invariant.emits e.emits) back;
+      grows = block_more set (around_view start) c.args.here.items ar (around_view checked) c.loop-left.left.items next c.loop-left.steps.items c.push.new.self.items
+          (record { bind_order = c.in_ok-bind_order.bind_order; check = c.in_ok-check.check }) h after e.binds (c.in_ok-check.ensures.best ar alike) c.in_ok-push.ensures.items c.loop-left.invariant.grows;
+      emits = emits_back start bound checked (emits_more start now bound c.loop-left.invariant.emits e.emits) back;
       kept = kept_back set.sites bound checked back e.kept;
     }
 
@@ -82,18 +82,18 @@ pub block_of-returns-clause-best : goal.block_of-returns-clause-best
 block_of-returns-clause-best t c =
     let set = set_in c.args.indexed.now in
     let start = around_view c.args.around.now in
-    let ar = around_view c.loop-around.around in
-    let left = c.loop-around.left.items in
+    let ar = around_view c.loop-left.around in
+    let left = c.loop-left.left.items in
     let over = subst (λ l. IsChosen set ar l None) c.deref.ensures.value (subst (IsNext set ar c.deref.result.now) c.in_default.is c.in_ok-next.ensures) in
     let ends = subst (λ l. AreEnds set ar l (steps_view c.in_ok-ends.ends.items)) c.deref-2.ensures.value c.in_ok-ends.ensures.ends in
     subst (IsBestFrom set start c.args.here.items) (sym (block_seen c.append.new.self))
-    (block_whole set start c.args.here.items ar left c.loop-around.steps.items c.in_ok-ends.ends.items c.append.new.self.items over ends c.in_ok-append.ensures.items c.loop-around.invariant.grows)
+    (block_whole set start c.args.here.items ar left c.loop-left.steps.items c.in_ok-ends.ends.items c.append.new.self.items over ends c.in_ok-append.ensures.items c.loop-left.invariant.grows)
 
 pub block_of-returns-clause-back : goal.block_of-returns-clause-back
 block_of-returns-clause-back t c =
-    let now = c.loop-around.around in
+    let now = c.loop-left.around in
     let ends = c.returns_of.new.around in
-    emits_cut c.args.around.now ends c.go_back.new.self c.mark-start.result c.mark-start.ensures (emits_more c.args.around.now now ends c.loop-around.invariant.emits c.in_ok-ends.ensures.emits) c.go_back.ensures
+    emits_cut c.args.around.now ends c.go_back.new.self c.mark-start.result c.mark-start.ensures (emits_more c.args.around.now now ends c.loop-left.invariant.emits c.in_ok-ends.ensures.emits) c.go_back.ensures
 
 -- arms
 pub arms_of-loop-arms-init : goal.arms_of-loop-arms-init

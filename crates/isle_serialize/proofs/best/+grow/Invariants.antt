@@ -22,15 +22,15 @@ decreases-body_of l = 4 * untried (length (set_in l.indexed.now).sites) (around_
 abbrev pub decreases-joined_body : goal.decreases-joined_body
 decreases-joined_body l = 4 * untried (length (set_in l.indexed.now).sites) (around_view l.around.now)
 
-abbrev pub invariant-block_of-loop-around : goal.invariant-block_of-loop-around
-invariant-block_of-loop-around l = record {
+abbrev pub invariant-block_of-loop-left : goal.invariant-block_of-loop-left
+invariant-block_of-loop-left l = record {
   grows : BlockGrows (set_in l.indexed) (around_view l.fn.around) l.fn.here.items (around_view l.around) l.left.items l.steps.items;
   emits : Emits l.fn.around l.around;
   kept : IsKept (set_in l.indexed).sites l.around;
 }
 
-abbrev pub decreases-block_of-loop-around : goal.decreases-block_of-loop-around
-decreases-block_of-loop-around l = length l.left.items
+abbrev pub decreases-block_of-loop-left : goal.decreases-block_of-loop-left
+decreases-block_of-loop-left l = length l.left.items
 
 abbrev pub invariant-arms_of-loop-arms : goal.invariant-arms_of-loop-arms
 invariant-arms_of-loop-arms l = record {

@@ -1,4 +1,4 @@
-use Rattle.std.proofs.Common.{◌∙◌, sym, ap, arith}
+use Rattle.std.proofs.Common.{◌∙◌, length, refl, sym, ap}
 use Rattle.model.specs.trees.Tests.{is_greater}
 use Rattle.isle_serialize.specs.PlaceViews.{around_at, set_at}
 use Rattle.isle_serialize.specs.TestViews.{score_view, test_view}
@@ -12,4 +12,4 @@ returns c h =
     let here = c.args.here.now in
     let t = test_view c.args.test.now in
     let most = ap (λ x. is_greater x (score_view c.args.best)) (sym c.score_by-most.ensures) ∙ sym c.is_greater.ensures ∙ not_flipped c.is_greater.result h in
-    below_bound set ar here t (score_view c.args.best) c.len.result (omega arith) most
+    below_bound set ar here t (score_view c.args.best) (length here) refl most
