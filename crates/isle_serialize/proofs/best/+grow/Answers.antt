@@ -151,9 +151,9 @@ arms_of-loop-arms-preserved t c =
     let left = c.loop-arms.left.now in
     let h = subst (IsNextArmOf set c.args.source (asked_numbers left)) c.in-Some.is c.in_ok-next.ensures in
     let many : c.len-asking.result ≡ length next.asking.items = omega (arith, c.len-asking.ensures, next.asking.ok.0) in
-    let sites = c.deref-4.ensures.value ∙ c.in_ok-sites.ensures ∙ ap field_sites c.deref-3.ensures.value in
+    let sites = c.deref-in-Some-2.ensures.value ∙ c.in_ok-sites.ensures ∙ ap field_sites c.deref-in-Some.ensures.value in
     let best = subst (λ l. IsBestFrom set (brings (around_view start) c.args.source l) next.asking.items (tree_view body)) sites
-    (subst (λ v. IsBestFrom set (brings v c.args.source c.deref-4.result.now) next.asking.items (tree_view body)) (same_view start now back) c.in_ok-body.ensures.best) in
+    (subst (λ v. IsBestFrom set (brings v c.args.source c.deref-in-Some-2.result.now) next.asking.items (tree_view body)) (same_view start now back) c.in_ok-body.ensures.best) in
     record {
       grows = subst (λ l. ArmsGrow set (around_view start) c.args.source here l c.push.new.self.items) (sym (c.behind-left-in-Some.ensures ∙ ap (λ n. drop n left) many))
           (arms_more set start c.args.source here left next h c.loop-arms.arms.items c.push.new.self.items
