@@ -1,0 +1,4 @@
+pub mod HeldPasses
+pub mod HeldViews
+pub mod CodeViews
+pub mod Labels
