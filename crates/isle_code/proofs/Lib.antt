@@ -1,6 +1,4 @@
 pub mod CodeBridges
-mod CodeShapes
 mod HeldPasses
 mod UseSteps
 mod StatementSteps
-mod BlockSteps

@@ -1,4 +1,3 @@
+pub mod CodeViews
 pub mod HeldPasses
 pub mod HeldViews
-pub mod CodeViews
-pub mod Labels

@@ -1,8 +1,7 @@
-//! Generated code as data.
+//! Generated code as data: what a function does that is made of a term's tree.
 #![tactic(auto)]
 
 mod binds;
-mod blocks;
 pub mod code;
 pub mod held;
 pub mod stage;

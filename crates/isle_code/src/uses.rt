@@ -107,11 +107,7 @@ fn is_written(place: &Place) -> bool
 fn kept(free: bool) -> Pass
     ensures { pass_view result ≡ keep_or_clone free }
 {
-    if free {
-        Pass::AsItIs
-    } else {
-        Pass::Cloned
-    }
+    if free { Pass::AsItIs } else { Pass::Cloned }
 }
 
 // How one of two values is handed on that are compared: both are references, or neither.
