@@ -2,3 +2,5 @@ pub mod CodeBridges
 mod HeldPasses
 mod UseSteps
 mod StatementSteps
+mod CodeShapes
+mod BlockSteps

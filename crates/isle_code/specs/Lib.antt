@@ -1,3 +1,4 @@
 pub mod CodeViews
 pub mod HeldPasses
 pub mod HeldViews
+pub mod Labels

@@ -5,4 +5,5 @@ mod binds;
 pub mod code;
 pub mod held;
 pub mod stage;
+mod tests;
 mod uses;
