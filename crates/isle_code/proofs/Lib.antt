@@ -4,3 +4,4 @@ mod UseSteps
 mod StatementSteps
 mod CodeShapes
 mod BlockSteps
+mod WellMadeCode

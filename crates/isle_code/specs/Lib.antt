@@ -2,3 +2,5 @@ pub mod CodeViews
 pub mod HeldPasses
 pub mod HeldViews
 pub mod Labels
+pub mod CodeOf
+pub mod WellMadeCode

@@ -2,8 +2,11 @@
 #![tactic(auto)]
 
 mod binds;
+mod blocks;
 pub mod code;
+pub mod code_of;
 pub mod held;
+pub mod laws;
 pub mod stage;
 mod tests;
 mod uses;
