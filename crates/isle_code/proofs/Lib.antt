@@ -5,3 +5,4 @@ mod StatementSteps
 mod CodeShapes
 mod BlockSteps
 mod WellMadeCode
+mod SiteHolds

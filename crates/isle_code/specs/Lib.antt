@@ -4,3 +4,5 @@ pub mod HeldViews
 pub mod Labels
 pub mod CodeOf
 pub mod WellMadeCode
+pub mod SeenTypes
+pub mod SiteHolds

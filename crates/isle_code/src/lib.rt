@@ -9,4 +9,5 @@ pub mod held;
 pub mod laws;
 pub mod stage;
 mod tests;
+pub mod types;
 mod uses;
