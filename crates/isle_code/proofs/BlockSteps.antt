@@ -169,7 +169,7 @@ module _ (sites : List Site) (p : Passes) where
   arms_whole source (a ∷ []) n h = absurd (h refl)
   arms_whole source (a ∷ (b ∷ arms)) n h =
       let two : arms_view (a ∷ (b ∷ arms)) ≡ arm (constraint_view (out-MatchArm a).constraint) (out-MatchArm a).bindings.items (tree_view (out-MatchArm a).body) (arm (constraint_view (out-MatchArm b).constraint) (out-MatchArm b).bindings.items (tree_view (out-MatchArm b).body) (arms_view arms)) =
-        arm_is a (arms_view (b ∷ arms)) ∙ ap (arm (constraint_view (out-MatchArm a).constraint) (out-MatchArm a).bindings.items (tree_view (out-MatchArm a).body)) (arm_is b (arms_view arms)) in
+      arm_is a (arms_view (b ∷ arms)) ∙ ap (arm (constraint_view (out-MatchArm a).constraint) (out-MatchArm a).bindings.items (tree_view (out-MatchArm a).body)) (arm_is b (arms_view arms)) in
       ap (λ k. statement (flat_at (check_code (match_at source k) sites p) is_deep n) no_statement) two ∙ ap (λ k. leaving_last (check_code (match_at source k) sites p) is_deep n) (sym two)
 
   pub many_arms_last : (check : ControlFlow) (source : ℕ) (arms : Vec MatchArm Global) (n : ℕ) → check ≡ Match source arms → (length arms.items ≡ 1 → ⊥) → kept_whole check n ≡ last_of check n

@@ -31,12 +31,7 @@ pub(crate) fn matched(stage: &Stage<'_>, source: BindingId, arms: Vec<CodeArm>) 
 
 /// A comparison of two sites.
 #[tactic(auto, using(crate::proofs::CodeBridges::code_steps))]
-pub(crate) fn compared(
-    stage: &Stage<'_>,
-    a: BindingId,
-    b: BindingId,
-    body: CodeBlock,
-) -> Statement
+pub(crate) fn compared(stage: &Stage<'_>, a: BindingId, b: BindingId, body: CodeBlock) -> Statement
     ensures { statement_view result
         ≡ if_equal (use_at (site_views stage.now.sites.now) (passes_in stage.now) (to_compare b) a)
         (use_at (site_views stage.now.sites.now) (passes_in stage.now) (to_compare a) b) (block_view body) }
