@@ -8,7 +8,7 @@ use Rattle.isle_reader.specs.Pieces.{size}
 use Rattle.isle_reader.specs.Lexing.{Tokens, Mode, between, in_line, opened, in_block, signed, in_name, in_constant, step, run, reached}
 use Rattle.isle_reader.proofs.Dividing.{at, width, bind_twice, bind_same, past}
 
-run_past : (file end : ℕ) (front rest : List ℕ) (m : Mode) (o : ℕ) (done : Tokens)
+pub run_past : (file end : ℕ) (front rest : List ℕ) (m : Mode) (o : ℕ) (done : Tokens)
     → run file end m o (front ++ rest) done ≡ reached file end m o front done >>= (λ s. run file end s.0 (o + size front) rest s.1)
 unfolding run
 run_past file end [] rest m o done = ap (λ k. run file end m k rest done) (sym (add-zero o))
@@ -18,7 +18,7 @@ run_past file end (c ∷ cs) rest m o done =
     ∙ sym (bind_twice (step end m (at file o) c done) (λ s. reached file end s.0 (o + width c) cs s.1) (λ t. run file end t.0 (o + size (c ∷ cs)) rest t.1))
 
 -- the text's end plays no part before it comes
-step_anywhere : (a b : ℕ) (m : Mode) (p : Position) (c : ℕ) (done : Tokens) → step a m p c done ≡ step b m p c done
+pub step_anywhere : (a b : ℕ) (m : Mode) (p : Position) (c : ℕ) (done : Tokens) → step a m p c done ≡ step b m p c done
 step_anywhere a b between p c done = refl
 step_anywhere a b in_line p c done = refl
 step_anywhere a b (opened o) p c done = refl
@@ -27,7 +27,7 @@ step_anywhere a b (signed s) p c done = refl
 step_anywhere a b (in_name n) p c done = refl
 step_anywhere a b (in_constant n s) p c done = refl
 
-reached_anywhere : (file a b : ℕ) (front : List ℕ) (m : Mode) (o : ℕ) (done : Tokens) → reached file a m o front done ≡ reached file b m o front done
+pub reached_anywhere : (file a b : ℕ) (front : List ℕ) (m : Mode) (o : ℕ) (done : Tokens) → reached file a m o front done ≡ reached file b m o front done
 reached_anywhere file a b [] m o done = refl
 reached_anywhere file a b (c ∷ cs) m o done =
     ap (λ r. r >>= (λ s. reached file a s.0 (o + width c) cs s.1)) (step_anywhere a b m (at file o) c done)

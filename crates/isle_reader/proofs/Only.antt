@@ -32,7 +32,7 @@ module _ (file end : ℕ) where
   name_runs (c ∷ more) rest o n done a e =
       let h = and_parts (is_in_word c) (list_all is_in_word more) a in
       rw h.0 (name_runs more rest (o + width c) (with_char n c) done h.1 e
-      ∙ ap (λ m. (word_token m >>= (λ t. Ok (done ++ t ∷ []))) >>= run file end between ((o + width c) + size more) rest) (grown_name file end n c more)
+      ∙ ap (λ m. (word_token m >>= (λ t. Ok (done ++ t ∷ []))) >>= run file end between ((o + width c) + size more) rest) (grown_name n c more)
       ∙ ap (λ k. (word_token (record n { text = n.text ++ encode_utf8_all (c ∷ more) }) >>= (λ t. Ok (done ++ t ∷ []))) >>= run file end between k rest) (past o c more))
 
   constant_ends : (rest : List ℕ) (o : ℕ) (n : Name) (s : Position) (done : Tokens) → ends_word rest ≡ true → run file end (in_constant n s) o rest done ≡ run file end between o rest (done ++ constant n s ∷ [])
@@ -47,7 +47,7 @@ module _ (file end : ℕ) where
   constant_runs (c ∷ more) rest o n s done a e =
       let h = and_parts (is_in_word c) (list_all is_in_word more) a in
       rw h.0 (constant_runs more rest (o + width c) (with_char n c) s done h.1 e
-      ∙ ap (λ m. run file end between ((o + width c) + size more) rest (done ++ constant m s ∷ [])) (grown_name file end n c more)
+      ∙ ap (λ m. run file end between ((o + width c) + size more) rest (done ++ constant m s ∷ [])) (grown_name n c more)
       ∙ ap (λ k. run file end between k rest (done ++ constant (record n { text = n.text ++ encode_utf8_all (c ∷ more) }) s ∷ [])) (past o c more))
 
   line_ends_there : (rest : List ℕ) (o : ℕ) (done : Tokens) → ends_line rest ≡ true → run file end in_line o rest done ≡ run file end between o rest done

@@ -1,7 +1,7 @@
 -- Forms that are read one after another.
 use Rattle.std.proofs.Common.{◌≡◌, ℕ, suc, ◌+◌, ◌<◌, List, [], ◌∷◌, ◌++◌, drop, get_or, length, map, refl, sym, ap, subst, ◌∙◌, Result, Ok, Err, arith}
-use Rattle.std.proofs.lemmas.List.{append_assoc, append-nil, map-append}
-use Rattle.std.proofs.Math.Seq.{drop-cons, drop-length}
+use Rattle.std.proofs.lemmas.List.{append_assoc, map-append}
+use Rattle.std.proofs.Math.Seq.{drop-cons}
 use Rattle.isle_reader.specs.declared.forms.Form.{Form}
 use Rattle.isle_reader.specs.Lexemes.{Wrong, ◌>>=◌}
 use Rattle.isle_reader.specs.FormTrees.{FormTree, form_and}
@@ -13,13 +13,6 @@ module _ {A : Type 0} (one : FormTree → Result A Wrong) where
   abbrev pub IsReadOn : List Form → ℕ → List A → Type 0
   IsReadOn forms count read =
       each_of one (all_view forms) ≡ (each_of one (all_view (drop count forms)) >>= (λ rest. Ok (read ++ rest)))
-
-  same : (r : Result (List A) Wrong) → r ≡ (r >>= (λ rest. Ok ([] ++ rest)))
-  same (Ok xs) = refl
-  same (Err w) = refl
-
-  pub begun : (forms : List Form) → IsReadOn forms 0 []
-  begun forms = same (each_of one (all_view forms))
 
   -- the form that comes next, and the others
   parted : (forms : List Form) (n : ℕ) (f : Form) → n < length forms → f ≡ get_or forms n f
@@ -39,19 +32,6 @@ module _ {A : Type 0} (one : FormTree → Result A Wrong) where
       ∙ ap (λ fs. each_of one fs >>= (λ rest. Ok (read ++ rest))) (parted forms n f inside at)
       ∙ ap (λ r. (r >>= (λ y. each_of one (all_view (drop (suc n) forms)) >>= (λ xs. Ok (y ∷ xs)))) >>= (λ rest. Ok (read ++ rest))) is
       ∙ then read x (each_of one (all_view (drop (suc n) forms)))
-
-  pub failed : (forms : List Form) (n : ℕ) (read : List A) (f : Form) (w : Wrong) → n < length forms → f ≡ get_or forms n f
-      → one (form_view f) ≡ Err w → IsReadOn forms n read → each_of one (all_view forms) ≡ Err w
-  failed forms n read f w inside at is so_far =
-      so_far
-      ∙ ap (λ fs. each_of one fs >>= (λ rest. Ok (read ++ rest))) (parted forms n f inside at)
-      ∙ ap (λ r. (r >>= (λ y. each_of one (all_view (drop (suc n) forms)) >>= (λ xs. Ok (y ∷ xs)))) >>= (λ rest. Ok (read ++ rest))) is
-
-  pub done : (forms : List Form) (read : List A) → IsReadOn forms (length forms) read → each_of one (all_view forms) ≡ Ok read
-  done forms read so_far =
-      so_far
-      ∙ ap (λ fs. each_of one (all_view fs) >>= (λ rest. Ok (read ++ rest))) (drop-length forms)
-      ∙ ap Ok (append-nil read)
 
   -- one more is put behind them
   pub put : {X : Type 0} (view : X → A) (forms : List Form) (n : ℕ) (old new : List X) (f : Form) (x : X) → n < length forms → f ≡ get_or forms n f

@@ -1,34 +1,59 @@
--- What is read of a text is what it spells.
-use Rattle.std.proofs.Common.{◌≡◌, ℕ, List, [], ◌∷◌, map, Result, Ok, Err, IfOk, refl, ap, ◌∙◌, Vec}
-use Rattle.std.specs.declared.alloc.Global.{Global}
+-- A text spells definitions exactly where reading it gives them.
+use Rattle.std.proofs.Common.{◌≡◌, ℕ, ◌+◌, ◌≤◌, true, List, [], length, map, sym, ap, ◌∙◌, subst, arith}
+use Rattle.std.specs.Prelude.{Result, Ok, IfOk}
 use Rattle.std.specs.Str.{chars}
-use Rattle.isle_base.specs.declared.syntax.Def.{Def}
-use Rattle.isle_base.specs.SyntaxViews.{definition_views}
-use Rattle.isle_reader.specs.declared.errors.ReadFault.{ReadFault}
-use Rattle.isle_reader.specs.declared.forms.Form.{Form}
-use Rattle.isle_reader.specs.declared.tokens.Token.{Token}
-use Rattle.isle_reader.specs.FormTrees.{all_spelled}
-use Rattle.isle_reader.specs.FormViews.{all_view, erased, erased_tokens}
+use Rattle.model.specs.lists.Syntax.{Definition}
+use Rattle.isle_reader.specs.Lexemes.{Lexeme, Wrong, ◌>>=◌, erased}
+use Rattle.isle_reader.specs.FormTrees.{all_spelled, all_depth}
+use Rattle.isle_reader.specs.Forming.{forms_of}
+use Rattle.isle_reader.specs.PassedOver.{mark, AreMarked, dashes_are_passed_over}
 use Rattle.isle_reader.specs.Lexing.{tokens_after}
-use Rattle.isle_reader.specs.Pieces.{Piece, AreIn}
-use Rattle.isle_reader.specs.Views.{token_view, token_views, Gives}
-use Rattle.isle_reader.specs.Definitions.{definitions_of, Spells}
+use Rattle.isle_reader.specs.Pieces.{Piece, AreIn, pieces_of, size}
+use Rattle.isle_reader.specs.Definitions.{definitions_of, Spells, tokens_in, forms_in, reading}
+use Rattle.isle_reader.proofs.Dividing.{divided}
+use Rattle.isle_reader.proofs.Only.{only}
+use Rattle.isle_reader.proofs.Mistakes.{both_give}
+use Rattle.isle_reader.proofs.FoundForms.{forms_spelled, forms_shallow, forms_fine}
+use Rattle.isle_reader.proofs.OnlyForms.{forms_read}
+use Rattle.isle_reader.proofs.Marked.{marked, tokens_marked}
 
-views_erased : (ts : List Token) → erased_tokens ts ≡ map erased (token_views ts)
-views_erased [] = refl
-views_erased (t ∷ ts) = ap (λ ls. erased (token_view t) ∷ ls) (views_erased ts)
+if_ok : {A : Type 0} (P : A → Type 0) (r : Result A Wrong) (x : A) → r ≡ Ok x → IfOk r P → P x
+if_ok P r x e h = subst (λ s. IfOk s P) e h
 
-pub spelled_if_read : (file : ℕ) (text : List ℕ) (pieces : List Piece) (tokens : List Token) (forms : List Form) (result : Result (Vec Def Global) ReadFault)
-    → AreIn 0 (chars text) pieces → tokens_after file 0 pieces [] ≡ Ok (token_views tokens) → all_spelled (all_view forms) [] ≡ erased_tokens tokens
-    → Gives (λ ds. definition_views ds.items) result (definitions_of (all_view forms)) → IfOk result (λ ds. Spells file text (definition_views ds.items))
-spelled_if_read file text pieces tokens forms (Ok ds) are lexed spelled defined =
+text_marked : (file : ℕ) (pieces : List Piece) (tokens : List Lexeme) → tokens_after file 0 pieces [] ≡ Ok tokens → AreMarked tokens
+text_marked file pieces tokens lexed = if_ok AreMarked (tokens_after file 0 pieces []) tokens lexed (tokens_marked file 0 pieces [] tt)
+
+pub spelled_if_given : (file : ℕ) (text : List ℕ) (ds : List Definition) → reading file text ≡ Ok ds → Spells file text ds
+spelled_if_given file text ds e =
+    let end = length text in
+    let d = both_give (forms_in file text) definitions_of ds e in
+    let forms = d.0 in
+    let t = both_give (tokens_in file text) (forms_of file end) forms d.1 in
+    let tokens = t.0 in
     record {
-      pieces = pieces;
-      are = are;
-      tokens = token_views tokens;
-      lexed = lexed;
-      forms = all_view forms;
-      lists = spelled ∙ views_erased tokens;
-      defined = defined;
+      pieces = pieces_of (chars text);
+      are = divided (chars text);
+      tokens = tokens;
+      lexed = t.1;
+      forms = forms;
+      lists = if_ok (λ gs. all_spelled gs [] ≡ map erased tokens) (forms_of file end tokens) forms t.2 (forms_spelled file end tokens);
+      shallow = if_ok (λ gs. all_depth gs ≤ 1000) (forms_of file end tokens) forms t.2 (forms_shallow file end tokens);
+      dashes = if_ok (λ gs. dashes_are_passed_over gs ≡ true) (forms_of file end tokens) forms t.2 (forms_fine file end tokens (text_marked file (pieces_of (chars text)) tokens t.1));
+      defined = d.2;
     }
-spelled_if_read file text pieces tokens forms (Err e) are lexed spelled defined = tt
+
+-- whatever pieces a text is divided into, they give the same tokens
+pub tokens_given : (file : ℕ) (text : List ℕ) (pieces : List Piece) → AreIn 0 (chars text) pieces → tokens_in file text ≡ tokens_after file 0 pieces []
+tokens_given file text pieces are =
+    let whole = size (chars text) in
+    let none : 0 + whole ≡ whole = omega arith in
+    sym (only file whole (pieces_of (chars text)) 0 (chars text) [] none (divided (chars text))) ∙ only file whole pieces 0 (chars text) [] none are
+
+pub given_if_spelled : (file : ℕ) (text : List ℕ) (ds : List Definition) → Spells file text ds → reading file text ≡ Ok ds
+given_if_spelled file text ds s =
+    let end = length text in
+    let tokens = tokens_given file text s.pieces s.are ∙ s.lexed in
+    let forms = ap (forms_of file end) (sym (marked s.tokens (text_marked file s.pieces s.tokens s.lexed)) ∙ sym (ap (map mark) s.lists)) ∙ forms_read file end s.forms s.shallow s.dashes in
+    ap (λ r. (r >>= forms_of file end) >>= definitions_of) tokens
+    ∙ ap (λ r. r >>= definitions_of) forms
+    ∙ s.defined

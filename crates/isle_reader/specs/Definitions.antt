@@ -1,24 +1,18 @@
 -- Which definitions a text gives.
-use Rattle.std.specs.Prelude.{◌≡◌, ℕ, Bool, ◌||◌, List, [], codes, map, Result, Ok, Err, if◌then◌else◌}
-use Rattle.std.specs.Str.{bytes_eq, chars}
+use Rattle.std.specs.Prelude.{◌≡◌, ℕ, ◌≤◌, true, List, [], codes, length, map, Result, Ok, Err, ⊤, if◌then◌else◌}
+use Rattle.std.specs.Str.{chars}
 use Rattle.model.specs.lists.Syntax.{Name, Definition, other_definition}
 use Rattle.isle_reader.specs.declared.errors.Mistake.TheVariants as M
-use Rattle.isle_reader.specs.Lexemes.{Lexeme, unknown, Wrong, ◌>>=◌}
+use Rattle.isle_reader.specs.Lexemes.{Lexeme, unknown, Wrong, ◌>>=◌, erased}
 use Rattle.isle_reader.specs.Lexing.{tokens_after}
-use Rattle.isle_reader.specs.Pieces.{Piece, AreIn}
-use Rattle.isle_reader.specs.FormTrees.{FormTree, FormTrees, all_spelled}
-use Rattle.isle_reader.specs.FormViews.{erased}
+use Rattle.isle_reader.specs.Pieces.{Piece, AreIn, pieces_of}
+use Rattle.isle_reader.specs.Forming.{forms_of}
+use Rattle.isle_reader.specs.FormTrees.{FormTree, FormTrees, all_spelled, all_depth}
+use Rattle.isle_reader.specs.PassedOver.{passes_over, dashes_are_passed_over}
 use Rattle.isle_reader.specs.Grammar.{Listed, reads, each_of, headed_of}
 use Rattle.isle_reader.specs.TypeGrammar.{type_definition_of}
 use Rattle.isle_reader.specs.TermGrammar.{declaration_of, extractor_of, external_of, conversion_of}
 use Rattle.isle_reader.specs.RuleGrammar.{rule_of}
-
--- whether a definition that begins with this word says nothing of types, terms and rules
-abbrev pub passes_over : List ℕ → Bool
-passes_over w =
-    bytes_eq w (codes "pragma") || bytes_eq w (codes "spec") || bytes_eq w (codes "model") || bytes_eq w (codes "form")
-    || bytes_eq w (codes "instantiate") || bytes_eq w (codes "attr") || bytes_eq w (codes "state") || bytes_eq w (codes "macro")
-    || bytes_eq w (codes "spec_macro")
 
 -- what a list is that begins with this word
 abbrev pub defined_by : Name → Listed → Result Definition Wrong
@@ -38,7 +32,34 @@ definition_of f = headed_of M.Definition f >>= (λ h. defined_by h.0 h.1)
 abbrev pub definitions_of : FormTrees → Result (List Definition) Wrong
 definitions_of fs = each_of definition_of fs
 
--- a text spells definitions: its pieces are tokens, these spell forms, and the definitions are what these forms are
+-- ---- what a text gives: its pieces give tokens, these give forms, and these give definitions. Or the first mistake among its
+-- pieces; where they have none, that of its tokens, at a token or at the text's end; where they have none, that of its forms
+
+abbrev pub tokens_in : (file : ℕ) → (text : List ℕ) → Result (List Lexeme) Wrong
+tokens_in file text = tokens_after file 0 (pieces_of (chars text)) []
+
+abbrev pub forms_in : (file : ℕ) → (text : List ℕ) → Result FormTrees Wrong
+forms_in file text = tokens_in file text >>= forms_of file (length text)
+
+-- whether a text has lists, of whatever
+abbrev pub lists_in : (file : ℕ) → (text : List ℕ) → Result ⊤ Wrong
+lists_in file text = forms_in file text >>= (λ _. Ok tt)
+
+abbrev pub reading : (file : ℕ) → (text : List ℕ) → Result (List Definition) Wrong
+reading file text = forms_in file text >>= definitions_of
+
+-- which of the three has this mistake, where those before have none
+abbrev pub IsOfTokens : (file : ℕ) → (text : List ℕ) → Wrong → Type 0
+IsOfTokens file text w = tokens_in file text ≡ Err w
+
+abbrev pub IsOfLists : (file : ℕ) → (text : List ℕ) → Wrong → Type 0
+IsOfLists file text w = (ts : List Lexeme) × (tokens_in file text ≡ Ok ts) × (forms_of file (length text) ts ≡ Err w)
+
+abbrev pub IsOfDefinitions : (file : ℕ) → (text : List ℕ) → Wrong → Type 0
+IsOfDefinitions file text w = (fs : FormTrees) × (forms_in file text ≡ Ok fs) × (definitions_of fs ≡ Err w)
+
+-- a text spells definitions: its pieces are tokens, these spell forms, and the definitions are what these forms are.
+-- Lists and bindings nest 1,000 deep at most, and words that begin with `-` stand in forms that are passed over.
 pub record Spells (file : ℕ) (text : List ℕ) (ds : List Definition) : Type 0 where
   pub pieces : List Piece
   pub are : AreIn 0 (chars text) pieces
@@ -46,4 +67,6 @@ pub record Spells (file : ℕ) (text : List ℕ) (ds : List Definition) : Type 0
   pub lexed : tokens_after file 0 pieces [] ≡ Ok tokens
   pub forms : FormTrees
   pub lists : all_spelled forms [] ≡ map erased tokens
+  pub shallow : all_depth forms ≤ 1000
+  pub dashes : dashes_are_passed_over forms ≡ true
   pub defined : definitions_of forms ≡ Ok ds

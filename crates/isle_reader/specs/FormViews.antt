@@ -1,16 +1,14 @@
--- Forms as they are read: which tokens they have come from.
-use Rattle.std.specs.Prelude.{List, [], ◌∷◌, map}
+-- Forms as they are read, without where they lie in memory.
+use Rattle.std.specs.Prelude.{Bool, false, List, [], ◌∷◌}
 use Rattle.isle_base.specs.SyntaxViews.{position, name_view}
-use Rattle.isle_reader.specs.declared.tokens.Token.{Token}
 use Rattle.isle_reader.specs.declared.forms.Form as F
 use Rattle.isle_reader.specs.declared.forms.Form.{Form, Row_of-Form, end_of-Form, more_of-Form}
 use Rattle.isle_reader.specs.declared.forms.Open.{Open}
 use Rattle.isle_reader.specs.declared.forms.Open.TheVariants as V
-use Rattle.isle_reader.specs.Lexemes.{Lexeme, begin_list, end_list, word, dash, binder, number, constant}
-use Rattle.isle_reader.specs.FormTrees.{FormTree, a_word, a_number, a_constant, a_binding, a_list, FormTrees, no_form, form_and, all_spelled}
-use Rattle.isle_reader.specs.Views.{token_view}
+use Rattle.isle_reader.specs.FormTrees.{FormTree, a_word, a_number, a_constant, a_binding, a_list, FormTrees, no_form, form_and}
 use Rattle.isle_reader.specs.declared.parts.Parts.{Parts}
 use Rattle.isle_reader.specs.Grammar.{Listed, listed}
+use Rattle.isle_reader.specs.Forming.{Begun, a_group, a_binder, passes_begun}
 
 abbrev mutual
   pub form_view : Form → FormTree
@@ -28,29 +26,23 @@ abbrev pub all_view : List Form → FormTrees
 all_view [] = no_form
 all_view (f ∷ fs) = form_and (form_view f) (all_view fs)
 
-abbrev pub erased : Lexeme → Lexeme
-erased (begin_list p) = begin_list p
-erased (end_list p) = end_list p
-erased (word n) = word n
-erased (dash n) = word n
-erased (binder n) = binder n
-erased (number z p) = number z p
-erased (constant n p) = constant n p
+-- what is begun
+abbrev pub open_view : Open → Begun
+open_view (V.Group fs p) = a_group (all_view fs.items) (position p)
+open_view (V.Binder i) = a_binder (name_view i)
 
-abbrev pub erased_tokens : List Token → List Lexeme
-erased_tokens ts = map (λ t. erased (token_view t)) ts
+-- what is begun, the innermost first, before what was begun earlier
+abbrev pub stacked : List Open → List Begun → List Begun
+stacked [] under = under
+stacked (o ∷ os) under = stacked os (open_view o ∷ under)
 
--- the tokens of what is begun, before others
-abbrev pub open_spelled : Open → List Lexeme → List Lexeme
-open_spelled (V.Group fs p) after = begin_list (position p) ∷ all_spelled (all_view fs.items) after
-open_spelled (V.Binder i) after = binder (name_view i) ∷ after
+abbrev pub begun_views : List Open → List Begun
+begun_views os = stacked os []
 
-abbrev pub stack_spelled : List Open → List Lexeme → List Lexeme
-stack_spelled [] after = after
-stack_spelled (o ∷ os) after = open_spelled o (stack_spelled os after)
-
-abbrev pub so_far : List Form → List Open → List Lexeme → List Lexeme
-so_far forms stack after = all_spelled (all_view forms) (stack_spelled stack after)
+-- whether the outermost form that is begun is a list that is passed over
+abbrev pub outermost_passes : List Open → Bool
+outermost_passes [] = false
+outermost_passes (o ∷ os) = passes_begun (open_view o)
 
 -- the list that is left
 abbrev pub parts_view : Parts → Listed

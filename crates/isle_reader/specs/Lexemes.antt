@@ -18,6 +18,16 @@ pub data Lexeme : Type 0 where
   -- a name with `$` before it, and where the sign stands
   constant : Name → Position → Lexeme
 
+-- a word that begins with `-` as one that doesn't
+abbrev pub erased : Lexeme → Lexeme
+erased (begin_list p) = begin_list p
+erased (end_list p) = end_list p
+erased (word n) = word n
+erased (dash n) = word n
+erased (binder n) = binder n
+erased (number z p) = number z p
+erased (constant n p) = constant n p
+
 -- what an error says: what was expected, that a list which begins there isn't ended, or that no definition begins with a word
 pub data Complaint : Type 0 where
   expected : Mistake → Complaint

@@ -12,7 +12,9 @@ pub mod Views
 pub mod FormTrees
 pub mod FormViews
 pub mod Solid
+pub mod PassedOver
 pub mod Grammar
+pub mod Forming
 pub mod TypeGrammar
 pub mod PatternGrammar
 pub mod ExprGrammar
@@ -21,3 +23,4 @@ pub mod RuleGrammar
 pub mod Definitions
 pub mod LetViews
 pub mod FlagViews
+pub mod Examples

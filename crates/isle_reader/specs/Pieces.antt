@@ -1,6 +1,6 @@
 -- The pieces of a text: each text has one list of them.
-use Rattle.std.specs.Prelude.{◌≡◌, ℕ, ◌+◌, ◌-◌, Bool, true, false, not, ◌&&◌, ◌||◌, nat_le, List, [], ◌∷◌, ◌++◌, Result, Ok, Err, if◌then◌else◌, ◌==◌, length, ⊤}
-use Rattle.std.specs.List.{list_all}
+use Rattle.std.specs.Prelude.{◌≡◌, ℕ, zero, suc, ◌+◌, ◌-◌, Bool, true, false, not, ◌&&◌, ◌||◌, nat_le, List, [], ◌∷◌, ◌++◌, take, drop, Result, Ok, Err, if◌then◌else◌, ◌==◌, length, ⊤}
+use Rattle.std.specs.List.{list_all, take_while}
 use Rattle.std.specs.Char.{is_whitespace}
 use Rattle.std.specs.Str.{encode_utf8_all}
 use Rattle.isle_reader.specs.declared.errors.Mistake.{Mistake}
@@ -97,3 +97,41 @@ Stands offset alone rest = ends_word rest ≡ true
 abbrev pub AreIn : ℕ → List ℕ → List Piece → Type 0
 AreIn offset text [] = text ≡ []
 AreIn offset text (p ∷ ps) = (rest : List ℕ) × (text ≡ spelling p ++ rest) × Stands offset p rest × AreIn (offset + size (spelling p)) rest ps
+
+-- ---- the pieces of a text
+
+-- the comment that follows a parenthesis, by what follows the comment
+abbrev pub comment_of : List ℕ → Result (List ℕ) Mistake → Piece
+comment_of cs (Ok rest) = block (take (length cs - length rest) cs)
+comment_of cs (Err m) = endless cs
+
+-- what a parenthesis begins
+abbrev pub left_of : List ℕ → Piece
+left_of [] = left
+left_of (c ∷ cs) = if c == 59 then comment_of cs (after_comment 1 32 cs) else left
+
+-- what the sign of a constant begins
+abbrev pub sign_of : List ℕ → Piece
+sign_of cs = if ends_word cs then alone else sign (take_while is_in_word cs)
+
+-- the longest piece that a text begins with, at an offset
+abbrev pub first_piece : ℕ → ℕ → List ℕ → Piece
+first_piece offset c cs =
+    if c == 40 then left_of cs
+    else if c == 41 then right
+    else if c == 59 then line (take_while (λ d. not (d == 10)) cs)
+    else if c == 64 then bind
+    else if c == 36 then sign_of cs
+    else if is_space offset c then space c
+    else name (c ∷ take_while is_in_word cs)
+
+-- so many pieces at most, from an offset on
+abbrev pub pieces_from : ℕ → ℕ → List ℕ → List Piece
+pieces_from most offset [] = []
+pieces_from zero offset (c ∷ cs) = []
+pieces_from (suc most) offset (c ∷ cs) =
+    let p = first_piece offset c cs in p ∷ pieces_from most (offset + size (spelling p)) (drop (length (spelling p)) (c ∷ cs))
+
+-- the pieces of a text, which are no more than its characters
+abbrev pub pieces_of : List ℕ → List Piece
+pieces_of text = pieces_from (length text) 0 text

@@ -1,15 +1,17 @@
 //! Tokens to forms: words, numbers, constants, bindings, and lists in parentheses.
 #![tactic(auto, using(crate::proofs::Rows::form_parts))]
 
-ghost use Rattle.std.specs.Prelude.{◌≡◌, ℕ, List, [], ◌∷◌, IfOk, MatchResult, OnOk, ⊤};
+ghost use Rattle.std.specs.Prelude.{◌≡◌, ℕ, Err, Ok, MatchResult, OnOk, ⊤};
 ghost use Rattle.isle_base.specs.SyntaxViews.{name_view, position};
 ghost use Rattle.isle_reader.specs.Faults.{FaultIsWithin};
 ghost use Rattle.isle_reader.specs.Forms.{FormIsWithin, FormsAreWithin, IdentIsWithin, OpensAreWithin, OpenIsWithin, PosIsWithin};
-ghost use Rattle.isle_reader.specs.Lexemes.{Lexeme, end_list, word};
-ghost use Rattle.isle_reader.specs.FormTrees.{all_spelled, spelled};
+ghost use Rattle.isle_reader.specs.FormTrees.{FormTrees};
 ghost use Rattle.isle_reader.specs.Grammar.{place_of};
-ghost use Rattle.isle_reader.specs.FormViews.{all_view, erased, erased_tokens, form_view, open_spelled, so_far, stack_spelled};
-ghost use Rattle.isle_reader.specs.Views.{token_view};
+ghost use Rattle.isle_reader.specs.Lexemes.{unclosed};
+ghost use Rattle.isle_reader.specs.PassedOver.{begins_passed_over};
+ghost use Rattle.isle_reader.specs.Forming.{dashed, ended, formed, forms_of, passes, put, started, whole};
+ghost use Rattle.isle_reader.specs.FormViews.{all_view, begun_views, form_view, open_view, outermost_passes};
+ghost use Rattle.isle_reader.specs.Views.{Fails, Gives, token_view, token_views};
 ghost use Rattle.isle_reader.specs.Tokens.{TokenIsWithin, TokensAreWithin};
 
 use crate::errors::{Mistake, Problem, ReadFault, TextError, fault};
@@ -55,16 +57,32 @@ impl Form {
 pub fn forms(at: Source, tokens: Vec<Token>) -> Result<Vec<Form>, ReadFault>
     requires { TokensAreWithin at.file at.len tokens.items }
     ensures within { MatchResult result (λ fs. FormsAreWithin at.file at.len fs.items) (FaultIsWithin at.file at.len) }
-    // The forms are spelled by these tokens, and by them alone.
-    ensures spelled { IfOk result (λ fs. all_spelled (all_view fs.items) [] ≡ erased_tokens tokens.items) }
+    // What the tokens give, one after another, or the first mistake among them.
+    ensures read { Gives (λ fs. all_view fs.items) result (forms_of at.file at.len (token_views tokens.items)) }
 {
     let mut stack = Vec::new(at.alloc);
     let mut forms = Vec::new(at.alloc);
     for token in tokens {
-        add(at, token, &mut stack, &mut forms)?;
+        match add(at, token, &mut stack, &mut forms) {
+            Ok(()) => {}
+            Err(fault) => return Err(fault),
+        }
     }
+    match finish(at, &mut stack) {
+        Ok(()) => Ok(forms),
+        Err(fault) => Err(fault),
+    }
+}
+
+// Whether all that was begun is ended, at the text's end.
+#[tactic(auto, using(crate::proofs::Rows::form_parts, crate::proofs::Stacks::end_parts))]
+fn finish(at: Source, stack: &mut Vec<Open>) -> Result<(), ReadFault>
+    requires { OpensAreWithin at.file at.len stack.old.items }
+    ensures read { (fs : FormTrees) → Gives (λ _. fs) result (whole at.file at.len fs (begun_views stack.old.items)) }
+    ensures within { MatchResult result (λ _. ⊤) (FaultIsWithin at.file at.len) }
+{
     match stack.pop() {
-        None => Ok(forms),
+        None => Ok(()),
         Some(Open::Group(_, pos)) => Err(unclosed(at, pos)),
         Some(Open::Binder(name)) => Err(fault(Mistake::BoundPattern, name.1)),
     }
@@ -73,7 +91,8 @@ pub fn forms(at: Source, tokens: Vec<Token>) -> Result<Vec<Form>, ReadFault>
 // A list that isn't ended: told at the text's end.
 fn unclosed(at: Source, begin: Pos) -> ReadFault
     requires { PosIsWithin at.file at.len begin }
-    ensures { FaultIsWithin at.file at.len result }
+    ensures read { Fails {Y = FormTrees} result (Err (unclosed (position begin), record { file = at.file; offset = at.len })) }
+    ensures within { FaultIsWithin at.file at.len result }
 {
     let pos = Pos {
         file: at.file,
@@ -98,7 +117,7 @@ fn add(
     ensures error { MatchResult result (λ _. ⊤) (FaultIsWithin at.file at.len) }
     ensures stack { OnOk result (OpensAreWithin at.file at.len stack.new.items) }
     ensures forms { OnOk result (FormsAreWithin at.file at.len forms.new.items) }
-    ensures spelled { OnOk result ((after : List Lexeme) → so_far forms.new.items stack.new.items after ≡ so_far forms.old.items stack.old.items (erased (token_view token) ∷ after)) }
+    ensures read { Gives (λ _. (all_view forms.new.items, begun_views stack.new.items)) result (formed (token_view token) (all_view forms.old.items) (begun_views stack.old.items)) }
 {
     match token {
         Token::Open(pos) => start(at, Open::Group(Vec::new(at.alloc), pos), pos, stack),
@@ -127,21 +146,37 @@ fn dash(
     ensures error { MatchResult result (λ _. ⊤) (FaultIsWithin at.file at.len) }
     ensures stack { OnOk result (OpensAreWithin at.file at.len stack.new.items) }
     ensures forms { OnOk result (FormsAreWithin at.file at.len forms.new.items) }
-    ensures spelled { OnOk result ((after : List Lexeme) → so_far forms.new.items stack.new.items after ≡ so_far forms.old.items stack.old.items (word (name_view name) ∷ after)) }
+    ensures read { Gives (λ _. (all_view forms.new.items, begun_views stack.new.items)) result (dashed (name_view name) (all_view forms.old.items) (begun_views stack.old.items)) }
 {
-    if !passes_over(stack.first()) {
+    if !passes_over(stack.as_slice()) {
         return Err(fault(Mistake::Digits, name.1));
     }
     put(at, Form::Word(name), stack, forms)
 }
 
-// Whether the outermost form that is begun is a definition that is passed over.
-fn passes_over(outermost: Option<&Open>) -> bool {
-    let Some(Open::Group(parts, _)) = outermost else {
-        return false;
-    };
-    match parts.first() {
-        Some(Form::Word(head)) => is_passed_over(&head.0),
+// Whether the outermost form that is begun is a list that is passed over.
+fn passes_over(stack: &[Open]) -> bool
+    ensures { result ≡ passes (begun_views stack.now) }
+{
+    outermost_passes(stack)
+}
+
+// The same, by what stands first.
+fn outermost_passes(stack: &[Open]) -> bool
+    ensures { result ≡ outermost_passes stack.now }
+{
+    match stack {
+        [Open::Group(parts, _), ..] => begins_passed_over(parts.as_slice()),
+        _ => false,
+    }
+}
+
+// Whether the parts of a list are those of a definition that is passed over.
+fn begins_passed_over(parts: &[Form]) -> bool
+    ensures { result ≡ begins_passed_over (all_view parts.now) }
+{
+    match parts {
+        [Form::Word(head), ..] => is_passed_over(&head.0),
         _ => false,
     }
 }
@@ -153,7 +188,7 @@ fn start(at: Source, begun: Open, pos: Pos, stack: &mut Vec<Open>) -> Result<(),
     requires pos { PosIsWithin at.file at.len pos }
     requires stack { OpensAreWithin at.file at.len stack.old.items }
     ensures within { MatchResult result (λ _. OpensAreWithin at.file at.len stack.new.items) (FaultIsWithin at.file at.len) }
-    ensures spelled { OnOk result ((after : List Lexeme) → stack_spelled stack.new.items after ≡ stack_spelled stack.old.items (open_spelled begun after)) }
+    ensures read { (fs : FormTrees) → Gives (λ _. (fs, begun_views stack.new.items)) result (started (open_view begun) (position pos) fs (begun_views stack.old.items)) }
 {
     if stack.len() >= DEEPEST {
         return Err(fault(Mistake::Depth, pos));
@@ -163,6 +198,7 @@ fn start(at: Source, begun: Open, pos: Pos, stack: &mut Vec<Open>) -> Result<(),
 }
 
 // Ends the list that was begun last.
+#[tactic(auto, using(crate::proofs::Rows::form_parts, crate::proofs::Stacks::end_parts))]
 fn close(
     at: Source,
     end: Pos,
@@ -175,7 +211,7 @@ fn close(
     ensures error { MatchResult result (λ _. ⊤) (FaultIsWithin at.file at.len) }
     ensures stack { OnOk result (OpensAreWithin at.file at.len stack.new.items) }
     ensures forms { OnOk result (FormsAreWithin at.file at.len forms.new.items) }
-    ensures spelled { OnOk result ((after : List Lexeme) → so_far forms.new.items stack.new.items after ≡ so_far forms.old.items stack.old.items (end_list (position end) ∷ after)) }
+    ensures read { Gives (λ _. (all_view forms.new.items, begun_views stack.new.items)) result (ended (position end) (all_view forms.old.items) (begun_views stack.old.items)) }
 {
     match stack.pop() {
         None => Err(fault(Mistake::ListBegin, end)),
@@ -197,7 +233,7 @@ fn put(
     ensures error { MatchResult result (λ _. ⊤) (FaultIsWithin at.file at.len) }
     ensures stack { OnOk result (OpensAreWithin at.file at.len stack.new.items) }
     ensures forms { OnOk result (FormsAreWithin at.file at.len forms.new.items) }
-    ensures spelled { OnOk result ((after : List Lexeme) → so_far forms.new.items stack.new.items after ≡ so_far forms.old.items stack.old.items (spelled (form_view form) after)) }
+    ensures read { Gives (λ _. (all_view forms.new.items, begun_views stack.new.items)) result (Ok (put (form_view form) (all_view forms.old.items) (begun_views stack.old.items))) }
 {
     let mut form = form;
     while let Some(begun) = stack.pop() {

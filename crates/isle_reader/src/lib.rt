@@ -10,19 +10,21 @@ mod expressions;
 mod forms;
 pub mod heads;
 pub mod laws;
+pub mod lists;
 mod numbers;
 mod parts;
 mod patterns;
 mod rules;
-pub mod sameness;
 mod source;
 mod terms;
 mod tokens;
 mod types;
 
-ghost use Rattle.std.specs.Prelude.{length, IfOk, MatchResult};
+ghost use Rattle.std.specs.Prelude.{length, IfOk, List, MatchResult, Ok};
+ghost use Rattle.model.specs.lists.Syntax.{Definition};
+ghost use Rattle.isle_reader.specs.Views.{Gives};
 ghost use Rattle.isle_base.specs.SyntaxViews.{definition_views};
-ghost use Rattle.isle_reader.specs.Definitions.{Spells};
+ghost use Rattle.isle_reader.specs.Definitions.{Spells, reading};
 ghost use Rattle.isle_reader.specs.Within.{AreWithin};
 ghost use Rattle.isle_reader.specs.Faults.{FaultIsWithin};
 
@@ -43,7 +45,11 @@ use std::alloc::Global;
 /// tokens are read before its lists, and its lists before its definitions. A list that isn't ended is told at the text's end,
 /// with where it begins, which lies before. Want of memory is a fault of its own.
 pub fn read(alloc: Global, file: usize, text: &str) -> Result<Vec<Def>, ReadFault>
+    // The result is what the text gives: its definitions, or the first mistake and its place.
+    ensures exact { Gives (λ ds. definition_views ds.items) result (reading file text.now) }
+    // What is read is what the text spells, and what it spells is read, unless memory runs out.
     ensures found { IfOk result (λ ds. Spells file text.now (definition_views ds.items)) }
+    ensures only { (ds : List Definition) → Spells file text.now ds → Gives (λ es. definition_views es.items) result (Ok ds) }
     ensures within { MatchResult result
         (λ ds. AreWithin file (length text.now) (definition_views ds.items))
         (FaultIsWithin file (length text.now)) }
