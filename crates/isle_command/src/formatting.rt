@@ -169,7 +169,7 @@ fn format_text<R: std::rt::Files + AllocGlobal, O: Write, E: Write>(
     ensures used { result ≢ 2 }
 {
     match formatted(rt.alloc(), 0, text) {
-        Ok(Some(made)) => hand_over(
+        Ok(made) => hand_over(
             rt,
             asked,
             Laid {
@@ -180,7 +180,6 @@ fn format_text<R: std::rt::Files + AllocGlobal, O: Write, E: Write>(
             out,
             err,
         ),
-        Ok(None) => say(rt.alloc(), "isle: cannot lay out ", name, 1, err),
         Err(ReadFault::Text(error)) => refuse(rt.alloc(), name, text, error, err),
         Err(ReadFault::Memory(_)) => no_memory(err),
     }

@@ -1,55 +1,47 @@
 //! A rule file in the usual layout.
 
-ghost use Rattle.std.specs.Prelude.{IfOk, IfSome, string_bytes};
+ghost use Rattle.std.specs.Prelude.{◌≡◌, IfOk, List, string_bytes};
+ghost use Rattle.std.specs.Str.{chars};
+ghost use Rattle.isle_reader.specs.Pieces.{AreIn, Piece};
 ghost use Rattle.isle_reader.specs.Solid.{HaveSameTokens};
+ghost use Rattle.isle_reader.specs.Views.{Gives};
+ghost use Rattle.isle_formatting.specs.Layouts.{layout_in};
+ghost use Rattle.isle_formatting.specs.Pages.{laid, text_of};
 
+use crate::gaps::is_marked;
+use crate::laws::layout_keeps_tokens;
 use crate::layout::laid_out;
-use crate::parts::{Placed, parts_of, same_parts};
+use crate::parts::parts_of;
 use isle_reader::errors::ReadFault;
-use isle_reader::sameness::{has_lists, has_same_tokens};
+use isle_reader::laws::texts_have_one_division;
+use isle_reader::lists::has_lists;
 use std::alloc::{AllocError, Global};
 
-/// A text in the usual layout: it has the same tokens, but for their places, and the same comments, but for a carriage return at
-/// their end. A byte order mark stays. None where the layout would change one of them; that isn't known to happen.
+/// A text in the usual layout: it has the same tokens, but for their places, and the same comments, but for the carriage returns at
+/// their end. A byte order mark stays.
 ///
 /// The file's number is any; it stands in the position of an error.
 ///
 /// # Errors
 ///
 /// What is wrong with a text that has no tokens, or whose lists aren't ended; and where memory is refused.
-pub fn formatted(alloc: Global, file: usize, text: &str) -> Result<Option<String>, ReadFault>
-    ensures { IfOk result (λ made. IfSome made (λ new. HaveSameTokens file text.now (string_bytes new))) }
+pub fn formatted(alloc: Global, file: usize, text: &str) -> Result<String, ReadFault>
+    // The layout of the text's pieces, where the text has lists, else the first mistake.
+    ensures exact { Gives (λ new. chars (string_bytes new)) result (layout_in file text.now) }
+    ensures same { IfOk result (λ new. HaveSameTokens file text.now (string_bytes new)) }
 {
+    texts_have_one_division();
+    layout_keeps_tokens();
     has_lists(alloc, file, text)?;
-    let parts = parts_of(alloc, without_mark(text))?;
-    let made = laid_out_text(alloc, text, &parts)?;
-    if has_same_tokens(alloc, file, text, &made)? && has_parts(alloc, &made, &parts)? {
-        return Ok(Some(made));
-    }
-    Ok(None)
+    let made = laid_out_text(alloc, text)?;
+    Ok(made)
 }
 
-// The parts of a text, laid out, behind its byte order mark.
-fn laid_out_text(alloc: Global, text: &str, parts: &[Placed]) -> Result<String, AllocError> {
-    let laid = laid_out(alloc, parts)?;
-    if !text.starts_with('\u{feff}') {
-        return Ok(laid);
-    }
-    let mut marked = String::from_str(alloc, "\u{feff}")?;
-    marked.push_str(&laid)?;
-    Ok(marked)
-}
-
-// Whether a text has these parts.
-fn has_parts(alloc: Global, text: &str, parts: &[Placed]) -> Result<bool, AllocError> {
-    let others = parts_of(alloc, without_mark(text))?;
-    Ok(same_parts(parts, &others))
-}
-
-// A text without its byte order mark.
-fn without_mark(text: &str) -> &str {
-    match text.strip_prefix('\u{feff}') {
-        Some(rest) => rest,
-        None => text,
-    }
+// A text, laid out.
+fn laid_out_text(alloc: Global, text: &str) -> Result<String, AllocError>
+    ensures { IfOk result (λ new. (ps : List Piece) → AreIn 0 (chars text.now) ps → chars (string_bytes new) ≡ text_of (laid ps)) }
+{
+    let parts = parts_of(alloc, text)?;
+    let made = laid_out(alloc, is_marked(text), &parts)?;
+    Ok(made)
 }

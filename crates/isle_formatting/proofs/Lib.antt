@@ -1,0 +1,11 @@
+mod Texts
+mod Returns
+mod Scans
+mod Fronts
+mod Turns
+mod Comments
+mod Sound
+mod Whole
+mod Again
+mod KeptTokens
+mod HasLists
