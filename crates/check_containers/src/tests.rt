@@ -9,4 +9,5 @@ mod syntax;
 // What the maker makes, and what text spells.
 mod moved;
 mod moved_forms;
+mod printed;
 mod spelled;

@@ -6,13 +6,9 @@ use std::test::Fail;
 
 // A text is laid out as another one, which stays as it is.
 fn expect_laid(rt: &impl Abort, alloc: Global, text: &str, laid: &str) -> Result<(), Fail> {
-    let Some(made) = formatted(alloc, 0, text)? else {
-        return Err(Fail::new("a text isn't laid out"));
-    };
+    let made = formatted(alloc, 0, text)?;
     assert_eq!(rt; made.as_str(), laid);
-    let Some(again) = formatted(alloc, 0, &made)? else {
-        return Err(Fail::new("a text isn't laid out"));
-    };
+    let again = formatted(alloc, 0, &made)?;
     assert_eq!(rt; again.as_str(), laid);
     Ok(())
 }
@@ -70,6 +66,9 @@ fn white_space(rt: HostRuntime) -> Result<(), Fail> {
         "\u{feff}(pragma)\t(; b ;)",
         "\u{feff}(pragma) (; b ;)\n",
     )?;
+    // A byte order mark is one at the beginning alone.
+    expect_laid(&rt, rt.alloc(), " \u{feff}a", " \u{feff}a\n")?;
+    expect_laid(&rt, rt.alloc(), "; a\r\r\n(pragma)", "; a\n(pragma)\n")?;
     expect_laid(
         &rt,
         rt.alloc(),
