@@ -4,7 +4,7 @@ use Rattle.std.specs.Prelude.{IsPermutation}
 use Rattle.std.specs.Cmp.{IsStrictWeakOrder}
 use Rattle.std.specs.List.{take_while, prefix_len}
 use Rattle.std.specs.List.Sorted.{ties, IsSortedBy, IsStableBy}
-use Rattle.std.proofs.lemmas.Bool.{cases_Bool, cond-true, cond-false, and_parts, and_from, false≢true, false_from_ne_true}
+use Rattle.std.proofs.lemmas.Bool.{cases_Bool, cond-true, cond-false, and_parts, and_from, not-true, false≢true, false_from_ne_true}
 use Rattle.std.proofs.lemmas.List.{append-nil, length-map, map_push}
 use Rattle.std.proofs.lemmas.List.Elements.{filter_agree, filter_more, Contains-append_cases}
 use Rattle.std.proofs.lemmas.List.Sorted.{sorted_far, Contains-permutation, IsPermutation-map, IsPermutation-sym}
@@ -20,8 +20,7 @@ use Rattle.laws_trees.proofs.Constraints.{that_exact}
 use Rattle.laws_trees.proofs.ConstraintsTotal.{before_total}
 use Rattle.isle_serialize.specs.declared.arms.Asked.{Asked}
 use Rattle.isle_serialize.specs.ArmOrder.{asked_at, asks, asks_some, asked_constraint, asks_that, asked_numbers, AreAsked, is_ahead, Ascend, AreTurns, AreInTurn, IsLeastAsked}
-use Rattle.isle_serialize.proofs.Descents.{none_kept}
-use Rattle.isle_serialize.proofs.Growth.{all_kept}
+use Rattle.isle_serialize.proofs.Descents.{all_kept, none_kept}
 
 -- 1. the order of constraints
 not_itself : (c : Constraint) → comes_before c c ≡ false
@@ -58,14 +57,10 @@ ask_alike a b =
     and_from (not (is_ahead a b)) (not (is_ahead b a)) (ap not (ap (comes_before (asked_constraint a)) e ∙ not_itself (asked_constraint a)))
     (ap not (ap (λ c. comes_before c (asked_constraint a)) e ∙ not_itself (asked_constraint a))))
     (λ h. let both = and_parts (not (is_ahead a b)) (not (is_ahead b a)) h in
-    elim (before_total (asked_constraint b) (asked_constraint a) (of (is_ahead a b) both.0)) [
+    elim (before_total (asked_constraint b) (asked_constraint a) (not-true (is_ahead a b) both.0)) [
       | inl e ↦ from_same (asked_constraint a) b e
       | inr t ↦ absurd (false≢true (ap not (sym t) ∙ both.1))
     ])
-  where
-    of : (b : Bool) → not b ≡ true → b ≡ false
-    of true e = absurd (false≢true e)
-    of false e = refl
 
 -- 2. lists that ascend
 ascends : (ys : List Asked) → ((i j : ℕ) (d : Asked) → i ≤ j → j < length ys → is_ahead (get_or ys j d) (get_or ys i d) ≡ false) → Ascend ys

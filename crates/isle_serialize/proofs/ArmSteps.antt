@@ -8,7 +8,7 @@ use Rattle.model.specs.sites.Sites.{Constraint, SetRule, SiteSet}
 use Rattle.model.specs.trees.Trees.{Tree, Arms, no_arm, arm, marks_arms}
 use Rattle.model.specs.trees.Best.{descend}
 use Rattle.model.specs.trees.Places as Places
-use Rattle.model.specs.trees.Places.{constraint_at, in_arm}
+use Rattle.model.specs.trees.Places.{constraint_at, field_sites, in_arm}
 use Rattle.model.specs.trees.Sound.{IsAfter}
 use Rattle.model.specs.trees.Tests.{match_test, is_needed}
 use Rattle.model.proofs.Members.{nothing_in, in_filter, from_filter}
@@ -19,15 +19,16 @@ use Rattle.isle_rule_sets.specs.SiteViews.{constraint_view}
 use Rattle.isle_serialize.specs.declared.around.Around.{Around}
 use Rattle.isle_serialize.specs.declared.arms.NextArm.{NextArm}
 use Rattle.isle_serialize.specs.declared.serialize.MatchArm.{MatchArm}
-use Rattle.isle_serialize.specs.AroundViews.{around_view}
+use Rattle.isle_serialize.specs.AroundViews.{around_view, brings}
+use Rattle.isle_serialize.specs.Changes.{IsAfterTest}
 use Rattle.isle_serialize.specs.declared.arms.Asked.{Asked}
 use Rattle.isle_serialize.specs.Growing.{IsBestFrom, AreBestArms, IsStepOf}
 use Rattle.isle_serialize.specs.ArmOrder.{constraint_asked, asked_at, asks, asks_some, asked_constraint, asked_numbers, AreTurns, AreInTurn, IsNextArm}
 use Rattle.isle_serialize.specs.TreeViews.{arm_view, arms_view}
-use Rattle.isle_serialize.proofs.Descents.{descend_kept}
+use Rattle.isle_serialize.proofs.Descents.{all_kept, descend_kept}
 use Rattle.isle_serialize.proofs.Growth as Growth
 use Rattle.isle_serialize.proofs.ArmRuns.{turns_behind, left_behind}
-use Rattle.isle_serialize.proofs.Growth.{no_arms, from_alike, all_kept}
+use Rattle.isle_serialize.proofs.Growth.{no_arms, from_alike}
 use Rattle.isle_serialize.proofs.BodySteps.{arm_inside}
 use Rattle.isle_serialize.proofs.StepsJoined.{arms_before, arms_end, arm_joined}
 
@@ -47,13 +48,13 @@ module _ (rules : List SetRule) (s : ℕ) where
 
 -- 2. the arms so far
 -- the rules that are left stand in turn, those of one constraint in order, and each asks a constraint behind that of the
--- last arm; and with what may follow, the arms so far are best
-pub record ArmsGrow (set : SiteSet) (ar : Places.Around) (s : ℕ) (here : List ℕ) (left : List Asked) (arms : List MatchArm) : Type 0 where
+-- last arm; and with what may follow, the arms so far are best wherever the match is made
+pub record ArmsGrow (set : SiteSet) (now : Places.Around) (s : ℕ) (here : List ℕ) (left : List Asked) (arms : List MatchArm) : Type 0 where
   pub turns : AreTurns set.rules s left
   pub ordered : (a : Asked) → descend set.rules (filter (asks set.rules s (asked_constraint a)) (asked_numbers left)) ≡ true
   pub last : Option Constraint
   pub later : (i : ℕ) (c : Constraint) → Contains (asked_numbers left) i → asked_at set.rules s i ≡ Some c → IsAfter last c
-  pub far : (t : Arms) → AreBestArms set ar s last (asked_numbers left) t → AreBestArms set ar s None here (arms_before arms t)
+  pub far : (ar : Places.Around) → IsAfterTest set ar (match_test s) now → (t : Arms) → AreBestArms set ar s last (asked_numbers left) t → AreBestArms set ar s None here (arms_before arms t)
 
 -- rules of one constraint that stand in order do so behind some
 ordered_behind : (rules : List SetRule) (p : ℕ → Bool) (k : ℕ) (xs : List Asked) → descend rules (filter p (asked_numbers xs)) ≡ true → descend rules (filter p (asked_numbers (drop k xs))) ≡ true
@@ -66,24 +67,24 @@ ordered_behind rules p (suc k) (a ∷ xs) h = ordered_behind rules p k xs (of (p
     of false e = e
 
 module _ (set : SiteSet) (around : Around) (s : ℕ) (here : List ℕ) where
-  abbrev ar : Places.Around
-  ar = around_view around
+  abbrev now : Places.Around
+  now = around_view around
 
   -- each rule of a match asks something of its source
-  all_ask : IsStepOf set ar (match_test s) here → filter (asks_some set.rules s) here ≡ here
+  all_ask : IsStepOf set now (match_test s) here → filter (asks_some set.rules s) here ≡ here
   all_ask step = all_kept (asks_some set.rules s) here (λ i k. of (slice_get set.rules i) (step.need i k))
     where
       of : (o : Option SetRule) → is_needed (match_test s) o ≡ true → is_some (constraint_asked s o) ≡ true
       of None n = n
       of (Some r) n = n
 
-  pub arms_start : (turns : List Asked) → descend set.rules here ≡ true → IsStepOf set ar (match_test s) here → AreInTurn set.rules s here turns → ArmsGrow set ar s here turns []
+  pub arms_start : (turns : List Asked) → descend set.rules here ≡ true → IsStepOf set now (match_test s) here → AreInTurn set.rules s here turns → ArmsGrow set now s here turns []
   arms_start turns o step t = record {
     turns = t.told;
     ordered = λ a. ap (descend set.rules) (t.kept a) ∙ descend_kept set.rules (asks set.rules s (asked_constraint a)) here o;
     last = None;
     later = λ i c k e. tt;
-    far = λ rest a. record {
+    far = λ ar after rest a. record {
       marked = a.marked;
       same = a.same;
       rules = IsPermutation-trans here (asked_numbers turns) (marks_arms a.marked) (subst (λ l. IsPermutation l (asked_numbers turns)) (all_ask step) t.same) a.rules;
@@ -91,7 +92,7 @@ module _ (set : SiteSet) (around : Around) (s : ℕ) (here : List ℕ) where
     };
   }
 
-  module _ (left : List Asked) (next : NextArm) (h : IsNextArm set ar s (asked_numbers left) next) where
+  module _ (left : List Asked) (next : NextArm) (h : IsNextArm set s (asked_numbers left) next) where
     abbrev c : Constraint
     c = constraint_view next.constraint
 
@@ -118,11 +119,11 @@ module _ (set : SiteSet) (around : Around) (s : ℕ) (here : List ℕ) where
         some_length [] g = absurd (g refl)
         some_length (x ∷ xs) g = omega arith
 
-    pub asking_ordered : {arms : List MatchArm} → ArmsGrow set ar s here left arms → descend set.rules next.asking.items ≡ true
+    pub asking_ordered : {arms : List MatchArm} → ArmsGrow set now s here left arms → descend set.rules next.asking.items ≡ true
     asking_ordered g = ap (descend set.rules) h.asking ∙ g.ordered (record { number = 0; constraint = next.constraint })
 
     pub arms_more : (arms more : List MatchArm) (a : MatchArm) (body : Tree) → more ≡ arms ++ a ∷ [] → ((rest : Arms) → arm_view a rest ≡ arm c next.fields.items body rest)
-        → IsBestFrom set (around_view next.inside) next.asking.items body → ArmsGrow set ar s here left arms → ArmsGrow set ar s here rest_of more
+        → IsBestFrom set (brings now s (field_sites next.fields.items)) next.asking.items body → ArmsGrow set now s here left arms → ArmsGrow set now s here rest_of more
     arms_more arms more a body e seen best g = record {
       turns = turns_behind set.rules s (length next.asking.items) left g.turns;
       ordered = λ x. ordered_behind set.rules (asks set.rules s (asked_constraint x)) (length next.asking.items) left (g.ordered x);
@@ -131,12 +132,12 @@ module _ (set : SiteSet) (around : Around) (s : ℕ) (here : List ℕ) where
         | inl same ↦ absurd (false≢true (ap not (sym (asks_from set.rules s c i (q ∙ ap Some (sym same)))) ∙ (other i k).1))
         | inr b ↦ b
       ];
-      far = λ t rest. subst (AreBestArms set ar s None here) (sym (ap (λ xs. arms_before xs t) e ∙ arm_joined arms a t ∙ ap (arms_before arms) (seen t)))
-          (g.far (arm c next.fields.items body t)
+      far = λ ar after t rest. subst (AreBestArms set ar s None here) (sym (ap (λ xs. arms_before xs t) e ∙ arm_joined arms a t ∙ ap (arms_before arms) (seen t)))
+          (g.far ar after (arm c next.fields.items body t)
           (Growth.arm_more set ar s g.last c mine (asked_numbers left) next.fields.items body t (g.later h.least.0.0 c h.least.0.1 h.least.0.2) (λ z. some_asking (h.asking ∙ z))
           (λ i r p. asks_of set.rules s c i r p) h.fields
-          (from_alike set (around_view next.inside) (in_arm set ar s c next.fields.items) (filter mine (asked_numbers left)) body (arm_inside set around next.inside s c next.fields.items h.inside)
-          (subst (λ l. IsBestFrom set (around_view next.inside) l body) h.asking best))
+          (from_alike set (brings now s (field_sites next.fields.items)) (in_arm set ar s c next.fields.items) (filter mine (asked_numbers left)) body (arm_inside set ar around s c next.fields.items after)
+          (subst (λ l. IsBestFrom set (brings now s (field_sites next.fields.items)) l body) h.asking best))
           (subst (λ l. AreBestArms set ar s (Some c) l t) others rest)));
     }
       where
@@ -147,5 +148,6 @@ module _ (set : SiteSet) (around : Around) (s : ℕ) (here : List ℕ) where
         other i k = from_filter (λ i. not (mine i)) (asked_numbers left) i (subst (λ l. Contains l i) others k)
 
   -- where no rule is left, all arms are made
-  pub arms_whole : (left : List Asked) (arms : List MatchArm) → asked_numbers left ≡ [] → ArmsGrow set ar s here left arms → AreBestArms set ar s None here (arms_view arms)
-  arms_whole left arms none g = subst (AreBestArms set ar s None here) (arms_end arms) (g.far no_arm (subst (λ l. AreBestArms set ar s g.last l no_arm) (sym none) (no_arms set ar s g.last)))
+  pub arms_whole : (left : List Asked) (arms : List MatchArm) → asked_numbers left ≡ [] → ArmsGrow set now s here left arms → (ar : Places.Around) → IsAfterTest set ar (match_test s) now → AreBestArms set ar s None here (arms_view arms)
+  arms_whole left arms none g ar after =
+      subst (AreBestArms set ar s None here) (arms_end arms) (g.far ar after no_arm (subst (λ l. AreBestArms set ar s g.last l no_arm) (sym none) (no_arms set ar s g.last)))

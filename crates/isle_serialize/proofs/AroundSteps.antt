@@ -1,9 +1,8 @@
 -- The names of classes: one more pair that is joined.
-use Rattle.std.proofs.Common.{◌≡◌, ℕ, suc, ◌≤◌, ◌==◌, Bool, true, false, if◌then◌else◌, List, [], ◌∷◌, map, length, get_or, ◌||◌, ◌⊎◌, drop, Contains, refl, sym, ap, ◌∙◌, inl, inr, arith, drop-cons, drop_of_length-le, eqb-true, eq-eqb}
-use Rattle.std.proofs.lemmas.Bool.{cases_Bool, cond-true, cond-false, or_left, or_right, false≢true}
+use Rattle.std.proofs.Common.{◌≡◌, ℕ, ◌==◌, Bool, true, false, if◌then◌else◌, List, [], ◌∷◌, map, ◌||◌, ◌⊎◌, refl, sym, ap, ◌∙◌, inl, inr, eqb-true, eq-eqb}
+use Rattle.std.proofs.lemmas.Bool.{cases_Bool, cond-true, cond-false, or_left, or_parts, or_right, false≢true}
 use Rattle.model.specs.trees.Places.{class, is_in}
-use Rattle.model.proofs.Members.{in_head, in_tail, in_flat_map, member_is_in}
-use Rattle.isle_serialize.specs.AroundViews.{sites_of_pairs, class_name_in, IsNaming}
+use Rattle.isle_serialize.specs.AroundViews.{sites_of_pairs, class_name_in, NamesClasses}
 
 -- 1. look-ups
 abbrev named : (ℕ → ℕ) → List ℕ → List (ℕ × ℕ)
@@ -48,10 +47,6 @@ class_in (p ∷ ps) x =
         (or_left (p.1 == class ps p.1) (is_in (class ps p.1) (sites_of_pairs ps)) (eq-eqb p.1 (class ps p.1) (sym q)))
     second (inr q) = behind (class ps p.1) q
 
-neither : (a b : Bool) → (a || b) ≡ false → (a ≡ false) × (b ≡ false)
-neither true b h = absurd (false≢true (sym h))
-neither false b h = (refl, h)
-
 -- a site of no pair is its own class
 apart : (ps : List (ℕ × ℕ)) (x s : ℕ) → class ps s ≡ s → (x == s) ≡ false → is_in s (sites_of_pairs ps) ≡ false → (class ps s == class ps x) ≡ false
 apart ps x s same other rest =
@@ -68,48 +63,43 @@ apart ps x s same other rest =
 own_class : (ps : List (ℕ × ℕ)) (s : ℕ) → is_in s (sites_of_pairs ps) ≡ false → class ps s ≡ s
 own_class [] s h = refl
 own_class (p ∷ ps) s h =
-    let first = neither (p.0 == s) ((p.1 == s) || is_in s (sites_of_pairs ps)) h in
-    let rest = (neither (p.1 == s) (is_in s (sites_of_pairs ps)) first.1).1 in
+    let first = or_parts (p.0 == s) ((p.1 == s) || is_in s (sites_of_pairs ps)) h in
+    let rest = (or_parts (p.1 == s) (is_in s (sites_of_pairs ps)) first.1).1 in
     let same = own_class ps s rest in
     cond-false (class ps s == class ps p.0) (class ps p.1) (class ps s) (apart ps p.0 s same first.0 rest) ∙ same
 
 -- 2. pair by pair
-pub named_all : (pairs names : List (ℕ × ℕ)) → names ≡ map (λ s. (s, class pairs s)) (sites_of_pairs pairs) → IsNaming pairs names
-named_all pairs names e s =
+pub named_as : (pairs names : List (ℕ × ℕ)) → NamesClasses pairs names → (s : ℕ) → class_name_in names s ≡ class pairs s
+named_as pairs names e s =
     ap (λ l. class_name_in l s) e
     ∙ elim (cases_Bool (is_in s (sites_of_pairs pairs))) [
       | inl t ↦ name_there (class pairs) (sites_of_pairs pairs) s t
       | inr f ↦ own_name (class pairs) (sites_of_pairs pairs) s f ∙ sym (own_class pairs s f)
     ]
 
-abbrev own : ℕ → ℕ × ℕ
-own s = (s, s)
+-- both sites of one more pair have the name of the second, and so have all that have the name of the first
+abbrev pub named_first : ℕ → ℕ → ℕ → List (ℕ × ℕ) → List (ℕ × ℕ)
+named_first a b to rest = (a, to) ∷ ((b, to) ∷ rest)
 
-abbrev both : ℕ × ℕ → List ℕ
-both q = q.0 ∷ (q.1 ∷ [])
+abbrev pub named_again : ℕ → ℕ → List (ℕ × ℕ) → List (ℕ × ℕ)
+named_again from to names = map (λ e. (e.0, if e.1 == from then to else e.1)) names
 
-named_more : (sites : List ℕ) (p : ℕ × ℕ) (ps names : List (ℕ × ℕ)) → names ≡ named (class ps) sites → is_in p.0 sites ≡ true → is_in p.1 sites ≡ true
-    → map (λ e. (e.0, if e.1 == class_name_in names p.0 then class_name_in names p.1 else e.1)) names ≡ named (class (p ∷ ps)) sites
-named_more sites p ps names e k l =
-    ap (λ t. map (λ q. (q.0, if q.1 == class_name_in t p.0 then class_name_in t p.1 else q.1)) t) e
-    ∙ ap (λ y. map (λ q. (q.0, if q.1 == y then class_name_in (named (class ps) sites) p.1 else q.1)) (named (class ps) sites)) (name_there (class ps) sites p.0 k)
-    ∙ ap (λ y. map (λ q. (q.0, if q.1 == class ps p.0 then y else q.1)) (named (class ps) sites)) (name_there (class ps) sites p.1 l)
-    ∙ twice sites
+pub named_more : (a b : ℕ) (ps names : List (ℕ × ℕ)) (from to : ℕ) → from ≡ class_name_in names a → to ≡ class_name_in names b → NamesClasses ps names → NamesClasses ((a, b) ∷ ps) (named_first a b to (named_again from to names))
+named_more a b ps names from to f g e =
+    let p : ℕ × ℕ = (a, b) in
+    let first : from ≡ class ps a = f ∙ named_as ps names e a in
+    let second : to ≡ class ps b = g ∙ named_as ps names e b in
+    let one : class ps b ≡ class (p ∷ ps) a = sym (cond-true (class ps a == class ps a) (class ps b) (class ps a) (eq-eqb (class ps a) (class ps a) refl)) in
+    let other : class ps b ≡ class (p ∷ ps) b = sym (same (class ps b == class ps a) (class ps b)) in
+    let rest : named_again (class ps a) (class ps b) names ≡ named (class (p ∷ ps)) (sites_of_pairs ps) = ap (named_again (class ps a) (class ps b)) e ∙ twice (sites_of_pairs ps) in
+    let start : named_first a b to (named_again from to names) ≡ named_first a b (class ps b) (named_again (class ps a) (class ps b) names) = λ i. named_first a b (second i) (named_again (first i) (second i) names) in
+    let ends : named_first a b (class ps b) (named (class (p ∷ ps)) (sites_of_pairs ps)) ≡ named (class (p ∷ ps)) (sites_of_pairs (p ∷ ps)) = λ i. (a, one i) ∷ ((b, other i) ∷ named (class (p ∷ ps)) (sites_of_pairs ps)) in
+    start ∙ ap (named_first a b (class ps b)) rest ∙ ends
   where
-    twice : (xs : List ℕ) → map (λ q. (q.0, if q.1 == class ps p.0 then class ps p.1 else q.1)) (named (class ps) xs) ≡ named (class (p ∷ ps)) xs
+    same : (q : Bool) (x : ℕ) → (if q then x else x) ≡ x
+    same true x = refl
+    same false x = refl
+
+    twice : (xs : List ℕ) → named_again (class ps a) (class ps b) (named (class ps) xs) ≡ named (class ((a, b) ∷ ps)) xs
     twice [] = refl
-    twice (x ∷ xs) = ap (λ l. (x, class (p ∷ ps) x) ∷ l) (twice xs)
-
-pub joined_start : (pairs : List (ℕ × ℕ)) (left : ℕ) (names : List (ℕ × ℕ)) → length pairs ≤ left → names ≡ map (λ s. (s, s)) (sites_of_pairs pairs) → names ≡ map (λ s. (s, class (drop left pairs) s)) (sites_of_pairs pairs)
-joined_start pairs left names l e = e ∙ ap (λ ps. map (λ s. (s, class ps s)) (sites_of_pairs pairs)) (sym (drop_of_length-le pairs l))
-
-pub joined_step : (pairs : List (ℕ × ℕ)) (left k : ℕ) (p : ℕ × ℕ) (names seen next : List (ℕ × ℕ)) → left ≡ suc k → left ≤ length pairs → p ≡ get_or pairs k p
-    → names ≡ map (λ s. (s, class (drop left pairs) s)) (sites_of_pairs pairs) → seen ≡ names
-    → next ≡ map (λ e. (e.0, if e.1 == class_name_in seen p.0 then class_name_in seen p.1 else e.1)) seen
-    → next ≡ map (λ s. (s, class (drop k pairs) s)) (sites_of_pairs pairs)
-joined_step pairs left k p names seen next z l e f g h =
-    let there : Contains pairs p = (k, omega arith, sym e) in
-    let one = member_is_in p.0 (sites_of_pairs pairs) (in_flat_map (λ q. q.0 ∷ (q.1 ∷ [])) pairs p p.0 there (in_head p.0 (p.1 ∷ []))) in
-    let other = member_is_in p.1 (sites_of_pairs pairs) (in_flat_map (λ q. q.0 ∷ (q.1 ∷ [])) pairs p p.1 there (in_tail p.0 p.1 (p.1 ∷ []) (in_head p.1 []))) in
-    h ∙ named_more (sites_of_pairs pairs) p (drop (suc k) pairs) seen (g ∙ f ∙ ap (λ j. map (λ s. (s, class (drop j pairs) s)) (sites_of_pairs pairs)) z) one other
-    ∙ ap (λ ps. map (λ s. (s, class ps s)) (sites_of_pairs pairs)) (sym (drop-cons pairs k p (omega arith) ∙ ap (λ q. q ∷ drop (suc k) pairs) (sym e)))
+    twice (x ∷ xs) = ap (λ l. (x, class ((a, b) ∷ ps) x) ∷ l) (twice xs)

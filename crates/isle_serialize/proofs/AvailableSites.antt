@@ -1,14 +1,14 @@
 -- A site is available exactly where it was brought, or needs not be and all its sources are available.
 use Rattle.std.proofs.Common.{◌≡◌, ℕ, zero, suc, ◌+◌, ◌<◌, Bool, true, false, not, ◌&&◌, ◌||◌, List, [], ◌∷◌, ◌++◌, length, take, get_or, Contains, slice_get, refl, sym, ap, ◌∙◌, subst, inl, inr, arith, eqb-true, ◌==◌, if◌then◌else◌}
 use Rattle.std.specs.List.{list_all}
-use Rattle.std.proofs.lemmas.Bool.{cases_Bool, cond-false, or_left, or_right}
+use Rattle.std.proofs.lemmas.Bool.{cases_Bool, cond-true, cond-false, or_cases, or_left, or_right, false≢true}
 use Rattle.std.proofs.lemmas.List.{take_more}
 use Rattle.std.proofs.lemmas.List.Folds.{list_all-append}
-use Rattle.isle_serialize.specs.declared.small_set.SmallSet.{SmallSet}
 use Rattle.model.specs.sites.Sites.{Site, sources_at}
 use Rattle.model.specs.trees.Places.{Around, available, is_in, waits, is_available}
 use Rattle.model.proofs.Members.{nothing_in, in_head, in_tail, in_cases}
-use Rattle.isle_serialize.specs.AroundViews.{has, AreAtHand}
+use Rattle.isle_serialize.specs.AroundViews.{AreAtHand}
+use Rattle.isle_serialize.proofs.Tables.{is_in_append}
 
 module _ (sites : List Site) (sources : (s a : ℕ) → Contains (sources_at sites s) a → a < s) (brought : List ℕ) where
   -- more layers than a number has change nothing
@@ -86,9 +86,15 @@ neither true b h = h
 neither false b h = refl
 
 -- a site that is found is noted
-pub found_more : (sites : List Site) (ar : Around) (x : ℕ) (old new : SmallSet) → ((s : ℕ) → has new s ≡ (if x == s then true else has old s)) → available sites ar x ≡ true → AreAtHand sites ar old → AreAtHand sites ar new
-found_more sites ar x old new h k a s e =
-    elim (cases_Bool (x == s)) [
-      | inl t ↦ subst (λ y. available sites ar y ≡ true) (eqb-true x s t) k
-      | inr f ↦ a s (sym (h s ∙ cond-false (x == s) true (has old s) f) ∙ e)
+pub found_more : (sites : List Site) (ar : Around) (x : ℕ) (old new : List ℕ) → new ≡ (if is_in x old then old else old ++ x ∷ []) → available sites ar x ≡ true → AreAtHand sites ar old → AreAtHand sites ar new
+found_more sites ar x old new e k a s h =
+    elim (cases_Bool (is_in x old)) [
+      | inl t ↦ a s (sym (ap (is_in s) (e ∙ cond-true (is_in x old) old (old ++ x ∷ []) t)) ∙ h)
+      | inr f ↦ elim (or_cases (is_in s old) ((x == s) || false) (sym (ap (is_in s) (e ∙ cond-false (is_in x old) old (old ++ x ∷ []) f) ∙ is_in_append s old (x ∷ [])) ∙ h)) [
+        | inl o ↦ a s o
+        | inr o ↦ elim (or_cases (x == s) false o) [
+          | inl t ↦ subst (λ y. available sites ar y ≡ true) (eqb-true x s t) k
+          | inr t ↦ absurd (false≢true t)
+        ]
+      ]
     ]

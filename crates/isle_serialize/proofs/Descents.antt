@@ -1,7 +1,7 @@
 -- Rules in order: those that a filter keeps are, and those that reach a bar stand first.
-use Rattle.std.proofs.Common.{◌≡◌, ℕ, ℤ, Bool, true, false, List, [], ◌∷◌, Option, Some, None, Contains, filter, refl, sym, ap, ◌∙◌, inl, inr, arith, ◌≤ℤ◌, not}
+use Rattle.std.proofs.Common.{◌≡◌, ℕ, zero, suc, ℤ, Bool, true, false, List, [], ◌∷◌, Option, Some, None, Contains, drop, filter, refl, sym, ap, ◌∙◌, inl, inr, arith, ◌≤ℤ◌, not}
 use Rattle.std.specs.List.{list_all, take_while}
-use Rattle.std.proofs.lemmas.Bool.{cases_Bool, cond-true, cond-false, and_parts, and_from, false≢true}
+use Rattle.std.proofs.lemmas.Bool.{cases_Bool, cond-true, cond-false, and_parts, and_from, not-false, false≢true}
 use Rattle.std.proofs.lemmas.Int.{ints}
 use Rattle.std.proofs.lemmas.List.Sums.{take_while-cons}
 use Rattle.model.specs.sites.Sites.{SetRule}
@@ -15,6 +15,10 @@ use Rattle.isle_serialize.specs.Bars.{reaches}
 pub none_kept : {X : Type 0} (p : X → Bool) (xs : List X) → ((x : X) → Contains xs x → p x ≡ false) → filter p xs ≡ []
 none_kept p [] h = refl
 none_kept p (x ∷ xs) h = cond-false (p x) (x ∷ filter p xs) (filter p xs) (h x (in_head x xs)) ∙ none_kept p xs (λ y c. h y (in_tail x y xs c))
+
+pub all_kept : {X : Type 0} (p : X → Bool) (xs : List X) → ((x : X) → Contains xs x → p x ≡ true) → filter p xs ≡ xs
+all_kept p [] h = refl
+all_kept p (x ∷ xs) h = cond-true (p x) (x ∷ filter p xs) (filter p xs) (h x (in_head x xs)) ∙ ap (λ l. x ∷ l) (all_kept p xs (λ y c. h y (in_tail x y xs c)))
 
 module _ (rules : List SetRule) where
   pub descend_kept : (p : ℕ → Bool) (xs : List ℕ) → descend rules xs ≡ true → descend rules (filter p xs) ≡ true
@@ -30,6 +34,11 @@ module _ (rules : List SetRule) where
         | inr f ↦ ap (descend rules) (cond-false (p x) (x ∷ filter p xs) (filter p xs) f) ∙ rest
       ]
 
+  pub descend_drop : (k : ℕ) (xs : List ℕ) → descend rules xs ≡ true → descend rules (drop k xs) ≡ true
+  descend_drop zero xs h = h
+  descend_drop (suc k) [] h = refl
+  descend_drop (suc k) (x ∷ xs) h = descend_drop k xs (descend_rest rules x xs h)
+
   pub itself : (x : ℤ) → x ≤ℤ x
   itself x = omega (arith, ints)
 
@@ -43,11 +52,7 @@ module _ (rules : List SetRule) where
 
   below_too : (bar : Option ℕ) (x y : ℕ) → prio_at rules y ≤ℤ prio_at rules x → reaches rules bar x ≡ false → reaches rules bar y ≡ false
   below_too None x y l h = h
-  below_too (Some b) x y l h = ap not (lower_too x y b l (of (is_lower rules x b) h))
-    where
-      of : (b : Bool) → not b ≡ false → b ≡ true
-      of true e = refl
-      of false e = absurd (false≢true (sym e))
+  below_too (Some b) x y l h = ap not (lower_too x y b l (not-false (is_lower rules x b) h))
 
   pub reaching_first : (bar : Option ℕ) (xs : List ℕ) → descend rules xs ≡ true → take_while (reaches rules bar) xs ≡ filter (reaches rules bar) xs
   reaching_first bar [] h = refl

@@ -1,11 +1,12 @@
 -- The end of a block: rules in order, and their returns, one after another.
-use Rattle.std.proofs.Common.{◌≡◌, ℕ, zero, suc, ◌+◌, ◌<◌, ◌≤◌, Bool, true, false, not, ◌&&◌, nat_lt, cond, List, [], ◌∷◌, ◌++◌, length, get_or, drop, slice_get, Contains, filter, refl, sym, ap, ◌∙◌, subst, inl, inr, arith, lt-ltb, int_cmp, int_eq, is_lt, add-one, drop-cons, drop_of_length-le}
+use Rattle.std.proofs.Common.{◌≡◌, ℕ, suc, ◌+◌, ◌<◌, ◌≤◌, Bool, true, false, not, ◌&&◌, nat_lt, cond, List, [], ◌∷◌, ◌++◌, length, get_or, drop, slice_get, Contains, filter, refl, sym, ap, ◌∙◌, subst, inl, inr, arith, lt-ltb, int_cmp, int_eq, is_lt, add-one, drop-cons, drop_of_length-le}
 use Rattle.std.specs.Cmp.{IsStrictWeakOrder, int_cmp_total}
 use Rattle.std.specs.List.{list_all}
 use Rattle.std.specs.List.Sorted.{ties, IsSortedBy, IsStableBy}
 use Rattle.std.proofs.lemmas.Bool.{cases_Bool, cond-true, and_parts, and_from, or_left, or_right}
 use Rattle.std.proofs.lemmas.Bool.Decides.{Decides-int_eq}
 use Rattle.std.proofs.lemmas.Int.{ints}
+use Rattle.std.proofs.lemmas.List.{append-nil}
 use Rattle.std.proofs.lemmas.List.Sorted.{ranks_by, IsStrictWeakOrder-flip, sorted_far, IsPermutation-refl}
 use Rattle.laws_runs.proofs.runs.ChosenRules.{one_number}
 use Rattle.model.specs.sites.Sites.{SetRule, SiteSet}
@@ -14,17 +15,16 @@ use Rattle.model.specs.trees.Places as Places
 use Rattle.model.specs.trees.Places.{return_uses, bind_order, after_step}
 use Rattle.model.specs.trees.Tests.{is_lower}
 use Rattle.model.specs.trees.Best.{comes_first, descend}
-use Rattle.model.proofs.Members.{nothing_in, in_filter, each_passes, all_pass}
-use Rattle.laws_trees.proofs.Covers.{prio_at, not_lower_at_least, at_least_not_lower, descend_rest}
+use Rattle.model.proofs.Members.{in_filter, each_passes, all_pass}
+use Rattle.laws_trees.proofs.Covers.{prio_at, not_lower_at_least, at_least_not_lower}
 use Rattle.isle_rule_sets.specs.Listings.{ascends}
-use Rattle.isle_serialize.specs.declared.around.Around.{Around}
 use Rattle.isle_serialize.specs.declared.serialize.EvalStep.{EvalStep}
-use Rattle.isle_serialize.specs.AroundViews.{around_view, IsInside, after_uses}
+use Rattle.isle_serialize.specs.AroundViews.{Alike, after_uses}
 use Rattle.isle_serialize.specs.Growing.{AreEnds}
 use Rattle.isle_serialize.specs.TreeViews.{check_view, steps_view}
 use Rattle.isle_serialize.proofs.Ascents.{ascends_head, ascends_kept, ascends_tail}
+use Rattle.isle_serialize.proofs.Descents.{descend_drop}
 use Rattle.isle_serialize.proofs.Growth.{no_ends, end_more, ends_alike}
-use Rattle.isle_serialize.proofs.BodySteps.{inside_alike}
 use Rattle.isle_serialize.proofs.StepsJoined.{step_joined, steps_joined}
 
 -- 1. a stable sort by descending priority of rules that ascend
@@ -86,36 +86,25 @@ module _ (rules : List SetRule) where
   sorted_descend xs ys up sorted stable =
       descends ys (sorted_far is_behind strict ys sorted) (λ i. ap ascends (stable i) ∙ ascends_kept (ties is_behind i) xs up)
 
-  descend_drop : (k : ℕ) (xs : List ℕ) → descend rules xs ≡ true → descend rules (drop k xs) ≡ true
-  descend_drop zero xs h = h
-  descend_drop (suc k) [] h = refl
-  descend_drop (suc k) (x ∷ xs) h = descend_drop k xs (descend_rest rules x xs h)
-
 -- 2. the returns of rules in order
 module _ (set : SiteSet) (start : Places.Around) (order : List ℕ) where
   -- with what may follow, the returns so far are all ends
   abbrev pub EndsSoFar : Places.Around → ℕ → List EvalStep → Type 0
   EndsSoFar ar k steps = (t : Tree) → AreEnds set ar (drop k order) t → AreEnds set start order (join (steps_view steps) t)
 
-  pub return_more : descend set.rules order ≡ true → (ar : Places.Around) (after : Around) (k n : ℕ) (steps next : List EvalStep) (s : EvalStep) → k < length order → n ≡ get_or order k 0 → next ≡ steps ++ s ∷ []
+  pub return_more : descend set.rules order ≡ true → (ar after : Places.Around) (k n : ℕ) (steps next : List EvalStep) (s : EvalStep) → k < length order → n ≡ get_or order k 0 → next ≡ steps ++ s ∷ []
       → s.bind_order.items ≡ bind_order set.sites ar (return_uses (slice_get set.rules n)) → check_view s.check ≡ return_of (slice_get set.rules n)
-      → IsInside (around_view after) (after_uses set ar (return_uses (slice_get set.rules n))) → EndsSoFar ar k steps → EndsSoFar (around_view after) (k + 1) next
+      → Alike after (after_uses set ar (return_uses (slice_get set.rules n))) → EndsSoFar ar k steps → EndsSoFar after (k + 1) next
   return_more down ar after k n steps next s l g e binds check inside far t a =
       let rest = drop (suc k) order in
       let cons : drop k order ≡ n ∷ rest = drop-cons order k 0 l ∙ ap (λ m. m ∷ rest) (sym g) in
       let first = each_passes (comes_first set.rules n) rest (and_parts (list_all (comes_first set.rules n) rest) (descend set.rules rest) (ap (descend set.rules) (sym cons) ∙ descend_drop set.rules k order down)).0 in
-      let behind = ends_alike set (around_view after) (after_step set ar (m_return n)) rest t (inside_alike after (after_step set ar (m_return n)) inside) (subst (λ m. AreEnds set (around_view after) (drop m order) t) (add-one k) a) in
+      let behind = ends_alike set after (after_step set ar (m_return n)) rest t (record { sources = inside.sources; joined = inside.joined; brought = inside.brought; emitted = inside.emitted }) (subst (λ m. AreEnds set after (drop m order) t) (add-one k) a) in
       let more = end_more set ar (n ∷ rest) rest n s.bind_order.items t (IsPermutation-refl (n ∷ rest)) first binds behind in
       let whole = far (step s.bind_order.items (return_of (slice_get set.rules n)) t) (subst (λ h. AreEnds set ar h (step s.bind_order.items (return_of (slice_get set.rules n)) t)) (sym cons) more) in
       subst (AreEnds set start order) (sym (ap (λ xs. join (steps_view xs) t) e ∙ step_joined steps s t ∙ ap (λ c. join (steps_view steps) (step s.bind_order.items c t)) check)) whole
 
   -- behind the last one no rule is left
-  pub return_last : descend set.rules order ≡ true → (ar : Places.Around) (k n : ℕ) (steps all : List EvalStep) (s : EvalStep) → k < length order → length order ≤ suc k → n ≡ get_or order k 0 → all ≡ steps ++ s ∷ []
-      → s.bind_order.items ≡ bind_order set.sites ar (return_uses (slice_get set.rules n)) → check_view s.check ≡ return_of (slice_get set.rules n) → EndsSoFar ar k steps → AreEnds set start order (steps_view all)
-  return_last down ar k n steps all s l over g e binds check far =
-      let cons : drop k order ≡ n ∷ [] = drop-cons order k 0 l ∙ ap (λ m. m ∷ drop (suc k) order) (sym g) ∙ ap (λ rest. n ∷ rest) (drop_of_length-le order over) in
-      let behind = no_ends set (after_step set ar (m_return n)) in
-      let more = end_more set ar (n ∷ []) [] n s.bind_order.items no_step (IsPermutation-refl (n ∷ [])) (λ j c. absurd (nothing_in j c)) binds behind in
-      let this = step s.bind_order.items (return_of (slice_get set.rules n)) no_step in
-      let whole = far this (subst (λ h. AreEnds set ar h this) (sym cons) more) in
-      subst (AreEnds set start order) (sym (ap steps_view e ∙ steps_joined steps (s ∷ []) ∙ ap (λ c. join (steps_view steps) (step s.bind_order.items c no_step)) check)) whole
+  pub returns_whole : (ar : Places.Around) (k : ℕ) (steps : List EvalStep) → length order ≤ k → EndsSoFar ar k steps → AreEnds set start order (steps_view steps)
+  returns_whole ar k steps over far =
+      subst (AreEnds set start order) (sym (steps_joined steps []) ∙ ap steps_view (append-nil steps)) (far no_step (subst (λ h. AreEnds set ar h no_step) (sym (drop_of_length-le order over)) (no_ends set ar)))

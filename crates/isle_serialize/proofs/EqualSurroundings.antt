@@ -3,18 +3,13 @@
 use Rattle.std.proofs.Common.{◌≡◌, ℕ, zero, suc, Bool, true, false, not, ◌&&◌, ◌||◌, ◌==◌, nat_lt, cond, List, [], ◌∷◌, ◌++◌, length, map, Option, Some, None, slice_get, refl, sym, ap, ◌∙◌, filter, flat_map}
 use Rattle.model.specs.sites.Sites.{Site, Constraint, SiteSet, sources_at}
 use Rattle.model.specs.trees.Trees.{Marked, m_no_step, m_step, MarkedCheck, m_match, m_equal, m_loop, m_return, MarkedArms, m_no_arm, m_arm, marks, marks_arms}
-use Rattle.model.specs.trees.Places.{Around, is_in, joins, available, is_in_place, each_after, listed_below, bind_order, uses, field_sites, in_arm, in_equal, in_loop, after_step, all_below, emits}
+use Rattle.model.specs.trees.Places.{Around, is_in, joins, waits, available, is_available, is_in_place, each_after, listed_below, bind_order, uses, field_sites, in_arm, in_equal, in_loop, after_step, all_below, emits}
 use Rattle.model.specs.trees.Sound.{as_number, is_return}
-use Rattle.model.specs.trees.Tests.{Test, match_test, equal_test, loop_test, cover, sources_around, is_open, score, is_greater}
+use Rattle.model.specs.trees.Tests.{Test, match_test, equal_test, loop_test, cover, is_open, score, is_greater}
 use Rattle.model.specs.trees.Best.{IsGreatest, IsMade, IsEnd, BestSteps, BestCheck, BestArms}
+use Rattle.std.specs.List.{list_all}
+use Rattle.isle_serialize.specs.AroundViews.{Alike}
 use Rattle.isle_serialize.proofs.Tables.{is_in_append}
-
--- what is around two places that agree
-pub record Alike (ar br : Around) : Type 0 where
-  pub sources : (s : ℕ) → is_in s (sources_around ar) ≡ is_in s (sources_around br)
-  pub joined : ar.joined ≡ br.joined
-  pub brought : ar.brought ≡ br.brought
-  pub emitted : (s : ℕ) → is_in s ar.emitted ≡ is_in s br.emitted
 
 -- as many more
 pub more_alike : (zs xs ys : List ℕ) → ((s : ℕ) → is_in s xs ≡ is_in s ys) → (s : ℕ) → is_in s (zs ++ xs) ≡ is_in s (zs ++ ys)
@@ -40,11 +35,12 @@ binds_alike sites ar br a ss =
 
 -- 2. tests
 module _ (set : SiteSet) (ar br : Around) (a : Alike ar br) where
+  levels_alike : (n s : ℕ) → is_available n set.sites ar.brought s ≡ is_available n set.sites br.brought s
+  levels_alike zero s = refl
+  levels_alike (suc n) s = let b = a.brought s in λ i. b i || (not (waits (slice_get set.sites s)) && list_all (λ t. levels_alike n t i) (sources_at set.sites s))
+
   at_alike : (s : ℕ) → available set.sites ar s ≡ available set.sites br s
-  at_alike s = ap (λ b. is_available_by b) a.brought
-    where
-      is_available_by : List ℕ → Bool
-      is_available_by b = available set.sites (record { tested = []; joined = []; looped = []; brought = b; emitted = [] }) s
+  at_alike s = levels_alike (suc s) s
 
   open_alike : (t : Test) → is_open set ar t ≡ is_open set br t
   open_alike (match_test s) = let e = at_alike s in let f = a.sources s in λ i. (nat_lt s (length set.sites) && e i) && not (f i)
@@ -81,7 +77,7 @@ module _ (set : SiteSet) where
   arm_alike ar br a s c fields = record {
     sources = λ t. ap (λ b. (s == t) || b) (a.sources t);
     joined = a.joined;
-    brought = ap (λ l. field_sites fields ++ l) a.brought;
+    brought = more_alike (field_sites fields) ar.brought br.brought a.brought;
     emitted = more_alike (field_sites fields ++ all_below set.sites (s ∷ [])) ar.emitted br.emitted a.emitted;
   }
 
@@ -93,7 +89,7 @@ module _ (set : SiteSet) where
     emitted = more_alike (all_below set.sites (x ∷ (y ∷ []))) ar.emitted br.emitted a.emitted;
   }
 
-  looped_alike : (zs : List ℕ) (ds es : List (ℕ × Constraint)) (xs ys : List ℕ) → ((s : ℕ) → is_in s (map (λ d. d.0) ds ++ xs) ≡ is_in s (map (λ d. d.0) es ++ ys)) → (s : ℕ) → is_in s (map (λ d. d.0) ds ++ (zs ++ xs)) ≡ is_in s (map (λ d. d.0) es ++ (zs ++ ys))
+  pub looped_alike : (zs : List ℕ) (ds es : List (ℕ × Constraint)) (xs ys : List ℕ) → ((s : ℕ) → is_in s (map (λ d. d.0) ds ++ xs) ≡ is_in s (map (λ d. d.0) es ++ ys)) → (s : ℕ) → is_in s (map (λ d. d.0) ds ++ (zs ++ xs)) ≡ is_in s (map (λ d. d.0) es ++ (zs ++ ys))
   looped_alike zs ds es xs ys h s =
       let a = map (λ (d : ℕ × Constraint). d.0) ds in
       let b = map (λ (d : ℕ × Constraint). d.0) es in
@@ -113,7 +109,7 @@ module _ (set : SiteSet) where
   loop_alike ar br a result = record {
     sources = looped_alike (sources_at set.sites result) ar.tested br.tested ar.looped br.looped a.sources;
     joined = a.joined;
-    brought = ap (λ l. result ∷ l) a.brought;
+    brought = λ s. ap (λ b. (result == s) || b) (a.brought s);
     emitted = λ s. ap (λ b. (result == s) || b) (more_alike (flat_map (λ t. all_below set.sites (sources_at set.sites t)) (sources_at set.sites result)) ar.emitted br.emitted a.emitted s);
   }
 

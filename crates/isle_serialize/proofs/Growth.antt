@@ -2,7 +2,7 @@
 use Rattle.std.proofs.Common.{◌≡◌, ◌≢◌, ℕ, Bool, true, false, not, ◌&&◌, ◌||◌, cond, List, [], ◌∷◌, ◌++◌, length, Option, Some, None, slice_get, Contains, IsTrue, refl, sym, ap, ◌∙◌, filter}
 use Rattle.std.specs.Prelude.{IsPermutation}
 use Rattle.std.specs.List.{list_all}
-use Rattle.std.proofs.lemmas.Bool.{cond-true, cond-false, and_from, false≢true, not-true}
+use Rattle.std.proofs.lemmas.Bool.{and_from, false≢true, not-true}
 use Rattle.std.proofs.lemmas.List.Elements.{filter-append}
 use Rattle.std.proofs.lemmas.List.Sums.{length-filter}
 use Rattle.std.proofs.lemmas.List.Sorted.{IsPermutation-refl, IsPermutation-sym, IsPermutation-cons, IsPermutation-trans, IsPermutation-append, IsPermutation-filter_both, Contains-permutation, sum_by-IsPermutation, length_permutation}
@@ -13,10 +13,12 @@ use Rattle.model.specs.trees.Places.{Around, return_uses, bind_order, fields_of,
 use Rattle.model.specs.trees.Sound.{IsAfter}
 use Rattle.model.specs.trees.Tests.{Test, match_test, equal_test, loop_test, needs_at, is_lower, is_covered, cover, IsOpen, score, is_greater}
 use Rattle.model.specs.trees.Best.{IsGreatest, IsMade, comes_first, descend, BestSteps}
-use Rattle.model.proofs.Members.{in_head, in_tail, each_passes, all_pass, from_filter}
+use Rattle.model.proofs.Members.{each_passes, all_pass, from_filter}
 use Rattle.laws_closure.proofs.overlaps.Overlaps.{bool_same}
 use Rattle.isle_serialize.specs.Growing.{IsBestFrom, AreEnds, AreBestArms}
-use Rattle.isle_serialize.proofs.EqualSurroundings.{Alike, steps_alike}
+use Rattle.isle_serialize.specs.AroundViews.{Alike}
+use Rattle.isle_serialize.proofs.Descents.{all_kept, none_kept}
+use Rattle.isle_serialize.proofs.EqualSurroundings.{steps_alike}
 
 -- 1. whatever the order of a place's rules
 module _ (xs ys : List ℕ) (moved : IsPermutation xs ys) where
@@ -49,14 +51,6 @@ module _ (xs ys : List ℕ) (moved : IsPermutation xs ys) where
 
 pub some_moved : (xs ys : List ℕ) → IsPermutation xs ys → xs ≢ [] → ys ≢ []
 some_moved xs ys m h e = h (nil_from_length xs (sym (length_permutation xs ys m) ∙ ap length e))
-
-pub all_kept : {X : Type 0} (p : X → Bool) (xs : List X) → ((x : X) → Contains xs x → p x ≡ true) → filter p xs ≡ xs
-all_kept p [] h = refl
-all_kept p (x ∷ xs) h = cond-true (p x) (x ∷ filter p xs) (filter p xs) (h x (in_head x xs)) ∙ ap (λ l. x ∷ l) (all_kept p xs (λ y c. h y (in_tail x y xs c)))
-
-none_kept : (p : ℕ → Bool) (xs : List ℕ) → ((x : ℕ) → Contains xs x → p x ≡ false) → filter p xs ≡ []
-none_kept p [] h = refl
-none_kept p (x ∷ xs) h = cond-false (p x) (x ∷ filter p xs) (filter p xs) (h x (in_head x xs)) ∙ none_kept p xs (λ y c. h y (in_tail x y xs c))
 
 -- 2. a test is made where it is the greatest and its step holds what it covers, the rest behind it
 module _ (set : SiteSet) (ar : Around) (here : List ℕ) (t : Test) where

@@ -1,10 +1,9 @@
 pub mod TreeLaws
 mod Tables
-mod SiteSets
 mod AroundSteps
 mod TestSteps
 mod BarSteps
-mod OpenTestLists
+mod BestSearches
 mod AvailableSites
 mod EqualSurroundings
 mod Growth
@@ -15,6 +14,7 @@ mod Ascents
 mod Descents
 mod StepsJoined
 mod BodySteps
+mod ListChanges
 mod EndSteps
 mod UntriedTests
 mod PlaceSteps

@@ -18,6 +18,14 @@ pub is_in_append : (x : ℕ) (xs ys : List ℕ) → is_in x (xs ++ ys) ≡ (is_i
 is_in_append x [] ys = refl
 is_in_append x (y ∷ xs) ys = ap (λ b. (y == x) || b) (is_in_append x xs ys) ∙ sym (or_assoc (y == x) (is_in x xs) (is_in x ys))
 
+alone_or : (a b : Bool) → ((a || false) || b) ≡ (a || b)
+alone_or true b = refl
+alone_or false b = refl
+
+-- one site more
+pub is_in_first : (s n x : ℕ) (xs : List ℕ) → n ≡ x → (is_in s (n ∷ []) || is_in s xs) ≡ ((x == s) || is_in s xs)
+is_in_first s n x xs e = alone_or (n == s) (is_in s xs) ∙ ap (λ m. (m == s) || is_in s xs) e
+
 passing_in : (n : ℕ) (p : ℕ → Bool) (s : ℕ) → p s ≡ true → s < n → is_in s (passing_below n p) ≡ true
 unfolding passing_below
 passing_in zero p s h l = absurd (omega arith)

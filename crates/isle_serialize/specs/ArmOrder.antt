@@ -2,11 +2,10 @@
 use Rattle.std.specs.Prelude.{◌≡◌, ℕ, Bool, false, List, [], ◌∷◌, map, Option, Some, None, is_some, slice_get, Contains, IsPermutation}
 use Rattle.std.specs.List.{filter}
 use Rattle.model.specs.sites.Sites.{Constraint, SetRule, SiteSet}
-use Rattle.model.specs.trees.Places.{Around, constraint_at, fields_of}
+use Rattle.model.specs.trees.Places.{constraint_at, fields_of}
 use Rattle.model.specs.trees.Sound.{comes_before}
 use Rattle.model.specs.trees.Judge.{is_that}
 use Rattle.isle_rule_sets.specs.SiteViews.{constraint_view}
-use Rattle.isle_serialize.specs.AroundViews.{around_view, IsInside, arm_around}
 use Rattle.isle_serialize.specs.declared.arms.Asked.{Asked}
 use Rattle.isle_serialize.specs.declared.arms.NextArm.{NextArm}
 
@@ -69,13 +68,12 @@ IsLeastAsked rules s here c =
     × ((i : ℕ) (d : Constraint) → Contains here i → asked_at rules s i ≡ Some d → comes_before d c ≡ false)
 
 -- the arm of the least constraint that these rules ask of a site, and what goes with it
-pub record IsNextArm (set : SiteSet) (ar : Around) (s : ℕ) (here : List ℕ) (next : NextArm) : Type 0 where
+pub record IsNextArm (set : SiteSet) (s : ℕ) (here : List ℕ) (next : NextArm) : Type 0 where
   pub least : IsLeastAsked set.rules s here (constraint_view next.constraint)
   pub fields : next.fields.items ≡ fields_of set.sites s (constraint_view next.constraint)
   pub asking : next.asking.items ≡ filter (asks set.rules s (constraint_view next.constraint)) here
-  pub inside : IsInside (around_view next.inside) (arm_around set ar s next.fields.items)
 
 -- the same where there is one; where there is none, no rule is left
-abbrev pub IsNextArmOf : SiteSet → Around → ℕ → List ℕ → Option NextArm → Type 0
-IsNextArmOf set ar s here None = here ≡ []
-IsNextArmOf set ar s here (Some next) = IsNextArm set ar s here next
+abbrev pub IsNextArmOf : SiteSet → ℕ → List ℕ → Option NextArm → Type 0
+IsNextArmOf set s here None = here ≡ []
+IsNextArmOf set s here (Some next) = IsNextArm set s here next

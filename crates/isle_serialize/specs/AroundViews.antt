@@ -1,18 +1,15 @@
 -- What stands around a place, as it is kept: the sources of arms and loops in one list.
-use Rattle.std.specs.Prelude.{◌≡◌, ℕ, Bool, true, ◌==◌, ◌||◌, if◌then◌else◌, List, [], ◌∷◌, ◌++◌, Option}
+use Rattle.std.specs.Prelude.{◌≡◌, ℕ, true, ◌==◌, if◌then◌else◌, List, [], ◌∷◌, ◌++◌, map}
 use Rattle.std.specs.List.{flat_map}
-use Rattle.model.specs.sites.Sites.{Site, SiteSet, sources_at}
+use Rattle.model.specs.sites.Sites.{Site, SiteSet}
 use Rattle.model.specs.trees.Places as Places
-use Rattle.model.specs.trees.Places.{is_in, class, all_below, available, field_sites}
+use Rattle.model.specs.trees.Places.{is_in, class, all_below, available}
 use Rattle.model.specs.trees.Tests.{sources_around}
-use Rattle.isle_base.specs.Stable.{contains}
 use Rattle.isle_serialize.specs.declared.around.Around.{Around}
-use Rattle.isle_serialize.specs.declared.around.Known.{Known}
-use Rattle.isle_serialize.specs.declared.small_set.SmallSet.{SmallSet}
 
 -- of the arms around only the sources are kept, and they stand with those of the loops: no more is asked of them
 abbrev pub around_view : Around → Places.Around
-around_view a = record { tested = []; joined = a.joined.items; looped = a.sources.items; brought = a.brought.items; emitted = a.emitted.items }
+around_view a = record { tested = []; joined = a.joined.items; looped = a.sources; brought = a.brought; emitted = a.emitted }
 
 -- the sites of pairs
 abbrev pub sites_of_pairs : List (ℕ × ℕ) → List ℕ
@@ -23,39 +20,21 @@ abbrev pub class_name_in : List (ℕ × ℕ) → ℕ → ℕ
 class_name_in [] s = s
 class_name_in (e ∷ es) s = if e.0 == s then e.1 else class_name_in es s
 
--- a table of the classes of sites under pairs that are joined
-abbrev pub IsNaming : List (ℕ × ℕ) → List (ℕ × ℕ) → Type 0
-IsNaming pairs names = (s : ℕ) → class_name_in names s ≡ class pairs s
+-- the table has the class of each site of pairs that are joined
+abbrev pub NamesClasses : List (ℕ × ℕ) → List (ℕ × ℕ) → Type 0
+NamesClasses pairs names = names ≡ map (λ s. (s, class pairs s)) (sites_of_pairs pairs)
 
--- whether a set has a site
-abbrev pub has : SmallSet → ℕ → Bool
-has set s = is_in s set.few.items || contains ◌==◌ set.others s
+-- each of some sites is available
+abbrev pub AreAtHand : List Site → Places.Around → List ℕ → Type 0
+AreAtHand sites ar found = (s : ℕ) → is_in s found ≡ true → available sites ar s ≡ true
 
--- a set of exactly these sites
-abbrev pub IsSetOf : List ℕ → SmallSet → Type 0
-IsSetOf sites set = (s : ℕ) → has set s ≡ is_in s sites
-
--- a set of exactly the sites of two lists
-abbrev pub AreSettled : List ℕ → List ℕ → SmallSet → Type 0
-AreSettled emitted listed set = (s : ℕ) → has set s ≡ (is_in s emitted || is_in s listed)
-
--- each site of the set is available
-abbrev pub AreAtHand : List Site → Places.Around → SmallSet → Type 0
-AreAtHand sites ar found = (s : ℕ) → has found s ≡ true → available sites ar s ≡ true
-
--- look-ups of what is around a place
-pub record IsKnown (ar : Places.Around) (known : Known) : Type 0 where
-  pub names : IsNaming ar.joined known.names.items
-  pub sources : IsSetOf ar.looped known.sources
-  pub brought : IsSetOf ar.brought known.brought
-  pub emitted : IsSetOf ar.emitted known.emitted
-
--- what is kept of a place says the same as what is around it: only whether a site is emitted is asked, not how often
-pub record IsInside (kept ar : Places.Around) : Type 0 where
-  pub sources : kept.looped ≡ sources_around ar
-  pub joined : kept.joined ≡ ar.joined
-  pub brought : kept.brought ≡ ar.brought
-  pub emitted : (s : ℕ) → is_in s kept.emitted ≡ is_in s ar.emitted
+-- what is around two places says the same of both: the sources of the arms and loops, the joined pairs, which sites were
+-- brought and which are emitted
+pub record Alike (ar br : Places.Around) : Type 0 where
+  pub sources : (s : ℕ) → is_in s (sources_around ar) ≡ is_in s (sources_around br)
+  pub joined : ar.joined ≡ br.joined
+  pub brought : (s : ℕ) → is_in s ar.brought ≡ is_in s br.brought
+  pub emitted : (s : ℕ) → is_in s ar.emitted ≡ is_in s br.emitted
 
 -- the same place, where these sites are emitted
 abbrev pub where_emitted : Places.Around → List ℕ → Places.Around
@@ -76,11 +55,3 @@ where_joined ar a b = record { tested = ar.tested; joined = (a, b) ∷ ar.joined
 -- around the body of an arm or a loop of this source, which brings these sites
 abbrev pub brings : Places.Around → ℕ → List ℕ → Places.Around
 brings ar s sites = record { tested = []; joined = ar.joined; looped = s ∷ ar.looped; brought = sites ++ ar.brought; emitted = sites ++ ar.emitted }
-
--- around the body of an arm, whatever its constraint
-abbrev pub arm_around : SiteSet → Places.Around → ℕ → List (Option ℕ) → Places.Around
-arm_around set ar s fields = brings (after_uses set ar (s ∷ [])) s (field_sites fields)
-
--- around the body of a loop over a call
-abbrev pub loop_around : SiteSet → Places.Around → ℕ → ℕ → Places.Around
-loop_around set ar call result = brings (after_uses set ar (sources_at set.sites call)) call (result ∷ [])

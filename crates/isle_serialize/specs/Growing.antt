@@ -3,7 +3,7 @@ use Rattle.std.specs.Prelude.{◌≡◌, ◌≢◌, ℕ, ◌<◌, ◌≤◌, tru
 use Rattle.std.specs.List.{filter}
 use Rattle.model.specs.sites.Sites.{Constraint, SetRule, Site, SiteSet, sources_at}
 use Rattle.model.specs.trees.Trees.{Tree, Check, match_at, equal_at, loop_at, Arms, Marked, MarkedArms, marks, marks_arms, plain, plain_arms}
-use Rattle.model.specs.trees.Places.{Around, bind_order, in_equal, in_loop}
+use Rattle.model.specs.trees.Places.{Around, in_equal, in_loop}
 use Rattle.model.specs.trees.Tests.{Test, match_test, equal_test, loop_test, needs_at, is_covered, cover, IsOpen}
 use Rattle.model.specs.trees.Best.{descend, BestSteps, BestArms}
 use Rattle.isle_serialize.specs.AroundViews.{AreEmitted}
@@ -76,10 +76,8 @@ AreEmittedBy set ar t sites = AreEmitted set ar (test_emits set t) sites
 -- the test that is made at a place, and what goes with it
 pub record IsNextTest (set : SiteSet) (ar : Around) (here : List ℕ) (next : NextTest) : Type 0 where
   pub chosen : IsChosen set ar here (Some (test_view next.test))
-  pub binds : next.binds.items ≡ bind_order set.sites ar (test_sites (test_view next.test))
   pub covered : next.covered.items ≡ cover set.rules here (test_view next.test)
   pub others : next.others.items ≡ filter (λ i. not (is_covered set.rules here (test_view next.test) i)) here
-  pub emitted : AreEmittedBy set ar (test_view next.test) next.emitted.items
 
 -- the same where there is one; where there is none, no open test covers a rule
 abbrev pub IsNext : SiteSet → Around → List ℕ → Option NextTest → Type 0

@@ -7,3 +7,4 @@ pub mod NeededTests
 pub mod Growing
 pub mod FieldTests
 pub mod ArmOrder
+pub mod Changes

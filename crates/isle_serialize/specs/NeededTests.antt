@@ -1,28 +1,44 @@
--- Tests that are listed where they are open, and which tests a rule needs, form by form.
-use Rattle.std.specs.Prelude.{◌≡◌, ◌⊎◌, ℕ, true, List, Contains}
+-- The search for the best test of a place, and which tests a rule needs, form by form.
+use Rattle.std.specs.Prelude.{◌≡◌, ℕ, true, List, Contains}
 use Rattle.std.specs.List.{list_any}
 use Rattle.model.specs.sites.Sites.{iterator_site, SetRule, Site, SiteSet}
-use Rattle.model.specs.trees.Places.{Around}
+use Rattle.model.specs.trees.Places.{Around, is_in, joins}
 use Rattle.model.specs.trees.Tests as Tests
 use Rattle.model.specs.trees.Tests.{match_test, equal_test, loop_test, needs, needs_at, IsOpen}
 use Rattle.isle_serialize.specs.declared.tests.Test.{Test}
+use Rattle.isle_serialize.specs.declared.open_tests.BestSearch.{BestSearch}
 use Rattle.isle_serialize.specs.declared.place.Place.{Place}
-use Rattle.isle_serialize.specs.PlaceViews.{around_at, set_at}
-use Rattle.isle_serialize.specs.TestViews.{test_view}
+use Rattle.isle_serialize.specs.AroundViews.{AreAtHand}
+use Rattle.isle_serialize.specs.PlaceViews.{around_at, here_at, set_at}
+use Rattle.isle_serialize.specs.TestViews.{test_view, IsNoBetter, IsOpenScored}
 
--- the test is among these
-abbrev pub Lists : List Test → Tests.Test → Type 0
-Lists tests u = (t : Test) × Contains tests t × (test_view t ≡ u)
+-- what is kept while a place's tests are tried: what was found to be available is, the best test so far is open, and no
+-- test that was scored is better
+pub record IsBestSearch (set : SiteSet) (ar : Around) (here : List ℕ) (search : BestSearch) : Type 0 where
+  pub found : AreAtHand set.sites ar search.found
+  pub best : IsOpenScored set ar here search.best
+  pub scored : (t : Test) → Contains search.scored.items t → IsNoBetter set ar here search.best (test_view t)
 
--- beside the tests that were listed, the open ones of a kind are, and no other ones that aren't open
-pub record AddsOpen (set : SiteSet) (ar : Around) (Kind : Tests.Test → Type 0) (old new : List Test) : Type 0 where
-  pub open_here : (t : Test) → Contains new t → Contains old t ⊎ IsOpen set ar (test_view t)
-  pub kept : (u : Tests.Test) → Lists old u → Lists new u
-  pub added : (u : Tests.Test) → IsOpen set ar u → Kind u → Lists new u
+-- the open tests of a kind are tried too: none is better than the best then
+pub record SearchesMore (set : SiteSet) (ar : Around) (here : List ℕ) (Kind : Tests.Test → Type 0) (old new : BestSearch) : Type 0 where
+  pub now : IsBestSearch set ar here new
+  pub kept : (u : Tests.Test) → IsNoBetter set ar here old.best u → IsNoBetter set ar here new.best u
+  pub tried : (u : Tests.Test) → IsOpen set ar u → Kind u → IsNoBetter set ar here new.best u
 
 -- the same at a place
-abbrev pub AddsAt : Place → (Tests.Test → Type 0) → List Test → List Test → Type 0
-AddsAt place Kind old new = AddsOpen (set_at place) (around_at place) Kind old new
+abbrev pub IsSearchAt : Place → BestSearch → Type 0
+IsSearchAt place search = IsBestSearch (set_at place) (around_at place) (here_at place) search
+
+abbrev pub SearchesAt : Place → (Tests.Test → Type 0) → BestSearch → BestSearch → Type 0
+SearchesAt place Kind old new = SearchesMore (set_at place) (around_at place) (here_at place) Kind old new
+
+-- of these sites all that are emitted are joined
+abbrev pub EmittedAreJoined : Around → List ℕ → Type 0
+EmittedAreJoined ar sites = (a b : ℕ) → Contains sites a → Contains sites b → is_in a ar.emitted ≡ true → is_in b ar.emitted ≡ true → joins ar.joined a b ≡ true
+
+-- what was found to be available at a place is
+abbrev pub AreFoundAt : Place → List ℕ → Type 0
+AreFoundAt place found = AreAtHand (set_at place).sites (around_at place) found
 
 -- of the kind that one of these is of
 abbrev pub OfSome : {X : Type 0} → (X → Tests.Test → Type 0) → List X → Tests.Test → Type 0

@@ -1,4 +1,5 @@
--- The set of a place, and what stands around it.
+-- The set of a place, its rules, and what stands around it.
+use Rattle.std.specs.Prelude.{ℕ, List}
 use Rattle.model.specs.sites.Sites.{SiteSet}
 use Rattle.model.specs.trees.Places.{Around}
 use Rattle.isle_rule_sets.specs.SiteViews.{set_view}
@@ -14,3 +15,6 @@ set_at place = set_in place.indexed
 
 abbrev pub around_at : Place → Around
 around_at place = around_view place.around.now
+
+abbrev pub here_at : Place → List ℕ
+here_at place = place.here.now

@@ -1,7 +1,7 @@
 -- Tests and scores, sites by their numbers.
-use Rattle.std.specs.Prelude.{◌≡◌, ◌≢◌, ◌⊎◌, ℕ, Bool, false, List, [], Option, Some, None, Contains, if◌then◌else◌}
+use Rattle.std.specs.Prelude.{◌≡◌, ◌≢◌, ◌⊎◌, ◌&&◌, ℕ, Bool, false, List, [], Option, Some, None, if◌then◌else◌}
 use Rattle.model.specs.sites.Sites.{SiteSet}
-use Rattle.model.specs.trees.Places.{Around}
+use Rattle.model.specs.trees.Places.{Around, is_in}
 use Rattle.model.specs.trees.Sound.{as_number}
 use Rattle.model.specs.trees.Tests as Tests
 use Rattle.model.specs.trees.Tests.{match_test, equal_test, loop_test, cover, IsOpen, score, is_greater}
@@ -19,6 +19,12 @@ test_view (Loop source) = loop_test source
 abbrev pub score_view : Score → Tests.Score
 score_view s = record { count = s.count; emitted = as_number s.is_emitted; form = s.form; site = s.site; other = s.other }
 
+-- the score of a test where it covers so many rules
+abbrev pub counted_score : Around → Tests.Test → ℕ → Tests.Score
+counted_score ar (match_test s) n = record { count = n; emitted = as_number (is_in s ar.emitted); form = 0; site = s; other = 0 }
+counted_score ar (equal_test a b) n = record { count = n; emitted = as_number (is_in a ar.emitted && is_in b ar.emitted); form = 1; site = a; other = b }
+counted_score ar (loop_test s) n = record { count = n; emitted = as_number (is_in s ar.emitted); form = 2; site = s; other = 0 }
+
 -- the test that is made at a place: the greatest one, where it covers some rule; and where none does, none
 abbrev pub IsChosen : SiteSet → Around → List ℕ → Option Tests.Test → Type 0
 IsChosen set ar here None = (u : Tests.Test) → IsOpen set ar u → cover set.rules here u ≡ []
@@ -33,21 +39,21 @@ abbrev pub greater_test : SiteSet → Around → List ℕ → Option Test → Te
 greater_test set ar here None test = test
 greater_test set ar here (Some best) test = if beats set ar here test best then test else best
 
--- one of some tests, which has no lower score than any of them; none where there are none
-abbrev pub IsGreatestOf : SiteSet → Around → List ℕ → List Test → Option Test → Type 0
-IsGreatestOf set ar here tests None = tests ≡ []
-IsGreatestOf set ar here tests (Some t) = Contains tests t × ((u : Test) → Contains tests u → beats set ar here u t ≡ false)
-
 -- the score is the test's
 abbrev pub IsScored : SiteSet → Around → List ℕ → Scored → Type 0
 IsScored set ar here s = score_view s.score ≡ score set ar here (test_view s.test)
 
--- the same of a test with its score
-abbrev pub IsGreatestScored : SiteSet → Around → List ℕ → List Test → Option Scored → Type 0
-IsGreatestScored set ar here tests None = tests ≡ []
-IsGreatestScored set ar here tests (Some s) = IsGreatestOf set ar here tests (Some s.test) × IsScored set ar here s
+-- the best test so far, if there is one, is open and has its score
+abbrev pub IsOpenScored : SiteSet → Around → List ℕ → Option Scored → Type 0
+IsOpenScored set ar here None = Unit {0}
+IsOpenScored set ar here (Some s) = IsOpen set ar (test_view s.test) × IsScored set ar here s
 
--- tests of a place that are open, where each other open test covers no rule
-pub record AreUseful (set : SiteSet) (ar : Around) (here : List ℕ) (tests : List Test) : Type 0 where
-  pub open_here : (t : Test) → Contains tests t → IsOpen set ar (test_view t)
-  pub others : (u : Tests.Test) → IsOpen set ar u → ((t : Test) × Contains tests t × (test_view t ≡ u)) ⊎ (cover set.rules here u ≡ [])
+-- a test is no better than the best so far: where there is none, each is better
+abbrev pub IsNoBetter : SiteSet → Around → List ℕ → Option Scored → Tests.Test → Type 0
+IsNoBetter set ar here None u = ⊥
+IsNoBetter set ar here (Some s) u = is_greater (score set ar here u) (score_view s.score) ≡ false
+
+-- an open test with its score, where each open test that is better covers no rule
+pub record IsBestOpen (set : SiteSet) (ar : Around) (here : List ℕ) (best : Option Scored) : Type 0 where
+  pub scored : IsOpenScored set ar here best
+  pub others : (u : Tests.Test) → IsOpen set ar u → IsNoBetter set ar here best u ⊎ (cover set.rules here u ≡ [])

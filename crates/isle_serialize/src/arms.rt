@@ -4,16 +4,11 @@ ghost use Rattle.std.specs.Prelude.{◌≡◌, ◌≤◌, ◌∷◌, [], IfOk, d
 ghost use Rattle.std.specs.List.{filter, prefix_len};
 ghost use Rattle.std.specs.Ordering.{is_lt};
 ghost use Rattle.model.specs.trees.Sound as Sound;
-ghost use Rattle.model.specs.trees.Tests.{match_test};
 ghost use Rattle.isle_rule_sets.specs.SiteViews.{constraint_view, set_view};
-ghost use Rattle.isle_serialize.specs.AroundViews.{around_view};
-ghost use Rattle.isle_serialize.specs.Growing.{AreEmittedBy};
 ghost use Rattle.isle_serialize.specs.PlaceViews.{set_in};
 ghost use Rattle.isle_serialize.specs.ArmOrder as Turns;
 ghost use Rattle.isle_serialize.specs.ArmOrder.{asked_numbers, asks_that, AreInTurn, AreTurns, IsNextArmOf};
 
-use crate::around::Around;
-use crate::bodies::in_arm;
 use crate::fields::fields_of;
 use crate::place::IndexedSet;
 use isle_rule_sets::trie_again::{BindingId, Constraint, RuleSet};
@@ -38,8 +33,6 @@ pub struct NextArm {
     pub fields: Vec<Option<BindingId>>,
     /// The rules that ask it.
     pub asking: Vec<usize>,
-    /// What stands around the arm's body.
-    pub inside: Around,
 }
 
 // What the rule of a number asks of a site.
@@ -138,14 +131,11 @@ pub fn behind(turns: &[Asked], count: usize) -> &[Asked]
 pub fn next_arm(
     alloc: Global,
     indexed: &IndexedSet<'_>,
-    around: &Around,
-    emitted: &[BindingId],
     source: BindingId,
     left: &[Asked],
 ) -> Result<Option<NextArm>, AllocError>
-    requires turns { AreTurns (set_in indexed.now).rules source left.now }
-    requires emitted { AreEmittedBy (set_in indexed.now) (around_view around.now) (match_test source) emitted.now }
-    ensures { IfOk result (λ o. IsNextArmOf (set_in indexed.now) (around_view around.now) source (asked_numbers left.now) o) }
+    requires { AreTurns (set_in indexed.now).rules source left.now }
+    ensures { IfOk result (λ o. IsNextArmOf (set_in indexed.now) source (asked_numbers left.now) o) }
 {
     let Some(first) = left.first() else {
         return Ok(None);
@@ -154,11 +144,9 @@ pub fn next_arm(
     let fields = fields_of(alloc, indexed, source, &constraint)?;
     let count = run_len(left, &constraint);
     let asking = numbers_of(alloc, &left[..count])?;
-    let inside = in_arm(alloc, around, emitted, source, &fields)?;
     Ok(Some(NextArm {
         constraint,
         fields,
         asking,
-        inside,
     }))
 }

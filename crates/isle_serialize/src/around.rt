@@ -1,112 +1,124 @@
 //! What stands around a place of a tree.
 
-ghost use Rattle.std.specs.Prelude.{◌≡◌, ◌<◌, ◌==◌, if◌then◌else◌, Some, IfOk, map};
+ghost use Rattle.std.specs.Prelude.{◌≡◌, ◌<◌, ◌==◌, ◌∷◌, [], ℕ, List, if◌then◌else◌, Some, IfOk, OnOk, length};
 ghost use Rattle.model.specs.trees.Places.{nothing_around, class, is_in, joins, waits};
 ghost use Rattle.isle_rule_sets.specs.SiteViews.{site_view};
-ghost use Rattle.isle_serialize.specs.AroundViews.{around_view, sites_of_pairs, class_name_in, IsKnown, IsNaming, IsSetOf};
+ghost use Rattle.isle_serialize.specs.AroundViews.{around_view, class_name_in, NamesClasses};
+ghost use Rattle.isle_serialize.specs.Changes.{IsCutBack, IsMark, JoinsPair, TakesApart};
 ghost use Rattle.isle_serialize.specs.PlaceViews.{around_at};
 
 use crate::place::Place;
-use crate::small_set::{FEW, SmallSet};
 use isle_rule_sets::trie_again::{Binding, BindingId};
+use isle_stacks::stacks::Stack;
 use std::alloc::{AllocError, Global};
+use std::mem;
 
-/// What the steps around a place of a tree have tested, joined, brought and used.
-#[derive(Debug, Drop)]
+/// What the steps around a place of a tree have tested, joined, brought and used. A whole tree is made with one: what a block
+/// adds is taken away again at its end.
+#[derive(Drop)]
 pub struct Around {
     /// The sources of the arms and loops around.
-    pub sources: Vec<BindingId>,
+    pub sources: Stack,
     /// The pairs that equalities around joined, the innermost first.
     pub joined: Vec<(BindingId, BindingId)>,
     /// The sites that arms and loops around brought.
-    pub brought: Vec<BindingId>,
+    pub brought: Stack,
     /// The sites that are emitted: brought, or used by a step around or before.
-    pub emitted: Vec<BindingId>,
+    pub emitted: Stack,
+    /// Emitted sites below which all is emitted. What a loop brought isn't among them before it is used: its call may be
+    /// bound again.
+    pub closed: Stack,
+    /// The name of each joined site's class.
+    pub names: Vec<(BindingId, BindingId)>,
+}
+
+/// How far the lists of what stands around a place go.
+#[derive(Clone, Copy, Debug)]
+pub struct Mark {
+    /// How many sources there are.
+    pub sources: usize,
+    /// How many sites were brought.
+    pub brought: usize,
+    /// How many are emitted.
+    pub emitted: usize,
+    /// Below how many all is emitted.
+    pub closed: usize,
 }
 
 impl Around {
     /// Nothing stands around the first step of a tree.
     pub fn new(alloc: Global) -> Around
-        ensures { around_view result ≡ nothing_around }
+        ensures view { around_view result ≡ nothing_around }
+        ensures closed { result.closed ≡ [] }
+        ensures joined { result.joined.items ≡ [] }
+        ensures names { result.names.items ≡ [] }
     {
         Around {
-            sources: Vec::new(alloc),
+            sources: Stack::new(alloc),
             joined: Vec::new(alloc),
-            brought: Vec::new(alloc),
-            emitted: Vec::new(alloc),
+            brought: Stack::new(alloc),
+            emitted: Stack::new(alloc),
+            closed: Stack::new(alloc),
+            names: Vec::new(alloc),
         }
     }
-}
 
-/// What is looked up of a place, for the time in which its next test is searched.
-#[derive(Drop)]
-pub struct Known {
-    /// The names of the classes of all sites that equalities around joined.
-    pub names: Vec<(BindingId, BindingId)>,
-    /// The sources of the arms and loops around.
-    pub sources: SmallSet,
-    /// The sites that arms and loops around brought.
-    pub brought: SmallSet,
-    /// The sites that are emitted.
-    pub emitted: SmallSet,
-}
-
-/// What is looked up of a place.
-pub fn known_of(alloc: Global, around: &Around) -> Result<Known, AllocError>
-    ensures { IfOk result (IsKnown (around_view around.now)) }
-{
-    let names = class_names(alloc, around)?;
-    let sources = set_of(alloc, &around.sources)?;
-    let brought = set_of(alloc, &around.brought)?;
-    let emitted = set_of(alloc, &around.emitted)?;
-    Ok(Known {
-        names,
-        sources,
-        brought,
-        emitted,
-    })
-}
-
-/// The set of these sites.
-pub fn set_of(alloc: Global, sites: &[BindingId]) -> Result<SmallSet, AllocError>
-    ensures { IfOk result (IsSetOf sites.now) }
-{
-    if sites.len() <= FEW {
-        return SmallSet::of_few(alloc, sites);
+    /// How far the lists go now.
+    pub fn mark(&self) -> Mark
+        ensures { IsMark self.now result }
+    {
+        Mark {
+            sources: self.sources.len(),
+            brought: self.brought.len(),
+            emitted: self.emitted.len(),
+            closed: self.closed.len(),
+        }
     }
-    let mut set = SmallSet::new(alloc);
-    for site in sites {
-        set.insert(*site)?;
+
+    /// Cuts the lists to what they were at a mark.
+    pub fn go_back(&mut self, mark: Mark)
+        ensures { IsCutBack self.old mark self.new }
+    {
+        self.sources.truncate(mark.sources);
+        self.brought.truncate(mark.brought);
+        self.emitted.truncate(mark.emitted);
+        self.closed.truncate(mark.closed);
     }
-    Ok(set)
+}
+
+/// The number of a site.
+pub fn number_of(site: BindingId) -> u16
+    ensures { result ≡ site }
+{
+    site.index() as u16
 }
 
 /// Whether equalities around join two sites.
 pub fn are_joined(place: &Place<'_>, a: BindingId, b: BindingId) -> bool
     ensures { result ≡ joins (around_at place.now).joined a b }
 {
-    name_of(a, &place.known.names) == name_of(b, &place.known.names)
+    name_of(a, &place.around.names) == name_of(b, &place.around.names)
 }
 
 /// Whether an arm or a loop around has the site as its source.
 pub fn is_source(place: &Place<'_>, site: BindingId) -> bool
     ensures { result ≡ is_in site (around_at place.now).looped }
 {
-    place.known.sources.contains(site)
+    place.around.sources.contains(number_of(site))
 }
 
 /// Whether an arm or a loop around brought the site.
 pub fn is_brought(place: &Place<'_>, site: BindingId) -> bool
     ensures { result ≡ is_in site (around_at place.now).brought }
 {
-    place.known.brought.contains(site)
+    place.around.brought.contains(number_of(site))
 }
 
 /// Whether the site is emitted.
 pub fn is_emitted(place: &Place<'_>, site: BindingId) -> bool
     ensures { result ≡ is_in site (around_at place.now).emitted }
 {
-    place.known.emitted.contains(site)
+    place.around.emitted.contains(number_of(site))
 }
 
 /// The site of this number.
@@ -151,21 +163,6 @@ fn name_of(site: BindingId, names: &[(BindingId, BindingId)]) -> BindingId
     site
 }
 
-// Each site of these pairs by itself.
-fn own_names(
-    alloc: Global,
-    pairs: &[(BindingId, BindingId)],
-) -> Result<Vec<(BindingId, BindingId)>, AllocError>
-    ensures { IfOk result (λ v. v.items ≡ map (λ s. (s, s)) (sites_of_pairs pairs.now)) }
-{
-    let mut names = Vec::new(alloc);
-    for (a, b) in pairs {
-        names.push((*a, *a))?;
-        names.push((*b, *b))?;
-    }
-    Ok(names)
-}
-
 // The name of a class after the classes of these two names were joined.
 fn renamed(name: BindingId, from: BindingId, to: BindingId) -> BindingId
     ensures { result ≡ (if name == from then to else name) }
@@ -173,34 +170,47 @@ fn renamed(name: BindingId, from: BindingId, to: BindingId) -> BindingId
     if name == from { to } else { name }
 }
 
-// The names of classes after those of two sites were joined.
+// The names of the classes of joined sites after two sites were joined.
 fn joining(
     alloc: Global,
     names: &[(BindingId, BindingId)],
     a: BindingId,
     b: BindingId,
 ) -> Result<Vec<(BindingId, BindingId)>, AllocError>
-    ensures { IfOk result (λ v. v.items ≡ map (λ e. (e.0, if e.1 == class_name_in names.now a then class_name_in names.now b else e.1)) names.now) }
+    ensures { IfOk result (λ v. (pairs : List (ℕ × ℕ)) → NamesClasses pairs names.now → NamesClasses ((a, b) ∷ pairs) v.items) }
 {
     let from = name_of(a, names);
     let to = name_of(b, names);
-    let mut joined = Vec::with_capacity(alloc, names.len())?;
+    let mut joined = Vec::new(alloc);
+    joined.push((a, to))?;
+    joined.push((b, to))?;
     for entry in names {
         joined.push((entry.0, renamed(entry.1, from, to)))?;
     }
     Ok(joined)
 }
 
-// The names of the classes of all sites that equalities around joined.
-fn class_names(alloc: Global, around: &Around) -> Result<Vec<(BindingId, BindingId)>, AllocError>
-    ensures { IfOk result (λ v. IsNaming around.now.joined.items v.items) }
+/// Joins two sites, and answers the names of classes as they were: `take_apart` puts them back.
+pub fn join(
+    alloc: Global,
+    around: &mut Around,
+    a: BindingId,
+    b: BindingId,
+) -> Result<Vec<(BindingId, BindingId)>, AllocError>
+    requires { NamesClasses around.old.joined.items around.old.names.items }
+    ensures before { IfOk result (λ v. v.items ≡ around.old.names.items) }
+    ensures joins { OnOk result (JoinsPair a b around.old around.new) }
 {
-    let mut names = own_names(alloc, &around.joined)?;
-    let mut left = around.joined.len();
-    while left > 0 {
-        left -= 1;
-        let (a, b) = around.joined[left];
-        names = joining(alloc, &names, a, b)?;
-    }
-    Ok(names)
+    let names = joining(alloc, &around.names, a, b)?;
+    around.joined.insert(0, (a, b))?;
+    Ok(mem::replace(&mut around.names, names))
+}
+
+/// Takes the pair that was joined last apart, where the names of classes were these before.
+pub fn take_apart(around: &mut Around, names: Vec<(BindingId, BindingId)>)
+    requires { 0 < length around.old.joined.items }
+    ensures { TakesApart names.items around.old around.new }
+{
+    around.joined.remove(0);
+    around.names = names;
 }

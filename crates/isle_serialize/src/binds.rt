@@ -1,19 +1,20 @@
 //! What is bound before a step, and what a step emits.
 
-ghost use Rattle.std.specs.Prelude.{◌≡◌, ◌<◌, ◌||◌, ℕ, suc, [], Some, not, Contains, IfOk, OnOk, length, slice_get};
+ghost use Rattle.std.specs.Prelude.{◌≡◌, ◌∷◌, ◌++◌, [], Some, cond, not, IfOk, OnOk, slice_get};
 ghost use Rattle.std.specs.List.{filter};
 ghost use Rattle.model.specs.sites.Sites.{sources_at};
 ghost use Rattle.model.specs.trees.Places as Places;
-ghost use Rattle.model.specs.trees.Places.{each_after, is_in, is_in_place, listed_below};
+ghost use Rattle.model.specs.trees.Places.{is_in_place, nothing_around};
 ghost use Rattle.isle_rule_sets.specs.SiteViews.{site_view, set_view};
-ghost use Rattle.isle_serialize.specs.AroundViews.{around_view, AreSettled, IsSetOf};
+ghost use Rattle.isle_serialize.specs.AroundViews.{around_view, where_emitted, AreEmitted};
+ghost use Rattle.isle_serialize.specs.Changes.{Emits, IsKept, ListsAll, ListsBelow};
 ghost use Rattle.isle_serialize.specs.PlaceViews.{set_in};
 
-use crate::around::Around;
+use crate::around::{Around, number_of};
 use crate::parts::keep;
 use crate::place::IndexedSet;
-use crate::small_set::SmallSet;
 use isle_rule_sets::trie_again::{Binding, BindingId, RuleSet};
+use isle_stacks::stacks::Stack;
 use std::alloc::{AllocError, Global};
 
 /// The sources of a site, and none where there is no such site.
@@ -26,60 +27,37 @@ pub fn sources_of(set: &RuleSet, site: BindingId) -> &[BindingId]
     }
 }
 
-// Whether a site needs no listing: it is emitted, or listed already. Both are in one set.
-fn is_settled(
-    site: BindingId,
-    emitted: &[BindingId],
-    listed: &[BindingId],
-    settled: &SmallSet,
-) -> bool
-    requires { AreSettled emitted.now listed.now settled.now }
-    ensures { result ≡ (is_in site emitted.now || is_in site listed.now) }
-{
-    settled.contains(site)
-}
-
-// Lists the sites below a site that aren't emitted, after those already listed: sources first, left to right, each once.
+// Lists the sites below a site, after those already listed: sources first, left to right, each once. Those listed first may
+// be emitted already.
 fn list_below(
-    alloc: Global,
     indexed: &IndexedSet<'_>,
-    emitted: &[BindingId],
     site: BindingId,
-    settled: &mut SmallSet,
-    listed: &mut Vec<BindingId>,
+    listed: &mut Stack,
 ) -> Result<(), AllocError>
-    requires { AreSettled emitted.now listed.old.items settled.old }
-    ensures settled { OnOk result (AreSettled emitted.now listed.new.items settled.new) }
-    ensures listed { OnOk result ((n : ℕ) → site < n → listed.new.items ≡ listed_below n (set_in indexed.now).sites emitted.now listed.old.items site) }
+    ensures { OnOk result (ListsBelow (set_in indexed.now).sites site listed.old listed.new) }
 {
-    if is_settled(site, emitted, listed, settled) {
+    if listed.contains(number_of(site)) {
         return Ok(());
     }
     for source in sources_of(indexed.set, site) {
-        list_below(alloc, indexed, emitted, *source, settled, listed)?;
+        list_below(indexed, *source, listed)?;
     }
-    settled.insert(site)?;
-    listed.push(site)?;
+    listed.insert(number_of(site))?;
     Ok(())
 }
 
-/// The sites below these, down to some that are emitted, in the order in which they are made of one another. They are
-/// added to the set of the emitted ones.
-pub fn all_listed(
-    alloc: Global,
+// Lists the sites below these, in the order in which they are made of one another.
+fn list_all(
     indexed: &IndexedSet<'_>,
-    emitted: &[BindingId],
-    settled: &mut SmallSet,
     sites: &[BindingId],
-) -> Result<Vec<BindingId>, AllocError>
-    requires { IsSetOf emitted.now settled.old }
-    ensures { IfOk result (λ v. v.items ≡ each_after (λ done s. listed_below (suc s) (set_in indexed.now).sites emitted.now done s) [] sites.now) }
+    listed: &mut Stack,
+) -> Result<(), AllocError>
+    ensures { OnOk result (ListsAll (set_in indexed.now).sites sites.now listed.old listed.new) }
 {
-    let mut listed = Vec::new(alloc);
     for site in sites {
-        list_below(alloc, indexed, emitted, *site, settled, &mut listed)?;
+        list_below(indexed, *site, listed)?;
     }
-    Ok(listed)
+    Ok(())
 }
 
 fn stands_in_place(binding: &Binding) -> bool
@@ -113,35 +91,75 @@ fn is_bound(set: &RuleSet, site: BindingId) -> bool
     }
 }
 
-/// What is bound before a step that uses these sites: what isn't emitted, each once, sources first and left to right. It is
-/// added to the set of what is emitted.
-pub fn bind_order(
-    alloc: Global,
-    indexed: &IndexedSet<'_>,
-    around: &Around,
-    settled: &mut SmallSet,
-    sites: &[BindingId],
-) -> Result<Vec<BindingId>, AllocError>
-    requires { IsSetOf around.now.emitted.items settled.old }
-    ensures { IfOk result (λ v. v.items ≡ Places.bind_order (set_in indexed.now).sites (around_view around.now) sites.now) }
+// Adds a site, where a step that needs it binds it.
+fn keep_bound(set: &RuleSet, number: u16, bound: &mut Vec<BindingId>) -> Result<(), AllocError>
+    ensures { OnOk result (bound.new.items ≡ bound.old.items ++ cond (not (is_in_place (slice_get (set_view set.now).sites number))) (number ∷ []) []) }
 {
-    let listed = all_listed(alloc, indexed, &around.emitted, settled, sites)?;
+    let site = BindingId::from(number);
+    keep(bound, site, is_bound(set, site))
+}
+
+// Those of some sites that a step which needs them binds.
+fn bound_of(alloc: Global, set: &RuleSet, listed: &[u16]) -> Result<Vec<BindingId>, AllocError>
+    ensures { IfOk result (λ v. v.items ≡ filter (λ s. not (is_in_place (slice_get (set_view set.now).sites s))) listed.now) }
+{
     let mut bound = Vec::new(alloc);
-    for site in &listed {
-        keep(&mut bound, *site, is_bound(indexed.set, *site))?;
+    for number in listed {
+        keep_bound(set, *number, &mut bound)?;
     }
     Ok(bound)
 }
 
-/// The sites that are emitted once these are used: these, and all that they are made of, each once.
-#[tactic(auto, using(crate::proofs::ListedSites::listed_are_below))]
-pub fn all_below(
+// What is bound before a step that uses these sites: what isn't emitted, each once, sources first and left to right.
+fn bind_order(
     alloc: Global,
     indexed: &IndexedSet<'_>,
+    emitted: &mut Stack,
     sites: &[BindingId],
 ) -> Result<Vec<BindingId>, AllocError>
-    ensures { IfOk result (λ v. (x : ℕ) → is_in x v.items ≡ is_in x (Places.all_below (set_in indexed.now).sites sites.now)) }
+    ensures binds { IfOk result (λ v. v.items ≡ Places.bind_order (set_in indexed.now).sites (where_emitted nothing_around emitted.old) sites.now) }
+    ensures back { OnOk result (emitted.new ≡ emitted.old) }
 {
-    let mut settled = SmallSet::new(alloc);
-    all_listed(alloc, indexed, &[], &mut settled, sites)
+    let start = emitted.len();
+    list_all(indexed, sites, emitted)?;
+    let bound = bound_of(alloc, indexed.set, emitted.behind(start))?;
+    emitted.truncate(start);
+    Ok(bound)
+}
+
+// Emits these sites, and all that they are made of.
+fn emit_all(
+    indexed: &IndexedSet<'_>,
+    around: &mut Around,
+    used: &[BindingId],
+) -> Result<(), AllocError>
+    requires { IsKept (set_in indexed.now).sites around.old }
+    ensures emitted { OnOk result (AreEmitted (set_in indexed.now) (around_view around.old) used.now around.new.emitted) }
+    ensures emits { OnOk result (Emits around.old around.new) }
+    ensures kept { OnOk result (IsKept (set_in indexed.now).sites around.new) }
+{
+    let start = around.closed.len();
+    list_all(indexed, used, &mut around.closed)?;
+    let listed = around.closed.behind(start);
+    around.emitted.insert_all(listed)?;
+    Ok(())
+}
+
+/// What is bound before a step that uses these sites, where it emits those: they are emitted then.
+pub fn bind(
+    alloc: Global,
+    indexed: &IndexedSet<'_>,
+    around: &mut Around,
+    sites: &[BindingId],
+    used: &[BindingId],
+) -> Result<Vec<BindingId>, AllocError>
+    requires { IsKept (set_in indexed.now).sites around.old }
+    ensures binds { IfOk result (λ v. v.items ≡ Places.bind_order (set_in indexed.now).sites (around_view around.old) sites.now) }
+    ensures emitted { OnOk result (AreEmitted (set_in indexed.now) (around_view around.old) used.now around.new.emitted) }
+    ensures emits { OnOk result (Emits around.old around.new) }
+    ensures kept { OnOk result (IsKept (set_in indexed.now).sites around.new) }
+{
+    let bound = bind_order(alloc, indexed, &mut around.emitted, sites)?;
+    emit_all(indexed, around, used)?;
+    Ok(bound)
 }

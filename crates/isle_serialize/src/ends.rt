@@ -1,22 +1,21 @@
 //! The end of a block: the rules that no open test covers return one after another.
 
-ghost use Rattle.std.specs.Prelude.{◌≡◌, ◌<◌, ℕ, IsTrue, None, Some, Contains, IfOk, slice_get};
+ghost use Rattle.std.specs.Prelude.{◌≡◌, IsTrue, None, Some, IfOk, OnOk, slice_get};
 ghost use Rattle.model.specs.trees.Best.{descend};
 ghost use Rattle.model.specs.trees.Places as Places;
 ghost use Rattle.model.specs.trees.Places.{return_uses};
 ghost use Rattle.model.specs.trees.Trees as Trees;
 ghost use Rattle.isle_rule_sets.specs.SiteViews.{set_rule_view, set_view};
-ghost use Rattle.isle_serialize.specs.AroundViews.{around_view, IsSetOf};
+ghost use Rattle.isle_serialize.specs.AroundViews.{around_view, AreEmitted};
+ghost use Rattle.isle_serialize.specs.Changes.{Emits, IsKept};
 ghost use Rattle.isle_serialize.specs.Growing.{AreEnds};
 ghost use Rattle.isle_serialize.specs.PlaceViews.{set_in};
 ghost use Rattle.isle_serialize.specs.TreeViews.{check_view, steps_view};
 
-use crate::around::{Around, set_of};
-use crate::binds::bind_order;
-use crate::bodies::emitted_after;
+use crate::around::Around;
+use crate::binds::bind;
 use crate::place::IndexedSet;
 use crate::serialize::{ControlFlow, EvalStep};
-use crate::small_set::SmallSet;
 use isle_base::syntax::Pos;
 use isle_rule_sets::trie_again::{BindingId, Rule, RuleSet};
 use std::alloc::{AllocError, Global};
@@ -65,51 +64,42 @@ fn return_of(set: &RuleSet, number: usize) -> ControlFlow
     }
 }
 
-// The step that returns by a rule, which uses these sites, where a set of what is emitted is at hand.
+// The step that returns by a rule.
 fn return_step(
     alloc: Global,
     indexed: &IndexedSet<'_>,
-    around: &Around,
-    settled: SmallSet,
+    around: &mut Around,
     number: usize,
-    used: &[BindingId],
 ) -> Result<EvalStep, AllocError>
-    requires { IsSetOf around.now.emitted.items settled }
-    ensures binds { IfOk result (λ s. s.bind_order.items ≡ Places.bind_order (set_in indexed.now).sites (around_view around.now) used.now) }
+    requires { IsKept (set_in indexed.now).sites around.old }
+    ensures binds { IfOk result (λ s. s.bind_order.items ≡ Places.bind_order (set_in indexed.now).sites (around_view around.old) (return_uses (slice_get (set_in indexed.now).rules number))) }
     ensures check { IfOk result (λ s. check_view s.check ≡ Trees.return_of (slice_get (set_in indexed.now).rules number)) }
+    ensures emitted { OnOk result (AreEmitted (set_in indexed.now) (around_view around.old) (return_uses (slice_get (set_in indexed.now).rules number)) around.new.emitted) }
+    ensures emits { OnOk result (Emits around.old around.new) }
+    ensures kept { OnOk result (IsKept (set_in indexed.now).sites around.new) }
 {
-    let mut settled = settled;
-    Ok(EvalStep {
-        bind_order: bind_order(alloc, indexed, around, &mut settled, used)?,
-        check: return_of(indexed.set, number),
-    })
+    let used = used_by(alloc, indexed.set, number)?;
+    let bind_order = bind(alloc, indexed, around, &used, &used)?;
+    let check = return_of(indexed.set, number);
+    Ok(EvalStep { bind_order, check })
 }
 
-/// The returns of these rules, which stand in order, each with its impure calls and its result bound. What the last one
-/// emits isn't listed.
+/// The returns of these rules, which stand in order, each with its impure calls and its result bound.
 pub fn returns_of(
     alloc: Global,
     indexed: &IndexedSet<'_>,
-    here: Vec<usize>,
-    around: Around,
+    around: &mut Around,
+    here: &[usize],
 ) -> Result<Vec<EvalStep>, AllocError>
-    requires { IsTrue (descend (set_in indexed.now).rules here.items) }
-    ensures { IfOk result (λ v. AreEnds (set_in indexed.now) (around_view around) here.items (steps_view v.items)) }
+    requires order { IsTrue (descend (set_in indexed.now).rules here.now) }
+    requires kept { IsKept (set_in indexed.now).sites around.old }
+    ensures ends { IfOk result (λ v. AreEnds (set_in indexed.now) (around_view around.old) here.now (steps_view v.items)) }
+    ensures emits { OnOk result (Emits around.old around.new) }
 {
     let mut steps = Vec::with_capacity(alloc, here.len())?;
-    let Some((last, earlier)) = here.split_last() else {
-        return Ok(steps);
-    };
-    let mut around = around;
-    for number in earlier {
-        let used = used_by(alloc, indexed.set, *number)?;
-        let settled = set_of(alloc, &around.emitted)?;
-        let emitted = emitted_after(alloc, indexed, &around.emitted, &settled, &used)?;
-        steps.push(return_step(alloc, indexed, &around, settled, *number, &used)?)?;
-        around.emitted = emitted;
+    for number in here {
+        let step = return_step(alloc, indexed, around, *number)?;
+        steps.push(step)?;
     }
-    let used = used_by(alloc, indexed.set, *last)?;
-    let settled = set_of(alloc, &around.emitted)?;
-    steps.push(return_step(alloc, indexed, &around, settled, *last, &used)?)?;
     Ok(steps)
 }

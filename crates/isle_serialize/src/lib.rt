@@ -12,6 +12,5 @@ pub mod open_tests;
 mod parts;
 pub mod place;
 pub mod serialize;
-pub mod small_set;
 pub mod steps;
 pub mod tests;

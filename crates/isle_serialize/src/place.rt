@@ -1,11 +1,13 @@
 //! A place of a tree, and the set that the tree is made of.
 
+ghost use Rattle.std.specs.Prelude.{IsTrue};
+ghost use Rattle.model.specs.trees.Best.{descend};
 ghost use Rattle.isle_rule_sets.specs.SiteViews.{set_view};
-ghost use Rattle.isle_serialize.specs.AroundViews.{around_view, IsKnown};
+ghost use Rattle.isle_serialize.specs.AroundViews.{NamesClasses};
 ghost use Rattle.isle_serialize.specs.FieldTests.{AreFields};
 ghost use Rattle.isle_serialize.specs.Growing.{CanGrow};
 
-use crate::around::{Around, Known};
+use crate::around::Around;
 use crate::fields::Fields;
 use isle_rule_sets::trie_again::RuleSet;
 
@@ -27,7 +29,8 @@ pub struct Place<'a> {
     pub indexed: IndexedSet<'a>,
     /// What stands around the place.
     pub around: &'a Around,
-    /// What is looked up of it.
-    pub known: &'a Known,
-    pub ghost is_known: { IsKnown (around_view around.now) known.now },
+    /// The rules of the place, in order.
+    pub here: &'a [usize],
+    pub ghost are_named: { NamesClasses around.now.joined.items around.now.names.items },
+    pub ghost in_order: { IsTrue (descend (set_view indexed.set.now).rules here.now) },
 }

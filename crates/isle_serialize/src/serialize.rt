@@ -170,7 +170,8 @@ pub fn serialize(alloc: Global, set: &RuleSet) -> Result<Block, AllocError>
         set,
         fields: &fields,
     };
-    block_of(alloc, &indexed, here, Around::new(alloc))
+    let mut around = Around::new(alloc);
+    block_of(alloc, &indexed, &mut around, here)
 }
 
 // The numbers of all rules of a set, ascending.

@@ -1,20 +1,21 @@
 //! The test steps of a place: which test comes next, and what its step binds, covers and leaves.
 
-ghost use Rattle.std.specs.Prelude.{◌≡◌, IfOk, IsTrue, option_map};
+ghost use Rattle.std.specs.Prelude.{◌≡◌, IfOk, IsTrue, OnOk, option_map};
 ghost use Rattle.model.specs.trees.Best.{descend};
-ghost use Rattle.isle_serialize.specs.AroundViews.{around_view, AreEmitted};
+ghost use Rattle.model.specs.trees.Places as Places;
+ghost use Rattle.isle_serialize.specs.AroundViews.{around_view, NamesClasses};
+ghost use Rattle.isle_serialize.specs.Changes.{Emits, IsKept};
 ghost use Rattle.isle_serialize.specs.FieldTests.{HasIterator, IsIteratorOf};
 ghost use Rattle.isle_serialize.specs.Growing.{test_sites, AreEmittedBy, IsNext};
-ghost use Rattle.isle_serialize.specs.PlaceViews.{around_at, set_at, set_in};
-ghost use Rattle.isle_serialize.specs.TestViews.{test_view, AreUseful, IsChosen};
+ghost use Rattle.isle_serialize.specs.PlaceViews.{around_at, here_at, set_at, set_in};
+ghost use Rattle.isle_serialize.specs.TestViews.{test_view, IsBestOpen, IsChosen};
 
-use crate::around::{Around, known_of};
-use crate::binds::{bind_order, sources_of};
-use crate::bodies::emitted_after;
+use crate::around::Around;
+use crate::binds::{bind, sources_of};
 use crate::fields::iterator_of;
-use crate::open_tests::useful_tests;
+use crate::open_tests::best_open;
 use crate::place::{IndexedSet, Place};
-use crate::tests::{Test, greatest_of, parted};
+use crate::tests::{Scored, Test, parted};
 use isle_rule_sets::trie_again::BindingId;
 use std::alloc::{AllocError, Global};
 
@@ -23,78 +24,65 @@ use std::alloc::{AllocError, Global};
 pub struct NextTest {
     /// The test.
     pub test: Test,
-    /// What its step binds first.
-    pub binds: Vec<BindingId>,
     /// The rules that it covers: its step holds these.
     pub covered: Vec<usize>,
     /// The other rules of the place: they are left for the steps behind it.
     pub others: Vec<usize>,
-    /// The sites that are emitted after it.
-    pub emitted: Vec<BindingId>,
 }
 
-fn sites_of(alloc: Global, test: &Test) -> Result<Vec<BindingId>, AllocError>
-    ensures { IfOk result (λ v. v.items ≡ test_sites (test_view test.now)) }
+/// What is bound before the step of a test. What the test emits is emitted then.
+pub fn bind_test(
+    alloc: Global,
+    indexed: &IndexedSet<'_>,
+    around: &mut Around,
+    test: &Test,
+) -> Result<Vec<BindingId>, AllocError>
+    requires { IsKept (set_in indexed.now).sites around.old }
+    ensures binds { IfOk result (λ v. v.items ≡ Places.bind_order (set_in indexed.now).sites (around_view around.old) (test_sites (test_view test.now))) }
+    ensures emitted { OnOk result (AreEmittedBy (set_in indexed.now) (around_view around.old) (test_view test.now) around.new.emitted) }
+    ensures emits { OnOk result (Emits around.old around.new) }
+    ensures kept { OnOk result (IsKept (set_in indexed.now).sites around.new) }
 {
-    let mut sites = Vec::new(alloc);
     match test {
-        Test::Match { source } | Test::Loop { source } => sites.push(*source)?,
+        Test::Match { source } => {
+            let used = [*source];
+            bind(alloc, indexed, around, &used, &used)
+        }
         Test::Equal { a, b } => {
-            sites.push(*a)?;
-            sites.push(*b)?;
+            let used = [*a, *b];
+            bind(alloc, indexed, around, &used, &used)
+        }
+        // the call itself may be bound again, so that its sources alone are emitted
+        Test::Loop { source } => {
+            let call = [*source];
+            bind(
+                alloc,
+                indexed,
+                around,
+                &call,
+                sources_of(indexed.set, *source),
+            )
         }
     }
-    Ok(sites)
 }
 
-// The sites that are emitted once these are used too.
-fn used_too(
-    alloc: Global,
-    place: &Place<'_>,
-    used: &[BindingId],
-) -> Result<Vec<BindingId>, AllocError>
-    ensures { IfOk result (λ v. AreEmitted (set_at place.now) (around_at place.now) used.now v.items) }
+// The test that is made at a place, of its best open one.
+fn chosen_of(place: &Place<'_>, best: Option<Scored>) -> Option<Test>
+    requires { IsBestOpen (set_at place.now) (around_at place.now) (here_at place.now) best }
+    ensures { IsChosen (set_at place.now) (around_at place.now) (here_at place.now) (option_map test_view result) }
 {
-    emitted_after(
-        alloc,
-        &place.indexed,
-        &place.around.emitted,
-        &place.known.emitted,
-        used,
-    )
-}
-
-// The sites that are emitted after a test.
-fn emitted_by(alloc: Global, place: &Place<'_>, test: &Test) -> Result<Vec<BindingId>, AllocError>
-    ensures { IfOk result (λ v. AreEmittedBy (set_at place.now) (around_at place.now) (test_view test.now) v.items) }
-{
-    match test {
-        Test::Match { source } => used_too(alloc, place, &[*source]),
-        Test::Equal { a, b } => used_too(alloc, place, &[*a, *b]),
-        // the call itself may be bound again, so that its sources alone are emitted
-        Test::Loop { source } => used_too(alloc, place, sources_of(place.indexed.set, *source)),
-    }
-}
-
-// The greatest of a place's useful tests, where it covers some rule.
-fn chosen_of(place: &Place<'_>, here: &[usize], tests: &[Test]) -> Option<Test>
-    requires order { IsTrue (descend (set_at place.now).rules here.now) }
-    requires tests { AreUseful (set_at place.now) (around_at place.now) here.now tests.now }
-    ensures { IsChosen (set_at place.now) (around_at place.now) here.now (option_map test_view result) }
-{
-    match greatest_of(place, here, tests) {
+    match best {
         Some(best) if best.score.count > 0 => Some(best.test),
         _ => None,
     }
 }
 
 // The test that is made at a place: the greatest one, where it covers some rule.
-fn chosen_test(alloc: Global, place: &Place<'_>, here: &[usize]) -> Result<Option<Test>, AllocError>
-    requires { IsTrue (descend (set_at place.now).rules here.now) }
-    ensures { IfOk result (λ o. IsChosen (set_at place.now) (around_at place.now) here.now (option_map test_view o)) }
+fn chosen_test(alloc: Global, place: &Place<'_>) -> Result<Option<Test>, AllocError>
+    ensures { IfOk result (λ o. IsChosen (set_at place.now) (around_at place.now) (here_at place.now) (option_map test_view o)) }
 {
-    let tests = useful_tests(alloc, place, here)?;
-    Ok(chosen_of(place, here, &tests))
+    let best = best_open(alloc, place)?;
+    Ok(chosen_of(place, best))
 }
 
 /// The test that is made next at a place with these rules, and none where the place is an end.
@@ -104,31 +92,26 @@ pub fn next_test(
     around: &Around,
     here: &[usize],
 ) -> Result<Option<NextTest>, AllocError>
-    requires { IsTrue (descend (set_in indexed.now).rules here.now) }
+    requires order { IsTrue (descend (set_in indexed.now).rules here.now) }
+    requires named { NamesClasses around.now.joined.items around.now.names.items }
     ensures { IfOk result (λ o. IsNext (set_in indexed.now) (around_view around.now) here.now o) }
 {
     if here.is_empty() {
         return Ok(None);
     }
-    let known = known_of(alloc, around)?;
     let place = Place {
         indexed: *indexed,
         around,
-        known: &known,
+        here,
     };
-    let Some(test) = chosen_test(alloc, &place, here)? else {
+    let Some(test) = chosen_test(alloc, &place)? else {
         return Ok(None);
     };
-    let sites = sites_of(alloc, &test)?;
     let (covered, others) = parted(alloc, indexed.set, here, &test)?;
-    let emitted = emitted_by(alloc, &place, &test)?;
-    let mut settled = known.emitted;
     Ok(Some(NextTest {
         test,
-        binds: bind_order(alloc, indexed, around, &mut settled, &sites)?,
         covered,
         others,
-        emitted,
     }))
 }
 

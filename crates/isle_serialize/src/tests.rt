@@ -1,16 +1,17 @@
 //! What can be tested at a place of a tree, and which test is the greatest. The rules of a place stand in order: by
 //! descending priority, then by their numbers.
 
-ghost use Rattle.std.specs.Prelude.{◌≡◌, ◌≤◌, not, IsTrue, option_map, IfOk, MatchOption, length, slice_get};
-ghost use Rattle.std.specs.List.{filter, find, prefix_len};
+ghost use Rattle.std.specs.Prelude.{◌≡◌, ◌≤◌, ◌&&◌, ℕ, [], true, false, not, Some, IsTrue, option_map, IfOk, MatchOption, length, slice_get};
+ghost use Rattle.std.specs.List.{filter, prefix_len};
 ghost use Rattle.model.specs.trees.Best.{descend};
 ghost use Rattle.model.specs.trees.Places.{is_in, joins_in};
+ghost use Rattle.model.specs.trees.Sound.{as_number};
 ghost use Rattle.model.specs.trees.Tests as Tests;
 ghost use Rattle.isle_rule_sets.specs.SiteViews.{set_rule_view, set_view};
 ghost use Rattle.isle_serialize.specs.Bars as Bars;
 ghost use Rattle.isle_serialize.specs.Bars.{reaches};
-ghost use Rattle.isle_serialize.specs.PlaceViews.{around_at, set_at};
-ghost use Rattle.isle_serialize.specs.TestViews.{test_view, score_view, greater_test, IsGreatestScored, IsScored};
+ghost use Rattle.isle_serialize.specs.PlaceViews.{around_at, here_at, set_at};
+ghost use Rattle.isle_serialize.specs.TestViews.{test_view, counted_score, score_view, greater_test, IsNoBetter, IsScored};
 
 use crate::around::is_emitted;
 use crate::parts::part;
@@ -134,13 +135,21 @@ pub fn reach_count(set: &RuleSet, here: &[usize], bar: Option<usize>) -> usize
         .count()
 }
 
-// The first rule of a place that doesn't need a test: of rules in order it is the test's bar.
-fn bar_of(set: &RuleSet, here: &[usize], test: &Test) -> Option<usize>
-    ensures { result ≡ find (λ i. not (Tests.needs_at (set_view set.now).rules (test_view test.now) i)) here.now }
+// How many rules at the head of a place need a test: of rules in order the one behind them is the test's bar.
+fn leading_count(set: &RuleSet, here: &[usize], test: &Test) -> usize
+    ensures value { result ≡ prefix_len (Tests.needs_at (set_view set.now).rules (test_view test.now)) here.now }
+    ensures within { result ≤ length here.now }
 {
     here.iter()
-        .copied()
-        .find(|number| !needs_at(set, test, *number))
+        .take_while(|number| needs_at(set, test, **number))
+        .count()
+}
+
+// The rule behind so many at the head of a place.
+fn behind_leading(here: &[usize], leading: usize) -> Option<usize>
+    ensures { result ≡ slice_get here.now leading }
+{
+    here.get(leading).copied()
 }
 
 // Whether a rule isn't below the bar of a test, and needs it.
@@ -170,6 +179,14 @@ fn parted_at(
     Ok((reaching, others))
 }
 
+// All rules of a place, and none.
+fn all_and_none(alloc: Global, here: &[usize]) -> Result<(Vec<usize>, Vec<usize>), AllocError>
+    ensures { IfOk result (λ p. (p.0.items ≡ here.now) × (p.1.items ≡ [])) }
+{
+    let all = Vec::from_slice(alloc, here)?;
+    Ok((all, Vec::new(alloc)))
+}
+
 /// The rules of a place that a test covers, and those that it doesn't: it covers a rule that needs it, where each rule of
 /// the place needs it too or isn't above that one.
 pub fn parted(
@@ -182,10 +199,15 @@ pub fn parted(
     ensures covered { IfOk result (λ p. p.0.items ≡ Tests.cover (set_view set.now).rules here.now (test_view test.now)) }
     ensures others { IfOk result (λ p. p.1.items ≡ filter (λ i. not (Tests.is_covered (set_view set.now).rules here.now (test_view test.now) i)) here.now) }
 {
-    let bar = bar_of(set, here, test);
+    let leading = leading_count(set, here, test);
+    if leading == here.len() {
+        return all_and_none(alloc, here);
+    }
+    let bar = behind_leading(here, leading);
     parted_at(alloc, set, here, test, bar)
 }
 
+// How many of some rules need a test.
 fn needing_count(set: &RuleSet, numbers: &[usize], test: &Test) -> usize
     ensures { result ≡ length (filter (Tests.needs_at (set_view set.now).rules (test_view test.now)) numbers.now) }
 {
@@ -195,21 +217,25 @@ fn needing_count(set: &RuleSet, numbers: &[usize], test: &Test) -> usize
         .count()
 }
 
+// How many rules of a place a test covers. Each rule is asked once: those behind the bar that are below it aren't.
 fn cover_count(set: &RuleSet, here: &[usize], test: &Test) -> usize
     requires { IsTrue (descend (set_view set.now).rules here.now) }
     ensures { result ≡ length (Tests.cover (set_view set.now).rules here.now (test_view test.now)) }
 {
-    let bar = bar_of(set, here, test);
-    let reaching = reach_count(set, here, bar);
-    needing_count(set, &here[..reaching], test)
+    let leading = leading_count(set, here, test);
+    if leading == here.len() {
+        return leading;
+    }
+    let bar = behind_leading(here, leading);
+    let behind = &here[leading + 1..];
+    let reaching = reach_count(set, behind, bar);
+    leading + needing_count(set, &behind[..reaching], test)
 }
 
-/// The score of a test at a place.
-pub fn score_of(place: &Place<'_>, here: &[usize], test: &Test) -> Score
-    requires { IsTrue (descend (set_at place.now).rules here.now) }
-    ensures { score_view result ≡ Tests.score (set_at place.now) (around_at place.now) here.now (test_view test.now) }
+// The score of a test at a place, where it covers so many rules.
+fn score_by(place: &Place<'_>, test: &Test, count: usize) -> Score
+    ensures { score_view result ≡ counted_score (around_at place.now) (test_view test.now) count }
 {
-    let count = cover_count(place.indexed.set, here, test);
     match test {
         Test::Match { source } => Score {
             count,
@@ -235,6 +261,14 @@ pub fn score_of(place: &Place<'_>, here: &[usize], test: &Test) -> Score
     }
 }
 
+// The score of a test at a place.
+fn score_of(place: &Place<'_>, test: &Test) -> Score
+    ensures { score_view result ≡ Tests.score (set_at place.now) (around_at place.now) (here_at place.now) (test_view test.now) }
+{
+    let count = cover_count(place.indexed.set, place.here, test);
+    score_by(place, test, count)
+}
+
 /// Whether a score is greater than another: more rules, then emitted sites, then a match before an equality before a
 /// loop, then smaller sites.
 pub fn is_greater(x: Score, y: Score) -> bool
@@ -253,43 +287,78 @@ pub fn is_greater(x: Score, y: Score) -> bool
     }
 }
 
-/// The greatest of some tests at a place, with its score.
-pub fn greatest_of(place: &Place<'_>, here: &[usize], tests: &[Test]) -> Option<Scored>
-    requires { IsTrue (descend (set_at place.now).rules here.now) }
-    ensures { IsGreatestScored (set_at place.now) (around_at place.now) here.now tests.now result }
-{
-    let mut best = None;
-    for test in tests {
-        best = Some(greater_of(place, here, best, test));
-    }
-    best
-}
-
-fn with_score(place: &Place<'_>, here: &[usize], test: &Test) -> Scored
-    requires { IsTrue (descend (set_at place.now).rules here.now) }
+fn with_score(place: &Place<'_>, test: &Test) -> Scored
     ensures test { result.test ≡ test.now }
-    ensures score { IsScored (set_at place.now) (around_at place.now) here.now result }
+    ensures score { IsScored (set_at place.now) (around_at place.now) (here_at place.now) result }
 {
     Scored {
         test: *test,
-        score: score_of(place, here, test),
+        score: score_of(place, test),
+    }
+}
+
+/// Whether a test can't be better than the best so far, though it covered all rules of the place.
+pub fn stays_below(place: &Place<'_>, best: Option<Scored>, test: &Test) -> bool
+    ensures { result ≡ true → IsNoBetter (set_at place.now) (around_at place.now) (here_at place.now) best (test_view test.now) }
+{
+    match best {
+        Some(best) => !is_greater(score_by(place, test, place.here.len()), best.score),
+        None => false,
+    }
+}
+
+// A score that no equality of a site and one of these exceeds, where it is known whether those of them that are emitted
+// are joined: then no equality can have two emitted sites.
+fn most_with(place: &Place<'_>, site: BindingId, are_joined: bool) -> Score
+    ensures { score_view result ≡ record { count = length (here_at place.now); emitted = as_number (is_in site (around_at place.now).emitted && not are_joined); form = 1; site = site; other = 0 } }
+{
+    Score {
+        count: place.here.len(),
+        is_emitted: is_emitted(place, site) && !are_joined,
+        form: 1,
+        site,
+        other: BindingId::from(0),
+    }
+}
+
+/// Whether no equality of a site and one of its class can be better than the best so far, where it is known whether those
+/// of the class that are emitted are joined.
+pub fn pairs_stay_below(
+    place: &Place<'_>,
+    best: Option<Scored>,
+    a: BindingId,
+    are_joined: bool,
+) -> bool
+    ensures { result ≡ true → (b : ℕ) → (are_joined ≡ true → (is_in a (around_at place.now).emitted && is_in b (around_at place.now).emitted) ≡ false) → IsNoBetter (set_at place.now) (around_at place.now) (here_at place.now) best (Tests.equal_test a b) }
+{
+    match best {
+        Some(best) => !is_greater(most_with(place, a, are_joined), best.score),
+        None => false,
     }
 }
 
 // The greater one of a test whose score is known and of another one.
-fn greater_of(place: &Place<'_>, here: &[usize], best: Option<Scored>, test: &Test) -> Scored
-    requires order { IsTrue (descend (set_at place.now).rules here.now) }
-    requires best { MatchOption best (Unit {0}) (IsScored (set_at place.now) (around_at place.now) here.now) }
-    ensures test { result.test ≡ greater_test (set_at place.now) (around_at place.now) here.now (option_map (λ s. s.test) best) test.now }
-    ensures score { IsScored (set_at place.now) (around_at place.now) here.now result }
+fn greater_of_two(place: &Place<'_>, best: Scored, test: &Test) -> Scored
+    requires { IsScored (set_at place.now) (around_at place.now) (here_at place.now) best }
+    ensures test { result.test ≡ greater_test (set_at place.now) (around_at place.now) (here_at place.now) (Some best.test) test.now }
+    ensures score { IsScored (set_at place.now) (around_at place.now) (here_at place.now) result }
 {
-    let next = with_score(place, here, test);
+    let next = with_score(place, test);
+    if is_greater(next.score, best.score) {
+        next
+    } else {
+        best
+    }
+}
+
+/// The greater one of a test and of another one, if there is one.
+pub fn greater_of(place: &Place<'_>, best: Option<Scored>, test: &Test) -> Scored
+    requires { MatchOption best (Unit {0}) (IsScored (set_at place.now) (around_at place.now) (here_at place.now)) }
+    ensures test { result.test ≡ greater_test (set_at place.now) (around_at place.now) (here_at place.now) (option_map (λ s. s.test) best) test.now }
+    ensures score { IsScored (set_at place.now) (around_at place.now) (here_at place.now) result }
+{
     match best {
-        Some(other) => if is_greater(next.score, other.score) {
-            next
-        } else {
-            other
-        },
-        None => next,
+        Some(other) => greater_of_two(place, other, test),
+        None => with_score(place, test),
     }
 }

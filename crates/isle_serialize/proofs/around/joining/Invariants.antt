@@ -1,6 +1,6 @@
-use Rattle.std.proofs.Common.{◌≡◌, ◌++◌, map, drop, if◌then◌else◌}
-use Rattle.std.specs.Bool.{◌==◌}
+use Rattle.std.proofs.Common.{◌≡◌, ◌++◌, drop}
+use Rattle.isle_serialize.proofs.AroundSteps.{named_again, named_first}
 use Rattle.isle_serialize.proofs.around.joining.Given as goal
 
 abbrev pub invariant-loop-entry : goal.invariant-loop-entry
-invariant-loop-entry l = map (λ e. (e.0, if e.1 == l.from then l.to else e.1)) l.names ≡ l.joined.items ++ map (λ e. (e.0, if e.1 == l.from then l.to else e.1)) (drop l.entry-index l.names)
+invariant-loop-entry l = named_first l.fn.a l.fn.b l.to (named_again l.from l.to l.names) ≡ l.joined.items ++ named_again l.from l.to (drop l.entry-index l.names)

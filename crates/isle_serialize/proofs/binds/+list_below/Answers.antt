@@ -1,42 +1,59 @@
-use Rattle.std.proofs.Common.{◌<◌, ◌∙◌, sym, ap, subst, rules, arith, Contains}
-use Rattle.model.specs.trees.Places.{is_in, each_after, listed_below}
-use Rattle.std.proofs.Common.{List, ℕ, ◌||◌}
-use Rattle.isle_serialize.specs.PlaceViews.{set_in}
-use Rattle.isle_serialize.proofs.ListedSites.{each_more, listed_whole}
-use Rattle.isle_serialize.proofs.SiteSets.{settled_more}
+use Rattle.std.proofs.Common.{◌≡◌, ◌<◌, ◌∙◌, ◌++◌, ◌∷◌, [], false, take, refl, sym, ap, subst, rules, arith, Contains}
+use Rattle.std.proofs.lemmas.Bool.{cond-false}
 use Rattle.std.proofs.lemmas.List.{take_all}
+use Rattle.model.specs.trees.Places.{is_in, each_after, listed_below}
+use Rattle.isle_serialize.specs.PlaceViews.{set_in}
+use Rattle.isle_serialize.proofs.ListedSites.{each_more, listed_there, listed_whole, still_fresh}
+use Rattle.isle_serialize.proofs.Tables.{is_in_append}
 use Rattle.isle_serialize.proofs.binds.+list_below.Goals as goal
+
+pub returns-then-contains : goal.returns-then-contains
+returns-then-contains t c =
+    let s = c.args.site in
+    let there = sym (c.contains.ensures ∙ ap (λ n. is_in n c.args.listed.now) c.number_of.ensures) ∙ c.if-contains.true in
+    λ start done e n l. listed_there (set_in c.args.indexed.now).sites start n s done c.args.listed.now l e there
+
+pub loop-source-init : goal.loop-source-init
+loop-source-init t c = record {
+  fresh = sym (c.contains.ensures ∙ ap (λ n. is_in n c.args.listed.now) c.number_of.ensures) ∙ c.if-contains.false;
+  listed = λ start done e m l. e;
+}
 
 pub list_below-requires : goal.list_below-requires
 list_below-requires t c =
     let there = subst (λ l. Contains l c.source-item.result) c.sources_of-source-items.ensures (c.loop-source.source-index, c.loop-source-test.true, sym c.source-item.is) in
     let smaller : c.source-item.result < c.args.site = c.args.indexed.now.can_grow.sources c.args.site c.source-item.result there in
-    (search (rules, arith, smaller), c.loop-source.invariant.settled)
+    search (rules, arith, smaller)
 
 pub loop-source-preserved : goal.loop-source-preserved
 loop-source-preserved t c =
     let sites = (set_in c.args.indexed.now).sites in
-    let there = subst (λ l. Contains l c.source-item.result) c.sources_of-source-items.ensures (c.loop-source.source-index, c.loop-source-test.true, sym c.source-item.is) in
-    let smaller : c.source-item.result < c.args.site = c.args.indexed.now.can_grow.sources c.args.site c.source-item.result there in
+    let a = c.source-item.result in
+    let i = c.loop-source.source-index in
+    let xs = c.sources_of-source-items.result.now in
+    let now = c.loop-source.listed in
+    let next = c.list_below.new.listed in
+    let there = subst (λ l. Contains l a) c.sources_of-source-items.ensures (i, c.loop-source-test.true, sym c.source-item.is) in
+    let smaller : a < c.args.site = c.args.indexed.now.can_grow.sources c.args.site a there in
     record {
-      settled = c.in_ok-list_below.ensures.settled;
-      listed = λ m l.
-          each_more (listed_below m sites c.args.emitted.now) c.args.listed.now.items c.sources_of-source-items.result.now c.loop-source.source-index c.source-item.result c.loop-source.listed.items c.list_below.new.listed.items
-          c.loop-source-test.true c.source-item.is (c.loop-source.invariant.listed m l) (c.in_ok-list_below.ensures.listed m (omega (arith, smaller, l)));
+      fresh = still_fresh sites c.args.indexed.now.can_grow.sources a c.args.site now next smaller c.in_ok-list_below.ensures c.loop-source.invariant.fresh;
+      listed = λ start done e m l.
+          let f = listed_below m sites start in
+          let so = c.loop-source.invariant.listed start done e m l in
+          c.in_ok-list_below.ensures start (each_after f done (take i xs)) so m (omega (arith, smaller, l))
+          ∙ ap (λ d. start ++ d) (each_more f done xs i a (each_after f done (take i xs)) (f (each_after f done (take i xs)) a) c.loop-source-test.true c.source-item.is refl refl);
     }
 
-pub returns-clause-settled : goal.returns-clause-settled
-returns-clause-settled t c =
-    settled_more c.args.emitted.now c.loop-source.listed.items c.push.new.self.items c.args.site c.loop-source.settled c.insert.new.self c.in_ok-insert.ensures c.in_ok-push.ensures.items c.loop-source.invariant.settled
-
-pub returns-clause-listed : goal.returns-clause-listed
-returns-clause-listed t c =
+pub returns : goal.returns
+returns t c =
     let sites = (set_in c.args.indexed.now).sites in
-    let done = c.args.listed.now.items in
-    let flag = ap (λ (l : List ℕ). is_in c.args.site c.args.emitted.now || is_in c.args.site l) (sym c.deref.ensures.value) ∙ sym c.is_settled.ensures ∙ c.if-is_settled.false in
-    λ n l.
-    listed_whole sites c.args.emitted.now n c.args.site done c.loop-source.listed.items c.push.new.self.items l flag
-    (λ m k.
-    c.loop-source.invariant.listed m k
-    ∙ ap (each_after (listed_below m sites c.args.emitted.now) done) (take_all c.loop-source.source-index c.sources_of-source-items.result.now c.loop-source-test.false ∙ c.sources_of-source-items.ensures))
-    c.in_ok-push.ensures.items
+    let s = c.args.site in
+    let now = c.loop-source.listed in
+    let whole = take_all c.loop-source.source-index c.sources_of-source-items.result.now c.loop-source-test.false ∙ c.sources_of-source-items.ensures in
+    let out = sym (c.contains.ensures ∙ ap (λ n. is_in n c.args.listed.now) c.number_of.ensures) ∙ c.if-contains.false in
+    let added : c.insert.new.self ≡ now ++ s ∷ [] =
+    subst (λ n. is_in n now ≡ false → c.insert.new.self ≡ now ++ n ∷ []) c.number_of-2.ensures
+    (λ f. c.in_ok-insert.ensures.added ∙ cond-false (is_in c.number_of-2.result now) now (now ++ c.number_of-2.result ∷ []) f) c.loop-source.invariant.fresh in
+    λ start done e n l.
+    listed_whole sites start n s done now c.insert.new.self l (sym (is_in_append s start done) ∙ ap (is_in s) (sym e) ∙ out)
+    (λ m k. c.loop-source.invariant.listed start done e m k ∙ ap (λ xs. start ++ each_after (listed_below m sites start) done xs) whole) added

@@ -1,6 +1,5 @@
-use Rattle.std.proofs.Common.{◌≡◌, ◌≤◌, ℕ, take}
-use Rattle.model.specs.trees.Places.{each_after, listed_below}
-use Rattle.isle_serialize.specs.AroundViews.{AreSettled}
+use Rattle.std.proofs.Common.{◌≡◌, ◌≤◌, ◌++◌, false, ℕ, List, take}
+use Rattle.model.specs.trees.Places.{is_in, each_after, listed_below}
 use Rattle.isle_serialize.specs.PlaceViews.{set_in}
 use Rattle.isle_serialize.proofs.binds.+list_below.Given as goal
 
@@ -9,6 +8,6 @@ decreases-list_below l = l.site
 
 abbrev pub invariant-loop-source : goal.invariant-loop-source
 invariant-loop-source l = record {
-  settled : AreSettled l.emitted l.listed.items l.settled;
-  listed : (m : ℕ) → l.site ≤ m → l.listed.items ≡ each_after (listed_below m (set_in l.indexed).sites l.emitted) l.initial.listed.items (take l.source-index l.source-items);
+  fresh : is_in l.site l.listed ≡ false;
+  listed : (start done : List ℕ) → l.initial.listed ≡ start ++ done → (m : ℕ) → l.site ≤ m → l.listed ≡ start ++ each_after (listed_below m (set_in l.indexed).sites start) done (take l.source-index l.source-items);
 }

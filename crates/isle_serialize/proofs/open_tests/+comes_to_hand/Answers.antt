@@ -3,7 +3,6 @@ use Rattle.std.specs.List.{list_all}
 use Rattle.std.proofs.lemmas.Bool.{or_cases}
 use Rattle.std.proofs.lemmas.List.{take_all}
 use Rattle.model.specs.trees.Places.{available, is_in}
-use Rattle.isle_serialize.specs.AroundViews.{has}
 use Rattle.isle_serialize.specs.PlaceViews.{around_at, set_at}
 use Rattle.isle_serialize.proofs.AvailableSites.{neither, brought_at_hand, missed, lacking, made_at_hand, source_more}
 use Rattle.isle_serialize.proofs.open_tests.+comes_to_hand.Goals as goal
@@ -30,7 +29,7 @@ returns-then-is_found-clause-at_hand t c =
     let sites = (set_at c.args.place.now).sites in
     let brought = (around_at c.args.place.now).brought in
     let s = c.args.site in
-    elim (or_cases (is_in s brought) (has c.args.found.now s) (sym c.is_found.ensures ∙ c.if-is_found.true)) [
+    elim (or_cases (is_in s brought) (is_in s c.args.found.now) (sym c.is_found.ensures ∙ c.if-is_found.true)) [
       | inl b ↦ sym (brought_at_hand sites c.args.place.now.indexed.can_grow.sources brought s b)
       | inr f ↦ sym (c.requires s f)
     ]
@@ -40,7 +39,7 @@ returns-then-waits_at-clause-at_hand t c =
     let sites = (set_at c.args.place.now).sites in
     let brought = (around_at c.args.place.now).brought in
     let s = c.args.site in
-    let not_brought = neither (is_in s brought) (has c.args.found.now s) (sym c.is_found.ensures ∙ c.if-is_found.false) in
+    let not_brought = neither (is_in s brought) (is_in s c.args.found.now) (sym c.is_found.ensures ∙ c.if-is_found.false) in
     sym (missed sites c.args.place.now.indexed.can_grow.sources brought s not_brought (sym c.waits_at.ensures ∙ c.if-waits_at.true))
 
 pub returns-then-not-branch-clause-at_hand : goal.returns-then-not-branch-clause-at_hand
@@ -48,7 +47,7 @@ returns-then-not-branch-clause-at_hand t c =
     let sites = (set_at c.args.place.now).sites in
     let brought = (around_at c.args.place.now).brought in
     let s = c.args.site in
-    let not_brought = neither (is_in s brought) (has c.args.found.now s) (sym c.is_found.ensures ∙ c.if-is_found.false) in
+    let not_brought = neither (is_in s brought) (is_in s c.args.found.now) (sym c.is_found.ensures ∙ c.if-is_found.false) in
     let there = subst (λ l. Contains l c.source-item.result) c.sources_of-source-items.ensures (c.loop-source.source-index, c.loop-source-test.true, sym c.source-item.is) in
     let stops : c.in_ok-comes_to_hand.field-0 ≡ false = search rules in
     sym (lacking sites c.args.place.now.indexed.can_grow.sources brought s c.source-item.result not_brought there (sym c.in_ok-comes_to_hand.ensures.at_hand ∙ stops))

@@ -1,5 +1,4 @@
 use Rattle.std.proofs.Common.{◌≡◌, ◌<◌, ◌&&◌, length, sym, ap, ◌∙◌, arith, lt-ltb}
-use Rattle.std.proofs.lemmas.Bool.{false≢true}
 use Rattle.std.proofs.lemmas.List.{length-map}
 use Rattle.std.proofs.lemmas.Result.{IfOk-weaker}
 use Rattle.model.specs.trees.Places.{available}
@@ -8,11 +7,8 @@ use Rattle.isle_rule_sets.specs.SiteViews.{site_view}
 use Rattle.isle_serialize.specs.PlaceViews.{around_at, set_at}
 use Rattle.isle_serialize.proofs.open_tests.is_at_hand.Goals as goal
 
-pub comes_to_hand-requires : goal.comes_to_hand-requires
-comes_to_hand-requires c = λ s e. absurd (false≢true (sym (c.new-found.ensures s) ∙ e))
-
-pub returns : goal.returns
-returns c =
+pub returns-clause-at_hand : goal.returns-clause-at_hand
+returns-clause-at_hand c =
     let set = set_at c.args.place.now in
     let ar = around_at c.args.place.now in
     let s = c.args.site in
