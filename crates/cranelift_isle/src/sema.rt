@@ -5,7 +5,7 @@ pub use isle_terms::{
     ConstructorKind, ExternalSig, ExtractorKind, ReturnKind, Term, TermFlags, TermKind, TermTable,
 };
 pub use isle_typed::{
-    Body, BoundVar, Expr, ExprVisitor, IfLet, Pattern, PatternVisitor, Rule, RuleVisitor,
+    Body, BoundIds, BoundVar, Expr, ExprVisitor, IfLet, Pattern, PatternVisitor, Rule, RuleVisitor,
     VisitFault, VisitedExpr,
 };
 pub use isle_types::{

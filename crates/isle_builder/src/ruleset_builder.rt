@@ -70,7 +70,7 @@ impl RuleSetBuilder {
             → StandFor (built_sites self.old) before → StandsAt before self.new visit_start }
         ensures kept { built_sites self.new ≡ built_sites self.old }
     {
-        self.demanded = Demanded::new(self.alloc);
+        self.demanded.clear(self.alloc);
         self.conflicts = Vec::new(self.alloc);
         self.iterators = StableSet::new(self.alloc);
         self.impure = Vec::new(self.alloc);

@@ -18,7 +18,6 @@ use crate::ruleset_builder::RuleSetBuilder;
 use isle_base::stablemapset::StableSet;
 use isle_base::syntax::{Error, Pos};
 use isle_base::visit_fault::VisitFault;
-use isle_rule_sets::demanded::Demanded;
 use isle_rule_sets::trie_again::{self, BindingId, RuleSet};
 use isle_rule_sets::verdict::why_unreachable;
 use isle_typed::{Rule, UsedTerms};
@@ -148,8 +147,7 @@ impl RuleSetBuilder {
         ensures table { self.new.table ≡ self.old.table }
     {
         let alloc = self.alloc;
-        let demanded = mem::replace(&mut self.demanded, Demanded::new(alloc));
-        let mut listed = trie_again::Rule::demanding(alloc, demanded)?;
+        let mut listed = trie_again::Rule::demanding(alloc, &mut self.demanded)?;
         listed.id = rule.id;
         listed.pos = rule.pos;
         listed.prio = rule.prio;

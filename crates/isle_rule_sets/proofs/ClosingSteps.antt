@@ -3,7 +3,6 @@ use Rattle.std.proofs.Common.{◌≡◌, ◌⊎◌, ℕ, zero, suc, ◌<◌, ◌
 use Rattle.std.specs.Prelude.{nat_eq, nat_lt}
 use Rattle.std.specs.List.{zip}
 use Rattle.std.specs.Ordering.{nat_cmp}
-use Rattle.std.specs.BTreeMap.{get}
 use Rattle.std.proofs.lemmas.Bool.{cases_Bool, and_parts, both_ways, false_from_ne_true, ltb-true, ltb-false}
 use Rattle.std.proofs.lemmas.List.{length-map}
 use Rattle.std.proofs.lemmas.Option.{same_Some, slice_get_within}
@@ -16,9 +15,10 @@ use Rattle.model.proofs.Elements.{In, in_from_contains, contains_from_in, slice_
 use Rattle.model.proofs.SitesMade.{once_with}
 use Rattle.laws_closure.proofs.Closing.{found_constraint, constraints_in}
 use Rattle.laws_closure.proofs.FollowingDemands.{IsApart, without_in, each_apart, each_all_in}
+use Rattle.model.specs.trees.Places.{constraint_at}
 use Rattle.isle_rule_sets.specs.SiteDemands.{constraint_held, are_equated, equated_each}
 use Rattle.isle_rule_sets.specs.SiteTables.{AddsFields}
-use Rattle.isle_rule_sets.specs.SiteViews.{constraint_view}
+use Rattle.isle_rule_sets.specs.SiteViews.{constraint_view, constraint_views}
 use Rattle.isle_rule_sets.specs.Closings.{are_in_one_class, AreDemandsOf, AreFieldsOf, GoOn, asked_each, with_member}
 use Rattle.isle_rule_sets.specs.declared.demanded.Demanded.{Demanded}
 use Rattle.isle_rule_sets.proofs.ClassTests.{in_one, one_without, each_merged}
@@ -26,7 +26,7 @@ use Rattle.isle_rule_sets.proofs.ClosingNumbers.{AreBelow, below_from_all, each_
 use Rattle.isle_rule_sets.proofs.SitesAdded.{same_all}
 
 pub held_same : (d e : Demanded) → e.constraints ≡ d.constraints → (s : ℕ) → constraint_held e s ≡ constraint_held d s
-held_same d e h s = ap (λ m. option_map constraint_view (get nat_cmp m s)) h
+held_same d e h s = ap (λ cs. constraint_at (constraint_views cs) s) h
 
 pub equated_same : (d e : Demanded) → e.equals ≡ d.equals → (a b : ℕ) → are_equated e a b ≡ are_equated d a b
 equated_same d e h a b = ap (λ l. together nat_eq l a b) h

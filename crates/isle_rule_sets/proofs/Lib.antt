@@ -24,7 +24,7 @@ pub mod FullTables
 mod NoEqualities
 mod NotedSites
 pub mod JoinedSets
-mod ListedConstraints
+mod AskedOnce
 mod ListedParts
 mod SameBindings
 mod SetsListed

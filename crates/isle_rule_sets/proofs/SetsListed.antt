@@ -15,7 +15,7 @@ use Rattle.isle_rule_sets.specs.Listings.{are_listed, ascends, is_below_first, i
 use Rattle.isle_rule_sets.specs.SetLists.{AreNoted, IsListedBefore}
 use Rattle.isle_rule_sets.proofs.JoinedSets.{in_set_in}
 use Rattle.model.proofs.Numbers.{tied}
-use Rattle.isle_rule_sets.proofs.ListedConstraints.{sorted_ascend}
+use Rattle.isle_rule_sets.proofs.AskedOnce.{sorted_ascend}
 
 -- 1. members of a set
 contains_in : (s : BTreeSet ℕ) (a : ℕ) → contains nat_cmp s a ≡ is_in a s.keys

@@ -1,17 +1,16 @@
 -- What a rule demands of sites, by their numbers.
-use Rattle.std.specs.Prelude.{◌≡◌, ℕ, Bool, ◌&&◌, ◌||◌, List, [], ◌∷◌, Option, Some, None, option_map, if◌then◌else◌, nat_eq}
-use Rattle.std.specs.Ordering.{nat_cmp}
-use Rattle.std.specs.BTreeMap.{get}
+use Rattle.std.specs.Prelude.{◌≡◌, ℕ, Bool, ◌&&◌, ◌||◌, List, [], ◌∷◌, Option, Some, None, if◌then◌else◌, nat_eq}
 use Rattle.isle_disjointsets.specs.Partition.{together}
 use Rattle.model.specs.sites.Sites as Sites
 use Rattle.model.specs.sites.Closure.{conflict, conflict_with}
-use Rattle.isle_rule_sets.specs.SiteViews.{constraint_view}
+use Rattle.model.specs.trees.Places.{constraint_at}
+use Rattle.isle_rule_sets.specs.SiteViews.{constraint_view, constraint_views}
 use Rattle.isle_rule_sets.specs.declared.trie_again.Constraint.{Constraint}
 use Rattle.isle_rule_sets.specs.declared.demanded.Demanded.{Demanded}
 
 -- what is asked of a site
 abbrev pub constraint_held : Demanded → ℕ → Option Sites.Constraint
-constraint_held d s = option_map constraint_view (get nat_cmp d.constraints s)
+constraint_held d s = constraint_at (constraint_views d.constraints) s
 
 -- a site keeps its first constraint
 abbrev pub first_kept : Option Sites.Constraint → Sites.Constraint → Sites.Constraint

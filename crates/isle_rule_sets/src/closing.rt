@@ -69,7 +69,7 @@ impl Demanded {
             (λ c. (constraint_held self.now site ≡ Some (constraint_view c)) × IsTrue (is_due self.now site)) }
     {
         if self.equals.contains(site) {
-            self.constraints.get(&site).copied()
+            self.constraints.get(site)
         } else {
             None
         }

@@ -24,11 +24,7 @@ impl Demanded {
         ensures ascending { IfOk result (λ v. IsTrue (ascends (sites_of v.items))) }
         ensures asked { IfOk result (λ v. (s : ℕ) → constraint_at (constraint_views v.items) s ≡ constraint_held self.now s) }
     {
-        let mut listed = Vec::new(alloc);
-        for (site, constraint) in &self.constraints {
-            listed.push((*site, *constraint))?;
-        }
-        Ok(listed)
+        self.constraints.list(alloc)
     }
 
     /// The classes of sites that must be equal: each ascending and of two sites or more, by their least sites.

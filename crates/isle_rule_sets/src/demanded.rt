@@ -5,17 +5,19 @@ ghost use Rattle.isle_rule_sets.specs.Closings.{KeepsDue, is_open};
 ghost use Rattle.isle_rule_sets.specs.SiteDemands.{constraint_held, first_kept, IsConflict, are_equated, equated_too, equated_each};
 ghost use Rattle.isle_rule_sets.specs.SiteViews.{constraint_view};
 
+use crate::asked_sites::AskedSites;
 use crate::equal_sites::EqualSites;
 use crate::overlaps::is_same_constraint;
 use crate::trie_again::{BindingId, Constraint};
 use isle_disjointsets::disjointsets::DisjointSets;
 use std::alloc::{AllocError, Global};
-use std::collections::{BTreeMap, BTreeSet};
+use std::collections::BTreeSet;
+use std::mem;
 
 /// What a rule demands of sites.
 pub struct Demanded {
-    // Of each site what is asked first, by its number.
-    pub(crate) constraints: BTreeMap<BindingId, Constraint>,
+    // Of each site what is asked first.
+    pub(crate) constraints: AskedSites,
     // Sites that must be equal.
     pub(crate) equals: EqualSites,
     // Sites that the closing has yet to look at: all that have a constraint and must equal another one, and it may be
@@ -41,10 +43,21 @@ impl Demanded {
         ensures due { KeepsDue result }
     {
         Demanded {
-            constraints: BTreeMap::new(alloc),
+            constraints: AskedSites::new(alloc),
             equals: EqualSites::new(alloc),
             open: BTreeSet::new(alloc),
         }
+    }
+
+    /// Goes on to the next rule: nothing again. Takes no memory.
+    pub fn clear(&mut self, alloc: Global)
+        ensures asked { (s : ℕ) → constraint_held self.new s ≡ None }
+        ensures equated { (a b : ℕ) → are_equated self.new a b ≡ false }
+        ensures due { KeepsDue self.new }
+    {
+        self.constraints.clear();
+        self.equals = EqualSites::new(alloc);
+        self.open = BTreeSet::new(alloc);
     }
 
     /// Asks something of a site, which keeps what was asked first: another constraint than this one is answered.
@@ -63,11 +76,11 @@ impl Demanded {
         ensures equated { self.new.equals ≡ self.old.equals }
         ensures due { KeepsDue self.old → OnOk result (KeepsDue self.new) }
     {
-        match self.constraints.get(&site).copied() {
+        match self.constraints.get(site) {
             Some(before) => Ok(other_than(before, constraint)),
             None => {
                 self.open_equated(site)?;
-                self.constraints.insert(site, constraint)?;
+                self.constraints.push(site, constraint)?;
                 Ok(None)
             }
         }
@@ -126,15 +139,11 @@ impl Demanded {
         Ok(())
     }
 
-    /// The sites that must be equal, by themselves.
-    pub fn into_equals(self) -> DisjointSets<BindingId>
-        ensures { result ≡ self.equals }
+    /// Takes the sites that must be equal away.
+    pub fn take_equals(&mut self, alloc: Global) -> DisjointSets<BindingId>
+        ensures { result ≡ self.old.equals }
     {
-        let Self {
-            constraints: _,
-            equals,
-            open: _,
-        } = self;
+        let equals = mem::replace(&mut self.equals, EqualSites::new(alloc));
         equals.into_sets()
     }
 }

@@ -1,6 +1,7 @@
 //! The rules of each term as sets of demands on binding sites, and which of them overlap.
 #![tactic(auto)]
 
+mod asked_sites;
 pub mod bindings;
 mod class_lists;
 mod closing;

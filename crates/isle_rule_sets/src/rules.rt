@@ -41,8 +41,8 @@ impl Rule {
     /// # Errors
     ///
     /// Where memory is refused.
-    pub fn demanding(alloc: Global, demanded: Demanded) -> Result<Rule, AllocError>
-        ensures listed { (sites : List Site) (k : Closed) → AreDemandsOf sites demanded k
+    pub fn demanding(alloc: Global, demanded: &mut Demanded) -> Result<Rule, AllocError>
+        ensures listed { (sites : List Site) (k : Closed) → AreDemandsOf sites demanded.old k
             → IfOk result (λ r. AreListedAs sites k (set_rule_view r).constraints (set_rule_view r).classes) }
         ensures nothing_else { IfOk result (λ r. set_rule_view r
             ≡ record empty_rule { constraints = (set_rule_view r).constraints; classes = (set_rule_view r).classes }) }
@@ -53,7 +53,7 @@ impl Rule {
             id: RuleId(0),
             pos: Pos { file: 0, offset: 0 },
             constraints,
-            equals: demanded.into_equals(),
+            equals: demanded.take_equals(alloc),
             iterators: StableSet::new(alloc),
             prio: 0,
             name: None,

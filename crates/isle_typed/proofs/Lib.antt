@@ -7,7 +7,7 @@ mod VisitSizes
 pub mod PatternRunForms
 mod ExprRunSteps
 pub mod ExprRunForms
-mod NumberedVars
+mod BoundPlaces
 mod OrderedVars
 pub mod RuleRunSteps
 pub mod Defaults

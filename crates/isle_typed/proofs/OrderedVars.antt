@@ -23,11 +23,3 @@ insert_last [] x id ls h = refl
 insert_last (b ∷ vs) x id ls h =
     let more = is_below b.0 x (of_last (λ y. nat_cmp b.0 y ≡ Less) (bound_vars vs) x ls h.0) in
     ap (λ o. match_ordering o ((x, id) ∷ b ∷ vs) ((b.0, id) ∷ vs) (b ∷ with_bound vs x id)) more ∙ ap (λ l. b ∷ l) (insert_last vs x id ls h.1)
-
--- one more of all variables is copied
-pub copied_more : {P : Type 0} (copied next it rest all : BoundIds P) (x : ℕ) (id : P) (a : Unit {0}) → copied ++ it ≡ all → it ≡ (x, id) ∷ rest → IsStrictlySortedBy nat_cmp (bound_vars all) → binds no_memory x id copied (Ok a) next → next ++ rest ≡ all
-copied_more {P} copied next it rest all x id a done is sorted bound =
-    let whole : copied ++ (x, id) ∷ rest ≡ all = ap (λ l. copied ++ l) (sym is) ∙ done in
-    let order : IsStrictlySortedBy nat_cmp (bound_vars copied ++ x ∷ bound_vars rest) = subst (IsStrictlySortedBy nat_cmp) (ap bound_vars (sym whole) ∙ map-append (λ (b : ℕ × P). b.0) copied ((x, id) ∷ rest)) sorted in
-    let at : next ≡ with_bound copied x id = ⊎_elim (λ p. p.1) (λ p. absurd (true≢false (ap is_ok p.0))) bound in
-    ap (λ l. l ++ rest) (at ∙ insert_last copied x id (bound_vars rest) order) ∙ append_assoc copied ((x, id) ∷ []) rest ∙ whole

@@ -3,10 +3,8 @@ use Rattle.std.proofs.Common.{◌≡◌, true≢false, ℕ, suc, ◌+◌, ◌<�
 use Rattle.std.proofs.lemmas.Bool.{and_parts}
 use Rattle.std.proofs.lemmas.List.{drop_more, drop_all, map-append}
 use Rattle.std.specs.List.Sorted.{IsStrictlySortedBy}
-use Rattle.std.specs.BTreeMap.{BTreeMap}
 use Rattle.std.specs.Ordering.{nat_cmp}
 use Rattle.isle_types.specs.declared.ids.TypeId.{TypeId}
-use Rattle.isle_types.specs.declared.ids.VarId.{VarId}
 use Rattle.model.specs.lists.Formed.{of_entry}
 use Rattle.model.specs.lists.Setting.{expr_type}
 use Rattle.model.specs.lists.Tables.{TermEntry}
@@ -27,7 +25,7 @@ use Rattle.model.specs.visits.ExprRuns.{entry_arg_types, ExprRun}
 use Rattle.model.specs.lists.Visitable.{is_visitable_rule, bound_after, bound_after_list, bound_after_iflets, is_visitable_pattern, is_visitable_expr, are_visitable_list, are_visitable_iflets}
 use Rattle.isle_typed.specs.VisitAnswers.{type_numbers}
 use Rattle.model.specs.visits.Runs.{BoundIds, answering, binds, bound_vars, lent_run, taking, with_bound}
-use Rattle.isle_typed.specs.VisitorSteps.{by_number, entries_of, no_memory, visited_of}
+use Rattle.isle_typed.specs.VisitorSteps.{no_memory, visited_of}
 use Rattle.isle_typed.proofs.BoundVars.{SameVars, after_same, pattern_same, expr_same}
 use Rattle.isle_typed.proofs.ExprRunSteps.{after_these}
 use Rattle.isle_typed.proofs.OrderedVars.{insert_last}
@@ -135,21 +133,12 @@ module _ {S L M X P E : Type 0} (v : RuleSteps VisitFault S L M X P E) (p : Patt
       same (Ok x) k g m = m
       same (Err e) k g m = m
 
-  -- and one that is lent for a pattern, where a map answers the variables
-  pub lends_pattern : (pattern : TypedPattern) (input : P) (vs : BoundIds P) (body : L → Result (BTreeMap VarId P) VisitFault → L → Type 0) (s : S) (r : Result (BTreeMap VarId P) VisitFault) (t : S) →
-      ((l : L) (a : Result (BTreeMap VarId P) VisitFault) (k : L) → body l a k → lent_binding (PatternRun no_memory p terms pattern input) vs l (entries_of a) k) →
+  -- and one that is lent for a pattern
+  pub lends_pattern : (pattern : TypedPattern) (input : P) (vs : BoundIds P) (body : L → Result (BoundIds P) VisitFault → L → Type 0) (s : S) (r : Result (BoundIds P) VisitFault) (t : S) →
+      ((l : L) (a : Result (BoundIds P) VisitFault) (k : L) → body l a k → lent_binding (PatternRun no_memory p terms pattern input) vs l a k) →
       lent_run (λ s r t. v.lend_pattern_steps s r t) (taking (λ s l r t. v.take_pattern_steps s l r t)) (λ l s t. v.leave_pattern_steps l s t) body s r t →
-      PatternCall no_memory v p q terms pattern input vs s (entries_of r) t
-  lends_pattern pattern input vs body s r t f h = ⊎_elim (λ e. inl (e.0, e.1, ap entries_of e.2)) (λ c. inr (c.0, c.1, entries_of c.2, c.3, c.4, f c.0 c.2 c.3 c.5, same c.2 c.3 c.1 c.6)) h
-    where
-      seen : (u : Result (Unit {0}) VisitFault) (x : BTreeMap VarId P) → entries_of (answering x u) ≡ answering (by_number x.entries) u
-      seen (Ok a) x = refl
-      seen (Err e) x = refl
-
-      same : (a : Result (BTreeMap VarId P) VisitFault) (k : L) (g : S) → MatchResult a (λ x. taking (λ s l r t. v.take_pattern_steps s l r t) k x g r t) (λ e. v.leave_pattern_steps k g t × (r ≡ Err e)) →
-          MatchResult (entries_of a) (λ x. taking (λ s l r t. v.take_pattern_steps s l r t) k x g (entries_of r) t) (λ e. v.leave_pattern_steps k g t × (entries_of r ≡ Err e))
-      same (Ok x) k g m = (m.0, m.1, ap entries_of m.2 ∙ seen m.0 x)
-      same (Err e) k g m = (m.0, ap entries_of m.1)
+      PatternCall no_memory v p q terms pattern input vs s r t
+  lends_pattern pattern input vs body s r t f h = ⊎_elim (λ e. inl e) (λ c. inr (c.0, c.1, c.2, c.3, c.4, f c.0 c.2 c.3 c.5, c.6)) h
 
   -- what is bound after `add_pattern`
   pub call_binds : (pattern : TypedPattern) (input : P) (vs : BoundIds P) (s : S) (ws : BoundIds P) (t : S) → PatternCall no_memory v p q terms pattern input vs s (Ok ws) t → SameVars (bound_vars ws) (bound_after pattern (bound_vars vs))

@@ -1,6 +1,7 @@
 pub mod PatternViews
 pub mod ExprViews
 pub mod RuleViews
+pub mod BoundEntries
 pub mod VisitorSteps
 pub mod VisitAnswers
 pub mod Elaborating

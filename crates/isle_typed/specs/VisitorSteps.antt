@@ -1,10 +1,7 @@
 -- What visitors do, as the model's runs speak of it.
-use Rattle.std.specs.Prelude.{ℕ, List, map, Option, Some, Result, Ok, Err, alloc_error}
-use Rattle.std.specs.BTreeMap.{BTreeMap}
-use Rattle.isle_types.specs.declared.ids.VarId.{VarId}
+use Rattle.std.specs.Prelude.{ℕ, Option, Some, Result, Ok, Err, alloc_error}
 use Rattle.isle_base.specs.declared.visit_fault.VisitFault.{VisitFault}
 use Rattle.isle_base.specs.declared.visit_fault.VisitFault.TheVariants.{Memory}
-use Rattle.model.specs.visits.Runs.{BoundIds}
 use Rattle.model.specs.visits.Visitors.{PatternSteps, ExprSteps, RuleSteps}
 use Rattle.isle_typed.specs.declared.visitors.PatternVisitor.{Ghosts as PatternGhosts}
 use Rattle.isle_typed.specs.declared.visitors.ExprVisitor.{Ghosts as ExprGhosts}
@@ -14,15 +11,6 @@ use Rattle.isle_typed.specs.declared.visitors.VisitedExpr.{VisitedExpr}
 -- the fault for want of memory
 abbrev pub no_memory : Option VisitFault
 no_memory = Some (Memory alloc_error)
-
--- the entries of a map of variables, by the variables' numbers
-abbrev pub by_number : {P : Type 0} → List (VarId × P) → BoundIds P
-by_number vs = map (λ b. (b.0.0, b.1)) vs
-
--- the answer, with the entries of a map of variables, by their numbers, in its place
-abbrev pub entries_of : {P E : Type 0} → Result (BTreeMap VarId P) E → Result (BoundIds P) E
-entries_of (Ok m) = Ok (by_number m.entries)
-entries_of (Err e) = Err e
 
 -- the answer, with the type and the id in place of a visited expression
 abbrev pub visited_of : {I E : Type 0} → Result (VisitedExpr I) E → Result (ℕ × I) E

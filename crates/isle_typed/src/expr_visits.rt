@@ -1,23 +1,21 @@
 //! The visit of an expression by any visitor.
 
-ghost use Rattle.std.specs.Prelude.{◌≡◌, IfOk, IsTrue, IfErr, alloc_error, length, slice_get, vec_len};
+ghost use Rattle.std.specs.Prelude.{◌≡◌, IfOk, IsTrue, length, slice_get, vec_len};
 ghost use Rattle.model.specs.visits.ExprRuns.{ExprRun, InputsRun, LetsRun, Makes};
 ghost use Rattle.isle_typed.specs.ExprViews.{expr_view, expr_views, expr_parts, let_views, let_parts};
 ghost use Rattle.model.specs.lists.Visitable.{is_visitable_expr, are_visitable_args, are_visitable_lets, is_made_of};
 ghost use Rattle.isle_typed.specs.VisitAnswers.{inputs_of, type_numbers, typed_inputs};
 ghost use Rattle.model.specs.visits.Runs.{answering, bound_vars};
-ghost use Rattle.isle_typed.specs.VisitorSteps.{by_number, expr_steps, no_memory};
-ghost use Rattle.isle_base.specs.declared.visit_fault.VisitFault.TheVariants.{Memory};
+ghost use Rattle.isle_typed.specs.VisitorSteps.{expr_steps, no_memory};
 
+use crate::bound_ids::BoundIds;
 use crate::exprs::Expr;
-use crate::pattern_visits::{bind_var, bound_id};
 use crate::used_terms::UsedTerms;
 use crate::visitors::ExprVisitor;
 use isle_base::visit_fault::VisitFault;
 use isle_terms::TermKind;
 use isle_types::{TermId, TypeId, VarId};
 use std::alloc::Global;
-use std::collections::BTreeMap;
 
 // The call for a term, with its arguments.
 fn make<V: ExprVisitor, E: UsedTerms>(
@@ -57,21 +55,6 @@ fn make<V: ExprVisitor, E: UsedTerms>(
     }
 }
 
-// The variables in a map of their own.
-fn copy_vars<P: Copy>(
-    alloc: Global,
-    vars: &BTreeMap<VarId, P>,
-) -> Result<BTreeMap<VarId, P>, VisitFault>
-    ensures ok { IfOk result (λ copy. by_number copy.entries ≡ by_number vars.now.entries) }
-    ensures err { IfErr result (λ fault. fault ≡ Memory alloc_error) }
-{
-    let mut copy = BTreeMap::new(alloc);
-    for (var, id) in vars {
-        bind_var(&mut copy, *var, *id)?;
-    }
-    Ok(copy)
-}
-
 impl Expr {
     /// Shows the expression to a visitor: parts before wholes, arguments left to right, a let's definitions
     /// in order before its body. Answers the expression's id. A variable's is the one that it is bound to.
@@ -88,11 +71,11 @@ impl Expr {
         alloc: Global,
         visitor: &mut V,
         termenv: &E,
-        vars: &BTreeMap<VarId, V::ExprId>,
+        vars: &BoundIds<V::ExprId>,
     ) -> Result<V::ExprId, VisitFault>
-        requires visitable { IsTrue (is_visitable_expr (E.term_entries termenv.now) (expr_view self.now) (bound_vars (by_number vars.now.entries))) }
+        requires visitable { IsTrue (is_visitable_expr (E.term_entries termenv.now) (expr_view self.now) (bound_vars vars.now)) }
         ensures run { ExprRun no_memory (expr_steps V.ExprVisitor) (E.term_entries termenv.now)
-            (expr_view self.now) (by_number vars.now.entries) visitor.old result visitor.new }
+            (expr_view self.now) vars.now visitor.old result visitor.new }
     {
         match self {
             Expr::Term(ty, term, args) => {
@@ -100,12 +83,12 @@ impl Expr {
                 let inputs = visit_inputs(alloc, visitor, args, tys, termenv, vars)?;
                 make(visitor, termenv, *ty, *term, inputs)
             }
-            Expr::Var(_, var) => Ok(bound_id(vars, *var)),
+            Expr::Var(_, var) => Ok(vars.id_of(*var)),
             Expr::ConstBool(ty, val) => visitor.add_const_bool(*ty, *val),
             Expr::ConstInt(ty, val) => visitor.add_const_int(*ty, *val),
             Expr::ConstPrim(ty, val) => visitor.add_const_prim(*ty, *val),
             Expr::Let { bindings, body, .. } => {
-                let mut inner = copy_vars(alloc, vars)?;
+                let mut inner = vars.copy(alloc)?;
                 visit_lets(alloc, visitor, bindings, termenv, &mut inner)?;
                 body.visit(alloc, visitor, termenv, &inner)
             }
@@ -121,12 +104,12 @@ fn visit_inputs<V: ExprVisitor, E: UsedTerms>(
     args: &[Expr],
     tys: &[TypeId],
     termenv: &E,
-    vars: &BTreeMap<VarId, V::ExprId>,
+    vars: &BoundIds<V::ExprId>,
 ) -> Result<Vec<(V::ExprId, TypeId)>, VisitFault>
-    requires visitable { IsTrue (are_visitable_args (E.term_entries termenv.now) (expr_parts (expr_views args.now)) (bound_vars (by_number vars.now.entries))) }
+    requires visitable { IsTrue (are_visitable_args (E.term_entries termenv.now) (expr_parts (expr_views args.now)) (bound_vars vars.now)) }
     requires count { length tys.now ≡ length args.now }
     ensures run { InputsRun no_memory (expr_steps V.ExprVisitor) (E.term_entries termenv.now) (expr_parts (expr_views args.now))
-        (type_numbers tys.now) (by_number vars.now.entries) visitor.old (inputs_of result) visitor.new }
+        (type_numbers tys.now) vars.now visitor.old (inputs_of result) visitor.new }
     ensures count { IfOk result (λ inputs. vec_len inputs ≡ length args.now) }
 {
     let mut inputs = Vec::new(alloc);
@@ -144,15 +127,15 @@ fn visit_lets<V: ExprVisitor, E: UsedTerms>(
     visitor: &mut V,
     bindings: &[(VarId, TypeId, Box<Expr>)],
     termenv: &E,
-    vars: &mut BTreeMap<VarId, V::ExprId>,
+    vars: &mut BoundIds<V::ExprId>,
 ) -> Result<(), VisitFault>
-    requires { IsTrue (are_visitable_lets (E.term_entries termenv.now) (let_parts (let_views bindings.now)) (bound_vars (by_number vars.old.entries))) }
+    requires { IsTrue (are_visitable_lets (E.term_entries termenv.now) (let_parts (let_views bindings.now)) (bound_vars vars.old)) }
     ensures { LetsRun no_memory (expr_steps V.ExprVisitor) (E.term_entries termenv.now) (let_parts (let_views bindings.now))
-        (by_number vars.old.entries) visitor.old (answering (by_number vars.new.entries) result) visitor.new }
+        vars.old visitor.old (answering vars.new result) visitor.new }
 {
     for binding in bindings {
         let value = binding.2.visit(alloc, visitor, termenv, vars)?;
-        bind_var(vars, binding.0, value)?;
+        vars.bind(binding.0, value)?;
     }
     Ok(())
 }

@@ -2,6 +2,7 @@
 //! parts are read (names, literals, counts), and how an error is reported.
 #![tactic(auto)]
 
+mod bound_ids;
 pub mod checks;
 mod expr_visits;
 mod exprs;
@@ -14,6 +15,7 @@ mod rules;
 mod used_terms;
 mod visitors;
 
+pub use bound_ids::BoundIds;
 pub use exprs::Expr;
 pub use isle_base::visit_fault::VisitFault;
 pub use patterns::Pattern;

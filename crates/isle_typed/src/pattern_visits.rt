@@ -2,23 +2,22 @@
 
 ghost use Rattle.std.specs.Prelude.{◌≡◌, IfOk, IsTrue, Some, length, slice_get, vec_len};
 ghost use Rattle.model.specs.rules.Program.{always_answers};
-ghost use Rattle.model.specs.trees.Places.{is_in};
 ghost use Rattle.model.specs.visits.PatternRuns.{part_types, PatternRun, PartsRun, EachRun, Opens};
 ghost use Rattle.isle_typed.specs.PatternViews.{pattern_view, pattern_views, pattern_parts};
 ghost use Rattle.model.specs.lists.Visitable.{is_visitable_pattern, are_visitable_parts, opens_into};
 ghost use Rattle.isle_typed.specs.VisitAnswers.{listed, type_numbers};
-ghost use Rattle.model.specs.visits.Runs.{binds, bound_at, bound_vars};
-ghost use Rattle.isle_typed.specs.VisitorSteps.{by_number, no_memory, pattern_steps};
+ghost use Rattle.model.specs.visits.Runs.{bound_vars};
+ghost use Rattle.isle_typed.specs.VisitorSteps.{no_memory, pattern_steps};
 ghost use Rattle.isle_terms.specs.TermViews.{flags_view, extractor_view};
 
+use crate::bound_ids::BoundIds;
 use crate::patterns::Pattern;
 use crate::used_terms::UsedTerms;
 use crate::visitors::PatternVisitor;
 use isle_base::visit_fault::VisitFault;
 use isle_terms::{ExtractorKind, TermFlags, TermKind};
-use isle_types::{TermId, TypeId, VarId};
+use isle_types::{TermId, TypeId};
 use std::alloc::{AllocError, Global};
-use std::collections::BTreeMap;
 
 // The types of several patterns.
 fn types_of(alloc: Global, patterns: &[Pattern]) -> Result<Vec<TypeId>, AllocError>
@@ -29,26 +28,6 @@ fn types_of(alloc: Global, patterns: &[Pattern]) -> Result<Vec<TypeId>, AllocErr
         tys.push(pattern.ty())?;
     }
     Ok(tys)
-}
-
-/// Binds a variable to an id, over what it was bound to. `Memory` where memory is refused: then nothing
-/// changes.
-pub fn bind_var<P: Copy>(vars: &mut BTreeMap<VarId, P>, var: VarId, id: P) -> Result<(), VisitFault>
-    ensures { binds no_memory var.0 id (by_number vars.old.entries) result (by_number vars.new.entries) }
-{
-    vars.insert(var, id)?;
-    Ok(())
-}
-
-/// The id that a variable is bound to. It has to be bound.
-pub fn bound_id<P: Copy>(vars: &BTreeMap<VarId, P>, var: VarId) -> P
-    requires { IsTrue (is_in var.0 (bound_vars (by_number vars.now.entries))) }
-    ensures { bound_at (by_number vars.now.entries) var.0 ≡ Some result }
-{
-    match vars.get(&var) {
-        Some(id) => *id,
-        None => unreachable!(),
-    }
 }
 
 // Whether an extractor, of a term of these flags, always answers. An internal one may not: it stands for a
@@ -127,18 +106,18 @@ impl Pattern {
         visitor: &mut V,
         input: V::PatternId,
         termenv: &E,
-        vars: &mut BTreeMap<VarId, V::PatternId>,
+        vars: &mut BoundIds<V::PatternId>,
     ) -> Result<(), VisitFault>
-        requires visitable { IsTrue (is_visitable_pattern (E.term_entries termenv.now) (pattern_view self.now) (bound_vars (by_number vars.old.entries))) }
+        requires visitable { IsTrue (is_visitable_pattern (E.term_entries termenv.now) (pattern_view self.now) (bound_vars vars.old)) }
         ensures run { PatternRun no_memory (pattern_steps V.PatternVisitor) (E.term_entries termenv.now)
-            (pattern_view self.now) input (visitor.old, by_number vars.old.entries) result (visitor.new, by_number vars.new.entries) }
+            (pattern_view self.now) input (visitor.old, vars.old) result (visitor.new, vars.new) }
     {
         match self {
             Pattern::BindPattern(_, var, of) => {
-                bind_var(vars, *var, input)?;
+                vars.bind(*var, input)?;
                 of.visit(alloc, visitor, input, termenv, vars)
             }
-            Pattern::Var(ty, var) => visitor.add_match_equal(input, bound_id(vars, *var), *ty),
+            Pattern::Var(ty, var) => visitor.add_match_equal(input, vars.id_of(*var), *ty),
             Pattern::ConstBool(ty, val) => visitor.add_match_bool(input, *ty, *val),
             Pattern::ConstInt(ty, val) => visitor.add_match_int(input, *ty, *val),
             Pattern::ConstPrim(ty, val) => visitor.add_match_prim(input, *ty, *val),
@@ -160,13 +139,13 @@ fn visit_parts<V: PatternVisitor, E: UsedTerms>(
     parts: &[Pattern],
     ids: &[V::PatternId],
     termenv: &E,
-    vars: &mut BTreeMap<VarId, V::PatternId>,
+    vars: &mut BoundIds<V::PatternId>,
 ) -> Result<(), VisitFault>
     requires visitable { IsTrue (are_visitable_parts (E.term_entries termenv.now)
-        (pattern_parts (pattern_views parts.now)) (bound_vars (by_number vars.old.entries))) }
+        (pattern_parts (pattern_views parts.now)) (bound_vars vars.old)) }
     requires count { length ids.now ≡ length parts.now }
     ensures { PartsRun no_memory (pattern_steps V.PatternVisitor) (E.term_entries termenv.now) (pattern_parts (pattern_views parts.now)) ids.now
-        (visitor.old, by_number vars.old.entries) result (visitor.new, by_number vars.new.entries) }
+        (visitor.old, vars.old) result (visitor.new, vars.new) }
 {
     for (i, part) in parts.iter().enumerate() {
         part.visit(alloc, visitor, ids[i], termenv, vars)?;
@@ -182,11 +161,11 @@ fn visit_each<V: PatternVisitor, E: UsedTerms>(
     parts: &[Pattern],
     input: V::PatternId,
     termenv: &E,
-    vars: &mut BTreeMap<VarId, V::PatternId>,
+    vars: &mut BoundIds<V::PatternId>,
 ) -> Result<(), VisitFault>
-    requires { IsTrue (are_visitable_parts (E.term_entries termenv.now) (pattern_parts (pattern_views parts.now)) (bound_vars (by_number vars.old.entries))) }
+    requires { IsTrue (are_visitable_parts (E.term_entries termenv.now) (pattern_parts (pattern_views parts.now)) (bound_vars vars.old)) }
     ensures { EachRun no_memory (pattern_steps V.PatternVisitor) (E.term_entries termenv.now) (pattern_parts (pattern_views parts.now)) input
-        (visitor.old, by_number vars.old.entries) result (visitor.new, by_number vars.new.entries) }
+        (visitor.old, vars.old) result (visitor.new, vars.new) }
 {
     for part in parts {
         part.visit(alloc, visitor, input, termenv, vars)?;

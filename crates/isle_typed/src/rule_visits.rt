@@ -11,23 +11,22 @@ ghost use Rattle.isle_typed.specs.RuleViews.{iflet_view, rule_view};
 ghost use Rattle.model.specs.lists.Visitable.{is_visitable_pattern, is_visitable_expr, are_visitable_list, are_visitable_iflets, is_visitable_rule};
 ghost use Rattle.isle_typed.specs.VisitAnswers.{type_numbers};
 ghost use Rattle.model.specs.visits.Runs.{bound_vars};
-ghost use Rattle.isle_typed.specs.VisitorSteps.{by_number, entries_of, expr_steps, no_memory, pattern_steps, rule_steps, visited_of};
+ghost use Rattle.isle_typed.specs.VisitorSteps.{expr_steps, no_memory, pattern_steps, rule_steps, visited_of};
 
+use crate::bound_ids::BoundIds;
 use crate::exprs::Expr;
-use crate::pattern_visits::bind_var;
 use crate::patterns::Pattern;
 use crate::rules::{IfLet, Rule};
 use crate::used_terms::UsedTerms;
 use crate::visitors::{ExprVisitor, PatternVisitor, RuleVisitor, VisitedExpr};
 use isle_base::visit_fault::VisitFault;
-use isle_types::{TypeId, VarId};
+use isle_types::TypeId;
 use std::alloc::Global;
-use std::collections::BTreeMap;
 
 // What a rule's variables are to its patterns, and to one of its expressions.
-type Inputs<V> = BTreeMap<VarId, <<V as RuleVisitor>::PatternVisitor as PatternVisitor>::PatternId>;
+type Inputs<V> = BoundIds<<<V as RuleVisitor>::PatternVisitor as PatternVisitor>::PatternId>;
 
-type Values<V> = BTreeMap<VarId, <<V as RuleVisitor>::ExprVisitor as ExprVisitor>::ExprId>;
+type Values<V> = BoundIds<<<V as RuleVisitor>::ExprVisitor as ExprVisitor>::ExprId>;
 
 // A pattern of the rule, with its input: the variables that are bound then.
 fn show_pattern<V: RuleVisitor, E: UsedTerms>(
@@ -38,15 +37,15 @@ fn show_pattern<V: RuleVisitor, E: UsedTerms>(
     termenv: &E,
     vars: Inputs<V>,
 ) -> Result<Inputs<V>, VisitFault>
-    requires { IsTrue (is_visitable_pattern (E.term_entries termenv.now) (pattern_view pattern.now) (bound_vars (by_number vars.entries))) }
+    requires { IsTrue (is_visitable_pattern (E.term_entries termenv.now) (pattern_view pattern.now) (bound_vars vars)) }
     ensures { PatternCall no_memory (rule_steps V.RuleVisitor) (pattern_steps V.PatternVisitor.PatternVisitor) (expr_steps V.ExprVisitor.ExprVisitor)
-        (E.term_entries termenv.now) (pattern_view pattern.now) input (by_number vars.entries) visitor.old (entries_of result) visitor.new }
+        (E.term_entries termenv.now) (pattern_view pattern.now) input vars visitor.old result visitor.new }
 {
     visitor.add_pattern(
         move |inner: &mut V::PatternVisitor| -> Result<Inputs<V>, VisitFault>
-            requires { IsTrue (is_visitable_pattern (E.term_entries termenv.now) (pattern_view pattern.now) (bound_vars (by_number vars.entries))) }
+            requires { IsTrue (is_visitable_pattern (E.term_entries termenv.now) (pattern_view pattern.now) (bound_vars vars)) }
             ensures { lent_binding (PatternRun no_memory (pattern_steps V.PatternVisitor.PatternVisitor) (E.term_entries termenv.entry.now)
-                (pattern_view pattern.entry.now) input) (by_number vars.entries) inner.old (entries_of result) inner.new }
+                (pattern_view pattern.entry.now) input) vars inner.old result inner.new }
         {
             let mut vars = vars;
             pattern.visit(alloc, inner, input, termenv, &mut vars)?;
@@ -61,12 +60,12 @@ fn exchange<V: RuleVisitor>(
     visitor: &mut V,
     vars: &Inputs<V>,
 ) -> Result<Values<V>, VisitFault>
-    ensures { ExchangeRun no_memory (rule_steps V.RuleVisitor) (by_number vars.now.entries) visitor.old (entries_of result) visitor.new }
+    ensures { ExchangeRun no_memory (rule_steps V.RuleVisitor) vars.now visitor.old result visitor.new }
 {
-    let mut values = BTreeMap::new(alloc);
-    for (var, input) in vars {
-        let value = visitor.pattern_as_expr(*input)?;
-        bind_var(&mut values, *var, value)?;
+    let mut values = BoundIds::new(alloc);
+    for entry in vars.entries() {
+        let value = visitor.pattern_as_expr(entry.1)?;
+        values.bind(entry.0, value)?;
     }
     Ok(values)
 }
@@ -79,18 +78,18 @@ fn show_expr<V: RuleVisitor, E: UsedTerms>(
     termenv: &E,
     values: &Values<V>,
 ) -> Result<V::Expr, VisitFault>
-    requires { IsTrue (is_visitable_expr (E.term_entries termenv.now) (expr_view expr.now) (bound_vars (by_number values.now.entries))) }
+    requires { IsTrue (is_visitable_expr (E.term_entries termenv.now) (expr_view expr.now) (bound_vars values.now)) }
     ensures { ExprCall no_memory (rule_steps V.RuleVisitor) (pattern_steps V.PatternVisitor.PatternVisitor) (expr_steps V.ExprVisitor.ExprVisitor)
-        (E.term_entries termenv.now) (expr_view expr.now) (by_number values.now.entries) visitor.old result visitor.new }
+        (E.term_entries termenv.now) (expr_view expr.now) values.now visitor.old result visitor.new }
 {
     visitor.add_expr(
         |inner: &mut V::ExprVisitor| -> Result<
             VisitedExpr<<V::ExprVisitor as ExprVisitor>::ExprId>,
             VisitFault,
         >
-            requires { IsTrue (is_visitable_expr (E.term_entries termenv.now) (expr_view expr.now) (bound_vars (by_number values.now.entries))) }
+            requires { IsTrue (is_visitable_expr (E.term_entries termenv.now) (expr_view expr.now) (bound_vars values.now)) }
             ensures { lent_valuing (ExprRun no_memory (expr_steps V.ExprVisitor.ExprVisitor) (E.term_entries termenv.entry.now) (expr_view expr.entry.now)
-                (by_number values.entry.now.entries)) (expr_type (expr_view expr.entry.now)) inner.old (visited_of result) inner.new }
+                values.entry.now) (expr_type (expr_view expr.entry.now)) inner.old (visited_of result) inner.new }
         {
             let value = expr.visit(alloc, inner, termenv, values)?;
             Ok(VisitedExpr {
@@ -109,9 +108,9 @@ fn visit_value<V: RuleVisitor, E: UsedTerms>(
     termenv: &E,
     vars: &Inputs<V>,
 ) -> Result<V::Expr, VisitFault>
-    requires { IsTrue (is_visitable_expr (E.term_entries termenv.now) (expr_view expr.now) (bound_vars (by_number vars.now.entries))) }
+    requires { IsTrue (is_visitable_expr (E.term_entries termenv.now) (expr_view expr.now) (bound_vars vars.now)) }
     ensures { ValueRun no_memory (rule_steps V.RuleVisitor) (pattern_steps V.PatternVisitor.PatternVisitor) (expr_steps V.ExprVisitor.ExprVisitor)
-        (E.term_entries termenv.now) (expr_view expr.now) (by_number vars.now.entries) visitor.old result visitor.new }
+        (E.term_entries termenv.now) (expr_view expr.now) vars.now visitor.old result visitor.new }
 {
     let values = exchange(alloc, visitor, vars)?;
     show_expr(alloc, visitor, expr, termenv, &values)
@@ -128,9 +127,9 @@ fn visit_args<V: RuleVisitor, E: UsedTerms>(
     requires visitable { IsTrue (are_visitable_list (E.term_entries termenv.now) (pattern_views args.now) []) }
     requires count { length tys.now ≡ length args.now }
     ensures { ArgsRun no_memory (rule_steps V.RuleVisitor) (pattern_steps V.PatternVisitor.PatternVisitor) (expr_steps V.ExprVisitor.ExprVisitor)
-        (E.term_entries termenv.now) (pattern_views args.now) (type_numbers tys.now) 0 [] visitor.old (entries_of result) visitor.new }
+        (E.term_entries termenv.now) (pattern_views args.now) (type_numbers tys.now) 0 [] visitor.old result visitor.new }
 {
-    let mut vars = BTreeMap::new(alloc);
+    let mut vars = BoundIds::new(alloc);
     for (i, arg) in args.iter().enumerate() {
         let input = visitor.add_arg(i, tys[i])?;
         vars = show_pattern(alloc, visitor, arg, input, termenv, vars)?;
@@ -146,9 +145,9 @@ fn visit_iflets<V: RuleVisitor, E: UsedTerms>(
     termenv: &E,
     vars: Inputs<V>,
 ) -> Result<Inputs<V>, VisitFault>
-    requires { IsTrue (are_visitable_iflets (E.term_entries termenv.now) (map iflet_view iflets.now) (bound_vars (by_number vars.entries))) }
+    requires { IsTrue (are_visitable_iflets (E.term_entries termenv.now) (map iflet_view iflets.now) (bound_vars vars)) }
     ensures { IfLetsRun no_memory (rule_steps V.RuleVisitor) (pattern_steps V.PatternVisitor.PatternVisitor) (expr_steps V.ExprVisitor.ExprVisitor)
-        (E.term_entries termenv.now) (map iflet_view iflets.now) (by_number vars.entries) visitor.old (entries_of result) visitor.new }
+        (E.term_entries termenv.now) (map iflet_view iflets.now) vars visitor.old result visitor.new }
 {
     let mut bound = vars;
     for iflet in iflets {

@@ -11,12 +11,12 @@ pub invariant_of-result : goal.invariant_of-result
 invariant_of-result c = record {
   ascending = c.in_ok-constraints.ensures.ascending;
   listed = c.in_ok-classes.ensures.listed;
-  joined = λ a b. rw c.into_equals.ensures (c.in_ok-classes.ensures.joined a b ∙ together_joins c.args.demanded.equals c.in_ok-classes.ensures.partition a b);
+  joined = λ a b. rw c.take_equals.ensures (c.in_ok-classes.ensures.joined a b ∙ together_joins c.args.demanded.now.equals c.in_ok-classes.ensures.partition a b);
 }
 
 pub returns-clause-listed : goal.returns-clause-listed
 returns-clause-listed c sites k h =
-    rw c.into_equals.ensures (demands_listed sites c.args.demanded k c.in_ok-constraints.constraints.items h c.in_ok-classes.ensures.partition c.in_ok-constraints.ensures.ascending c.in_ok-constraints.ensures.asked)
+    rw c.take_equals.ensures (demands_listed sites c.args.demanded.now k c.in_ok-constraints.constraints.items h c.in_ok-classes.ensures.partition c.in_ok-constraints.ensures.ascending c.in_ok-constraints.ensures.asked)
 
 pub returns-clause-nothing_else : goal.returns-clause-nothing_else
 returns-clause-nothing_else c =

@@ -13,7 +13,7 @@ use Rattle.isle_typed.specs.RuleViews.{iflet_view, rule_view}
 use Rattle.model.specs.lists.Visitable.{bound_after_list, bound_after_iflets}
 use Rattle.isle_typed.specs.VisitAnswers.{type_numbers}
 use Rattle.model.specs.visits.Runs.{BoundIds, bound_vars}
-use Rattle.isle_typed.specs.VisitorSteps.{by_number, expr_steps, no_memory, pattern_steps, rule_steps}
+use Rattle.isle_typed.specs.VisitorSteps.{expr_steps, no_memory, pattern_steps, rule_steps}
 use Rattle.isle_typed.proofs.BoundVars.{expr_same}
 use Rattle.isle_typed.proofs.PatternRunSteps.{err_is}
 use Rattle.isle_typed.proofs.RuleRunSteps.{parts_of_rule, known_root, counts_root, args_bind, iflets_bind, iflets_same, iflets_after_same, runs_rule, stops_iflets}
@@ -54,9 +54,9 @@ visit_iflets-requires g c =
     let terms = g.E.UsedTerms.term_entries c.args.termenv.now in
     let rule = rule_view c.args.self.now in
     rw c.deref-2.ensures.value
-    (iflets_same terms rule.iflets (bound_vars (by_number c.in_ok-vars.vars.entries)) (bound_after_list rule.args [])
-    (args_bind v p q terms rule.args (type_numbers c.as_slice-tys.result.now) 0 [] c.args.visitor.now (by_number c.in_ok-vars.vars.entries) c.visit_args.new.visitor
-    (args_ran v p q terms c.deref.result.now c.args.self.now.args.items (type_numbers c.as_slice-tys.result.now) c.args.visitor.now (Ok (by_number c.in_ok-vars.vars.entries)) c.visit_args.new.visitor c.deref.ensures.value c.in_ok-vars.ensures))
+    (iflets_same terms rule.iflets (bound_vars c.in_ok-vars.vars) (bound_after_list rule.args [])
+    (args_bind v p q terms rule.args (type_numbers c.as_slice-tys.result.now) 0 [] c.args.visitor.now c.in_ok-vars.vars c.visit_args.new.visitor
+    (args_ran v p q terms c.deref.result.now c.args.self.now.args.items (type_numbers c.as_slice-tys.result.now) c.args.visitor.now (Ok c.in_ok-vars.vars) c.visit_args.new.visitor c.deref.ensures.value c.in_ok-vars.ensures))
     ∙ (parts_of_rule terms rule c.requires.visitable).iflets)
 
 pub visit_value-requires : goal.visit_value-requires
@@ -66,13 +66,13 @@ visit_value-requires g c =
     let q = expr_steps g.V.ExprVisitor.ExprVisitor in
     let terms = g.E.UsedTerms.term_entries c.args.termenv.now in
     let rule = rule_view c.args.self.now in
-    let first = args_bind v p q terms rule.args (type_numbers c.as_slice-tys.result.now) 0 [] c.args.visitor.now (by_number c.in_ok-vars.vars.entries) c.visit_args.new.visitor
-    (args_ran v p q terms c.deref.result.now c.args.self.now.args.items (type_numbers c.as_slice-tys.result.now) c.args.visitor.now (Ok (by_number c.in_ok-vars.vars.entries)) c.visit_args.new.visitor c.deref.ensures.value c.in_ok-vars.ensures) in
-    let second = iflets_bind v p q terms rule.iflets (by_number c.in_ok-vars.vars.entries) c.visit_args.new.visitor (by_number c.in_ok-bound.bound.entries) c.visit_iflets.new.visitor
+    let first = args_bind v p q terms rule.args (type_numbers c.as_slice-tys.result.now) 0 [] c.args.visitor.now c.in_ok-vars.vars c.visit_args.new.visitor
+    (args_ran v p q terms c.deref.result.now c.args.self.now.args.items (type_numbers c.as_slice-tys.result.now) c.args.visitor.now (Ok c.in_ok-vars.vars) c.visit_args.new.visitor c.deref.ensures.value c.in_ok-vars.ensures) in
+    let second = iflets_bind v p q terms rule.iflets c.in_ok-vars.vars c.visit_args.new.visitor c.in_ok-bound.bound c.visit_iflets.new.visitor
     (iflets_ran v p q terms c.deref-2.result.now c.args.self.now.iflets.items
-    (by_number c.in_ok-vars.vars.entries) c.visit_args.new.visitor (Ok (by_number c.in_ok-bound.bound.entries)) c.visit_iflets.new.visitor c.deref-2.ensures.value c.in_ok-bound.ensures) in
-    expr_same terms rule.rhs (bound_vars (by_number c.in_ok-bound.bound.entries)) (bound_after_iflets rule.iflets (bound_after_list rule.args []))
-    (λ y. second y ∙ iflets_after_same rule.iflets (bound_vars (by_number c.in_ok-vars.vars.entries)) (bound_after_list rule.args []) first y)
+    c.in_ok-vars.vars c.visit_args.new.visitor (Ok c.in_ok-bound.bound) c.visit_iflets.new.visitor c.deref-2.ensures.value c.in_ok-bound.ensures) in
+    expr_same terms rule.rhs (bound_vars c.in_ok-bound.bound) (bound_after_iflets rule.iflets (bound_after_list rule.args []))
+    (λ y. second y ∙ iflets_after_same rule.iflets (bound_vars c.in_ok-vars.vars) (bound_after_list rule.args []) first y)
     ∙ (parts_of_rule terms rule c.requires.visitable).rhs
 
 pub returns-in_err-bound : goal.returns-in_err-bound
@@ -83,11 +83,11 @@ returns-in_err-bound g c =
     let terms = g.E.UsedTerms.term_entries c.args.termenv.now in
     record {
       run = rw (err_is c.from_residual-in_err-bound.result c.in_err-bound.field-0.0 c.from_residual-in_err-bound.ensures)
-          (stops_iflets v p q terms (rule_view c.args.self.now) (term_view c.used_term.result.now) c.as_slice-tys.result.now (by_number c.in_ok-vars.vars.entries)
+          (stops_iflets v p q terms (rule_view c.args.self.now) (term_view c.used_term.result.now) c.as_slice-tys.result.now c.in_ok-vars.vars
           c.args.visitor.now c.visit_args.new.visitor c.in_err-bound.field-0.0 c.visit_iflets.new.visitor c.used_term.ensures (ap type_numbers (sym c.as_slice-tys.ensures.value))
-          (args_ran v p q terms c.deref.result.now c.args.self.now.args.items (type_numbers c.as_slice-tys.result.now) c.args.visitor.now (Ok (by_number c.in_ok-vars.vars.entries)) c.visit_args.new.visitor c.deref.ensures.value c.in_ok-vars.ensures)
+          (args_ran v p q terms c.deref.result.now c.args.self.now.args.items (type_numbers c.as_slice-tys.result.now) c.args.visitor.now (Ok c.in_ok-vars.vars) c.visit_args.new.visitor c.deref.ensures.value c.in_ok-vars.ensures)
           (iflets_ran v p q terms c.deref-2.result.now c.args.self.now.iflets.items
-          (by_number c.in_ok-vars.vars.entries) c.visit_args.new.visitor (Err c.in_err-bound.field-0.0) c.visit_iflets.new.visitor c.deref-2.ensures.value c.in_err-bound.ensures));
+          c.in_ok-vars.vars c.visit_args.new.visitor (Err c.in_err-bound.field-0.0) c.visit_iflets.new.visitor c.deref-2.ensures.value c.in_err-bound.ensures));
     }
 
 pub returns : goal.returns
@@ -97,10 +97,10 @@ returns g c =
     let q = expr_steps g.V.ExprVisitor.ExprVisitor in
     let terms = g.E.UsedTerms.term_entries c.args.termenv.now in
     record {
-      run = runs_rule v p q terms (rule_view c.args.self.now) (term_view c.used_term.result.now) c.as_slice-tys.result.now (by_number c.in_ok-vars.vars.entries) (by_number c.in_ok-bound.bound.entries)
+      run = runs_rule v p q terms (rule_view c.args.self.now) (term_view c.used_term.result.now) c.as_slice-tys.result.now c.in_ok-vars.vars c.in_ok-bound.bound
           c.args.visitor.now c.visit_args.new.visitor c.visit_iflets.new.visitor _ _ c.used_term.ensures (ap type_numbers (sym c.as_slice-tys.ensures.value))
-          (args_ran v p q terms c.deref.result.now c.args.self.now.args.items (type_numbers c.as_slice-tys.result.now) c.args.visitor.now (Ok (by_number c.in_ok-vars.vars.entries)) c.visit_args.new.visitor c.deref.ensures.value c.in_ok-vars.ensures)
+          (args_ran v p q terms c.deref.result.now c.args.self.now.args.items (type_numbers c.as_slice-tys.result.now) c.args.visitor.now (Ok c.in_ok-vars.vars) c.visit_args.new.visitor c.deref.ensures.value c.in_ok-vars.ensures)
           (iflets_ran v p q terms c.deref-2.result.now c.args.self.now.iflets.items
-          (by_number c.in_ok-vars.vars.entries) c.visit_args.new.visitor (Ok (by_number c.in_ok-bound.bound.entries)) c.visit_iflets.new.visitor c.deref-2.ensures.value c.in_ok-bound.ensures)
+          c.in_ok-vars.vars c.visit_args.new.visitor (Ok c.in_ok-bound.bound) c.visit_iflets.new.visitor c.deref-2.ensures.value c.in_ok-bound.ensures)
           c.visit_value.ensures;
     }
