@@ -52,7 +52,7 @@ none_of : (o : Option TermEntry) → ((t : TermEntry) → o ≡ Some t → ⊥) 
 none_of None h = refl
 none_of (Some t) h = absurd (h t refl)
 
-mapped : (o : Option TermEntry) (r : TermEntry) → option_map made_entry o ≡ Some r → (x : TermEntry) × (o ≡ Some x) × (made_entry x ≡ r)
+pub mapped : (o : Option TermEntry) (r : TermEntry) → option_map made_entry o ≡ Some r → (x : TermEntry) × (o ≡ Some x) × (made_entry x ≡ r)
 mapped None r h = absurd (none-some r h)
 mapped (Some x) r h = (x, refl, same_Some _ _ h)
 
@@ -274,7 +274,7 @@ module _ (e : Setting) (names : List (List ℕ)) (k : AreTermsNamed e names) whe
     derived_uses (an_iflet {i = i} {rest = rest} g h x) w =
         All-append P (terms_of_expr i.expr) (flat_map (λ i. terms_of_expr i.expr) rest) (expr_uses (on_lhs flags) g w) (derived_uses x (kept_on w (kept_on (expr_keeps e (on_lhs flags) g) (pattern_keeps e flags.multi h))))
 
-  own_kept : (name : Option Name) (s : Scope) → Kept s.names (with_own_name name s).names
+  pub own_kept : (name : Option Name) (s : Scope) → Kept s.names (with_own_name name s).names
   own_kept None s = kept_here
   own_kept (Some n) s = kept_with s.names n.text
 

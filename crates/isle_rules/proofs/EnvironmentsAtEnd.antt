@@ -22,6 +22,7 @@ use Rattle.isle_types.specs.TypeViews.{type_views}
 use Rattle.isle_terms.specs.declared.term_table.TermTable.{TermTable}
 use Rattle.isle_terms.specs.ShownTables.{shown_by}
 use Rattle.isle_terms.proofs.TypesStaying.{with_names_more}
+use Rattle.laws_typing.proofs.TermLaws.{terms_stand_at_ids_lem}
 use Rattle.isle_rules.specs.declared.term_env.TermEnv.{TermEnv}
 use Rattle.isle_typed.specs.RuleViews.{rule_views}
 use Rattle.isle_rules.specs.RulesRead.{CanBeRead, AreReadRules, ReadsRules, rules_of}
@@ -75,7 +76,7 @@ module _ (e : TypesRead) (r : AreReadable e) (defs : List Definition) where
       let own : AreTermsOf e defs (terms_shown_by env) (environment_view old) = subst (λ t. AreTermsOf e defs t (environment_view old)) (sym shown) a in
       let is : IsSettingOf old env (setting_of e defs expand) = subst (λ b. IsSettingOf old env (setting_of e defs b)) flag (setting_shown e r defs env old own) in
       let inverse : IsInterned old = record { numbered = a.types.inverse.numbered; named = a.types.inverse.named } in
-      reads (setting_of e defs expand) is (terms_named env old (setting_of e defs expand) inverse is (terms_once e r defs a.valid))
+      reads (setting_of e defs expand) is (terms_named env old (setting_of e defs expand) inverse is (terms_stand_at_ids_lem e.known defs) (terms_once e r defs a.valid))
 
   module _ (table : TermTable) (old new : TypeEnv) (a : AreTermsOf e defs (shown_by table) (environment_view old)) (k : Keeps old new) where
     pub left_in_the_end : IsLeftByRefusal e (environment_view new)

@@ -36,7 +36,9 @@ mod RuleEnds
 mod RuleListSteps
 mod NamesKept
 mod ConstructorLaws
+mod MadeCalls
 mod CheckedUses
+mod Deciding
 mod RulesTyped
 pub mod RuleErrorSteps
 mod NamedLimits

@@ -38,8 +38,9 @@ found_at ts i t once h =
           sym a.1 ∙ ap (slice_get ts) (once a.0 i t.name there here) ∙ h
     ] refl
 
-pub terms_named : (env : TermEnv) (tyenv : TypeEnv) (e : Setting) → IsInterned tyenv → IsSettingOf tyenv env e → IsDistinct (map (λ t. t.name) e.terms) → AreTermsNamed e (names_of tyenv)
-terms_named env tyenv e inv is once = record {
+pub terms_named : (env : TermEnv) (tyenv : TypeEnv) (e : Setting) → IsInterned tyenv → IsSettingOf tyenv env e → ((k : ℕ) (t : TermEntry) → slice_get e.terms k ≡ Some t → t.id ≡ k) → IsDistinct (map (λ t. t.name) e.terms) → AreTermsNamed e (names_of tyenv)
+terms_named env tyenv e inv is placed once = record {
+  placed = placed;
   met = λ k t h. let a = then_gives (term_in_env env t.name) (slice_get e.terms) (is.term_names t.name ∙ found_at e.terms k t once h) in is.terms_met t.name a.0 a.1;
   found = λ k t h. found_at e.terms k t once h;
   once = λ i j x h l. same_Some i j (sym (inv.numbered x i h) ∙ inv.numbered x j l);

@@ -25,12 +25,7 @@ use Rattle.isle_typed.specs.RuleNaming.{MapsNames, AreDefined}
 use Rattle.isle_rules.specs.RulesRead.{CanBeRead, AreReadRules}
 use Rattle.isle_typed.specs.RuleViews.{rule_views}
 use Rattle.isle_rules.specs.Translating.{Keeps, IsSettingOf}
-use Rattle.isle_rules.proofs.RulesTyped.{rules_typed}
-
--- what was noted stays
-still_some : (old new : List Error) → old ≢ [] → (new ≡ old) ⊎ NotesMore old new → new ≢ []
-still_some old new some (inl a) none = some (sym a ∙ none)
-still_some old new some (inr a) none = some_noted a none
+use Rattle.isle_rules.proofs.RulesTyped.{still_some, rules_typed}
 
 module _ (env : TermEnv) (old new : TypeEnv) (defs : List Definition) (after : TermEnv) (keeps : Keeps old new) (typed : List Rule) (e : Setting) (is : IsSettingOf old env e) (k : AreTermsNamed e (names_of old))
     (names_are : rule_views after.rules.items ≡ named_rules (term_views env.terms.items) (rule_views typed)) where

@@ -20,6 +20,7 @@ use Rattle.isle_types.specs.EnvViews.{environment_view}
 use Rattle.isle_terms.specs.declared.term_table.TermTable.{TermTable}
 use Rattle.isle_terms.specs.ShownTables.{shown_by}
 use Rattle.isle_terms.specs.TermErrors.{AreErrorsOfTerms}
+use Rattle.laws_typing.proofs.TermLaws.{terms_stand_at_ids_lem}
 use Rattle.isle_rules.specs.declared.term_env.TermEnv.{TermEnv}
 use Rattle.isle_rules.specs.Constructors.{AreTermsNamed}
 use Rattle.isle_base.specs.ErrorViews.{error_views}
@@ -62,7 +63,7 @@ module _ (e : TypesRead) (r : AreReadable e) (defs : List Definition) (table : T
   inverse = record { numbered = a.types.inverse.numbered; named = a.types.inverse.named }
 
   terms : AreTermsNamed (setting_of e defs expand) (term_names_met e.known defs)
-  terms = subst (AreTermsNamed (setting_of e defs expand)) a.types.names (terms_named env old (setting_of e defs expand) inverse is (terms_once e r defs a.valid))
+  terms = subst (AreTermsNamed (setting_of e defs expand)) a.types.names (terms_named env old (setting_of e defs expand) inverse is (terms_stand_at_ids_lem e.known defs) (terms_once e r defs a.valid))
 
   module _ (notes : NotesOfRules env old (rule_trees defs) [] errors) where
     pub limits_named : NamesOnlyPassed (PassedInReading e defs expand) (error_views errors)

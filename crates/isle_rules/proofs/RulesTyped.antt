@@ -12,18 +12,25 @@ use Rattle.model.specs.lists.Elaborated.{TypedRules, typed_rules}
 use Rattle.model.proofs.Positions.{get_front}
 use Rattle.isle_types.specs.declared.type_env.TypeEnv.{TypeEnv}
 use Rattle.isle_types.specs.Envs.{names_of, IsInterned}
-use Rattle.isle_base.specs.NotedErrors.{NotesMore}
+use Rattle.isle_base.specs.NotedErrors.{NotesMore, MayNoteMore}
+use Rattle.isle_base.proofs.NotedErrors.{some_noted}
 use Rattle.isle_rules.specs.declared.term_env.TermEnv.{TermEnv}
-use Rattle.isle_rules.specs.Constructors.{has_constructor_if_there, AreMadeUses, AreFoundMade, uses_of_rule, AreTermsNamed}
+use Rattle.isle_rules.specs.Constructors.{has_constructor_if_there, AreMadeUses, AreFoundMade, CallsMade, uses_of_rule, AreTermsNamed}
 use Rattle.isle_typed.specs.Elaborating.{Checks}
 use Rattle.isle_rules.specs.PatternUses.{found_term}
 use Rattle.isle_rules.specs.RuleLists.{rules_within, CollectsRules}
 use Rattle.isle_rules.specs.Translating.{Keeps, IsSettingOf}
 use Rattle.isle_types.proofs.RightTypes.{all_left, all_right}
 use Rattle.isle_rules.proofs.ConstructorLaws.{same_entry, rules_same, rules_uses}
+use Rattle.isle_rules.proofs.MadeCalls.{rules_made}
 use Rattle.isle_rules.proofs.NamesKept.{Kept, kept_here}
 use Rattle.isle_rules.proofs.Readings.{keep_setting}
 use Rattle.isle_rules.proofs.TermsFound.{found_named}
+
+-- what was noted stays
+pub still_some : (old new : List Error) → old ≢ [] → MayNoteMore old new → new ≢ []
+still_some old new some (inl a) none = some (sym a ∙ none)
+still_some old new some (inr a) none = some_noted a none
 
 none_unless : (o : Option TypedRules) → ((l : TypedRules) → o ≡ Some l → ⊥) → o ≡ None
 none_unless None h = refl
@@ -83,3 +90,11 @@ module _ (env : TermEnv) (old mid : TypeEnv) (inv : IsInterned mid) (keeps : Kee
 
     pub rules_typed : CollectsRules env old mid errors read trees rules → Checks before after (AreFoundMade env mid (flat_map uses_of_rule trees)) → Typed ⊎ NotTyped
     rules_typed reads checks = at_end (reads e is) checks
+
+  -- where all rules are typed, and each term that they call has a constructor, so has each that they use
+  pub used_where_called : (read before : List Error) (trees : List RuleTree) (rules : List TypedRule) → CollectsRules env old mid [] read trees rules → MayNoteMore read before → All (CallsMade e.terms) rules → before ≡ [] → AreFoundMade env mid (flat_map uses_of_rule trees)
+  used_where_called read before trees rules reads more calls none =
+      elim (reads e is) [
+        | inl a ↦ found_uses (flat_map uses_of_rule trees) (rules_made e (names_of old) k 0 trees (names_of old) (record { rules = rules; names = names_of mid }) kept_here a.1 calls)
+        | inr b ↦ absurd (still_some read before b.0 more none)
+      ]

@@ -48,11 +48,12 @@ impl TermEnv {
         let alloc = *self.terms.allocator();
         let mut work = Progress::new(alloc, Vec::new(alloc));
         let mut rules = self.collect_rules(tyenv, &mut work, defs)?;
+        let made = self.rules_call_made(&rules);
         let mut errors = std::mem::replace(&mut work.errors, Vec::new(alloc));
         name_rules(&self.terms, &mut rules)?;
         let rule_map = map_names(alloc, tyenv, &rules, &mut errors)?;
         check_defined(tyenv, &self.terms, &mut errors)?;
-        self.check_constructors(tyenv, &mut errors, defs)?;
+        self.check_constructors(tyenv, &mut errors, defs, made)?;
         self.rules = rules;
         self.rule_map = rule_map;
         Ok(errors)

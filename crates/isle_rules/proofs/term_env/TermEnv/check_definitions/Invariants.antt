@@ -8,7 +8,7 @@ use Rattle.isle_rules.specs.PatternUses.{found_term}
 use Rattle.isle_rules.proofs.CheckedUses.{CheckedAt}
 use Rattle.isle_rules.proofs.NamedLimits.{rules_before}
 use Rattle.isle_rules.proofs.RuleBreachSteps.{UsedUpTo}
-use Rattle.isle_rules.proofs.term_env.TermEnv.check_constructors.Given as goal
+use Rattle.isle_rules.proofs.term_env.TermEnv.check_definitions.Given as goal
 
 abbrev pub invariant-loop-def : goal.invariant-loop-def
 invariant-loop-def l =

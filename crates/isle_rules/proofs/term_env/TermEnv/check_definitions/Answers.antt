@@ -12,7 +12,7 @@ use Rattle.isle_rules.proofs.CheckedUses.{checked_first, checked_next, checked_l
 use Rattle.isle_base.specs.Positions.{definition_positions, positions_of}
 use Rattle.isle_base.proofs.Positioned.{among_same, notes_nothing, notes_parts}
 use Rattle.isle_rules.proofs.PartPlaces.{each_inside}
-use Rattle.isle_rules.proofs.term_env.TermEnv.check_constructors.Goals as goal
+use Rattle.isle_rules.proofs.term_env.TermEnv.check_definitions.Goals as goal
 
 pub loop-def-init : goal.loop-def-init
 loop-def-init c = (checked_first (λ (u : Position × Name). IsTrue (has_constructor_if_there (found_term c.args.self.now c.args.tyenv.now u.1.text))) _ _, notes_nothing _ _ _ refl, first_used c.args.self.now c.args.tyenv.now (rule_trees (definition_views c.args.defs.now)) c.args.errors.now.items)
