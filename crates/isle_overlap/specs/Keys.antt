@@ -1,8 +1,8 @@
 -- Keys of rules: numbers that tell rules apart, and where the next rule of a key stands.
-use Rattle.std.specs.Prelude.{true, ◌≡◌, ◌≢◌, ◌≤◌, ◌<◌, ◌+◌, ℕ, List, Option, Some, None, length, slice_get, nat_lt, if◌then◌else◌}
+use Rattle.std.specs.Prelude.{false, ◌≡◌, ◌≢◌, ◌≤◌, ◌<◌, ◌+◌, ℕ, List, Option, Some, None, length, slice_get, nat_lt, unsigned_abs, if◌then◌else◌}
 use Rattle.std.specs.BTreeMap.{BTreeMap, get}
 use Rattle.model.specs.sites.Sites.{SetRule}
-use Rattle.model.specs.sites.SetRules.{sites_differ}
+use Rattle.model.specs.sites.SetRules.{equates_none, is_mask_of, overlap_wrongly}
 use Rattle.model.specs.trees.Places.{constraint_at}
 use Rattle.isle_rule_sets.specs.SiteViews.{constraint_view}
 use Rattle.isle_rule_sets.specs.contracts.trie_again.ConstraintOrd.TheImpl.{ghosts}
@@ -10,10 +10,11 @@ use Rattle.isle_rule_sets.specs.declared.trie_again.Constraint.{Constraint}
 use Rattle.isle_overlap.specs.declared.keys.Keys.{Keys}
 use Rattle.isle_overlap.specs.declared.overlap.Ahead.{Ahead}
 
--- some site has different constraints in two rules
+-- two rules neither overlap wrongly nor mask one another
 pub record AreApart (a b : SetRule) : Type 0 where
-  pub first : sites_differ a.constraints b.constraints ≡ true
-  pub second : sites_differ b.constraints a.constraints ≡ true
+  pub wrong : overlap_wrongly a b ≡ false
+  pub masks : is_mask_of a b ≡ false
+  pub masked : is_mask_of b a ≡ false
 
 -- each rule has a key, if only one that says nothing; rules whose keys say different things are apart
 pub record TellApart (rules : List SetRule) (keys : List (Option ℕ)) : Type 0 where
@@ -27,10 +28,15 @@ pub record IsAskedNumber (numbers : BTreeMap Constraint ℕ) (site : ℕ) (r : S
   pub here : constraint_at r.constraints site ≡ Some (constraint_view asked)
   pub number : get ghosts.cmp numbers asked ≡ Some k
 
--- the keys of rules are these numbers
-pub record AreNumbered (numbers : BTreeMap Constraint ℕ) (site : ℕ) (rules : List SetRule) (keys : List (Option ℕ)) : Type 0 where
+-- a number is the priority, without its sign, of a rule that demands an equality
+pub record IsPriorityNumber (r : SetRule) (k : ℕ) : Type 0 where
+  pub equates : equates_none r ≡ false
+  pub number : unsigned_abs r.prio ≡ k
+
+-- each rule has a key, and one that says something says this of its rule
+pub record AreKeyed (says : SetRule → ℕ → Type 0) (rules : List SetRule) (keys : List (Option ℕ)) : Type 0 where
   pub each : length keys ≡ length rules
-  pub numbered : (i : ℕ) (r : SetRule) (k : ℕ) → slice_get rules i ≡ Some r → slice_get keys i ≡ Some (Some k) → IsAskedNumber numbers site r k
+  pub keyed : (i : ℕ) (r : SetRule) (k : ℕ) → slice_get rules i ≡ Some r → slice_get keys i ≡ Some (Some k) → says r k
 
 -- the first place, from one on, at which a key stands, or the end
 pub record IsFirst (keys : List (Option ℕ)) (from : ℕ) (key : Option ℕ) (at : ℕ) : Type 0 where

@@ -1,11 +1,12 @@
-//! Keys that tell most rules of a set apart: each is the number of what a rule asks of one site.
+//! Keys that tell most rules of a set apart: numbers of what they ask of one site, or priorities of rules that demand
+//! equalities.
 
 ghost use Rattle.std.specs.BTreeMap.{get};
 ghost use Rattle.std.specs.Option.{option_cmp};
 ghost use Rattle.std.specs.Ordering.{nat_cmp};
-ghost use Rattle.std.specs.Prelude.{◌≡◌, ◌+◌, ℕ, List, Option, IfOk, None, Some, replicate, length, slice_get, unwrap_or};
+ghost use Rattle.std.specs.Prelude.{◌≡◌, ◌+◌, ℕ, List, Option, IfOk, None, Some, replicate, length, slice_get, sum_by, unwrap_or};
 ghost use Rattle.isle_rule_sets.specs.SiteViews.{set_rule_view, set_rule_views};
-ghost use Rattle.isle_overlap.specs.Keys.{AreKeys, AreNext, AreNumbered, IsFirst, IsAskedNumber, TellApart};
+ghost use Rattle.isle_overlap.specs.Keys.{AreKeyed, AreKeys, AreNext, IsFirst, IsAskedNumber, IsPriorityNumber, TellApart};
 
 use isle_rule_sets::trie_again::{BindingId, Constraint, Rule};
 use std::alloc::{AllocError, Global};
@@ -107,13 +108,51 @@ fn numbered(
     numbers: &BTreeMap<Constraint, usize>,
     site: BindingId,
 ) -> Result<Vec<Option<usize>>, AllocError>
-    ensures { IfOk result (λ v. AreNumbered numbers.now site (set_rule_views rules.now) v.items) }
+    ensures { IfOk result (λ v. AreKeyed (IsAskedNumber numbers.now site) (set_rule_views rules.now) v.items) }
 {
     let mut keys = Vec::with_capacity(alloc, rules.len())?;
     for rule in rules {
         keys.push(key_of(numbers, rule, site))?;
     }
     Ok(keys)
+}
+
+/// How many sites a rule demands to equal another one.
+pub fn equated(rule: &Rule) -> usize
+    ensures { result ≡ sum_by length (set_rule_view rule.now).classes }
+{
+    rule.total_constraints() - rule.constraints().len()
+}
+
+// The priority of a rule that demands equalities, without its sign: such rules mask none and are masked by none, so those
+// of different priorities are apart.
+fn priority_of(rule: &Rule) -> Option<usize>
+    ensures { (k : ℕ) → result ≡ Some k → IsPriorityNumber (set_rule_view rule.now) k }
+{
+    if equated(rule) == 0 {
+        return None;
+    }
+    Some(rule.prio.unsigned_abs() as usize)
+}
+
+// The priority of each rule that demands equalities.
+fn priorities(alloc: Global, rules: &[Rule]) -> Result<Vec<Option<usize>>, AllocError>
+    ensures { IfOk result (λ v. AreKeyed IsPriorityNumber (set_rule_views rules.now) v.items) }
+{
+    let mut keys = Vec::with_capacity(alloc, rules.len())?;
+    for rule in rules {
+        keys.push(priority_of(rule))?;
+    }
+    Ok(keys)
+}
+
+// How many different keys there are.
+fn count_different(alloc: Global, keys: &[Option<usize>]) -> Result<usize, AllocError> {
+    let mut seen = BTreeSet::new(alloc);
+    for key in keys {
+        seen.insert(*key)?;
+    }
+    Ok(seen.len())
 }
 
 // As many keys that say nothing.
@@ -127,13 +166,20 @@ fn no_keys(alloc: Global, count: usize) -> Result<Vec<Option<usize>>, AllocError
     Ok(keys)
 }
 
-// A key for each rule: what it asks of one site, which tells it from rules that ask something else there. Of a few rules
-// none has one: comparing them is faster than finding keys.
-fn keys_by_site(alloc: Global, rules: &[Rule]) -> Result<Vec<Option<usize>>, AllocError>
+// A key for each rule: the priority of those that demand equalities, where that tells most rules apart; else what a rule
+// asks of one site, which tells it from rules that ask something else there. Of a few rules none has one: comparing them is
+// faster than finding keys.
+fn telling_keys(alloc: Global, rules: &[Rule]) -> Result<Vec<Option<usize>>, AllocError>
     ensures { IfOk result (λ v. TellApart (set_rule_views rules.now) v.items) }
 {
     if rules.len() < FEW {
         return no_keys(alloc, rules.len());
+    }
+    let by_priority = priorities(alloc, rules)?;
+    let different = count_different(alloc, &by_priority)?;
+    let half = rules.len() / 2;
+    if half < different {
+        return Ok(by_priority);
     }
     let site = telling_site(alloc, rules)?;
     let numbers = numbers_of(alloc, rules, site)?;
@@ -181,7 +227,7 @@ fn next_alike(alloc: Global, keys: &[Option<usize>]) -> Result<Vec<usize>, Alloc
 pub fn keys_of(alloc: Global, rules: &[Rule]) -> Result<Keys, AllocError>
     ensures { IfOk result (λ k. AreKeys (set_rule_views rules.now) k) }
 {
-    let of_rules = keys_by_site(alloc, rules)?;
+    let of_rules = telling_keys(alloc, rules)?;
     let next = next_alike(alloc, &of_rules)?;
     Ok(Keys { of_rules, next })
 }

@@ -2,7 +2,7 @@
 ghost use Rattle.std.specs.Prelude.{◌^◌, List, Option, None, true, false, Some, slice_get, if◌then◌else◌, slice_index_or, ◌≡◌, ◌++◌, ◌∷◌, [], ◌+◌, ◌-◌, ◌<◌, ℕ, All, IfOk, OnOk, drop, length, map, nat_lt, cond, vec_len};
 ghost use Rattle.model.specs.claims.Refusals.{overlapping, refusal_of};
 ghost use Rattle.model.specs.sites.Overlap.{RuleReport, ShadowReport, ascending_positions, by_position, degree, has_end, other_end, overlap_reports, rule_shadows, rules_overlap};
-ghost use Rattle.model.specs.sites.SetRules.{is_mask_of, overlap_wrongly, shadows_among, wrong_among};
+ghost use Rattle.model.specs.sites.SetRules.{is_mask_of, is_subset, overlap_between, overlap_wrongly, shadows_among, wrong_among};
 ghost use Rattle.isle_base.specs.ErrorViews.{error_view, error_views, span_starts};
 ghost use Rattle.isle_base.specs.Positions.{HasSingleSpans, IsSingle};
 ghost use Rattle.isle_base.specs.SyntaxViews.{position};
@@ -13,7 +13,7 @@ ghost use Rattle.isle_overlap.specs.ComparedRules.{HaveSingleSpans, found_shadow
 ghost use Rattle.isle_overlap.specs.Keys.{AreKeys, AreNext, IsAhead, IsFirst, nearer};
 ghost use Rattle.isle_overlap.specs.Graphs.{unreported_at, count_left, counts_before, ends_of, neighbours_at, neighbours, same_pos, position_count, unreported};
 
-use crate::keys::{Keys, first_without, keys_of};
+use crate::keys::{Keys, equated, first_without, keys_of};
 use isle_base::syntax::{Error, Pos, Span};
 use isle_rule_sets::trie_again::{Overlap, Rule};
 use std::alloc::{AllocError, Global};
@@ -101,17 +101,27 @@ fn overlap_wrongly(left: &Rule, right: &Rule) -> bool
         }
 }
 
+// Whether two rules are a subset pair.
+fn is_subset(rule: &Rule, other: &Rule) -> bool
+    ensures { result ≡ is_subset (overlap_between (set_rule_view rule.now) (set_rule_view other.now)) }
+{
+    match rule.may_overlap(other) {
+        Overlap::No => false,
+        Overlap::Yes { subset } => subset,
+    }
+}
+
 // Whether a rule of greater priority matches wherever another one does: all that it asks is asked there too. The
-// priorities come first, so of two rules only one is compared with the other.
+// priorities come first, so of two rules only one is compared with the other, and what two numbers say comes before what
+// is found by a walk: rules that demand equalities are no subset pair.
 fn masks(mask: &Rule, rule: &Rule) -> bool
     ensures { result ≡ is_mask_of (set_rule_view mask.now) (set_rule_view rule.now) }
 {
     rule.prio < mask.prio
-        && match mask.may_overlap(rule) {
-            Overlap::No => false,
-            Overlap::Yes { subset } => subset,
-        }
         && mask.total_constraints() <= rule.total_constraints()
+        && equated(mask) == 0
+        && equated(rule) == 0
+        && is_subset(mask, rule)
 }
 
 fn add_wrong(left: &Rule, right: &Rule, wrong: &mut Vec<(Pos, Pos)>) -> Result<(), AllocError>

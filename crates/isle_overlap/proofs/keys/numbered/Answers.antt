@@ -1,10 +1,10 @@
 use Rattle.std.proofs.Common.{subst}
 use Rattle.isle_rule_sets.specs.SiteViews.{set_rule_view}
 use Rattle.isle_overlap.specs.Keys.{IsAskedNumber}
-use Rattle.isle_overlap.proofs.DistinctKeys.{numbered_more}
+use Rattle.isle_overlap.proofs.DistinctKeys.{keyed_more}
 use Rattle.isle_overlap.proofs.keys.numbered.Goals as goal
 
 pub loop-rule-preserved : goal.loop-rule-preserved
 loop-rule-preserved c =
-    numbered_more c.args.numbers.now c.args.site c.args.rules.now c.loop-rule.rule-index c.rule-item.result c.loop-rule.keys.items c.push.new.self.items c.key_of.result c.loop-rule-test.true c.loop-rule.invariant c.in_ok-push.ensures.items
+    keyed_more (IsAskedNumber c.args.numbers.now c.args.site) c.args.rules.now c.loop-rule.rule-index c.rule-item.result c.loop-rule.keys.items c.push.new.self.items c.key_of.result c.loop-rule-test.true c.loop-rule.invariant c.in_ok-push.ensures.items
     (λ k e. subst (λ r. IsAskedNumber c.args.numbers.now c.args.site (set_rule_view r) k) c.rule-item.is (c.key_of.ensures k e))

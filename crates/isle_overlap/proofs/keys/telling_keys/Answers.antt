@@ -2,9 +2,9 @@ use Rattle.std.proofs.Common.{◌≡◌, replicate, length, None, sym, ap, ◌�
 use Rattle.std.proofs.lemmas.Result.{IfOk-weaker}
 use Rattle.std.proofs.lemmas.List.{length-map}
 use Rattle.isle_rule_sets.specs.SiteViews.{set_rule_view, set_rule_views}
-use Rattle.isle_overlap.specs.Keys.{AreNumbered, TellApart}
-use Rattle.isle_overlap.proofs.DistinctKeys.{none_tell_apart, numbered_tell_apart}
-use Rattle.isle_overlap.proofs.keys.keys_by_site.Goals as goal
+use Rattle.isle_overlap.specs.Keys.{AreKeyed, IsAskedNumber, TellApart}
+use Rattle.isle_overlap.proofs.DistinctKeys.{none_tell_apart, numbered_tell_apart, priorities_tell_apart}
+use Rattle.isle_overlap.proofs.keys.telling_keys.Goals as goal
 
 pub returns-then-rules-lt-FEW : goal.returns-then-rules-lt-FEW
 returns-then-rules-lt-FEW c =
@@ -13,8 +13,11 @@ returns-then-rules-lt-FEW c =
     (λ v e. none_tell_apart rules v.items (e ∙ ap (λ n. replicate n None) (sym (length-map c.args.rules.now set_rule_view))))
     c.no_keys.ensures
 
+pub returns-then-half-different : goal.returns-then-half-different
+returns-then-half-different c = priorities_tell_apart (set_rule_views c.args.rules.now) c.in_ok-by_priority.by_priority.items c.in_ok-by_priority.ensures
+
 pub returns : goal.returns
 returns c =
     let rules = set_rule_views c.args.rules.now in
-    IfOk-weaker c.numbered.result (λ v. AreNumbered c.in_ok-numbers.numbers c.in_ok-site.site rules v.items) (λ v. TellApart rules v.items)
+    IfOk-weaker c.numbered.result (λ v. AreKeyed (IsAskedNumber c.in_ok-numbers.numbers c.in_ok-site.site) rules v.items) (λ v. TellApart rules v.items)
     (λ v e. numbered_tell_apart c.in_ok-numbers.numbers c.in_ok-site.site rules v.items e) c.numbered.ensures
