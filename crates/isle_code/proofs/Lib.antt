@@ -1,0 +1,8 @@
+mod CodeBridges
+mod HeldPasses
+mod UseSteps
+mod StatementSteps
+mod CodeShapes
+mod BlockSteps
+mod TypesFound
+mod SiteHolds

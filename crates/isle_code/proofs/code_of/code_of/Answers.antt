@@ -1,0 +1,14 @@
+use Rattle.std.proofs.Common.{◌≡◌, ◌∙◌, ℕ, ap}
+use Rattle.isle_rule_sets.specs.SiteViews.{site_views}
+use Rattle.isle_serialize.specs.TreeViews.{tree_view}
+use Rattle.isle_code.specs.HeldViews.{hold_in}
+use Rattle.isle_code.specs.SiteHolds.{term_hold}
+use Rattle.isle_code.proofs.SiteHolds.{code_by_held}
+use Rattle.isle_code.proofs.code_of.code_of.Goals as goal
+
+pub returns : goal.returns
+returns c = λ p are.
+    let t = c.args.tables.now.term.0 in
+    let sites = site_views c.args.tables.now.sites.now in
+    let holds : (s : ℕ) → hold_in c.deref.result.now s ≡ term_hold p t sites s = λ s. ap (λ l. hold_in l s) c.deref.ensures.value ∙ c.in_ok-held.ensures p are s in
+    c.in_ok-code_with.ensures ∙ code_by_held p t sites (hold_in c.deref.result.now) c.is_multi.result (tree_view c.args.block.now) holds (c.is_multi.ensures p are.terms)

@@ -1,0 +1,7 @@
+pub mod CodeViews
+pub mod HeldPasses
+pub mod HeldViews
+pub mod Labels
+pub mod CodeOf
+pub mod SeenTypes
+pub mod SiteHolds

@@ -1,0 +1,2 @@
+mod WellMadeCode
+mod LoweredCode
