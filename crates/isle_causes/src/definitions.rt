@@ -4,7 +4,7 @@ use isle_base::syntax::{Decl, Def, Extern, Ident, Pos, Rule, Type, TypeValue, Va
 use isle_printing::places::position_of;
 
 /// The declaration of a term: the first, where there are several.
-pub(crate) fn declaration_of<'a>(defs: &'a [Def], term: &str) -> Option<&'a Decl> {
+pub fn declaration_of<'a>(defs: &'a [Def], term: &str) -> Option<&'a Decl> {
     for def in defs {
         if let Def::Decl(decl) = def {
             if decl.term.0.as_str() == term {
@@ -16,11 +16,19 @@ pub(crate) fn declaration_of<'a>(defs: &'a [Def], term: &str) -> Option<&'a Decl
 }
 
 /// The variant that makes the term of a name.
-pub(crate) fn variant_of<'a>(defs: &'a [Def], term: &str) -> Option<&'a Variant> {
+pub fn variant_of<'a>(defs: &'a [Def], term: &str) -> Option<&'a Variant> {
+    match variant_with_type(defs, term) {
+        Some((_, variant)) => Some(variant),
+        None => None,
+    }
+}
+
+/// The variant that makes the term of a name, behind its type.
+pub fn variant_with_type<'a>(defs: &'a [Def], term: &str) -> Option<(&'a Type, &'a Variant)> {
     for def in defs {
         if let Def::TypeDef(ty) = def {
             if let Some(variant) = variant_in(ty, term) {
-                return Some(variant);
+                return Some((ty, variant));
             }
         }
     }
@@ -28,7 +36,7 @@ pub(crate) fn variant_of<'a>(defs: &'a [Def], term: &str) -> Option<&'a Variant>
 }
 
 /// The variant of a type that makes the term of a name.
-pub(crate) fn variant_in<'a>(ty: &'a Type, term: &str) -> Option<&'a Variant> {
+pub fn variant_in<'a>(ty: &'a Type, term: &str) -> Option<&'a Variant> {
     let TypeValue::Enum(variants, _) = &ty.ty else {
         return None;
     };
@@ -42,7 +50,7 @@ pub(crate) fn variant_in<'a>(ty: &'a Type, term: &str) -> Option<&'a Variant> {
 }
 
 /// The struct of a name.
-pub(crate) fn struct_of<'a>(defs: &'a [Def], name: &str) -> Option<&'a Type> {
+pub fn struct_of<'a>(defs: &'a [Def], name: &str) -> Option<&'a Type> {
     for def in defs {
         if let Def::TypeDef(ty) = def {
             if is_struct(ty, name) {
@@ -54,12 +62,12 @@ pub(crate) fn struct_of<'a>(defs: &'a [Def], name: &str) -> Option<&'a Type> {
 }
 
 /// Whether a type is the struct of a name.
-pub(crate) fn is_struct(ty: &Type, name: &str) -> bool {
+pub fn is_struct(ty: &Type, name: &str) -> bool {
     matches!(&ty.ty, TypeValue::Struct(..)) && ty.name.0.as_str() == name
 }
 
 /// Where the term of a name is defined.
-pub(crate) fn place_of_term(defs: &[Def], term: &str) -> Option<Pos> {
+pub fn place_of_term(defs: &[Def], term: &str) -> Option<Pos> {
     if let Some(decl) = declaration_of(defs, term) {
         return Some(decl.pos);
     }
@@ -67,7 +75,7 @@ pub(crate) fn place_of_term(defs: &[Def], term: &str) -> Option<Pos> {
 }
 
 /// Where the variant or the struct that makes the term of a name is defined.
-pub(crate) fn place_of_made(defs: &[Def], term: &str) -> Option<Pos> {
+pub fn place_of_made(defs: &[Def], term: &str) -> Option<Pos> {
     if let Some(variant) = variant_of(defs, term) {
         return Some(variant.pos);
     }
@@ -78,7 +86,7 @@ pub(crate) fn place_of_made(defs: &[Def], term: &str) -> Option<Pos> {
 }
 
 /// Where a constant is defined.
-pub(crate) fn place_of_constant(defs: &[Def], constant: &str) -> Option<Pos> {
+pub fn place_of_constant(defs: &[Def], constant: &str) -> Option<Pos> {
     for def in defs {
         if let Def::Extern(Extern::Const { name, pos, .. }) = def {
             if name.0.as_str() == constant {
@@ -90,7 +98,7 @@ pub(crate) fn place_of_constant(defs: &[Def], constant: &str) -> Option<Pos> {
 }
 
 /// Where the pattern of a term's internal extractor stands.
-pub(crate) fn place_of_template(defs: &[Def], term: &str) -> Option<Pos> {
+pub fn place_of_template(defs: &[Def], term: &str) -> Option<Pos> {
     for def in defs {
         if let Def::Extractor(extractor) = def {
             if extractor.term.0.as_str() == term {
@@ -102,7 +110,7 @@ pub(crate) fn place_of_template(defs: &[Def], term: &str) -> Option<Pos> {
 }
 
 /// The definition that a place lies in: the last one of its file that begins there or before.
-pub(crate) fn definition_at(defs: &[Def], pos: Pos) -> Option<&Def> {
+pub fn definition_around(defs: &[Def], pos: Pos) -> Option<&Def> {
     let mut found = None;
     let mut begin = 0;
     for def in defs {
@@ -117,15 +125,15 @@ pub(crate) fn definition_at(defs: &[Def], pos: Pos) -> Option<&Def> {
 }
 
 /// The rule that a place lies in.
-pub(crate) fn rule_around(defs: &[Def], pos: Pos) -> Option<&Rule> {
-    match definition_at(defs, pos) {
+pub fn rule_around(defs: &[Def], pos: Pos) -> Option<&Rule> {
+    match definition_around(defs, pos) {
         Some(Def::Rule(rule)) => Some(rule),
         _ => None,
     }
 }
 
 /// The name of the term that a rule is of, or the empty text.
-pub(crate) fn root_of(rule: &Rule) -> &str {
+pub fn root_of(rule: &Rule) -> &str {
     match rule.pattern.root_term() {
         Some(root) => root.0.as_str(),
         None => "",
@@ -133,7 +141,7 @@ pub(crate) fn root_of(rule: &Rule) -> &str {
 }
 
 /// The term that an external function is of, or the type of a constant.
-pub(crate) fn subject_of(external: &Extern) -> &Ident {
+pub fn subject_of(external: &Extern) -> &Ident {
     match external {
         Extern::Constructor { term, .. } | Extern::Extractor { term, .. } => term,
         Extern::Const { ty, .. } => ty,

@@ -1,7 +1,7 @@
 //! The form that stands at a place of a rule or a template, and what needs a type there.
 
 use crate::definitions::{
-    declaration_of, definition_at, root_of, struct_of, subject_of, variant_of,
+    declaration_of, definition_around, root_of, struct_of, subject_of, variant_of,
 };
 use isle_base::syntax::{Def, Expr, Fields, Ident, LetDef, Pattern, Pos, Rule, TypeValue};
 
@@ -29,7 +29,7 @@ pub(crate) struct Form<'a> {
 
 /// The form at a place.
 pub(crate) fn form_at(defs: &[Def], pos: Pos) -> Option<Form<'_>> {
-    match definition_at(defs, pos)? {
+    match definition_around(defs, pos)? {
         Def::Rule(rule) => in_rule(rule, pos),
         Def::Extractor(extractor) => {
             let need = Need::Answer(extractor.term.0.as_str());
@@ -42,7 +42,7 @@ pub(crate) fn form_at(defs: &[Def], pos: Pos) -> Option<Form<'_>> {
 /// The name that an error at a place speaks of: at the beginning of a definition the term that it is of, or a constant's type;
 /// else the name of the form there.
 pub(crate) fn subject_at(defs: &[Def], pos: Pos) -> Option<&str> {
-    match definition_at(defs, pos)? {
+    match definition_around(defs, pos)? {
         Def::Rule(rule) if rule.pos == pos => Some(root_of(rule)),
         Def::Extractor(extractor) if extractor.pos == pos => Some(extractor.term.0.as_str()),
         Def::Extern(external) => Some(subject_of(external).0.as_str()),

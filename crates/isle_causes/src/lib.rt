@@ -2,7 +2,7 @@
 //! say no more than another one.
 #![tactic(auto)]
 
-mod definitions;
+pub mod definitions;
 mod forms;
 mod mismatches;
 pub mod misspelled;

@@ -1,6 +1,6 @@
 //! The other places of what is defined more than once.
 
-use crate::definitions::{definition_at, is_struct, root_of, variant_in};
+use crate::definitions::{definition_around, is_struct, root_of, variant_in};
 use crate::forms::subject_at;
 use isle_base::syntax::{Converter, Def, Extern, Fields, Pos, Rule, Type, TypeValue};
 use isle_printing::places::position_of;
@@ -49,7 +49,7 @@ pub(crate) fn other_places(
     let Some(repeat) = repeat_in(defs, msg, pos) else {
         return Ok(places);
     };
-    let around = definition_at(defs, pos);
+    let around = definition_around(defs, pos);
     add_inside(&mut places, around, repeat, pos)?;
     let own = match around {
         Some(def) => position_of(def).unwrap_or(pos),

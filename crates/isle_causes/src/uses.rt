@@ -1,6 +1,6 @@
 //! The uses of a term that isn't defined.
 
-use crate::definitions::definition_at;
+use crate::definitions::definition_around;
 use crate::order::{Order, place_of, words_of};
 use crate::terms::undefined_in;
 use isle_base::syntax::{Def, Error, Pos};
@@ -64,7 +64,7 @@ fn users_of<'a>(
 ) -> Result<Vec<&'a Def>, AllocError> {
     let mut users = Vec::new(alloc);
     for place in places {
-        if let Some(def) = definition_at(defs, *place) {
+        if let Some(def) = definition_around(defs, *place) {
             if !has(&users, def) {
                 users.push(def)?;
             }

@@ -4,7 +4,8 @@ use crate::analysis::Analysis;
 use crate::ranges::{form_range, location_value};
 use crate::replies::{Unsent, send_notification};
 use crate::session::Session;
-use isle_printing::report::{Level, Report};
+use isle_printing::lines::{file_name, line_at};
+use isle_printing::report::{Label, Level, Report};
 use serde_json::{Value, json};
 use std::alloc::{AllocError, Global};
 use std::io::Write;
@@ -104,7 +105,7 @@ fn diagnostic_of(alloc: Global, analysis: &Analysis, report: &Report) -> Result<
         Some(label) => form_range(alloc, analysis, label.pos)?,
         None => crate::ranges::range_value(alloc, "", 0, 0)?,
     };
-    let message = message_of(alloc, report)?;
+    let message = message_of(alloc, analysis, report)?;
     let related = related_to(alloc, analysis, report)?;
     json!(in alloc; {
         "range": range,
@@ -124,11 +125,15 @@ fn severity_of(report: &Report) -> u8 {
     }
 }
 
-// What a report says: its message, what is said of its first place, and its notes.
-fn message_of(alloc: Global, report: &Report) -> Result<String, AllocError> {
+// What a report says: its message, what is said of its places, and its notes. Some editors show no related information, so the
+// further places stand here too.
+fn message_of(alloc: Global, analysis: &Analysis, report: &Report) -> Result<String, AllocError> {
     let mut text = report.message.clone()?;
     if let Some(label) = report.labels.first() {
         push_line(&mut text, "", &label.text)?;
+    }
+    for label in report.labels.iter().skip(1) {
+        push_place(&mut text, analysis, label)?;
     }
     for note in &report.notes {
         push_line(&mut text, note.word, &note.text)?;
@@ -146,7 +151,28 @@ fn push_line(out: &mut String, word: &str, text: &str) -> Result<(), AllocError>
         out.push_str(word)?;
         out.push_str(": ")?;
     }
-    out.push_str(text)
+    out.push_str(without_option(text))
+}
+
+// Adds a line on a further place: its file and line, and what is said of it.
+fn push_place(out: &mut String, analysis: &Analysis, label: &Label) -> Result<(), AllocError> {
+    let name = file_name(&analysis.sources.files, label.pos.file);
+    let line = line_at(analysis.text(label.pos.file), label.pos.offset).number;
+    let said = said_of(label);
+    write!(out, "\n{name}:{line}: {said}")
+}
+
+// What is said of a further place.
+fn said_of(label: &Label) -> &str {
+    if label.text.is_empty() {
+        return "here";
+    }
+    without_option(&label.text)
+}
+
+// A text without the option of the command that shows more, which an editor hasn't.
+fn without_option(text: &str) -> &str {
+    text.strip_suffix(", shown by `--all`").unwrap_or(text)
 }
 
 // The further places of a report.
@@ -159,12 +185,8 @@ fn related_to(
     for label in report.labels.iter().skip(1) {
         let range = form_range(alloc, analysis, label.pos)?;
         let location = location_value(alloc, analysis, label.pos.file, range)?;
-        let text = if label.text.is_empty() {
-            "here"
-        } else {
-            label.text.as_str()
-        };
-        related.push(json!(in alloc; {"location": location, "message": text})?)?;
+        let said = said_of(label);
+        related.push(json!(in alloc; {"location": location, "message": said})?)?;
     }
     Ok(related)
 }

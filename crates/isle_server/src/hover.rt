@@ -5,13 +5,11 @@ use crate::mentions::Mention;
 use crate::ranges::{form_range, name_range};
 use crate::references::position_in;
 use crate::refusals::Refusal;
-use crate::symbols::{
-    Symbol, declaration_of, definition_around, mention_at, names_of, symbol_of, type_named,
-    variant_named,
-};
+use crate::symbols::{Symbol, mention_at, names_of, symbol_of, type_named};
 use crate::variables::type_at;
 use cranelift_isle::sema::BuiltinType;
 use cranelift_isle::syntax::{Def, Extern, Extractor, Ident, Pos, Rule};
+use isle_causes::definitions::{declaration_of, definition_around, variant_with_type};
 use isle_conditions::conditions::{conditions_of, given_of};
 use isle_diagnostics::explanation::explanation;
 use isle_diagnostics::extents::end_of_form;
@@ -199,7 +197,7 @@ fn variant_text(
     name: &str,
 ) -> Result<String, AllocError> {
     let full = format!(in alloc; "{ty}.{name}")?;
-    match variant_named(&analysis.defs, &full) {
+    match variant_with_type(&analysis.defs, &full) {
         Some((_, variant)) => {
             let form = form_at(analysis, variant.pos);
             let told = format!(in alloc; "{form} ; a variant of {ty}")?;

@@ -15,13 +15,13 @@ fn place_value(alloc: Global, place: Place) -> Result<Value, AllocError> {
 // The place of an offset. Between `\r` and `\n` that is the end of the line, before both. Where it is no place, this is the beginning of
 // the text.
 fn place_near(text: &str, offset: usize) -> Place {
-    let before = offset.saturating_sub(1);
-    match place_at(text, offset).or(place_at(text, before)) {
+    let begin = Place {
+        line: 0,
+        character: 0,
+    };
+    match place_at(text, offset) {
         Some(place) => place,
-        None => Place {
-            line: 0,
-            character: 0,
-        },
+        None => place_at(text, offset.saturating_sub(1)).unwrap_or(begin),
     }
 }
 

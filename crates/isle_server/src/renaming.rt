@@ -7,8 +7,9 @@ use crate::messages::text_of;
 use crate::ranges::{end_of_name, name_range};
 use crate::references::position_in;
 use crate::refusals::Refusal;
-use crate::symbols::{definition_around, has_rule, has_variable, mention_at, names_of, symbol_of};
+use crate::symbols::{has_rule, has_variable, mention_at, names_of, symbol_of};
 use cranelift_isle::syntax::Pos;
+use isle_causes::definitions::definition_around;
 use serde_json::{Value, json};
 use std::alloc::Global;
 

@@ -2,8 +2,8 @@
 
 use crate::analysis::Analysis;
 use crate::mentions::{Kind, Mention, mentions_in};
-use cranelift_isle::syntax::{Decl, Def, Ident, Pos, Type, TypeValue, Variant};
-use isle_printing::places::position_of;
+use cranelift_isle::syntax::{Def, Ident, Pos, Type};
+use isle_causes::definitions::{declaration_of, definition_around, struct_of, variant_with_type};
 use std::alloc::{AllocError, Global};
 
 /// What a name means.
@@ -59,21 +59,6 @@ fn short_name<'a>(term: &'a str, ty: &str) -> Option<&'a str> {
     term.strip_prefix(ty)?.strip_prefix(".")
 }
 
-/// The definition that a place lies in or behind: the last of its file that begins there or before.
-pub fn definition_around(defs: &[Def], pos: Pos) -> Option<&Def> {
-    let mut found = None;
-    let mut begin = 0;
-    for def in defs {
-        if let Some(at) = position_of(def) {
-            if at.file == pos.file && at.offset <= pos.offset && at.offset >= begin {
-                found = Some(def);
-                begin = at.offset;
-            }
-        }
-    }
-    found
-}
-
 /// The name that stands at a place.
 pub fn mention_at<'a>(
     alloc: Global,
@@ -95,7 +80,7 @@ pub fn mention_at<'a>(
 pub fn symbol_of<'a>(defs: &'a [Def], mention: &Mention<'a>) -> Symbol<'a> {
     let name = mention.text();
     match mention.kind {
-        Kind::Type => match struct_named(defs, name) {
+        Kind::Type => match struct_of(defs, name) {
             Some(_) if declaration_of(defs, name).is_none() => Symbol::Struct(name),
             _ => Symbol::Type(name),
         },
@@ -113,25 +98,13 @@ fn term_symbol<'a>(defs: &'a [Def], name: &'a str) -> Symbol<'a> {
     if declaration_of(defs, name).is_some() {
         return Symbol::Term(name);
     }
-    if let Some((ty, variant)) = variant_named(defs, name) {
+    if let Some((ty, variant)) = variant_with_type(defs, name) {
         return Symbol::Variant(ty.name.0.as_str(), variant.name.0.as_str());
     }
-    match struct_named(defs, name) {
+    match struct_of(defs, name) {
         Some(_) => Symbol::Struct(name),
         None => Symbol::Term(name),
     }
-}
-
-/// The declaration of a term.
-pub fn declaration_of<'a>(defs: &'a [Def], term: &str) -> Option<&'a Decl> {
-    for def in defs {
-        if let Def::Decl(decl) = def {
-            if decl.term.0.as_str() == term {
-                return Some(decl);
-            }
-        }
-    }
-    None
 }
 
 /// The type of a name.
@@ -144,38 +117,6 @@ pub fn type_named<'a>(defs: &'a [Def], name: &str) -> Option<&'a Type> {
         }
     }
     None
-}
-
-/// The struct of a name.
-pub fn struct_named<'a>(defs: &'a [Def], name: &str) -> Option<&'a Type> {
-    let ty = type_named(defs, name)?;
-    match &ty.ty {
-        TypeValue::Struct(..) => Some(ty),
-        TypeValue::Primitive(..) | TypeValue::Enum(..) => None,
-    }
-}
-
-/// The variant that makes the term of a name, with its type.
-pub fn variant_named<'a>(defs: &'a [Def], term: &str) -> Option<(&'a Type, &'a Variant)> {
-    for def in defs {
-        if let Def::TypeDef(ty) = def {
-            if let Some(variant) = variant_in(ty, term) {
-                return Some((ty, variant));
-            }
-        }
-    }
-    None
-}
-
-// The variant of a type that makes the term of a name.
-fn variant_in<'a>(ty: &'a Type, term: &str) -> Option<&'a Variant> {
-    let TypeValue::Enum(variants, _) = &ty.ty else {
-        return None;
-    };
-    let short = short_name(term, ty.name.0.as_str())?;
-    variants
-        .iter()
-        .find(|variant| variant.name.0.as_str() == short)
 }
 
 /// The names that mean something, in the order of the definitions.

@@ -1,7 +1,7 @@
 //! The types of variables, as the definitions around them say.
 
-use crate::symbols::{declaration_of, struct_named, variant_named};
 use cranelift_isle::syntax::{Def, Expr, Fields, Ident, LetDef, Pattern, Pos, Rule, TypeValue};
+use isle_causes::definitions::{declaration_of, struct_of, variant_with_type};
 use std::alloc::{AllocError, Global};
 
 // A variable of a rule, with the name of its type.
@@ -190,10 +190,10 @@ fn argument_type<'a>(defs: &'a [Def], term: &str, number: usize) -> &'a str {
 
 // The fields of the variant or the struct that makes a term.
 fn fields_named<'a>(defs: &'a [Def], term: &str) -> Option<&'a Fields> {
-    if let Some((_, variant)) = variant_named(defs, term) {
+    if let Some((_, variant)) = variant_with_type(defs, term) {
         return Some(&variant.fields);
     }
-    match &struct_named(defs, term)?.ty {
+    match &struct_of(defs, term)?.ty {
         TypeValue::Struct(fields, _) => Some(fields),
         TypeValue::Primitive(..) | TypeValue::Enum(..) => None,
     }
@@ -213,10 +213,10 @@ fn result_type<'a>(defs: &'a [Def], term: &str) -> &'a str {
     if let Some(decl) = declaration_of(defs, term) {
         return decl.ret_ty.0.as_str();
     }
-    if let Some((ty, _)) = variant_named(defs, term) {
+    if let Some((ty, _)) = variant_with_type(defs, term) {
         return ty.name.0.as_str();
     }
-    match struct_named(defs, term) {
+    match struct_of(defs, term) {
         Some(ty) => ty.name.0.as_str(),
         None => "",
     }
