@@ -19,7 +19,7 @@ use std::io::ErrorKind;
 use std::rt::{Clock, Env};
 use std::{env, io};
 use tables::Table;
-use text::print_steps;
+use text::{print_steps, print_trees};
 
 // What is read: into what, a list of what, and the sizes of which times are printed. A term has at most 65,536 sites.
 const READINGS: [(Table, Kind, [usize; 3]); 15] = [
@@ -41,9 +41,13 @@ const READINGS: [(Table, Kind, [usize; 3]); 15] = [
 ];
 
 fn main(rt: HostRuntime) -> io::Result<()> {
-    if wants_text(&rt)? {
+    if is_first_word(&rt, "text")? {
         let text = io::read_to_string(rt.alloc(), rt.stdin())?;
         return print_steps(&rt, rt.alloc(), text.as_str());
+    }
+    if is_first_word(&rt, "once")? {
+        let text = io::read_to_string(rt.alloc(), rt.stdin())?;
+        return print_trees(&rt, rt.alloc(), text.as_str());
     }
     let sizes = sizes(&rt, rt.alloc())?;
     for (table, kind, timed) in READINGS {
@@ -56,10 +60,9 @@ fn main(rt: HostRuntime) -> io::Result<()> {
     Ok(())
 }
 
-// Whether the first word is `text`.
-fn wants_text(rt: &(impl Env + Alloc)) -> io::Result<bool> {
+fn is_first_word(rt: &(impl Env + Alloc), word: &str) -> io::Result<bool> {
     match env::args(rt)?.nth(1) {
-        Some(word) => Ok(word.as_str() == "text"),
+        Some(first) => Ok(first.as_str() == word),
         None => Ok(false),
     }
 }

@@ -90,9 +90,16 @@ impl Table {
         match reading {
             Ok(reading) => Ok(reading),
             Err(Stop::Clock(error)) => Err(error),
-            Err(Stop::Fault(Fault::Memory(error))) => Err(io::Error::from(error)),
-            Err(Stop::Fault(Fault::Errors(_))) => Err(io::Error::from(ErrorKind::InvalidData)),
+            Err(Stop::Fault(fault)) => Err(io_error(fault)),
         }
+    }
+}
+
+/// Says that memory was refused, or that something is wrong with a list.
+pub fn io_error(fault: Fault) -> io::Error {
+    match fault {
+        Fault::Memory(error) => io::Error::from(error),
+        Fault::Errors(_) => io::Error::from(ErrorKind::InvalidData),
     }
 }
 
@@ -226,7 +233,8 @@ fn trees(rt: &impl Clock, alloc: Global, lists: Vec<Vec<Def>>) -> Result<Reading
     )
 }
 
-fn tree_counts(alloc: Global, lowered: &Lowered) -> Result<String, AllocError> {
+/// What the trees of a list are, in words.
+pub fn tree_counts(alloc: Global, lowered: &Lowered) -> Result<String, AllocError> {
     let trees = lowered.terms.len();
     format!(in alloc; "{trees} trees, {} rules", lowered.termenv.rules.len())
 }
