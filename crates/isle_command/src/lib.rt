@@ -9,6 +9,7 @@ pub mod formatting;
 mod graphs;
 mod help;
 mod inputs;
+mod printing;
 pub mod progress;
 pub mod reading;
 pub mod run;
