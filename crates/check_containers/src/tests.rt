@@ -11,3 +11,4 @@ mod moved;
 mod moved_forms;
 mod printed;
 mod spelled;
+mod verified;
