@@ -6,3 +6,4 @@ mod CodeShapes
 mod BlockSteps
 mod TypesFound
 mod SiteHolds
+mod Reading

@@ -6,6 +6,7 @@ mod blocks;
 pub mod code;
 pub mod code_of;
 pub mod held;
+pub mod reads;
 mod stage;
 mod tests;
 pub mod types;
