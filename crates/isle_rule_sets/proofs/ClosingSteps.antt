@@ -1,8 +1,7 @@
 -- Demands over numbers stay those that they stand for, step by step of the closing.
-use Rattle.std.proofs.Common.{◌≡◌, ◌⊎◌, ℕ, zero, suc, ◌<◌, ◌≤◌, true, false, not, ◌&&◌, List, length, map, Option, Some, None, is_some, option_map, Contains, refl, sym, ap, ◌∙◌, subst, inl, inr, arith}
+use Rattle.std.proofs.Common.{◌≡◌, ◌⊎◌, ℕ, zero, suc, ◌<◌, ◌≤◌, true, false, not, ◌&&◌, List, length, map, Option, Some, None, is_some, Contains, refl, sym, ap, ◌∙◌, subst, inl, inr, arith}
 use Rattle.std.specs.Prelude.{nat_eq, nat_lt}
 use Rattle.std.specs.List.{zip}
-use Rattle.std.specs.Ordering.{nat_cmp}
 use Rattle.std.proofs.lemmas.Bool.{cases_Bool, and_parts, both_ways, false_from_ne_true, ltb-true, ltb-false}
 use Rattle.std.proofs.lemmas.List.{length-map}
 use Rattle.std.proofs.lemmas.Option.{same_Some, slice_get_within}
@@ -18,7 +17,7 @@ use Rattle.laws_closure.proofs.FollowingDemands.{IsApart, without_in, each_apart
 use Rattle.model.specs.trees.Places.{constraint_at}
 use Rattle.isle_rule_sets.specs.SiteDemands.{constraint_held, are_equated, equated_each}
 use Rattle.isle_rule_sets.specs.SiteTables.{AddsFields}
-use Rattle.isle_rule_sets.specs.SiteViews.{constraint_view, constraint_views}
+use Rattle.isle_rule_sets.specs.SiteViews.{constraint_views}
 use Rattle.isle_rule_sets.specs.Closings.{are_in_one_class, AreDemandsOf, AreFieldsOf, GoOn, asked_each, with_member}
 use Rattle.isle_rule_sets.specs.declared.demanded.Demanded.{Demanded}
 use Rattle.isle_rule_sets.proofs.ClassTests.{in_one, one_without, each_merged}

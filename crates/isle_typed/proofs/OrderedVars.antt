@@ -1,13 +1,11 @@
 -- Variables that are bound in ascending order.
-use Rattle.std.proofs.Common.{◌≡◌, true≢false, ℕ, List, [], ◌∷◌, ◌++◌, Ok, is_ok, ⊎_elim, refl, sym, ap, ◌∙◌, subst, append_assoc}
-use Rattle.std.proofs.lemmas.List.{map-append}
+use Rattle.std.proofs.Common.{◌≡◌, ℕ, List, [], ◌∷◌, ◌++◌, refl, ap, ◌∙◌}
 use Rattle.std.specs.List.{AllByRecursion}
 use Rattle.std.specs.List.Sorted.{IsStrictlySortedBy}
 use Rattle.std.specs.Ordering.{nat_cmp, match_ordering, ordering_reverse}
 use Rattle.std.specs.declared.cmp.Ordering.TheVariants.{Less, Greater}
 use Rattle.std.proofs.lemmas.Cmp.{nat_cmp_total}
-use Rattle.model.specs.visits.Runs.{BoundIds, binds, bound_vars, with_bound}
-use Rattle.isle_typed.specs.VisitorSteps.{no_memory}
+use Rattle.model.specs.visits.Runs.{BoundIds, bound_vars, with_bound}
 
 is_below : (a b : ℕ) → nat_cmp a b ≡ Less → nat_cmp b a ≡ Greater
 is_below a b h = nat_cmp_total.antisymm b a ∙ ap ordering_reverse h

@@ -1,7 +1,7 @@
 -- A rule's run: what is bound after its parts, and how it is made of their runs.
-use Rattle.std.proofs.Common.{◌≡◌, true≢false, ℕ, suc, ◌+◌, ◌<◌, ◌≤◌, Bool, IsTrue, length, get_or, drop, add-one, inl, inr, ⊎_elim, List, [], ◌∷◌, ◌++◌, Result, Ok, Err, MatchResult, is_ok, map, alloc_error, slice_get, is_some, Option, Some, None, refl, sym, ap, ◌∙◌, subst, append_assoc, eqb-true, ◌==◌}
+use Rattle.std.proofs.Common.{◌≡◌, true≢false, ℕ, suc, ◌+◌, ◌<◌, Bool, IsTrue, length, get_or, drop, add-one, inl, inr, ⊎_elim, List, [], ◌∷◌, ◌++◌, Result, Ok, Err, MatchResult, is_ok, map, alloc_error, slice_get, is_some, Option, Some, None, refl, sym, ap, ◌∙◌, subst, append_assoc, eqb-true, ◌==◌}
 use Rattle.std.proofs.lemmas.Bool.{and_parts}
-use Rattle.std.proofs.lemmas.List.{drop_more, drop_all, map-append}
+use Rattle.std.proofs.lemmas.List.{drop_more, map-append}
 use Rattle.std.specs.List.Sorted.{IsStrictlySortedBy}
 use Rattle.std.specs.Ordering.{nat_cmp}
 use Rattle.isle_types.specs.declared.ids.TypeId.{TypeId}

@@ -1,4 +1,4 @@
-use Rattle.std.proofs.Common.{ℕ, ◌+◌, [], ◌∷◌, Ok, Err, alloc_error, drop, sym, ap, append-nil}
+use Rattle.std.proofs.Common.{◌+◌, [], ◌∷◌, Ok, Err, alloc_error, drop, sym, ap, append-nil}
 use Rattle.std.proofs.lemmas.List.{drop_all}
 use Rattle.isle_typed.specs.BoundEntries.{by_number}
 use Rattle.isle_typed.specs.VisitorSteps.{rule_steps}

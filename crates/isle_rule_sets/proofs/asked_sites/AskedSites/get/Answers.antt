@@ -1,4 +1,4 @@
-use Rattle.std.proofs.Common.{◌≡◌, ◌∙◌, ap, sym, slice_get, Some, length, ◌<◌, arith}
+use Rattle.std.proofs.Common.{◌≡◌, ◌∙◌, ap, slice_get, Some, length, ◌<◌, arith}
 use Rattle.isle_stacks.specs.Places.{is_in}
 use Rattle.model.specs.trees.Places.{constraint_at}
 use Rattle.isle_rule_sets.specs.Listings.{sites_of}

@@ -1,5 +1,5 @@
-use Rattle.std.proofs.Common.{◌≡◌, ◌++◌, ◌∷◌, [], None, if◌then◌else◌, sym, ap, ◌∙◌}
-use Rattle.std.specs.Prelude.{Some, nat_eq, option_map}
+use Rattle.std.proofs.Common.{◌≡◌, ◌++◌, ◌∷◌, [], None, sym, ap, ◌∙◌}
+use Rattle.std.specs.Prelude.{Some, option_map}
 use Rattle.model.specs.trees.Places.{constraint_at}
 use Rattle.isle_rule_sets.specs.declared.demanded.Demanded.{Demanded}
 use Rattle.isle_rule_sets.specs.SiteDemands.{constraint_held, first_kept}

@@ -1,5 +1,4 @@
-use Rattle.std.proofs.Common.{inl, refl, sym, ap, ◌∙◌, subst, set}
-use Rattle.std.specs.List.{insert}
+use Rattle.std.proofs.Common.{inl, refl, sym, ap, ◌∙◌, subst}
 use Rattle.std.specs.List.Sorted.{IsStrictlySortedBy}
 use Rattle.std.specs.Ordering.{nat_cmp}
 use Rattle.model.specs.visits.Runs.{bound_vars, with_bound}
