@@ -2,12 +2,13 @@ mod Answers
 mod Assumptions
 mod Collected
 mod Followed
-mod PlainOutcomes
+pub mod PlainOutcomes
 mod SampleAnswers
 mod SampleBelow
 mod SampleConditions
 mod SampleLists
 mod SampleNumbers
+mod SampleOperators
 mod SamplePriorities
 mod SampleUnwraps
 mod SampleWritten

@@ -20,7 +20,8 @@ use Rattle.model.proofs.Members.{in_head, in_alone}
 use Rattle.model.proofs.ValuesEqual.{eq_all_means}
 use Rattle.laws_typing.specs.WellTypedPrograms.{IsWellTypedRule, IsWellTypedProgram}
 use Rattle.laws_conditions.specs.Words.{Denoted, a_word, no_denoted, denoted_and}
-use Rattle.laws_conditions.specs.Specs.{Sort, words, is_of_sort, sort_of, integer_in, literal_of, word_of, IsSaid, IsProvided, its_argument}
+use Rattle.laws_conditions.specs.WordOperators.{word_of}
+use Rattle.laws_conditions.specs.Specs.{Sort, words, is_of_sort, sort_of, integer_in, literal_of, IsSaid, IsProvided, its_argument, no_unknown}
 use Rattle.laws_conditions.specs.Conditions.{told, IsConstructedAsSaid, condition, IsValid}
 use Rattle.laws_conditions.specs.Meets.{stands_for, stand_for, content_as, answers_in, IsDenotation, MeetsSpecs, AnswersAsSaid}
 use Rattle.laws_conditions.specs.Samples.{two, byte, is_sum, x, adding, a_term, impurely, rule_of, doubled}
@@ -71,7 +72,7 @@ answered n t vs c e =
     ]
 
 sum_said : IsConstructedAsSaid sum_specs 1 (two (byte 100) (byte 100)) (told (byte 200))
-sum_said r y e = subst (IsProvided sum_specs 1 (two (byte 100) (byte 100))) (some_is (byte 200) y e) (just_one (IsSaid (two (byte 100) (byte 100)) (Some (byte 200))) (is_sum (its_argument 0) (its_argument 1)) refl)
+sum_said r y e = subst (IsProvided sum_specs 1 (two (byte 100) (byte 100))) (some_is (byte 200) y e) (just_one (IsSaid no_unknown (two (byte 100) (byte 100)) (Some (byte 200))) (is_sum (its_argument 0) (its_argument 1)) refl)
 
 met : MeetsSpecs sum_specs bytes_as (adding_to 200) (choice sums (adding_to 200) (rules_of sums 0) hundred).calls
 met = record {
@@ -215,19 +216,19 @@ premises_hold_lem = record {
   well_typed = well_typed;
   single = refl;
   valid = λ r i. elim (in_from_contains (rules_of sums 0) r i) [ inl e ↦ subst (λ q. IsValid sums sum_specs (condition sums q)) e sum_right | inr n ↦ absurd n ];
-  is_called = record { denotes = denotes; typed = refl; serves = serves; meets = met; required = All-nil (IsSaid (stand_for bytes_as (of_list hundred)) None) };
+  is_called = record { denotes = denotes; typed = refl; serves = serves; meets = met; required = All-nil (IsSaid no_unknown (stand_for bytes_as (of_list hundred)) None) };
   chosen = refl;
 }
 
 -- 6. near misses
 wrong_sum : MeetsSpecs sum_specs bytes_as (adding_to 201) (giving 201).calls → ⊥
 wrong_sum h =
-    false≢true (truths_same false true (only_one (IsSaid (two (byte 100) (byte 100)) (Some (byte 201))) (is_sum (its_argument 0) (its_argument 1))
-    (h.pures 1 hundreds (one (a_byte 201)) (one (a_byte 201)) refl (in_head (one (a_byte 201)) []) (All-nil (IsSaid (two (byte 100) (byte 100)) None)) (byte 201) refl)))
+    false≢true (truths_same false true (only_one (IsSaid no_unknown (two (byte 100) (byte 100)) (Some (byte 201))) (is_sum (its_argument 0) (its_argument 1))
+    (h.pures 1 hundreds (one (a_byte 201)) (one (a_byte 201)) refl (in_head (one (a_byte 201)) []) (All-nil (IsSaid no_unknown (two (byte 100) (byte 100)) None)) (byte 201) refl)))
 
 right_answer : AnswersAsSaid sums sum_specs 0 bytes_as hundred (giving 200)
 right_answer = record {
-  result = λ v e. subst (λ w. IsProvided sum_specs 0 (denoted_and (byte 100) no_denoted) (stands_for bytes_as w)) (given v e) (just_one (IsSaid (denoted_and (byte 100) no_denoted) (Some (byte 200))) doubled refl);
+  result = λ v e. subst (λ w. IsProvided sum_specs 0 (denoted_and (byte 100) no_denoted) (stands_for bytes_as w)) (given v e) (just_one (IsSaid no_unknown (denoted_and (byte 100) no_denoted) (Some (byte 200))) doubled refl);
   calls = λ call i. absurd (in_from_contains [] call i);
 }
   where
@@ -235,7 +236,7 @@ right_answer = record {
     given v e = cc
 
 wrong_answer : AnswersAsSaid sums sum_specs 0 bytes_as hundred (giving 201) → ⊥
-wrong_answer h = false≢true (truths_same false true (only_one (IsSaid (denoted_and (byte 100) no_denoted) (Some (byte 201))) doubled (h.result (a_byte 201) refl)))
+wrong_answer h = false≢true (truths_same false true (only_one (IsSaid no_unknown (denoted_and (byte 100) no_denoted) (Some (byte 201))) doubled (h.result (a_byte 201) refl)))
 
 pub others_are_refused_lem : OthersAreRefused
 others_are_refused_lem = (wrong_sum, right_answer, wrong_answer)

@@ -10,7 +10,8 @@ use Rattle.model.specs.rules.Program.{is_multi}
 use Rattle.model.specs.sites.Sites.{SiteTerm, int_term, argument}
 use Rattle.model.proofs.Elements.{in_from_contains, some_is, none_some}
 use Rattle.laws_typing.specs.WellTypedPrograms.{IsWellTypedRule, IsWellTypedProgram}
-use Rattle.laws_conditions.specs.Specs.{word_of, IsSaid}
+use Rattle.laws_conditions.specs.WordOperators.{word_of}
+use Rattle.laws_conditions.specs.Specs.{IsSaid, no_unknown}
 use Rattle.laws_conditions.specs.Conditions.{IsValidBelow}
 use Rattle.laws_conditions.specs.Meets.{stand_for, IsDenotation}
 use Rattle.laws_conditions.specs.ConditionLaws.{AreValidBelow, IsCalled}
@@ -106,7 +107,7 @@ called_a = record {
   typed = refl;
   serves = written_serves codes 2 (one_of_letter 0) refl plain_sites;
   meets = written_meets code_specs [] byte_numbered;
-  required = All-nil (IsSaid (stand_for bytes_as (of_list (one_of_letter 0))) None);
+  required = All-nil (IsSaid no_unknown (stand_for bytes_as (of_list (one_of_letter 0))) None);
 }
 
 called_b : IsCalled codes code_specs 2 bytes_as written (one_of_letter 1) []
@@ -115,7 +116,7 @@ called_b = record {
   typed = refl;
   serves = written_serves codes 2 (one_of_letter 1) refl plain_sites;
   meets = written_meets code_specs [] byte_numbered;
-  required = All-nil (IsSaid (stand_for bytes_as (of_list (one_of_letter 1))) None);
+  required = All-nil (IsSaid no_unknown (stand_for bytes_as (of_list (one_of_letter 1))) None);
 }
 
 pub priority_premises_hold_lem : PriorityPremisesHold

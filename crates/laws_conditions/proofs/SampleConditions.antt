@@ -12,7 +12,7 @@ use Rattle.model.proofs.Elements.{in_from_contains, contains_from_in, some_is, n
 use Rattle.model.proofs.Options.{then_some}
 use Rattle.model.proofs.SameSites.{term_means}
 use Rattle.laws_conditions.specs.Words.{Denoted, a_truth, a_word, DenotedList, no_denoted, denoted_and, equals}
-use Rattle.laws_conditions.specs.Specs.{SpecExpr, its_argument, its_result, the_same, operation, Specs, IsSaid, IsRequired, IsProvided}
+use Rattle.laws_conditions.specs.Specs.{SpecExpr, its_argument, its_result, the_same, operation, Specs, IsSaid, IsRequired, IsProvided, no_unknown}
 use Rattle.laws_conditions.specs.Conditions.{Told, told, as_denoted, result_as, call_of, is_of_type, are_of_entries, is_impure_call, IsAnsweredAsSaid, IsTypedAs, Valuation, denoted_at, denoted_at_each, is_told_formed, IsHeldAs, IsAssumed, AreMade, condition}
 use Rattle.laws_conditions.specs.Samples.{of_two, two, byte, is_sum, x, adding, noting, rule_of, program_with, specs_with, doubled, below_itself, IsRight, SumsAreRight, CallsAreRequired}
 
@@ -97,8 +97,8 @@ sum_provided b f a h y e q =
     let part = a.held (argument 0) (told first.0) (told_is (f (argument 0)) first.0 first.1) in
     let same : first.0 ≡ b = part_is b part.part first.0 part.there part.held in
     let both : denoted_at_each f sum_args ≡ Some (two b b) = ap (λ o. then_option o (λ z. then_option (then_option o (λ w. Some (denoted_and w no_denoted))) (λ zs. Some (denoted_and z zs)))) (first.1 ∙ ap Some same) in
-    let said = a.calls sum_call (contains_from_in (argument 0 ∷ (sum_call ∷ [])) sum_call (inr (inl refl))) refl (two b b) h both e (All-nil (IsSaid (two b b) None)) y q in
-    just_one (IsSaid (denoted_and b no_denoted) (Some y)) doubled (only_one (IsSaid (two b b) (Some y)) (is_sum (its_argument 0) (its_argument 1)) said)
+    let said = a.calls sum_call (contains_from_in (argument 0 ∷ (sum_call ∷ [])) sum_call (inr (inl refl))) refl (two b b) h both e (All-nil (IsSaid no_unknown (two b b) None)) y q in
+    just_one (IsSaid no_unknown (denoted_and b no_denoted) (Some y)) doubled (only_one (IsSaid no_unknown (two b b) (Some y)) (is_sum (its_argument 0) (its_argument 1)) said)
 
 pub sum_right : IsRight (doubled ∷ []) [] [] (adding x x)
 sum_right no_denoted f a = absurd (false≢true a.arguments)
@@ -132,7 +132,7 @@ argument_assumed provided =
     let specs = specs_with provided [] [] in
     record {
       arguments = refl;
-      required = All-nil (IsSaid one_argument None);
+      required = All-nil (IsSaid no_unknown one_argument None);
       held = alone_held specs;
       formed = alone_formed;
       constraints = λ s k i. absurd (in_from_contains [] (s, k) i);
@@ -146,10 +146,10 @@ argument_assumed provided =
 pub none_made : (p : Program) (specs : Specs) (f : Valuation) → AreMade p specs f []
 none_made p specs f u i = absurd (in_from_contains [] u i)
 
-argument_provided : (e : SpecExpr) → IsRight (e ∷ []) [] [] x → IsSaid one_argument (Some (byte 1)) e
+argument_provided : (e : SpecExpr) → IsRight (e ∷ []) [] [] x → IsSaid no_unknown one_argument (Some (byte 1)) e
 argument_provided e right =
     let shown = right one_argument alone (argument_assumed (e ∷ [])) in
-    only_one (IsSaid one_argument (Some (byte 1))) e (shown.provides (told (byte 1)) (byte 1) (none_made (program_with x) (specs_with (e ∷ []) [] []) alone) refl refl)
+    only_one (IsSaid no_unknown one_argument (Some (byte 1))) e (shown.provides (told (byte 1)) (byte 1) (none_made (program_with x) (specs_with (e ∷ []) [] []) alone) refl refl)
 
 argument_wrong : IsRight (doubled ∷ []) [] [] x → ⊥
 argument_wrong right = false≢true (truths_same false true (argument_provided doubled right))
@@ -171,7 +171,7 @@ abbrev called : Valuation
 called = listed_as with_call
 
 never_below : (xs : DenotedList) → Some (two (byte 1) (byte 1)) ≡ Some xs → IsRequired failing 1 xs → ⊥
-never_below xs e r = false≢true (truths_same false true (only_one (IsSaid (two (byte 1) (byte 1)) None) below_itself (subst (IsRequired failing 1) (sym (some_is (two (byte 1) (byte 1)) xs e)) r)))
+never_below xs e r = false≢true (truths_same false true (only_one (IsSaid no_unknown (two (byte 1) (byte 1)) None) below_itself (subst (IsRequired failing 1) (sym (some_is (two (byte 1) (byte 1)) xs e)) r)))
 
 call_typed : (h : Told) → Some (told (byte 7)) ≡ Some h → IsTypedAs (program_with (adding x x)) failing sum_call h
 call_typed h e = subst (IsTypedAs (program_with (adding x x)) failing sum_call) (some_is (told (byte 7)) h e) (λ y q. subst (λ z. are_of_entries (program_with (adding x x)) failing (1 ∷ []) (denoted_and z no_denoted) ≡ true) (some_is (byte 7) y q) refl)
@@ -179,7 +179,7 @@ call_typed h e = subst (IsTypedAs (program_with (adding x x)) failing sum_call) 
 call_assumed : Assumed (adding x x) failing one_argument called
 call_assumed = record {
   arguments = refl;
-  required = All-nil (IsSaid one_argument None);
+  required = All-nil (IsSaid no_unknown one_argument None);
   held = each_held (IsHeldAs failing one_argument called) with_call (record { part = byte 1; there = refl; held = refl }, ((two (byte 1) (byte 1), refl), tt));
   formed = each_held (λ s h. is_told_formed h ≡ true) with_call (refl, (refl, tt));
   constraints = λ s k i. absurd (in_from_contains [] (s, k) i);
@@ -199,7 +199,7 @@ call_assumed = record {
 failing_wrong : IsRight (doubled ∷ []) (below_itself ∷ []) [] (adding x x) → ⊥
 failing_wrong right =
     let shown = right one_argument called call_assumed in
-    false≢true (truths_same false true (only_one (IsSaid one_argument (Some (byte 7))) doubled (shown.provides (told (byte 7)) (byte 7) (none_made (program_with (adding x x)) failing called) refl refl)))
+    false≢true (truths_same false true (only_one (IsSaid no_unknown one_argument (Some (byte 7))) doubled (shown.provides (told (byte 7)) (byte 7) (none_made (program_with (adding x x)) failing called) refl refl)))
 
 pub sums_are_right_lem : SumsAreRight
 sums_are_right_lem = (sum_right, argument_wrong, failing_wrong)
@@ -219,7 +219,7 @@ note_term (y ∷ before) after u t n ss e q = absurd (none_first before after u 
     rest w = cc
 
 note_right : IsRight [] [] [] (noting x)
-note_right args f a = record { provides = λ h y made e q. All-nil (IsSaid args (Some y)); requires = λ before after u t n ss xs split made e q. subst (λ m. IsRequired (specs_with [] [] []) m xs) (note_term before after u t n ss split e) (All-nil (IsSaid xs None)) }
+note_right args f a = record { provides = λ h y made e q. All-nil (IsSaid no_unknown args (Some y)); requires = λ before after u t n ss xs split made e q. subst (λ m. IsRequired (specs_with [] [] []) m xs) (note_term before after u t n ss split e) (All-nil (IsSaid no_unknown xs None)) }
 
 abbrev noted : Specs
 noted = specs_with [] [] (below_itself ∷ [])
@@ -227,7 +227,7 @@ noted = specs_with [] [] (below_itself ∷ [])
 note_assumed : Assumed (noting x) noted one_argument alone
 note_assumed = record {
   arguments = refl;
-  required = All-nil (IsSaid one_argument None);
+  required = All-nil (IsSaid no_unknown one_argument None);
   held = alone_held noted;
   formed = alone_formed;
   constraints = λ s k i. absurd (in_from_contains [] (s, k) i);
@@ -247,7 +247,7 @@ note_assumed = record {
 note_wrong : IsRight [] [] (below_itself ∷ []) (noting x) → ⊥
 note_wrong right =
     let shown = right one_argument alone note_assumed in
-    false≢true (truths_same false true (only_one (IsSaid one_argument None) below_itself
+    false≢true (truths_same false true (only_one (IsSaid no_unknown one_argument None) below_itself
     (shown.requires [] [] note_call 2 1 (site_term_and (argument 0) no_site_term) one_argument refl (none_made (program_with (noting x)) noted alone) refl refl)))
 
 pub calls_are_required_lem : CallsAreRequired

@@ -20,7 +20,8 @@ use Rattle.model.proofs.Options.{then_some}
 use Rattle.model.proofs.ValuesEqual.{eq_all_means}
 use Rattle.laws_typing.specs.WellTypedPrograms.{IsWellTypedRule}
 use Rattle.laws_conditions.specs.Words.{Denoted, no_denoted, denoted_and}
-use Rattle.laws_conditions.specs.Specs.{word_of, IsSaid, IsProvided}
+use Rattle.laws_conditions.specs.WordOperators.{word_of}
+use Rattle.laws_conditions.specs.Specs.{IsSaid, IsProvided, no_unknown}
 use Rattle.laws_conditions.specs.Conditions.{Told, told, told_many, result_as, Valuation, denoted_at, denoted_at_each, is_of_type, IsConstructedAsSaid, IsAnsweredAsSaid, IsTypedAs, condition, IsAssumed, IsValid}
 use Rattle.laws_conditions.specs.Meets.{stand_for, content_as, answers_in, IsDenotation, MeetsSpecs}
 use Rattle.laws_conditions.specs.Samples.{byte, x, a_term, rule_of, doubled}
@@ -47,7 +48,7 @@ like_provided b f a h y e q =
     let part = a.held (argument 0) (told first.0) (told_is (f (argument 0)) first.0 first.1) in
     let same : first.0 ≡ b = part_is b part.part first.0 part.there part.held in
     let args : denoted_at_each f like_args ≡ Some (denoted_and b no_denoted) = ap (λ o. then_option o (λ z. Some (denoted_and z no_denoted))) (first.1 ∙ ap Some same) in
-    a.picks like_call (contains_from_in made_sites like_call (inr (inl refl))) refl (denoted_and b no_denoted) h args e (All-nil (IsSaid (denoted_and b no_denoted) None)) y q
+    a.picks like_call (contains_from_in made_sites like_call (inr (inl refl))) refl (denoted_and b no_denoted) h args e (All-nil (IsSaid no_unknown (denoted_and b no_denoted) None)) y q
 
 like_right : IsValid (lists_with liking) list_specs (condition (lists_with liking) (rule_of liking))
 like_right no_denoted f a = absurd (false≢true a.arguments)
@@ -61,7 +62,7 @@ like_right (denoted_and b (denoted_and c rest)) f a = absurd (false≢true (and_
 alone_assumed : IsAssumed (lists_with x) list_specs (condition (lists_with x) (rule_of x)) one_argument alone
 alone_assumed = record {
   arguments = refl;
-  required = All-nil (IsSaid one_argument None);
+  required = All-nil (IsSaid no_unknown one_argument None);
   held = alone_held list_specs;
   formed = alone_formed;
   constraints = λ s k i. absurd (in_from_contains [] (s, k) i);
@@ -74,7 +75,7 @@ alone_assumed = record {
 
 alone_wrong : IsValid (lists_with x) list_specs (condition (lists_with x) (rule_of x)) → ⊥
 alone_wrong right =
-    false≢true (truths_same false true (only_one (IsSaid one_argument (Some (byte 1))) doubled
+    false≢true (truths_same false true (only_one (IsSaid no_unknown one_argument (Some (byte 1))) doubled
     ((right one_argument alone alone_assumed).provides (told (byte 1)) (byte 1) (none_made (lists_with x) list_specs alone) refl refl)))
 
 pub lists_are_said_lem : ListsAreSaid
@@ -94,7 +95,7 @@ answered t vs c e =
     ]
 
 answer_said : IsConstructedAsSaid list_specs 1 (denoted_and (byte 100) no_denoted) (told (byte 200))
-answer_said r y e = subst (IsProvided list_specs 1 (denoted_and (byte 100) no_denoted)) (some_is (byte 200) y e) (just_one (IsSaid (denoted_and (byte 100) no_denoted) (Some (byte 200))) doubled refl)
+answer_said r y e = subst (IsProvided list_specs 1 (denoted_and (byte 100) no_denoted)) (some_is (byte 200) y e) (just_one (IsSaid no_unknown (denoted_and (byte 100) no_denoted) (Some (byte 200))) doubled refl)
 
 is_200 : (a : Content) → Contains (one (a_byte 200) ∷ (one (a_byte 200) ∷ [])) a → one (a_byte 200) ≡ a
 is_200 a i = elim (in_cases (one (a_byte 200)) a (one (a_byte 200) ∷ []) i) [ inl e ↦ e | inr j ↦ in_alone (one (a_byte 200)) a j ]
@@ -227,6 +228,6 @@ bag_premises_hold_lem = record {
   multi = refl;
   quiet = λ r i. subst (λ q. (demands_of (lists_with liking) q).impure ≡ []) (in_alone (rule_of liking) r i) refl;
   valid = λ r i. subst (λ q. IsValid (lists_with liking) list_specs (condition (lists_with liking) q)) (in_alone (rule_of liking) r i) like_right;
-  is_called = record { denotes = denotes; typed = refl; serves = serves; meets = meets; required = All-nil (IsSaid (stand_for bytes_as (of_list hundred)) None) };
+  is_called = record { denotes = denotes; typed = refl; serves = serves; meets = meets; required = All-nil (IsSaid no_unknown (stand_for bytes_as (of_list hundred)) None) };
   collected = refl;
 }

@@ -12,7 +12,8 @@ use Rattle.model.specs.sites.Sites.{Constraint, is_int, SiteTerm, int_term, argu
 use Rattle.model.proofs.Elements.{in_from_contains, contains_from_in, some_is, none_some}
 use Rattle.laws_typing.specs.WellTypedPrograms.{IsWellTypedRule, IsWellTypedProgram}
 use Rattle.laws_conditions.specs.Words.{Denoted, DenotedList, no_denoted, denoted_and}
-use Rattle.laws_conditions.specs.Specs.{word_of, IsSaid}
+use Rattle.laws_conditions.specs.WordOperators.{word_of}
+use Rattle.laws_conditions.specs.Specs.{IsSaid, no_unknown}
 use Rattle.laws_conditions.specs.Conditions.{told, is_of_type, IsPartHeld, Valuation, condition, IsAssumed, IsValidBelow}
 use Rattle.laws_conditions.specs.Meets.{stand_for, IsDenotation, AnswersAsSaid}
 use Rattle.laws_conditions.specs.ConditionLaws.{AreValidBelow, IsCalled}
@@ -45,9 +46,9 @@ five_right : IsValidBelow numbers number_specs for_five
 five_right no_denoted f a none = absurd (false≢true a.arguments)
 five_right (denoted_and b no_denoted) f a none = record {
   provides = λ h y made e q.
-      just_one (IsSaid (one_number b) (Some y)) (ten_where (byte 5))
-      (subst (λ z. IsSaid (one_number b) (Some z) (ten_where (byte 5))) (given_is 10 h y (a.held (int_term (pos 10) 1) h e) q)
-      (subst (λ z. IsSaid (one_number z) (Some (byte 10)) (ten_where (byte 5))) (sym (is_five b f a)) refl));
+      just_one (IsSaid no_unknown (one_number b) (Some y)) (ten_where (byte 5))
+      (subst (λ z. IsSaid no_unknown (one_number b) (Some z) (ten_where (byte 5))) (given_is 10 h y (a.held (int_term (pos 10) 1) h e) q)
+      (subst (λ z. IsSaid no_unknown (one_number z) (Some (byte 10)) (ten_where (byte 5))) (sym (is_five b f a)) refl));
   requires = λ before after u t n ss xs split made e q. absurd (none_first before after u split);
 }
 five_right (denoted_and b (denoted_and c rest)) f a none = absurd (false≢true (and_parts (is_of_type numbers.types number_specs 1 b) false a.arguments).1)
@@ -111,7 +112,7 @@ well_typed_program = record {
 
 -- 4. so the lower rule is wrong
 rest_wrong : IsValidBelow numbers number_specs for_rest → ⊥
-rest_wrong right = false≢true (truths_same false true (only_one (IsSaid (one_number (byte 5)) (Some (byte 20))) (ten_where (byte 5)) (said.result (a_byte 20) refl)))
+rest_wrong right = false≢true (truths_same false true (only_one (IsSaid no_unknown (one_number (byte 5)) (Some (byte 20))) (ten_where (byte 5)) (said.result (a_byte 20) refl)))
   where
     valid : AreValidBelow numbers number_specs 0
     valid r i =
@@ -121,7 +122,7 @@ rest_wrong right = false≢true (truths_same false true (only_one (IsSaid (one_n
         ]
 
     is_called : IsCalled numbers number_specs 0 bytes_as written odd (choice numbers written (rules_of numbers 0) odd).calls
-    is_called = record { denotes = denotes; typed = refl; serves = written_serves numbers 0 odd refl plain_sites; meets = written_meets number_specs (choice numbers written (rules_of numbers 0) odd).calls byte_numbered; required = All-nil (IsSaid (stand_for bytes_as (of_list odd)) None) }
+    is_called = record { denotes = denotes; typed = refl; serves = written_serves numbers 0 odd refl plain_sites; meets = written_meets number_specs (choice numbers written (rules_of numbers 0) odd).calls byte_numbered; required = All-nil (IsSaid no_unknown (stand_for bytes_as (of_list odd)) None) }
 
     said : AnswersAsSaid numbers number_specs 0 bytes_as odd (choice numbers written (rules_of numbers 0) odd)
     said = chooses_as_said_by_priority_lem numbers number_specs 0 bytes_as written odd well_typed_program refl valid (λ ty z. refl) is_called

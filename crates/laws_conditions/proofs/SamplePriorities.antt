@@ -7,7 +7,7 @@ use Rattle.model.specs.sites.Sites.{Constraint, is_variant, SiteTerm, int_term, 
 use Rattle.model.specs.rules.Program.{rules_of}
 use Rattle.model.proofs.Elements.{In, in_from_contains, contains_from_in, some_is, none_some}
 use Rattle.laws_conditions.specs.Words.{Denoted, a_truth, an_integer, a_word, variant_of, struct_of, DenotedList, no_denoted, denoted_and}
-use Rattle.laws_conditions.specs.Specs.{IsSaid}
+use Rattle.laws_conditions.specs.Specs.{IsSaid, no_unknown}
 use Rattle.laws_conditions.specs.Conditions.{Told, told, result_as, Valuation, is_told_formed, is_of_type, IsPartHeld, IsHeldAs, IsAnsweredAsSaid, IsTypedAs, condition, IsAssumed, IsAbove, IsNoneAbove, IsValid, IsValidBelow}
 use Rattle.laws_conditions.specs.Samples.{byte}
 use Rattle.laws_conditions.specs.SamplePriorities.{for_a, for_others, codes, letter, its_code, code_specs, PrioritiesCount}
@@ -29,7 +29,7 @@ literal_is n y e = ap told (some_is (byte n) y e)
 wrong_assumed : IsAssumed codes code_specs (condition codes for_others) argument_a wrong
 wrong_assumed = record {
   arguments = refl;
-  required = All-nil (IsSaid argument_a None);
+  required = All-nil (IsSaid no_unknown argument_a None);
   held = each_held (IsHeldAs code_specs argument_a wrong) wrong_sites (record { part = letter 0; there = refl; held = refl }, ((λ y e. literal_is 20 y e), tt));
   formed = each_held (λ s h. is_told_formed h ≡ true) wrong_sites (refl, (refl, tt));
   constraints = λ s k i. absurd (in_from_contains [] (s, k) i);
@@ -49,7 +49,7 @@ wrong_assumed = record {
 alone_wrong : IsValid codes code_specs (condition codes for_others) → ⊥
 alone_wrong right =
     let shown = right argument_a wrong wrong_assumed in
-    false≢true (truths_same false true (only_one (IsSaid argument_a (Some (byte 20))) its_code (shown.provides (told (byte 20)) (byte 20) (none_made codes code_specs wrong) refl refl)))
+    false≢true (truths_same false true (only_one (IsSaid no_unknown argument_a (Some (byte 20))) its_code (shown.provides (told (byte 20)) (byte 20) (none_made codes code_specs wrong) refl refl)))
 
 -- 2. an argument is A or B
 letter_is : (b : Denoted) → is_of_type codes.types code_specs 2 b ≡ true → (letter 0 ≡ b) ⊎ (letter 1 ≡ b)
@@ -80,8 +80,8 @@ above = (contains_from_in (rules_of codes 2) for_a (inl refl), omega (arith, int
 abbrev one_letter : Denoted → DenotedList
 one_letter b = denoted_and b no_denoted
 
-others_said : (b : Denoted) (f : Valuation) → IsNoneAbove codes code_specs for_others (one_letter b) f → (letter 0 ≡ b) ⊎ (letter 1 ≡ b) → IsSaid (one_letter b) (Some (byte 20)) its_code
-others_said b f a (inr e) = subst (λ z. IsSaid (one_letter z) (Some (byte 20)) its_code) e refl
+others_said : (b : Denoted) (f : Valuation) → IsNoneAbove codes code_specs for_others (one_letter b) f → (letter 0 ≡ b) ⊎ (letter 1 ≡ b) → IsSaid no_unknown (one_letter b) (Some (byte 20)) its_code
+others_said b f a (inr e) = subst (λ z. IsSaid no_unknown (one_letter z) (Some (byte 20)) its_code) e refl
 others_said b f a (inl e) = absurd (a.none for_a above (λ s k i. marked (s, k) (in_from_contains (asked_a ∷ []) (s, k) i)) (λ u v i. absurd (in_from_contains [] (u, v) i)))
   where
     there : f (argument 0) ≡ Some (told (letter 0))
@@ -96,15 +96,15 @@ others_right no_denoted f a none = absurd (false≢true a.arguments)
 others_right (denoted_and b no_denoted) f a none = record {
   provides = λ h y made e q.
       (let is = letter_is b (and_parts (is_of_type codes.types code_specs 2 b) true a.arguments).0 in
-      just_one (IsSaid (one_letter b) (Some y)) its_code
-      (subst (λ z. IsSaid (one_letter b) (Some z) its_code) (given_is 20 h y (a.held (int_term (pos 20) 1) h e) q) (others_said b f none is)));
+      just_one (IsSaid no_unknown (one_letter b) (Some y)) its_code
+      (subst (λ z. IsSaid no_unknown (one_letter b) (Some z) its_code) (given_is 20 h y (a.held (int_term (pos 20) 1) h e) q) (others_said b f none is)));
   requires = λ before after u t n ss xs split made e q. absurd (none_first before after u split);
 }
 others_right (denoted_and b (denoted_and c rest)) f a none = absurd (false≢true (and_parts (is_of_type codes.types code_specs 2 b) false a.arguments).1)
 
 -- 4. and the other one
-a_said : (b : Denoted) (f : Valuation) → IsAssumed codes code_specs (condition codes for_a) (one_letter b) f → (letter 0 ≡ b) ⊎ (letter 1 ≡ b) → IsSaid (one_letter b) (Some (byte 10)) its_code
-a_said b f a (inl e) = subst (λ z. IsSaid (one_letter z) (Some (byte 10)) its_code) e refl
+a_said : (b : Denoted) (f : Valuation) → IsAssumed codes code_specs (condition codes for_a) (one_letter b) f → (letter 0 ≡ b) ⊎ (letter 1 ≡ b) → IsSaid no_unknown (one_letter b) (Some (byte 10)) its_code
+a_said b f a (inl e) = subst (λ z. IsSaid no_unknown (one_letter z) (Some (byte 10)) its_code) e refl
 a_said b f a (inr e) = absurd (differ met.0 part.part part.there part.held)
   where
     met : (xs : DenotedList) × (f (argument 0) ≡ Some (told (variant_of 2 0 xs)))
@@ -127,8 +127,8 @@ a_right no_denoted f a none = absurd (false≢true a.arguments)
 a_right (denoted_and b no_denoted) f a none = record {
   provides = λ h y made e q.
       (let is = letter_is b (and_parts (is_of_type codes.types code_specs 2 b) true a.arguments).0 in
-      just_one (IsSaid (one_letter b) (Some y)) its_code
-      (subst (λ z. IsSaid (one_letter b) (Some z) its_code) (given_is 10 h y (a.held (int_term (pos 10) 1) h e) q) (a_said b f a is)));
+      just_one (IsSaid no_unknown (one_letter b) (Some y)) its_code
+      (subst (λ z. IsSaid no_unknown (one_letter b) (Some z) its_code) (given_is 10 h y (a.held (int_term (pos 10) 1) h e) q) (a_said b f a is)));
   requires = λ before after u t n ss xs split made e q. absurd (none_first before after u split);
 }
 a_right (denoted_and b (denoted_and c rest)) f a none = absurd (false≢true (and_parts (is_of_type codes.types code_specs 2 b) false a.arguments).1)

@@ -5,7 +5,7 @@ use Rattle.std.proofs.lemmas.List.Elements.{All-nil}
 use Rattle.model.specs.sites.Sites.{SiteTerm, argument, constructor_call, some_part, no_site_term, site_term_and}
 use Rattle.model.proofs.Elements.{in_from_contains, some_is, none_some}
 use Rattle.laws_conditions.specs.Words.{Denoted, no_denoted, denoted_and}
-use Rattle.laws_conditions.specs.Specs.{IsSaid}
+use Rattle.laws_conditions.specs.Specs.{IsSaid, no_unknown}
 use Rattle.laws_conditions.specs.Conditions.{Told, told, told_nothing, result_as, Valuation, is_told_formed, IsHeldAs, IsAnsweredAsSaid, IsTypedAs, condition, IsAssumed}
 use Rattle.laws_conditions.specs.Samples.{byte, doubled}
 use Rattle.laws_conditions.specs.SampleUnwraps.{unused_rule, maybes, maybe_specs, UnusedCallsShowNothing}
@@ -26,7 +26,7 @@ no_result h y e q = none_some y (ap result_as (some_is told_nothing h e) ∙ q)
 unused_assumed : IsAssumed maybes maybe_specs (condition maybes unused_rule) one_argument f
 unused_assumed = record {
   arguments = refl;
-  required = All-nil (IsSaid one_argument None);
+  required = All-nil (IsSaid no_unknown one_argument None);
   held = each_held (IsHeldAs maybe_specs one_argument f) sites (record { part = byte 1; there = refl; held = refl }, ((denoted_and (byte 1) no_denoted, refl), tt));
   formed = each_held (λ s h. is_told_formed h ≡ true) sites (refl, (refl, tt));
   constraints = λ s k i. absurd (in_from_contains [] (s, k) i);
@@ -52,4 +52,4 @@ unused_assumed = record {
 pub unused_calls_show_nothing_lem : UnusedCallsShowNothing
 unused_calls_show_nothing_lem right =
     let shown = right one_argument f unused_assumed in
-    false≢true (truths_same false true (only_one (IsSaid one_argument (Some (byte 1))) doubled (shown.provides (told (byte 1)) (byte 1) (none_made maybes maybe_specs f) refl refl)))
+    false≢true (truths_same false true (only_one (IsSaid no_unknown one_argument (Some (byte 1))) doubled (shown.provides (told (byte 1)) (byte 1) (none_made maybes maybe_specs f) refl refl)))

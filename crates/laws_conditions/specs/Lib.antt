@@ -1,3 +1,4 @@
+pub mod WordOperators
 pub mod Words
 pub mod Specs
 pub mod Conditions
@@ -9,6 +10,7 @@ pub mod SampleCalls
 pub mod SampleBelow
 pub mod SampleLists
 pub mod SampleNumbers
+pub mod SampleOperators
 pub mod SamplePriorities
 pub mod TotalLaws
 pub mod SampleUnwraps

@@ -7,7 +7,8 @@ use Rattle.model.specs.rules.Program.{Program, is_multi, rules_of}
 use Rattle.model.specs.rules.Choice.{choice}
 use Rattle.laws_typing.specs.WellTypedPrograms.{IsWellTypedProgram}
 use Rattle.laws_conditions.specs.Words.{a_word}
-use Rattle.laws_conditions.specs.Specs.{Specs, word_of}
+use Rattle.laws_conditions.specs.WordOperators.{word_of}
+use Rattle.laws_conditions.specs.Specs.{Specs}
 use Rattle.laws_conditions.specs.Meets.{Atoms, MeetsSpecs, AnswersAsSaid}
 use Rattle.laws_conditions.specs.ConditionLaws.{AreValid, IsCalled}
 use Rattle.laws_conditions.specs.Samples.{x, adding, program_with, specs_with, doubled}

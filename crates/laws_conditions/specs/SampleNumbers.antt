@@ -4,7 +4,7 @@ use Rattle.std.specs.Prelude.{ℕ, ℤ, pos, true, false, [], ◌∷◌, Some, N
 use Rattle.model.specs.lists.Tables.{builtin_type, declared_term, internal_constructor}
 use Rattle.model.specs.rules.Program.{Program}
 use Rattle.model.specs.rules.Typed.{TypedPattern, match_int, match_any, make_int, TypedRule}
-use Rattle.laws_conditions.specs.Specs.{words, Specs}
+use Rattle.laws_conditions.specs.Specs.{words, Specs, no_unknown}
 use Rattle.laws_conditions.specs.Conditions.{IsValidBelow}
 use Rattle.laws_conditions.specs.Samples.{byte, providing}
 use Rattle.laws_conditions.specs.SamplePriorities.{ten_where}
@@ -47,7 +47,7 @@ numbers = record {
 }
 
 abbrev pub number_specs : Specs
-number_specs = record { models = (1, words 8) ∷ []; constants = []; terms = (0, providing (ten_where (byte 5) ∷ [])) ∷ [] }
+number_specs = record { models = (1, words 8) ∷ []; constants = []; unknowns = no_unknown; terms = (0, providing (ten_where (byte 5) ∷ [])) ∷ [] }
 
 -- the rule above is right; the lower one isn't, also where that one doesn't match: of 261, which stands for 5 too, it gives 20
 abbrev pub NumbersExcludeNothing : Type 0

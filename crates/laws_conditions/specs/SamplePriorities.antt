@@ -4,7 +4,7 @@ use Rattle.model.specs.lists.Tables.{VariantEntry, unit_entries, builtin_type, e
 use Rattle.model.specs.rules.Program.{Program}
 use Rattle.model.specs.rules.Typed.{TypedPattern, match_term, match_any, no_typed_pattern, make_int, TypedRule}
 use Rattle.laws_conditions.specs.Words.{Denoted, variant_of, no_denoted, equals, choice_of}
-use Rattle.laws_conditions.specs.Specs.{words, SpecExpr, its_argument, its_result, the_same, operation, spec_expr_and, Specs}
+use Rattle.laws_conditions.specs.Specs.{words, SpecExpr, its_argument, its_result, the_same, operation, spec_expr_and, Specs, no_unknown}
 use Rattle.laws_conditions.specs.Conditions.{condition, IsValid, IsValidBelow}
 use Rattle.laws_conditions.specs.Samples.{of_two, byte, providing}
 
@@ -65,7 +65,7 @@ abbrev pub its_code : SpecExpr
 its_code = ten_where (letter 0)
 
 abbrev pub code_specs : Specs
-code_specs = record { models = (1, words 8) ∷ []; constants = []; terms = (2, providing (its_code ∷ [])) ∷ [] }
+code_specs = record { models = (1, words 8) ∷ []; constants = []; unknowns = no_unknown; terms = (2, providing (its_code ∷ [])) ∷ [] }
 
 -- the lower rule alone is wrong of A; below the other one it is right, and so is that one
 abbrev pub PrioritiesCount : Type 0

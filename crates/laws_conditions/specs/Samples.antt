@@ -4,7 +4,8 @@ use Rattle.model.specs.lists.Tables.{builtin_type, TermEntry, declared_term, ext
 use Rattle.model.specs.rules.Program.{Program}
 use Rattle.model.specs.rules.Typed.{match_bind, match_any, TypedExpr, make_term, make_var, no_typed_expr, typed_expr_and, TypedRule}
 use Rattle.laws_conditions.specs.Words.{Denoted, a_truth, a_word, DenotedList, no_denoted, denoted_and, is_formed, equals, word_plus, word_less}
-use Rattle.laws_conditions.specs.Specs.{words, SpecExpr, its_argument, its_result, the_same, operation, SpecExprs, no_spec_expr, spec_expr_and, says, Spec, Specs, word_of}
+use Rattle.laws_conditions.specs.WordOperators.{word_of}
+use Rattle.laws_conditions.specs.Specs.{words, SpecExpr, its_argument, its_result, the_same, operation, SpecExprs, no_spec_expr, spec_expr_and, says, Spec, Specs, no_unknown}
 use Rattle.laws_conditions.specs.Conditions.{condition, IsValid}
 
 abbrev pub of_two : SpecExpr → SpecExpr → SpecExprs
@@ -23,12 +24,12 @@ byte n = a_word 8 n
 -- 200 and 100 are 44 in eight bits, and not 45; of words of other widths nothing is said, nor of a result that isn't there
 abbrev pub SumsAreSaid : Type 0
 SumsAreSaid =
-    (says (is_sum (its_argument 0) (its_argument 1)) (two (byte 200) (byte 100)) (Some (byte 44)) ≡ Some (a_truth true))
-    × (says (is_sum (its_argument 0) (its_argument 1)) (two (byte 200) (byte 100)) (Some (byte 45)) ≡ Some (a_truth false))
-    × (says (is_sum (its_argument 0) (its_argument 1)) (two (byte 200) (byte 100)) (Some (a_word 16 44)) ≡ None)
-    × (says (is_sum (its_argument 0) (its_argument 1)) (two (byte 200) (a_word 16 100)) (Some (byte 44)) ≡ None)
-    × (says (is_sum (its_argument 0) (its_argument 1)) (two (byte 200) (byte 100)) None ≡ None)
-    × (says (is_sum (its_argument 0) (its_argument 2)) (two (byte 200) (byte 100)) (Some (byte 44)) ≡ None)
+    (says no_unknown (two (byte 200) (byte 100)) (Some (byte 44)) (is_sum (its_argument 0) (its_argument 1)) [] ≡ Some (a_truth true))
+    × (says no_unknown (two (byte 200) (byte 100)) (Some (byte 45)) (is_sum (its_argument 0) (its_argument 1)) [] ≡ Some (a_truth false))
+    × (says no_unknown (two (byte 200) (byte 100)) (Some (a_word 16 44)) (is_sum (its_argument 0) (its_argument 1)) [] ≡ None)
+    × (says no_unknown (two (byte 200) (a_word 16 100)) (Some (byte 44)) (is_sum (its_argument 0) (its_argument 1)) [] ≡ None)
+    × (says no_unknown (two (byte 200) (byte 100)) None (is_sum (its_argument 0) (its_argument 1)) [] ≡ None)
+    × (says no_unknown (two (byte 200) (byte 100)) (Some (byte 44)) (is_sum (its_argument 0) (its_argument 2)) [] ≡ None)
 
 -- 256 is no word of eight bits, 255 is one; numbers are read modulo 256
 abbrev pub WordsAreFormed : Type 0
@@ -89,6 +90,7 @@ abbrev pub specs_with : List SpecExpr → List SpecExpr → List SpecExpr → Sp
 specs_with provided required noted = record {
   models = (1, words 8) ∷ [];
   constants = [];
+  unknowns = no_unknown;
   terms = (0, providing provided) ∷ ((1, record { require = required; provide = is_sum (its_argument 0) (its_argument 1) ∷ [] }) ∷ ((2, record { require = noted; provide = [] }) ∷ []));
 }
 

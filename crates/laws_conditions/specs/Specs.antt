@@ -1,9 +1,10 @@
 -- Specs of terms, as data: what types and constants stand for, and what a call requires and provides.
-use Rattle.std.specs.Prelude.{◌≡◌, ℕ, ℤ, pos, negsuc, suc, ◌-◌, ◌^◌, ◌%◌, Bool, true, false, List, [], Option, Some, None, slice_get, All}
+use Rattle.std.specs.Prelude.{◌≡◌, ℕ, ℤ, Bool, true, false, List, [], ◌∷◌, ◌++◌, Option, Some, None, if◌then◌else◌, slice_get, All}
 use Rattle.std.specs.Bool.{◌==◌}
 use Rattle.model.specs.rules.Meaning.{look}
 use Rattle.model.specs.rules.Outcome.{then_option}
-use Rattle.laws_conditions.specs.Words.{Denoted, a_truth, an_integer, a_word, DenotedList, no_denoted, denoted_and, denoted_list, Operator, applied_to}
+use Rattle.laws_conditions.specs.WordOperators.{word_of}
+use Rattle.laws_conditions.specs.Words.{Denoted, a_truth, an_integer, a_word, variant_of, DenotedList, no_denoted, denoted_and, denoted_list, denoted_eq, same_sort, Operator, applied_to}
 
 -- what values of a type stand for: truths, integers, words of a width, or words of any width
 pub data Sort : Type 0 where
@@ -19,38 +20,82 @@ is_of_sort (words width) (a_word w n) = w == width
 is_of_sort any_words (a_word w n) = true
 is_of_sort _ _ = false
 
+-- whether it is that variant: of another type nothing is said
+abbrev pub on_variant : ℕ → ℕ → Denoted → (DenotedList → Option Denoted) → Option Denoted → Option Denoted
+on_variant ty variant (variant_of t i fields) go other = if t == ty then (if i == variant then go fields else other) else None
+on_variant ty variant _ go other = None
+
+-- functions without a meaning of their own, by numbers
+abbrev pub Unknowns : Type 0
+Unknowns = ℕ → DenotedList → Denoted
+
+-- where no expression names one
+abbrev pub no_unknown : Unknowns
+no_unknown f xs = a_truth true
+
 mutual
-  -- arguments by their places
+  -- arguments by their places; variables by their places, those bound last first, the fields of an arm in their order
   pub data SpecExpr : Type 0 where
     its_argument : (i : ℕ) → SpecExpr
     its_result : SpecExpr
+    variable : (i : ℕ) → SpecExpr
     the_same : (x : Denoted) → SpecExpr
     operation : (o : Operator) (of : SpecExprs) → SpecExpr
+    unknown : (f : ℕ) (of : SpecExprs) → SpecExpr
+    -- the expression is bound in the body
+    let_in : (e body : SpecExpr) → SpecExpr
+    -- the first case of an equal value
+    switch_on : (e : SpecExpr) (cases : SpecCases) → SpecExpr
+    -- the arm of its variant, in which its fields are bound
+    match_on : (e : SpecExpr) (arms : SpecArms) → SpecExpr
 
   pub data SpecExprs : Type 0 where
     no_spec_expr : SpecExprs
     spec_expr_and : (e : SpecExpr) (rest : SpecExprs) → SpecExprs
 
--- what an expression comes to, on arguments and a result; a require has no result
-abbrev mutual
-  pub says : SpecExpr → DenotedList → Option Denoted → Option Denoted
-  says (its_argument i) args result = slice_get (denoted_list args) i
-  says its_result args result = result
-  says (the_same x) args result = Some x
-  says (operation o of) args result = then_option (says_each of args result) (applied_to o)
+  pub data SpecCases : Type 0 where
+    no_case : SpecCases
+    case_and : (key e : SpecExpr) (rest : SpecCases) → SpecCases
 
-  pub says_each : SpecExprs → DenotedList → Option Denoted → Option DenotedList
-  says_each no_spec_expr args result = Some no_denoted
-  says_each (spec_expr_and e rest) args result = then_option (says e args result) (λ x. then_option (says_each rest args result) (λ xs. Some (denoted_and x xs)))
+  pub data SpecArms : Type 0 where
+    no_spec_arm : SpecArms
+    spec_arm_and : (ty variant : ℕ) (body : SpecExpr) (rest : SpecArms) → SpecArms
+
+-- what an expression comes to, on arguments and a result; a require has no result. Where no case or arm fits it says nothing
+module _ (unknowns : Unknowns) (args : DenotedList) (result : Option Denoted) where
+  abbrev mutual
+    pub says : SpecExpr → List Denoted → Option Denoted
+    says (its_argument i) bound = slice_get (denoted_list args) i
+    says its_result bound = result
+    says (variable i) bound = slice_get bound i
+    says (the_same x) bound = Some x
+    says (operation o of) bound = then_option (says_each of bound) (applied_to o)
+    says (unknown f of) bound = then_option (says_each of bound) (λ xs. Some (unknowns f xs))
+    says (let_in e body) bound = then_option (says e bound) (λ x. says body (x ∷ bound))
+    says (switch_on e cases) bound = then_option (says e bound) (λ x. says_case cases x bound)
+    says (match_on e arms) bound = then_option (says e bound) (λ x. says_arm arms x bound)
+
+    pub says_each : SpecExprs → List Denoted → Option DenotedList
+    says_each no_spec_expr bound = Some no_denoted
+    says_each (spec_expr_and e rest) bound = then_option (says e bound) (λ x. then_option (says_each rest bound) (λ xs. Some (denoted_and x xs)))
+
+    pub says_case : SpecCases → Denoted → List Denoted → Option Denoted
+    says_case no_case x bound = None
+    says_case (case_and key e rest) x bound = then_option (says key bound) (λ k. if same_sort k x then (if denoted_eq k x then says e bound else says_case rest x bound) else None)
+
+    pub says_arm : SpecArms → Denoted → List Denoted → Option Denoted
+    says_arm no_spec_arm x bound = None
+    says_arm (spec_arm_and ty variant body rest) x bound = on_variant ty variant x (λ fields. says body (denoted_list fields ++ bound)) (says_arm rest x bound)
 
 pub record Spec : Type 0 where
   pub require : List SpecExpr
   pub provide : List SpecExpr
 
--- sorts of types, what named constants stand for, by the number of the name, and specs of terms
+-- sorts of types, what named constants stand for, by the number of the name, unknown functions, and specs of terms
 pub record Specs : Type 0 where
   pub models : List (ℕ × Sort)
   pub constants : List (ℕ × Denoted)
+  pub unknowns : Unknowns
   pub terms : List (ℕ × Spec)
 
 abbrev pub sort_of : Specs → ℕ → Option Sort
@@ -68,19 +113,14 @@ abbrev pub spec_of : Specs → ℕ → Spec
 spec_of specs t = or_no_spec (look (λ k. k == t) specs.terms)
 
 -- an expression holds where it comes to true: one whose operands don't fit doesn't
-abbrev pub IsSaid : DenotedList → Option Denoted → SpecExpr → Type 0
-IsSaid args result e = says e args result ≡ Some (a_truth true)
+abbrev pub IsSaid : Unknowns → DenotedList → Option Denoted → SpecExpr → Type 0
+IsSaid unknowns args result e = says unknowns args result e [] ≡ Some (a_truth true)
 
 abbrev pub IsRequired : Specs → ℕ → DenotedList → Type 0
-IsRequired specs t args = All (IsSaid args None) (spec_of specs t).require
+IsRequired specs t args = All (IsSaid specs.unknowns args None) (spec_of specs t).require
 
 abbrev pub IsProvided : Specs → ℕ → DenotedList → Denoted → Type 0
-IsProvided specs t args result = All (IsSaid args (Some result)) (spec_of specs t).provide
-
--- the number modulo 2 to a width
-abbrev pub word_of : ℕ → ℤ → ℕ
-word_of width (pos n) = n % (2 ^ width)
-word_of width (negsuc n) = (2 ^ width - suc (n % (2 ^ width))) % (2 ^ width)
+IsProvided specs t args result = All (IsSaid specs.unknowns args (Some result)) (spec_of specs t).provide
 
 -- what an integer literal stands for in a sort
 abbrev pub integer_in : Sort → ℤ → Option Denoted

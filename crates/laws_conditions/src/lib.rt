@@ -9,6 +9,7 @@ ghost use Rattle.laws_conditions.specs.SampleCalls.{PremisesHold, OthersAreRefus
 ghost use Rattle.laws_conditions.specs.SampleBelow.{PriorityPremisesHold};
 ghost use Rattle.laws_conditions.specs.SampleLists.{ListsAreSaid, BagPremisesHold};
 ghost use Rattle.laws_conditions.specs.SampleNumbers.{NumbersExcludeNothing};
+ghost use Rattle.laws_conditions.specs.SampleOperators.{FormsAreSaid, OperatorsAreApplied};
 ghost use Rattle.laws_conditions.specs.SamplePriorities.{PrioritiesCount};
 ghost use Rattle.laws_conditions.specs.SampleUnwraps.{UnusedCallsShowNothing};
 ghost use Rattle.laws_conditions.specs.Samples.{SumsAreSaid, WordsAreFormed, SumsAreRight, CallsAreRequired};
@@ -119,4 +120,16 @@ pub fn numbers_exclude_nothing()
 /// What the spec of a call says that the result doesn't use, and that gives no value, makes no wrong rule right.
 pub fn unused_calls_show_nothing()
     ensures { UnusedCallsShowNothing }
+{}
+
+/// Operators are applied as two SMT solvers apply them, and say nothing of operands that don't fit.
+#[tactic(auto, using(crate::proofs::SampleOperators::operators_are_applied_lem))]
+pub fn operators_are_applied()
+    ensures { OperatorsAreApplied }
+{}
+
+/// Expressions with cases, arms, variables, fields and unknown functions say what they should.
+#[tactic(auto, using(crate::proofs::SampleOperators::forms_are_said_lem))]
+pub fn forms_are_said()
+    ensures { FormsAreSaid }
 {}
