@@ -1,0 +1,3 @@
+mod LikeRuns
+mod SaidRuns
+mod SampleRuns

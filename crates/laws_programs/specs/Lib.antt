@@ -1,0 +1,3 @@
+pub mod WholeRuns
+pub mod ProgramLaws
+pub mod SampleRuns
