@@ -1,0 +1,12 @@
+pub mod Tokens
+pub mod Notation
+pub mod Pieces
+pub mod Shown
+pub mod Written
+pub mod Reading
+pub mod ReadsBack
+pub mod Spelling
+pub mod Samples
+pub mod Alike
+pub mod Parted
+pub mod Lexing
