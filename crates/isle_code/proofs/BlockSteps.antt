@@ -25,6 +25,7 @@ use Rattle.isle_code.specs.declared.code.CodeArm.{CodeArm}
 use Rattle.isle_code.specs.declared.code.Statement.{Statement}
 use Rattle.isle_code.specs.CodeViews.{statement_view, before, block_view, arm_view, arms_before}
 use Rattle.isle_code.specs.Labels.{room_at, is_deep, shaped, with_check, IsWhereEnded}
+use Rattle.isle_code.proofs.StatementSteps.{arms_pushed}
 use Rattle.isle_code.proofs.CodeShapes.{flat_step, leaving_step, leaving_end, loop_same, loop_stays}
 
 -- 1. numbers
@@ -136,10 +137,6 @@ module _ (sites : List Site) (p : Passes) where
   result_made r check pos result n e is = is ∙ ap (λ k. flat_at (check_code k sites p) is_deep n) (sym (ap check_view e ∙ TreeLaws.return_seen pos result))
 
   -- 5. arms
-  arms_pushed : (out : List CodeArm) (a : CodeArm) (rest : CodeArms) → arms_before (out ++ a ∷ []) rest ≡ arms_before out (arm_view a rest)
-  arms_pushed [] a rest = refl
-  arms_pushed (b ∷ out) a rest = ap (arm_view b) (arms_pushed out a rest)
-
   arm_is : (a : MatchArm) (rest : Arms) → TreeViews.arm_view a rest ≡ arm (constraint_view (out-MatchArm a).constraint) (out-MatchArm a).bindings.items (tree_view (out-MatchArm a).body) rest
   arm_is a rest = ap (λ (x : MatchArm). TreeViews.arm_view x rest) (sym (roll-out-MatchArm a)) ∙ arm_seen (out-MatchArm a).constraint (out-MatchArm a).bindings (out-MatchArm a).body rest
 

@@ -6,3 +6,9 @@ mod CodeShapes
 mod BlockSteps
 mod TypesFound
 mod SiteHolds
+mod Reading
+mod Moving
+mod MovedBlocks
+mod MovedUses
+mod MovedStatements
+mod MovedVariables

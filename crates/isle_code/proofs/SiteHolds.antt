@@ -9,7 +9,7 @@ use Rattle.model.specs.sites.Sites.{Site, bool_site, int_site, prim_site, argume
 use Rattle.code_model.specs.Code.{variable}
 use Rattle.code_model.specs.Flat.{flat}
 use Rattle.code_model.specs.TreeCode.{place_of, tree_code}
-use Rattle.code_model.specs.Modes.{Mode, a_value, mode_at}
+use Rattle.code_model.specs.Modes.{Mode, a_value, mode_at, passes_of}
 use Rattle.code_model.specs.SiteTypes.{are_copied, is_copied_at, is_held_by_reference, mode_of, types_at, types_of}
 use Rattle.isle_rule_sets.specs.declared.trie_again.Binding.{Binding}
 use Rattle.isle_rule_sets.specs.declared.trie_again.Binding.TheVariants as B
@@ -20,7 +20,6 @@ use Rattle.isle_code.specs.HeldPasses.{Hold, HoldsAs, passes_by}
 use Rattle.isle_code.specs.HeldViews.{hold_at, hold_in, hold_view}
 use Rattle.isle_code.specs.SeenTypes.{AreTablesOf, OfTables, arguments_in, program_in}
 use Rattle.isle_code.specs.SiteHolds.{hold_of, term_hold}
-use Rattle.isle_code.specs.CodeOf.{code_by, code_in_program}
 use Rattle.isle_code.specs.Labels.{is_deep}
 use Rattle.isle_code.proofs.HeldPasses.{passes_same}
 
@@ -170,8 +169,8 @@ held_whole tables held count made p are s =
 
 -- the code by what is held is the code by types
 pub code_by_held : (p : Program) (t : ℕ) (sites : List Site) (h : ℕ → Hold) (multi : Bool) (tree : Tree) → ((s : ℕ) → h s ≡ term_hold p t sites s) → multi ≡ is_multi p t
-    → flat (tree_code tree sites (passes_by h multi sites)) is_deep 0 ≡ code_in_program p t sites tree
+    → flat (tree_code tree sites (passes_by h multi sites)) is_deep 0 ≡ flat (tree_code tree sites (passes_of (types_of p (arg_types p t) sites) (is_multi p t) sites)) is_deep 0
 code_by_held p t sites h multi tree holds same =
     let types = types_of p (arg_types p t) sites in
     ap (λ q. flat (tree_code tree sites q) is_deep 0) (passes_same types sites h (holds_as_types p (arg_types p t) sites h holds) multi)
-    ∙ ap (λ m. code_by types m sites tree) same
+    ∙ ap (λ m. flat (tree_code tree sites (passes_of types m sites)) is_deep 0) same

@@ -1,11 +1,12 @@
--- Statements added one after another.
+-- Statements and arms added one after another.
 use Rattle.std.proofs.Common.{◌≡◌, ℕ, ◌+◌, ◌<◌, ◌≤◌, List, [], ◌∷◌, ◌++◌, length, get_or, drop, slice_get, refl, sym, ap, ◌∙◌}
 use Rattle.std.proofs.lemmas.List.{at_drop_more, at_drop_all}
 use Rattle.model.specs.sites.Sites.{Site}
-use Rattle.code_model.specs.Code.{Block, statement}
+use Rattle.code_model.specs.Code.{Block, statement, CodeArms}
 use Rattle.code_model.specs.TreeCode.{Passes, bind_code, binds_code}
+use Rattle.isle_code.specs.declared.code.CodeArm.{CodeArm}
 use Rattle.isle_code.specs.declared.code.Statement.{Statement}
-use Rattle.isle_code.specs.CodeViews.{statement_view, before}
+use Rattle.isle_code.specs.CodeViews.{arm_view, arms_before, before, statement_view}
 
 pub before_added : (out more : List Statement) (rest : Block) → before (out ++ more) rest ≡ before out (before more rest)
 before_added [] more rest = refl
@@ -13,6 +14,10 @@ before_added (s ∷ out) more rest = ap (statement (statement_view s)) (before_a
 
 pub before_pushed : (out new : List Statement) (s : Statement) (rest : Block) → new ≡ out ++ s ∷ [] → before new rest ≡ before out (statement (statement_view s) rest)
 before_pushed out new s rest is = ap (λ l. before l rest) is ∙ before_added out (s ∷ []) rest
+
+pub arms_pushed : (out : List CodeArm) (a : CodeArm) (rest : CodeArms) → arms_before (out ++ a ∷ []) rest ≡ arms_before out (arm_view a rest)
+arms_pushed [] a rest = refl
+arms_pushed (b ∷ out) a rest = ap (arm_view b) (arms_pushed out a rest)
 
 module _ (sites : List Site) (p : Passes) where
   pub binds_more : (out new : List Statement) (ss : List ℕ) (b : Statement) (s i : ℕ) (whole : Block → Block) → i < length ss → s ≡ get_or ss i s

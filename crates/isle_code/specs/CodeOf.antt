@@ -7,12 +7,13 @@ use Rattle.code_model.specs.Code.{Block}
 use Rattle.code_model.specs.TreeCode.{tree_code}
 use Rattle.code_model.specs.Flat.{flat}
 use Rattle.code_model.specs.Modes.{Types, passes_of}
+use Rattle.code_model.specs.Saving.{with_moves}
 use Rattle.code_model.specs.SiteTypes.{types_of}
 use Rattle.isle_code.specs.Labels.{is_deep}
 
--- with values handed on as these types ask, and labels far in
+-- with values handed on as these types ask, labels far in, and moves in place of clones
 abbrev pub code_by : Types → Bool → List Site → Tree → Block
-code_by types multi sites tree = flat (tree_code tree sites (passes_of types multi sites)) is_deep 0
+code_by types multi sites tree = with_moves types (flat (tree_code tree sites (passes_of types multi sites)) is_deep 0)
 
 abbrev pub code_in_program : Program → ℕ → List Site → Tree → Block
 code_in_program p t sites tree = code_by (types_of p (arg_types p t) sites) (is_multi p t) sites tree

@@ -5,3 +5,4 @@ pub mod Labels
 pub mod CodeOf
 pub mod SeenTypes
 pub mod SiteHolds
+pub mod Spots

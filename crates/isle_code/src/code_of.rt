@@ -13,6 +13,7 @@ ghost use Rattle.isle_code.specs.SeenTypes.{AreTablesOf};
 use crate::blocks::add_steps;
 use crate::code::CodeBlock;
 use crate::held::{held_by, is_multi};
+use crate::moves::with_moves;
 use crate::stage::Stage;
 use crate::types::Tables;
 use isle_serialize::serialize::Block;
@@ -22,9 +23,9 @@ use std::alloc::{AllocError, Global};
 const DEEPEST: usize = 12;
 
 /// The code of the tree of a term: one statement for each site that is bound, in the order of its bind orders, and one for each test
-/// and each result. Values are handed on as the types of their sites ask; what is kept and isn't `Copy` is cloned. From the
-/// thirteenth test within another on, the body of a test stands within a label, and the test that ends it leaves the label where it
-/// isn't met.
+/// and each result. Values are handed on as the types of their sites ask; what is kept and isn't `Copy` is moved where nothing reads
+/// it later, and cloned elsewhere. From the thirteenth test within another on, the body of a test stands within a label, and the test
+/// that ends it leaves the label where it isn't met.
 ///
 /// # Errors
 ///
@@ -41,7 +42,8 @@ pub fn code_of(alloc: Global, tables: &Tables<'_>, block: &Block) -> Result<Code
         held: &held,
         multi: is_multi(tables.terms, tables.term),
     };
-    Ok(code_with(&stage, block)?)
+    let code = code_with(&stage, block)?;
+    Ok(with_moves(alloc, &held, &code)?)
 }
 
 // The code of a tree, by how its sites hold their values.

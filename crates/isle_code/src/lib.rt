@@ -6,6 +6,8 @@ mod blocks;
 pub mod code;
 pub mod code_of;
 pub mod held;
+pub mod moves;
+mod reads;
 mod stage;
 mod tests;
 pub mod types;

@@ -1,2 +1,1 @@
-mod WellMadeCode
 mod LoweredCode

@@ -1,13 +1,19 @@
 -- The code of a term of an answer means what its source rules do.
-use Rattle.std.proofs.Common.{◌≡◌, ◌∙◌, List, sym, ap, subst}
+use Rattle.std.proofs.Common.{[], ◌≡◌, ◌∙◌, List, sym, ap, subst}
 use Rattle.std.proofs.lemmas.List.Elements.{All-contains}
 use Rattle.model.specs.rules.Program.{Program, arg_types, is_multi}
+use Rattle.model.specs.trees.Run.{at_start}
 use Rattle.model.specs.claims.Layers.{own_program, IsLoweredTerm}
 use Rattle.code_model.specs.Code.{Block}
+use Rattle.code_model.specs.CodeRuns.{outcome_of}
+use Rattle.code_model.specs.Flat.{flat}
 use Rattle.code_model.specs.Modes.{passes_of}
+use Rattle.code_model.specs.Saving.{with_moves, WithMovesSaysSame}
 use Rattle.code_model.specs.SiteTypes.{types_of}
+use Rattle.code_model.specs.TreeCode.{tree_code}
 use Rattle.laws_code.specs.CodeChoices.{CodeChoosesAsSource, MeansItsSource}
-use Rattle.laws_code.specs.TypedTrees.{ConstrainsByTypes}
+use Rattle.laws_code.specs.TypedTrees.{CodeOfAcceptedIsWellMade, ConstrainsByTypes, IsWellMade}
+use Rattle.laws_code.proofs.WellMade.{means_same}
 use Rattle.isle_terms.specs.declared.term.Term.{Term}
 use Rattle.isle_terms.specs.TermViews.{term_views}
 use Rattle.isle_rule_sets.specs.declared.trie_again.Binding.{Binding}
@@ -19,7 +25,7 @@ use Rattle.isle_code.specs.SeenTypes.{AreTablesOf}
 use Rattle.cranelift_isle.specs.declared.lower.LoweredTerm as Code
 use Rattle.cranelift_isle.specs.declared.lower.Lowered.{Lowered}
 use Rattle.cranelift_isle.specs.Lowerings.{lowered_view, lowered_views}
-use Rattle.isle_functions.specs.LoweredCode.{OfLowered, IsItsCode, IsWellMadeByTypes, CodeInProgramsIsWellMade}
+use Rattle.isle_functions.specs.LoweredCode.{IsItsCode, OfLowered}
 
 module _ (l : Lowered) (t : Code.LoweredTerm) (code : Block) where
   -- by the contract of the code, and what an answer of lowering shows
@@ -37,17 +43,21 @@ module _ (l : Lowered) (t : Code.LoweredTerm) (code : Block) where
       made p tables ∙ ap (λ bs. code_in_program p t.id.0 (site_views bs) (tree_view t.block)) sites_are
 
   -- by the laws of code
-  pub means_its_source : CodeChoosesAsSource → OfLowered l t (IsItsCode code) → OfLowered l t (λ p term. MeansItsSource p term code)
-  means_its_source chooses its defs expand rules answers here =
+  pub means_its_source : CodeChoosesAsSource → WithMovesSaysSame → OfLowered l t (IsItsCode code) → OfLowered l t (λ p term. MeansItsSource p term code)
+  means_its_source chooses same its defs expand rules answers here =
       let p = own_program defs rules in
       let term = lowered_view t in
       let lowered : IsLoweredTerm p term = All-contains (IsLoweredTerm p) (lowered_views l.terms.items) term answers.trees.lowered here in
-      let passes = passes_of (types_of p (arg_types p term.term) term.set.sites) (is_multi p term.term) term.set.sites in
-      subst (MeansItsSource p term) (sym (its defs expand rules answers here)) (chooses defs expand rules term answers.accepted lowered.built lowered.best passes is_deep 0)
+      let types = types_of p (arg_types p term.term) term.set.sites in
+      let passes = passes_of types (is_multi p term.term) term.set.sites in
+      let cloned = flat (tree_code term.tree term.set.sites passes) is_deep 0 in
+      subst (MeansItsSource p term) (sym (its defs expand rules answers here))
+      (means_same p term cloned (with_moves types cloned) (λ w most. ap outcome_of (sym ((same types cloned).runs w most [] at_start)))
+      (chooses defs expand rules term answers.accepted lowered.built lowered.best passes is_deep 0))
 
-  pub is_well_made : CodeInProgramsIsWellMade → OfLowered l t (IsItsCode code) → OfLowered l t (λ p term. ConstrainsByTypes p term.term term.set → IsWellMadeByTypes p term code)
+  pub is_well_made : CodeOfAcceptedIsWellMade → OfLowered l t (IsItsCode code) → OfLowered l t (λ p term. ConstrainsByTypes p term.term term.set → IsWellMade p term code)
   is_well_made made its defs expand rules answers here by_types =
       let p = own_program defs rules in
       let term = lowered_view t in
       let lowered : IsLoweredTerm p term = All-contains (IsLoweredTerm p) (lowered_views l.terms.items) term answers.trees.lowered here in
-      subst (IsWellMadeByTypes p term) (sym (its defs expand rules answers here)) (made defs expand rules term answers.accepted lowered.built lowered.best by_types)
+      subst (IsWellMade p term) (sym (its defs expand rules answers here)) (made defs expand rules term answers.accepted lowered.built lowered.best by_types is_deep 0)

@@ -20,7 +20,7 @@ use Rattle.laws_code.specs.CodeMoves.{CodeOfAcceptedTakesOnce}
 use Rattle.laws_code.specs.TypedTrees.{TypedSetsHaveTypedTrees, BuiltSetsAreTyped, BuiltSetsConstrainByTypes, CodeOfAcceptedIsWellMade, CodeWithoutSuchConstantsIsWellMade}
 
 -- what runs the same means the same
-means_same : (p : Program) (l : LoweredTerm) (a b : Block) → ((w : World) (most : Option ℕ) → code_run a w most ≡ code_run b w most) → MeansItsSource p l a → MeansItsSource p l b
+pub means_same : (p : Program) (l : LoweredTerm) (a b : Block) → ((w : World) (most : Option ℕ) → code_run a w most ≡ code_run b w most) → MeansItsSource p l a → MeansItsSource p l b
 means_same p l a b same means = record {
   chooses = λ single m args typed served apart.
       let c = means.chooses single m args typed served apart in (sym (same (world_of p l.term l.set.sites m args) None) ∙ c.0, c.1);

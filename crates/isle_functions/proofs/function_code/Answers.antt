@@ -10,6 +10,6 @@ returns c =
     let its = is_its_code l t code c.deref.result.now c.deref-2.result.now c.in_ok-code_of.ensures c.deref.ensures.value c.deref-2.ensures.value in
     record {
       made = its;
-      means = means_its_source l t code c.code_chooses_as_source.ensures its;
-      well_made = is_well_made l t code c.code_in_programs_is_well_made.ensures its;
+      means = means_its_source l t code c.code_chooses_as_source.ensures c.with_moves_says_same.ensures its;
+      well_made = is_well_made l t code c.code_of_accepted_is_well_made.ensures its;
     }

@@ -1,4 +1,7 @@
 use Rattle.std.proofs.Common.{◌≡◌, ◌∙◌, ℕ, ap}
+use Rattle.model.specs.rules.Program.{arg_types}
+use Rattle.code_model.specs.Saving.{with_moves}
+use Rattle.code_model.specs.SiteTypes.{types_of}
 use Rattle.isle_rule_sets.specs.SiteViews.{site_views}
 use Rattle.isle_serialize.specs.TreeViews.{tree_view}
 use Rattle.isle_code.specs.HeldViews.{hold_in}
@@ -10,5 +13,8 @@ pub returns : goal.returns
 returns c = λ p are.
     let t = c.args.tables.now.term.0 in
     let sites = site_views c.args.tables.now.sites.now in
+    let types = types_of p (arg_types p t) sites in
     let holds : (s : ℕ) → hold_in c.deref.result.now s ≡ term_hold p t sites s = λ s. ap (λ l. hold_in l s) c.deref.ensures.value ∙ c.in_ok-held.ensures p are s in
-    c.in_ok-code_with.ensures ∙ code_by_held p t sites (hold_in c.deref.result.now) c.is_multi.result (tree_view c.args.block.now) holds (c.is_multi.ensures p are.terms)
+    let said : (s : ℕ) → hold_in c.deref-2.result.now s ≡ term_hold p t sites s = λ s. ap (λ l. hold_in l s) c.deref-2.ensures.value ∙ c.in_ok-held.ensures p are s in
+    c.in_ok-with_moves.ensures types (λ s. ap (λ h. h.mode) (said s))
+    ∙ ap (with_moves types) (c.in_ok-code.ensures ∙ code_by_held p t sites (hold_in c.deref.result.now) c.is_multi.result (tree_view c.args.block.now) holds (c.is_multi.ensures p are.terms))
