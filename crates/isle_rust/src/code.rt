@@ -2,8 +2,8 @@
 
 ghost use Rattle.std.specs.Prelude.{◌≢◌, [], string_bytes, IfOk};
 
-use crate::body::push_function;
-use cranelift_isle::lower::{Lowered, LoweredTerm};
+use crate::functions::push_function;
+use cranelift_isle::lower::Lowered;
 use cranelift_isle::syntax::Files;
 use isle_rust_items::beside::BESIDE;
 use isle_rust_items::context::push_context;
@@ -55,7 +55,7 @@ pub fn rust_code_with(
         is_logged: options.emit_logging,
     };
     check_names(program, &lowered.terms)?;
-    let items = items_of(program, options, &lowered.terms)?;
+    let items = items_of(program, options, lowered)?;
     headed(alloc, &items)
 }
 
@@ -63,15 +63,15 @@ pub fn rust_code_with(
 fn items_of(
     program: Program<'_>,
     options: &CodegenOptions,
-    terms: &[LoweredTerm],
+    lowered: &Lowered,
 ) -> Result<String, CodeError> {
     let mut out = String::new(program.alloc);
     push_head(&mut out, program.lines, options)?;
     push_context(&mut out, program)?;
     out.push_str(BESIDE)?;
     push_types(&mut out, program)?;
-    for term in terms {
-        push_function(&mut out, program, term)?;
+    for term in &lowered.terms {
+        push_function(&mut out, program, lowered, term)?;
     }
     Ok(out)
 }

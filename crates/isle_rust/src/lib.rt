@@ -1,11 +1,11 @@
-//! The Rust code of lowered programs.
+//! The Rust code of lowered programs. The functions of terms are printed from code as data (`isle_code`), and from nothing else.
 #![tactic(auto)]
 
-mod body;
 pub mod code;
 mod expressions;
-mod held;
+mod functions;
+mod labels;
 mod layout;
-mod looks;
-mod moves;
+mod names;
 mod patterns;
+mod statements;

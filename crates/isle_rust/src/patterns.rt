@@ -1,133 +1,78 @@
-//! What tests are written as.
+//! Patterns, and what is tested by them.
 
-use crate::expressions::{Sites, push_variable};
-use cranelift_isle::sema::{Fields, StructField};
-use cranelift_isle::serialize::MatchArm;
-use cranelift_isle::trie_again::{Binding, BindingId, Constraint};
-use isle_rust_items::names::push_name;
+use crate::names::{Names, push_variable};
+use cranelift_isle::sema::{Fields, StructField, Sym, TupleField, TypeId};
+use cranelift_isle::trie_again::{BindingId, Constraint};
+use isle_code::code::Use;
 use std::alloc::AllocError;
 
-impl<'a> Sites<'a> {
-    /// Adds what a match begins with.
-    pub(crate) fn push_match(
-        self,
-        out: &mut String,
-        source: BindingId,
-        arms: &[MatchArm],
-    ) -> Result<(), AllocError> {
-        out.push_str("match ")?;
-        match arms {
-            [first, ..] => self.push_matched(out, source, first.constraint)?,
-            [] => self.push_place(out, source)?,
-        }
-        out.push_str(" {\n")
+/// Whether a pattern is a constant.
+pub(crate) fn is_constant(pattern: &Constraint) -> bool {
+    match pattern {
+        Constraint::ConstBool { .. } | Constraint::ConstInt { .. } | Constraint::ConstPrim { .. } =>
+            true,
+        Constraint::Variant { .. } | Constraint::Struct { .. } | Constraint::Some => false,
     }
+}
 
-    /// Adds what the body of an arm begins with that is alone in its match.
-    pub(crate) fn push_if(
+impl<'a> Names<'a> {
+    /// Adds a pattern as an arm of a match of this value has it. A named constant is no pattern, so it is compared.
+    pub(crate) fn push_arm_pattern(
         self,
         out: &mut String,
-        source: BindingId,
-        arm: &MatchArm,
+        value: &Use,
+        pattern: &Constraint,
+        fields: &[Option<BindingId>],
     ) -> Result<(), AllocError> {
-        if is_constant(arm.constraint) {
-            self.push_constant_test(out, source, " == ", arm.constraint)?;
-        } else {
-            out.push_str("if ")?;
-            self.push_pattern_test(out, source, arm)?;
-        }
-        out.push_str(" {\n")
-    }
-
-    /// Adds the rest of a line that leaves the block of this number where such an arm isn't met.
-    pub(crate) fn push_unless(
-        self,
-        out: &mut String,
-        label: usize,
-        source: BindingId,
-        arm: &MatchArm,
-    ) -> Result<(), AllocError> {
-        if is_constant(arm.constraint) {
-            self.push_constant_test(out, source, " != ", arm.constraint)?;
-            push_break(out, label)?;
-            return out.push('\n');
-        }
-        self.push_pattern_test(out, source, arm)?;
-        out.push_str(" else")?;
-        push_break(out, label)?;
-        out.push_str(";\n")
-    }
-
-    /// Adds a comparison of two sites.
-    pub(crate) fn push_comparison(
-        self,
-        out: &mut String,
-        a: BindingId,
-        sign: &str,
-        b: BindingId,
-    ) -> Result<(), AllocError> {
-        let are_alike = self.held(a).is_reference == self.held(b).is_reference;
-        out.push_str("if ")?;
-        self.push_side(out, a, are_alike)?;
-        out.push_str(sign)?;
-        self.push_side(out, b, are_alike)
-    }
-
-    // Adds a side of a comparison: as it is where both are values or both references, else as a value.
-    fn push_side(
-        self,
-        out: &mut String,
-        site: BindingId,
-        are_alike: bool,
-    ) -> Result<(), AllocError> {
-        if are_alike {
-            self.push_place(out, site)
-        } else {
-            self.push_compared(out, site)
+        match pattern {
+            Constraint::ConstPrim { val } => {
+                out.push_str("_ if ")?;
+                self.push_named_test(out, value, " == ", *val)
+            }
+            Constraint::ConstBool { .. }
+            | Constraint::ConstInt { .. }
+            | Constraint::Variant { .. }
+            | Constraint::Struct { .. }
+            | Constraint::Some => self.push_pattern(out, *pattern, fields),
         }
     }
 
-    /// Adds that the answers of a call become an iterator, in the line before its loop.
-    pub(crate) fn push_iterator(self, out: &mut String, each: BindingId) -> Result<(), AllocError> {
-        out.push_str("let mut ")?;
-        self.push_source(out, each)?;
+    /// Adds a pattern, and the value that is to meet it.
+    pub(crate) fn push_let(
+        self,
+        out: &mut String,
+        pattern: &Constraint,
+        fields: &[Option<BindingId>],
+        value: &Use,
+    ) -> Result<(), AllocError> {
+        out.push_str("let ")?;
+        self.push_pattern(out, *pattern, fields)?;
         out.push_str(" = ")?;
-        self.push_source(out, each)?;
-        out.push_str(".into_context_iter();\n")
+        self.push_use(out, *value)
     }
 
-    /// Adds what a loop begins with.
-    pub(crate) fn push_while(self, out: &mut String, each: BindingId) -> Result<(), AllocError> {
-        out.push_str("while let Some(")?;
-        push_variable(out, each)?;
-        out.push_str(") = ")?;
-        self.push_source(out, each)?;
-        out.push_str(".next(ctx) {\n")
-    }
-
-    // Adds the variable of the call whose answers a loop goes over.
-    fn push_source(self, out: &mut String, each: BindingId) -> Result<(), AllocError> {
-        match self.bindings.get(each.index()) {
-            Some(Binding::Iterator { source }) => push_variable(out, *source),
-            _ => Ok(()),
+    /// Adds a comparison with a constant.
+    pub(crate) fn push_constant_test(
+        self,
+        out: &mut String,
+        value: &Use,
+        sign: &str,
+        constant: &Constraint,
+    ) -> Result<(), AllocError> {
+        match constant {
+            Constraint::ConstPrim { val } => self.push_named_test(out, value, sign, *val),
+            Constraint::ConstBool { .. }
+            | Constraint::ConstInt { .. }
+            | Constraint::Variant { .. }
+            | Constraint::Struct { .. }
+            | Constraint::Some => {
+                self.push_compared(out, value, sign)?;
+                self.push_constant_of(out, *constant)
+            }
         }
     }
 
-    // Adds a comparison with a constant.
-    fn push_constant_test(
-        self,
-        out: &mut String,
-        source: BindingId,
-        sign: &str,
-        constant: Constraint,
-    ) -> Result<(), AllocError> {
-        out.push_str("if ")?;
-        self.push_compared(out, source)?;
-        out.push_str(sign)?;
-        self.push_constant_of(out, constant)
-    }
-
-    // Adds the constant that a constraint asks.
+    // Adds the constant that is asked.
     fn push_constant_of(self, out: &mut String, constant: Constraint) -> Result<(), AllocError> {
         match constant {
             Constraint::ConstBool { val, .. } => out.push_str(if val { "true" } else { "false" }),
@@ -137,71 +82,57 @@ impl<'a> Sites<'a> {
         }
     }
 
-    // Adds the pattern of an arm, and the value that is to meet it.
-    fn push_pattern_test(
+    // Adds a comparison with a named constant. Of an enum's or a struct's type a reference is matched, which is seen through here.
+    fn push_named_test(
         self,
         out: &mut String,
-        source: BindingId,
-        arm: &MatchArm,
+        value: &Use,
+        sign: &str,
+        constant: Sym,
     ) -> Result<(), AllocError> {
-        out.push_str("let ")?;
-        self.push_pattern(out, source, arm)?;
-        out.push_str(" = ")?;
-        self.push_matched(out, source, arm.constraint)
-    }
-
-    // Adds the value that is matched: a composed one by reference.
-    fn push_matched(
-        self,
-        out: &mut String,
-        source: BindingId,
-        constraint: Constraint,
-    ) -> Result<(), AllocError> {
-        match constraint {
-            Constraint::Variant { .. } | Constraint::Struct { .. } => {
-                self.push_borrowed(out, source)
-            }
-            Constraint::Some => self.push_unwrapped(out, source),
-            Constraint::ConstBool { .. }
-            | Constraint::ConstInt { .. }
-            | Constraint::ConstPrim { .. } => self.push_place(out, source),
+        if self.is_constant_composed(constant) {
+            out.push('*')?;
         }
+        self.push_compared(out, value, sign)?;
+        self.push_constant(out, constant)
     }
 
-    /// Adds the pattern of an arm of a match of this site. A named constant is no pattern, so it is compared.
-    pub(crate) fn push_pattern(
+    // Adds a value, and the sign by which it is compared.
+    fn push_compared(self, out: &mut String, value: &Use, sign: &str) -> Result<(), AllocError> {
+        self.push_use(out, *value)?;
+        out.push_str(sign)
+    }
+
+    // Adds a pattern. Variants and structs are matched by reference.
+    fn push_pattern(
         self,
         out: &mut String,
-        source: BindingId,
-        arm: &MatchArm,
+        pattern: Constraint,
+        fields: &[Option<BindingId>],
     ) -> Result<(), AllocError> {
-        match arm.constraint {
+        match pattern {
             Constraint::Variant { ty, variant, .. } => {
                 out.push('&')?;
                 self.push_variant(out, ty, variant)?;
-                self.push_fields(out, self.variant_fields(ty, variant), &arm.bindings)
+                self.push_fields(out, self.variant_fields(ty, variant), fields)
             }
             Constraint::Struct { ty, .. } => {
                 out.push('&')?;
                 self.program.push_type(out, ty)?;
-                self.push_fields(out, self.struct_fields(ty), &arm.bindings)
+                self.push_fields(out, self.struct_fields(ty), fields)
             }
-            Constraint::ConstBool { .. } | Constraint::ConstInt { .. } => {
-                self.push_constant_of(out, arm.constraint)
-            }
-            Constraint::ConstPrim { .. } => {
-                out.push_str("_ ")?;
-                self.push_constant_test(out, source, " == ", arm.constraint)
-            }
+            Constraint::ConstBool { .. }
+            | Constraint::ConstInt { .. }
+            | Constraint::ConstPrim { .. } => self.push_constant_of(out, pattern),
             Constraint::Some => {
                 out.push_str("Some(")?;
-                push_inner(out, &arm.bindings)?;
+                push_inner(out, fields)?;
                 out.push(')')
             }
         }
     }
 
-    // Adds the fields of a pattern: those that are bound, by their variables.
+    // Adds the fields of a pattern.
     fn push_fields(
         self,
         out: &mut String,
@@ -209,18 +140,14 @@ impl<'a> Sites<'a> {
         sites: &[Option<BindingId>],
     ) -> Result<(), AllocError> {
         match fields {
-            Some(Fields::Struct(named)) => self.push_field_names(out, &named.fields, sites),
-            Some(Fields::Tuple(_)) => {
-                out.push('(')?;
-                self.push_field_places(out, sites)?;
-                out.push(')')
-            }
+            Some(Fields::Struct(named)) => self.push_named_fields(out, &named.fields, sites),
+            Some(Fields::Tuple(unnamed)) => self.push_unnamed_fields(out, &unnamed.fields, sites),
             Some(Fields::Unit) | None => Ok(()),
         }
     }
 
     // Adds the fields with names that are bound, and `..` where others aren't.
-    fn push_field_names(
+    fn push_named_fields(
         self,
         out: &mut String,
         fields: &[StructField],
@@ -230,33 +157,40 @@ impl<'a> Sites<'a> {
         for (i, (field, site)) in fields.iter().zip(sites).enumerate() {
             if let Some(site) = site {
                 out.push_str(if is_bound_before(sites, i) { ", " } else { "" })?;
-                push_name(out, self.program.tyenv.text_of(field.name))?;
+                self.push_sym(out, field.name)?;
                 out.push_str(": ")?;
-                self.push_field_variable(out, *site)?;
+                self.push_field_variable(out, field.ty, *site)?;
             }
         }
         push_rest(out, sites)
     }
 
-    // Adds the variables of fields, with `_` for those that aren't bound.
-    fn push_field_places(
+    // Adds the fields without names, with `_` for those that aren't bound.
+    fn push_unnamed_fields(
         self,
         out: &mut String,
+        fields: &[TupleField],
         sites: &[Option<BindingId>],
     ) -> Result<(), AllocError> {
-        for (i, site) in sites.iter().enumerate() {
+        out.push('(')?;
+        for (i, (field, site)) in fields.iter().zip(sites).enumerate() {
             out.push_str(if i == 0 { "" } else { ", " })?;
             match site {
-                Some(site) => self.push_field_variable(out, *site)?,
+                Some(site) => self.push_field_variable(out, field.ty, *site)?,
                 None => out.push('_')?,
             }
         }
-        Ok(())
+        out.push(')')
     }
 
-    // Adds the variable of a field: a reference to what is composed.
-    fn push_field_variable(self, out: &mut String, site: BindingId) -> Result<(), AllocError> {
-        out.push_str(if self.held(site).is_reference {
+    // Adds the variable of a field of this type: a reference to an enum or a struct.
+    fn push_field_variable(
+        self,
+        out: &mut String,
+        ty: TypeId,
+        site: BindingId,
+    ) -> Result<(), AllocError> {
+        out.push_str(if self.program.is_composed(ty) {
             "ref "
         } else {
             ""
@@ -279,20 +213,6 @@ fn push_rest(out: &mut String, sites: &[Option<BindingId>]) -> Result<(), AllocE
         (false, true) => ".. }",
         (true, true) => ", .. }",
     })
-}
-
-/// Adds a block that leaves the one of this number.
-pub(crate) fn push_break(out: &mut String, label: usize) -> Result<(), AllocError> {
-    write!(out, " {{ break 'at{label} }}")
-}
-
-// Whether what is asked is a constant.
-fn is_constant(constraint: Constraint) -> bool {
-    match constraint {
-        Constraint::ConstBool { .. } | Constraint::ConstInt { .. } | Constraint::ConstPrim { .. } =>
-            true,
-        Constraint::Variant { .. } | Constraint::Struct { .. } | Constraint::Some => false,
-    }
 }
 
 // Adds the variable of what is within an answer, or `_` where nothing looks at it.

@@ -1,10 +1,10 @@
 //! The trait of the functions that come from outside.
 
-use crate::names::{push_name, push_part};
 use crate::options::CodeError;
 use crate::program::{ALLOWED, Program};
 use cranelift_isle::sema::{ExternalSig, ReturnKind, Term};
 use cranelift_isle::syntax::Pos;
+use isle_rust_names::names::{push_name, push_part};
 use std::alloc::AllocError;
 use std::collections::HashMap;
 

@@ -1,6 +1,7 @@
 //! How code is written, and why a program has none.
 
-use std::alloc::{AllocError, AllocFailed, Global};
+pub use isle_rust_names::faults::CodeError;
+use std::alloc::Global;
 
 /// How code is written. Upstream's `CodegenOptions`.
 pub struct CodegenOptions {
@@ -44,27 +45,5 @@ impl CodegenOptions {
             prefixes: Vec::new(alloc),
             emit_logging: false,
         }
-    }
-}
-
-/// Why a program has no code.
-#[derive(Debug, Drop)]
-pub enum CodeError {
-    /// Memory was refused, which says nothing of the program.
-    Memory,
-    /// Two names would be one in Rust, or a name is one that the code itself uses: a sentence that says which, without a
-    /// line's end.
-    Names(String),
-}
-
-impl From<AllocError> for CodeError {
-    fn from(_: AllocError) -> CodeError {
-        CodeError::Memory
-    }
-}
-
-impl<T: Drop> From<AllocFailed<T>> for CodeError {
-    fn from(_: AllocFailed<T>) -> CodeError {
-        CodeError::Memory
     }
 }

@@ -1,9 +1,9 @@
 //! What the code of a program is made of.
 
 use crate::lines::Lines;
-use crate::names::{push_name, push_path, push_quoted};
 use cranelift_isle::sema::{Term, Type, TypeEnv, TypeId};
 use cranelift_isle::syntax::Pos;
+use isle_rust_names::names::{push_name, push_path, push_quoted};
 use std::alloc::{AllocError, Global};
 
 /// A program: its names, types and terms, the lines of its files, and whether its results are logged.

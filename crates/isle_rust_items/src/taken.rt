@@ -1,271 +1,420 @@
 //! Names that can't be told apart in Rust.
 
-use crate::names::{push_constant, push_name, push_path};
+ghost use Rattle.std.specs.Prelude.{◌≡◌, ◌++◌, ◌∷◌, [], All, IfErr, IfOk, OnOk, map, option_map, string_bytes};
+ghost use Rattle.std.specs.List.{flat_map};
+ghost use Rattle.cranelift_isle.specs.TermViews.{constructor_view, extractor_view, kind_view as term_kind_view, term_view, term_views};
+ghost use Rattle.cranelift_isle.specs.Envs.{names_of};
+ghost use Rattle.cranelift_isle.specs.TypeViews.{field_view, fields_view, type_view, type_views, variant_view};
+ghost use Rattle.isle_rust_items.specs.NamedPrograms.{claim, constant_claim, constructor_claim, constructor_named, constructors_of, extractor_claim, field_claim, field_claims, field_kind, functions_of, functions_of_kind, identified, kind_as, kinds, kinds_inside, primitive, term_claim, type_claim, variant_claim, variant_fields, variant_kind};
+ghost use Rattle.isle_rust_items.specs.ProgramViews.{constant_or_none, constants_of, named_program};
+ghost use Rattle.isle_rust_names.specs.ClaimViews.{claim_views, is_own, kind_views};
+ghost use Rattle.isle_rust_names.specs.Claims.{IsWellNamed, TellsFirst};
+ghost use Rattle.isle_rust_names.specs.Faults.{TellsOf};
+
 use crate::options::CodeError;
 use crate::program::Program;
 use cranelift_isle::lower::LoweredTerm;
 use cranelift_isle::sema::{
-    ConstructorKind, ExtractorKind, Fields, StructField, Sym, Term, TermKind, Type, Variant,
+    ConstructorKind, ExtractorKind, Fields, StructField, Sym, Term, TermId, TermKind, Type,
+    TypeEnv, Variant,
 };
+use isle_rust_names::claims::{Claim, Kind, Own, check_kinds};
+use isle_rust_names::names::{push_constant, push_name, push_part, push_path};
 use std::alloc::{AllocError, Global};
-use std::collections::HashMap;
-
-// The names of one kind: what each is in Rust, and what has it.
-struct Kind {
-    alloc: Global,
-    what: &'static str,
-    owners: HashMap<String, String>,
-}
-
-impl Drop for Kind {
-    fn drop(self) {
-        let Kind {
-            alloc: _,
-            what: _,
-            owners: _,
-        } = self;
-    }
-}
-
-impl Kind {
-    // No names yet.
-    fn new(alloc: Global, what: &'static str) -> Kind {
-        Kind {
-            alloc,
-            what,
-            owners: HashMap::new(alloc),
-        }
-    }
-
-    // Notes an identifier, and what has it. The same may have it again.
-    fn claim(&mut self, name: &str, owner: &str) -> Result<(), CodeError> {
-        let mut written = String::new(self.alloc);
-        push_name(&mut written, name)?;
-        self.claim_written(written, owner)
-    }
-
-    // Notes a name as it is written, and what has it. The same may have it again.
-    fn claim_written(&mut self, written: String, owner: &str) -> Result<(), CodeError> {
-        if let Some(earlier) = self.owners.get(written.as_str()) {
-            return self.shared(earlier.as_str(), owner, &written);
-        }
-        let owner = String::from_str(self.alloc, owner)?;
-        self.owners.insert(written, owner)?;
-        Ok(())
-    }
-
-    // What comes of a name that something has already.
-    fn shared(&self, earlier: &str, owner: &str, written: &str) -> Result<(), CodeError> {
-        if earlier == owner {
-            return Ok(());
-        }
-        let what = self.what;
-        Err(CodeError::Names(format!(in self.alloc;
-            "{what} `{earlier}` and `{owner}` would both be `{written}` in Rust"
-        )?))
-    }
-}
 
 /// Looks for names that would fall together in Rust, or that the code itself uses.
-pub fn check_names(program: Program<'_>, terms: &[LoweredTerm]) -> Result<(), CodeError> {
-    check_types(program)?;
-    check_functions(program)?;
-    check_constants(program)?;
-    check_terms(program, terms)
+///
+/// # Errors
+///
+/// `Names` for the first thing of the first kind that can't have its name. The kinds are the types, the variants of each enum, the
+/// fields of each variant and struct, the functions of `Context`, the constants, and the terms with rules.
+pub fn check_names(program: Program<'_>, terms: &[LoweredTerm]) -> Result<(), CodeError>
+    ensures good { OnOk result (All IsWellNamed (kinds (named_program program.entry.tyenv.now program.entry.terms.now terms.now))) }
+    ensures wrong { IfErr result (λ e. TellsOf e (TellsFirst (kinds (named_program program.entry.tyenv.now program.entry.terms.now terms.now)))) }
+{
+    let kinds = kinds_of(program, terms)?;
+    check_kinds(program.alloc, &kinds)
 }
 
-// The names of types, and those of their variants and fields.
-fn check_types(program: Program<'_>) -> Result<(), CodeError> {
-    let mut kind = Kind::new(program.alloc, "the types");
-    for ty in &program.tyenv.types {
-        check_type(program, &mut kind, ty)?;
-    }
+// The kinds of a program's things, with how each thing is written.
+fn kinds_of(program: Program<'_>, lowered: &[LoweredTerm]) -> Result<Vec<Kind>, AllocError>
+    ensures { IfOk result (λ v. kind_views v.items ≡ kinds (named_program program.entry.tyenv.now program.entry.terms.now lowered.now)) }
+{
+    let Program {
+        alloc,
+        tyenv,
+        terms,
+        ..
+    } = program;
+    let types: &[Type] = &tyenv.types;
+    let of_types = type_claims(alloc, tyenv, types)?;
+    let functions = function_claims(alloc, tyenv, terms)?;
+    let constants = constant_claims(alloc, tyenv)?;
+    let with_rules = term_claims(alloc, tyenv, terms, lowered)?;
+    let mut kinds = Vec::new(alloc);
+    push_kind(&mut kinds, "the types", "type", Own::Types, of_types)?;
+    push_insides(alloc, tyenv, &mut kinds, types)?;
+    push_kind(
+        &mut kinds,
+        "the functions",
+        "function",
+        Own::Nothing,
+        functions,
+    )?;
+    push_kind(
+        &mut kinds,
+        "the constants",
+        "constant",
+        Own::Values,
+        constants,
+    )?;
+    push_kind(&mut kinds, "the terms", "term", Own::Nothing, with_rules)?;
+    Ok(kinds)
+}
+
+// Adds a kind.
+#[tactic(auto, using(crate::proofs::Grown::pushed_kind))]
+fn push_kind(
+    kinds: &mut Vec<Kind>,
+    what: &'static str,
+    one: &'static str,
+    own: Own,
+    claims: Vec<Claim>,
+) -> Result<(), AllocError>
+    ensures { OnOk result (kind_views kinds.new.items ≡ kind_views kinds.old.items ++ kind_as what.now one.now (is_own own) (claim_views claims.items) ∷ []) }
+{
+    kinds.push(Kind {
+        what,
+        one,
+        own,
+        claims,
+    })?;
     Ok(())
 }
 
-// The name of a type, and those of its variants and fields.
-fn check_type(program: Program<'_>, kind: &mut Kind, ty: &Type) -> Result<(), CodeError> {
+// The types, as things with names.
+fn type_claims(alloc: Global, tyenv: &TypeEnv, types: &[Type]) -> Result<Vec<Claim>, AllocError>
+    ensures { IfOk result (λ v. claim_views v.items ≡ flat_map (type_claim (names_of tyenv.now)) (type_views types.now)) }
+{
+    let mut claims = Vec::new(alloc);
+    for ty in types {
+        push_type(tyenv, &mut claims, ty)?;
+    }
+    Ok(claims)
+}
+
+// Adds a type, unless it is built in.
+fn push_type(tyenv: &TypeEnv, claims: &mut Vec<Claim>, ty: &Type) -> Result<(), AllocError>
+    ensures { OnOk result (claim_views claims.new.items ≡ claim_views claims.old.items ++ type_claim (names_of tyenv.now) (type_view ty.now)) }
+{
     match ty {
         Type::Builtin(_) => Ok(()),
-        Type::Primitive(_, name, _) => check_primitive(program, kind, *name),
-        Type::Enum { name, variants, .. } => {
-            check_type_name(program, kind, *name)?;
-            check_variants(program, variants)
-        }
-        Type::Struct { name, fields, .. } => {
-            check_type_name(program, kind, *name)?;
-            check_fields(program, fields)
-        }
+        Type::Primitive(_, name, _) => push_primitive(tyenv, claims, *name),
+        Type::Enum { name, .. } => push_identified(tyenv, claims, *name),
+        Type::Struct { name, .. } => push_identified(tyenv, claims, *name),
     }
 }
 
-// The name of a primitive type, which is told as one.
-fn check_primitive(program: Program<'_>, kind: &mut Kind, name: Sym) -> Result<(), CodeError> {
-    let name = program.tyenv.text_of(name);
-    if is_used_type(name) || is_used_value(name) {
-        return Err(taken(program.alloc, "type", name)?);
-    }
-    let owner = format!(in program.alloc; "primitive {name}")?;
-    let mut written = String::new(program.alloc);
+// Adds a primitive type, which is told as one.
+fn push_primitive(tyenv: &TypeEnv, claims: &mut Vec<Claim>, name: Sym) -> Result<(), AllocError>
+    ensures { OnOk result (claim_views claims.new.items ≡ claim_views claims.old.items ++ primitive (names_of tyenv.now) name.0 ∷ []) }
+{
+    let alloc = *claims.allocator();
+    let name = tyenv.text_of(name);
+    let mut written = String::new(alloc);
     push_path(&mut written, name)?;
-    kind.claim_written(written, &owner)
+    let owner = format!(in alloc; "primitive {name}")?;
+    push_claim(claims, written, &owner)
 }
 
-// The name of an enum or a struct, which may be that of a value too.
-fn check_type_name(program: Program<'_>, kind: &mut Kind, name: Sym) -> Result<(), CodeError> {
-    let name = program.tyenv.text_of(name);
-    if is_used_type(name) || is_used_value(name) {
-        return Err(taken(program.alloc, "type", name)?);
+// Adds what is written as an identifier.
+fn push_identified(tyenv: &TypeEnv, claims: &mut Vec<Claim>, name: Sym) -> Result<(), AllocError>
+    ensures { OnOk result (claim_views claims.new.items ≡ claim_views claims.old.items ++ identified (names_of tyenv.now) name.0 ∷ []) }
+{
+    let alloc = *claims.allocator();
+    let name = tyenv.text_of(name);
+    let mut written = String::new(alloc);
+    push_name(&mut written, name)?;
+    push_claim(claims, written, name)
+}
+
+// Adds a thing.
+#[tactic(auto, using(crate::proofs::Grown::pushed_claim))]
+fn push_claim(claims: &mut Vec<Claim>, written: String, owner: &str) -> Result<(), AllocError>
+    ensures { OnOk result (claim_views claims.new.items ≡ claim_views claims.old.items ++ claim (string_bytes written) owner.now ∷ []) }
+{
+    let owner = String::from_str(*claims.allocator(), owner)?;
+    claims.push(Claim { written, owner })?;
+    Ok(())
+}
+
+// Adds what is inside of each type: variants and fields.
+fn push_insides(
+    alloc: Global,
+    tyenv: &TypeEnv,
+    kinds: &mut Vec<Kind>,
+    types: &[Type],
+) -> Result<(), AllocError>
+    ensures { OnOk result (kind_views kinds.new.items ≡ kind_views kinds.old.items ++ flat_map (kinds_inside (names_of tyenv.now)) (type_views types.now)) }
+{
+    for ty in types {
+        push_inside(alloc, tyenv, kinds, ty)?;
     }
-    kind.claim(name, name)
+    Ok(())
 }
 
-// Whether a name is that of a type, a trait or a crate that the code uses.
-fn is_used_type(name: &str) -> bool {
-    matches!(
-        name,
-        "C" | "Context"
-            | "ContextIter"
-            | "IntoContextIter"
-            | "ContextIterWrapper"
-            | "ConstructorVec"
-            | "Length"
-            | "Option"
-            | "Default"
-            | "Extend"
-            | "isle_alloc"
-    )
+// Adds what is inside of a type.
+fn push_inside(
+    alloc: Global,
+    tyenv: &TypeEnv,
+    kinds: &mut Vec<Kind>,
+    ty: &Type,
+) -> Result<(), AllocError>
+    ensures { OnOk result (kind_views kinds.new.items ≡ kind_views kinds.old.items ++ kinds_inside (names_of tyenv.now) (type_view ty.now)) }
+{
+    match ty {
+        Type::Builtin(_) => Ok(()),
+        Type::Primitive(_, _, _) => Ok(()),
+        Type::Enum { variants, .. } => push_variants(alloc, tyenv, kinds, variants),
+        Type::Struct { fields, .. } => push_fields(alloc, tyenv, kinds, fields),
+    }
 }
 
-// That a name is one that the code itself uses.
-fn taken(alloc: Global, what: &str, name: &str) -> Result<CodeError, AllocError> {
-    Ok(CodeError::Names(format!(in alloc;
-        "the {what} `{name}` has a name that the code itself uses"
-    )?))
+// Adds the variants of an enum, and the fields of each.
+fn push_variants(
+    alloc: Global,
+    tyenv: &TypeEnv,
+    kinds: &mut Vec<Kind>,
+    variants: &[Variant],
+) -> Result<(), AllocError>
+    ensures { OnOk result (kind_views kinds.new.items ≡ kind_views kinds.old.items ++ (variant_kind (names_of tyenv.now) (map variant_view variants.now) ∷ map (variant_fields (names_of tyenv.now)) (map variant_view variants.now))) }
+{
+    let claims = variant_claims(alloc, tyenv, variants)?;
+    push_kind(kinds, "the variants", "variant", Own::Nothing, claims)?;
+    push_variant_fields(alloc, tyenv, kinds, variants)
 }
 
-// The names of the variants of an enum, and those of their fields.
-fn check_variants(program: Program<'_>, variants: &[Variant]) -> Result<(), CodeError> {
-    let mut kind = Kind::new(program.alloc, "the variants");
+// Adds the fields of each variant.
+fn push_variant_fields(
+    alloc: Global,
+    tyenv: &TypeEnv,
+    kinds: &mut Vec<Kind>,
+    variants: &[Variant],
+) -> Result<(), AllocError>
+    ensures { OnOk result (kind_views kinds.new.items ≡ kind_views kinds.old.items ++ map (variant_fields (names_of tyenv.now)) (map variant_view variants.now)) }
+{
     for variant in variants {
-        let name = program.tyenv.text_of(variant.name);
-        kind.claim(name, name)?;
-        check_fields(program, &variant.fields)?;
+        push_fields(alloc, tyenv, kinds, &variant.fields)?;
     }
     Ok(())
 }
 
-// The names of fields.
-fn check_fields(program: Program<'_>, fields: &Fields) -> Result<(), CodeError> {
+// The variants of an enum, as things with names.
+fn variant_claims(
+    alloc: Global,
+    tyenv: &TypeEnv,
+    variants: &[Variant],
+) -> Result<Vec<Claim>, AllocError>
+    ensures { IfOk result (λ v. claim_views v.items ≡ map (variant_claim (names_of tyenv.now)) (map variant_view variants.now)) }
+{
+    let mut claims = Vec::new(alloc);
+    for variant in variants {
+        push_identified(tyenv, &mut claims, variant.name)?;
+    }
+    Ok(claims)
+}
+
+// Adds the fields of a struct or of a variant.
+fn push_fields(
+    alloc: Global,
+    tyenv: &TypeEnv,
+    kinds: &mut Vec<Kind>,
+    fields: &Fields,
+) -> Result<(), AllocError>
+    ensures { OnOk result (kind_views kinds.new.items ≡ kind_views kinds.old.items ++ field_kind (names_of tyenv.now) (fields_view fields.now) ∷ []) }
+{
+    let claims = field_claims(alloc, tyenv, fields)?;
+    push_kind(kinds, "the fields", "field", Own::Nothing, claims)
+}
+
+// The fields with names, as things with names.
+fn field_claims(alloc: Global, tyenv: &TypeEnv, fields: &Fields) -> Result<Vec<Claim>, AllocError>
+    ensures { IfOk result (λ v. claim_views v.items ≡ field_claims (names_of tyenv.now) (fields_view fields.now)) }
+{
     match fields {
-        Fields::Struct(named) => check_named(program, &named.fields),
-        Fields::Unit | Fields::Tuple(_) => Ok(()),
+        Fields::Struct(named) => named_claims(alloc, tyenv, &named.fields),
+        Fields::Unit => Ok(Vec::new(alloc)),
+        Fields::Tuple(_) => Ok(Vec::new(alloc)),
     }
 }
 
-// The names of fields that have some.
-fn check_named(program: Program<'_>, fields: &[StructField]) -> Result<(), CodeError> {
-    let mut kind = Kind::new(program.alloc, "the fields");
+// The fields, as things with names.
+fn named_claims(
+    alloc: Global,
+    tyenv: &TypeEnv,
+    fields: &[StructField],
+) -> Result<Vec<Claim>, AllocError>
+    ensures { IfOk result (λ v. claim_views v.items ≡ map (field_claim (names_of tyenv.now)) (map field_view fields.now)) }
+{
+    let mut claims = Vec::new(alloc);
     for field in fields {
-        let name = program.tyenv.text_of(field.name);
-        kind.claim(name, name)?;
+        push_identified(tyenv, &mut claims, field.name)?;
     }
-    Ok(())
+    Ok(claims)
 }
 
-// The names of functions from outside.
-fn check_functions(program: Program<'_>) -> Result<(), CodeError> {
-    let mut kind = Kind::new(program.alloc, "the functions");
-    for term in program.terms {
-        check_function(program, &mut kind, extractor_of(term))?;
-        check_function(program, &mut kind, constructor_of(term))?;
+// The functions from outside, as things with names.
+fn function_claims(alloc: Global, tyenv: &TypeEnv, terms: &[Term]) -> Result<Vec<Claim>, AllocError>
+    ensures { IfOk result (λ v. claim_views v.items ≡ flat_map (functions_of (names_of tyenv.now)) (term_views terms.now)) }
+{
+    let mut claims = Vec::new(alloc);
+    for term in terms {
+        push_functions(tyenv, &mut claims, &term.kind)?;
     }
-    Ok(())
+    Ok(claims)
 }
 
-// The name of a function from outside, where there is one.
-fn check_function(
-    program: Program<'_>,
-    kind: &mut Kind,
-    name: Option<Sym>,
-) -> Result<(), CodeError> {
-    match name {
-        Some(name) => {
-            let name = program.tyenv.text_of(name);
-            kind.claim(name, name)
+// Adds the functions from outside of a term.
+fn push_functions(
+    tyenv: &TypeEnv,
+    claims: &mut Vec<Claim>,
+    kind: &TermKind,
+) -> Result<(), AllocError>
+    ensures { OnOk result (claim_views claims.new.items ≡ claim_views claims.old.items ++ functions_of_kind (names_of tyenv.now) (term_kind_view kind.now)) }
+{
+    match kind {
+        TermKind::EnumVariant { .. } => Ok(()),
+        TermKind::Struct => Ok(()),
+        TermKind::Decl {
+            constructor_kind,
+            extractor_kind,
+            ..
+        } => {
+            push_extractor(tyenv, claims, extractor_kind)?;
+            push_constructor(tyenv, claims, constructor_kind)
         }
+    }
+}
+
+// Adds the function that takes a term's values apart, where it comes from outside.
+fn push_extractor(
+    tyenv: &TypeEnv,
+    claims: &mut Vec<Claim>,
+    kind: &Option<ExtractorKind>,
+) -> Result<(), AllocError>
+    ensures { OnOk result (claim_views claims.new.items ≡ claim_views claims.old.items ++ extractor_claim (names_of tyenv.now) (option_map extractor_view kind.now)) }
+{
+    match kind {
+        Some(ExtractorKind::ExternalExtractor { name, .. }) => push_identified(
+            tyenv, claims, *name,
+        ),
+        Some(ExtractorKind::InternalExtractor { .. }) => Ok(()),
         None => Ok(()),
     }
 }
 
-// The function from outside that takes a term's values apart.
-fn extractor_of(term: &Term) -> Option<Sym> {
-    match &term.kind {
-        TermKind::Decl {
-            extractor_kind: Some(ExtractorKind::ExternalExtractor { name, .. }),
-            ..
-        } => Some(*name),
-        _ => None,
+// Adds the function that makes a term's values, where it comes from outside.
+fn push_constructor(
+    tyenv: &TypeEnv,
+    claims: &mut Vec<Claim>,
+    kind: &Option<ConstructorKind>,
+) -> Result<(), AllocError>
+    ensures { OnOk result (claim_views claims.new.items ≡ claim_views claims.old.items ++ constructor_claim (names_of tyenv.now) (option_map constructor_view kind.now)) }
+{
+    match kind {
+        Some(ConstructorKind::ExternalConstructor { name }) => push_identified(
+            tyenv, claims, *name,
+        ),
+        Some(ConstructorKind::InternalConstructor) => Ok(()),
+        None => Ok(()),
     }
 }
 
-// The function from outside that makes a term's values.
-fn constructor_of(term: &Term) -> Option<Sym> {
-    match &term.kind {
-        TermKind::Decl {
-            constructor_kind: Some(ConstructorKind::ExternalConstructor { name }),
-            ..
-        } => Some(*name),
-        _ => None,
+// The constants, as things with names.
+fn constant_claims(alloc: Global, tyenv: &TypeEnv) -> Result<Vec<Claim>, AllocError>
+    ensures { IfOk result (λ v. claim_views v.items ≡ map (constant_claim (names_of tyenv.now)) (constants_of tyenv.now)) }
+{
+    let mut claims = Vec::new(alloc);
+    for number in 0..tyenv.syms.len() {
+        push_if_constant(tyenv, &mut claims, Sym(number))?;
     }
+    Ok(claims)
 }
 
-// The names of constants.
-fn check_constants(program: Program<'_>) -> Result<(), CodeError> {
-    let mut kind = Kind::new(program.alloc, "the constants");
-    for (number, name) in program.tyenv.syms.iter().enumerate() {
-        if program.tyenv.const_types.contains_key(&Sym(number)) {
-            check_constant(program, &mut kind, name)?;
-        }
+// Adds what has a name, where it is a constant.
+fn push_if_constant(tyenv: &TypeEnv, claims: &mut Vec<Claim>, name: Sym) -> Result<(), AllocError>
+    ensures { OnOk result (claim_views claims.new.items ≡ claim_views claims.old.items ++ map (constant_claim (names_of tyenv.now)) (constant_or_none tyenv.now name.0)) }
+{
+    if !tyenv.const_types.contains_key(&name) {
+        return Ok(());
     }
-    Ok(())
+    push_constant_claim(tyenv, claims, name)
 }
 
-// The name of a constant.
-fn check_constant(program: Program<'_>, kind: &mut Kind, name: &str) -> Result<(), CodeError> {
-    if is_used_value(name) {
-        return Err(taken(program.alloc, "constant", name)?);
-    }
-    let mut written = String::new(program.alloc);
+// Adds a constant.
+fn push_constant_claim(
+    tyenv: &TypeEnv,
+    claims: &mut Vec<Claim>,
+    name: Sym,
+) -> Result<(), AllocError>
+    ensures { OnOk result (claim_views claims.new.items ≡ claim_views claims.old.items ++ constant_claim (names_of tyenv.now) name.0 ∷ []) }
+{
+    let alloc = *claims.allocator();
+    let name = tyenv.text_of(name);
+    let mut written = String::new(alloc);
     push_constant(&mut written, name)?;
-    kind.claim_written(written, name)
+    push_claim(claims, written, name)
 }
 
-// Whether a name is that of a variable of the code, or of a variant or a constant that it uses.
-fn is_used_value(name: &str) -> bool {
-    matches!(
-        name,
-        "ctx" | "returns" | "Some" | "None" | "MAX_ISLE_RETURNS"
-    ) || is_numbered(name, "v")
-        || is_numbered(name, "arg")
+// The functions of the terms with rules, as things with names.
+fn term_claims(
+    alloc: Global,
+    tyenv: &TypeEnv,
+    terms: &[Term],
+    lowered: &[LoweredTerm],
+) -> Result<Vec<Claim>, AllocError>
+    ensures { IfOk result (λ v. claim_views v.items ≡ flat_map (term_claim (names_of tyenv.now) (term_views terms.now)) (map (λ t. t.id.0) lowered.now)) }
+{
+    let mut claims = Vec::new(alloc);
+    for term in lowered {
+        push_lowered(tyenv, &mut claims, terms, term.id)?;
+    }
+    Ok(claims)
 }
 
-// Whether a name is this word and a number.
-fn is_numbered(name: &str, word: &str) -> bool {
-    match name.strip_prefix(word) {
-        Some(number) => !number.is_empty() && number.chars().all(|c| c.is_ascii_digit()),
-        None => false,
+// Adds the function of the term of an id, where there is the term.
+fn push_lowered(
+    tyenv: &TypeEnv,
+    claims: &mut Vec<Claim>,
+    terms: &[Term],
+    id: TermId,
+) -> Result<(), AllocError>
+    ensures { OnOk result (claim_views claims.new.items ≡ claim_views claims.old.items ++ term_claim (names_of tyenv.now) (term_views terms.now) id.0) }
+{
+    push_term(tyenv, claims, terms.get(id.index()))
+}
+
+// Adds the function of a term, where there is the term.
+fn push_term(
+    tyenv: &TypeEnv,
+    claims: &mut Vec<Claim>,
+    term: Option<&Term>,
+) -> Result<(), AllocError>
+    ensures { OnOk result (claim_views claims.new.items ≡ claim_views claims.old.items ++ constructors_of (names_of tyenv.now) (option_map (λ t. term_view t.now) term.entry)) }
+{
+    match term {
+        Some(term) => push_rules_of(tyenv, claims, term.name),
+        None => Ok(()),
     }
 }
 
-// The names of terms with rules.
-fn check_terms(program: Program<'_>, terms: &[LoweredTerm]) -> Result<(), CodeError> {
-    let mut kind = Kind::new(program.alloc, "the terms");
-    for lowered in terms {
-        if let Some(term) = program.terms.get(lowered.id.index()) {
-            let name = program.tyenv.text_of(term.name);
-            kind.claim(name, name)?;
-        }
-    }
-    Ok(())
+// Adds the function of the term of a name.
+fn push_rules_of(tyenv: &TypeEnv, claims: &mut Vec<Claim>, name: Sym) -> Result<(), AllocError>
+    ensures { OnOk result (claim_views claims.new.items ≡ claim_views claims.old.items ++ constructor_named (names_of tyenv.now) name.0 ∷ []) }
+{
+    let alloc = *claims.allocator();
+    let name = tyenv.text_of(name);
+    let mut written = String::from_str(alloc, "constructor_")?;
+    push_part(&mut written, name)?;
+    push_claim(claims, written, name)
 }

@@ -1,9 +1,9 @@
 //! The types that the code declares.
 
-use crate::names::push_name;
 use crate::program::{ALLOWED, Program};
 use cranelift_isle::sema::{Fields, StructField, Sym, TupleField, Type, Variant};
 use cranelift_isle::syntax::Pos;
+use isle_rust_names::names::push_name;
 use std::alloc::AllocError;
 
 /// Adds the enums and structs that aren't declared outside.

@@ -130,10 +130,10 @@ impl generated_code::Context for Ctx {
     fn renamed(&mut self, name: Name) -> Name {
         Name(name.0 + 1)
     }
-    fn labelled(&mut self, tree: &Tree) -> Option<(Name, Cond)> {
+    fn labelled(&mut self, tree: &Tree) -> (Name, Cond) {
         match tree {
-            Tree::Leaf { .. } => None,
-            Tree::Test { cond, reg } => Some((Name(reg.0), cond.clone())),
+            Tree::Leaf { reg } => (Name(reg.0), Cond::Ne),
+            Tree::Test { cond, reg } => (Name(reg.0), cond.clone()),
         }
     }
 }

@@ -55,8 +55,7 @@ fn code_begins_with_attributes_by_default() {
 #[test]
 fn an_overlap_names_both_rules() {
     let errors = errors_of("overlap.isle");
-    let help = "help: give one of the rules a greater priority, as (rule 1 ..), \
-        or make one pattern narrower";
+    let help = "help: of rules with the same pattern only one is ever taken: remove the others";
     assert_eq!(
         errors.errors,
         [Error {
@@ -64,7 +63,12 @@ fn an_overlap_names_both_rules() {
             message: "rules of the same priority match the same values".to_string(),
             places: vec![
                 place("overlap.isle", 3, 1, "rule `second` (priority 0)"),
-                place("overlap.isle", 2, 1, "overlaps rule `first` (priority 0)"),
+                place(
+                    "overlap.isle",
+                    2,
+                    1,
+                    "rule `first` (priority 0) has the same pattern",
+                ),
             ],
             notes: vec!["both match `(f 1)`".to_string(), help.to_string()],
         }]

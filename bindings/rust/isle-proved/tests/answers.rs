@@ -61,19 +61,18 @@ fn errors_for_a_person_and_in_a_line() {
  ::: a.isle:2:1
   |
 2 | (rule first (f 1) 10)
-  | --------------------- overlaps rule `first` (priority 0)
+  | --------------------- rule `first` (priority 0) has the same pattern
   |
   = note: both match `(f 1)`
-  = help: give one of the rules a greater priority, as (rule 1 ..), or make one pattern narrower
+  = help: of rules with the same pattern only one is ever taken: remove the others
 
 ";
     assert_eq!(lower(&OVERLAP, Options::default()), wrong(told));
     assert_eq!(check(&OVERLAP, Options::default()), wrong(told));
     assert_eq!(compile(&OVERLAP, Options::default()), wrong(told));
     let line = "b.isle:2:1: error[overlap]: rules of the same priority match the same values; \
-        overlaps rule `first` (priority 0) at a.isle:2:1; note: both match `(f 1)`; \
-        help: give one of the rules a greater priority, as (rule 1 ..), \
-        or make one pattern narrower\n";
+        rule `first` (priority 0) has the same pattern at a.isle:2:1; note: both match `(f 1)`; \
+        help: of rules with the same pattern only one is ever taken: remove the others\n";
     assert_eq!(lower(&OVERLAP, written(Format::Line)), wrong(line));
     assert_eq!(compile(&OVERLAP, written(Format::Line)), wrong(line));
 }

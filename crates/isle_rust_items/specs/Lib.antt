@@ -1,0 +1,2 @@
+pub mod NamedPrograms
+pub mod ProgramViews

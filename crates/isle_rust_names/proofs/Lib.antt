@@ -1,0 +1,6 @@
+mod GrownTexts
+mod HeldNames
+mod Segments
+mod Spellings
+mod Turns
+mod Variables

@@ -1,0 +1,6 @@
+pub mod RustNames
+pub mod OwnNames
+pub mod Claims
+pub mod Faults
+pub mod ClaimViews
+pub mod NameLaws
