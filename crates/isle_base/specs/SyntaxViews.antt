@@ -1,5 +1,5 @@
 -- What syntax trees say, without where their parts lie in memory: each as a tree of the model.
-use Rattle.std.specs.Prelude.{List, [], ◌∷◌, map, option_map, string_bytes}
+use Rattle.std.specs.Prelude.{List, [], ◌∷◌, None, Option, Some, map, option_map, string_bytes}
 use Rattle.model.specs.lists.Syntax.{Position, Name, PatternTree, var_pattern, bind_pattern, bool_pattern, int_pattern, prim_pattern, term_pattern, wildcard_pattern, and_pattern, macro_arg, PatternTrees, no_pattern, pattern_and, ExprTree, term_expr, var_expr, bool_expr, int_expr, prim_expr, let_expr, ExprTrees, no_expr, expr_and, LetTrees, no_let, let_and, FieldTree, TupleFieldTree, FieldTrees, unit_fields, struct_fields, tuple_fields, VariantTree, TypeValueTree, primitive_value, enum_value, struct_value, TypeTree, DeclTree, ExtractorTree, ConverterTree, IfLetTree, RuleTree, ExternTree, extern_constructor, extern_extractor, extern_const, Definition, type_definition, declaration, extractor_definition, converter_definition, rule_definition, extern_definition, other_definition}
 use Rattle.isle_base.specs.declared.syntax.Pos.{Pos}
 use Rattle.isle_base.specs.declared.syntax.Ident.{Ident}
@@ -133,3 +133,18 @@ definition_view D.Other = other_definition
 
 abbrev pub definition_views : List Def → List Definition
 definition_views ds = map definition_view ds
+
+-- where a definition stands. Any other one has no place.
+abbrev pub extern_place : ExternTree → Position
+extern_place (extern_constructor t f p) = p
+extern_place (extern_extractor t f p i) = p
+extern_place (extern_const n t p) = p
+
+abbrev pub definition_place : Definition → Option Position
+definition_place (type_definition t) = Some t.at
+definition_place (declaration d) = Some d.at
+definition_place (extractor_definition e) = Some e.at
+definition_place (converter_definition c) = Some c.at
+definition_place (rule_definition r) = Some r.at
+definition_place (extern_definition e) = Some (extern_place e)
+definition_place other_definition = None

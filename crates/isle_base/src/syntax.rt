@@ -12,7 +12,7 @@ ghost use Rattle.isle_base.specs.Patterns.{pattern_position};
 ghost use Rattle.model.specs.lists.TermTable.{root_name, template, templates};
 ghost use Rattle.model.specs.lists.Expansions.{substituted, all_substituted};
 ghost use Rattle.isle_base.specs.Places.{full_name_of, line_of, printed_line, single_end, term_view, HoldsBeginning};
-ghost use Rattle.isle_base.specs.SyntaxViews.{position, name_view, pattern_view, pattern_views, expr_view, expr_views, let_views};
+ghost use Rattle.isle_base.specs.SyntaxViews.{definition_place, definition_view, position, name_view, pattern_view, pattern_views, expr_view, expr_views, let_views};
 
 use std::alloc::{AllocError, AllocFailed, Global};
 
@@ -454,6 +454,27 @@ fn line_at(text: &str, offset: usize) -> usize
         }
     }
     line
+}
+
+impl Def {
+    /// Where a definition stands. Any other one has no place.
+    pub fn place(&self) -> Option<Pos>
+        ensures { option_map position result ≡ definition_place (definition_view self.now) }
+    {
+        match self {
+            Def::TypeDef(ty) => Some(ty.pos),
+            Def::Decl(decl) => Some(decl.pos),
+            Def::Extractor(extractor) => Some(extractor.pos),
+            Def::Converter(converter) => Some(converter.pos),
+            Def::Rule(rule) => Some(rule.pos),
+            Def::Extern(
+                Extern::Constructor { pos, .. }
+                | Extern::Extractor { pos, .. }
+                | Extern::Const { pos, .. },
+            ) => Some(*pos),
+            Def::Other => None,
+        }
+    }
 }
 
 impl Span {

@@ -1,11 +1,11 @@
 -- What the texts of a call are read as: each has definitions.
-use Rattle.std.proofs.Common.{◌≡◌, ℕ, ◌+◌, ◌==◌, Bool, false, List, [], ◌∷◌, refl, ap, ◌∙◌, subst, ◌&&◌, ◌||◌, is_some, length, Result, Ok, Err, IfOk}
+use Rattle.std.proofs.Common.{◌≡◌, ℕ, ◌+◌, ◌++◌, ◌==◌, Bool, false, List, [], ◌∷◌, refl, ap, ◌∙◌, subst, ◌&&◌, ◌||◌, is_some, length, Result, Ok, Err, IfOk}
 use Rattle.std.specs.declared.alloc.AllocError.{AllocError}
 use Rattle.cranelift_isle.specs.Syntax.{Definition}
 use Rattle.isle_command.specs.declared.reading.Reading.{Reading}
 use Rattle.isle_command.specs.declared.reading.Reading.TheVariants.{Defs, Unread}
 use Rattle.isle_command.specs.declared.words.Request.{Request}
-use Rattle.isle_command.specs.Readings.{has_no_definitions, is_comparison, none_without, AreOfText, AreOfTexts, IsReadingOf}
+use Rattle.isle_command.specs.Readings.{has_no_definitions, is_comparison, mistake_of_text, mistakes_of_texts, none_without, AreOfText, AreOfTexts, IsReadingOf}
 use Rattle.isle_capi.specs.declared.options.Asked.{Asked}
 use Rattle.isle_capi.specs.declared.options.Task.{Task}
 use Rattle.isle_capi.specs.declared.options.Task.TheVariants as A
@@ -28,9 +28,16 @@ same_definitions v w same [] number defs are = are
 same_definitions v w same (text ∷ texts) number defs are =
     (are.0, are.1, are.2, subst (λ b. AreOfText b number text are.0) (same number) are.3, same_definitions v w same texts (number + 1) are.1 are.4)
 
+same_mistakes : (v w : ℕ → Bool) → ((number : ℕ) → v number ≡ w number) → (texts : List (List ℕ)) (number : ℕ)
+    → mistakes_of_texts v number texts ≡ mistakes_of_texts w number texts
+same_mistakes v w same [] number = refl
+same_mistakes v w same (text ∷ texts) number =
+    ap (λ b. mistake_of_text b number text ++ mistakes_of_texts v (number + 1) texts) (same number)
+    ∙ ap (λ ms. mistake_of_text (w number) number text ++ ms) (same_mistakes v w same texts (number + 1))
+
 same_reading : (v w : ℕ → Bool) → ((number : ℕ) → v number ≡ w number) → (texts : List (List ℕ)) (reading : Reading) → IsReadingOf v texts reading → IsReadingOf w texts reading
 same_reading v w same texts (Defs defs) is = (same_definitions v w same texts 0 _ is.0, is.1)
-same_reading v w same texts (Unread reports) is = is
+same_reading v w same texts (Unread mistakes) is = (is.0, is.1 ∙ same_mistakes v w same texts 0, is.2)
 
 -- so they are read by the request for a call
 pub read_for_call : (asked : Asked) (request : Request) (texts : List (List ℕ)) (reading : Result Reading AllocError) → IsRequestOf asked request

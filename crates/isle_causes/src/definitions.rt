@@ -1,7 +1,6 @@
 //! Where the things that errors speak of are defined.
 
 use isle_base::syntax::{Decl, Def, Extern, Ident, Pos, Rule, Type, TypeValue, Variant};
-use isle_printing::places::position_of;
 
 /// The declaration of a term: the first, where there are several.
 pub fn declaration_of<'a>(defs: &'a [Def], term: &str) -> Option<&'a Decl> {
@@ -114,7 +113,7 @@ pub fn definition_around(defs: &[Def], pos: Pos) -> Option<&Def> {
     let mut found = None;
     let mut begin = 0;
     for def in defs {
-        if let Some(at) = position_of(def) {
+        if let Some(at) = def.place() {
             if at.file == pos.file && at.offset <= pos.offset && at.offset >= begin {
                 found = Some(def);
                 begin = at.offset;

@@ -3,7 +3,6 @@
 use crate::definitions::{definition_around, is_struct, root_of, variant_in};
 use crate::forms::subject_at;
 use isle_base::syntax::{Converter, Def, Extern, Fields, Pos, Rule, Type, TypeValue};
-use isle_printing::places::position_of;
 use std::alloc::{AllocError, Global};
 
 // How many other places are shown.
@@ -52,7 +51,7 @@ pub(crate) fn other_places(
     let around = definition_around(defs, pos);
     add_inside(&mut places, around, repeat, pos)?;
     let own = match around {
-        Some(def) => position_of(def).unwrap_or(pos),
+        Some(def) => def.place().unwrap_or(pos),
         None => pos,
     };
     for def in defs {

@@ -4,7 +4,6 @@ use crate::definitions::definition_around;
 use crate::order::{Order, place_of, words_of};
 use crate::terms::undefined_in;
 use isle_base::syntax::{Def, Error, Pos};
-use isle_printing::places::position_of;
 use isle_printing::report::Report;
 use std::alloc::{AllocError, Global};
 
@@ -75,9 +74,7 @@ fn users_of<'a>(
 
 // Whether a definition is among these, by its position.
 fn has(users: &[&Def], def: &Def) -> bool {
-    users
-        .iter()
-        .any(|user| position_of(user) == position_of(def))
+    users.iter().any(|user| user.place() == def.place())
 }
 
 // What definitions are called.

@@ -13,7 +13,7 @@ use Rattle.isle_command.specs.declared.words.Request.{Request}
 use Rattle.isle_command.specs.declared.words.Task.{Task}
 use Rattle.isle_command.specs.declared.words.Task.TheVariants as T
 use Rattle.isle_command.specs.Codes.{IsAnswerOfCode}
-use Rattle.isle_command.specs.TaskAnswers.{lowered_terms, IsAnswerBy, IsAnswerToBoth, IsAnswerToDefinitions, IsAnswerToReading, IsAnswerToTexts}
+use Rattle.isle_command.specs.TaskAnswers.{lowered_terms, IsAnswerBy, IsAnswerToBoth, IsAnswerToDefinitions, IsAnswerToReading, IsAnswerToTexts, IsPrintOfReading}
 use Rattle.isle_command.specs.Statuses.{may_fail, IsStatusFor, IsStatusOfReading, IsWritten}
 
 -- code is answered with the status 0, and that there is none with the status 1
@@ -34,6 +34,7 @@ status_of_task T.Stats asked terms answer done = inl done.0.0
 status_of_task T.Compare asked terms answer (inl done) = inl done.0.0
 status_of_task T.Compare asked terms answer (inr failed) = inr (failed.0, refl)
 status_of_task T.Diff asked terms answer done = inl done.0.0
+status_of_task T.Print asked terms answer done = inl done.0.0
 status_of_task T.Samples asked terms answer done = inl done.0.0
 status_of_task T.Run asked terms answer (inl done) = inl done.0.0
 status_of_task T.Run asked terms answer (inr failed) = inr (failed.0, refl)
@@ -66,7 +67,7 @@ status_of_answer asked (Defs defs) answer (inr refused) =
       done = λ none. absurd (omega (arith, refused.1.0, none));
       refused = λ _ _. refused.0;
     }
-status_of_answer asked (Unread reports) answer refused =
+status_of_answer asked (Unread mistakes) answer refused =
     record {
       known = omega (arith, refused.0.0);
       done = λ none. absurd (omega (arith, refused.0.0, none));
@@ -91,10 +92,17 @@ status_of_both Old New asked answer (inl (old, new, inl done)) = let e = done.0.
 status_of_both Old New asked answer (inl (old, new, inr different)) = let e = different.0 in omega (arith, e)
 status_of_both Old New asked answer (inr refused) = let e = refused.1.0 in omega (arith, e)
 
+-- and so has what is printed
+status_of_print : (asked : Request) (reading : Reading) (answer : Answer) → IsPrintOfReading asked reading answer → answer.status ≤ 1
+status_of_print asked (Defs defs) answer (inl done) = let e = done.1.0 in omega (arith, e)
+status_of_print asked (Defs defs) answer (inr refused) = let e = refused.1.0 in omega (arith, e)
+status_of_print asked (Unread mistakes) answer refused = let e = refused.0.0 in omega (arith, e)
+
 -- and so has what texts are answered
 status_of_texts : (asked : Request) (texts : List (List ℕ)) (answer : Answer) → IsAnswerToTexts asked texts answer → answer.status ≤ 1
-status_of_texts asked texts answer (inl one) = (status_of_answer asked one.1.0 answer one.1.2).known
-status_of_texts asked texts answer (inr two) = status_of_both _ _ asked answer two.1.4
+status_of_texts asked texts answer (inl one) = (status_of_answer asked one.2.0 answer one.2.2).known
+status_of_texts asked texts answer (inr (inl two)) = status_of_both _ _ asked answer two.1.4
+status_of_texts asked texts answer (inr (inr text)) = status_of_print asked text.1.0 answer text.1.2
 
 -- no answer that is written has the status 2, and none a greater one than 4
 pub texts_written : (asked : Request) (texts : List (List ℕ)) (answer : Result Answer AllocError) (status : ℕ)

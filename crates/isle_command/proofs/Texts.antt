@@ -17,3 +17,18 @@ same_texts [] [] h = refl
 same_texts (x ∷ xs) (y ∷ ys) h = ap (λ b. b ∷ map string_bytes ys) h.0 ∙ ap (λ bs. string_bytes x ∷ bs) (same_texts xs ys h.1)
 same_texts [] (y ∷ ys) h = absurd h
 same_texts (x ∷ xs) [] h = absurd h
+
+-- lists whose items agree place by place, with one item more each
+pub zip_more : {A B : Type 0} (R : A → B → Type 0) (xs : List A) (ys : List B) (x : A) (y : B)
+    → AllZip R xs ys → R x y → AllZip R (xs ++ x ∷ []) (ys ++ y ∷ [])
+zip_more R [] [] x y zip here = (here, tt)
+zip_more R [] (b ∷ ys) x y zip here = absurd zip
+zip_more R (a ∷ xs) [] x y zip here = absurd zip
+zip_more R (a ∷ xs) (b ∷ ys) x y zip here = (zip.0, zip_more R xs ys x y zip.1 here)
+
+-- neither is empty alone
+pub zip_some : {A B : Type 0} (R : A → B → Type 0) (xs : List A) (ys : List B) → AllZip R xs ys → xs ≢ [] → ys ≢ []
+zip_some R [] [] zip some = absurd (some refl)
+zip_some R [] (b ∷ ys) zip some = absurd zip
+zip_some R (a ∷ xs) [] zip some = absurd zip
+zip_some R (a ∷ xs) (b ∷ ys) zip some = grind arith

@@ -19,6 +19,7 @@ may_fail T.Explain asked = true
 may_fail T.Stats asked = false
 may_fail T.Compare asked = true
 may_fail T.Diff asked = false
+may_fail T.Print asked = false
 may_fail T.Samples asked = false
 may_fail T.Run asked = true
 may_fail T.Why asked = true

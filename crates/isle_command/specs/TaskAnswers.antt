@@ -1,5 +1,5 @@
 -- What the command answers to definitions, by what it is asked.
-use Rattle.std.specs.Prelude.{ℕ, ◌≡◌, ◌≢◌, ◌≤◌, ◌⊎◌, ◌||◌, ⊤, Bool, true, false, List, [], ◌∷◌, drop, is_none, is_some, length, map, string_bytes, take}
+use Rattle.std.specs.Prelude.{ℕ, ◌≡◌, ◌≢◌, ◌≤◌, ◌⊎◌, ◌||◌, ⊤, Bool, true, false, List, [], ◌∷◌, drop, is_none, is_some, length, map, None, Option, Some, string_bytes, take}
 use Rattle.cranelift_isle.specs.SyntaxViews.{definition_views}
 use Rattle.cranelift_isle.specs.Layers.{own_program, IsAccepted}
 use Rattle.cranelift_isle.specs.Elaborated.{TypedRules}
@@ -7,6 +7,10 @@ use Rattle.cranelift_isle.specs.Syntax.{Definition}
 use Rattle.cranelift_isle.specs.Program.{terms_with_rules}
 use Rattle.cranelift_isle.specs.declared.lower.Lowered.{Lowered}
 use Rattle.cranelift_isle.specs.Lowerings.{lowered_views, AreAccepted}
+use Rattle.isle_base.specs.declared.syntax.Pos.{Pos}
+use Rattle.isle_printing.specs.declared.report.Report.{Report}
+use Rattle.isle_writing.specs.Spellable.{first_unspelled}
+use Rattle.isle_writing.specs.Texts.{printed}
 use Rattle.isle_command.specs.declared.answers.Answer.{Answer}
 use Rattle.isle_command.specs.declared.code.Code.{Code}
 use Rattle.isle_command.specs.declared.reading.Reading.{Reading}
@@ -119,6 +123,7 @@ IsAnswerBy T.Explain asked terms answer = IsDoneWithText answer ⊎ IsFailed ans
 IsAnswerBy T.Stats asked terms answer = IsDoneWithText answer
 IsAnswerBy T.Compare asked terms answer = IsDoneWithoutText answer ⊎ IsFailed answer
 IsAnswerBy T.Diff asked terms answer = IsDoneWithoutText answer
+IsAnswerBy T.Print asked terms answer = IsDoneWithoutText answer
 IsAnswerBy T.Samples asked terms answer = IsDoneWithoutText answer
 IsAnswerBy T.Run asked terms answer = IsDoneWithText answer ⊎ IsFailed answer
 IsAnswerBy T.Why asked terms answer = IsDoneWithText answer ⊎ IsFailed answer
@@ -129,10 +134,10 @@ IsAnswerToDefinitions defs asked answer =
     ((rules : TypedRules) × IsAccepted defs asked.expand rules × IsAnswerBy asked.task asked (terms_with_rules (own_program defs rules)) answer)
     ⊎ ((AreAccepted defs asked.expand → ⊥) × IsRefusal asked answer)
 
--- what was read is answered: definitions, or reports of texts, which are told
+-- what was read is answered: definitions, or mistakes of texts, which are told
 abbrev pub IsAnswerToReading : Request → Reading → Answer → Type 0
 IsAnswerToReading asked (Defs defs) answer = IsAnswerToDefinitions (definition_views defs.items) asked answer
-IsAnswerToReading asked (Unread reports) answer = IsRefusal asked answer × (reports.items ≢ [] → HasReport asked.format answer)
+IsAnswerToReading asked (Unread mistakes) answer = IsRefusal asked answer × (mistakes.items ≢ [] → HasReport asked.format answer)
 
 -- texts are answered as something that they are read as
 abbrev pub IsAnswerToOneReading : Request → List (List ℕ) → Answer → Type 0
@@ -150,7 +155,31 @@ IsAnswerToVersions asked texts answer =
     × IsReadingOf (has_no_definitions asked) (drop asked.old texts) new
     × IsAnswerToBoth (IsAcceptedReading asked.expand old) (IsAcceptedReading asked.expand new) asked answer
 
--- texts are answered together, or as two versions where that is the task
+-- definitions are printed: their text, and nothing else, where all can be spelled; else it is told that one can't
+abbrev pub IsPrintOfDefinitions : List Definition → Request → Answer → Type 0
+IsPrintOfDefinitions defs asked answer =
+    ((first_unspelled defs ≡ None) × IsDone answer × (string_bytes answer.out ≡ printed defs))
+    ⊎ ((first_unspelled defs ≢ None) × IsRefusal asked answer × HasReport asked.format answer)
+
+-- what was read is printed: definitions, or mistakes of texts are told
+abbrev pub IsPrintOfReading : Request → Reading → Answer → Type 0
+IsPrintOfReading asked (Defs defs) answer = IsPrintOfDefinitions (definition_views defs.items) asked answer
+IsPrintOfReading asked (Unread mistakes) answer = IsRefusal asked answer × (mistakes.items ≢ [] → HasReport asked.format answer)
+
+-- texts are printed as something that they are read as
+abbrev pub IsPrintOfTexts : Request → List (List ℕ) → Answer → Type 0
+IsPrintOfTexts asked texts answer = (reading : Reading) × IsReadingOf (has_no_definitions asked) texts reading × IsPrintOfReading asked reading answer
+
+-- the places of a report, and where a definition is told of: nowhere if it has no place
+abbrev pub label_places : Report → List Pos
+label_places report = map (λ label. label.pos) report.labels.items
+
+abbrev pub places_of : Option Pos → List Pos
+places_of None = []
+places_of (Some place) = place ∷ []
+
+-- texts are answered together, or as two versions, or as one text of all their definitions, by the task
 abbrev pub IsAnswerToTexts : Request → List (List ℕ) → Answer → Type 0
 IsAnswerToTexts asked texts answer =
-    ((asked.task ≢ T.Diff) × IsAnswerToOneReading asked texts answer) ⊎ ((asked.task ≡ T.Diff) × IsAnswerToVersions asked texts answer)
+    ((asked.task ≢ T.Diff) × (asked.task ≢ T.Print) × IsAnswerToOneReading asked texts answer)
+    ⊎ (((asked.task ≡ T.Diff) × IsAnswerToVersions asked texts answer) ⊎ ((asked.task ≡ T.Print) × IsPrintOfTexts asked texts answer))

@@ -13,8 +13,10 @@ use crate::calls::{Told, ran, told_why};
 use crate::code::{Code, code_of_lowered};
 use crate::comparison::{difference, differences};
 use crate::graphs::graph_of;
+use crate::printing::printed_texts;
 use crate::progress::Teller;
 use crate::reading::{Reading, reading_of};
+use crate::unread::refusal_of_texts;
 use crate::versions::answer_to_versions;
 use crate::words::{Format, Request, Task};
 use cranelift_isle::lower::{Lowered, LoweredTerm, lower};
@@ -84,6 +86,10 @@ fn answer_to_files<E: Write>(
         let answer = answer_to_versions(alloc, asked, files, teller)?;
         return Ok(answer);
     }
+    if asked.task == Task::Print {
+        let answer = printed_texts(alloc, asked, files, teller)?;
+        return Ok(answer);
+    }
     let answer = answer_to_texts(alloc, asked, files, teller)?;
     Ok(answer)
 }
@@ -114,7 +120,7 @@ pub fn answer_to_reading<E: Write>(
 {
     match reading {
         Reading::Defs(defs) => answer_to_defs(alloc, asked, files, defs, teller),
-        Reading::Unread(reports) => refusal(alloc, asked, files, reports, 0),
+        Reading::Unread(mistakes) => refusal_of_texts(alloc, asked, files, mistakes),
     }
 }
 
@@ -222,8 +228,8 @@ fn answer_to_lowered<E: Write>(
             let warnings = warnings(alloc, defs, lowered, &asked.allowed)?;
             warned(alloc, asked, files, &warnings)
         }
-        // one list of definitions is no second version
-        Task::Samples | Task::Diff => Ok(accepted(alloc, String::new(alloc))),
+        // one list of definitions is no second version, and what is lowered isn't printed
+        Task::Samples | Task::Diff | Task::Print => Ok(accepted(alloc, String::new(alloc))),
         Task::Stats => counted(alloc, asked, lowered),
         Task::Compare => compared(alloc, asked, files, lowered, teller),
         Task::Run => answer_of_call(alloc, ran(alloc, asked, files, lowered)?),
@@ -289,8 +295,8 @@ fn explained(
     }
 }
 
-// The answer where nothing is wrong.
-fn accepted(alloc: Global, out: String) -> Answer
+/// The answer where nothing is wrong.
+pub(crate) fn accepted(alloc: Global, out: String) -> Answer
     ensures status { result.status ≡ 0 }
     ensures out { string_bytes result.out ≡ string_bytes out }
     ensures err { string_bytes result.err ≡ [] }

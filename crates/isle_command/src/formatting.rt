@@ -13,7 +13,7 @@ use isle_reader::errors::{ReadFault, TextError};
 use isle_unread::syntax_report;
 use std::alloc::{AllocError, Global};
 use std::fs::{self, File, OpenFile};
-use std::io::{self, Read, Write};
+use std::io::{self, ErrorKind, Read, Write};
 
 /// What `fmt` is asked.
 pub struct Formatting<'a> {
@@ -221,7 +221,23 @@ fn hand_over<R: std::rt::Files + AllocGlobal, O: Write, E: Write>(
     }
     match replace(rt, asked.folder, laid.name, laid.made) {
         Ok(()) => 0,
-        Err(_) => say(rt.alloc(), "isle: cannot write ", laid.name, 4, err),
+        Err(error) => cannot_write(rt.alloc(), laid.name, &error, err),
+    }
+}
+
+// Says that a file can't be written, and why.
+fn cannot_write<E: Write>(alloc: Global, name: &str, error: &io::Error, err: &mut E) -> u8
+    ensures { (result ≡ 4) ⊎ (result ≡ 3) }
+{
+    let why = match error.kind() {
+        ErrorKind::OutOfMemory => return no_memory(err),
+        ErrorKind::AlreadyExists => format!(in alloc; "{name}: {name}.isle-fmt is there already"),
+        ErrorKind::PermissionDenied => format!(in alloc; "{name}: no permission"),
+        _ => format!(in alloc; "{name}: {error}"),
+    };
+    match why {
+        Ok(why) => say(alloc, "isle: cannot write ", &why, 4, err),
+        Err(AllocError) => no_memory(err),
     }
 }
 
@@ -256,7 +272,7 @@ fn refusal(alloc: Global, name: &str, text: &str, error: TextError) -> Result<St
     files.names.push(String::from_str(alloc, name)?)?;
     files.texts.push(String::from_str(alloc, text)?)?;
     let mut reports = Vec::new(alloc);
-    reports.push(syntax_report(alloc, text, error)?)?;
+    reports.push(syntax_report(alloc, text, &error)?)?;
     let mut report = String::new(alloc);
     push_reports(&mut report, &files, &reports, Layout::Text)?;
     Ok(report)

@@ -6,6 +6,7 @@ pub(crate) const HELP: &str = "usage: isle TASK [OPTIONS] FILE..
 Reads ISLE text (docs/NOTATION.md) from files. The file - is standard input. All files together are one list of
 definitions. Tasks:
   lower FILE..           prints the tree of each term. Each return names its rule.
+  print FILE..           prints the definitions of all files as one text, each on a line. They need not be accepted.
   rust FILE..            prints the Rust code of the terms (docs/RUST-CODE.md)
   check FILE..           prints errors and warnings, and nothing else
   explain RULE FILE..    says what a rule demands and when it is taken. RULE is the name of a rule or of a term, a line

@@ -6,9 +6,10 @@ ghost use Rattle.cranelift_isle.specs.SyntaxViews.{definition_views};
 ghost use Rattle.isle_command.specs.Readings.{IsAcceptedReading};
 ghost use Rattle.isle_command.specs.TaskAnswers.{IsAnswerToBoth, IsAnswerToVersions, IsDifferent, IsDoneWithoutText};
 
-use crate::answers::{Answer, refusal, refused};
+use crate::answers::{Answer, refused};
 use crate::progress::Teller;
 use crate::reading::{Reading, reading_of};
+use crate::unread::refusal_of_texts;
 use crate::words::Request;
 use cranelift_isle::lower::lower;
 use cranelift_isle::syntax::{Def, Fault, Files};
@@ -89,8 +90,8 @@ fn answer_to_readings<E: Write>(
         (IsAcceptedReading asked.now.expand new.entry.reading.now) asked.now) }
 {
     match old.reading {
-        Reading::Unread(reports) => {
-            let answer = refusal(alloc, asked, old.files, reports, 0)?;
+        Reading::Unread(mistakes) => {
+            let answer = refusal_of_texts(alloc, asked, old.files, mistakes)?;
             Ok(answer)
         }
         Reading::Defs(defs) => {
@@ -146,8 +147,8 @@ fn answer_to_new_reading<E: Write>(
         (IsAcceptedReading asked.now.expand new.entry.reading.now) asked.now) }
 {
     match new.reading {
-        Reading::Unread(reports) => {
-            let answer = refusal(alloc, asked, new.files, reports, 0)?;
+        Reading::Unread(mistakes) => {
+            let answer = refusal_of_texts(alloc, asked, new.files, mistakes)?;
             Ok(answer)
         }
         Reading::Defs(defs) => {

@@ -27,6 +27,8 @@ pub enum Task {
     Compare,
     /// What changed between two versions of definitions.
     Diff,
+    /// The definitions of the files as one text.
+    Print,
     /// The names of the samples, or the trees of one.
     Samples,
     /// The outcome of a call of a term.
@@ -36,7 +38,7 @@ pub enum Task {
 }
 
 // All tasks.
-const TASKS: [Task; 10] = [
+const TASKS: [Task; 11] = [
     Task::Lower,
     Task::Rust,
     Task::Check,
@@ -44,6 +46,7 @@ const TASKS: [Task; 10] = [
     Task::Stats,
     Task::Compare,
     Task::Diff,
+    Task::Print,
     Task::Samples,
     Task::Run,
     Task::Why,
@@ -60,6 +63,7 @@ impl Task {
             Task::Stats => "stats",
             Task::Compare => "compare",
             Task::Diff => "diff",
+            Task::Print => "print",
             Task::Samples => "samples",
             Task::Run => "run",
             Task::Why => "why",

@@ -1,6 +1,6 @@
 //! How the places of errors are shown.
 
-use isle_base::syntax::{Def, Extern, Pos};
+use isle_base::syntax::{Def, Pos};
 use std::alloc::{AllocError, Global};
 
 /// How places are shown: two numbers with a colon between them.
@@ -131,25 +131,8 @@ fn definition_at(defs: &[Def], offset: usize) -> usize {
 
 // Whether a definition begins at an offset or before it. One that is passed over has no place.
 fn begins_by(def: &Def, offset: usize) -> bool {
-    match position_of(def) {
+    match def.place() {
         Some(pos) => pos.offset <= offset,
         None => false,
-    }
-}
-
-/// Where a definition begins. One that is passed over has no place.
-pub fn position_of(def: &Def) -> Option<Pos> {
-    match def {
-        Def::TypeDef(ty) => Some(ty.pos),
-        Def::Decl(decl) => Some(decl.pos),
-        Def::Extractor(extractor) => Some(extractor.pos),
-        Def::Converter(converter) => Some(converter.pos),
-        Def::Rule(rule) => Some(rule.pos),
-        Def::Extern(
-            Extern::Constructor { pos, .. }
-            | Extern::Extractor { pos, .. }
-            | Extern::Const { pos, .. },
-        ) => Some(*pos),
-        Def::Other => None,
     }
 }

@@ -18,7 +18,7 @@ use Rattle.isle_reader.specs.Views.{Fails}
 use Rattle.isle_reader.proofs.ReadLists.{fails-too}
 
 -- A is a tree, AS a list of such trees; one form is read as one tree, and forms as a list of trees
-abbrev AllIsEach : {A AS : Type 0} (and : A → AS → AS) (one : FormTree → Result A Wrong) (all : FormTrees → Result AS Wrong) → Type 0
+abbrev pub AllIsEach : {A AS : Type 0} (and : A → AS → AS) (one : FormTree → Result A Wrong) (all : FormTrees → Result AS Wrong) → Type 0
 AllIsEach and one all = (f : FormTree) (fs : FormTrees) → all (form_and f fs) ≡ (one f >>= (λ x. all fs >>= (λ xs. Ok (and x xs))))
 
 -- trees before others
@@ -52,13 +52,13 @@ parted and one all each forms n f inside at =
     ∙ each (form_view (get_or forms n f)) (all_view (drop (n + 1) forms))
     ∙ ap (λ x. one (form_view x) >>= (λ y. all (all_view (drop (n + 1) forms)) >>= (λ xs. Ok (and y xs)))) (sym at)
 
-begun : {X A AS : Type 0} (and : A → AS → AS) (view : X → A) (all : FormTrees → Result AS Wrong) (whole : Result AS Wrong) (forms : List Form) (count : ℕ) (read : List X)
+pub begun : {X A AS : Type 0} (and : A → AS → AS) (view : X → A) (all : FormTrees → Result AS Wrong) (whole : Result AS Wrong) (forms : List Form) (count : ℕ) (read : List X)
     → read ≡ [] → whole ≡ all (all_view (drop count forms)) → AreRead and view all whole forms count read
 begun and view all whole forms count read empty is =
     is ∙ same and view (all (all_view (drop count forms)))
     ∙ ap (λ xs. all (all_view (drop count forms)) >>= (λ rest. Ok (before and view xs rest))) (sym empty)
 
-put : {X A AS : Type 0} (and : A → AS → AS) (view : X → A) (one : FormTree → Result A Wrong) (all : FormTrees → Result AS Wrong) → AllIsEach and one all
+pub put : {X A AS : Type 0} (and : A → AS → AS) (view : X → A) (one : FormTree → Result A Wrong) (all : FormTrees → Result AS Wrong) → AllIsEach and one all
     → (whole : Result AS Wrong) (forms : List Form) (n : ℕ) (old new : List X) (f : Form) (x : X) → n < length forms → f ≡ get_or forms n f
     → one (form_view f) ≡ Ok (view x) → new ≡ old ++ x ∷ [] → AreRead and view all whole forms n old → AreRead and view all whole forms (n + 1) new
 put and view one all each whole forms n old new f x inside at is pushed so_far =
@@ -67,7 +67,7 @@ put and view one all each whole forms n old new f x inside at is pushed so_far =
     (parted and one all each forms n f inside at ∙ ap (λ r. r >>= (λ y. all (all_view (drop (n + 1) forms)) >>= (λ xs. Ok (and y xs)))) is)
     ∙ joined and view old new x (all (all_view (drop (n + 1) forms))) pushed
 
-failed : {X A AS : Type 0} (and : A → AS → AS) (view : X → A) (one : FormTree → Result A Wrong) (all : FormTrees → Result AS Wrong) → AllIsEach and one all
+pub failed : {X A AS : Type 0} (and : A → AS → AS) (view : X → A) (one : FormTree → Result A Wrong) (all : FormTrees → Result AS Wrong) → AllIsEach and one all
     → (whole : Result AS Wrong) (forms : List Form) (n : ℕ) (read : List X) (f : Form) (e : ReadFault) → n < length forms → f ≡ get_or forms n f
     → Fails e (one (form_view f)) → AreRead and view all whole forms n read → Fails e whole
 failed and view one all each whole forms n read f e inside at fails so_far =
@@ -76,7 +76,7 @@ failed and view one all each whole forms n read f e inside at fails so_far =
     ∙ ap (λ r. r >>= (λ rest. Ok (before and view read rest)))
     (parted and one all each forms n f inside at ∙ ap (λ r. r >>= (λ y. all (all_view (drop (n + 1) forms)) >>= (λ xs. Ok (and y xs)))) is))
 
-done : {X A AS : Type 0} (and : A → AS → AS) (view : X → A) (all : FormTrees → Result AS Wrong) (none : AS) (whole : Result AS Wrong) (forms : List Form) (n : ℕ) (read : List X)
+pub done : {X A AS : Type 0} (and : A → AS → AS) (view : X → A) (all : FormTrees → Result AS Wrong) (none : AS) (whole : Result AS Wrong) (forms : List Form) (n : ℕ) (read : List X)
     → all no_form ≡ Ok none → length forms ≤ n → AreRead and view all whole forms n read → whole ≡ Ok (before and view read none)
 done and view all none whole forms n read at_end past so_far =
     so_far

@@ -64,6 +64,26 @@ pub enum Mistake {
     Expression,
     /// Something other than a let's definitions.
     LetDefinitions,
+    /// Something other than a part of a spec.
+    SpecPart,
+    /// A part of a spec for the second time.
+    OtherSpecPart,
+    /// No value of a model.
+    ModelValue,
+    /// Something other than a type of a model.
+    ModelType,
+    /// No width of bit vectors.
+    Width,
+    /// Something other than a signature.
+    Signature,
+    /// Something other than an attribute.
+    Attribute,
+    /// Something other than what a state is.
+    StatePart,
+    /// No bits after `#x` or `#b`.
+    Bits,
+    /// Something other than two expressions in parentheses.
+    Case,
 }
 
 impl fmt::Display for Mistake {
@@ -95,6 +115,16 @@ impl fmt::Display for Mistake {
             Mistake::Statement => "(if-let PATTERN EXPRESSION) or (if EXPRESSION)",
             Mistake::Expression => "an expression",
             Mistake::LetDefinitions => "definitions ((NAME TYPE EXPRESSION) ..)",
+            Mistake::SpecPart => "(provide ..), (require ..), (match ..) or (modifies ..)",
+            Mistake::OtherSpecPart => "each part of a spec only once",
+            Mistake::ModelValue => "(type MODEL), (enum ..) or (const EXPRESSION)",
+            Mistake::ModelType => "Int, Bool, Unit, (bv), (bv WIDTH) or (named TYPE)",
+            Mistake::Width => "the width of bit vectors",
+            Mistake::Signature => "a signature ((args MODEL ..) (ret MODEL) (canon MODEL))",
+            Mistake::Attribute => "(tag NAME), (veri chain) or (veri priority)",
+            Mistake::StatePart => "(type MODEL) and (default EXPRESSION)",
+            Mistake::Bits => "#x with 1 to 32 digits, or #b with 1 to 128",
+            Mistake::Case => "a case (EXPRESSION EXPRESSION)",
         };
         f.write_str(expected)
     }

@@ -171,8 +171,8 @@ fn outermost_passes(stack: &[Open]) -> bool
     }
 }
 
-// Whether the parts of a list are those of a definition that is passed over.
-fn begins_passed_over(parts: &[Form]) -> bool
+/// Whether the parts of a list are those of a definition that is passed over.
+pub fn begins_passed_over(parts: &[Form]) -> bool
     ensures { result ≡ begins_passed_over (all_view parts.now) }
 {
     match parts {

@@ -7,17 +7,17 @@
 mod definitions;
 pub mod errors;
 mod expressions;
-mod forms;
+pub mod forms;
 pub mod heads;
 pub mod laws;
 pub mod lists;
-mod numbers;
-mod parts;
+pub mod numbers;
+pub mod parts;
 mod patterns;
 mod rules;
-mod source;
+pub mod source;
 mod terms;
-mod tokens;
+pub mod tokens;
 mod types;
 
 ghost use Rattle.std.specs.Prelude.{length, IfOk, List, MatchResult, Ok};

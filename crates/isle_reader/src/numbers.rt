@@ -83,8 +83,8 @@ fn are_digits(word: &[u8], radix: u32) -> bool
     last
 }
 
-// What a byte is as a digit, and 36 where it is none.
-fn digit_of(byte: u8) -> u32
+/// What a byte is as a digit, and 36 where it is none.
+pub fn digit_of(byte: u8) -> u32
     ensures { result ≡ digit_value byte }
 {
     match byte {
@@ -106,9 +106,9 @@ fn with_digit(size: u128, radix: u32, byte: u8) -> Option<u128>
     size.checked_add(u128::from(digit_of(byte)))
 }
 
-// The number that digits spell, if it has 128 bits.
+/// The number that digits spell, if it has 128 bits.
 #[tactic(auto, using(crate::proofs::Grown::grown_parts))]
-fn size_of(word: &[u8], radix: u32) -> Option<u128>
+pub fn size_of(word: &[u8], radix: u32) -> Option<u128>
     requires lower { 2 ≤ radix }
     requires upper { radix ≤ 16 }
     ensures { SomeIff result (digits_after radix 0 word.now < 2 ^ 128) (digits_after radix 0 word.now) }

@@ -310,8 +310,8 @@ fn begins_with_dash(word: &[u8]) -> bool
     }
 }
 
-// Whether a character may stand in a word, past its beginning.
-fn is_in_word(c: char) -> bool
+/// Whether a character may stand in a word, past its beginning.
+pub fn is_in_word(c: char) -> bool
     ensures { result ≡ is_in_word c }
 {
     !c.is_whitespace() && !matches!(c, '(' | ')' | ';' | '@')

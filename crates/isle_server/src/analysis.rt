@@ -68,7 +68,7 @@ fn read_text(
             Ok(())
         }
         Err(ReadFault::Text(error)) => {
-            reports.push(syntax_report(alloc, text, error)?)?;
+            reports.push(syntax_report(alloc, text, &error)?)?;
             Ok(())
         }
         Err(ReadFault::Memory(error)) => Err(error),

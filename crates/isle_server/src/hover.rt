@@ -245,7 +245,7 @@ fn defining_text(
 
 // A definition as it is written.
 fn defined_text(alloc: Global, analysis: &Analysis, def: &Def) -> Result<String, AllocError> {
-    match isle_printing::places::position_of(def) {
+    match def.place() {
         Some(pos) => form_code(alloc, analysis, pos),
         None => Ok(String::new(alloc)),
     }

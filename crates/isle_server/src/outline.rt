@@ -6,7 +6,6 @@ use cranelift_isle::syntax::{
     Decl, Def, Extern, Fields, Ident, Pos, Rule, StructFields, Type, TypeValue, Variant,
 };
 use isle_diagnostics::extents::end_of_form;
-use isle_printing::places::position_of;
 use serde_json::{Value, json};
 use std::alloc::{AllocError, Global};
 
@@ -58,7 +57,7 @@ pub fn outline_of(alloc: Global, analysis: &Analysis, file: usize) -> Result<Val
 
 // Whether a definition is one of a file.
 fn is_in(def: &Def, file: usize) -> bool {
-    match position_of(def) {
+    match def.place() {
         Some(pos) => pos.file == file,
         None => false,
     }

@@ -1,10 +1,14 @@
 //! The report of a text that can't be read.
 #![tactic(auto)]
 
+ghost use Rattle.std.specs.Prelude.{◌≡◌, ◌++◌, ◌∷◌, [], IfOk, List, OnOk};
+ghost use Rattle.isle_base.specs.declared.syntax.Pos.{Pos};
+ghost use Rattle.isle_unread.specs.Places.{AreAtError, IsAtError, begin_of, places_of};
+
 use isle_base::syntax::Pos;
 use isle_causes::misspelled::question_at;
 use isle_causes::unclosed::line_with_list;
-use isle_printing::report::{Level, Report};
+use isle_printing::report::{Label, Level, Note, Report};
 use isle_reader::errors::{Mistake, Problem, TextError};
 use std::alloc::{AllocError, Global};
 
@@ -14,17 +18,83 @@ use std::alloc::{AllocError, Global};
 /// # Errors
 ///
 /// Where memory is refused.
-pub fn syntax_report(alloc: Global, text: &str, error: TextError) -> Result<Report, AllocError> {
+pub fn syntax_report(alloc: Global, text: &str, error: &TextError) -> Result<Report, AllocError>
+    ensures { IfOk result (IsAtError error.now) }
+{
     let message = format!(in alloc; "{error}")?;
-    let mut report = Report::new(alloc, Level::Error, "syntax", message);
-    report.add_label(error.pos, String::new(alloc))?;
-    if let Problem::Unclosed(open) = &error.problem {
-        report.add_label(*open, String::from_str(alloc, "begins here")?)?;
-        add_next_line(alloc, &mut report, text, *open)?;
-    }
-    add_question(alloc, &mut report, text, &error)?;
-    Ok(report)
+    let labels = labels_of(alloc, text, error)?;
+    let notes = notes_of(alloc, text, error)?;
+    Ok(Report {
+        level: Level::Error,
+        kind: "syntax",
+        message,
+        labels,
+        notes,
+    })
 }
+
+// The places of what is wrong with a text.
+fn labels_of(alloc: Global, text: &str, error: &TextError) -> Result<Vec<Label>, AllocError>
+    ensures { IfOk result (λ labels. AreAtError error.now labels.items) }
+{
+    let mut labels = Vec::new(alloc);
+    push_label(alloc, &mut labels, error.pos, "")?;
+    push_begin(alloc, &mut labels, text, &error.problem)?;
+    Ok(labels)
+}
+
+// Adds where the list begins that isn't ended, and where the next form seems to begin.
+fn push_begin(
+    alloc: Global,
+    labels: &mut Vec<Label>,
+    text: &str,
+    problem: &Problem,
+) -> Result<(), AllocError>
+    ensures { OnOk result ((others : List Pos) × (places_of labels.new.items ≡ places_of labels.old.items ++ (begin_of problem.now ++ others))) }
+{
+    match problem {
+        Problem::Unclosed(begin) => {
+            push_label(alloc, labels, *begin, "begins here")?;
+            push_next_line(alloc, labels, text, *begin)
+        }
+        Problem::Expected(_) | Problem::UnknownDefinition(_) => Ok(()),
+    }
+}
+
+// Adds a place, with what it has to do with the report.
+fn push_label(
+    alloc: Global,
+    labels: &mut Vec<Label>,
+    pos: Pos,
+    text: &str,
+) -> Result<(), AllocError>
+    ensures { OnOk result (places_of labels.new.items ≡ places_of labels.old.items ++ pos ∷ []) }
+{
+    let text = String::from_str(alloc, text)?;
+    labels.push(Label { pos, text })?;
+    Ok(())
+}
+
+// Adds the line behind a list that isn't ended where the next form seems to begin.
+fn push_next_line(
+    alloc: Global,
+    labels: &mut Vec<Label>,
+    text: &str,
+    begin: Pos,
+) -> Result<(), AllocError>
+    ensures { OnOk result ((others : List Pos) × (places_of labels.new.items ≡ places_of labels.old.items ++ others)) }
+{
+    match line_with_list(text, begin.offset) {
+        Some(offset) => {
+            let file = begin.file;
+            push_label(alloc, labels, Pos { file, offset }, NEXT_LINE)
+        }
+        None => Ok(()),
+    }
+}
+
+// What is said of a line that begins with a list, inside a list that isn't ended.
+const NEXT_LINE: &str = "this line begins a new form: is a `)` missing before it?";
 
 // The words that may stand before a declaration's name.
 const FLAGS: [&str; 4] = ["pure", "multi", "partial", "rec"];
@@ -32,41 +102,17 @@ const FLAGS: [&str; 4] = ["pure", "multi", "partial", "rec"];
 // The words that a further condition of a rule may begin with.
 const STATEMENTS: [&str; 2] = ["if-let", "if"];
 
-// Adds the word that may be meant where one of a few is expected.
-fn add_question(
-    alloc: Global,
-    report: &mut Report,
-    text: &str,
-    error: &TextError,
-) -> Result<(), AllocError> {
+// The word that may be meant where one of a few is expected.
+fn notes_of(alloc: Global, text: &str, error: &TextError) -> Result<Vec<Note>, AllocError> {
     let offset = error.pos.offset;
     let question = match &error.problem {
         Problem::Expected(Mistake::Flag) => question_at(alloc, text, offset, &FLAGS)?,
         Problem::Expected(Mistake::Statement) => question_at(alloc, text, offset, &STATEMENTS)?,
         _ => None,
     };
-    match question {
-        Some(question) => report.add_note("help", question),
-        None => Ok(()),
+    let mut notes = Vec::new(alloc);
+    if let Some(text) = question {
+        notes.push(Note { word: "help", text })?;
     }
+    Ok(notes)
 }
-
-// Adds the line behind a list that isn't ended where the next form seems to begin.
-fn add_next_line(
-    alloc: Global,
-    report: &mut Report,
-    text: &str,
-    open: Pos,
-) -> Result<(), AllocError> {
-    let Some(offset) = line_with_list(text, open.offset) else {
-        return Ok(());
-    };
-    let pos = Pos {
-        file: open.file,
-        offset,
-    };
-    report.add_label(pos, String::from_str(alloc, NEXT_LINE)?)
-}
-
-// What is said of a line that begins with a list, inside a list that isn't ended.
-const NEXT_LINE: &str = "this line begins a new form: is a `)` missing before it?";

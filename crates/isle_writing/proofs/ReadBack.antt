@@ -15,7 +15,8 @@ use Rattle.isle_reader.specs.Definitions.{definition_of, definitions_of}
 use Rattle.isle_writing.specs.Placeless.{placeless_definition}
 use Rattle.isle_writing.specs.Forms.{form_of}
 use Rattle.isle_writing.specs.Texts.{printed}
-use Rattle.isle_writing.specs.Spellable.{can_be_spelled, definition_place, first_unspelled}
+use Rattle.isle_base.specs.SyntaxViews.{definition_place}
+use Rattle.isle_writing.specs.Spellable.{can_be_spelled, first_unspelled}
 use Rattle.isle_writing.specs.ReadsBack.{ReadsBack}
 use Rattle.isle_writing.proofs.Parts.{both}
 use Rattle.isle_writing.proofs.FormsRead.{definition_read}

@@ -4,6 +4,7 @@ use Rattle.std.specs.List.{list_all}
 use Rattle.std.specs.Char.{is_ascii_digit}
 use Rattle.std.specs.Str.{chars, is_utf8}
 use Rattle.model.specs.lists.Syntax.{Position, Name, PatternTree, var_pattern, bind_pattern, bool_pattern, int_pattern, prim_pattern, term_pattern, wildcard_pattern, and_pattern, macro_arg, PatternTrees, no_pattern, pattern_and, ExprTree, term_expr, var_expr, bool_expr, int_expr, prim_expr, let_expr, ExprTrees, no_expr, expr_and, LetTrees, no_let, let_and, FieldTree, TupleFieldTree, FieldTrees, unit_fields, struct_fields, tuple_fields, VariantTree, TypeValueTree, primitive_value, enum_value, struct_value, TypeTree, DeclTree, ExtractorTree, ConverterTree, IfLetTree, RuleTree, ExternTree, extern_constructor, extern_extractor, extern_const, Definition, type_definition, declaration, extractor_definition, converter_definition, rule_definition, extern_definition, other_definition}
+use Rattle.isle_base.specs.SyntaxViews.{definition_place}
 use Rattle.isle_reader.specs.Pieces.{is_in_word}
 use Rattle.isle_reader.specs.Grammar.{reads}
 use Rattle.isle_reader.specs.RuleGrammar.{is_signed_64}
@@ -194,21 +195,6 @@ can_be_spelled (converter_definition c) = converter_is_spellable c
 can_be_spelled (rule_definition r) = rule_is_spellable r
 can_be_spelled (extern_definition e) = extern_is_spellable e
 can_be_spelled other_definition = false
-
--- where a definition stands. Any other one has no place.
-abbrev pub extern_place : ExternTree → Position
-extern_place (extern_constructor t f p) = p
-extern_place (extern_extractor t f p i) = p
-extern_place (extern_const n t p) = p
-
-abbrev pub definition_place : Definition → Option Position
-definition_place (type_definition t) = Some t.at
-definition_place (declaration d) = Some d.at
-definition_place (extractor_definition e) = Some e.at
-definition_place (converter_definition c) = Some c.at
-definition_place (rule_definition r) = Some r.at
-definition_place (extern_definition e) = Some (extern_place e)
-definition_place other_definition = None
 
 -- where the first of some definitions stands that can't be spelled, if there is one
 abbrev pub first_unspelled : List Definition → Option (Option Position)

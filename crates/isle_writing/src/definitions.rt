@@ -3,7 +3,7 @@
 ghost use Rattle.std.specs.Prelude.{◌≡◌, ◌++◌, OnOk, option_map, string_bytes};
 ghost use Rattle.isle_base.specs.SyntaxViews.{definition_view, definition_views, position};
 ghost use Rattle.isle_writing.specs.Forms.{form_of};
-ghost use Rattle.isle_writing.specs.Spellable.{can_be_spelled, definition_place, first_unspelled};
+ghost use Rattle.isle_writing.specs.Spellable.{can_be_spelled, first_unspelled};
 ghost use Rattle.isle_writing.specs.Texts.{printed, written};
 
 use crate::rules::{push_rule, rule_is_spellable};
@@ -30,32 +30,13 @@ pub fn can_be_spelled(def: &Def) -> bool
     }
 }
 
-/// Where a definition stands. One for other tools keeps no place.
-pub fn place_of(def: &Def) -> Option<Pos>
-    ensures { option_map position result ≡ definition_place (definition_view def.now) }
-{
-    match def {
-        Def::TypeDef(ty) => Some(ty.pos),
-        Def::Decl(decl) => Some(decl.pos),
-        Def::Extractor(extractor) => Some(extractor.pos),
-        Def::Converter(converter) => Some(converter.pos),
-        Def::Rule(rule) => Some(rule.pos),
-        Def::Extern(
-            Extern::Constructor { pos, .. }
-            | Extern::Extractor { pos, .. }
-            | Extern::Const { pos, .. },
-        ) => Some(*pos),
-        Def::Other => None,
-    }
-}
-
 /// Where the first of some definitions stands that can't be spelled, if there is one.
 pub fn first_unspelled(defs: &[Def]) -> Option<Option<Pos>>
     ensures { option_map (option_map position) result ≡ first_unspelled (definition_views defs.now) }
 {
     for def in defs {
         if !can_be_spelled(def) {
-            return Some(place_of(def));
+            return Some(def.place());
         }
     }
     None

@@ -1,8 +1,8 @@
 //! Definitions as text: what `isle_reader` reads as the same definitions.
 //!
 //! Each definition stands on a line of its own, with one space between the parts of a list. Some definitions no text spells, and
-//! these aren't printed: a name that the notation takes for something else, a variant with fields of no number and another kind
-//! than none, a definition for other tools, whose list isn't kept.
+//! these aren't printed: with a name that the notation takes for something else, with a struct or a tuple that has no field, or for
+//! other tools, since their lists aren't kept.
 #![tactic(auto)]
 
 mod definitions;

@@ -8,6 +8,7 @@ ghost use Rattle.isle_reader.specs.Pieces.{is_in_word};
 ghost use Rattle.isle_writing.specs.Spellable.{are_words, begins_word, has_word_characters, is_constant_name, is_expr_head, is_expr_variable, is_pattern_head, is_pattern_variable, is_signed_128, is_some_text, is_truth, is_word};
 
 use isle_base::syntax::Ident;
+use isle_reader::tokens::is_in_word;
 
 /// Whether a name is written as a word.
 #[tactic(auto, unfolding(crate::specs::Spellable::is_word))]
@@ -119,11 +120,4 @@ fn are_in_word(text: &str) -> bool
     ensures { result ≡ list_all is_in_word (chars text.now) }
 {
     text.chars().all(|c| is_in_word(c))
-}
-
-// Whether a character may stand in a word, past its beginning.
-fn is_in_word(c: char) -> bool
-    ensures { result ≡ is_in_word c }
-{
-    !c.is_whitespace() && !matches!(c, '(' | ')' | ';' | '@')
 }
