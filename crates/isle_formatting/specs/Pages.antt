@@ -28,11 +28,11 @@ behind at (c ∷ cs) = behind (past at c) cs
 -- ---- the lists that are open at a place, the innermost first
 
 -- where a line in a list begins, by its head, the row of that and its second part: under the second part if that stands in the line of the first
--- word, else one column in; behind the definitions of a `let` two columns in; in a definition that is passed over four
+-- word, else one column in; in a `let` two columns in, so that its definitions, where they begin a line, stand no deeper than
+-- what follows them; in a definition that is passed over four
 abbrev pub column_in : (column : ℕ) → Kind → (row : ℕ) → Option Place → ℕ
 column_in column K.PassedOver row second = column + 4
-column_in column K.Let row None = column + 1
-column_in column K.Let row (Some part) = column + 2
+column_in column K.Let row second = column + 2
 column_in column K.Word row None = column + 1
 column_in column K.Word row (Some part) = if part.line == row then part.column else column + 1
 column_in column K.Other row second = column + 1

@@ -28,8 +28,8 @@ struct Page {
 /// Line breaks stay where they are, but at most one empty line stands between parts, and none at the beginning. Parts of one line
 /// have one space between them, but none after `(` and none before `)`. Before a comment that ends a line as many spaces stay,
 /// and at least one. A line begins under the second part of its list if that stands in the line of the list's first word, else
-/// one column in from the list's parenthesis; after the definitions of a `let` two columns in; in a definition that is passed
-/// over four columns in; and under the parenthesis of the list where it begins with `)`.
+/// one column in from the list's parenthesis; in a `let` two columns in; in a definition that is passed over four columns in; and
+/// under the parenthesis of the list where it begins with `)`.
 ///
 /// # Errors
 ///

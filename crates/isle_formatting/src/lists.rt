@@ -24,7 +24,7 @@ pub struct Place {
 enum Kind {
     // Lines begin under the second part, if it stands in the line of the first word.
     Word,
-    // Lines behind the definitions are two columns in.
+    // Lines are two columns in.
     Let,
     // Lines are four columns in: a definition that is passed over.
     PassedOver,
@@ -163,7 +163,7 @@ impl OpenList {
         };
         match (head.kind, self.second) {
             (Kind::PassedOver, _) => sum(self.column, 4),
-            (Kind::Let, Some(_)) => sum(self.column, 2),
+            (Kind::Let, _) => sum(self.column, 2),
             (Kind::Word, Some(second)) if second.line == head.line => Ok(second.column),
             _ => sum(self.column, 1),
         }

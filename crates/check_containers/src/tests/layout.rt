@@ -52,6 +52,34 @@ fn definitions(rt: HostRuntime) -> Result<(), Fail> {
 }
 
 #[test]
+fn lets(rt: HostRuntime) -> Result<(), Fail> {
+    expect_laid(
+        &rt,
+        rt.alloc(),
+        "(rule (f x)
+  (let
+  ;; a
+  ((y u8 x)
+  ;; b
+  (z u8 y))
+  (let ((w u8 y)
+  )
+  (g w z))))
+",
+        "(rule (f x)
+      (let
+        ;; a
+        ((y u8 x)
+         ;; b
+         (z u8 y))
+        (let ((w u8 y)
+             )
+          (g w z))))
+",
+    )
+}
+
+#[test]
 fn white_space(rt: HostRuntime) -> Result<(), Fail> {
     expect_laid(&rt, rt.alloc(), "", "")?;
     expect_laid(

@@ -38,63 +38,15 @@ fn expect_read_back(rt: &impl Abort, alloc: Global, text: &str) -> Result<(), Fa
     Ok(())
 }
 
-// The generated lists of 250 seeds from this one on, of one term and of two.
-fn expect_generated(rt: &impl Abort, alloc: Global, first: u64) -> Result<(), Fail> {
-    for seed in first..first.saturating_add(250) {
-        expect_read_back(rt, alloc, &one_term::list(alloc, seed)?)?;
-        expect_read_back(rt, alloc, &two_terms::list(alloc, seed)?)?;
+// The generated lists of 2,500 seeds, of one term and of two.
+#[test]
+fn generated_lists(rt: HostRuntime) -> Result<(), Fail> {
+    let alloc = rt.alloc();
+    for seed in 0..2500 {
+        expect_read_back(&rt, alloc, &one_term::list(alloc, seed)?)?;
+        expect_read_back(&rt, alloc, &two_terms::list(alloc, seed)?)?;
     }
     Ok(())
-}
-
-#[test]
-fn generated_first(rt: HostRuntime) -> Result<(), Fail> {
-    expect_generated(&rt, rt.alloc(), 0)
-}
-
-#[test]
-fn generated_second(rt: HostRuntime) -> Result<(), Fail> {
-    expect_generated(&rt, rt.alloc(), 250)
-}
-
-#[test]
-fn generated_third(rt: HostRuntime) -> Result<(), Fail> {
-    expect_generated(&rt, rt.alloc(), 500)
-}
-
-#[test]
-fn generated_fourth(rt: HostRuntime) -> Result<(), Fail> {
-    expect_generated(&rt, rt.alloc(), 750)
-}
-
-#[test]
-fn generated_fifth(rt: HostRuntime) -> Result<(), Fail> {
-    expect_generated(&rt, rt.alloc(), 1000)
-}
-
-#[test]
-fn generated_sixth(rt: HostRuntime) -> Result<(), Fail> {
-    expect_generated(&rt, rt.alloc(), 1250)
-}
-
-#[test]
-fn generated_seventh(rt: HostRuntime) -> Result<(), Fail> {
-    expect_generated(&rt, rt.alloc(), 1500)
-}
-
-#[test]
-fn generated_eighth(rt: HostRuntime) -> Result<(), Fail> {
-    expect_generated(&rt, rt.alloc(), 1750)
-}
-
-#[test]
-fn generated_ninth(rt: HostRuntime) -> Result<(), Fail> {
-    expect_generated(&rt, rt.alloc(), 2000)
-}
-
-#[test]
-fn generated_tenth(rt: HostRuntime) -> Result<(), Fail> {
-    expect_generated(&rt, rt.alloc(), 2250)
 }
 
 #[test]
