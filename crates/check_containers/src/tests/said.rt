@@ -1,0 +1,49 @@
+// What texts say for a verifier, printed.
+use isle_specs::syntax::VerificationForm;
+use isle_specs::verification;
+use isle_specs_writing::print;
+use std::alloc::Global;
+use std::process::Abort;
+use std::test::Fail;
+
+// The forms of a text for a verifier.
+fn forms_of(rt: &impl Abort, alloc: Global, text: &str) -> Result<Vec<VerificationForm>, Fail> {
+    let Ok(found) = verification(alloc, 0, text) else {
+        panic!(rt; "not read: {text}");
+    };
+    let mut forms = Vec::new(alloc);
+    for (_, form) in found {
+        forms.push(form)?;
+    }
+    Ok(forms)
+}
+
+// One form of each kind, as it is printed.
+const PRINTED: &str =
+    "(spec (iadd ty x y) (match (= ty 8)) (provide (= result (bvadd x (conv_to (widthof x) y))) true) (require (or (= ty -8) false)) (modifies memory) (modifies flags wanted))
+(spec (nothing) (provide ()))
+(model Type (type Int))
+(model Value (type (bv)))
+(model Wide (type (bv 64)))
+(model Same (type (named Value)))
+(model Size (enum One (Two #b0110101) (Four #x0f)))
+(model zero (const #x00))
+(form binary ((args (bv 8) (bv 8)) (ret (bv 8)) (canon (bv 8))) ((args) (ret Unit) (canon Bool)))
+(instantiate iadd binary)
+(instantiate isub ((args Int) (ret Bool) (canon Int)))
+(attr iadd (tag wide) (veri chain))
+(attr rule simple (veri priority))
+(state memory (type (bv 64)) (default (= memory #x0000000000000000)))
+(macro (double x) (switch x (0 0) ((f 1) (- x)) (_ (if (< x y) x (double! y)))))
+(macro (bound x) (let ((y (f x)) (z 1)) (with (a b) (as (g y z a b) (bv 8)))))
+(spec_macro (none) (match x ((Some y) y) ((None) 0)))
+(pragma)
+";
+
+#[test]
+fn forms_for_a_verifier_are_printed_as_they_were_read(rt: HostRuntime) -> Result<(), Fail> {
+    let alloc = rt.alloc();
+    let text = print(alloc, &forms_of(&rt, alloc, PRINTED)?)?;
+    assert!(&rt; text.as_str() == PRINTED, "{text}");
+    Ok(())
+}

@@ -1,0 +1,5 @@
+pub mod SpecViews
+mod ReadSpecs
+mod Numbered
+mod Tests
+pub mod Digits

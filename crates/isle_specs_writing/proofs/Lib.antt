@@ -1,0 +1,3 @@
+mod Tests
+mod DigitTexts
+mod TreesRead

@@ -1,0 +1,3 @@
+pub mod SpecForms
+pub mod PlacelessTrees
+pub mod SpellableTrees
