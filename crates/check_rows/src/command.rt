@@ -16,6 +16,7 @@ pub fn push_command(
     match asked_by(alloc, words, false) {
         Ok(Asked::Request(asked)) => push_answer(alloc, &asked, files, out),
         Ok(Asked::Formatting(_)) => out.push_str("fmt\n"),
+        Ok(Asked::Conditions(_)) => out.push_str("conditions\n"),
         Ok(Asked::Help) => out.push_str("help\n"),
         Ok(Asked::Version) => out.push_str("version\n"),
         Err(Unasked::Words(why)) => write!(out, "status 2\n{why}\n"),

@@ -23,6 +23,7 @@ definitions. Tasks:
                          says whether a rule is taken on a call, and why not. RULE is as in explain.
   fmt FILE..             lays out files, in place. The layout of - goes to standard output. --check only names the files
                          that would change.
+  conditions FILE..      prints questions for a solver: whether each rule gives what specs say (docs/VERIFYING.md)
   samples [NAME]         lists the built-in samples, or prints the tree of one
 Options:
   --terms NAME,..        lower, compare: only these terms
@@ -45,6 +46,8 @@ Options:
   --format dot           lower: prints each tree as a Graphviz graph
   --color WHEN           colours errors: always, never or auto. The default is auto. It colours them if standard error is a
                          terminal and NO_COLOR is not set.
+  --above                conditions: asks where no rule of greater priority matches
+  --rule RULE            conditions: only these rules. RULE is as in explain.
   --progress             shows each step on standard error. A terminal shows the current step without this option.
   -C FOLDER              looks for files in this folder
   --help, --version

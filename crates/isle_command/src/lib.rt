@@ -5,6 +5,7 @@ pub mod answers;
 mod calls;
 pub mod code;
 mod comparison;
+pub mod conditions;
 pub mod formatting;
 mod graphs;
 mod help;

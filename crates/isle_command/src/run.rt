@@ -6,6 +6,7 @@ ghost use Rattle.isle_command.specs.declared.words.Task.TheVariants.{Samples};
 ghost use Rattle.isle_command.specs.Statuses.{IsStatusFor, IsStatusOfUnread, IsWritten};
 
 use crate::answers::{Answer, answer_to};
+use crate::conditions::run_conditions;
 use crate::formatting::run_formatting;
 use crate::help::{HELP, VERSION};
 use crate::inputs::{Unread, read_files};
@@ -41,6 +42,7 @@ pub fn run<R: std::rt::Files + Env + AllocGlobal, I: Read + Drop, O: Write, E: W
         Ok(Asked::Help) => write_text(HELP, out, err),
         Ok(Asked::Version) => write_text(VERSION, out, err),
         Ok(Asked::Formatting(asked)) => run_formatting(rt, &asked, input, out, err),
+        Ok(Asked::Conditions(asked)) => run_conditions(rt, &asked, input, out, err),
         Ok(Asked::Request(asked)) => run_request(rt, &asked, input, terminal, out, err),
         Err(Unasked::Words(why)) => wrong_words(rt.alloc(), &why, err),
         Err(Unasked::Memory) => no_memory(err),

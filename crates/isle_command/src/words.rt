@@ -3,6 +3,7 @@
 ghost use Rattle.std.specs.Prelude.{◌≡◌};
 ghost use Rattle.isle_command.specs.Readings.{has_no_definitions};
 
+use crate::conditions::{Conditions, conditions_by};
 use crate::formatting::{Formatting, formatting_by};
 use isle_answers::samples::sample_text;
 use isle_printing::layout::Layout;
@@ -196,6 +197,8 @@ pub enum Asked<'a> {
     Version,
     /// Files in the usual layout.
     Formatting(Formatting<'a>),
+    /// Questions about rules for a solver.
+    Conditions(Conditions<'a>),
     /// Something else to be done.
     Request(Request<'a>),
 }
@@ -302,6 +305,9 @@ pub fn asked_by<'a>(
         None => match words {
             [task, rest @ ..] if task.as_str() == "fmt" => {
                 Ok(Asked::Formatting(formatting_by(alloc, rest)?))
+            }
+            [task, rest @ ..] if task.as_str() == "conditions" => {
+                Ok(Asked::Conditions(conditions_by(alloc, rest)?))
             }
             _ => Ok(Asked::Request(request_by(Given { alloc, colors }, words)?)),
         },

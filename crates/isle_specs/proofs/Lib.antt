@@ -1,0 +1,2 @@
+pub mod SpecViews
+mod ReadSpecs
