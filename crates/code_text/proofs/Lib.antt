@@ -11,3 +11,4 @@ mod Alike
 mod FlatWritable
 mod Parted
 mod Lexing
+pub mod Writing

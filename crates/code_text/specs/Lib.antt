@@ -10,3 +10,5 @@ pub mod Samples
 pub mod Alike
 pub mod Parted
 pub mod Lexing
+pub mod Writing
+pub mod ProgramNotation
