@@ -55,7 +55,7 @@ pub fn read_files<R: std::rt::Files + AllocGlobal, I: Read + Drop>(
 }
 
 /// The text of standard input where it is wanted, else the empty text.
-pub(crate) fn standard_text<I: Read + Drop>(
+pub fn standard_text<I: Read + Drop>(
     alloc: Global,
     wants: bool,
     mut input: I,
@@ -70,7 +70,7 @@ pub(crate) fn standard_text<I: Read + Drop>(
 }
 
 /// The text of a file.
-pub(crate) fn file_text<R: std::rt::Files + AllocGlobal>(
+pub fn file_text<R: std::rt::Files + AllocGlobal>(
     rt: &R,
     folder: &str,
     name: &str,

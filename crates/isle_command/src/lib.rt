@@ -8,7 +8,7 @@ mod comparison;
 pub mod formatting;
 mod graphs;
 mod help;
-mod inputs;
+pub mod inputs;
 mod printing;
 pub mod progress;
 pub mod reading;

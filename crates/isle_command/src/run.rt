@@ -133,8 +133,8 @@ fn write_both<O: Write, E: Write>(answer: &Answer, out: &mut O, err: &mut E) -> 
     end(err, &answer.err, answer.status)
 }
 
-// Says why files can't be read, and answers the status for it.
-pub(crate) fn cannot_read<E: Write>(alloc: Global, why: Unread, err: &mut E) -> u8
+/// Says why files can't be read, and answers the status for it.
+pub fn cannot_read<E: Write>(alloc: Global, why: Unread, err: &mut E) -> u8
     ensures { IsStatusOfUnread why result }
 {
     match why {

@@ -122,16 +122,16 @@ fn environments_as_written(
     }
 }
 
-// A document up to its parts.
-fn begun(alloc: Global) -> Result<Json, AllocError> {
+/// A document up to its parts.
+pub fn begun(alloc: Global) -> Result<Json, AllocError> {
     let mut json = Json::new(alloc);
     json.begin('{')?;
     json.key_number("schema", SCHEMA)?;
     Ok(json)
 }
 
-// The text of a document, with the line's end.
-fn ended(alloc: Global, json: Json) -> Result<String, AllocError>
+/// The text of a document, with the line's end.
+pub fn ended(alloc: Global, json: Json) -> Result<String, AllocError>
     ensures { IfOk result (λ text. string_bytes text ≢ []) }
 {
     let text = json.text();

@@ -7,7 +7,7 @@ use isle_printing::lines::{Line, file_name, file_text};
 use std::alloc::{AllocError, Global};
 
 /// Files, with where each of their lines begins: to count lines anew for each place takes the square of a file's length.
-pub(crate) struct Places<'a> {
+pub struct Places<'a> {
     files: &'a Files,
     // The offset at which each line of each file begins.
     begins: Vec<Vec<usize>>,
@@ -24,7 +24,7 @@ impl<'a> Drop for Places<'a> {
 
 impl<'a> Places<'a> {
     /// The places of some files.
-    pub(crate) fn new(alloc: Global, files: &'a Files) -> Result<Places<'a>, AllocError> {
+    pub fn new(alloc: Global, files: &'a Files) -> Result<Places<'a>, AllocError> {
         let mut begins = Vec::new(alloc);
         for text in &files.texts {
             begins.push(line_begins(alloc, text)?)?;
@@ -65,7 +65,7 @@ impl<'a> Places<'a> {
     }
 
     /// Adds a place: its file, its line, column and offset, and where the form ends that begins there.
-    pub(crate) fn push_place(&self, json: &mut Json, pos: Pos) -> Result<(), AllocError> {
+    pub fn push_place(&self, json: &mut Json, pos: Pos) -> Result<(), AllocError> {
         json.key_string("file", file_name(self.files, pos.file))?;
         self.push_point(json, pos.file, pos.offset)?;
         let end = end_of_form(file_text(self.files, pos.file), pos.offset);

@@ -7,13 +7,13 @@ use crate::site_types::types_of_sites;
 use crate::sites::push_sites;
 use crate::trees::Sources;
 use crate::typed_rules::TypedForms;
-use crate::variable_sites::KnownSites;
 use crate::writer::Json;
 use cranelift_isle::lower::LoweredTerm;
 use cranelift_isle::sema::TypeId;
 use cranelift_isle::trie_again::{BindingId, Rule, RuleSet};
 use isle_diagnostics::explanation::comes_first;
 use isle_diagnostics::names::Names;
+use isle_queries::variable_sites::KnownSites;
 use isle_queries::walk::steps;
 use std::alloc::{AllocError, Global};
 

@@ -2,13 +2,13 @@
 
 use crate::expressions::push_expr;
 use crate::patterns::{push_pattern, push_patterns};
-use crate::variable_sites::KnownSites;
 use crate::writer::Json;
 use cranelift_isle::environments::Environments;
 use cranelift_isle::lower::Lowered;
 use cranelift_isle::sema::{BoundVar, IfLet, Rule, RuleId};
 use cranelift_isle::trie_again::BindingId;
 use isle_diagnostics::names::Names;
+use isle_queries::variable_sites::KnownSites;
 use std::alloc::AllocError;
 
 // The rules of definitions, typed.

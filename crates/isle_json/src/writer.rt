@@ -3,7 +3,7 @@
 use std::alloc::{AllocError, Global};
 
 /// JSON that is being written.
-pub(crate) struct Json {
+pub struct Json {
     // The text so far.
     out: String,
     // Whether a comma is wanted before the next value.
@@ -18,7 +18,7 @@ impl Drop for Json {
 
 impl Json {
     /// Nothing yet.
-    pub(crate) fn new(alloc: Global) -> Json {
+    pub fn new(alloc: Global) -> Json {
         Json {
             out: String::new(alloc),
             comma: false,
@@ -26,38 +26,38 @@ impl Json {
     }
 
     /// The text.
-    pub(crate) fn text(&self) -> &str {
+    pub fn text(&self) -> &str {
         self.out.as_str()
     }
 
     /// Begins an object or a list, by its parenthesis.
-    pub(crate) fn begin(&mut self, left: char) -> Result<(), AllocError> {
+    pub fn begin(&mut self, left: char) -> Result<(), AllocError> {
         self.separate()?;
         self.comma = false;
         self.out.push(left)
     }
 
     /// Ends an object or a list, by its parenthesis.
-    pub(crate) fn end(&mut self, right: char) -> Result<(), AllocError> {
+    pub fn end(&mut self, right: char) -> Result<(), AllocError> {
         self.comma = true;
         self.out.push(right)
     }
 
     /// A key of an object, whose value comes next.
-    pub(crate) fn key(&mut self, name: &str) -> Result<(), AllocError> {
+    pub fn key(&mut self, name: &str) -> Result<(), AllocError> {
         self.string(name)?;
         self.comma = false;
         self.out.push(':')
     }
 
     /// A key of an object with a list or an object that begins, by its parenthesis.
-    pub(crate) fn begin_at(&mut self, name: &str, left: char) -> Result<(), AllocError> {
+    pub fn begin_at(&mut self, name: &str, left: char) -> Result<(), AllocError> {
         self.key(name)?;
         self.begin(left)
     }
 
     /// A string.
-    pub(crate) fn string(&mut self, text: &str) -> Result<(), AllocError> {
+    pub fn string(&mut self, text: &str) -> Result<(), AllocError> {
         self.separate()?;
         self.out.push('"')?;
         for c in text.chars() {
@@ -67,52 +67,52 @@ impl Json {
     }
 
     /// A number.
-    pub(crate) fn number(&mut self, number: usize) -> Result<(), AllocError> {
+    pub fn number(&mut self, number: usize) -> Result<(), AllocError> {
         self.separate()?;
         write!(self.out, "{number}")
     }
 
     /// A key with a string.
-    pub(crate) fn key_string(&mut self, name: &str, text: &str) -> Result<(), AllocError> {
+    pub fn key_string(&mut self, name: &str, text: &str) -> Result<(), AllocError> {
         self.key(name)?;
         self.string(text)
     }
 
     /// A key with a number.
-    pub(crate) fn key_number(&mut self, name: &str, number: usize) -> Result<(), AllocError> {
+    pub fn key_number(&mut self, name: &str, number: usize) -> Result<(), AllocError> {
         self.key(name)?;
         self.number(number)
     }
 
     /// A key with a number that may be below 0.
-    pub(crate) fn key_integer(&mut self, name: &str, number: i64) -> Result<(), AllocError> {
+    pub fn key_integer(&mut self, name: &str, number: i64) -> Result<(), AllocError> {
         self.key(name)?;
         self.comma = true;
         write!(self.out, "{number}")
     }
 
     /// A key with a string of a number's digits, which may be more than a reader's numbers have.
-    pub(crate) fn key_digits(&mut self, name: &str, number: i128) -> Result<(), AllocError> {
+    pub fn key_digits(&mut self, name: &str, number: i128) -> Result<(), AllocError> {
         self.key(name)?;
         self.comma = true;
         write!(self.out, "\"{number}\"")
     }
 
     /// A key with a truth value.
-    pub(crate) fn key_flag(&mut self, name: &str, flag: bool) -> Result<(), AllocError> {
+    pub fn key_flag(&mut self, name: &str, flag: bool) -> Result<(), AllocError> {
         self.key(name)?;
         self.comma = true;
         self.out.push_str(if flag { "true" } else { "false" })
     }
 
     /// A key with `null`.
-    pub(crate) fn key_null(&mut self, name: &str) -> Result<(), AllocError> {
+    pub fn key_null(&mut self, name: &str) -> Result<(), AllocError> {
         self.key(name)?;
         self.null()
     }
 
     /// `null`.
-    pub(crate) fn null(&mut self) -> Result<(), AllocError> {
+    pub fn null(&mut self) -> Result<(), AllocError> {
         self.separate()?;
         self.out.push_str("null")
     }

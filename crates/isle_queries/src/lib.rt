@@ -1,5 +1,5 @@
-//! Questions of what `lower` answers: names by id, the rule behind a return, what stands in place, texts, and a walk over a
-//! tree.
+//! Questions of what `lower` answers: names by id, the rule behind a return, what stands in place, texts, the sites of a
+//! rule's variables, and a walk over a tree.
 #![tactic(auto)]
 
 pub mod in_place;
@@ -8,4 +8,5 @@ pub mod positions;
 pub mod premises;
 pub mod rules;
 pub mod texts;
+pub mod variable_sites;
 pub mod walk;

@@ -6,7 +6,7 @@ use std::alloc::{AllocError, Global};
 use std::collections::HashMap;
 
 /// The sites of a term's rules, by what they stand for.
-pub(crate) struct KnownSites<'a> {
+pub struct KnownSites<'a> {
     alloc: Global,
     // The terms, by their ids.
     terms: &'a [Term],
@@ -69,7 +69,7 @@ impl Found {
 
 impl<'a> KnownSites<'a> {
     /// These sites.
-    pub(crate) fn new(
+    pub fn new(
         alloc: Global,
         terms: &'a [Term],
         bindings: &[Binding],
@@ -88,7 +88,7 @@ impl<'a> KnownSites<'a> {
     }
 
     /// The site of each variable of a rule that these sites come from, by the variables' ids. None where no site is its value.
-    pub(crate) fn of_rule(&self, rule: &Rule) -> Result<Vec<Option<BindingId>>, AllocError> {
+    pub fn of_rule(&self, rule: &Rule) -> Result<Vec<Option<BindingId>>, AllocError> {
         let mut sites = Vec::new(self.alloc);
         for _ in &rule.vars {
             sites.push(None)?;
