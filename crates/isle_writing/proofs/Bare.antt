@@ -32,10 +32,10 @@ abbrev mutual
   all_bare no_form = no_form
   all_bare (form_and f fs) = form_and (bare f) (all_bare fs)
 
-abbrev bare_list : Listed → Listed
+abbrev pub bare_list : Listed → Listed
 bare_list l = listed (all_bare l.parts) nowhere nowhere
 
-abbrev bare_complaint : Complaint → Complaint
+abbrev pub bare_complaint : Complaint → Complaint
 bare_complaint (expected m) = expected m
 bare_complaint (unclosed p) = unclosed nowhere
 bare_complaint (unknown w) = unknown w
@@ -45,65 +45,65 @@ bared g (Ok x) = Ok (g x)
 bared g (Err w) = Err (bare_complaint w.0, nowhere)
 
 -- one step after another
-both : {A B C D : Type 0} (g : A → C) (h : B → D) (r : Result A Wrong) (s : Result C Wrong) (k : A → Result B Wrong) (m : C → Result D Wrong)
+pub both : {A B C D : Type 0} (g : A → C) (h : B → D) (r : Result A Wrong) (s : Result C Wrong) (k : A → Result B Wrong) (m : C → Result D Wrong)
     → bared g r ≡ s → ((x : A) → bared h (k x) ≡ m (g x)) → bared h (r >>= k) ≡ (s >>= m)
 both g h (Ok x) s k m e f = f x ∙ ap (λ t. t >>= m) e
 both g h (Err w) s k m e f = ap (λ t. t >>= m) e
 
 -- by a test
-either : {A B : Type 0} (g : A → B) (c : Bool) (r s : Result A Wrong) (t u : Result B Wrong) → bared g r ≡ t → bared g s ≡ u
+pub either : {A B : Type 0} (g : A → B) (c : Bool) (r s : Result A Wrong) (t u : Result B Wrong) → bared g r ≡ t → bared g s ≡ u
     → bared g (if c then r else s) ≡ (if c then t else u)
 either g true r s t u e f = e
 either g false r s t u e f = f
 
-apply_if : {A B : Type 0} (g : A → B) (c : Bool) (x y : A) → g (if c then x else y) ≡ (if c then g x else g y)
+pub apply_if : {A B : Type 0} (g : A → B) (c : Bool) (x y : A) → g (if c then x else y) ≡ (if c then g x else g y)
 apply_if g true x y = refl
 apply_if g false x y = refl
 
 -- ---- parts of lists
 
-name_bare : (f : FormTree) → bared placeless_name (name_of f) ≡ name_of (bare f)
+pub name_bare : (f : FormTree) → bared placeless_name (name_of f) ≡ name_of (bare f)
 name_bare (a_word n) = refl
 name_bare (a_number z p) = refl
 name_bare (a_constant n p) = refl
 name_bare (a_binding n f) = refl
 name_bare (a_list fs p e) = refl
 
-each_bare : {A B : Type 0} (g : A → B) (one : FormTree → Result A Wrong) (other : FormTree → Result B Wrong) → ((f : FormTree) → bared g (one f) ≡ other (bare f))
+pub each_bare : {A B : Type 0} (g : A → B) (one : FormTree → Result A Wrong) (other : FormTree → Result B Wrong) → ((f : FormTree) → bared g (one f) ≡ other (bare f))
     → (fs : FormTrees) → bared (map g) (each_of one fs) ≡ each_of other (all_bare fs)
 each_bare g one other same no_form = refl
 each_bare g one other same (form_and f fs) =
     both g (map g) (one f) (other (bare f)) _ _ (same f)
     (λ x. both (map g) (map g) (each_of one fs) (each_of other (all_bare fs)) _ _ (each_bare g one other same fs) (λ xs. refl))
 
-names_bare : (fs : FormTrees) → bared (map placeless_name) (names_of fs) ≡ names_of (all_bare fs)
+pub names_bare : (fs : FormTrees) → bared (map placeless_name) (names_of fs) ≡ names_of (all_bare fs)
 names_bare fs = each_bare placeless_name name_of name_of name_bare fs
 
-list_bare : (m : Mistake) (f : FormTree) → bared bare_list (list_of m f) ≡ list_of m (bare f)
+pub list_bare : (m : Mistake) (f : FormTree) → bared bare_list (list_of m f) ≡ list_of m (bare f)
 list_bare m (a_word n) = refl
 list_bare m (a_number z p) = refl
 list_bare m (a_constant n p) = refl
 list_bare m (a_binding n f) = refl
 list_bare m (a_list fs p e) = refl
 
-abbrev bare_next : FormTree × Listed → FormTree × Listed
+abbrev pub bare_next : FormTree × Listed → FormTree × Listed
 bare_next s = (bare s.0, bare_list s.1)
 
-next_bare : (m : Mistake) (l : Listed) → bared bare_next (next_of m l) ≡ next_of m (bare_list l)
+pub next_bare : (m : Mistake) (l : Listed) → bared bare_next (next_of m l) ≡ next_of m (bare_list l)
 next_bare m l = by l.parts
   where
     by : (fs : FormTrees) → bared bare_next (next_in m fs l.at l.ends) ≡ next_in m (all_bare fs) nowhere nowhere
     by no_form = refl
     by (form_and f fs) = refl
 
-abbrev bare_named : Name × Listed → Name × Listed
+abbrev pub bare_named : Name × Listed → Name × Listed
 bare_named s = (placeless_name s.0, bare_list s.1)
 
-next_name_bare : (l : Listed) → bared bare_named (next_name_of l) ≡ next_name_of (bare_list l)
+pub next_name_bare : (l : Listed) → bared bare_named (next_name_of l) ≡ next_name_of (bare_list l)
 next_name_bare l = both bare_next bare_named (next_of M.Name l) (next_of M.Name (bare_list l)) _ _ (next_bare M.Name l)
     (λ s. both placeless_name bare_named (name_of s.0) (name_of (bare s.0)) _ _ (name_bare s.0) (λ n. refl))
 
-head_bare : (fs : FormTrees) (ends : Position) → bared placeless_name (head_of fs ends) ≡ head_of (all_bare fs) nowhere
+pub head_bare : (fs : FormTrees) (ends : Position) → bared placeless_name (head_of fs ends) ≡ head_of (all_bare fs) nowhere
 head_bare no_form ends = refl
 head_bare (form_and f fs) ends = name_bare f
 
@@ -114,7 +114,7 @@ word_bare m at (a_constant n p) = refl
 word_bare m at (a_binding n f) = refl
 word_bare m at (a_list fs p e) = refl
 
-headed_bare : (m : Mistake) (f : FormTree) → bared bare_named (headed_of m f) ≡ headed_of m (bare f)
+pub headed_bare : (m : Mistake) (f : FormTree) → bared bare_named (headed_of m f) ≡ headed_of m (bare f)
 headed_bare m f = both bare_list bare_named (list_of m f) (list_of m (bare f)) _ _ (list_bare m f) (λ l. by l l.parts)
   where
     by : (l : Listed) (fs : FormTrees) → bared bare_named (headed_in m fs l.at l.ends) ≡ headed_in m (all_bare fs) nowhere nowhere
@@ -129,26 +129,26 @@ word_first_bare text (form_and (a_constant n p) fs) = refl
 word_first_bare text (form_and (a_binding n f) fs) = refl
 word_first_bare text (form_and (a_list gs p e) fs) = refl
 
-abbrev bare_flagged : Bool × Listed → Bool × Listed
+abbrev pub bare_flagged : Bool × Listed → Bool × Listed
 bare_flagged s = (s.0, bare_list s.1)
 
 behind_first_bare : (fs : FormTrees) → all_bare (behind_first fs) ≡ behind_first (all_bare fs)
 behind_first_bare no_form = refl
 behind_first_bare (form_and f fs) = refl
 
-next_if_bare : (text : List ℕ) (l : Listed) → bare_flagged (next_if_of text l) ≡ next_if_of text (bare_list l)
+pub next_if_bare : (text : List ℕ) (l : Listed) → bare_flagged (next_if_of text l) ≡ next_if_of text (bare_list l)
 next_if_bare text l =
     apply_if bare_flagged (word_first text l.parts) (true, listed (behind_first l.parts) l.at l.ends) (false, l)
     ∙ rw (word_first_bare text l.parts, behind_first_bare l.parts) refl
 
-place_bare : (f : FormTree) → place_of (bare f) ≡ nowhere
+pub place_bare : (f : FormTree) → place_of (bare f) ≡ nowhere
 place_bare (a_word n) = refl
 place_bare (a_number z p) = refl
 place_bare (a_constant n p) = refl
 place_bare (a_binding n f) = refl
 place_bare (a_list fs p e) = refl
 
-ended_bare : (fs : FormTrees) → bared (λ _. tt) (ended fs) ≡ ended (all_bare fs)
+pub ended_bare : (fs : FormTrees) → bared (λ _. tt) (ended fs) ≡ ended (all_bare fs)
 ended_bare no_form = refl
 ended_bare (form_and f fs) = ap (no M.End) (sym (place_bare f))
 

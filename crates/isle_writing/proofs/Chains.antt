@@ -16,11 +16,11 @@ pub at_last : {T E Q : Type 0} (r : Result T E) (old new t : List ℕ) → new �
 at_last (Ok x) old new t e f = f e
 at_last (Err x) old new t e f = tt
 
-three : (s a b c : List ℕ) → ((s ++ a) ++ b) ++ c ≡ s ++ (a ++ (b ++ c))
+pub three : (s a b c : List ℕ) → ((s ++ a) ++ b) ++ c ≡ s ++ (a ++ (b ++ c))
 three s a b c = append_assoc (s ++ a) b c ∙ append_assoc s a (b ++ c)
 
 -- a list that begins so, has two parts of its text, and ends
-in_list : (s s1 s2 s3 s4 a b c x : List ℕ) → s1 ≡ s ++ a → s2 ≡ s1 ++ b → s3 ≡ s2 ++ c → s4 ≡ s3 ++ 41 ∷ [] → x ≡ b ++ c → s4 ≡ s ++ (a ++ (x ++ 41 ∷ []))
+pub in_list : (s s1 s2 s3 s4 a b c x : List ℕ) → s1 ≡ s ++ a → s2 ≡ s1 ++ b → s3 ≡ s2 ++ c → s4 ≡ s3 ++ 41 ∷ [] → x ≡ b ++ c → s4 ≡ s ++ (a ++ (x ++ 41 ∷ []))
 in_list s s1 s2 s3 s4 a b c x e1 e2 e3 e4 is =
     e4 ∙ ap (λ u. u ++ 41 ∷ []) (e3 ∙ ap (λ u. u ++ c) (e2 ∙ ap (λ u. u ++ b) e1) ∙ three s a b c)
     ∙ append_assoc s (a ++ (b ++ c)) (41 ∷ []) ∙ ap (λ u. s ++ u) (append_assoc a (b ++ c) (41 ∷ []))
@@ -45,7 +45,7 @@ rule_told r s s1 s2 s3 e1 e2 e3 =
     e1 e2 refl (e3 ∙ sym (append_assoc s2 (spaced (rule_body r)) (41 ∷ []))) (spaced-rule_words r (rule_body r))
 
 -- an expression that ends a list
-ended : (w e : List ℕ) → w ++ 32 ∷ (e ++ 41 ∷ []) ≡ (w ++ 32 ∷ (e ++ [])) ++ 41 ∷ []
+pub ended : (w e : List ℕ) → w ++ 32 ∷ (e ++ 41 ∷ []) ≡ (w ++ 32 ∷ (e ++ [])) ++ 41 ∷ []
 ended w e = sym (append_assoc w (32 ∷ (e ++ [])) (41 ∷ []) ∙ ap (λ u. w ++ 32 ∷ (u ++ 41 ∷ [])) (append-nil e))
 
 pub body_told : (r : RuleTree) (s s1 s2 s3 s4 : List ℕ) → s1 ≡ s ++ codes " " → s2 ≡ s1 ++ written (pattern_form r.pattern) → s3 ≡ s2 ++ spaced (if_lets_before r.iflets no_form)

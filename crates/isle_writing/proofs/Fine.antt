@@ -42,7 +42,7 @@ pub record AllFit (fs : FormTrees) (room : ℕ) : Type 0 where
 abbrev is_ascii : ℕ → Bool
 is_ascii b = nat_lt b 128
 
-is_plain : List ℕ → Bool
+unfoldable pub is_plain : List ℕ → Bool
 unfolding begins_word
 is_plain t = list_all is_ascii t && begins_word t && list_all is_in_word t
 
@@ -59,7 +59,7 @@ plain_word t h =
     rw (k.1, is_utf8-from_IsUtf8 t (IsUtf8-from_ascii t plain), chars-IsAscii t plain, k.2) refl
 
 -- a word of the notation fits anywhere
-known : (t : List ℕ) (room : ℕ) → is_plain t ≡ true → Fits (the_word t) room
+pub known : (t : List ℕ) (room : ℕ) → is_plain t ≡ true → Fits (the_word t) room
 known t room h = record { fine = plain_word t h; nests = omega arith }
 
 -- a name's place doesn't matter
@@ -77,33 +77,33 @@ word_fits n h = record { fine = bare_word n h; nests = omega arith }
 constant_fits : {room : ℕ} (n : Name) → is_constant_name n ≡ true → Fits (constant_form n) room
 constant_fits n h = record { fine = bare_constant n h; nests = omega arith }
 
-number_fits : {z : ℤ} {room : ℕ} → is_signed_128 z ≡ true → Fits (number_form z) room
+pub number_fits : {z : ℤ} {room : ℕ} → is_signed_128 z ≡ true → Fits (number_form z) room
 number_fits h = record { fine = h; nests = omega arith }
 
 -- ---- lists
 
-none : {room : ℕ} → AllFit no_form room
+pub none : {room : ℕ} → AllFit no_form room
 none = record { fine = refl; nests = omega arith }
 
-and_true : (a b : Bool) → a ≡ true → b ≡ true → (a && b) ≡ true
+pub and_true : (a b : Bool) → a ≡ true → b ≡ true → (a && b) ≡ true
 and_true a b e f = rw (e, f) refl
 
-greatest : (a b n : ℕ) → a ≤ n → b ≤ n → max a b ≤ n
+pub greatest : (a b n : ℕ) → a ≤ n → b ≤ n → max a b ≤ n
 greatest a b n h k = omega arith
 
-more : {f : FormTree} {fs : FormTrees} {room : ℕ} → Fits f room → AllFit fs room → AllFit (form_and f fs) room
+pub more : {f : FormTree} {fs : FormTrees} {room : ℕ} → Fits f room → AllFit fs room → AllFit (form_and f fs) room
 more {f = f} {fs = fs} {room = room} h k = record {
   fine = and_true (is_fine f) (are_fine fs) h.fine k.fine;
   nests = greatest (depth f) (all_depth fs) room h.nests k.nests;
 }
 
-less : (a room : ℕ) → nat_lt 0 room ≡ true → a ≤ room - 1 → a + 1 ≤ room
+pub less : (a room : ℕ) → nat_lt 0 room ≡ true → a ≤ room - 1 → a + 1 ≤ room
 less a room some h = grind (arith, nat_tests, some, h)
 
-listed : {fs : FormTrees} (room : ℕ) → nat_lt 0 room ≡ true → AllFit fs (room - 1) → Fits (list_form fs) room
+pub listed : {fs : FormTrees} (room : ℕ) → nat_lt 0 room ≡ true → AllFit fs (room - 1) → Fits (list_form fs) room
 listed {fs = fs} room some h = record { fine = h.fine; nests = less (all_depth fs) room some h.nests }
 
-headed : {fs : FormTrees} (t : List ℕ) (room : ℕ) → nat_lt 0 room ≡ true → is_plain t ≡ true → AllFit fs (room - 1) → Fits (headed_form t fs) room
+pub headed : {fs : FormTrees} (t : List ℕ) (room : ℕ) → nat_lt 0 room ≡ true → is_plain t ≡ true → AllFit fs (room - 1) → Fits (headed_form t fs) room
 headed {fs = fs} t room some plain h = listed room some (more (known t (room - 1) plain) h)
 
 flagged : {fs : FormTrees} {room : ℕ} (t : List ℕ) (is : Bool) → is_plain t ≡ true → AllFit fs room → AllFit (flag_before t is fs) room
@@ -117,12 +117,12 @@ names_fit (n ∷ ns) fs room h k =
     let e = both (is_word n) (list_all is_word ns) h in
     more (word_fits n e.0) (names_fit ns fs room e.1 k)
 
-truth_fits : (b : Bool) (room : ℕ) → Fits (truth_form b) room
+pub truth_fits : (b : Bool) (room : ℕ) → Fits (truth_form b) room
 unfolding is_plain
 truth_fits true room = known (codes "true") room refl
 truth_fits false room = known (codes "false") room refl
 
-index_fits : (i : ℕ) → nat_lt i (2 ^ 64) ≡ true → is_signed_128 (pos i) ≡ true
+pub index_fits : (i : ℕ) → nat_lt i (2 ^ 64) ≡ true → is_signed_128 (pos i) ≡ true
 unfolding is_signed_128
 index_fits i h = grind (arith, nat_tests, h)
 
@@ -165,13 +165,13 @@ mutual
       let k = both (pattern_is_spellable q room) (patterns_are_spellable qs room) h in
       more (pattern_fits q room k.0) (patterns_fit qs room k.1)
 
-one_more : (room : ℕ) → nat_lt 1 room ≡ true → nat_lt 0 room ≡ true
+pub one_more : (room : ℕ) → nat_lt 1 room ≡ true → nat_lt 0 room ≡ true
 one_more room h = grind (arith, nat_tests, h)
 
-some_left : (room : ℕ) → nat_lt 1 room ≡ true → nat_lt 0 (room - 1) ≡ true
+pub some_left : (room : ℕ) → nat_lt 1 room ≡ true → nat_lt 0 (room - 1) ≡ true
 some_left room h = grind (arith, nat_tests, h)
 
-two_less : (room : ℕ) → (room - 1) - 1 ≡ room - 2
+pub two_less : (room : ℕ) → (room - 1) - 1 ≡ room - 2
 two_less room = omega arith
 
 mutual

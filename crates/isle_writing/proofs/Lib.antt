@@ -1,13 +1,13 @@
 pub mod Names
-mod Spaces
-mod Tests
-mod Chains
-mod Parts
+pub mod Spaces
+pub mod Tests
+pub mod Chains
+pub mod Parts
 mod FormsRead
-mod Bare
+pub mod Bare
 mod Twice
-mod Fine
-mod Numbers
-mod Written
-mod Placed
+pub mod Fine
+pub mod Numbers
+pub mod Written
+pub mod Placed
 pub mod ReadBack

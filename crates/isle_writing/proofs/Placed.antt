@@ -22,20 +22,20 @@ use Rattle.isle_writing.proofs.Written.{pieces, parts_pieces, more_pieces, past,
 -- ---- tokens before others
 
 mutual
-  spelled_before : (f : FormTree) (more after : List Lexeme) → spelled f (more ++ after) ≡ spelled f more ++ after
+  pub spelled_before : (f : FormTree) (more after : List Lexeme) → spelled f (more ++ after) ≡ spelled f more ++ after
   spelled_before (a_word n) more after = refl
   spelled_before (a_number z p) more after = refl
   spelled_before (a_constant n p) more after = refl
   spelled_before (a_binding n f) more after = ap (λ ts. binder n ∷ ts) (spelled_before f more after)
   spelled_before (a_list fs p e) more after = ap (λ ts. begin_list p ∷ ts) (all_before fs (end_list e ∷ more) after)
 
-  all_before : (fs : FormTrees) (more after : List Lexeme) → all_spelled fs (more ++ after) ≡ all_spelled fs more ++ after
+  pub all_before : (fs : FormTrees) (more after : List Lexeme) → all_spelled fs (more ++ after) ≡ all_spelled fs more ++ after
   all_before no_form more after = refl
   all_before (form_and f fs) more after = ap (spelled f) (all_before fs more after) ∙ spelled_before f (all_spelled fs more) after
 
 -- no token of forms is a word that begins with `-`
 mutual
-  erased_spelled : (f : FormTree) (after : List Lexeme) → map erased (spelled f after) ≡ spelled f (map erased after)
+  pub erased_spelled : (f : FormTree) (after : List Lexeme) → map erased (spelled f after) ≡ spelled f (map erased after)
   erased_spelled (a_word n) after = refl
   erased_spelled (a_number z p) after = refl
   erased_spelled (a_constant n p) after = refl
@@ -53,10 +53,10 @@ bound (t ∷ []) n = refl
 bound (t ∷ u ∷ us) n = ap (option_map (λ ts. t ∷ ts)) (bound (u ∷ us) n)
 
 module _ (file : ℕ) where
-  abbrev at : ℕ → Position
+  abbrev pub at : ℕ → Position
   at o = record { file = file; offset = o }
 
-  abbrev name_at : Name → ℕ → Name
+  abbrev pub name_at : Name → ℕ → Name
   name_at n o = record { text = n.text; at = at o }
 
   -- behind a name and `@`
@@ -154,7 +154,7 @@ module _ (file : ℕ) where
   word_added n o done h =
       rw (encodes-chars n.text (name_utf8 n (word_characters n h)), word_is_token n.text (at o) (word_parts n h).0) refl
 
-  number_added : (z : ℤ) (o : ℕ) (done : Tokens) → is_signed_128 z ≡ true → added (name (signed_decimal z)) (at o) done ≡ Ok (done ++ number z (at o) ∷ [])
+  pub number_added : (z : ℤ) (o : ℕ) (done : Tokens) → is_signed_128 z ≡ true → added (name (signed_decimal z)) (at o) done ≡ Ok (done ++ number z (at o) ∷ [])
   number_added z o done h = rw (encodes-IsAscii (signed_decimal z) (number_ascii z h), number_token z (at o) h) refl
 
   constant_added : (n : Name) (o : ℕ) (done : Tokens) → is_constant_name n ≡ true
@@ -204,7 +204,7 @@ module _ (file : ℕ) where
         ∙ ap (λ ts. begun ++ ts) (sym (all_before parts [] (end_list (at ends) ∷ [])))
         ∙ append_assoc done (begin_list (at o) ∷ []) (all_spelled parts (end_list (at ends) ∷ [])))
 
-    parts_told : (fs : FormTrees) (o : ℕ) (after : List Piece) (done : Tokens) → are_fine fs ≡ true
+    pub parts_told : (fs : FormTrees) (o : ℕ) (after : List Piece) (done : Tokens) → are_fine fs ≡ true
         → tokens_after file o (parts_pieces fs after) done ≡ tokens_after file (parts_behind o fs) after (done ++ all_spelled (parts_placed o fs) [])
     parts_told no_form o after done h = ap (tokens_after file o after) (sym (append-nil done))
     parts_told (form_and f fs) o after done h =
@@ -213,7 +213,7 @@ module _ (file : ℕ) where
         ∙ more_told fs (behind o f) after (done ++ spelled (placed o f) []) k.1
         ∙ ap (tokens_after file (more_behind (behind o f) fs) after) (joined done (placed o f) (more_placed (behind o f) fs))
 
-    more_told : (fs : FormTrees) (o : ℕ) (after : List Piece) (done : Tokens) → are_fine fs ≡ true
+    pub more_told : (fs : FormTrees) (o : ℕ) (after : List Piece) (done : Tokens) → are_fine fs ≡ true
         → tokens_after file o (more_pieces fs after) done ≡ tokens_after file (more_behind o fs) after (done ++ all_spelled (more_placed o fs) [])
     more_told no_form o after done h = ap (tokens_after file o after) (sym (append-nil done))
     more_told (form_and f fs) o after done h =

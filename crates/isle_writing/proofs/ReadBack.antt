@@ -28,7 +28,7 @@ use Rattle.isle_writing.proofs.Placed.{placed, placed_bare, placed_depth, placed
 
 -- ---- a definition that stands anywhere
 
-good : {A B : Type 0} (g : A → B) (r : Result A Wrong) (y : B) → bared g r ≡ Ok y → (x : A) × (r ≡ Ok x) × (g x ≡ y)
+pub good : {A B : Type 0} (g : A → B) (r : Result A Wrong) (y : B) → bared g r ≡ Ok y → (x : A) × (r ≡ Ok x) × (g x ≡ y)
 good g (Ok x) y e = (x, refl, cc e)
 good g (Err w) y e = absurd (cc e)
 
@@ -46,7 +46,7 @@ definition_is_list other_definition = refl
 greatest : (a b n : ℕ) → a ≤ n → b ≤ n → max a b ≤ n
 greatest a b n h k = omega arith
 
-two : {A : Type 0} (r : Result A Wrong) (s : Result (List A) Wrong) (x : A) (xs : List A) → r ≡ Ok x → s ≡ Ok xs → r >>= (λ y. s >>= (λ ys. Ok (y ∷ ys))) ≡ Ok (x ∷ xs)
+pub two : {A : Type 0} (r : Result A Wrong) (s : Result (List A) Wrong) (x : A) (xs : List A) → r ≡ Ok x → s ≡ Ok xs → r >>= (λ y. s >>= (λ ys. Ok (y ∷ ys))) ≡ Ok (x ∷ xs)
 two r s x xs e f = rw (e, f) refl
 
 pair : {x y : Definition} {xs ys : List Definition} → x ≡ y → xs ≡ ys → x ∷ xs ≡ y ∷ ys

@@ -6,7 +6,7 @@ use Rattle.isle_reader.specs.FormTrees.{FormTree, FormTrees, no_form, form_and}
 use Rattle.isle_writing.specs.Forms.{the_word, word_form, number_form, flag_before, flags_before, type_words_before, rule_words_before, name_before, priority_before, if_let_form, if_lets_before}
 use Rattle.isle_writing.specs.Texts.{written, spaced}
 
-one : (f : FormTree) (fs : FormTrees) → spaced (form_and f fs) ≡ spaced (form_and f no_form) ++ spaced fs
+pub one : (f : FormTree) (fs : FormTrees) → spaced (form_and f fs) ≡ spaced (form_and f no_form) ++ spaced fs
 one f fs = ap (λ t. 32 ∷ (t ++ spaced fs)) (sym (append-nil (written f)))
 
 pub spaced-flag : (t : List ℕ) (is : Bool) (fs : FormTrees) → spaced (flag_before t is fs) ≡ spaced (flag_before t is no_form) ++ spaced fs

@@ -28,11 +28,11 @@ abbrev mutual
   text (a_binding n f) rest = n.text ++ 32 ∷ 64 ∷ 32 ∷ text f rest
   text (a_list fs p e) rest = 40 ∷ parts_text fs (41 ∷ rest)
 
-  parts_text : FormTrees → List ℕ → List ℕ
+  pub parts_text : FormTrees → List ℕ → List ℕ
   parts_text no_form rest = rest
   parts_text (form_and f fs) rest = text f (more_text fs rest)
 
-  more_text : FormTrees → List ℕ → List ℕ
+  pub more_text : FormTrees → List ℕ → List ℕ
   more_text no_form rest = rest
   more_text (form_and f fs) rest = 32 ∷ text f (more_text fs rest)
 
@@ -45,11 +45,11 @@ mutual
       append_assoc n.text (codes " @ " ++ written f) rest ∙ ap (λ t. n.text ++ 32 ∷ 64 ∷ 32 ∷ t) (text_written f rest)
   text_written (a_list fs p e) rest = ap (λ t. 40 ∷ t) (append_assoc (parted fs) (41 ∷ []) rest ∙ text_parted fs (41 ∷ rest))
 
-  text_parted : (fs : FormTrees) (rest : List ℕ) → parted fs ++ rest ≡ parts_text fs rest
+  pub text_parted : (fs : FormTrees) (rest : List ℕ) → parted fs ++ rest ≡ parts_text fs rest
   text_parted no_form rest = refl
   text_parted (form_and f fs) rest = append_assoc (written f) (spaced fs) rest ∙ ap (λ t. written f ++ t) (text_spaced fs rest) ∙ text_written f (more_text fs rest)
 
-  text_spaced : (fs : FormTrees) (rest : List ℕ) → spaced fs ++ rest ≡ more_text fs rest
+  pub text_spaced : (fs : FormTrees) (rest : List ℕ) → spaced fs ++ rest ≡ more_text fs rest
   text_spaced no_form rest = refl
   text_spaced (form_and f fs) rest =
       ap (λ t. 32 ∷ t) (append_assoc (written f) (spaced fs) rest ∙ ap (λ t. written f ++ t) (text_spaced fs rest) ∙ text_written f (more_text fs rest))
@@ -97,22 +97,22 @@ one_ascii : (c : ℕ) → c < 128 → IsAscii (c ∷ [])
 one_ascii c h zero = h
 one_ascii c h (suc i) = omega arith
 
-first_char : (c : ℕ) (bytes : List ℕ) → c < 128 → chars (c ∷ bytes) ≡ c ∷ chars bytes
+pub first_char : (c : ℕ) (bytes : List ℕ) → c < 128 → chars (c ∷ bytes) ≡ c ∷ chars bytes
 first_char c bytes h =
     chars-append (c ∷ []) bytes (IsUtf8-from_ascii (c ∷ []) (one_ascii c h)) ∙ ap (λ cs. cs ++ chars bytes) (chars-IsAscii (c ∷ []) (one_ascii c h))
 
-later : (o : ℕ) (p : Piece) → 1 ≤ o → 1 ≤ past o p
+pub later : (o : ℕ) (p : Piece) → 1 ≤ o → 1 ≤ past o p
 later o p h = omega (arith, h)
 
 -- behind any piece the text has begun
-begins : (o : ℕ) (p : Piece) → length (spelling p) ≡ 1 → 1 ≤ past o p
+pub begins : (o : ℕ) (p : Piece) → length (spelling p) ≡ 1 → 1 ≤ past o p
 begins o p one = omega (arith, one, length-le-encodes (spelling p))
 
 -- a name's text
 pub name_utf8 : (n : Name) → has_word_characters n.text ≡ true → IsUtf8 n.text
 name_utf8 n h = IsUtf8-from_is_utf8 n.text (character_parts n.text h).0
 
-name_in_word : (n : Name) → has_word_characters n.text ≡ true → list_all is_in_word (chars n.text) ≡ true
+pub name_in_word : (n : Name) → has_word_characters n.text ≡ true → list_all is_in_word (chars n.text) ≡ true
 name_in_word n h = (character_parts n.text h).1
 
 pub word_characters : (n : Name) → is_word n ≡ true → has_word_characters n.text ≡ true
@@ -122,7 +122,7 @@ pub constant_characters : (n : Name) → is_constant_name n ≡ true → has_wor
 constant_characters n h = (constant_parts n h).1
 
 -- text that isn't empty has characters
-some_chars : (t : List ℕ) → IsUtf8 t → is_some_text t ≡ true → is_some_text (chars t) ≡ true
+pub some_chars : (t : List ℕ) → IsUtf8 t → is_some_text t ≡ true → is_some_text (chars t) ≡ true
 some_chars t u some = by (chars t) (ap is_some_text (encodes-chars t u) ∙ some)
   where
     by : (cs : List ℕ) → is_some_text (encode_utf8_all cs) ≡ true → is_some_text cs ≡ true
@@ -130,7 +130,7 @@ some_chars t u some = by (chars t) (ap is_some_text (encodes-chars t u) ∙ some
     by (c ∷ cs) h = refl
 
 -- a word's first character is no `$`
-no_sign : (t : List ℕ) (c : ℕ) (cs : List ℕ) → IsUtf8 t → chars t ≡ c ∷ cs → begins_word t ≡ true → (c == 36) ≡ false
+pub no_sign : (t : List ℕ) (c : ℕ) (cs : List ℕ) → IsUtf8 t → chars t ≡ c ∷ cs → begins_word t ≡ true → (c == 36) ≡ false
 no_sign [] c cs u e h = absurd (true≢false (sym h ∙ nothing_begins))
 no_sign (b ∷ bs) c cs u e h = elim (cases_Bool (c == 36)) [
   | inl d ↦
@@ -141,7 +141,7 @@ no_sign (b ∷ bs) c cs u e h = elim (cases_Bool (c == 36)) [
 ]
 
 -- characters of a word stand as a name, where the text has begun
-stands : (o : ℕ) (cs : List ℕ) → 1 ≤ o → list_all is_in_word cs ≡ true → is_some_text cs ≡ true → begins_with 36 cs ≡ false → is_name o cs ≡ true
+pub stands : (o : ℕ) (cs : List ℕ) → 1 ≤ o → list_all is_in_word cs ≡ true → is_some_text cs ≡ true → begins_with 36 cs ≡ false → is_name o cs ≡ true
 stands o [] h all some plain = absurd (false≢true some)
 stands o (c ∷ cs) h all some plain =
     let k = both (is_in_word c) (list_all is_in_word cs) all in
@@ -164,7 +164,7 @@ word_stands o n begun h =
     by (c ∷ cs) e u b = no_sign n.text c cs u e b
 
 -- a number's characters
-number_plain : (z : ℤ) → is_signed_128 z ≡ true → begins_with 36 (signed_decimal z) ≡ false
+pub number_plain : (z : ℤ) → is_signed_128 z ≡ true → begins_with 36 (signed_decimal z) ≡ false
 number_plain z h = by (signed_decimal z) (begins_as_number z h)
   where
     by : (cs : List ℕ) → begins_number cs ≡ true → begins_with 36 cs ≡ false
@@ -174,7 +174,7 @@ number_plain z h = by (signed_decimal z) (begins_as_number z h)
       | inr d ↦ d
     ]
 
-number_stands : (o : ℕ) (z : ℤ) → 1 ≤ o → is_signed_128 z ≡ true → is_name o (signed_decimal z) ≡ true
+pub number_stands : (o : ℕ) (z : ℤ) → 1 ≤ o → is_signed_128 z ≡ true → is_name o (signed_decimal z) ≡ true
 number_stands o z begun h = stands o (signed_decimal z) begun (number_characters z h) (number_some z h) (number_plain z h)
 
 constant_stands : (cs : List ℕ) → list_all is_in_word cs ≡ true → is_some_text cs ≡ true → is_constant cs ≡ true
@@ -188,13 +188,13 @@ no_semicolon c h = elim (cases_Bool (c == 59)) [
   | inr d ↦ d
 ]
 
-no_comment : (cs rest : List ℕ) → list_all is_in_word cs ≡ true → is_some_text cs ≡ true → begins_with 59 (cs ++ rest) ≡ false
+pub no_comment : (cs rest : List ℕ) → list_all is_in_word cs ≡ true → is_some_text cs ≡ true → begins_with 59 (cs ++ rest) ≡ false
 no_comment [] rest all some = absurd (false≢true some)
 no_comment (c ∷ cs) rest all some = no_semicolon c (both (is_in_word c) (list_all is_in_word cs) all).0
 
 -- ---- what forms begin with
 
-plain_text : (t rest : List ℕ) → IsUtf8 t → list_all is_in_word (chars t) ≡ true → is_some_text t ≡ true → begins_with 59 (chars (t ++ rest)) ≡ false
+pub plain_text : (t rest : List ℕ) → IsUtf8 t → list_all is_in_word (chars t) ≡ true → is_some_text t ≡ true → begins_with 59 (chars (t ++ rest)) ≡ false
 plain_text t rest u all some = ap (begins_with 59) (chars-append t rest u) ∙ no_comment (chars t) (chars rest) all (some_chars t u some)
 
 word_plain : (n : Name) (rest : List ℕ) → is_word n ≡ true → begins_with 59 (chars (n.text ++ rest)) ≡ false
@@ -202,7 +202,7 @@ word_plain n rest h =
     let characters = word_characters n h in
     plain_text n.text rest (name_utf8 n characters) (name_in_word n characters) (beginning_some n.text (word_parts n h).0)
 
-number_utf8 : (z : ℤ) → is_signed_128 z ≡ true → IsUtf8 (signed_decimal z)
+pub number_utf8 : (z : ℤ) → is_signed_128 z ≡ true → IsUtf8 (signed_decimal z)
 number_utf8 z h = IsUtf8-from_ascii (signed_decimal z) (number_ascii z h)
 
 form_plain : (f : FormTree) (rest : List ℕ) → is_fine f ≡ true → begins_with 59 (chars (text f rest)) ≡ false
@@ -221,7 +221,7 @@ more_ends : (fs : FormTrees) (rest : List ℕ) → ends_word (chars rest) ≡ tr
 more_ends no_form rest h = h
 more_ends (form_and f fs) rest h = ap ends_word (first_char 32 (text f (more_text fs rest)) (omega arith))
 
-ends_after : (c : ℕ) (rest : List ℕ) → c < 128 → is_in_word c ≡ false → ends_word (chars (c ∷ rest)) ≡ true
+pub ends_after : (c : ℕ) (rest : List ℕ) → c < 128 → is_in_word c ≡ false → ends_word (chars (c ∷ rest)) ≡ true
 ends_after c rest small ends = ap ends_word (first_char c rest small) ∙ ap not ends
 
 -- ---- the text is these pieces
@@ -236,7 +236,7 @@ word_piece : (o : ℕ) (n : Name) (rest : List ℕ) (after : List Piece) → 1 �
 word_piece o n rest after begun h ends are =
     (chars rest, chars-append n.text rest (name_utf8 n (word_characters n h)), (word_stands o n begun h, ends), are)
 
-number_piece : (o : ℕ) (z : ℤ) (rest : List ℕ) (after : List Piece) → 1 ≤ o → is_signed_128 z ≡ true → ends_word (chars rest) ≡ true
+pub number_piece : (o : ℕ) (z : ℤ) (rest : List ℕ) (after : List Piece) → 1 ≤ o → is_signed_128 z ≡ true → ends_word (chars rest) ≡ true
     → AreIn (past o (name (signed_decimal z))) (chars rest) after → AreIn o (chars (signed_decimal z ++ rest)) (name (signed_decimal z) ∷ after)
 number_piece o z rest after begun h ends are = (
   chars rest,
@@ -259,7 +259,7 @@ constant_piece o n rest after h ends are =
 
 -- offsets grow
 mutual
-  farther : (f : FormTree) (o : ℕ) → 1 ≤ o → 1 ≤ behind o f
+  pub farther : (f : FormTree) (o : ℕ) → 1 ≤ o → 1 ≤ behind o f
   farther (a_word n) o h = later o (name (chars n.text)) h
   farther (a_number z p) o h = later o (name (signed_decimal z)) h
   farther (a_constant n p) o h = later o (sign (chars n.text)) h
@@ -270,11 +270,11 @@ mutual
       farther f (past three (space 32)) (later three (space 32) (later two bind (later one (space 32) (later o (name (chars n.text)) h))))
   farther (a_list fs p e) o h = later (parts_behind (past o left) fs) right (parts_farther fs (past o left) (later o left h))
 
-  parts_farther : (fs : FormTrees) (o : ℕ) → 1 ≤ o → 1 ≤ parts_behind o fs
+  pub parts_farther : (fs : FormTrees) (o : ℕ) → 1 ≤ o → 1 ≤ parts_behind o fs
   parts_farther no_form o h = h
   parts_farther (form_and f fs) o h = more_farther fs (behind o f) (farther f o h)
 
-  more_farther : (fs : FormTrees) (o : ℕ) → 1 ≤ o → 1 ≤ more_behind o fs
+  pub more_farther : (fs : FormTrees) (o : ℕ) → 1 ≤ o → 1 ≤ more_behind o fs
   more_farther no_form o h = h
   more_farther (form_and f fs) o h = more_farther fs (behind (past o (space 32)) f) (farther f (past o (space 32)) (later o (space 32) h))
 
@@ -302,7 +302,7 @@ mutual
       (parts_in fs inside (41 ∷ rest) (right ∷ after) h (begins o left refl) (ends_after 41 rest (omega arith) refl)
       (one_piece (parts_behind inside fs) 41 rest right after (omega arith) refl tt are))
 
-  parts_in : (fs : FormTrees) (o : ℕ) (rest : List ℕ) (after : List Piece) → are_fine fs ≡ true → 1 ≤ o → ends_word (chars rest) ≡ true
+  pub parts_in : (fs : FormTrees) (o : ℕ) (rest : List ℕ) (after : List Piece) → are_fine fs ≡ true → 1 ≤ o → ends_word (chars rest) ≡ true
       → AreIn (parts_behind o fs) (chars rest) after → AreIn o (chars (parts_text fs rest)) (parts_pieces fs after)
   parts_in no_form o rest after h begun ends are = are
   parts_in (form_and f fs) o rest after h begun ends are =
@@ -310,7 +310,7 @@ mutual
       form_in f o (more_text fs rest) (more_pieces fs after) k.0 begun (more_ends fs rest ends)
       (more_in fs (behind o f) rest after k.1 (farther f o begun) ends are)
 
-  more_in : (fs : FormTrees) (o : ℕ) (rest : List ℕ) (after : List Piece) → are_fine fs ≡ true → 1 ≤ o → ends_word (chars rest) ≡ true
+  pub more_in : (fs : FormTrees) (o : ℕ) (rest : List ℕ) (after : List Piece) → are_fine fs ≡ true → 1 ≤ o → ends_word (chars rest) ≡ true
       → AreIn (more_behind o fs) (chars rest) after → AreIn o (chars (more_text fs rest)) (more_pieces fs after)
   more_in no_form o rest after h begun ends are = are
   more_in (form_and f fs) o rest after h begun ends are =

@@ -10,11 +10,11 @@ mod expressions;
 pub mod faults;
 pub mod laws;
 mod patterns;
-mod pieces;
+pub mod pieces;
 mod rules;
 mod terms;
 mod types;
-mod words;
+pub mod words;
 
 ghost use Rattle.std.specs.Prelude.{◌≡◌, IfErr, IfOk, None, string_bytes};
 ghost use Rattle.isle_base.specs.SyntaxViews.{definition_views};

@@ -78,9 +78,9 @@ pub fn is_signed_128(_val: i128) -> bool
     true
 }
 
-// Whether a name is a truth value's.
+/// Whether a name is a truth value's.
 #[tactic(auto, unfolding(crate::specs::Spellable::is_truth))]
-fn is_truth(name: &Ident) -> bool
+pub fn is_truth(name: &Ident) -> bool
     ensures { result ≡ is_truth (name_view name.now) }
 {
     name.0.as_str() == "true" || name.0.as_str() == "false"
@@ -107,9 +107,9 @@ fn is_some_text(text: &[u8]) -> bool
     }
 }
 
-// Whether all characters of a name may stand in a word.
+/// Whether all characters of a name may stand in a word.
 #[tactic(auto, using(crate::proofs::Names::name_steps), unfolding(crate::specs::Spellable::has_word_characters))]
-fn has_word_characters(name: &Ident) -> bool
+pub fn has_word_characters(name: &Ident) -> bool
     ensures { result ≡ has_word_characters (name_view name.now).text }
 {
     are_in_word(&name.0)
