@@ -20,7 +20,7 @@ use Rattle.isle_reader.proofs.Marked.{marked, tokens_marked}
 if_ok : {A : Type 0} (P : A → Type 0) (r : Result A Wrong) (x : A) → r ≡ Ok x → IfOk r P → P x
 if_ok P r x e h = subst (λ s. IfOk s P) e h
 
-text_marked : (file : ℕ) (pieces : List Piece) (tokens : List Lexeme) → tokens_after file 0 pieces [] ≡ Ok tokens → AreMarked tokens
+pub text_marked : (file : ℕ) (pieces : List Piece) (tokens : List Lexeme) → tokens_after file 0 pieces [] ≡ Ok tokens → AreMarked tokens
 text_marked file pieces tokens lexed = if_ok AreMarked (tokens_after file 0 pieces []) tokens lexed (tokens_marked file 0 pieces [] tt)
 
 pub spelled_if_given : (file : ℕ) (text : List ℕ) (ds : List Definition) → reading file text ≡ Ok ds → Spells file text ds
