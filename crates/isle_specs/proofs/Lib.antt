@@ -1,0 +1,2 @@
+pub mod SpecViews
+pub mod Digits

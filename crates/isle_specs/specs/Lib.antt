@@ -1,0 +1,5 @@
+pub mod SpecTrees
+pub mod SpecViews
+pub mod SpecGrammar
+pub mod TermSpecGrammar
+pub mod Verifying

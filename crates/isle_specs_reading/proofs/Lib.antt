@@ -1,0 +1,2 @@
+mod ReadSpecs
+mod Numbered
