@@ -3,11 +3,12 @@ pub mod Spaces
 pub mod Tests
 pub mod Chains
 pub mod Parts
-mod FormsRead
+pub mod FormsRead
 pub mod Bare
-mod Twice
+pub mod Twice
 pub mod Fine
 pub mod Numbers
 pub mod Written
 pub mod Placed
+pub mod Lines
 pub mod ReadBack

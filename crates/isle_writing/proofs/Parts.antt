@@ -1,14 +1,15 @@
 -- The parts of a test that holds.
-use Rattle.std.proofs.Common.{◌≡◌, ◌==◌, ℕ, List, [], ◌∷◌, refl}
+use Rattle.std.proofs.Common.{◌≡◌, ◌==◌, ℕ, List, [], ◌∷◌, refl, sym, ◌∙◌}
 use Rattle.std.specs.Prelude.{Bool, true, false, not, ◌&&◌, ◌||◌, codes}
-use Rattle.std.proofs.lemmas.Bool.{false≢true}
+use Rattle.std.proofs.lemmas.Bool.{false≢true, true≢false}
 use Rattle.model.specs.lists.Syntax.{Name}
 use Rattle.isle_reader.specs.Grammar.{reads}
+use Rattle.isle_reader.specs.Lexemes.{begins_number}
 use Rattle.std.specs.List.{list_all}
 use Rattle.std.specs.Char.{is_ascii_digit}
 use Rattle.std.specs.Str.{chars, is_utf8}
 use Rattle.isle_reader.specs.Pieces.{is_in_word}
-use Rattle.isle_writing.specs.Spellable.{begins_word, has_word_characters, is_some_text, is_word, is_constant_name, is_truth, is_pattern_variable, is_pattern_head, is_expr_variable, is_expr_head}
+use Rattle.isle_writing.specs.Spellable.{begins_word, begins_any_word, has_word_characters, is_some_text, is_word, is_any_word, is_constant_name, is_truth, is_pattern_variable, is_pattern_head, is_expr_variable, is_expr_head}
 
 pub both : (a b : Bool) → (a && b) ≡ true → (a ≡ true) × (b ≡ true)
 both true true e = (refl, refl)
@@ -74,6 +75,40 @@ beginning_some (b ∷ bs) h = refl
 pub nothing_begins : begins_word [] ≡ false
 unfolding begins_word
 nothing_begins = refl
+
+pub any_word_parts : (n : Name) → is_any_word n ≡ true → (begins_any_word n.text ≡ true) × (has_word_characters n.text ≡ true)
+unfolding is_any_word
+any_word_parts n h = both (begins_any_word n.text) (has_word_characters n.text) h
+
+pub any_beginning_parts : (b : ℕ) (bs : List ℕ) → begins_any_word (b ∷ bs) ≡ true → ((b == 36) ≡ false) × (begins_number (b ∷ bs) ≡ false)
+unfolding begins_any_word
+any_beginning_parts b bs h =
+    let k = both (not (b == 36)) (not (begins_number (b ∷ bs))) h in
+    (unless (b == 36) k.0, unless (begins_number (b ∷ bs)) k.1)
+
+pub any_beginning_some : (t : List ℕ) → begins_any_word t ≡ true → is_some_text t ≡ true
+unfolding begins_any_word
+any_beginning_some [] h = absurd (false≢true h)
+any_beginning_some (b ∷ bs) h = refl
+
+pub nothing_begins_any : begins_any_word [] ≡ false
+unfolding begins_any_word
+nothing_begins_any = refl
+
+-- a word that doesn't begin with `-` is a word
+begins_any : (t : List ℕ) → begins_word t ≡ true → begins_any_word t ≡ true
+unfolding begins_any_word
+begins_any [] h = absurd (true≢false (sym h ∙ nothing_begins))
+begins_any (b ∷ bs) h =
+    let k = beginning_parts b bs h in
+    let none : begins_number (b ∷ bs) ≡ false = rw k.1 k.2 in
+    rw (k.0, none) refl
+
+pub word_is_any : (n : Name) → is_word n ≡ true → is_any_word n ≡ true
+unfolding is_any_word
+word_is_any n h =
+    let k = word_parts n h in
+    rw (begins_any n.text k.0, k.1) refl
 
 pub truth_parts : (n : Name) → not (is_truth n) ≡ true → (reads n (codes "true") ≡ false) × (reads n (codes "false") ≡ false)
 unfolding is_truth

@@ -1,21 +1,22 @@
 -- The tokens of forms that are written, and the places that they get.
 use Rattle.std.proofs.Common.{◌≡◌, ℕ, ◌+◌, refl, sym, ap, ◌∙◌, List, [], ◌∷◌, ◌++◌, map, append_assoc, append-nil}
-use Rattle.std.specs.Prelude.{ℤ, true, false, Some, option_map, Ok}
+use Rattle.std.specs.Prelude.{ℤ, Bool, true, false, Some, option_map, Result, Ok, if◌then◌else◌}
 use Rattle.std.specs.Fmt.{signed_decimal}
 use Rattle.std.specs.Str.{chars}
 use Rattle.std.proofs.lemmas.Bool.{true≢false}
+use Rattle.std.proofs.lemmas.List.{map-append}
 use Rattle.std.proofs.lemmas.Str.{encodes-chars, encodes-IsAscii}
 use Rattle.model.specs.lists.Syntax.{Position, Name}
-use Rattle.isle_reader.specs.Lexemes.{Lexeme, begin_list, end_list, word, binder, number, constant, erased, ◌>>=◌, begins_number, word_token, last_bound, or_mistake}
+use Rattle.isle_reader.specs.Lexemes.{Lexeme, begin_list, end_list, word, dash, binder, number, constant, Wrong, ◌>>=◌, word_token, last_bound, or_mistake}
 use Rattle.isle_reader.specs.FormTrees.{FormTree, a_word, a_number, a_constant, a_binding, a_list, FormTrees, no_form, form_and, spelled, all_spelled, depth, all_depth}
 use Rattle.isle_reader.specs.Pieces.{Piece, space, left, right, bind, name, sign}
 use Rattle.isle_reader.specs.Solid.{nowhere, placeless_name}
 use Rattle.isle_reader.specs.Lexing.{Tokens, added, tokens_after}
-use Rattle.isle_reader.specs.PassedOver.{is_dashed, has_dash, have_dash}
-use Rattle.isle_writing.specs.Spellable.{begins_word, is_word, is_constant_name, is_signed_128}
-use Rattle.isle_writing.proofs.Parts.{both, word_parts, beginning_parts, nothing_begins}
+use Rattle.isle_reader.specs.PassedOver.{is_dashed, mark}
+use Rattle.isle_writing.specs.Spellable.{begins_any_word, is_word, is_any_word, is_constant_name, is_signed_128}
+use Rattle.isle_writing.proofs.Parts.{both, word_parts, any_word_parts, any_beginning_parts, nothing_begins_any, word_is_any}
 use Rattle.isle_writing.proofs.Bare.{bare, all_bare}
-use Rattle.isle_writing.proofs.Fine.{is_fine, are_fine}
+use Rattle.isle_writing.proofs.Fine.{is_fine, are_fine, no_dash}
 use Rattle.isle_writing.proofs.Numbers.{number_ascii, number_token}
 use Rattle.isle_writing.proofs.Written.{pieces, parts_pieces, more_pieces, past, behind, parts_behind, more_behind, name_utf8, word_characters, constant_characters}
 
@@ -33,18 +34,12 @@ mutual
   all_before no_form more after = refl
   all_before (form_and f fs) more after = ap (spelled f) (all_before fs more after) ∙ spelled_before f (all_spelled fs more) after
 
--- no token of forms is a word that begins with `-`
-mutual
-  pub erased_spelled : (f : FormTree) (after : List Lexeme) → map erased (spelled f after) ≡ spelled f (map erased after)
-  erased_spelled (a_word n) after = refl
-  erased_spelled (a_number z p) after = refl
-  erased_spelled (a_constant n p) after = refl
-  erased_spelled (a_binding n f) after = ap (λ ts. binder n ∷ ts) (erased_spelled f after)
-  erased_spelled (a_list fs p e) after = ap (λ ts. begin_list p ∷ ts) (erased_all fs (end_list e ∷ after))
+-- ... and before others, each as the token that it is
+pub marked_before : (f : FormTree) (more after : List Lexeme) → map mark (spelled f (more ++ after)) ≡ map mark (spelled f more) ++ map mark after
+marked_before f more after = ap (map mark) (spelled_before f more after) ∙ map-append mark (spelled f more) after
 
-  pub erased_all : (fs : FormTrees) (after : List Lexeme) → map erased (all_spelled fs after) ≡ all_spelled fs (map erased after)
-  erased_all no_form after = refl
-  erased_all (form_and f fs) after = erased_spelled f (all_spelled fs after) ∙ ap (spelled f) (erased_all fs after)
+pub all_marked : (fs : FormTrees) (more after : List Lexeme) → map mark (all_spelled fs (more ++ after)) ≡ map mark (all_spelled fs more) ++ map mark after
+all_marked fs more after = ap (map mark) (all_before fs more after) ∙ map-append mark (all_spelled fs more) after
 
 -- the last token, a word, bound
 bound : (done : Tokens) (n : Name) → last_bound (done ++ word n ∷ []) ≡ Some (done ++ binder n ∷ [])
@@ -115,44 +110,27 @@ module _ (file : ℕ) where
     more_depth o no_form = refl
     more_depth o (form_and f fs) = rw (placed_depth (past o (space 32)) f, more_depth (behind (past o (space 32)) f) fs) refl
 
-  -- none of their words begins with `-`
-  no_dash : (t : List ℕ) → begins_word t ≡ true → is_dashed t ≡ false
-  no_dash [] h = absurd (true≢false (sym h ∙ nothing_begins))
-  no_dash (b ∷ bs) h = (beginning_parts b bs h).1
-
-  mutual
-    pub placed_dashes : (o : ℕ) (f : FormTree) → is_fine f ≡ true → has_dash (placed o f) ≡ false
-    placed_dashes o (a_word n) h = no_dash n.text (word_parts n h).0
-    placed_dashes o (a_number z p) h = refl
-    placed_dashes o (a_constant n p) h = refl
-    placed_dashes o (a_binding n f) h = placed_dashes (bound_at o n) f (both (is_word n) (is_fine f) h).1
-    placed_dashes o (a_list fs p e) h = parts_dashes (past o left) fs h
-
-    parts_dashes : (o : ℕ) (fs : FormTrees) → are_fine fs ≡ true → have_dash (parts_placed o fs) ≡ false
-    parts_dashes o no_form h = refl
-    parts_dashes o (form_and f fs) h =
-        let k = both (is_fine f) (are_fine fs) h in
-        rw (placed_dashes o f k.0, more_dashes (behind o f) fs k.1) refl
-
-    more_dashes : (o : ℕ) (fs : FormTrees) → are_fine fs ≡ true → have_dash (more_placed o fs) ≡ false
-    more_dashes o no_form h = refl
-    more_dashes o (form_and f fs) h =
-        let k = both (is_fine f) (are_fine fs) h in
-        rw (placed_dashes (past o (space 32)) f k.0, more_dashes (behind (past o (space 32)) f) fs k.1) refl
-
   -- ---- tokens
 
-  no_number : (b : ℕ) (bs : List ℕ) → begins_word (b ∷ bs) ≡ true → begins_number (b ∷ bs) ≡ false
-  no_number b bs h = rw (beginning_parts b bs h).1 (beginning_parts b bs h).2
-
-  word_is_token : (t : List ℕ) (p : Position) → begins_word t ≡ true → word_token (record { text = t; at = p }) ≡ Ok (word (record { text = t; at = p }))
+  word_is_token : (t : List ℕ) (p : Position) → begins_any_word t ≡ true → word_token (record { text = t; at = p }) ≡ Ok (mark (word (record { text = t; at = p })))
   unfolding word_token
-  word_is_token [] p h = absurd (true≢false (sym h ∙ nothing_begins))
-  word_is_token (b ∷ bs) p h = rw (no_number b bs h, no_dash (b ∷ bs) h) refl
+  word_is_token [] p h = absurd (true≢false (sym h ∙ nothing_begins_any))
+  word_is_token (b ∷ bs) p h = rw (any_beginning_parts b bs h).1 (by (is_dashed (b ∷ bs)))
+    where
+      by : (d : Bool) → (let n : Name = record { text = b ∷ bs; at = p } in
+          let r : Result Lexeme Wrong = if d then Ok (dash n) else Ok (word n) in r ≡ Ok (if d then dash n else word n))
+      by true = refl
+      by false = refl
 
-  word_added : (n : Name) (o : ℕ) (done : Tokens) → is_word n ≡ true → added (name (chars n.text)) (at o) done ≡ Ok (done ++ word (name_at n o) ∷ [])
+  word_added : (n : Name) (o : ℕ) (done : Tokens) → is_any_word n ≡ true → added (name (chars n.text)) (at o) done ≡ Ok (done ++ mark (word (name_at n o)) ∷ [])
   word_added n o done h =
-      rw (encodes-chars n.text (name_utf8 n (word_characters n h)), word_is_token n.text (at o) (word_parts n h).0) refl
+      rw (encodes-chars n.text (name_utf8 n (word_characters n h)), word_is_token n.text (at o) (any_word_parts n h).0) refl
+
+  -- a name that is bound doesn't begin with `-`
+  plain_added : (n : Name) (o : ℕ) (done : Tokens) → is_word n ≡ true → added (name (chars n.text)) (at o) done ≡ Ok (done ++ word (name_at n o) ∷ [])
+  plain_added n o done h =
+      word_added n o done (word_is_any n h)
+      ∙ ap (λ d. Ok (done ++ (if d then dash (name_at n o) else word (name_at n o)) ∷ [])) (no_dash n.text (word_parts n h).0)
 
   pub number_added : (z : ℤ) (o : ℕ) (done : Tokens) → is_signed_128 z ≡ true → added (name (signed_decimal z)) (at o) done ≡ Ok (done ++ number z (at o) ∷ [])
   number_added z o done h = rw (encodes-IsAscii (signed_decimal z) (number_ascii z h), number_token z (at o) h) refl
@@ -168,29 +146,30 @@ module _ (file : ℕ) where
   bind_added : (n : Name) (o : ℕ) (done : Tokens) → added bind (at o) (done ++ word n ∷ []) ≡ Ok (done ++ binder n ∷ [])
   bind_added n o done = ap (or_mistake (at o)) (bound done n)
 
-  pub joined : (done : Tokens) (f : FormTree) (fs : FormTrees) → (done ++ spelled f []) ++ all_spelled fs [] ≡ done ++ all_spelled (form_and f fs) []
-  joined done f fs = append_assoc done (spelled f []) (all_spelled fs []) ∙ ap (λ ts. done ++ ts) (sym (spelled_before f [] (all_spelled fs [])))
+  pub joined : (done : Tokens) (f : FormTree) (fs : FormTrees)
+      → (done ++ map mark (spelled f [])) ++ map mark (all_spelled fs []) ≡ done ++ map mark (all_spelled (form_and f fs) [])
+  joined done f fs = append_assoc done (map mark (spelled f [])) (map mark (all_spelled fs [])) ∙ ap (λ ts. done ++ ts) (sym (marked_before f [] (all_spelled fs [])))
 
   mutual
-    pub form_told : (f : FormTree) (o : ℕ) (after : List Piece) (done : Tokens) → is_fine f ≡ true
-        → tokens_after file o (pieces f after) done ≡ tokens_after file (behind o f) after (done ++ spelled (placed o f) [])
+    pub form_told : (f : FormTree) (o : ℕ) (after : List Piece) (done : Tokens) → is_fine true f ≡ true
+        → tokens_after file o (pieces f after) done ≡ tokens_after file (behind o f) after (done ++ map mark (spelled (placed o f) []))
     form_told (a_word n) o after done h = next o (name (chars n.text)) after done _ (word_added n o done h)
     form_told (a_number z p) o after done h = next o (name (signed_decimal z)) after done _ (number_added z o done h)
     form_told (a_constant n p) o after done h = next o (sign (chars n.text)) after done _ (constant_added n o done h)
     form_told (a_binding n f) o after done h =
-        let k = both (is_word n) (is_fine f) h in
+        let k = both (is_word n) (is_fine true f) h in
         let one = past o (name (chars n.text)) in
         let two = past one (space 32) in
         let three = past two bind in
         let four = past three (space 32) in
         let named = done ++ word (name_at n o) ∷ [] in
         let binds = done ++ binder (name_at n o) ∷ [] in
-        next o (name (chars n.text)) (space 32 ∷ bind ∷ space 32 ∷ pieces f after) done named (word_added n o done k.0)
+        next o (name (chars n.text)) (space 32 ∷ bind ∷ space 32 ∷ pieces f after) done named (plain_added n o done k.0)
         ∙ next one (space 32) (bind ∷ space 32 ∷ pieces f after) named named refl
         ∙ next two bind (space 32 ∷ pieces f after) named binds (bind_added (name_at n o) two done)
         ∙ next three (space 32) (pieces f after) binds binds refl
         ∙ form_told f four after binds k.1
-        ∙ ap (tokens_after file (behind four f) after) (append_assoc done (binder (name_at n o) ∷ []) (spelled (placed four f) []))
+        ∙ ap (tokens_after file (behind four f) after) (append_assoc done (binder (name_at n o) ∷ []) (map mark (spelled (placed four f) [])))
     form_told (a_list fs p e) o after done h =
         let inside = past o left in
         let begun = done ++ begin_list (at o) ∷ [] in
@@ -198,28 +177,28 @@ module _ (file : ℕ) where
         let parts = parts_placed inside fs in
         next o left (parts_pieces fs (right ∷ after)) done begun refl
         ∙ parts_told fs inside (right ∷ after) begun h
-        ∙ next ends right after (begun ++ all_spelled parts []) _ refl
+        ∙ next ends right after (begun ++ map mark (all_spelled parts [])) _ refl
         ∙ ap (tokens_after file (past ends right) after)
-        (append_assoc begun (all_spelled parts []) (end_list (at ends) ∷ [])
-        ∙ ap (λ ts. begun ++ ts) (sym (all_before parts [] (end_list (at ends) ∷ [])))
-        ∙ append_assoc done (begin_list (at o) ∷ []) (all_spelled parts (end_list (at ends) ∷ [])))
+        (append_assoc begun (map mark (all_spelled parts [])) (end_list (at ends) ∷ [])
+        ∙ ap (λ ts. begun ++ ts) (sym (all_marked parts [] (end_list (at ends) ∷ [])))
+        ∙ append_assoc done (begin_list (at o) ∷ []) (map mark (all_spelled parts (end_list (at ends) ∷ []))))
 
-    pub parts_told : (fs : FormTrees) (o : ℕ) (after : List Piece) (done : Tokens) → are_fine fs ≡ true
-        → tokens_after file o (parts_pieces fs after) done ≡ tokens_after file (parts_behind o fs) after (done ++ all_spelled (parts_placed o fs) [])
+    pub parts_told : (fs : FormTrees) (o : ℕ) (after : List Piece) (done : Tokens) → are_fine true fs ≡ true
+        → tokens_after file o (parts_pieces fs after) done ≡ tokens_after file (parts_behind o fs) after (done ++ map mark (all_spelled (parts_placed o fs) []))
     parts_told no_form o after done h = ap (tokens_after file o after) (sym (append-nil done))
     parts_told (form_and f fs) o after done h =
-        let k = both (is_fine f) (are_fine fs) h in
+        let k = both (is_fine true f) (are_fine true fs) h in
         form_told f o (more_pieces fs after) done k.0
-        ∙ more_told fs (behind o f) after (done ++ spelled (placed o f) []) k.1
+        ∙ more_told fs (behind o f) after (done ++ map mark (spelled (placed o f) [])) k.1
         ∙ ap (tokens_after file (more_behind (behind o f) fs) after) (joined done (placed o f) (more_placed (behind o f) fs))
 
-    pub more_told : (fs : FormTrees) (o : ℕ) (after : List Piece) (done : Tokens) → are_fine fs ≡ true
-        → tokens_after file o (more_pieces fs after) done ≡ tokens_after file (more_behind o fs) after (done ++ all_spelled (more_placed o fs) [])
+    pub more_told : (fs : FormTrees) (o : ℕ) (after : List Piece) (done : Tokens) → are_fine true fs ≡ true
+        → tokens_after file o (more_pieces fs after) done ≡ tokens_after file (more_behind o fs) after (done ++ map mark (all_spelled (more_placed o fs) []))
     more_told no_form o after done h = ap (tokens_after file o after) (sym (append-nil done))
     more_told (form_and f fs) o after done h =
-        let k = both (is_fine f) (are_fine fs) h in
+        let k = both (is_fine true f) (are_fine true fs) h in
         let there = past o (space 32) in
         next o (space 32) (pieces f (more_pieces fs after)) done done refl
         ∙ form_told f there (more_pieces fs after) done k.0
-        ∙ more_told fs (behind there f) after (done ++ spelled (placed there f) []) k.1
+        ∙ more_told fs (behind there f) after (done ++ map mark (spelled (placed there f) [])) k.1
         ∙ ap (tokens_after file (more_behind (behind there f) fs) after) (joined done (placed there f) (more_placed (behind there f) fs))

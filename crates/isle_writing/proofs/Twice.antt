@@ -5,7 +5,7 @@ use Rattle.model.specs.lists.Syntax.{Name, PatternTree, var_pattern, bind_patter
 use Rattle.isle_reader.specs.Solid.{nowhere, placeless_name}
 use Rattle.isle_writing.specs.Placeless.{placeless_pattern, placeless_patterns, placeless_expr, placeless_exprs, placeless_lets, placeless_field, placeless_tuple_field, placeless_fields, placeless_variant, placeless_value, placeless_if_let, placeless_extern, placeless_definition}
 
-map_twice : {A : Type 0} (f : A → A) → ((x : A) → f (f x) ≡ f x) → (xs : List A) → map f (map f xs) ≡ map f xs
+pub map_twice : {A : Type 0} (f : A → A) → ((x : A) → f (f x) ≡ f x) → (xs : List A) → map f (map f xs) ≡ map f xs
 map_twice f twice [] = refl
 map_twice f twice (x ∷ xs) = rw (twice x, map_twice f twice xs) refl
 

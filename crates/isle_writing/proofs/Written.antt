@@ -12,9 +12,9 @@ use Rattle.model.specs.lists.Syntax.{Name}
 use Rattle.isle_reader.specs.Lexemes.{begins_number}
 use Rattle.isle_reader.specs.FormTrees.{FormTree, a_word, a_number, a_constant, a_binding, a_list, FormTrees, no_form, form_and}
 use Rattle.isle_reader.specs.Pieces.{Piece, space, left, right, bind, name, sign, spelling, size, is_in_word, is_name, is_constant, ends_word, begins_with, Stands, AreIn}
-use Rattle.isle_writing.specs.Spellable.{begins_word, has_word_characters, is_word, is_some_text, is_constant_name, is_signed_128}
+use Rattle.isle_writing.specs.Spellable.{begins_any_word, has_word_characters, is_word, is_any_word, is_some_text, is_constant_name, is_signed_128}
 use Rattle.isle_writing.specs.Texts.{written, parted, spaced}
-use Rattle.isle_writing.proofs.Parts.{both, word_parts, constant_parts, character_parts, beginning_parts, beginning_some, nothing_begins}
+use Rattle.isle_writing.proofs.Parts.{both, any_word_parts, constant_parts, character_parts, any_beginning_parts, any_beginning_some, nothing_begins_any, word_is_any}
 use Rattle.isle_writing.proofs.Fine.{is_fine, are_fine}
 use Rattle.isle_writing.proofs.Numbers.{number_characters, number_ascii, number_some, begins_as_number}
 
@@ -115,8 +115,8 @@ name_utf8 n h = IsUtf8-from_is_utf8 n.text (character_parts n.text h).0
 pub name_in_word : (n : Name) → has_word_characters n.text ≡ true → list_all is_in_word (chars n.text) ≡ true
 name_in_word n h = (character_parts n.text h).1
 
-pub word_characters : (n : Name) → is_word n ≡ true → has_word_characters n.text ≡ true
-word_characters n h = (word_parts n h).1
+pub word_characters : (n : Name) → is_any_word n ≡ true → has_word_characters n.text ≡ true
+word_characters n h = (any_word_parts n h).1
 
 pub constant_characters : (n : Name) → is_constant_name n ≡ true → has_word_characters n.text ≡ true
 constant_characters n h = (constant_parts n h).1
@@ -130,13 +130,13 @@ some_chars t u some = by (chars t) (ap is_some_text (encodes-chars t u) ∙ some
     by (c ∷ cs) h = refl
 
 -- a word's first character is no `$`
-pub no_sign : (t : List ℕ) (c : ℕ) (cs : List ℕ) → IsUtf8 t → chars t ≡ c ∷ cs → begins_word t ≡ true → (c == 36) ≡ false
-no_sign [] c cs u e h = absurd (true≢false (sym h ∙ nothing_begins))
+pub no_sign : (t : List ℕ) (c : ℕ) (cs : List ℕ) → IsUtf8 t → chars t ≡ c ∷ cs → begins_any_word t ≡ true → (c == 36) ≡ false
+no_sign [] c cs u e h = absurd (true≢false (sym h ∙ nothing_begins_any))
 no_sign (b ∷ bs) c cs u e h = elim (cases_Bool (c == 36)) [
   | inl d ↦
       let whole : b ∷ bs ≡ encode_utf8 36 ++ encode_utf8_all cs = sym (encodes-chars (b ∷ bs) u) ∙ ap encode_utf8_all (e ∙ ap (λ x. x ∷ cs) (eqb-true c 36 d)) in
       let first : b ≡ 36 = byte_from_char (b ∷ bs) (encode_utf8_all cs) 36 whole (omega arith) in
-      absurd (true≢false (ap (λ x. x == 36) (sym first) ∙ (beginning_parts b bs h).0))
+      absurd (true≢false (ap (λ x. x == 36) (sym first) ∙ (any_beginning_parts b bs h).0))
   | inr d ↦ d
 ]
 
@@ -152,14 +152,14 @@ stands o (c ∷ cs) h all some plain =
     by true = refl
     by false = refl
 
-word_stands : (o : ℕ) (n : Name) → 1 ≤ o → is_word n ≡ true → is_name o (chars n.text) ≡ true
+word_stands : (o : ℕ) (n : Name) → 1 ≤ o → is_any_word n ≡ true → is_name o (chars n.text) ≡ true
 word_stands o n begun h =
     let characters = word_characters n h in
     let utf8 = name_utf8 n characters in
-    let begins = (word_parts n h).0 in
-    stands o (chars n.text) begun (name_in_word n characters) (some_chars n.text utf8 (beginning_some n.text begins)) (by (chars n.text) refl utf8 begins)
+    let begins = (any_word_parts n h).0 in
+    stands o (chars n.text) begun (name_in_word n characters) (some_chars n.text utf8 (any_beginning_some n.text begins)) (by (chars n.text) refl utf8 begins)
   where
-    by : (cs : List ℕ) → chars n.text ≡ cs → IsUtf8 n.text → begins_word n.text ≡ true → begins_with 36 cs ≡ false
+    by : (cs : List ℕ) → chars n.text ≡ cs → IsUtf8 n.text → begins_any_word n.text ≡ true → begins_with 36 cs ≡ false
     by [] e u b = refl
     by (c ∷ cs) e u b = no_sign n.text c cs u e b
 
@@ -197,25 +197,25 @@ no_comment (c ∷ cs) rest all some = no_semicolon c (both (is_in_word c) (list_
 pub plain_text : (t rest : List ℕ) → IsUtf8 t → list_all is_in_word (chars t) ≡ true → is_some_text t ≡ true → begins_with 59 (chars (t ++ rest)) ≡ false
 plain_text t rest u all some = ap (begins_with 59) (chars-append t rest u) ∙ no_comment (chars t) (chars rest) all (some_chars t u some)
 
-word_plain : (n : Name) (rest : List ℕ) → is_word n ≡ true → begins_with 59 (chars (n.text ++ rest)) ≡ false
+word_plain : (n : Name) (rest : List ℕ) → is_any_word n ≡ true → begins_with 59 (chars (n.text ++ rest)) ≡ false
 word_plain n rest h =
     let characters = word_characters n h in
-    plain_text n.text rest (name_utf8 n characters) (name_in_word n characters) (beginning_some n.text (word_parts n h).0)
+    plain_text n.text rest (name_utf8 n characters) (name_in_word n characters) (any_beginning_some n.text (any_word_parts n h).0)
 
 pub number_utf8 : (z : ℤ) → is_signed_128 z ≡ true → IsUtf8 (signed_decimal z)
 number_utf8 z h = IsUtf8-from_ascii (signed_decimal z) (number_ascii z h)
 
-form_plain : (f : FormTree) (rest : List ℕ) → is_fine f ≡ true → begins_with 59 (chars (text f rest)) ≡ false
+form_plain : (f : FormTree) (rest : List ℕ) → is_fine true f ≡ true → begins_with 59 (chars (text f rest)) ≡ false
 form_plain (a_word n) rest h = word_plain n rest h
 form_plain (a_number z p) rest h =
     plain_text (signed_decimal z) rest (number_utf8 z h) (ap (list_all is_in_word) (chars-IsAscii (signed_decimal z) (number_ascii z h)) ∙ number_characters z h) (number_some z h)
 form_plain (a_constant n p) rest h = ap (begins_with 59) (first_char 36 (n.text ++ rest) (omega arith))
-form_plain (a_binding n f) rest h = word_plain n (32 ∷ 64 ∷ 32 ∷ text f rest) (both (is_word n) (is_fine f) h).0
+form_plain (a_binding n f) rest h = word_plain n (32 ∷ 64 ∷ 32 ∷ text f rest) (word_is_any n (both (is_word n) (is_fine true f) h).0)
 form_plain (a_list fs p e) rest h = ap (begins_with 59) (first_char 40 (parts_text fs (41 ∷ rest)) (omega arith))
 
-parts_plain : (fs : FormTrees) (rest : List ℕ) → are_fine fs ≡ true → begins_with 59 (chars rest) ≡ false → begins_with 59 (chars (parts_text fs rest)) ≡ false
+parts_plain : (fs : FormTrees) (rest : List ℕ) → are_fine true fs ≡ true → begins_with 59 (chars rest) ≡ false → begins_with 59 (chars (parts_text fs rest)) ≡ false
 parts_plain no_form rest h plain = plain
-parts_plain (form_and f fs) rest h plain = form_plain f (more_text fs rest) (both (is_fine f) (are_fine fs) h).0
+parts_plain (form_and f fs) rest h plain = form_plain f (more_text fs rest) (both (is_fine true f) (are_fine true fs) h).0
 
 more_ends : (fs : FormTrees) (rest : List ℕ) → ends_word (chars rest) ≡ true → ends_word (chars (more_text fs rest)) ≡ true
 more_ends no_form rest h = h
@@ -231,7 +231,7 @@ pub one_piece : (o c : ℕ) (rest : List ℕ) (p : Piece) (after : List Piece) �
     → AreIn o (chars (c ∷ rest)) (p ∷ after)
 one_piece o c rest p after small is stand h = (chars rest, first_char c rest small ∙ ap (λ cs. cs ++ chars rest) (sym is), stand, h)
 
-word_piece : (o : ℕ) (n : Name) (rest : List ℕ) (after : List Piece) → 1 ≤ o → is_word n ≡ true → ends_word (chars rest) ≡ true
+word_piece : (o : ℕ) (n : Name) (rest : List ℕ) (after : List Piece) → 1 ≤ o → is_any_word n ≡ true → ends_word (chars rest) ≡ true
     → AreIn (past o (name (chars n.text))) (chars rest) after → AreIn o (chars (n.text ++ rest)) (name (chars n.text) ∷ after)
 word_piece o n rest after begun h ends are =
     (chars rest, chars-append n.text rest (name_utf8 n (word_characters n h)), (word_stands o n begun h, ends), are)
@@ -279,18 +279,18 @@ mutual
   more_farther (form_and f fs) o h = more_farther fs (behind (past o (space 32)) f) (farther f (past o (space 32)) (later o (space 32) h))
 
 mutual
-  pub form_in : (f : FormTree) (o : ℕ) (rest : List ℕ) (after : List Piece) → is_fine f ≡ true → 1 ≤ o → ends_word (chars rest) ≡ true
+  pub form_in : (f : FormTree) (o : ℕ) (rest : List ℕ) (after : List Piece) → is_fine true f ≡ true → 1 ≤ o → ends_word (chars rest) ≡ true
       → AreIn (behind o f) (chars rest) after → AreIn o (chars (text f rest)) (pieces f after)
   form_in (a_word n) o rest after h begun ends are = word_piece o n rest after begun h ends are
   form_in (a_number z p) o rest after h begun ends are = number_piece o z rest after begun h ends are
   form_in (a_constant n p) o rest after h begun ends are = constant_piece o n rest after h ends are
   form_in (a_binding n f) o rest after h begun ends are =
-      let k = both (is_word n) (is_fine f) h in
+      let k = both (is_word n) (is_fine true f) h in
       let one = past o (name (chars n.text)) in
       let two = past one (space 32) in
       let three = past two bind in
       let four = past three (space 32) in
-      word_piece o n (32 ∷ 64 ∷ 32 ∷ text f rest) (space 32 ∷ bind ∷ space 32 ∷ pieces f after) begun k.0 (ends_after 32 (64 ∷ 32 ∷ text f rest) (omega arith) refl)
+      word_piece o n (32 ∷ 64 ∷ 32 ∷ text f rest) (space 32 ∷ bind ∷ space 32 ∷ pieces f after) begun (word_is_any n k.0) (ends_after 32 (64 ∷ 32 ∷ text f rest) (omega arith) refl)
       (one_piece one 32 (64 ∷ 32 ∷ text f rest) (space 32) (bind ∷ space 32 ∷ pieces f after) (omega arith) refl refl
       (one_piece two 64 (32 ∷ text f rest) bind (space 32 ∷ pieces f after) (omega arith) refl tt
       (one_piece three 32 (text f rest) (space 32) (pieces f after) (omega arith) refl refl
@@ -302,19 +302,19 @@ mutual
       (parts_in fs inside (41 ∷ rest) (right ∷ after) h (begins o left refl) (ends_after 41 rest (omega arith) refl)
       (one_piece (parts_behind inside fs) 41 rest right after (omega arith) refl tt are))
 
-  pub parts_in : (fs : FormTrees) (o : ℕ) (rest : List ℕ) (after : List Piece) → are_fine fs ≡ true → 1 ≤ o → ends_word (chars rest) ≡ true
+  pub parts_in : (fs : FormTrees) (o : ℕ) (rest : List ℕ) (after : List Piece) → are_fine true fs ≡ true → 1 ≤ o → ends_word (chars rest) ≡ true
       → AreIn (parts_behind o fs) (chars rest) after → AreIn o (chars (parts_text fs rest)) (parts_pieces fs after)
   parts_in no_form o rest after h begun ends are = are
   parts_in (form_and f fs) o rest after h begun ends are =
-      let k = both (is_fine f) (are_fine fs) h in
+      let k = both (is_fine true f) (are_fine true fs) h in
       form_in f o (more_text fs rest) (more_pieces fs after) k.0 begun (more_ends fs rest ends)
       (more_in fs (behind o f) rest after k.1 (farther f o begun) ends are)
 
-  pub more_in : (fs : FormTrees) (o : ℕ) (rest : List ℕ) (after : List Piece) → are_fine fs ≡ true → 1 ≤ o → ends_word (chars rest) ≡ true
+  pub more_in : (fs : FormTrees) (o : ℕ) (rest : List ℕ) (after : List Piece) → are_fine true fs ≡ true → 1 ≤ o → ends_word (chars rest) ≡ true
       → AreIn (more_behind o fs) (chars rest) after → AreIn o (chars (more_text fs rest)) (more_pieces fs after)
   more_in no_form o rest after h begun ends are = are
   more_in (form_and f fs) o rest after h begun ends are =
-      let k = both (is_fine f) (are_fine fs) h in
+      let k = both (is_fine true f) (are_fine true fs) h in
       let next = past o (space 32) in
       one_piece o 32 (text f (more_text fs rest)) (space 32) (pieces f (more_pieces fs after)) (omega arith) refl refl
       (form_in f next (more_text fs rest) (more_pieces fs after) k.0 (later o (space 32) begun) (more_ends fs rest ends)
@@ -328,7 +328,7 @@ is_list (a_binding n f) = false
 is_list (a_list fs p e) = true
 
 -- a list stands at the beginning of a text too
-pub whole_in : (f : FormTree) (o : ℕ) (rest : List ℕ) (after : List Piece) → is_list f ≡ true → is_fine f ≡ true
+pub whole_in : (f : FormTree) (o : ℕ) (rest : List ℕ) (after : List Piece) → is_list f ≡ true → is_fine true f ≡ true
     → AreIn (behind o f) (chars rest) after → AreIn o (chars (text f rest)) (pieces f after)
 whole_in (a_word n) o rest after list h are = absurd (false≢true list)
 whole_in (a_number z p) o rest after list h are = absurd (false≢true list)

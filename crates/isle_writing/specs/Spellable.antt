@@ -7,6 +7,7 @@ use Rattle.model.specs.lists.Syntax.{Position, Name, PatternTree, var_pattern, b
 use Rattle.isle_base.specs.SyntaxViews.{definition_place}
 use Rattle.isle_reader.specs.Pieces.{is_in_word}
 use Rattle.isle_reader.specs.Grammar.{reads}
+use Rattle.isle_reader.specs.Lexemes.{begins_number}
 use Rattle.isle_reader.specs.RuleGrammar.{is_signed_64}
 
 -- ---- words and numbers
@@ -21,6 +22,14 @@ has_word_characters text = is_utf8 text && list_all is_in_word (chars text)
 
 unfoldable pub is_word : Name → Bool
 is_word n = begins_word n.text && has_word_characters n.text
+
+-- lists that are passed over may have words that begin with `-`, too
+unfoldable pub begins_any_word : List ℕ → Bool
+begins_any_word [] = false
+begins_any_word (b ∷ bs) = not (b == 36) && not (begins_number (b ∷ bs))
+
+unfoldable pub is_any_word : Name → Bool
+is_any_word n = begins_any_word n.text && has_word_characters n.text
 
 abbrev pub is_some_text : List ℕ → Bool
 is_some_text [] = false

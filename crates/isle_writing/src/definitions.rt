@@ -53,8 +53,8 @@ pub fn push_definitions(out: &mut String, defs: &[Def]) -> Result<(), AllocError
     Ok(())
 }
 
-// Adds a definition. One for other tools adds nothing.
-fn push_definition(out: &mut String, def: &Def) -> Result<(), AllocError>
+/// Adds a definition. In place of one for other tools an empty list stands, which can't be spelled.
+pub fn push_definition(out: &mut String, def: &Def) -> Result<(), AllocError>
     ensures { OnOk result (string_bytes out.new ≡ string_bytes out.old ++ written (form_of (definition_view def.now))) }
 {
     match def {

@@ -5,7 +5,7 @@
 //! other tools, since their lists aren't kept.
 #![tactic(auto)]
 
-mod definitions;
+pub mod definitions;
 mod expressions;
 pub mod faults;
 pub mod laws;

@@ -2,8 +2,8 @@
 
 ghost use Rattle.std.specs.Prelude.{◌≡◌, [], ◌∷◌, ◌++◌, if◌then◌else◌, map, OnOk, string_bytes};
 ghost use Rattle.isle_base.specs.SyntaxViews.{name_view};
-ghost use Rattle.isle_reader.specs.FormTrees.{no_form};
-ghost use Rattle.isle_writing.specs.Forms.{constant_form, flag_before, names_before, number_form, truth_form};
+ghost use Rattle.isle_reader.specs.FormTrees.{form_and, no_form};
+ghost use Rattle.isle_writing.specs.Forms.{constant_form, flag_before, list_form, names_before, number_form, truth_form, word_form};
 ghost use Rattle.isle_writing.specs.Texts.{parted, spaced, written};
 
 use isle_base::syntax::Ident;
@@ -78,4 +78,15 @@ pub fn push_names(out: &mut String, names: &[Ident]) -> Result<(), AllocError>
             push_words(out, rest)
         }
     }
+}
+
+/// Adds a list of a name and other names.
+pub fn push_use(out: &mut String, name: &Ident, args: &[Ident]) -> Result<(), AllocError>
+    ensures { OnOk result (string_bytes out.new
+        ≡ string_bytes out.old ++ written (list_form (form_and (word_form (name_view name.now)) (names_before (map name_view args.now) no_form)))) }
+{
+    out.push_str("(")?;
+    out.push_str(&name.0)?;
+    push_words(out, args)?;
+    out.push_str(")")
 }

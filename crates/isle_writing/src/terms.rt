@@ -1,16 +1,16 @@
 //! Declarations, extractors, conversions, and what is defined outside, as text.
 
-ghost use Rattle.std.specs.Prelude.{◌≡◌, ◌++◌, map, OnOk, string_bytes};
+ghost use Rattle.std.specs.Prelude.{◌≡◌, ◌++◌, OnOk, string_bytes};
 ghost use Rattle.isle_base.specs.SyntaxViews.{converter_view, decl_view, extern_view, extractor_view, name_view};
 ghost use Rattle.model.specs.lists.Syntax.{extern_const, extern_constructor, extern_extractor};
-ghost use Rattle.isle_reader.specs.FormTrees.{form_and, no_form};
+ghost use Rattle.isle_reader.specs.FormTrees.{no_form};
 ghost use Rattle.isle_reader.specs.Solid.{nowhere};
-ghost use Rattle.isle_writing.specs.Forms.{converter_form, decl_form, extern_form, extractor_form, flags_before, list_form, names_before, signature, word_form};
+ghost use Rattle.isle_writing.specs.Forms.{converter_form, decl_form, extern_form, extractor_form, flags_before, signature};
 ghost use Rattle.isle_writing.specs.Spellable.{converter_is_spellable, decl_is_spellable, extern_is_spellable, extractor_is_spellable};
 ghost use Rattle.isle_writing.specs.Texts.{spaced, written};
 
 use crate::patterns::{pattern_is_spellable, push_pattern};
-use crate::pieces::{push_constant, push_flag, push_names, push_word, push_words};
+use crate::pieces::{push_constant, push_flag, push_names, push_use, push_word};
 use crate::words::{are_words, is_constant_name, is_word};
 use isle_base::syntax::{Converter, Decl, Extern, Extractor, Ident};
 use std::alloc::AllocError;
@@ -90,17 +90,6 @@ pub fn push_extractor(out: &mut String, extractor: &Extractor) -> Result<(), All
     push_use(out, &extractor.term, &extractor.args)?;
     out.push_str(" ")?;
     push_pattern(out, &extractor.template)?;
-    out.push_str(")")
-}
-
-// Adds a list of a term and names.
-fn push_use(out: &mut String, term: &Ident, args: &[Ident]) -> Result<(), AllocError>
-    ensures { OnOk result (string_bytes out.new
-        ≡ string_bytes out.old ++ written (list_form (form_and (word_form (name_view term.now)) (names_before (map name_view args.now) no_form)))) }
-{
-    out.push_str("(")?;
-    out.push_str(&term.0)?;
-    push_words(out, args)?;
     out.push_str(")")
 }
 
