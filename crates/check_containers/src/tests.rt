@@ -10,4 +10,6 @@ mod syntax;
 mod moved;
 mod moved_forms;
 mod printed;
+mod said;
 mod spelled;
+mod verified;
