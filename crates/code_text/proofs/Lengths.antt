@@ -270,3 +270,6 @@ module _ (p : Notation) where
 
 pub size_within : (p : Notation) (b : Block) (at : Margin) → size p b ≤ suc (length (tokens_of (block_before p at b [])))
 size_within p b at = omega (arith, block_long p b at [])
+
+pub size_within_all : (p : Notation) (b : Block) (at : Margin) (rest : List Piece) → size p b ≤ suc (length (tokens_of (block_before p at b rest)))
+size_within_all p b at rest = omega (arith, block_long p b at rest)

@@ -1,5 +1,5 @@
 -- The text of pieces has the words and marks of their tokens.
-use Rattle.std.proofs.Common.{◌≡◌, ◌≢◌, ◌<◌, ◌*◌, ◌/◌, ◌%◌, ◌&&◌, ◌++◌, ◌==◌, ◌∷◌, [], ℕ, zero, suc, Bool, true, false, not, List, replicate, All, cond, refl, ap, ◌∙◌, sym, codes, decimal, arith}
+use Rattle.std.proofs.Common.{◌≡◌, ◌≢◌, ◌<◌, ◌*◌, ◌/◌, ◌%◌, ◌++◌, ◌==◌, ◌∷◌, [], ℕ, zero, suc, Bool, true, false, not, List, replicate, All, cond, refl, ap, ◌∙◌, sym, codes, decimal, arith}
 use Rattle.std.specs.Prelude.{min}
 use Rattle.std.specs.Fmt.{digits, digits_onto, digit_glyph}
 use Rattle.std.proofs.lemmas.Bool.{and_parts, and_from, false≢true, not-true, ne_eqb}
@@ -11,14 +11,11 @@ use Rattle.code_text.specs.Written.{function_body}
 use Rattle.code_text.specs.Spelling.{Names, word_text, token_text, spelled, deepest}
 use Rattle.code_text.specs.Parted.{is_lettered, begins_word, ends_word, parted}
 use Rattle.code_text.specs.Lexing.{is_letter, State, in_word, in_comment, letter_or_other, begun, word_goes_on, comment_ends, lexed_from, lexed, starts_apart, IsWhole, AreWhole, pieces_lexed, TextHasTokens}
+use Rattle.code_text.specs.Closed.{all_letters}
 use Rattle.code_text.proofs.Parted.{apart, tokens_are_parted_lem}
 
 -- 1. words
-abbrev all_letters : List ℕ → Bool
-all_letters [] = true
-all_letters (c ∷ cs) = is_letter c && all_letters cs
-
-word_ends : (w rest : List ℕ) → starts_apart rest ≡ true → lexed_from rest (in_word w) ≡ w ∷ lexed rest
+pub word_ends : (w rest : List ℕ) → starts_apart rest ≡ true → lexed_from rest (in_word w) ≡ w ∷ lexed rest
 word_ends w [] h = refl
 word_ends w (c ∷ cs) h = word_ends_at (is_letter c) refl
   where
@@ -47,7 +44,7 @@ letters_whole [] h rest r = refl
 letters_whole (c ∷ ds) h rest r = word_read c ds rest h r ∙ ap (λ xs. xs ++ lexed rest) (sym (ap lexed (sym (append-nil (c ∷ ds))) ∙ word_read c ds [] h refl))
 
 -- 2. numbers
-digit_letter : (d : ℕ) → d < 10 → is_letter (digit_glyph false d) ≡ true
+digit_letter : (d : ℕ) → d < 16 → is_letter (digit_glyph false d) ≡ true
 digit_letter zero h = refl
 digit_letter (suc zero) h = refl
 digit_letter (suc (suc zero)) h = refl
@@ -58,22 +55,32 @@ digit_letter (suc (suc (suc (suc (suc (suc zero)))))) h = refl
 digit_letter (suc (suc (suc (suc (suc (suc (suc zero))))))) h = refl
 digit_letter (suc (suc (suc (suc (suc (suc (suc (suc zero)))))))) h = refl
 digit_letter (suc (suc (suc (suc (suc (suc (suc (suc (suc zero))))))))) h = refl
-digit_letter (suc (suc (suc (suc (suc (suc (suc (suc (suc (suc d)))))))))) h = absurd (omega arith)
+digit_letter (suc (suc (suc (suc (suc (suc (suc (suc (suc (suc zero)))))))))) h = refl
+digit_letter (suc (suc (suc (suc (suc (suc (suc (suc (suc (suc (suc zero))))))))))) h = refl
+digit_letter (suc (suc (suc (suc (suc (suc (suc (suc (suc (suc (suc (suc zero)))))))))))) h = refl
+digit_letter (suc (suc (suc (suc (suc (suc (suc (suc (suc (suc (suc (suc (suc zero))))))))))))) h = refl
+digit_letter (suc (suc (suc (suc (suc (suc (suc (suc (suc (suc (suc (suc (suc (suc zero)))))))))))))) h = refl
+digit_letter (suc (suc (suc (suc (suc (suc (suc (suc (suc (suc (suc (suc (suc (suc (suc zero))))))))))))))) h = refl
+digit_letter (suc (suc (suc (suc (suc (suc (suc (suc (suc (suc (suc (suc (suc (suc (suc (suc d)))))))))))))))) h = absurd (omega arith)
 
 either_letters : (b : Bool) (x y : List ℕ) → all_letters x ≡ true → all_letters y ≡ true → all_letters (cond b x y) ≡ true
 either_letters true x y h k = h
 either_letters false x y h k = k
 
-more_digits : (k n : ℕ) (acc : List ℕ) → all_letters acc ≡ true → all_letters (digits_onto k 10 false n acc) ≡ true
-more_digits zero n acc h = h
-more_digits (suc k) n acc h =
-    let ds : List ℕ = digit_glyph false (n % 10) ∷ acc in
-    let all : all_letters ds ≡ true = and_from (is_letter (digit_glyph false (n % 10))) (all_letters acc) (digit_letter (n % 10) (omega arith)) h in
-    either_letters (n / 10 == 0) ds (digits_onto k 10 false (n / 10) ds) all (more_digits k (n / 10) ds all)
+more_digits : (base : ℕ) → ((n : ℕ) → n % base < 16) → (k n : ℕ) (acc : List ℕ) → all_letters acc ≡ true → all_letters (digits_onto k base false n acc) ≡ true
+more_digits base small zero n acc h = h
+more_digits base small (suc k) n acc h =
+    let ds : List ℕ = digit_glyph false (n % base) ∷ acc in
+    let all : all_letters ds ≡ true = and_from (is_letter (digit_glyph false (n % base))) (all_letters acc) (digit_letter (n % base) (small n)) h in
+    either_letters (n / base == 0) ds (digits_onto k base false (n / base) ds) all (more_digits base small k (n / base) ds all)
 
-decimal_letters : (n : ℕ) → all_letters (decimal n) ≡ true
+pub decimal_letters : (n : ℕ) → all_letters (decimal n) ≡ true
 unfolding digits
-decimal_letters n = more_digits 64 n [] refl
+decimal_letters n = more_digits 10 (λ m. omega arith) 64 n [] refl
+
+pub hexadecimal_letters : (n : ℕ) → all_letters (digits 16 false n) ≡ true
+unfolding digits
+hexadecimal_letters n = more_digits 16 (λ m. omega arith) 64 n [] refl
 
 -- 3. tokens
 abbrev IsToken : (mark : Bool) → List ℕ → Type 0
@@ -127,7 +134,7 @@ word_token star rest r = refl
 marked : (c : ℕ) (text : List ℕ) → ((rest : List ℕ) → lexed (c ∷ rest) ≡ (c ∷ []) ∷ lexed rest) → IsWhole text → IsWhole (c ∷ text)
 marked c text m h rest r = m (text ++ rest) ∙ (ap (λ xs. (c ∷ []) ∷ xs) (h rest r) ∙ ap (λ xs. xs ++ lexed rest) (sym (m text)))
 
-letters_before : (x y : List ℕ) → all_letters x ≡ true → all_letters y ≡ true → all_letters (x ++ y) ≡ true
+pub letters_before : (x y : List ℕ) → all_letters x ≡ true → all_letters y ≡ true → all_letters (x ++ y) ≡ true
 letters_before [] y h k = k
 letters_before (c ∷ x) y h k = let hs = and_parts (is_letter c) (all_letters x) h in and_from (is_letter c) (all_letters (x ++ y)) hs.0 (letters_before x y hs.1 k)
 

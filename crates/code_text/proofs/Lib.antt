@@ -3,11 +3,17 @@ mod Values
 mod Patterns
 mod Tests
 mod Statements
-mod Written
+pub mod Written
 mod Lengths
 mod ReadsBack
 mod Samples
+mod TextSamples
 mod Alike
 mod FlatWritable
+mod MovesWritable
 mod Parted
-mod Lexing
+pub mod Lexing
+pub mod Closed
+mod ReadTexts
+mod Unlogged
+pub mod Writing

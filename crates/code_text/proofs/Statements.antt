@@ -1,21 +1,21 @@
 -- Each statement is read back, where the blocks in it are.
-use Rattle.std.proofs.Common.{◌≡◌, ◌<◌, ◌≤◌, ◌∷◌, [], ℕ, suc, Bool, true, false, List, length, Option, Some, None, is_some, refl, ap, ◌∙◌, sym}
+use Rattle.std.proofs.Common.{◌≡◌, ◌<◌, ◌≤◌, ◌∷◌, [], ℕ, suc, Bool, true, false, List, length, Option, Some, None, is_some, refl, ap, ◌∙◌, sym, subst, inl, inr}
 use Rattle.std.proofs.lemmas.Bool.{false≢true}
 use Rattle.model.specs.lists.Syntax.{Position}
 use Rattle.model.specs.sites.Sites.{Constraint, is_variant, is_struct, is_bool, is_int, is_prim, is_present}
 use Rattle.model.specs.rules.Outcome.{then_option}
 use Rattle.model.proofs.SameSites.{number_same}
-use Rattle.code_model.specs.Code.{Use, Expr, truth_written, read, extraction, call, variant_of, struct_of, some_of, Block, Statement, bind, bind_some, match_on, if_equal, for_each_of, give, labelled, unless_let, unless_equal, CodeArms, no_code_arm, code_arm}
-use Rattle.code_text.specs.Tokens.{let_word, some_word, else_word, opening, closing, opening_brace, closing_brace, comma, semicolon, dot, equals, equal_to, unlike, ampersand, mut_word, next_word, iter_word, while_word, ctx_word, none_word, arrow, Token, word, variable_name, no_match}
+use Rattle.code_model.specs.Code.{Place, name_written, Use, Expr, truth_written, read, extraction, call, variant_of, struct_of, some_of, Block, Statement, bind, bind_some, match_on, if_equal, for_each_of, give, labelled, unless_let, unless_equal, CodeArms, no_code_arm, code_arm}
+use Rattle.code_text.specs.Tokens.{let_word, some_word, else_word, opening, closing, opening_brace, closing_brace, comma, semicolon, dot, equals, equal_to, unlike, ampersand, star, mut_word, next_word, iter_word, while_word, ctx_word, none_word, arrow, Token, word, variable_name, no_match}
 use Rattle.code_text.specs.Notation.{Notation, Kind, gives_one, gives_option, gives_many, Callee, extractor_of, constructor_of}
-use Rattle.code_text.specs.Pieces.{Piece, token, space, line_end, set_in, tokens_of, Margin, inside, put, put_first, put_between, put_all, end_line, use_before, pattern_before, is_constant, is_seen_through, constant_before, comparison_before, let_before, arm_pattern, break_before, open_body, close_body, one_line, many_lines, call_lines, bind_lines, failure_before, bind_some_line, log_lines, give_lines, result_lines, equal_head, loop_head, unless_line, unless_equal_line, arm_head, in_braces_at, label_before, match_head, arms_at, match_end, block_before, arms_before}
+use Rattle.code_text.specs.Pieces.{Piece, token, space, line_end, set_in, tokens_of, Margin, inside, put, put_if, put_first, put_between, put_all, end_line, use_before, pattern_before, is_constant, is_seen_through, constant_before, comparison_before, let_before, arm_pattern, break_before, open_body, close_body, one_line, many_lines, call_lines, bind_lines, failure_before, bind_some_line, log_lines, give_lines, result_lines, equal_head, loop_head, unless_line, unless_equal_line, arm_head, in_braces_at, label_before, match_head, arms_at, match_end, block_before, arms_before}
 use Rattle.code_text.specs.Shown.{nowhere, shown_use, shown_uses, shown_expr, shown_constraint, shown, shown_at, equal_or_match, unless_either, test_at}
-use Rattle.code_text.specs.Reading.{Reading, then_read, where_found, only_if, expect, expect_all, expect_variable, read_use, Pattern, Compared, equal_of, unless_of, read_break, Inner, read_body, done, read_else, read_loop, read_let, read_let_pattern, read_sign, read_if, given_words, last_arm, read_arm_pattern, read_arms, read_statement, read_block}
+use Rattle.code_text.specs.Reading.{Reading, then_read, where_found, only_if, expect, expect_all, expect_variable, read_use, Pattern, Compared, equal_of, unless_of, read_break, Inner, read_body, done, lent_test, read_lent_sign, read_else, read_loop, read_let, read_let_pattern, read_sign, read_if, given_words, last_arm, read_arm_pattern, read_arms, read_statement, read_block}
 use Rattle.code_text.specs.ReadsBack.{pattern_writable, match_writable, expr_writable, expr_size, ends_block}
 use Rattle.code_text.proofs.Uses.{after_use, that_variable}
 use Rattle.code_text.proofs.Values.{call_back, expr_back}
 use Rattle.code_text.proofs.Patterns.{is_named, pattern_back}
-use Rattle.code_text.proofs.Tests.{seen, after_compared, after_second, constant_compared, after_constant, equal_back, unless_back, constants_bind_nothing, if_back, arm_back, break_back}
+use Rattle.code_text.proofs.Tests.{seen, match_plain, plain_or_lent, plain_where_seen, lent_use, constant_use, after_compared, after_second, constant_compared, after_constant, equal_back, unless_back, constants_bind_nothing, if_back, arm_back, break_back}
 
 -- no constant, so no named one
 not_named : (c : Constraint) → is_constant c ≡ false → is_named c ≡ false
@@ -112,21 +112,58 @@ module _ (p : Notation) (n : ℕ) where
       → IsBack at (equal_head p at a b (block_before p (inside at) body (close_body at rest))) (shown_at p (if_equal a b body)) rest
   equal_back_at at a b body rest h =
       let later : List Piece = open_body (block_before p (inside at) body (close_body at rest)) in
-      if_back false p inner at.label a (put_between equal_to (use_before p b later))
+      if_back false p inner at.label a (put_between equal_to (use_before p b later)) (λ e. absurd (false≢true e))
       ∙ (after_use p a (put_between equal_to (use_before p b later)) (read_sign p inner at.label) refl
       ∙ (after_second p b later (with_compared at.label (shown_use p a)) refl
       ∙ ap (λ r. then_read r (λ x end. Some (equal_or_match (test_at p (shown_use p a) (shown_use p b).place b.pass) (shown_use p a) (shown_use p b) x, end))) (body_back (inside at) at body rest h)))
 
-  constant_head : (at : Margin) (u : Use) (c : Constraint) (fields : List (Option ℕ)) (body : Block) (rest : List Piece) → is_constant c ≡ true → pattern_writable p c fields ≡ true → match_writable p u c ≡ true
+  plain_head : (at : Margin) (u : Use) (c : Constraint) (fields : List (Option ℕ)) (body : Block) (rest : List Piece) → is_constant c ≡ true → pattern_writable p c fields ≡ true → match_plain p u c ≡ true
       → BlockBack (inside at) body (close_body at rest)
       → read_if p inner at.label (tokens_of (comparison_before p u equal_to c (open_body (block_before p (inside at) body (close_body at rest))))) ≡ Some (match_on (shown_use p u) (code_arm (shown_constraint p c) fields (shown p body) no_code_arm), tokens_of rest)
-  constant_head at u c fields body rest k w m h =
+  plain_head at u c fields body rest k w m h =
       let later : List Piece = open_body (block_before p (inside at) body (close_body at rest)) in
-      if_back (is_seen_through p c) p inner at.label u (put_between equal_to (constant_before p c later))
+      if_back (is_seen_through p c) p inner at.label u (put_between equal_to (constant_before p c later)) (plain_where_seen p u c m)
       ∙ (after_compared p u c (put_between equal_to (constant_before p c later)) (read_sign p inner at.label) m refl
       ∙ (after_constant p c later (with_compared at.label (seen (is_seen_through p c) (shown_use p u))) k refl
       ∙ (ap (λ r. then_read r (λ x end. Some (equal_of p (seen (is_seen_through p c) (shown_use p u)) (constant_compared p c) x, end))) (body_back (inside at) at body rest h)
       ∙ rw (equal_back p u c (shown p body) k m, constants_bind_nothing p c fields k w))))
+
+  lent_head : (at : Margin) (place : Place) (name : ℕ) (body : Block) (rest : List Piece) → p.is_constant_composed name ≡ true → BlockBack (inside at) body (close_body at rest)
+      → read_if p inner at.label (tokens_of (comparison_before p (lent_use place) equal_to (is_prim name) (open_body (block_before p (inside at) body (close_body at rest)))))
+      ≡ Some (match_on (shown_use p (lent_use place)) (code_arm (is_prim name) [] (shown p body) no_code_arm), tokens_of rest)
+  lent_head at place name body rest e h =
+      let u : Use = shown_use p (lent_use place) in
+      let later : List Piece = open_body (block_before p (inside at) body (close_body at rest)) in
+      let compared : List Piece = put_between equal_to (constant_before p (is_prim name) later) in
+      ap (λ b. read_if p inner at.label (tokens_of (put_if b star (use_before p (lent_use place) compared)))) e
+      ∙ (after_use p (lent_use place) compared (read_lent_sign p inner at.label) refl
+      ∙ (after_use p (constant_use (name_written name)) later (λ b tokens. then_option {X = Use × Constraint} (lent_test p u b.place b.pass) (λ test. with_body at.label (λ x. match_on test.0 (code_arm test.1 [] x no_code_arm)) tokens)) refl
+      ∙ (ap (λ b. then_option {X = Use × Constraint} (only_if b (u, is_prim name)) (λ test. with_body at.label (λ x. match_on test.0 (code_arm test.1 [] x no_code_arm)) (tokens_of later))) e
+      ∙ ap (λ r. then_read r (λ x end. Some (match_on u (code_arm (is_prim name) [] x no_code_arm), end))) (body_back (inside at) at body rest h))))
+
+  named_head : (at : Margin) (u : Use) (name : ℕ) (fields : List (Option ℕ)) (body : Block) (rest : List Piece) → pattern_writable p (is_prim name) fields ≡ true → match_writable p u (is_prim name) ≡ true
+      → BlockBack (inside at) body (close_body at rest)
+      → read_if p inner at.label (tokens_of (comparison_before p u equal_to (is_prim name) (open_body (block_before p (inside at) body (close_body at rest))))) ≡ Some (match_on (shown_use p u) (code_arm (is_prim name) fields (shown p body) no_code_arm), tokens_of rest)
+  named_head at u name fields body rest w m h =
+      elim (plain_or_lent (p.is_constant_composed name) u.pass m) [
+        | inl plain ↦ plain_head at u (is_prim name) fields body rest refl w plain h
+        | inr l ↦
+            rw (constants_bind_nothing p (is_prim name) fields refl w)
+            (subst
+            (λ pass. read_if p inner at.label (tokens_of (comparison_before p (record { place = u.place; pass = pass }) equal_to (is_prim name) (open_body (block_before p (inside at) body (close_body at rest)))))
+            ≡ Some (match_on (shown_use p (record { place = u.place; pass = pass })) (code_arm (is_prim name) [] (shown p body) no_code_arm), tokens_of rest))
+            (sym l.1) (lent_head at u.place name body rest l.0 h))
+      ]
+
+  constant_head : (at : Margin) (u : Use) (c : Constraint) (fields : List (Option ℕ)) (body : Block) (rest : List Piece) → is_constant c ≡ true → pattern_writable p c fields ≡ true → match_writable p u c ≡ true
+      → BlockBack (inside at) body (close_body at rest)
+      → read_if p inner at.label (tokens_of (comparison_before p u equal_to c (open_body (block_before p (inside at) body (close_body at rest))))) ≡ Some (match_on (shown_use p u) (code_arm (shown_constraint p c) fields (shown p body) no_code_arm), tokens_of rest)
+  constant_head at u (is_prim name) fields body rest k w m h = named_head at u name fields body rest w m h
+  constant_head at u (is_bool b ty) fields body rest k w m h = plain_head at u (is_bool b ty) fields body rest k w refl h
+  constant_head at u (is_int z ty) fields body rest k w m h = plain_head at u (is_int z ty) fields body rest k w refl h
+  constant_head at u (is_variant ty variant m) fields body rest k w e h = absurd (false≢true k)
+  constant_head at u (is_struct ty m) fields body rest k w e h = absurd (false≢true k)
+  constant_head at u is_present fields body rest k w e h = absurd (false≢true k)
 
   let_head : (at : Margin) (u : Use) (c : Constraint) (fields : List (Option ℕ)) (body : Block) (rest : List Piece) → is_constant c ≡ false → pattern_writable p c fields ≡ true
       → BlockBack (inside at) body (close_body at rest)
@@ -150,15 +187,47 @@ module _ (p : Notation) (n : ℕ) where
   alone_back at u c fields body rest w m h = head_at (is_constant c) at u c fields body rest refl w m h
 
   -- 4. tests that leave a label
-  unless_constant : (at : Margin) (u : Use) (c : Constraint) (fields : List (Option ℕ)) (rest : List Piece) → is_some at.label ≡ true → is_constant c ≡ true → pattern_writable p c fields ≡ true → match_writable p u c ≡ true
+  unless_plain : (at : Margin) (u : Use) (c : Constraint) (fields : List (Option ℕ)) (rest : List Piece) → is_some at.label ≡ true → is_constant c ≡ true → pattern_writable p c fields ≡ true → match_plain p u c ≡ true
       → IsBack at (unless_line true p at u c fields rest) (unless_let (shown_use p u) (shown_constraint p c) fields) rest
-  unless_constant at u c fields rest l k w m =
+  unless_plain at u c fields rest l k w m =
       let later : List Piece = break_before at (line_end ∷ rest) in
-      if_back (is_seen_through p c) p inner at.label u (put_between unlike (constant_before p c later))
+      if_back (is_seen_through p c) p inner at.label u (put_between unlike (constant_before p c later)) (plain_where_seen p u c m)
       ∙ (after_compared p u c (put_between unlike (constant_before p c later)) (read_sign p inner at.label) m refl
       ∙ (after_constant p c later (λ b behind. done (unless_of p (seen (is_seen_through p c) (shown_use p u)) b) (read_break at.label behind)) k refl
       ∙ (ap (done (unless_of p (seen (is_seen_through p c) (shown_use p u)) (constant_compared p c))) (break_back at.label (tokens_of rest) l)
       ∙ rw (unless_back p u c k m, constants_bind_nothing p c fields k w))))
+
+  unless_lent : (at : Margin) (place : Place) (name : ℕ) (rest : List Piece) → is_some at.label ≡ true → p.is_constant_composed name ≡ true
+      → IsBack at (unless_line true p at (lent_use place) (is_prim name) [] rest) (unless_let (shown_use p (lent_use place)) (is_prim name) []) rest
+  unless_lent at place name rest l e =
+      let u : Use = shown_use p (lent_use place) in
+      let later : List Piece = break_before at (line_end ∷ rest) in
+      let compared : List Piece = put_between unlike (constant_before p (is_prim name) later) in
+      ap (λ b. read_if p inner at.label (tokens_of (put_if b star (use_before p (lent_use place) compared)))) e
+      ∙ (after_use p (lent_use place) compared (read_lent_sign p inner at.label) refl
+      ∙ (after_use p (constant_use (name_written name)) later (λ b tokens. then_option {X = Use × Constraint} (lent_test p u b.place b.pass) (λ test. done (unless_let test.0 test.1 []) (read_break at.label tokens))) refl
+      ∙ (ap (λ b. then_option {X = Use × Constraint} (only_if b (u, is_prim name)) (λ test. done (unless_let test.0 test.1 []) (read_break at.label (tokens_of later)))) e
+      ∙ ap (done (unless_let u (is_prim name) [])) (break_back at.label (tokens_of rest) l))))
+
+  unless_named : (at : Margin) (u : Use) (name : ℕ) (fields : List (Option ℕ)) (rest : List Piece) → is_some at.label ≡ true → pattern_writable p (is_prim name) fields ≡ true → match_writable p u (is_prim name) ≡ true
+      → IsBack at (unless_line true p at u (is_prim name) fields rest) (unless_let (shown_use p u) (is_prim name) fields) rest
+  unless_named at u name fields rest l w m =
+      elim (plain_or_lent (p.is_constant_composed name) u.pass m) [
+        | inl plain ↦ unless_plain at u (is_prim name) fields rest l refl w plain
+        | inr k ↦
+            rw (constants_bind_nothing p (is_prim name) fields refl w)
+            (subst (λ pass. IsBack at (unless_line true p at (record { place = u.place; pass = pass }) (is_prim name) [] rest) (unless_let (shown_use p (record { place = u.place; pass = pass })) (is_prim name) []) rest)
+            (sym k.1) (unless_lent at u.place name rest l k.0))
+      ]
+
+  unless_constant : (at : Margin) (u : Use) (c : Constraint) (fields : List (Option ℕ)) (rest : List Piece) → is_some at.label ≡ true → is_constant c ≡ true → pattern_writable p c fields ≡ true → match_writable p u c ≡ true
+      → IsBack at (unless_line true p at u c fields rest) (unless_let (shown_use p u) (shown_constraint p c) fields) rest
+  unless_constant at u (is_prim name) fields rest l k w m = unless_named at u name fields rest l w m
+  unless_constant at u (is_bool b ty) fields rest l k w m = unless_plain at u (is_bool b ty) fields rest l k w refl
+  unless_constant at u (is_int z ty) fields rest l k w m = unless_plain at u (is_int z ty) fields rest l k w refl
+  unless_constant at u (is_variant ty variant m) fields rest l k w e = absurd (false≢true k)
+  unless_constant at u (is_struct ty m) fields rest l k w e = absurd (false≢true k)
+  unless_constant at u is_present fields rest l k w e = absurd (false≢true k)
 
   -- behind `let`, a pattern that is no constant begins with no variable
   bare_let : (label : Option ℕ) (c : Constraint) (fields : List (Option ℕ)) (rest : List Piece) → is_constant c ≡ false
@@ -196,7 +265,7 @@ module _ (p : Notation) (n : ℕ) where
   pub unless_equal_back : (at : Margin) (a b : Use) (rest : List Piece) → is_some at.label ≡ true → IsBack at (unless_equal_line p at a b rest) (shown_at p (unless_equal a b)) rest
   unless_equal_back at a b rest l =
       let later : List Piece = break_before at (line_end ∷ rest) in
-      if_back false p inner at.label a (put_between unlike (use_before p b later))
+      if_back false p inner at.label a (put_between unlike (use_before p b later)) (λ e. absurd (false≢true e))
       ∙ (after_use p a (put_between unlike (use_before p b later)) (read_sign p inner at.label) refl
       ∙ (after_second p b later (λ x behind. done (unless_of p (shown_use p a) x) (read_break at.label behind)) refl
       ∙ ap (done (unless_either (test_at p (shown_use p a) (shown_use p b).place b.pass) (shown_use p a) (shown_use p b))) (break_back at.label (tokens_of rest) l)))

@@ -44,7 +44,7 @@ module _ (p : Notation) where
         and_from _ _ hs.0 (and_from _ _ (with_label body label ks.0) (with_label_arms rest u label ks.1))
 
   -- 2. labels are left as before
-  end_written : (s : Statement) → is_end (result_ends p) (written_at p s) ≡ is_end (result_ends p) s
+  pub end_written : (s : Statement) → is_end (result_ends p) (written_at p s) ≡ is_end (result_ends p) s
   end_written (match_on u arms) = refl
   end_written (if_equal a b body) = refl
   end_written (for_each_of v from body) = refl
@@ -70,7 +70,7 @@ module _ (p : Notation) where
   ends_alike ended x y e = ap (unless_end ended false) e
 
   mutual
-    left_written : (b : Block) → is_left (result_ends p) (written p b) ≡ is_left (result_ends p) b
+    pub left_written : (b : Block) → is_left (result_ends p) (written p b) ≡ is_left (result_ends p) b
     left_written no_statement = refl
     left_written (statement s later) = rw (end_written s) (either (leaves_written s) (ends_alike (is_end (result_ends p) s) (is_left (result_ends p) (written p later)) (is_left (result_ends p) later) (left_written later)))
 

@@ -7,6 +7,11 @@ pub mod Reading
 pub mod ReadsBack
 pub mod Spelling
 pub mod Samples
+pub mod TextSamples
 pub mod Alike
 pub mod Parted
 pub mod Lexing
+pub mod Closed
+pub mod ReadTexts
+pub mod Writing
+pub mod ProgramNotation

@@ -1,7 +1,7 @@
 -- Tokens read back as code, from left to right. A reading is what was read and the tokens behind it.
 use Rattle.std.specs.Prelude.{ℕ, zero, suc, Bool, true, false, ◌&&◌, ◌==◌, List, [], ◌∷◌, Option, Some, None}
 use Rattle.std.specs.Ordering.{int_eq}
-use Rattle.model.specs.sites.Sites.{Constraint, is_variant, is_struct, is_bool, is_int, is_present}
+use Rattle.model.specs.sites.Sites.{Constraint, is_variant, is_struct, is_bool, is_int, is_prim, is_present}
 use Rattle.model.specs.rules.Outcome.{then_option}
 use Rattle.code_model.specs.Code.{Place, variable, parameter, part_of, int_written, name_written, variant_written, struct_written, Pass, as_it_is, lent, cloned, seen_through, Use, Expr, truth_written, read, call, some_of, Block, no_statement, statement, Statement, bind, bind_some, no_way, match_on, for_each_of, give, labelled, unless_let, CodeArms, no_code_arm, code_arm}
 use Rattle.code_text.specs.Tokens.{Word, let_word, mut_word, ref_word, if_word, else_word, match_word, while_word, return_word, break_word, some_word, none_word, true_word, false_word, ctx_word, returns_word, extend_word, len_word, most_word, clone_word, iter_word, next_word, unreachable_word, opening, closing, opening_brace, closing_brace, comma, colon, semicolon, dot, two_dots, underscore, arrow, equals, equal_to, unlike, at_least, ampersand, star, Owner, variant_owner, struct_owner, Token, word, variable_name, parameter_name, part_name, number, constant_name, owner_name, field_name, function_name, list_name, label_name}
@@ -291,9 +291,20 @@ abbrev pub guard_of : Use → Option (Use × Constraint) → List Token → Read
 guard_of u (Some test) rest = only_if (same_use u test.0) (record { constraint = test.1; fields = [] }, rest)
 guard_of u None rest = None
 
+-- a constant of an enum's or a struct's type, compared with `*&v`
+abbrev pub lent_test : Notation → Use → Place → Pass → Option (Use × Constraint)
+lent_test p a (name_written name) as_it_is = only_if (p.is_constant_composed name) (a, is_prim name)
+lent_test p a _ _ = None
+
+abbrev pub guard_by : Use → (Use → Place → Pass → Option (Use × Constraint)) → Use → List Token → Reading Pattern
+guard_by u test a tokens = then_option (expect equal_to tokens) (λ later. then_read (read_use later) (λ b end. guard_of u (test a b.place b.pass) end))
+
+abbrev pub read_compared_guard : Notation → Use → List Token → Reading Pattern
+read_compared_guard p u (word star ∷ word ampersand ∷ tokens) = then_read (read_use (word ampersand ∷ tokens)) (guard_by u (lent_test p))
+read_compared_guard p u tokens = then_read (read_use tokens) (guard_by u (test_at p))
+
 abbrev pub read_guard : Notation → Use → List Token → Reading Pattern
-read_guard p u tokens =
-    then_option (expect if_word tokens) (λ rest. then_read (read_use rest) (λ a behind. then_option (expect equal_to behind) (λ later. then_read (read_use later) (λ b end. guard_of u (test_at p a b.place b.pass) end))))
+read_guard p u tokens = then_option (expect if_word tokens) (read_compared_guard p u)
 
 abbrev pub read_arm_pattern : Notation → Use → List Token → Reading Pattern
 read_arm_pattern p u (word underscore ∷ rest) = read_guard p u rest
@@ -375,8 +386,16 @@ read_sign p inner label a (word equal_to ∷ tokens) = then_read (read_compared 
 read_sign p inner label a (word unlike ∷ tokens) = then_read (read_compared tokens) (λ b rest. done (unless_of p a b) (read_break label rest))
 read_sign p inner label a _ = None
 
+-- behind `*&v`
+abbrev pub read_lent_sign : Notation → Inner → Option ℕ → Use → List Token → Reading Statement
+read_lent_sign p inner label a (word equal_to ∷ tokens) =
+    then_read (read_use tokens) (λ b rest. then_option (lent_test p a b.place b.pass) (λ test. then_read (read_body inner label rest) (λ body end. Some (match_on test.0 (code_arm test.1 [] body no_code_arm), end))))
+read_lent_sign p inner label a (word unlike ∷ tokens) = then_read (read_use tokens) (λ b rest. then_option (lent_test p a b.place b.pass) (λ test. done (unless_let test.0 test.1 []) (read_break label rest)))
+read_lent_sign p inner label a _ = None
+
 abbrev pub read_if : Notation → Inner → Option ℕ → List Token → Reading Statement
 read_if p inner label (word let_word ∷ tokens) = read_if_let p inner label tokens
+read_if p inner label (word star ∷ word ampersand ∷ tokens) = then_read (read_use (word ampersand ∷ tokens)) (read_lent_sign p inner label)
 read_if p inner label tokens = then_read (read_use tokens) (read_sign p inner label)
 
 abbrev pub last_arm : List Word

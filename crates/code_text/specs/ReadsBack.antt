@@ -1,14 +1,16 @@
 -- What is written is read back, so code that isn't shown alike has different tokens.
 use Rattle.std.specs.Prelude.{◌≡◌, ◌≤◌, ◌+◌, ◌&&◌, ◌||◌, ◌==◌, ℕ, suc, Bool, true, false, not, List, [], ◌∷◌, length, Option, Some, None, is_some}
 use Rattle.model.specs.sites.Sites.{Constraint, is_variant, is_struct, is_prim, is_present}
-use Rattle.code_model.specs.Code.{Pass, as_it_is, Use, Expr, extraction, call, variant_of, struct_of, Block, no_statement, statement, Statement, bind, match_on, if_equal, for_each_of, labelled, unless_let, unless_equal, CodeArms, no_code_arm, code_arm}
+use Rattle.code_model.specs.Code.{Pass, as_it_is, lent, Use, Expr, extraction, call, variant_of, struct_of, Block, no_statement, statement, Statement, bind, match_on, if_equal, for_each_of, labelled, unless_let, unless_equal, CodeArms, no_code_arm, code_arm}
 use Rattle.code_model.specs.Flat.{unlabelled, flat}
+use Rattle.code_model.specs.Modes.{Types}
+use Rattle.code_model.specs.Saving.{with_moves}
 use Rattle.code_text.specs.Tokens.{variant_owner, struct_owner, Token, word, closing_brace, none_word, no_match}
-use Rattle.code_text.specs.Notation.{Notation, Shape, no_fields, named_fields, unnamed_fields}
+use Rattle.code_text.specs.Notation.{Notation, Kind, gives_one, gives_option, Shape, no_fields, named_fields, unnamed_fields}
 use Rattle.code_text.specs.Pieces.{Piece, tokens_of, Margin, is_left, result_ends, is_end, unless_end, block_before}
 use Rattle.code_text.specs.Shown.{shown}
-use Rattle.code_text.specs.Written.{code_tokens, shown_code}
-use Rattle.code_text.specs.Reading.{Reading, read_block}
+use Rattle.code_text.specs.Written.{code_tokens, shown_code, function_body}
+use Rattle.code_text.specs.Reading.{Reading, only_if, read_block}
 
 -- 1. code that can be written: what is made, and each pattern, has as many fields as its type has; constants have none; and where a
 -- test leaves a label, there is one around
@@ -28,13 +30,14 @@ pattern_writable p (is_struct ty n) fields = takes (p.shape (struct_owner ty)) n
 pattern_writable p is_present fields = length fields == 1
 pattern_writable p c fields = length fields == 0
 
-abbrev pub is_plain : Pass → Bool
-is_plain as_it_is = true
-is_plain _ = false
+abbrev pub is_looked_at : Pass → Bool
+is_looked_at as_it_is = true
+is_looked_at lent = true
+is_looked_at _ = false
 
 -- what is matched with a constant of an enum's or a struct's type is a reference
 abbrev pub match_writable : Notation → Use → Constraint → Bool
-match_writable p u (is_prim name) = not (p.is_constant_composed name) || is_plain u.pass
+match_writable p u (is_prim name) = not (p.is_constant_composed name) || is_looked_at u.pass
 match_writable p u c = true
 
 abbrev mutual
@@ -101,6 +104,23 @@ read_code p tokens = read_block p (suc (length tokens)) None tokens
 abbrev pub CodeIsRead : Type 0
 CodeIsRead = (p : Notation) (code : Block) → writable p false code ≡ true → read_code p (code_tokens p code) ≡ Some (shown_code p code, [])
 
+-- a function from behind its first line on: its code, what stands where that has run through, and the brace
+abbrev pub is_function_end : Kind → List Token → Bool
+is_function_end kind (word closing_brace ∷ []) = true
+is_function_end gives_one (no_match ∷ (word closing_brace ∷ [])) = true
+is_function_end gives_option (word none_word ∷ (word closing_brace ∷ [])) = true
+is_function_end kind _ = false
+
+abbrev pub up_to_end : Kind → Reading Block → Option Block
+up_to_end kind (Some r) = only_if (is_function_end kind r.1) r.0
+up_to_end kind None = None
+
+abbrev pub read_function : Notation → List Token → Option Block
+read_function p tokens = up_to_end p.kind (read_code p tokens)
+
+abbrev pub FunctionIsRead : Type 0
+FunctionIsRead = (p : Notation) (code : Block) → writable p false code ≡ true → read_function p (tokens_of (function_body p code)) ≡ Some (shown_code p code)
+
 -- different code has different tokens
 abbrev pub TextShowsCode : Type 0
 TextShowsCode = (p : Notation) (a b : Block) → writable p false a ≡ true → writable p false b ≡ true → code_tokens p a ≡ code_tokens p b → shown_code p a ≡ shown_code p b
@@ -108,3 +128,7 @@ TextShowsCode = (p : Notation) (a b : Block) → writable p false a ≡ true →
 -- labels, put at whatever depths, keep that code can be written
 abbrev pub FlatKeepsWritable : Type 0
 FlatKeepsWritable = (p : Notation) (b : Block) (deep : ℕ → Bool) (n : ℕ) → unlabelled b ≡ true → writable p false b ≡ true → writable p false (flat b deep n) ≡ true
+
+-- and so do moves in place of clones
+abbrev pub MovesKeepWritable : Type 0
+MovesKeepWritable = (p : Notation) (label : Bool) (types : Types) (code : Block) → writable p label (with_moves types code) ≡ writable p label code

@@ -1,0 +1,5 @@
+mod TypeShapes
+mod AskedFields
+mod TreesWritable
+mod ReadCode
+mod TextSamples

@@ -1,0 +1,2 @@
+pub mod WritableCode
+pub mod TextSamples
