@@ -1,1 +1,2 @@
 mod Grown
+mod FileLines

@@ -1,5 +1,15 @@
 //! What the code of a program is made of.
 
+ghost use Rattle.std.specs.Prelude.{◌≡◌, ◌++◌, OnOk, slice_get, string_bytes};
+ghost use Rattle.cranelift_isle.specs.Envs.{names_of};
+ghost use Rattle.cranelift_isle.specs.Serves.{is_type_with_parts};
+ghost use Rattle.cranelift_isle.specs.SyntaxViews.{position};
+ghost use Rattle.cranelift_isle.specs.TypeViews.{type_views};
+ghost use Rattle.isle_rust_names.specs.RustNames.{quoted};
+ghost use Rattle.isle_rust_items.specs.FilePlaces.{place_written};
+ghost use Rattle.isle_rust_items.specs.LineViews.{lines_view};
+ghost use Rattle.isle_rust_items.specs.WrittenTypes.{type_written};
+
 use crate::lines::Lines;
 use cranelift_isle::sema::{Term, Type, TypeEnv, TypeId};
 use cranelift_isle::syntax::Pos;
@@ -21,7 +31,9 @@ pub const ALLOWED: &str = "#[allow(warnings)]\n";
 
 impl<'a> Program<'a> {
     /// Whether the values of a type are composed: those of enums and structs. Only these are passed by reference.
-    pub fn is_composed(self, id: TypeId) -> bool {
+    pub fn is_composed(self, id: TypeId) -> bool
+        ensures { result ≡ is_type_with_parts (slice_get (type_views self.entry.tyenv.now.types.items) id.0) }
+    {
         matches!(
             self.tyenv.types.get(id.index()),
             Some(Type::Enum { .. } | Type::Struct { .. })
@@ -29,7 +41,10 @@ impl<'a> Program<'a> {
     }
 
     /// Adds the name of a type.
-    pub fn push_type(self, out: &mut String, id: TypeId) -> Result<(), AllocError> {
+    pub fn push_type(self, out: &mut String, id: TypeId) -> Result<(), AllocError>
+        ensures { OnOk result (string_bytes out.new ≡ string_bytes out.old
+            ++ type_written (names_of self.entry.tyenv.now) (slice_get (type_views self.entry.tyenv.now.types.items) id.0)) }
+    {
         match self.tyenv.types.get(id.index()) {
             Some(Type::Builtin(builtin)) => out.push_str(builtin.name()),
             Some(Type::Primitive(_, name, _)) => push_path(out, self.tyenv.text_of(*name)),
@@ -64,7 +79,9 @@ impl<'a> Program<'a> {
     }
 
     /// Adds a place as a text within quotes.
-    pub fn push_quoted_place(self, out: &mut String, pos: Pos) -> Result<(), AllocError> {
+    pub fn push_quoted_place(self, out: &mut String, pos: Pos) -> Result<(), AllocError>
+        ensures { OnOk result (string_bytes out.new ≡ string_bytes out.old ++ quoted (place_written (lines_view self.entry.lines.now) (position pos))) }
+    {
         let mut place = String::new(self.alloc);
         self.lines.push(&mut place, pos)?;
         push_quoted(out, &place)

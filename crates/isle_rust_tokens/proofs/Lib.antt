@@ -1,0 +1,4 @@
+mod CalleeNumbers
+mod HexDigits
+mod IntegerTexts
+mod PieceTexts

@@ -1,0 +1,3 @@
+pub mod TokenViews
+pub mod ProgramNames
+pub mod SettingViews

@@ -1,0 +1,2 @@
+mod WholeNames
+mod PrintedTexts

@@ -1,0 +1,2 @@
+pub mod WholeNames
+pub mod PrintedTexts
