@@ -1,4 +1,4 @@
-mod CodeBridges
+pub mod CodeBridges
 mod HeldPasses
 mod UseSteps
 mod StatementSteps

@@ -1,163 +1,181 @@
-//! Places, uses, and what variables are bound to.
+//! What variables are bound to.
 
-use crate::names::{Function, Names, push_parameter, push_variable};
-use cranelift_isle::sema::{Fields, StructField};
-use isle_code::code::{Expr, Pass, Place, Use};
+ghost use Rattle.std.specs.Prelude.{◌∷◌, OnOk};
+ghost use Rattle.code_text.specs.Tokens.{owner_name};
+ghost use Rattle.code_text.specs.Pieces.{answer_before, args_before, called_before, comma_before, expr_before, gap_before, made_before, named_values, put, token, truth_word, unnamed_values};
+ghost use Rattle.isle_code.specs.CodeViews.{expr_view, use_views};
+ghost use Rattle.isle_rust_tokens.specs.TokenViews.{callee_view, owner_view};
+ghost use Rattle.isle_rust.specs.Adding.{Adds, AddsBy};
+ghost use Rattle.isle_rust.specs.Writers.{shape_view};
+
+use crate::added::{add, add_first, add_if, add_token, add_word, add_words};
+use crate::notation::{Shape, Writer};
+use crate::places::add_use;
+use isle_code::code::{Expr, Use};
+use isle_rust_tokens::tokens::{Callee, Owner, Piece, Token, Word};
 use std::alloc::AllocError;
 use std::slice;
 
-/// A call: the function, and what is handed to it.
-#[derive(Clone, Copy)]
-pub(crate) struct Call<'a> {
-    pub(crate) function: Function,
-    pub(crate) args: &'a [Use],
-}
-
-impl<'a> Call<'a> {
-    /// The call that an expression is.
-    pub(crate) fn of(expr: &'a Expr) -> Option<Call<'a>> {
-        match expr {
-            Expr::Extraction { term, value } => Some(Call {
-                function: Function::Extractor(*term),
-                args: slice::from_ref(value),
-            }),
-            Expr::Call { term, args, .. } => Some(Call {
-                function: Function::Constructor(*term),
-                args,
-            }),
-            Expr::TruthWritten { .. }
-            | Expr::VariantOf { .. }
-            | Expr::StructOf { .. }
-            | Expr::SomeOf { .. } => None,
-        }
+/// Adds a truth value.
+pub(crate) fn add_truth(out: &mut Vec<Piece>, val: bool) -> Result<(), AllocError>
+    ensures { OnOk result (Adds out.old.items out.new.items (λ p rest. put (truth_word val) rest)) }
+{
+    if val {
+        add_word(out, Word::True)
+    } else {
+        add_word(out, Word::False)
     }
 }
 
-impl<'a> Names<'a> {
-    /// Adds a place.
-    pub(crate) fn push_place(self, out: &mut String, place: Place) -> Result<(), AllocError> {
-        match place {
-            Place::Variable { site } => push_variable(out, site),
-            Place::Parameter { index } => push_parameter(out, index),
-            Place::PartOf { tuple, field } => {
-                let number = field.index();
-                push_variable(out, tuple)?;
-                write!(out, ".{number}")
-            }
-            Place::IntWritten { val, ty } => self.push_int(out, val, ty),
-            Place::NameWritten { name } => self.push_constant(out, name),
-            Place::VariantWritten { ty, variant } => self.push_variant(out, ty, variant),
-            Place::StructWritten { ty } => self.program.push_type(out, ty),
+// Adds what is handed to a function behind its context.
+fn add_args(out: &mut Vec<Piece>, args: &[Use]) -> Result<(), AllocError>
+    ensures { OnOk result (Adds out.old.items out.new.items (λ p rest. args_before p (use_views args.now) rest)) }
+{
+    for used in args {
+        add_first(out, Word::Comma)?;
+        add_use(out, *used)?;
+    }
+    Ok(())
+}
+
+/// Adds a call up to the parenthesis that ends it.
+pub(crate) fn add_call(out: &mut Vec<Piece>, callee: Callee, args: &[Use]) -> Result<(), AllocError>
+    ensures { OnOk result (Adds out.old.items out.new.items (λ p rest. called_before p (callee_view callee) (use_views args.now) rest)) }
+{
+    add_token(out, Token::Function(callee))?;
+    add_words(out, &[Word::Opening, Word::Ctx])?;
+    add_args(out, args)
+}
+
+// Adds what stands before a field with a name.
+fn add_gap(out: &mut Vec<Piece>, place: usize) -> Result<(), AllocError>
+    ensures { OnOk result (Adds out.old.items out.new.items (λ p rest. gap_before place rest)) }
+{
+    if place == 0 {
+        add(out, Piece::Space)
+    } else {
+        add_first(out, Word::Comma)
+    }
+}
+
+/// Adds what stands before a field without a name.
+pub(crate) fn add_comma(out: &mut Vec<Piece>, place: usize) -> Result<(), AllocError>
+    ensures { OnOk result (Adds out.old.items out.new.items (λ p rest. comma_before place rest)) }
+{
+    if place == 0 {
+        Ok(())
+    } else {
+        add_first(out, Word::Comma)
+    }
+}
+
+// Adds fields with names.
+fn add_named_values(out: &mut Vec<Piece>, owner: Owner, values: &[Use]) -> Result<(), AllocError>
+    ensures { OnOk result (Adds out.old.items out.new.items (λ p rest. named_values p (owner_view owner) 0 (use_views values.now) rest)) }
+{
+    for (index, value) in values.iter().enumerate() {
+        add_gap(out, index)?;
+        add_token(out, Token::Field { owner, index })?;
+        add_first(out, Word::Colon)?;
+        add_use(out, *value)?;
+    }
+    add(out, Piece::Space)?;
+    Ok(add_word(out, Word::ClosingBrace)?)
+}
+
+// Adds fields without names.
+fn add_unnamed_values(out: &mut Vec<Piece>, values: &[Use]) -> Result<(), AllocError>
+    ensures { OnOk result (Adds out.old.items out.new.items (λ p rest. unnamed_values p 0 (use_views values.now) rest)) }
+{
+    for (index, value) in values.iter().enumerate() {
+        add_comma(out, index)?;
+        add_use(out, *value)?;
+    }
+    Ok(add_word(out, Word::Closing)?)
+}
+
+// Adds the fields of what is made, in their shape.
+fn add_made(
+    out: &mut Vec<Piece>,
+    owner: Owner,
+    shape: Shape,
+    values: &[Use],
+) -> Result<(), AllocError>
+    ensures { OnOk result (Adds out.old.items out.new.items (λ p rest.
+        made_before p (owner_view owner) (shape_view shape) (use_views values.now) rest)) }
+{
+    match shape {
+        Shape::Unit => Ok(()),
+        Shape::Named { .. } => {
+            add(out, Piece::Space)?;
+            add_word(out, Word::OpeningBrace)?;
+            add_named_values(out, owner, values)
+        }
+        Shape::Unnamed { .. } => {
+            add_word(out, Word::Opening)?;
+            add_unnamed_values(out, values)
         }
     }
+}
 
-    /// Adds a place as it is handed on.
-    pub(crate) fn push_use(self, out: &mut String, used: Use) -> Result<(), AllocError> {
-        match used.pass {
-            Pass::AsItIs => self.push_place(out, used.place),
-            Pass::Lent => {
-                out.push('&')?;
-                self.push_place(out, used.place)
-            }
-            Pass::Cloned => {
-                self.push_place(out, used.place)?;
-                out.push_str(".clone()")
-            }
-            Pass::SeenThrough => {
-                out.push('*')?;
-                self.push_place(out, used.place)
-            }
-        }
+impl Writer<'_> {
+    // Adds a call of one answer, which is looked at by reference where it is an enum or a struct.
+    fn add_answer(
+        &self,
+        out: &mut Vec<Piece>,
+        callee: Callee,
+        args: &[Use],
+    ) -> Result<(), AllocError>
+        ensures { OnOk result (AddsBy self.now out.old.items out.new.items (λ p rest. answer_before p (callee_view callee) (use_views args.now) rest)) }
+    {
+        add_if(out, self.gives_composed(callee), Word::Ampersand)?;
+        add_call(out, callee, args)?;
+        add_word(out, Word::Closing)
     }
 
-    /// Adds what a variable is bound to. The answer of a call is looked at by reference where it is an enum or a struct.
-    pub(crate) fn push_expr(self, out: &mut String, expr: &Expr) -> Result<(), AllocError> {
+    // Adds what is made, with its fields.
+    fn add_owner(
+        &self,
+        out: &mut Vec<Piece>,
+        owner: Owner,
+        values: &[Use],
+    ) -> Result<(), AllocError>
+        ensures { OnOk result (AddsBy self.now out.old.items out.new.items (λ p rest. token (owner_name (owner_view owner))
+            ∷ made_before p (owner_view owner) (p.shape (owner_view owner)) (use_views values.now) rest)) }
+    {
+        add_token(out, Token::Owner(owner))?;
+        add_made(out, owner, self.shape_of(owner), values)
+    }
+
+    /// Adds what a variable is bound to.
+    pub(crate) fn add_expr(&self, out: &mut Vec<Piece>, expr: &Expr) -> Result<(), AllocError>
+        ensures { OnOk result (AddsBy self.now out.old.items out.new.items (λ p rest. expr_before p (expr_view expr.now) rest)) }
+    {
         match expr {
-            Expr::TruthWritten { val, .. } => out.push_str(if *val { "true" } else { "false" }),
-            Expr::Extraction { .. } | Expr::Call { .. } => match Call::of(expr) {
-                Some(call) => self.push_answer(out, call),
-                None => Ok(()),
-            },
+            Expr::TruthWritten { val, .. } => add_truth(out, *val),
+            Expr::Extraction { term, value } => {
+                self.add_answer(out, Callee::Extractor(*term), slice::from_ref(value))
+            }
+            Expr::Call { term, args, .. } => {
+                self.add_answer(out, Callee::Constructor(*term), args)
+            }
             Expr::VariantOf {
                 ty,
                 variant,
                 fields,
             } => {
-                self.push_variant(out, *ty, *variant)?;
-                self.push_made(out, self.variant_fields(*ty, *variant), fields)
+                let owner = Owner::Variant {
+                    ty: *ty,
+                    variant: *variant,
+                };
+                self.add_owner(out, owner, fields)
             }
-            Expr::StructOf { ty, fields } => {
-                self.program.push_type(out, *ty)?;
-                self.push_made(out, self.struct_fields(*ty), fields)
-            }
+            Expr::StructOf { ty, fields } => self.add_owner(out, Owner::Struct { ty: *ty }, fields),
             Expr::SomeOf { value } => {
-                out.push_str("Some(")?;
-                self.push_use(out, *value)?;
-                out.push(')')
+                add_words(out, &[Word::Some, Word::Opening])?;
+                add_use(out, *value)?;
+                add_word(out, Word::Closing)
             }
         }
-    }
-
-    // Adds a call as an answer that is looked at.
-    fn push_answer(self, out: &mut String, call: Call<'_>) -> Result<(), AllocError> {
-        out.push_str(if self.gives_composed(call.function) {
-            "&"
-        } else {
-            ""
-        })?;
-        self.push_call(out, call)?;
-        out.push(')')
-    }
-
-    /// Adds a call up to the parenthesis that ends it.
-    pub(crate) fn push_call(self, out: &mut String, call: Call<'_>) -> Result<(), AllocError> {
-        self.push_function(out, call.function)?;
-        out.push_str("(ctx")?;
-        for used in call.args {
-            out.push_str(", ")?;
-            self.push_use(out, *used)?;
-        }
-        Ok(())
-    }
-
-    // Adds the fields of what is made.
-    fn push_made(
-        self,
-        out: &mut String,
-        fields: Option<&Fields>,
-        values: &[Use],
-    ) -> Result<(), AllocError> {
-        match fields {
-            Some(Fields::Struct(named)) => self.push_named(out, &named.fields, values),
-            Some(Fields::Tuple(_)) => self.push_unnamed(out, values),
-            Some(Fields::Unit) | None => Ok(()),
-        }
-    }
-
-    // Adds fields with names.
-    fn push_named(
-        self,
-        out: &mut String,
-        fields: &[StructField],
-        values: &[Use],
-    ) -> Result<(), AllocError> {
-        out.push_str(" {")?;
-        for (i, (field, value)) in fields.iter().zip(values).enumerate() {
-            out.push_str(if i == 0 { " " } else { ", " })?;
-            self.push_sym(out, field.name)?;
-            out.push_str(": ")?;
-            self.push_use(out, *value)?;
-        }
-        out.push_str(" }")
-    }
-
-    // Adds fields without names.
-    fn push_unnamed(self, out: &mut String, values: &[Use]) -> Result<(), AllocError> {
-        out.push('(')?;
-        for (i, value) in values.iter().enumerate() {
-            out.push_str(if i == 0 { "" } else { ", " })?;
-            self.push_use(out, *value)?;
-        }
-        out.push(')')
     }
 }

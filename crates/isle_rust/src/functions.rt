@@ -1,17 +1,26 @@
 //! The function of a term with rules.
 
-use crate::layout::Margin;
-use crate::names::Names;
-use crate::statements::Printer;
+ghost use Rattle.std.specs.Prelude.{◌≡◌, ◌++◌, OnOk, string_bytes};
+ghost use Rattle.code_text.specs.Spelling.{spelled};
+ghost use Rattle.code_text.specs.Written.{function_body};
+ghost use Rattle.isle_code.specs.CodeViews.{block_view};
+ghost use Rattle.isle_rust_tokens.specs.ProgramNames.{names_of};
+ghost use Rattle.isle_rust.specs.Settings.{setting_by};
+ghost use Rattle.isle_rust.specs.Writers.{Says};
+
+use crate::notation::Writer;
+use crate::pieces::function_pieces;
 use cranelift_isle::lower::{Lowered, LoweredTerm};
-use cranelift_isle::sema::{ExternalSig, ReturnKind};
+use cranelift_isle::sema::{ExternalSig, ReturnKind, Term};
 use isle_code::code::CodeBlock;
 use isle_functions::function_code;
 use isle_rust_items::names::push_part;
 use isle_rust_items::program::{ALLOWED, Program};
+use isle_rust_tokens::names::Names;
+use isle_rust_tokens::spelling::push_pieces;
 use std::alloc::AllocError;
 
-/// Adds the function of a term of an answer, printed from its code.
+/// Adds the function of a term of an answer: its first lines, and the text of its code's pieces.
 pub(crate) fn push_function(
     out: &mut String,
     program: Program<'_>,
@@ -25,13 +34,30 @@ pub(crate) fn push_function(
         return Ok(());
     };
     let code = function_code(program.alloc, lowered, of)?;
-    push_head(out, program, program.tyenv.text_of(term.name), &sig)?;
-    let printer = Printer {
-        names: Names { program },
-        term,
+    let writer = Writer {
+        program,
         gives: sig.ret_kind,
     };
-    printer.push_whole(out, &code)
+    push_head(out, program, program.tyenv.text_of(term.name), &sig)?;
+    push_body(out, &writer, term, &code)
+}
+
+// Adds the text of a term's function from behind its first line on.
+fn push_body(
+    out: &mut String,
+    writer: &Writer<'_>,
+    term: &Term,
+    code: &CodeBlock,
+) -> Result<(), AllocError>
+    ensures { OnOk result (Says writer.now (λ p. string_bytes out.new ≡ string_bytes out.old
+        ++ spelled (names_of (setting_by writer.now term.now)) (function_body p (block_view code.now)))) }
+{
+    let pieces = function_pieces(writer.program.alloc, writer, code)?;
+    let names = Names {
+        program: writer.program,
+        term,
+    };
+    Ok(push_pieces(out, names, &pieces)?)
 }
 
 // Adds a function's lines up to its body.
@@ -68,38 +94,4 @@ fn push_result(
         ReturnKind::Option => ">",
         ReturnKind::Iterator => "> + Length)) -> ()",
     })
-}
-
-impl<'a> Printer<'a> {
-    // Adds the whole body, and the function's end.
-    fn push_whole(self, out: &mut String, block: &CodeBlock) -> Result<(), AllocError> {
-        self.push_block(out, Margin::of_function(), block)?;
-        let is_closed = block
-            .statements
-            .iter()
-            .any(|statement| self.is_end(statement));
-        if !is_closed {
-            self.push_end(out)?;
-        }
-        out.push_str("}\n")
-    }
-
-    // Adds what follows where the code has run through.
-    fn push_end(self, out: &mut String) -> Result<(), AllocError> {
-        match self.gives {
-            ReturnKind::Plain => {
-                out.push_str(
-                    "    unreachable!(\"no rule matched for term {} at {}; should it be partial?\", ",
-                )?;
-                self.push_quoted_name(out)?;
-                out.push_str(", ")?;
-                self.names
-                    .program
-                    .push_quoted_place(out, self.term.decl_pos)?;
-                out.push_str(")\n")
-            }
-            ReturnKind::Option => out.push_str("    None\n"),
-            ReturnKind::Iterator => Ok(()),
-        }
-    }
 }

@@ -1,224 +1,222 @@
-//! Patterns, and what is tested by them.
+//! Patterns.
 
-use crate::names::{Names, push_variable};
-use cranelift_isle::sema::{Fields, StructField, Sym, TupleField, TypeId};
+ghost use Rattle.std.specs.Prelude.{◌∷◌, [], false, OnOk};
+ghost use Rattle.code_text.specs.Pieces as Pieces;
+ghost use Rattle.code_text.specs.Pieces.{binding_before, bindings_before, constant_before, inner_before, named_bindings, pattern_before, place_in_order, put, put_all, token, unnamed_bindings};
+ghost use Rattle.code_text.specs.Tokens.{ampersand, closing, opening, owner_name, some_word};
+ghost use Rattle.isle_rule_sets.specs.SiteViews.{constraint_view};
+ghost use Rattle.isle_rust_tokens.specs.TokenViews.{owner_view};
+ghost use Rattle.isle_rust.specs.Adding.{Adds, AddsBy};
+ghost use Rattle.isle_rust.specs.Writers.{shape_view};
+ghost use Rattle.isle_rust.specs.Fields.{named_field};
+
+use crate::added::{add, add_between, add_first, add_first_if, add_token, add_word, add_words};
+use crate::expressions::{add_comma, add_truth};
+use crate::notation::{Shape, Writer};
+use crate::places::add_int;
 use cranelift_isle::trie_again::{BindingId, Constraint};
-use isle_code::code::Use;
+use isle_rust_tokens::tokens::{Owner, Piece, Token, Word};
 use std::alloc::AllocError;
 
-/// Whether a pattern is a constant.
-pub(crate) fn is_constant(pattern: &Constraint) -> bool {
-    match pattern {
-        Constraint::ConstBool { .. } | Constraint::ConstInt { .. } | Constraint::ConstPrim { .. } =>
-            true,
-        Constraint::Variant { .. } | Constraint::Struct { .. } | Constraint::Some => false,
+// Adds the end of fields with names, with `..` where some aren't bound.
+fn add_fields_end(out: &mut Vec<Piece>, is_bound: bool, is_lacking: bool) -> Result<(), AllocError>
+    ensures { OnOk result (Adds out.old.items out.new.items (λ p rest. Pieces.fields_end is_bound is_lacking rest)) }
+{
+    if !is_lacking {
+        add(out, Piece::Space)?;
+        return add_word(out, Word::ClosingBrace);
+    }
+    add_first_if(out, is_bound, Word::Comma)?;
+    add_first(out, Word::TwoDots)?;
+    add_word(out, Word::ClosingBrace)
+}
+
+// Adds the variable of what is within an answer, or `_` where nothing looks at it.
+fn add_inner(out: &mut Vec<Piece>, fields: &[Option<BindingId>]) -> Result<(), AllocError>
+    ensures { OnOk result (Adds out.old.items out.new.items (λ p rest. inner_before fields.now rest)) }
+{
+    match fields {
+        [Some(site), ..] => add_token(out, Token::Variable(*site)),
+        [None, ..] => add_word(out, Word::Underscore),
+        [] => add_word(out, Word::Underscore),
     }
 }
 
-impl<'a> Names<'a> {
-    /// Adds a pattern as an arm of a match of this value has it. A named constant is no pattern, so it is compared.
-    pub(crate) fn push_arm_pattern(
-        self,
-        out: &mut String,
-        value: &Use,
-        pattern: &Constraint,
-        fields: &[Option<BindingId>],
-    ) -> Result<(), AllocError> {
-        match pattern {
-            Constraint::ConstPrim { val } => {
-                out.push_str("_ if ")?;
-                self.push_named_test(out, value, " == ", *val)
+/// Adds a constant that is asked.
+pub(crate) fn add_constant(out: &mut Vec<Piece>, constraint: &Constraint) -> Result<(), AllocError>
+    ensures { OnOk result (Adds out.old.items out.new.items (λ p rest. constant_before p (constraint_view constraint.now) rest)) }
+{
+    match constraint {
+        Constraint::ConstBool { val, .. } => add_truth(out, *val),
+        Constraint::ConstInt { val, ty } => add_int(out, *val, *ty),
+        Constraint::ConstPrim { val } => add_token(out, Token::Constant(*val)),
+        Constraint::Variant { .. } => Ok(()),
+        Constraint::Struct { .. } => Ok(()),
+        Constraint::Some => Ok(()),
+    }
+}
+
+// Adds a pattern of what is there.
+fn add_some(out: &mut Vec<Piece>, fields: &[Option<BindingId>]) -> Result<(), AllocError>
+    ensures { OnOk result (Adds out.old.items out.new.items (λ p rest. put_all (some_word ∷ opening ∷ []) (inner_before fields.now (put closing rest)))) }
+{
+    add_words(out, &[Word::Some, Word::Opening])?;
+    add_inner(out, fields)?;
+    add_word(out, Word::Closing)
+}
+
+impl Writer<'_> {
+    // Adds the variable of a field: a reference to an enum or a struct.
+    fn add_binding(
+        &self,
+        out: &mut Vec<Piece>,
+        owner: Owner,
+        index: usize,
+        site: BindingId,
+    ) -> Result<(), AllocError>
+        ensures { OnOk result (AddsBy self.now out.old.items out.new.items (λ p rest. binding_before p (owner_view owner) index site rest)) }
+    {
+        add_first_if(out, self.is_field_composed(owner, index), Word::Ref)?;
+        add_token(out, Token::Variable(site))
+    }
+
+    // Adds a field with a name if it is bound.
+    fn add_named_field(
+        &self,
+        out: &mut Vec<Piece>,
+        owner: Owner,
+        index: usize,
+        field: Option<BindingId>,
+        is_bound: bool,
+    ) -> Result<(), AllocError>
+        ensures { OnOk result (AddsBy self.now out.old.items out.new.items (λ p rest. named_field p (owner_view owner) index is_bound field rest)) }
+    {
+        match field {
+            Some(site) => {
+                add_first_if(out, is_bound, Word::Comma)?;
+                add_token(out, Token::Field { owner, index })?;
+                add_first(out, Word::Colon)?;
+                self.add_binding(out, owner, index, site)
             }
-            Constraint::ConstBool { .. }
-            | Constraint::ConstInt { .. }
-            | Constraint::Variant { .. }
-            | Constraint::Struct { .. }
-            | Constraint::Some => self.push_pattern(out, *pattern, fields),
-        }
-    }
-
-    /// Adds a pattern, and the value that is to meet it.
-    pub(crate) fn push_let(
-        self,
-        out: &mut String,
-        pattern: &Constraint,
-        fields: &[Option<BindingId>],
-        value: &Use,
-    ) -> Result<(), AllocError> {
-        out.push_str("let ")?;
-        self.push_pattern(out, *pattern, fields)?;
-        out.push_str(" = ")?;
-        self.push_use(out, *value)
-    }
-
-    /// Adds a comparison with a constant.
-    pub(crate) fn push_constant_test(
-        self,
-        out: &mut String,
-        value: &Use,
-        sign: &str,
-        constant: &Constraint,
-    ) -> Result<(), AllocError> {
-        match constant {
-            Constraint::ConstPrim { val } => self.push_named_test(out, value, sign, *val),
-            Constraint::ConstBool { .. }
-            | Constraint::ConstInt { .. }
-            | Constraint::Variant { .. }
-            | Constraint::Struct { .. }
-            | Constraint::Some => {
-                self.push_compared(out, value, sign)?;
-                self.push_constant_of(out, *constant)
-            }
-        }
-    }
-
-    // Adds the constant that is asked.
-    fn push_constant_of(self, out: &mut String, constant: Constraint) -> Result<(), AllocError> {
-        match constant {
-            Constraint::ConstBool { val, .. } => out.push_str(if val { "true" } else { "false" }),
-            Constraint::ConstInt { val, ty } => self.push_int(out, val, ty),
-            Constraint::ConstPrim { val } => self.push_constant(out, val),
-            Constraint::Variant { .. } | Constraint::Struct { .. } | Constraint::Some => Ok(()),
-        }
-    }
-
-    // Adds a comparison with a named constant. Of an enum's or a struct's type a reference is matched, which is seen through here.
-    fn push_named_test(
-        self,
-        out: &mut String,
-        value: &Use,
-        sign: &str,
-        constant: Sym,
-    ) -> Result<(), AllocError> {
-        if self.is_constant_composed(constant) {
-            out.push('*')?;
-        }
-        self.push_compared(out, value, sign)?;
-        self.push_constant(out, constant)
-    }
-
-    // Adds a value, and the sign by which it is compared.
-    fn push_compared(self, out: &mut String, value: &Use, sign: &str) -> Result<(), AllocError> {
-        self.push_use(out, *value)?;
-        out.push_str(sign)
-    }
-
-    // Adds a pattern. Variants and structs are matched by reference.
-    fn push_pattern(
-        self,
-        out: &mut String,
-        pattern: Constraint,
-        fields: &[Option<BindingId>],
-    ) -> Result<(), AllocError> {
-        match pattern {
-            Constraint::Variant { ty, variant, .. } => {
-                out.push('&')?;
-                self.push_variant(out, ty, variant)?;
-                self.push_fields(out, self.variant_fields(ty, variant), fields)
-            }
-            Constraint::Struct { ty, .. } => {
-                out.push('&')?;
-                self.program.push_type(out, ty)?;
-                self.push_fields(out, self.struct_fields(ty), fields)
-            }
-            Constraint::ConstBool { .. }
-            | Constraint::ConstInt { .. }
-            | Constraint::ConstPrim { .. } => self.push_constant_of(out, pattern),
-            Constraint::Some => {
-                out.push_str("Some(")?;
-                push_inner(out, fields)?;
-                out.push(')')
-            }
-        }
-    }
-
-    // Adds the fields of a pattern.
-    fn push_fields(
-        self,
-        out: &mut String,
-        fields: Option<&Fields>,
-        sites: &[Option<BindingId>],
-    ) -> Result<(), AllocError> {
-        match fields {
-            Some(Fields::Struct(named)) => self.push_named_fields(out, &named.fields, sites),
-            Some(Fields::Tuple(unnamed)) => self.push_unnamed_fields(out, &unnamed.fields, sites),
-            Some(Fields::Unit) | None => Ok(()),
+            None => Ok(()),
         }
     }
 
     // Adds the fields with names that are bound, and `..` where others aren't.
-    fn push_named_fields(
-        self,
-        out: &mut String,
-        fields: &[StructField],
-        sites: &[Option<BindingId>],
-    ) -> Result<(), AllocError> {
-        out.push_str(" { ")?;
-        for (i, (field, site)) in fields.iter().zip(sites).enumerate() {
-            if let Some(site) = site {
-                out.push_str(if is_bound_before(sites, i) { ", " } else { "" })?;
-                self.push_sym(out, field.name)?;
-                out.push_str(": ")?;
-                self.push_field_variable(out, field.ty, *site)?;
+    #[tactic(auto, using(crate::proofs::FieldSteps::field_steps))]
+    fn add_named_bindings(
+        &self,
+        out: &mut Vec<Piece>,
+        owner: Owner,
+        fields: &[Option<BindingId>],
+    ) -> Result<(), AllocError>
+        ensures { OnOk result (AddsBy self.now out.old.items out.new.items (λ p rest. named_bindings p (owner_view owner) 0 false false fields.now rest)) }
+    {
+        let mut is_bound = false;
+        let mut is_lacking = false;
+        for (index, field) in fields.iter().enumerate() {
+            self.add_named_field(out, owner, index, *field, is_bound)?;
+            is_bound = field.is_some() || is_bound;
+            is_lacking = field.is_none() || is_lacking;
+        }
+        Ok(add_fields_end(out, is_bound, is_lacking)?)
+    }
+
+    // Adds a field without a name, as `_` if it isn't bound.
+    fn add_in_order(
+        &self,
+        out: &mut Vec<Piece>,
+        owner: Owner,
+        index: usize,
+        field: Option<BindingId>,
+    ) -> Result<(), AllocError>
+        ensures { OnOk result (AddsBy self.now out.old.items out.new.items (λ p rest. place_in_order p (owner_view owner) index field rest)) }
+    {
+        match field {
+            Some(site) => self.add_binding(out, owner, index, site),
+            None => add_word(out, Word::Underscore),
+        }
+    }
+
+    // Adds the fields without names.
+    fn add_unnamed_bindings(
+        &self,
+        out: &mut Vec<Piece>,
+        owner: Owner,
+        fields: &[Option<BindingId>],
+    ) -> Result<(), AllocError>
+        ensures { OnOk result (AddsBy self.now out.old.items out.new.items (λ p rest. unnamed_bindings p (owner_view owner) 0 fields.now rest)) }
+    {
+        for (index, field) in fields.iter().enumerate() {
+            add_comma(out, index)?;
+            self.add_in_order(out, owner, index, *field)?;
+        }
+        Ok(add_word(out, Word::Closing)?)
+    }
+
+    // Adds the fields of a pattern, in their shape.
+    fn add_bindings(
+        &self,
+        out: &mut Vec<Piece>,
+        owner: Owner,
+        shape: Shape,
+        fields: &[Option<BindingId>],
+    ) -> Result<(), AllocError>
+        ensures { OnOk result (AddsBy self.now out.old.items out.new.items (λ p rest.
+            bindings_before p (owner_view owner) (shape_view shape) fields.now rest)) }
+    {
+        match shape {
+            Shape::Unit => Ok(()),
+            Shape::Named { .. } => {
+                add_between(out, Word::OpeningBrace)?;
+                self.add_named_bindings(out, owner, fields)
+            }
+            Shape::Unnamed { .. } => {
+                add_word(out, Word::Opening)?;
+                self.add_unnamed_bindings(out, owner, fields)
             }
         }
-        push_rest(out, sites)
     }
 
-    // Adds the fields without names, with `_` for those that aren't bound.
-    fn push_unnamed_fields(
-        self,
-        out: &mut String,
-        fields: &[TupleField],
-        sites: &[Option<BindingId>],
-    ) -> Result<(), AllocError> {
-        out.push('(')?;
-        for (i, (field, site)) in fields.iter().zip(sites).enumerate() {
-            out.push_str(if i == 0 { "" } else { ", " })?;
-            match site {
-                Some(site) => self.push_field_variable(out, field.ty, *site)?,
-                None => out.push('_')?,
+    // Adds a pattern of an enum or a struct, which are matched by reference.
+    fn add_owner_pattern(
+        &self,
+        out: &mut Vec<Piece>,
+        owner: Owner,
+        fields: &[Option<BindingId>],
+    ) -> Result<(), AllocError>
+        ensures { OnOk result (AddsBy self.now out.old.items out.new.items (λ p rest. put ampersand (token (owner_name (owner_view owner))
+            ∷ bindings_before p (owner_view owner) (p.shape (owner_view owner)) fields.now rest))) }
+    {
+        add_word(out, Word::Ampersand)?;
+        add_token(out, Token::Owner(owner))?;
+        self.add_bindings(out, owner, self.shape_of(owner), fields)
+    }
+
+    /// Adds a pattern.
+    pub(crate) fn add_pattern(
+        &self,
+        out: &mut Vec<Piece>,
+        constraint: &Constraint,
+        fields: &[Option<BindingId>],
+    ) -> Result<(), AllocError>
+        ensures { OnOk result (AddsBy self.now out.old.items out.new.items (λ p rest. pattern_before p (constraint_view constraint.now) fields.now rest)) }
+    {
+        match constraint {
+            Constraint::Variant { ty, variant, .. } => {
+                let owner = Owner::Variant {
+                    ty: *ty,
+                    variant: *variant,
+                };
+                self.add_owner_pattern(out, owner, fields)
             }
+            Constraint::Struct { ty, .. } => {
+                self.add_owner_pattern(out, Owner::Struct { ty: *ty }, fields)
+            }
+            Constraint::ConstBool { .. } => add_constant(out, constraint),
+            Constraint::ConstInt { .. } => add_constant(out, constraint),
+            Constraint::ConstPrim { .. } => add_constant(out, constraint),
+            Constraint::Some => add_some(out, fields),
         }
-        out.push(')')
-    }
-
-    // Adds the variable of a field of this type: a reference to an enum or a struct.
-    fn push_field_variable(
-        self,
-        out: &mut String,
-        ty: TypeId,
-        site: BindingId,
-    ) -> Result<(), AllocError> {
-        out.push_str(if self.program.is_composed(ty) {
-            "ref "
-        } else {
-            ""
-        })?;
-        push_variable(out, site)
-    }
-}
-
-// Whether a field before this one is bound.
-fn is_bound_before(sites: &[Option<BindingId>], place: usize) -> bool {
-    sites.iter().take(place).any(|site| site.is_some())
-}
-
-// Ends the fields with names, with `..` where some aren't bound.
-fn push_rest(out: &mut String, sites: &[Option<BindingId>]) -> Result<(), AllocError> {
-    let has_bound = sites.iter().any(|site| site.is_some());
-    let has_others = sites.iter().any(|site| site.is_none());
-    out.push_str(match (has_bound, has_others) {
-        (_, false) => " }",
-        (false, true) => ".. }",
-        (true, true) => ", .. }",
-    })
-}
-
-// Adds the variable of what is within an answer, or `_` where nothing looks at it.
-fn push_inner(out: &mut String, sites: &[Option<BindingId>]) -> Result<(), AllocError> {
-    match sites {
-        [Some(site), ..] => push_variable(out, *site),
-        _ => out.push('_'),
     }
 }

@@ -1,378 +1,573 @@
-//! Blocks, statements and arms.
+//! Statements without bodies, and the lines that bodies stand between.
 
-use crate::expressions::Call;
-use crate::labels::leaves_label;
-use crate::layout::{Margin, push_indent, push_line};
-use crate::names::{Names, push_variable};
-use crate::patterns::is_constant;
-use cranelift_isle::sema::{ReturnKind, Term};
+ghost use Rattle.std.specs.Prelude.{◌∷◌, true, false, [], OnOk};
+ghost use Rattle.code_text.specs.Tokens.{ampersand, closing, closing_brace, comma, ctx_word, dot, else_word, equals, if_word, iter_word, let_word, mut_word, next_word, opening, opening_brace, return_word, semicolon, some_word, unreachable_word, variable_name};
+ghost use Rattle.code_text.specs.Notation.{gives_many};
+ghost use Rattle.code_text.specs.Pieces as Pieces;
+ghost use Rattle.code_text.specs.Pieces.{arm_head, bind_lines, bind_some_line, call_lines, equal_head, failure_before, give_lines, given_end, line_end, log_lines, loop_head, many_lines, match_end, match_head, one_line, put, put_all, put_between, put_first, result_lines, set_in, space, token, unless_equal_line, unless_line, use_before};
+ghost use Rattle.isle_base.specs.SyntaxViews.{position};
+ghost use Rattle.isle_code.specs.CodeViews.{expr_view, use_view, use_views};
+ghost use Rattle.isle_rule_sets.specs.SiteViews.{constraint_view};
+ghost use Rattle.isle_rust_tokens.specs.TokenViews.{callee_view, word_view};
+ghost use Rattle.isle_rust.specs.Adding.{Adds, AddsBy};
+ghost use Rattle.isle_rust.specs.Margins.{margin_view};
+ghost use Rattle.isle_rust.specs.Writers.{gives_view};
+
+use crate::added::{add, add_between, add_first, add_token, add_word, add_words, end_line};
+use crate::conditions::is_constant;
+use crate::expressions::add_call;
+use crate::layout::{Margin, add_break, add_margin, begin_line, close_body, open_body};
+use crate::notation::Writer;
+use crate::places::add_use;
+use cranelift_isle::sema::ReturnKind;
 use cranelift_isle::syntax::Pos;
 use cranelift_isle::trie_again::{BindingId, Constraint};
-use isle_code::code::{CodeArm, CodeBlock, Expr, Statement, Use};
-use isle_rust_items::names::push_quoted;
+use isle_code::code::{Expr, Use};
+use isle_rust_tokens::tokens::{Callee, Piece, Token, Word};
 use std::alloc::AllocError;
+use std::slice;
 
-/// What prints the code of a function: the names of its program, its term, and how many values it gives.
-#[derive(Clone, Copy)]
-pub(crate) struct Printer<'a> {
-    pub(crate) names: Names<'a>,
-    pub(crate) term: &'a Term,
-    pub(crate) gives: ReturnKind,
+// Adds the end of a result that is put into the list, and a return where the list is full.
+fn add_given_end(out: &mut Vec<Piece>, at: Margin) -> Result<(), AllocError>
+    ensures { OnOk result (Adds out.old.items out.new.items (λ p rest. given_end (margin_view at) rest)) }
+{
+    add_words(out, &[Word::Closing, Word::Closing])?;
+    end_line(out)?;
+    begin_line(out, at, Word::If)?;
+    add_words(
+        out,
+        &[
+            Word::Returns,
+            Word::Dot,
+            Word::Len,
+            Word::Opening,
+            Word::Closing,
+        ],
+    )?;
+    add_between(out, Word::AtLeast)?;
+    add_word(out, Word::Most)?;
+    add_full_return(out)
 }
 
-impl<'a> Printer<'a> {
-    /// Adds the statements of a block, up to one that nothing follows.
-    #[cycle(code)]
-    pub(crate) fn push_block(
-        self,
-        out: &mut String,
-        at: Margin,
-        block: &CodeBlock,
-    ) -> Result<(), AllocError> {
-        for statement in &block.statements {
-            self.push_statement(out, at, statement)?;
-            if self.is_end(statement) {
-                return Ok(());
-            }
-        }
-        Ok(())
-    }
+// Adds the return where the list of results is full.
+fn add_full_return(out: &mut Vec<Piece>) -> Result<(), AllocError>
+    ensures { OnOk result (Adds out.old.items out.new.items (λ p rest.
+        put_between opening_brace (put return_word (put_first semicolon (put closing_brace (line_end ∷ rest)))))) }
+{
+    add_between(out, Word::OpeningBrace)?;
+    add_word(out, Word::Return)?;
+    add_first(out, Word::Semicolon)?;
+    add_word(out, Word::ClosingBrace)?;
+    add(out, Piece::LineEnd)
+}
 
-    /// Whether nothing follows a statement in its block: a function that gives one value returns it, and no run comes to
-    /// `unreachable!()`.
-    pub(crate) fn is_end(self, statement: &Statement) -> bool {
-        match statement {
-            Statement::NoWay => true,
-            Statement::Give { .. } => self.gives != ReturnKind::Iterator,
-            Statement::Bind { .. }
-            | Statement::BindSome { .. }
-            | Statement::MatchOn { .. }
-            | Statement::IfEqual { .. }
-            | Statement::ForEachOf { .. }
-            | Statement::Labelled { .. }
-            | Statement::UnlessLet { .. }
-            | Statement::UnlessEqual { .. } => false,
-        }
-    }
+// Adds the beginning of a line that binds a variable that is written to.
+fn begin_mutable(out: &mut Vec<Piece>, at: Margin, site: BindingId) -> Result<(), AllocError>
+    ensures { OnOk result (Adds out.old.items out.new.items (λ p rest.
+        set_in at.depth ∷ put_first let_word (put_first mut_word (token (variable_name site) ∷ put_between equals rest)))) }
+{
+    begin_line(out, at, Word::Let)?;
+    add_first(out, Word::Mut)?;
+    add_token(out, Token::Variable(site))?;
+    add_between(out, Word::Equals)
+}
 
-    // Adds a statement.
-    #[cycle(code)]
-    fn push_statement(
-        self,
-        out: &mut String,
-        at: Margin,
-        statement: &Statement,
-    ) -> Result<(), AllocError> {
-        match statement {
-            Statement::Bind { site, expr } => self.push_bind(out, at, *site, expr),
-            Statement::BindSome { site, value } => self.push_bind_some(out, at, *site, *value),
-            Statement::NoWay => push_line(out, at, "unreachable!();"),
-            Statement::MatchOn { value, arms } => self.push_match(out, at, value, arms),
-            Statement::IfEqual { a, b, body } => {
-                self.push_comparison(out, at, *a, " == ", *b)?;
-                self.push_body(out, at, body)
-            }
-            Statement::ForEachOf { site, from, body } => {
-                push_loop(out, at, *site, *from)?;
-                self.push_body(out, at, body)
-            }
-            Statement::Give { pos, value } => self.push_give(out, at, *pos, *value),
-            Statement::Labelled { body } => self.push_labelled(out, at, body),
-            Statement::UnlessLet {
-                value,
-                pattern,
-                fields,
-            } => { self.push_unless_let(out, at, value, pattern, fields) }
-            Statement::UnlessEqual { a, b } => {
-                self.push_comparison(out, at, *a, " != ", *b)?;
-                push_break(out, at)?;
-                out.push('\n')
-            }
-        }
-    }
+// Adds a variable as what is within an answer.
+fn add_some_variable(out: &mut Vec<Piece>, site: BindingId) -> Result<(), AllocError>
+    ensures { OnOk result (Adds out.old.items out.new.items (λ p rest.
+        put_all (some_word ∷ opening ∷ []) (token (variable_name site) ∷ put closing (put_between equals rest)))) }
+{
+    add_words(out, &[Word::Some, Word::Opening])?;
+    add_token(out, Token::Variable(site))?;
+    add_word(out, Word::Closing)?;
+    add_between(out, Word::Equals)
+}
 
-    // Adds what follows a test or stands in a loop, within braces. If all of it is within a label that no test leaves, these are
-    // the label's braces too: more of them would take more of rustc's stack.
-    #[cycle(code)]
-    fn push_body(self, out: &mut String, at: Margin, body: &CodeBlock) -> Result<(), AllocError> {
-        out.push_str(" {\n")?;
-        match body.statements.as_slice() {
-            [Statement::Labelled { body }] if !leaves_label(body) => {
-                self.push_block(out, at.inside(), body)?
-            }
-            _ => self.push_block(out, at.inside(), body)?,
-        }
-        push_line(out, at, "}")
-    }
+// Adds that a variable is an argument which answers are put into.
+fn add_filled(out: &mut Vec<Piece>, site: BindingId) -> Result<(), AllocError>
+    ensures { OnOk result (Adds out.old.items out.new.items (λ p rest.
+        put_first comma (put ampersand (put_first mut_word (token (variable_name site) ∷ put closing (Pieces.end_line rest)))))) }
+{
+    add_first(out, Word::Comma)?;
+    add_word(out, Word::Ampersand)?;
+    add_first(out, Word::Mut)?;
+    add_token(out, Token::Variable(site))?;
+    add_word(out, Word::Closing)?;
+    end_line(out)
+}
 
-    // Adds a match: one arm as a test, several within a match.
-    #[cycle(code)]
-    fn push_match(
-        self,
-        out: &mut String,
-        at: Margin,
-        value: &Use,
-        arms: &[CodeArm],
-    ) -> Result<(), AllocError> {
-        push_indent(out, at)?;
-        if let [arm] = arms {
-            return self.push_only_arm(out, at, value, arm);
-        }
-        out.push_str("match ")?;
-        self.names.push_use(out, *value)?;
-        out.push_str(" {\n")?;
-        for arm in arms {
-            self.push_arm(out, at.inside(), value, arm)?;
-        }
-        push_line(out, at.inside(), "_ => {}")?;
-        push_line(out, at, "}")
-    }
+// Adds the lines of a call with many answers, which are put into what is there before.
+fn add_many(
+    out: &mut Vec<Piece>,
+    at: Margin,
+    site: BindingId,
+    callee: Callee,
+    args: &[Use],
+) -> Result<(), AllocError>
+    ensures { OnOk result (Adds out.old.items out.new.items (λ p rest.
+        many_lines p (margin_view at) site (callee_view callee) (use_views args.now) rest)) }
+{
+    begin_mutable(out, at, site)?;
+    add_token(out, Token::List(callee))?;
+    end_line(out)?;
+    add_margin(out, at)?;
+    add_call(out, callee, args)?;
+    add_filled(out, site)
+}
 
-    // Adds the rest of the lines of a match with this arm alone.
-    #[cycle(code)]
-    fn push_only_arm(
-        self,
-        out: &mut String,
-        at: Margin,
-        value: &Use,
-        arm: &CodeArm,
-    ) -> Result<(), AllocError> {
-        out.push_str("if ")?;
-        self.push_condition(out, value, &arm.pattern, &arm.fields)?;
-        self.push_body(out, at, &arm.body)
-    }
+/// Adds the lines that a loop begins with: the answers of a call become an iterator, and each is bound in turn.
+pub(crate) fn begin_loop(
+    out: &mut Vec<Piece>,
+    at: Margin,
+    site: BindingId,
+    from: BindingId,
+) -> Result<(), AllocError>
+    ensures { OnOk result (Adds out.old.items out.new.items (λ p rest. loop_head (margin_view at) site from rest)) }
+{
+    add_iterator(out, at, from)?;
+    begin_line(out, at, Word::While)?;
+    add_first(out, Word::Let)?;
+    add_some_variable(out, site)?;
+    add_next(out, from)
+}
 
-    // Adds an arm beside others.
-    #[cycle(code)]
-    fn push_arm(
-        self,
-        out: &mut String,
-        at: Margin,
-        value: &Use,
-        arm: &CodeArm,
-    ) -> Result<(), AllocError> {
-        push_indent(out, at)?;
-        self.names
-            .push_arm_pattern(out, value, &arm.pattern, &arm.fields)?;
-        out.push_str(" =>")?;
-        self.push_body(out, at, &arm.body)
-    }
+// Adds the line that makes the answers of a call an iterator.
+fn add_iterator(out: &mut Vec<Piece>, at: Margin, from: BindingId) -> Result<(), AllocError>
+    ensures { OnOk result (Adds out.old.items out.new.items (λ p rest.
+        set_in at.depth ∷ put_first let_word (put_first mut_word (token (variable_name from) ∷ put_between equals
+        (token (variable_name from) ∷ put_all (dot ∷ iter_word ∷ opening ∷ closing ∷ []) (Pieces.end_line rest)))))) }
+{
+    begin_mutable(out, at, from)?;
+    add_token(out, Token::Variable(from))?;
+    add_words(out, &[Word::Dot, Word::Iter, Word::Opening, Word::Closing])?;
+    end_line(out)
+}
 
-    // Adds a block with a label, or with braces alone where no test leaves it.
-    #[cycle(code)]
-    fn push_labelled(
-        self,
-        out: &mut String,
-        at: Margin,
-        body: &CodeBlock,
-    ) -> Result<(), AllocError> {
-        let is_left = leaves_label(body);
-        push_label(out, at, is_left)?;
-        self.push_block(out, at.in_label(is_left), body)?;
-        push_line(out, at, "}")
-    }
+// Adds the next answer of an iterator, and the brace that a loop's body begins with.
+fn add_next(out: &mut Vec<Piece>, from: BindingId) -> Result<(), AllocError>
+    ensures { OnOk result (Adds out.old.items out.new.items (λ p rest.
+        token (variable_name from) ∷ put_all (dot ∷ next_word ∷ opening ∷ ctx_word ∷ closing ∷ []) (Pieces.open_body rest))) }
+{
+    add_token(out, Token::Variable(from))?;
+    add_words(
+        out,
+        &[
+            Word::Dot,
+            Word::Next,
+            Word::Opening,
+            Word::Ctx,
+            Word::Closing,
+        ],
+    )?;
+    open_body(out)
+}
 
-    // Adds that a value meets a pattern.
-    fn push_condition(
-        self,
-        out: &mut String,
-        value: &Use,
-        pattern: &Constraint,
-        fields: &[Option<BindingId>],
-    ) -> Result<(), AllocError> {
-        if is_constant(pattern) {
-            self.names.push_constant_test(out, value, " == ", pattern)
-        } else {
-            self.names.push_let(out, pattern, fields, value)
-        }
-    }
+/// Adds the line of a place that no run comes to.
+pub(crate) fn add_no_way(out: &mut Vec<Piece>, at: Margin) -> Result<(), AllocError>
+    ensures { OnOk result (Adds out.old.items out.new.items (λ p rest.
+        set_in at.depth ∷ put_all (unreachable_word ∷ opening ∷ closing ∷ []) (Pieces.end_line rest))) }
+{
+    add_margin(out, at)?;
+    add_words(out, &[Word::Unreachable, Word::Opening, Word::Closing])?;
+    end_line(out)
+}
 
-    // Adds a test of a pattern that leaves the label where it isn't met.
-    fn push_unless_let(
-        self,
-        out: &mut String,
-        at: Margin,
-        value: &Use,
-        pattern: &Constraint,
-        fields: &[Option<BindingId>],
-    ) -> Result<(), AllocError> {
-        push_indent(out, at)?;
-        if is_constant(pattern) {
-            out.push_str("if ")?;
-            self.names.push_constant_test(out, value, " != ", pattern)?;
-            push_break(out, at)?;
-            return out.push('\n');
-        }
-        self.names.push_let(out, pattern, fields, value)?;
-        out.push_str(" else")?;
-        push_break(out, at)?;
-        out.push_str(";\n")
-    }
+/// Adds that two values compare so.
+pub(crate) fn add_compared(
+    out: &mut Vec<Piece>,
+    at: Margin,
+    a: Use,
+    sign: Word,
+    b: Use,
+) -> Result<(), AllocError>
+    ensures { OnOk result (Adds out.old.items out.new.items (λ p rest.
+        set_in at.depth ∷ put_first if_word (use_before p (use_view a) (put_between (word_view sign) (use_before p (use_view b) rest))))) }
+{
+    begin_line(out, at, Word::If)?;
+    add_use(out, a)?;
+    add_between(out, sign)?;
+    add_use(out, b)
+}
 
-    // Adds that two values compare so.
-    fn push_comparison(
-        self,
-        out: &mut String,
-        at: Margin,
-        a: Use,
-        sign: &str,
-        b: Use,
-    ) -> Result<(), AllocError> {
-        push_indent(out, at)?;
-        out.push_str("if ")?;
-        self.names.push_use(out, a)?;
-        out.push_str(sign)?;
-        self.names.push_use(out, b)
-    }
+/// Adds the line that a body begins with where two values are equal.
+pub(crate) fn begin_equal(
+    out: &mut Vec<Piece>,
+    at: Margin,
+    a: Use,
+    b: Use,
+) -> Result<(), AllocError>
+    ensures { OnOk result (Adds out.old.items out.new.items (λ p rest. equal_head p (margin_view at) (use_view a) (use_view b) rest)) }
+{
+    add_compared(out, at, a, Word::EqualTo, b)?;
+    open_body(out)
+}
 
-    // Adds the lines that bind a variable.
-    fn push_bind(
-        self,
-        out: &mut String,
+/// Adds a test that two values are equal, which leaves the label where they aren't.
+pub(crate) fn add_unless_equal(
+    out: &mut Vec<Piece>,
+    at: Margin,
+    a: Use,
+    b: Use,
+) -> Result<(), AllocError>
+    ensures { OnOk result (Adds out.old.items out.new.items (λ p rest. unless_equal_line p (margin_view at) (use_view a) (use_view b) rest)) }
+{
+    add_compared(out, at, a, Word::Unlike, b)?;
+    add_break(out, at)?;
+    add(out, Piece::LineEnd)
+}
+
+/// Adds the line that a match of several arms begins with.
+pub(crate) fn begin_match(
+    out: &mut Vec<Piece>,
+    at: Margin,
+    is_alone: bool,
+    value: Use,
+) -> Result<(), AllocError>
+    ensures { OnOk result (Adds out.old.items out.new.items (λ p rest. match_head is_alone p (margin_view at) (use_view value) rest)) }
+{
+    if is_alone {
+        return Ok(());
+    }
+    begin_line(out, at, Word::Match)?;
+    add_use(out, value)?;
+    open_body(out)
+}
+
+/// Adds the lines that a match of several arms ends with.
+pub(crate) fn end_match(out: &mut Vec<Piece>, at: Margin, is_alone: bool) -> Result<(), AllocError>
+    ensures { OnOk result (Adds out.old.items out.new.items (λ p rest. match_end is_alone (margin_view at) rest)) }
+{
+    if is_alone {
+        return Ok(());
+    }
+    begin_line(out, at.inside()?, Word::Underscore)?;
+    add_first(out, Word::Arrow)?;
+    add_words(out, &[Word::OpeningBrace, Word::ClosingBrace])?;
+    add(out, Piece::LineEnd)?;
+    close_body(out, at)
+}
+
+// Adds what tells the log which rule is taken.
+fn add_log(out: &mut Vec<Piece>, at: Margin, is_logged: bool, pos: Pos) -> Result<(), AllocError>
+    ensures { OnOk result (Adds out.old.items out.new.items (λ p rest. log_lines is_logged (margin_view at) (position pos) rest)) }
+{
+    if !is_logged {
+        return Ok(());
+    }
+    add_margin(out, at)?;
+    add(out, Piece::LogLine(pos))?;
+    add(out, Piece::LineEnd)
+}
+
+impl Writer<'_> {
+    // Adds the line that binds a variable to one value.
+    fn add_one(
+        &self,
+        out: &mut Vec<Piece>,
         at: Margin,
         site: BindingId,
         expr: &Expr,
-    ) -> Result<(), AllocError> {
-        push_indent(out, at)?;
-        match Call::of(expr) {
-            Some(call) if self.names.has_many(call.function) => {
-                self.push_many(out, at, site, call)
-            }
-            _ => self.push_one(out, site, expr),
+    ) -> Result<(), AllocError>
+        ensures { OnOk result (AddsBy self.now out.old.items out.new.items (λ p rest. one_line p (margin_view at) site (expr_view expr.now) rest)) }
+    {
+        begin_line(out, at, Word::Let)?;
+        add_token(out, Token::Variable(site))?;
+        add_between(out, Word::Equals)?;
+        self.add_expr(out, expr)?;
+        end_line(out)
+    }
+
+    // Adds the lines that bind a variable to what a call answers.
+    fn add_called(
+        &self,
+        out: &mut Vec<Piece>,
+        at: Margin,
+        site: BindingId,
+        callee: Callee,
+        args: &[Use],
+        expr: &Expr,
+    ) -> Result<(), AllocError>
+        ensures { OnOk result (AddsBy self.now out.old.items out.new.items (λ p rest.
+            call_lines (p.has_many (callee_view callee)) p (margin_view at) site (callee_view callee) (use_views args.now) (expr_view expr.now) rest)) }
+    {
+        self.add_call_lines(out, at, self.has_many(callee), site, callee, args, expr)
+    }
+
+    // The same where it is known whether there are many answers.
+    fn add_call_lines(
+        &self,
+        out: &mut Vec<Piece>,
+        at: Margin,
+        has_many: bool,
+        site: BindingId,
+        callee: Callee,
+        args: &[Use],
+        expr: &Expr,
+    ) -> Result<(), AllocError>
+        ensures { OnOk result (AddsBy self.now out.old.items out.new.items (λ p rest.
+            call_lines has_many p (margin_view at) site (callee_view callee) (use_views args.now) (expr_view expr.now) rest)) }
+    {
+        if has_many {
+            add_many(out, at, site, callee, args)
+        } else {
+            self.add_one(out, at, site, expr)
         }
     }
 
-    // Adds the rest of the line that binds a variable to one value.
-    fn push_one(self, out: &mut String, site: BindingId, expr: &Expr) -> Result<(), AllocError> {
-        out.push_str("let ")?;
-        push_variable(out, site)?;
-        out.push_str(" = ")?;
-        self.names.push_expr(out, expr)?;
-        out.push_str(";\n")
-    }
-
-    // Adds the rest of the lines of a call with many answers, which are put into what is there before.
-    fn push_many(
-        self,
-        out: &mut String,
+    /// Adds the lines that bind a variable.
+    pub(crate) fn add_bind(
+        &self,
+        out: &mut Vec<Piece>,
         at: Margin,
         site: BindingId,
-        call: Call<'_>,
-    ) -> Result<(), AllocError> {
-        out.push_str("let mut ")?;
-        push_variable(out, site)?;
-        out.push_str(" = ")?;
-        self.names.push_empty(out, call.function)?;
-        out.push_str(";\n")?;
-        push_indent(out, at)?;
-        self.names.push_call(out, call)?;
-        out.push_str(", &mut ")?;
-        push_variable(out, site)?;
-        out.push_str(");\n")
+        expr: &Expr,
+    ) -> Result<(), AllocError>
+        ensures { OnOk result (AddsBy self.now out.old.items out.new.items (λ p rest. bind_lines p (margin_view at) site (expr_view expr.now) rest)) }
+    {
+        match expr {
+            Expr::Extraction { term, value } => {
+                let callee = Callee::Extractor(*term);
+                self.add_called(out, at, site, callee, slice::from_ref(value), expr)
+            }
+            Expr::Call { term, args, .. } => {
+                self.add_called(out, at, site, Callee::Constructor(*term), args, expr)
+            }
+            Expr::TruthWritten { .. } => self.add_one(out, at, site, expr),
+            Expr::VariantOf { .. } => self.add_one(out, at, site, expr),
+            Expr::StructOf { .. } => self.add_one(out, at, site, expr),
+            Expr::SomeOf { .. } => self.add_one(out, at, site, expr),
+        }
     }
 
-    // Adds the line that binds what is in an answer. Where there is nothing, a partial term gives nothing. No other asks such an
-    // answer of a right side.
-    fn push_bind_some(
-        self,
-        out: &mut String,
+    // Adds what the function does where a call on a right side gives nothing.
+    fn add_failure(&self, out: &mut Vec<Piece>) -> Result<(), AllocError>
+        ensures { OnOk result (AddsBy self.now out.old.items out.new.items (λ p rest. failure_before p.kind rest)) }
+    {
+        Ok(add_failure_of(out, self.gives())?)
+    }
+
+    // Adds the part of a line behind a value that may be nothing.
+    fn add_else(&self, out: &mut Vec<Piece>) -> Result<(), AllocError>
+        ensures { OnOk result (AddsBy self.now out.old.items out.new.items (λ p rest.
+            put_between else_word (put_first opening_brace (failure_before p.kind (space ∷ put closing_brace (Pieces.end_line rest)))))) }
+    {
+        add_between(out, Word::Else)?;
+        add_first(out, Word::OpeningBrace)?;
+        self.add_failure(out)?;
+        add(out, Piece::Space)?;
+        add_word(out, Word::ClosingBrace)?;
+        end_line(out)
+    }
+
+    /// Adds the line that binds what is in an answer.
+    pub(crate) fn add_bind_some(
+        &self,
+        out: &mut Vec<Piece>,
         at: Margin,
         site: BindingId,
         value: Use,
-    ) -> Result<(), AllocError> {
-        push_indent(out, at)?;
-        out.push_str("let Some(")?;
-        push_variable(out, site)?;
-        out.push_str(") = ")?;
-        self.names.push_use(out, value)?;
-        out.push_str(match self.gives {
-            ReturnKind::Plain => " else { unreachable!() };\n",
-            ReturnKind::Option => " else { return None };\n",
-            ReturnKind::Iterator => " else { return };\n",
-        })
+    ) -> Result<(), AllocError>
+        ensures { OnOk result (AddsBy self.now out.old.items out.new.items (λ p rest. bind_some_line p (margin_view at) site (use_view value) rest)) }
+    {
+        begin_line(out, at, Word::Let)?;
+        add_some_variable(out, site)?;
+        add_use(out, value)?;
+        self.add_else(out)
     }
 
-    // Adds the lines of a result.
-    fn push_give(
-        self,
-        out: &mut String,
+    // Adds a result behind the white space of its line.
+    fn add_given(&self, out: &mut Vec<Piece>, at: Margin, value: Use) -> Result<(), AllocError>
+        ensures { OnOk result (AddsBy self.now out.old.items out.new.items (λ p rest. give_lines p.kind p (margin_view at) (use_view value) rest)) }
+    {
+        Ok(add_given_of(out, at, self.gives(), value)?)
+    }
+
+    /// Adds the lines of a result.
+    pub(crate) fn add_give(
+        &self,
+        out: &mut Vec<Piece>,
         at: Margin,
         pos: Pos,
         value: Use,
-    ) -> Result<(), AllocError> {
-        push_indent(out, at)?;
-        out.push_str("// Rule at ")?;
-        self.names.program.lines.push(out, pos)?;
-        out.push_str(".\n")?;
-        if self.names.program.is_logged {
-            self.push_log(out, at, pos)?;
+    ) -> Result<(), AllocError>
+        ensures { OnOk result (AddsBy self.now out.old.items out.new.items (λ p rest. result_lines p (margin_view at) (position pos) (use_view value) rest)) }
+    {
+        add_margin(out, at)?;
+        add(out, Piece::RuleComment(pos))?;
+        add(out, Piece::LineEnd)?;
+        add_log(out, at, self.is_logged(), pos)?;
+        add_margin(out, at)?;
+        self.add_given(out, at, value)
+    }
+
+    // Adds a test of a constant that leaves the label where it isn't met.
+    fn add_unless_constant(
+        &self,
+        out: &mut Vec<Piece>,
+        at: Margin,
+        value: Use,
+        constant: &Constraint,
+    ) -> Result<(), AllocError>
+        ensures { OnOk result (AddsBy self.now out.old.items out.new.items (λ p rest.
+            unless_line true p (margin_view at) (use_view value) (constraint_view constant.now) [] rest)) }
+    {
+        begin_line(out, at, Word::If)?;
+        self.add_comparison(out, value, Word::Unlike, constant)?;
+        add_break(out, at)?;
+        add(out, Piece::LineEnd)
+    }
+
+    // Adds a test of another pattern that leaves the label where it isn't met.
+    fn add_let_else(
+        &self,
+        out: &mut Vec<Piece>,
+        at: Margin,
+        value: Use,
+        pattern: &Constraint,
+        fields: &[Option<BindingId>],
+    ) -> Result<(), AllocError>
+        ensures { OnOk result (AddsBy self.now out.old.items out.new.items (λ p rest.
+            unless_line false p (margin_view at) (use_view value) (constraint_view pattern.now) fields.now rest)) }
+    {
+        add_margin(out, at)?;
+        self.add_let(out, value, pattern, fields)?;
+        add(out, Piece::Space)?;
+        add_word(out, Word::Else)?;
+        add_break(out, at)?;
+        end_line(out)
+    }
+
+    /// Adds a test of a pattern that leaves the label where it isn't met.
+    pub(crate) fn add_unless(
+        &self,
+        out: &mut Vec<Piece>,
+        at: Margin,
+        value: Use,
+        pattern: &Constraint,
+        fields: &[Option<BindingId>],
+    ) -> Result<(), AllocError>
+        ensures { OnOk result (AddsBy self.now out.old.items out.new.items (λ p rest.
+            unless_line (Pieces.is_constant (constraint_view pattern.now)) p (margin_view at) (use_view value) (constraint_view pattern.now) fields.now rest)) }
+    {
+        if is_constant(pattern) {
+            self.add_unless_constant(out, at, value, pattern)
+        } else {
+            self.add_let_else(out, at, value, pattern, fields)
         }
-        push_indent(out, at)?;
-        if self.gives == ReturnKind::Iterator {
-            return self.push_extended(out, at, value);
+    }
+
+    // Adds the line that the body of an arm begins with that stands alone: a test.
+    fn begin_only_arm(
+        &self,
+        out: &mut Vec<Piece>,
+        at: Margin,
+        value: Use,
+        pattern: &Constraint,
+        fields: &[Option<BindingId>],
+    ) -> Result<(), AllocError>
+        ensures { OnOk result (AddsBy self.now out.old.items out.new.items (λ p rest.
+            arm_head true p (margin_view at) (use_view value) (constraint_view pattern.now) fields.now rest)) }
+    {
+        begin_line(out, at, Word::If)?;
+        self.add_condition(out, value, pattern, fields)?;
+        open_body(out)
+    }
+
+    // Adds the line that the body of an arm beside others begins with.
+    fn begin_arm_of_many(
+        &self,
+        out: &mut Vec<Piece>,
+        at: Margin,
+        value: Use,
+        pattern: &Constraint,
+        fields: &[Option<BindingId>],
+    ) -> Result<(), AllocError>
+        ensures { OnOk result (AddsBy self.now out.old.items out.new.items (λ p rest.
+            arm_head false p (margin_view at) (use_view value) (constraint_view pattern.now) fields.now rest)) }
+    {
+        add_margin(out, at)?;
+        self.add_arm_pattern(out, value, pattern, fields)?;
+        add(out, Piece::Space)?;
+        add_word(out, Word::Arrow)?;
+        open_body(out)
+    }
+
+    /// Adds the line that the body of an arm begins with.
+    pub(crate) fn begin_arm(
+        &self,
+        out: &mut Vec<Piece>,
+        at: Margin,
+        is_alone: bool,
+        value: Use,
+        pattern: &Constraint,
+        fields: &[Option<BindingId>],
+    ) -> Result<(), AllocError>
+        ensures { OnOk result (AddsBy self.now out.old.items out.new.items (λ p rest.
+            arm_head is_alone p (margin_view at) (use_view value) (constraint_view pattern.now) fields.now rest)) }
+    {
+        if is_alone {
+            self.begin_only_arm(out, at, value, pattern, fields)
+        } else {
+            self.begin_arm_of_many(out, at, value, pattern, fields)
         }
-        out.push_str("return ")?;
-        self.names.push_use(out, value)?;
-        out.push_str(";\n")
-    }
-
-    // Adds a line that tells the log which rule is taken.
-    fn push_log(self, out: &mut String, at: Margin, pos: Pos) -> Result<(), AllocError> {
-        push_indent(out, at)?;
-        out.push_str("log::debug!(\"ISLE: {} by the rule at {}\", ")?;
-        self.push_quoted_name(out)?;
-        out.push_str(", ")?;
-        self.names.program.push_quoted_place(out, pos)?;
-        out.push_str(");\n")
-    }
-
-    /// Adds the term's name within quotes.
-    pub(crate) fn push_quoted_name(self, out: &mut String) -> Result<(), AllocError> {
-        push_quoted(out, self.names.program.tyenv.text_of(self.term.name))
-    }
-
-    // Adds the rest of the lines that add a result, and end the function where there are as many as are wanted.
-    fn push_extended(self, out: &mut String, at: Margin, value: Use) -> Result<(), AllocError> {
-        out.push_str("returns.extend(Some(")?;
-        self.names.push_use(out, value)?;
-        out.push_str("));\n")?;
-        push_line(out, at, "if returns.len() >= MAX_ISLE_RETURNS { return; }")
     }
 }
 
-// Adds the lines that a loop begins with: the answers of a call become an iterator, and each is bound in turn.
-fn push_loop(
-    out: &mut String,
+// Adds a return.
+fn add_return(out: &mut Vec<Piece>, value: Use) -> Result<(), AllocError>
+    ensures { OnOk result (Adds out.old.items out.new.items (λ p rest. put_first return_word (use_before p (use_view value) (Pieces.end_line rest)))) }
+{
+    add_first(out, Word::Return)?;
+    add_use(out, value)?;
+    end_line(out)
+}
+
+// Adds that a result is put into the list.
+fn add_extend(out: &mut Vec<Piece>, at: Margin, value: Use) -> Result<(), AllocError>
+    ensures { OnOk result (Adds out.old.items out.new.items (λ p rest. give_lines gives_many p (margin_view at) (use_view value) rest)) }
+{
+    add_words(
+        out,
+        &[
+            Word::Returns,
+            Word::Dot,
+            Word::Extend,
+            Word::Opening,
+            Word::Some,
+            Word::Opening,
+        ],
+    )?;
+    add_use(out, value)?;
+    add_given_end(out, at)
+}
+
+// Adds what a function does where a call on a right side gives nothing: a partial term gives nothing, and no other asks such an
+// answer.
+fn add_failure_of(out: &mut Vec<Piece>, gives: ReturnKind) -> Result<(), AllocError>
+    ensures { OnOk result (Adds out.old.items out.new.items (λ p rest. failure_before (gives_view gives) rest)) }
+{
+    match gives {
+        ReturnKind::Plain => add_words(out, &[Word::Unreachable, Word::Opening, Word::Closing]),
+        ReturnKind::Option => {
+            add_first(out, Word::Return)?;
+            add_word(out, Word::None)
+        }
+        ReturnKind::Iterator => add_word(out, Word::Return),
+    }
+}
+
+// The same where it is known how many values the function gives.
+fn add_given_of(
+    out: &mut Vec<Piece>,
     at: Margin,
-    each: BindingId,
-    from: BindingId,
-) -> Result<(), AllocError> {
-    push_indent(out, at)?;
-    out.push_str("let mut ")?;
-    push_variable(out, from)?;
-    out.push_str(" = ")?;
-    push_variable(out, from)?;
-    out.push_str(".into_context_iter();\n")?;
-    push_indent(out, at)?;
-    out.push_str("while let Some(")?;
-    push_variable(out, each)?;
-    out.push_str(") = ")?;
-    push_variable(out, from)?;
-    out.push_str(".next(ctx)")
-}
-
-// Adds the line that a block within a label begins with, or one within braces alone where no test leaves it.
-fn push_label(out: &mut String, at: Margin, is_left: bool) -> Result<(), AllocError> {
-    push_indent(out, at)?;
-    if is_left {
-        let number = at.depth;
-        write!(out, "'at{number}: ")?;
+    gives: ReturnKind,
+    value: Use,
+) -> Result<(), AllocError>
+    ensures { OnOk result (Adds out.old.items out.new.items (λ p rest. give_lines (gives_view gives) p (margin_view at) (use_view value) rest)) }
+{
+    match gives {
+        ReturnKind::Plain => add_return(out, value),
+        ReturnKind::Option => add_return(out, value),
+        ReturnKind::Iterator => add_extend(out, at, value),
     }
-    out.push_str("{\n")
-}
-
-// Adds a block that leaves the label next around. Scoped code has one wherever a test leaves it.
-fn push_break(out: &mut String, at: Margin) -> Result<(), AllocError> {
-    let number = at.label.unwrap_or(0);
-    write!(out, " {{ break 'at{number} }}")
 }
