@@ -16,4 +16,3 @@ pub mod Lexing
 pub mod Closed
 mod ReadTexts
 mod Unlogged
-pub mod Writing

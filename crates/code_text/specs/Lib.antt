@@ -13,5 +13,4 @@ pub mod Parted
 pub mod Lexing
 pub mod Closed
 pub mod ReadTexts
-pub mod Writing
 pub mod ProgramNotation

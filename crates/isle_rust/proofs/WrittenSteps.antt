@@ -60,10 +60,6 @@ module _ (p : Notation) (at : Margin) where
       ap (λ left. block_before p at (unwrapped (not left) (written p (statement (labelled body) no_statement))) rest) h
       ∙ (alone (labelled body) rest ∙ labelled_written body rest)
 
-  pub bare_written : (body : Block) (rest : List Piece) → is_left (result_ends p) body ≡ false
-      → block_before p at (unwrapped (is_bare p (statement (labelled body) no_statement)) (written p (statement (labelled body) no_statement))) rest ≡ block_before p at (written p body) rest
-  bare_written body rest h = rw h
-
 many_bare : (p : Notation) (s t : Statement) (later : Block) → is_bare p (statement s (statement t later)) ≡ false
 many_bare p (labelled body) t later = refl
 many_bare p (bind v e) t later = refl
@@ -116,9 +112,6 @@ module _ (p : Notation) (at : Margin) (ss : List C.Statement) (i : ℕ) (rest : 
 
       pub statement_ended : ended ≡ true → statements_left ≡ statement_before p at (written_at p (statement_view s)) rest
       statement_ended f = left_is ∙ block_ended p at (statement_view s) (before (drop (i + 1) ss) no_statement) rest (ended_is true f)
-
-  pub statements_done : length ss ≤ i → statements_left ≡ rest
-  statements_done h = at_drop_all (λ l. block_before p at (written p (before l no_statement)) rest) ss i h
 
 -- arms from a place on
 module _ (p : Notation) (at : Margin) (is_only : Bool) (u : Use) (arms : List CodeArm) (i : ℕ) (rest : List Piece) where

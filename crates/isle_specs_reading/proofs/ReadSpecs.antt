@@ -163,13 +163,6 @@ three-few op (x ∷ []) p e few = refl
 three-few op (x ∷ y ∷ []) p e few = refl
 three-few op (x ∷ y ∷ z ∷ gs) p e few = let k : suc (suc (suc (length gs))) < 3 = few in absurd (omega (arith, k))
 
-pub three-many : (op : Name) (gs : List Form) (m : Form) (p e : Position) → 4 ≤ length gs → m ≡ get_or gs 3 m → three_of op (all_view gs) p e ≡ no M.End (place_of (form_view m))
-three-many op [] m p e many hm = let k : 4 ≤ 0 = many in absurd (omega (arith, k))
-three-many op (x ∷ []) m p e many hm = let k : 4 ≤ 1 = many in absurd (omega (arith, k))
-three-many op (x ∷ y ∷ []) m p e many hm = let k : 4 ≤ 2 = many in absurd (omega (arith, k))
-three-many op (x ∷ y ∷ z ∷ []) m p e many hm = let k : 4 ≤ 3 = many in absurd (omega (arith, k))
-three-many op (x ∷ y ∷ z ∷ w ∷ gs) m p e many hm = ap (λ f. no M.End (place_of (form_view f))) (sym hm)
-
 -- ---- a pair
 
 pub few-parts : (gs : List Form) (p : Position) → length gs < 2 → pair_in (all_view gs) p ≡ no M.Case p
