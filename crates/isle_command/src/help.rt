@@ -24,6 +24,9 @@ definitions. Tasks:
   fmt FILE..             lays out files, in place. The layout of - goes to standard output. --check only names the files
                          that would change.
   samples [NAME]         lists the built-in samples, or prints the tree of one
+  conditions FILE..      makes questions for a solver: whether each rule does what its specs say (docs/VERIFYING.md). It has
+                         options of its own: isle conditions --help
+  lsp                    answers an editor (docs/EDITORS.md)
 Options:
   --terms NAME,..        lower, compare: only these terms
   --prefix FROM=TO       rust: shows TO in place of FROM where a file name begins with FROM. May be given many times.

@@ -565,7 +565,7 @@ impl<'a> Request<'a> {
             "--answers" => self.begin_answers(alloc),
             "--trace" => self.read_trace(alloc),
             "--" => self.begin_last(alloc),
-            "--terms" => Ok(Awaited::Terms),
+            "--terms" => self.begin_terms(alloc),
             "--format" => Ok(Awaited::Format),
             "--color" => Ok(Awaited::Color),
             "-C" => Ok(Awaited::Folder),
@@ -625,6 +625,15 @@ impl<'a> Request<'a> {
         self.needs_warnings(alloc)?;
         self.deny = true;
         Ok(Awaited::Any)
+    }
+
+    // The next word names terms whose trees are wanted.
+    fn begin_terms(&self, alloc: Global) -> Result<Awaited, Unasked> {
+        if self.task != Task::Lower && self.task != Task::Compare {
+            let task = self.task.word();
+            return Err(wrong(format!(in alloc; "{task} has no option '--terms'")));
+        }
+        Ok(Awaited::Terms)
     }
 
     // The next word names kinds of warnings.
