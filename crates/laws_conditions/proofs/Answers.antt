@@ -197,13 +197,13 @@ abbrev pub called : (p : Program) (specs : Specs) (t : ℕ) (d : Atoms) (m : Mea
 called p specs t d m args c = record { program = p; specs = specs; atoms = d; meaning = m; args = args; pick = []; calls = (choice p m (rules_of p t) args).calls; denotes = c.denotes; meets = c.meets }
 
 -- what a chosen rule's goals follow from
-record IsPicked (k : Called) (t : ℕ) (r : TypedRule) : Type 0 where
-  is_chosen : chosen k.program k.meaning (rules_of k.program t) k.args ≡ Some r
-  listed : Contains (rules_of k.program t) r
-  holds : DemandsHold k.meaning k.args k.pick (demands_of k.program r)
-  is_assumed : IsAssumed k.program k.specs (condition k.program r) (args_as k) (sites_as k)
+pub record IsPicked (k : Called) (t : ℕ) (r : TypedRule) : Type 0 where
+  pub is_chosen : chosen k.program k.meaning (rules_of k.program t) k.args ≡ Some r
+  pub listed : Contains (rules_of k.program t) r
+  pub holds : DemandsHold k.meaning k.args k.pick (demands_of k.program r)
+  pub is_assumed : IsAssumed k.program k.specs (condition k.program r) (args_as k) (sites_as k)
 
-abbrev ShowsAll : Called → ℕ → Type 0
+abbrev pub ShowsAll : Called → ℕ → Type 0
 ShowsAll k t = (r : TypedRule) → IsPicked k t r → IsShown k.program k.specs (condition k.program r) (args_as k) (sites_as k)
 
 module _ (p : Program) (specs : Specs) (t : ℕ) (d : Atoms) (m : Meaning) (args : List Value) (h : IsWellTypedProgram p) (single : is_multi p t ≡ false) (c : IsCalled p specs t d m args (choice p m (rules_of p t) args).calls) where
@@ -213,7 +213,7 @@ module _ (p : Program) (specs : Specs) (t : ℕ) (d : Atoms) (m : Meaning) (args
   abbrev k : Called
   k = called p specs t d m args c
 
-  quiet : (r : TypedRule) → Contains rs r → CallsNoMulti p r
+  pub quiet : (r : TypedRule) → Contains rs r → CallsNoMulti p r
   quiet r i = calls_no_multi p r (rules_without_multi_go_over_no_calls_lem p t h single r i)
 
   of_matching : ShowsAll k t → (r : TypedRule) → chosen p m rs args ≡ Some r → Contains rs r → (o : Option Vars) → matches p m r args ≡ o → AnswersAsSaid p specs t d args (with_vars p m r o)
@@ -237,26 +237,26 @@ module _ (p : Program) (specs : Specs) (t : ℕ) (d : Atoms) (m : Meaning) (args
   of_chosen shows None e i = nothing_answers p specs t d args
   of_chosen shows (Some r) e i = of_matching shows r e i (matches p m r args) refl
 
-  choice_answers : ShowsAll k t → AnswersAsSaid p specs t d args (choice p m rs args)
+  pub choice_answers : ShowsAll k t → AnswersAsSaid p specs t d args (choice p m rs args)
   choice_answers shows = of_chosen shows (chosen p m rs args) refl (chosen_listed p m args rs rs (λ r i. contains_from_in rs r i))
 
   -- 6. no rule above the chosen one matches
-  abbrev content_meets : Constraint → Option Content → Bool
+  abbrev pub content_meets : Constraint → Option Content → Bool
   content_meets c None = false
   content_meets c (Some x) = is_some (content_fields m c x)
 
-  is_met : (c : Constraint) (s : SiteTerm) (o : Option Content) → site_content m args [] s ≡ o → content_meets c o ≡ true → IsMet m args [] s c
+  pub is_met : (c : Constraint) (s : SiteTerm) (o : Option Content) → site_content m args [] s ≡ o → content_meets c o ≡ true → IsMet m args [] s c
   is_met c s None e g = absurd (false≢true g)
   is_met c s (Some x) e g = record { content = x; held = e; meets = g }
 
-  meets_so : (s : SiteTerm) (c : Constraint) → IsMet m args [] s c → content_meets c (site_content m args [] s) ≡ true
+  pub meets_so : (s : SiteTerm) (c : Constraint) → IsMet m args [] s c → content_meets c (site_content m args [] s) ≡ true
   meets_so s c a = ap (content_meets c) a.held ∙ a.meets
 
-  abbrev content_equals : Option Content → Option Content → Bool
+  abbrev pub content_equals : Option Content → Option Content → Bool
   content_equals (Some (one v)) (Some (one w)) = value_eq v w
   content_equals _ _ = false
 
-  are_equal : (a b : SiteTerm) (o q : Option Content) → site_content m args [] a ≡ o → site_content m args [] b ≡ q → content_equals o q ≡ true → AreEqual m args [] a b
+  pub are_equal : (a b : SiteTerm) (o q : Option Content) → site_content m args [] a ≡ o → site_content m args [] b ≡ q → content_equals o q ≡ true → AreEqual m args [] a b
   are_equal a b (Some (one v)) (Some (one w)) e f g = record { value = v; first = e; second = f ∙ ap (λ x. Some (one x)) (sym (eq_means v w g)) }
   are_equal a b None q e f g = absurd (false≢true g)
   are_equal a b (Some (one v)) None e f g = absurd (false≢true g)
@@ -269,7 +269,7 @@ module _ (p : Program) (specs : Specs) (t : ℕ) (d : Atoms) (m : Meaning) (args
   are_equal a b (Some (just x)) q e f g = absurd (false≢true g)
   are_equal a b (Some (many cs)) q e f g = absurd (false≢true g)
 
-  equals_so : (a b : SiteTerm) → AreEqual m args [] a b → content_equals (site_content m args [] a) (site_content m args [] b) ≡ true
+  pub equals_so : (a b : SiteTerm) → AreEqual m args [] a b → content_equals (site_content m args [] a) (site_content m args [] b) ≡ true
   equals_so a b x = ap (λ o. content_equals o (site_content m args [] b)) x.first ∙ ap (content_equals (Some (one x.value))) x.second ∙ eq_same x.value
 
   -- what a site stands for tells its value's form, where atoms stand for numbers
@@ -346,7 +346,7 @@ module _ (p : Program) (specs : Specs) (t : ℕ) (d : Atoms) (m : Meaning) (args
     field_got : (ty variant i : ℕ) (vs : Values) (c : Content) → from_value (slice_get (listed vs) i) ≡ Some c → field_of_variant variant i (of_variant ty variant vs) ≡ Some c
     field_got ty variant i vs c e = cond-true (variant == variant) (from_value (slice_get (listed vs) i)) None (number_same variant) ∙ e
 
-    there : (s : SiteTerm) (h : Told) → is_of_parts s ≡ true → IsHeldAs specs (args_as k) (sites_as k) s h → sites_as k s ≡ Some h
+    pub there : (s : SiteTerm) (h : Told) → is_of_parts s ≡ true → IsHeldAs specs (args_as k) (sites_as k) s h → sites_as k s ≡ Some h
     there (argument i) h g a =
         let v = argument_back d args i a.part a.there in stands (argument i) (one v.0) h (ap from_value v.1) (ap told v.2 ∙ sym a.held)
     there (variant_made ty variant ss) h g a =
@@ -395,7 +395,7 @@ module _ (p : Program) (specs : Specs) (t : ℕ) (d : Atoms) (m : Meaning) (args
     constant_met : (o : Option Value) (v : Value) → o ≡ Some v → is_some (where_constant o v) ≡ true
     constant_met o v e = ap (λ u. is_some (where_constant u v)) e ∙ there_where (value_eq v v) [] (eq_same v)
 
-    decided : (s : SiteTerm) (c : Constraint) → ((b : Bool) (ty : ℕ) → c ≡ is_bool b ty → literal_value m (bool_literal b ty) ≡ Some (truth b)) → is_told_apart c ≡ true → IsMetAs specs (sites_as k) s c
+    pub decided : (s : SiteTerm) (c : Constraint) → ((b : Bool) (ty : ℕ) → c ≡ is_bool b ty → literal_value m (bool_literal b ty) ≡ Some (truth b)) → is_told_apart c ≡ true → IsMetAs specs (sites_as k) s c
         → content_meets c (site_content m args [] s) ≡ true
     decided s (is_variant ty i n) l g a =
         let v = value_there d (site_content m args [] s) (variant_of ty i a.0) a.1 in
@@ -419,7 +419,7 @@ module _ (p : Program) (specs : Specs) (t : ℕ) (d : Atoms) (m : Meaning) (args
     decided s (is_prim name) l g a = absurd (false≢true g)
 
     -- a boolean that a pattern names is among what the meaning is asked for
-    bool_asked : (q : TypedRule) → Contains rs q → (s : SiteTerm) (b : Bool) (ty : ℕ) → Contains (demands_of p q).constraints (s, is_bool b ty) → literal_value m (bool_literal b ty) ≡ Some (truth b)
+    pub bool_asked : (q : TypedRule) → Contains rs q → (s : SiteTerm) (b : Bool) (ty : ℕ) → Contains (demands_of p q).constraints (s, is_bool b ty) → literal_value m (bool_literal b ty) ≡ Some (truth b)
     bool_asked q i s b ty j =
         let ds = demands_of p q in
         let named : In (flat_map (λ (c : SiteTerm × Constraint). constant_site c.1) ds.constraints) (bool_term b ty) = in_flat_map (λ (c : SiteTerm × Constraint). constant_site c.1) ds.constraints (s, is_bool b ty) (bool_term b ty) (in_from_contains ds.constraints (s, is_bool b ty) j) (inl refl) in

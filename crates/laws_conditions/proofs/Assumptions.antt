@@ -2,14 +2,14 @@
 use Rattle.std.proofs.Common.{◌≡◌, ℕ, zero, suc, ◌&&◌, Bool, true, false, List, [], ◌∷◌, Option, None, Some, slice_get, Contains, refl, sym, ap, subst, ◌∙◌}
 use Rattle.std.proofs.lemmas.Bool.{false≢true}
 use Rattle.model.specs.rules.Values.{Value, Values, no_value, value_and, of_list, args_well_typed}
-use Rattle.model.specs.rules.Meaning.{Content, one, parts, nothing, just, many, Contents, contents, extractor_answer}
+use Rattle.model.specs.rules.Meaning.{Content, one, parts, nothing, just, many, Contents, contents, constant_value, extractor_answer}
 use Rattle.model.specs.rules.Outcome.{then_option}
 use Rattle.model.specs.rules.Program.{Kind, a_variant, a_struct, a_call, unknown, kind, arg_types}
 use Rattle.model.specs.rules.Picks.{place_of, picked, call_answer}
 use Rattle.model.specs.rules.Typed.{TypedRule}
 use Rattle.model.specs.sites.Sites.{Constraint, is_variant, is_struct, is_bool, is_int, is_prim, is_present, SiteTerm, bool_term, int_term, prim_term, argument, extractor_call, constructor_call, pick_of, variant_made, variant_field, struct_made, struct_field, some_made, some_part, tuple_part, no_site, SiteTerms}
 use Rattle.model.specs.sites.Closure.{DemandsHold, IsMet, AreEqual}
-use Rattle.model.specs.sites.Serves.{term_args, term_results, fits_one, fits_answer, fits_extractor, fits_constructor}
+use Rattle.model.specs.sites.Serves.{term_args, term_results, typed_as, fits_one, fits_answer, fits_extractor, fits_constructor}
 use Rattle.model.specs.trees.Run.{as_value}
 use Rattle.model.specs.visits.Demands.{Demands, demands_of}
 use Rattle.model.proofs.Elements.{In, in_slice, all_in, in_from_contains, contains_from_in, some_is, none_some}
@@ -18,10 +18,10 @@ use Rattle.model.proofs.Options.{then_some}
 use Rattle.laws_matching.proofs.Shapes.{HasForm, has_form}
 use Rattle.laws_conditions.specs.Words.{Denoted, DenotedList, no_denoted, denoted_and}
 use Rattle.laws_conditions.specs.Specs.{IsRequired}
-use Rattle.laws_conditions.specs.Conditions.{Told, told, told_parts, told_nothing, told_just, told_many, told_outputs, answered_as, as_denoted, result_as, are_of_entries, IsTypedAs, IsMetAs, IsExtractedAsSaid, IsConstructedAsSaid, IsAnsweredAsSaid, is_impure_call, condition, IsAssumed}
+use Rattle.laws_conditions.specs.Conditions.{Told, told, told_parts, told_nothing, told_just, told_many, told_outputs, answered_as, as_denoted, result_as, is_of_type, are_of_entries, IsTypedAs, IsMetAs, IsExtractedAsSaid, IsConstructedAsSaid, IsAnsweredAsSaid, is_impure_call, condition, IsAssumed}
 use Rattle.laws_conditions.specs.Meets.{Atoms, stands_for, stand_for, content_as, answers_in}
 use Rattle.laws_conditions.proofs.PlainOutcomes.{Served}
-use Rattle.laws_conditions.proofs.Valuations.{Called, content, values, sites_as, args_as, each_told, told_site, told_there, is_value, values_there, value_there, site_held, site_formed, values_typed}
+use Rattle.laws_conditions.proofs.Valuations.{Called, content, values, sites_as, args_as, each_told, told_site, told_there, told_same, is_value, values_there, value_held, value_there, site_held, site_formed, value_typed, values_typed}
 
 module _ (k : Called) where
   abbrev d : Atoms
@@ -213,10 +213,28 @@ module _ (k : Called) where
       let a = then_some (then_option (content k s) as_value) (extractor_answer k.meaning t) b.0 b.1 in
       extractor_typed t (kind k.program t) b.0 xs (fits a.0 b.0 (is_value (content k s) a.0 a.1) a.2) (ap answered_as b.2 ∙ q)
 
+  -- a named constant is of its type, and has no answers to pick
+  constant_typed : (ds : Demands) → Served k.program k.meaning k.args k.pick ds.made → (name : ℕ) (h : Told) → In ds.made (prim_term name) → sites_as k (prim_term name) ≡ Some h → IsTypedAs k.program k.specs (prim_term name) h
+  constant_typed ds a name h i q ty x e w =
+      let b = told_there d (content k (prim_term name)) h q in
+      let v = value_held d (constant_value k.meaning name) b.0 b.1 in
+      let same : x ≡ stands_for d v.0 = told_same x (stands_for d v.0) (sym w ∙ sym b.2 ∙ v.2) in
+      subst (λ y. is_of_type k.program.types k.specs ty y ≡ true) (sym same) (value_typed k ty v.0 (subst (λ o. typed_as k.program o v.0 ≡ true) e (a.prims name v.0 i v.1)))
+
+  no_pick : (name : ℕ) (h : Told) → sites_as k (pick_of (prim_term name)) ≡ Some h → ⊥
+  no_pick name h q =
+      let b = told_there d (content k (pick_of (prim_term name))) h q in
+      let c = pick_there (content k (prim_term name)) (prim_term name) b.0 b.1 in
+      let v = value_held d (constant_value k.meaning name) (many c.0) c.1 in
+      not_many (stands_for d v.0) v.2
+    where
+      not_many : (x : Denoted) → told_many ≡ told x → ⊥
+      not_many x e = cc
+
   site_typed : (ds : Demands) → Served k.program k.meaning k.args k.pick ds.made → (s : SiteTerm) (h : Told) → In ds.made s → is_impure_call s ≡ false → sites_as k s ≡ Some h → IsTypedAs k.program k.specs s h
   site_typed ds a (bool_term b ty) h i e q = tt
   site_typed ds a (int_term z ty) h i e q = tt
-  site_typed ds a (prim_term name) h i e q = tt
+  site_typed ds a (prim_term name) h i e q = constant_typed ds a name h i q
   site_typed ds a (argument n) h i e q = tt
   site_typed ds a (extractor_call t s) h i e q = extraction_typed t s (λ v c g o. a.extractors t s v c i g o) h q
   site_typed ds a (constructor_call t ss zero) h i e q = call_typed t 0 ss (λ vs c g o. a.pures t ss vs c i g o) h q
@@ -274,7 +292,7 @@ module _ (k : Called) where
   picks_typed : (ds : Demands) → Served k.program k.meaning k.args k.pick ds.made → (s : SiteTerm) (h : Told) → In ds.made s → is_impure_call s ≡ false → sites_as k (pick_of s) ≡ Some h → IsTypedAs k.program k.specs s h
   picks_typed ds a (bool_term b ty) h i e q = tt
   picks_typed ds a (int_term z ty) h i e q = tt
-  picks_typed ds a (prim_term name) h i e q = tt
+  picks_typed ds a (prim_term name) h i e q = absurd (no_pick name h q)
   picks_typed ds a (argument n) h i e q = tt
   picks_typed ds a (extractor_call t s) h i e q = extraction_picks_typed t s (λ v c g o. a.extractors t s v c i g o) h q
   picks_typed ds a (constructor_call t ss zero) h i e q = call_picks_typed t ss (λ vs c g o. a.pures t ss vs c i g o) h q

@@ -1,5 +1,5 @@
-mod Answers
-mod Assumptions
+pub mod Answers
+pub mod Assumptions
 mod Collected
 mod Followed
 pub mod PlainOutcomes
@@ -13,4 +13,4 @@ mod SamplePriorities
 mod SampleUnwraps
 mod SampleWritten
 mod TotalAnswers
-mod Valuations
+pub mod Valuations

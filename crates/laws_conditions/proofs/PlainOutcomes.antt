@@ -2,16 +2,16 @@
 -- rules answers to the calls that it makes.
 use Rattle.std.proofs.Common.{◌≡◌, ℕ, suc, Bool, true, false, Option, Some, None, List, [], is_some, take, All, Contains, flat_map, IsSomeAnd, IsTrue, refl, sym, ap, subst, ◌∙◌, inr}
 use Rattle.model.specs.rules.Values.{Value, Values, args_well_typed}
-use Rattle.model.specs.rules.Meaning.{Content, one, Meaning, extractor_answer, pure_answer, impure_answer}
+use Rattle.model.specs.rules.Meaning.{Content, one, Meaning, constant_value, extractor_answer, pure_answer, impure_answer}
 use Rattle.model.specs.rules.Matching.{Vars, matches}
 use Rattle.model.specs.rules.RightSide.{right_side}
 use Rattle.model.specs.rules.CallsNoMulti.{CallsNoMulti}
 use Rattle.model.specs.rules.Program.{Program, kind, is_multi, arg_types, rules_of}
 use Rattle.model.specs.rules.Typed.{TypedRule}
 use Rattle.model.specs.rules.Picks.{Pick, matches_under, site_content, site_values, HasContent}
-use Rattle.model.specs.sites.Sites.{Constraint, SiteTerm, extractor_call, constructor_call, SiteTerms}
+use Rattle.model.specs.sites.Sites.{Constraint, SiteTerm, prim_term, extractor_call, constructor_call, SiteTerms}
 use Rattle.model.specs.sites.Closure.{DemandsHold}
-use Rattle.model.specs.sites.Serves.{asked_by, asked, constant_site, fits_extractor, fits_constructor, Serves}
+use Rattle.model.specs.sites.Serves.{asked_by, asked, constant_site, constant_type, typed_as, fits_extractor, fits_constructor, Serves}
 use Rattle.model.specs.visits.Demands.{Demands, demands_of, result_of, visit_rule}
 use Rattle.model.proofs.CalledTerms.{calls_such}
 use Rattle.model.proofs.Elements.{In, in_from_contains, contains_from_in, in_left, in_flat_map}
@@ -30,9 +30,10 @@ use Rattle.laws_matching.proofs.outcomes.RightSides.{right_follows}
 use Rattle.laws_typing.specs.WellTypedPrograms.{IsWellTypedProgram}
 use Rattle.laws_typing.proofs.WellTypedPrograms.{pure_iflets}
 
--- 1. answers to the extractors and pure constructors that a rule calls fit
+-- 1. answers to the extractors and pure constructors that a rule calls fit, and the constants that it names are of their types
 pub record Served (p : Program) (m : Meaning) (args : List Value) (k : Pick) (made : List SiteTerm) : Type 0 where
   pub extractors : (t : ℕ) (s : SiteTerm) (v : Value) (c : Content) → In made (extractor_call t s) → site_content m args k s ≡ Some (one v) → extractor_answer m t v ≡ Some c → fits_extractor p t (kind p t) c ≡ true
+  pub prims : (name : ℕ) (v : Value) → In made (prim_term name) → constant_value m name ≡ Some v → typed_as p (constant_type p name) v ≡ true
   pub pures : (t : ℕ) (ss : SiteTerms) (vs : Values) (c : Content) → In made (constructor_call t ss 0) → site_values m args k ss ≡ Some vs → pure_answer m t vs ≡ Some c → fits_constructor p t (kind p t) c ≡ true
 
 pub made_asked : (p : Program) (rs : List TypedRule) (r : TypedRule) (u : SiteTerm) → Contains rs r → In (demands_of p r).made u → Contains (asked p rs) u
@@ -43,6 +44,7 @@ made_asked p rs r u c i =
 
 pub served : (p : Program) (m : Meaning) (args : List Value) (k : Pick) (rs : List TypedRule) (r : TypedRule) → Serves p m args rs → Contains rs r → Served p m args k (demands_of p r).made
 served p m args k rs r h c = record {
+  prims = λ name v i q. holds_there (constant_value m name) (typed_as p (constant_type p name)) v q (h.prims name (made_asked p rs r (prim_term name) c i));
   extractors = λ t s v x i e q. holds_there (extractor_answer m t v) (fits_extractor p t (kind p t)) x q (h.extractors k t s v (made_asked p rs r (extractor_call t s) c i) e);
   pures = λ t ss vs x i e q. holds_there (pure_answer m t vs) (fits_constructor p t (kind p t)) x q (h.pures k t ss vs (made_asked p rs r (constructor_call t ss 0) c i) e);
 }
@@ -55,7 +57,7 @@ AreServed p m args k d =
 
 -- 2. a rule
 module _ (p : Program) (t : ℕ) (m : Meaning) (args : List Value) (r : TypedRule) (h : IsWellTypedProgram p) (typed : args_well_typed p.types (arg_types p t) args ≡ true) (serves : Serves p m args (rules_of p t)) (listed : Contains (rules_of p t) r) (single : CallsNoMulti p r) where
-  is_tried : IsTried p t m args r []
+  pub is_tried : IsTried p t m args r []
   is_tried = record { typed = typed; served = serves; rule = listed; pick = subst (λ l. Contains l []) (sym (bag_as_plain_lem p m args r single).0) (in_head [] []) }
 
   -- its demands hold, and its outcome is its impure calls in order, then its result

@@ -49,6 +49,9 @@ both_told d None q = refl
 both_told d (Some v) None = refl
 both_told d (Some v) (Some vs) = refl
 
+pub told_same : (x y : Denoted) → told x ≡ told y → x ≡ y
+told_same x y e = cc
+
 -- what a site that stands for something holds
 pub told_there : (d : Atoms) (o : Option Content) (h : Told) → told_of d o ≡ Some h → (c : Content) × (o ≡ Some c) × (content_as d c ≡ h)
 told_there d o h e = let a = then_some o (λ c. Some (content_as d c)) h e in (a.0, a.1, some_is (content_as d a.0) h a.2)
@@ -72,7 +75,7 @@ value_there d o x e =
     let b = one_told d a.0 x a.2 in
     (b.0, a.1 ∙ ap Some b.1, b.2)
 
-value_held : (d : Atoms) (o : Option Value) (c : Content) → from_value o ≡ Some c → (v : Value) × (o ≡ Some v) × (content_as d c ≡ told (stands_for d v))
+pub value_held : (d : Atoms) (o : Option Value) (c : Content) → from_value o ≡ Some c → (v : Value) × (o ≡ Some v) × (content_as d c ≡ told (stands_for d v))
 value_held d None c e = absurd (none_some c e)
 value_held d (Some v) c e = (v, refl, ap (content_as d) (sym (some_is (one v) c e)))
 
@@ -259,7 +262,7 @@ module _ (k : Called) where
   modelled ty z (Some s) e = k.denotes.sorted ty z s e
 
   mutual
-    value_typed : (ty : ℕ) (v : Value) → well_typed types ty v ≡ true → is_of_type types k.specs ty (stands_for d v) ≡ true
+    pub value_typed : (ty : ℕ) (v : Value) → well_typed types ty v ≡ true → is_of_type types k.specs ty (stands_for d v) ≡ true
     value_typed ty (truth b) h = or_left (is_truth_type (slice_get types ty) && true) _ (and_from (is_truth_type (slice_get types ty)) true h refl)
     value_typed ty (atom s z) h =
         let a = and_parts (s == ty) (is_atom_type (slice_get types ty)) h in

@@ -7,7 +7,7 @@ use Rattle.model.specs.rules.Program.{Program, arg_types, rules_of}
 use Rattle.model.specs.rules.Typed.{TypedRule}
 use Rattle.model.specs.rules.Values.{is_truth_type, is_atom_type, variant_types, struct_types}
 use Rattle.model.specs.sites.Sites.{Constraint, is_variant, is_struct, is_bool, is_int, is_prim, is_present, SiteTerm, bool_term, int_term, prim_term, argument, extractor_call, constructor_call, pick_of, variant_made, variant_field, struct_made, struct_field, some_made, some_part, tuple_part, no_site, SiteTerms, no_site_term, site_term_and}
-use Rattle.model.specs.sites.Serves.{term_args, term_results}
+use Rattle.model.specs.sites.Serves.{constant_type, term_args, term_results}
 use Rattle.model.specs.visits.Demands.{demands_of, result_of}
 use Rattle.laws_conditions.specs.Words.{Denoted, a_truth, variant_of, struct_of, DenotedList, no_denoted, denoted_and, denoted_list, is_formed, are_formed}
 use Rattle.laws_conditions.specs.Specs.{Sort, truths, is_of_sort, Specs, sort_of, constant_of, literal_of, IsRequired, IsProvided}
@@ -135,13 +135,14 @@ abbrev mutual
   are_of_types types specs _ _ = false
 
 -- an answer is of its call's types: the outputs of an extractor those of its term's arguments, a constructor's result that of
--- its term
+-- its term; and a named constant is of its type
 abbrev pub are_of_entries : Program → Specs → List ℕ → DenotedList → Bool
 are_of_entries p specs tys xs = are_of_types p.types specs (Some tys) xs
 
 abbrev pub IsTypedAs : Program → Specs → SiteTerm → Told → Type 0
 IsTypedAs p specs (extractor_call t s) h = (xs : DenotedList) → answered_as h ≡ Some xs → IsTrue (are_of_entries p specs (term_args (slice_get p.terms t)) xs)
 IsTypedAs p specs (constructor_call t ss n) h = (x : Denoted) → result_as h ≡ Some x → IsTrue (are_of_entries p specs (term_results (slice_get p.terms t)) (denoted_and x no_denoted))
+IsTypedAs p specs (prim_term name) h = (ty : ℕ) (x : Denoted) → constant_type p name ≡ Some ty → h ≡ told x → IsTrue (is_of_type p.types specs ty x)
 IsTypedAs p specs _ h = Unit {0}
 
 -- the condition of a rule: what it demands, the sites that it makes, its impure calls in order, its result's site
@@ -165,7 +166,7 @@ condition p r = record {
 
 -- what is assumed: arguments of the term's types under its require; sites stand for what their parts make; words lie below 2 to
 -- their width; what the rule demands is met; and pure calls and extractors answer as their specs say, by
--- values of their types, those that answer lists by each of their answers
+-- values of their types, those that answer lists by each of their answers. Named constants are of their types too
 pub record IsAssumed (p : Program) (specs : Specs) (c : Condition) (args : DenotedList) (f : Valuation) : Type 0 where
   pub arguments : IsTrue (are_of_types p.types specs (Some (arg_types p c.term)) args)
   pub required : IsRequired specs c.term args

@@ -1,7 +1,7 @@
 -- Operators on examples, each as two SMT solvers have it, and near misses; and the forms of expressions.
 use Rattle.std.specs.Prelude.{◌≡◌, ◌+◌, ℕ, pos, negsuc, true, false, List, [], ◌∷◌, map, Option, Some, None}
 use Rattle.laws_conditions.specs.Words.{Denoted, a_truth, an_integer, a_word, variant_of, struct_of, DenotedList, no_denoted, denoted_and, Operator, as_integer, as_word, bits, field, joined, rotated_left, rotated_right, shifted_left, shifted_right, shifted_right_signed, signed_less, signed_less_or_equal, signed_quotient, signed_remainder, widened, widened_signed, word_and, word_less, word_less_or_equal, word_minus, word_negated, word_not, word_or, word_plus, word_quotient, word_remainder, word_times, word_xor, applied_to}
-use Rattle.laws_conditions.specs.Specs.{Unknowns, no_unknown, SpecExpr, its_argument, its_result, variable, the_same, operation, unknown, let_in, switch_on, match_on, no_spec_expr, spec_expr_and, no_case, case_and, no_spec_arm, spec_arm_and, says}
+use Rattle.laws_conditions.specs.Specs.{Unknowns, SpecExpr, its_argument, its_result, variable, the_same, operation, unknown, let_in, switch_on, match_on, no_spec_expr, spec_expr_and, no_case, case_and, no_spec_arm, spec_arm_and, says}
 use Rattle.laws_conditions.specs.Samples.{two, byte, of_two}
 
 abbrev pub alone : Denoted → DenotedList

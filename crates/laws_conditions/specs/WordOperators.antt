@@ -1,7 +1,5 @@
 -- Operators on words, as SMT-LIB has them: a word of some width is a number below 2 to the width.
 use Rattle.std.specs.Prelude.{ℕ, zero, suc, ℤ, pos, negsuc, ◌+◌, ◌*◌, ◌-◌, ◌^◌, ◌/◌, ◌%◌, Bool, not, if◌then◌else◌, nat_lt}
-use Rattle.std.specs.Bool.{◌==◌}
-use Rattle.std.specs.Ordering.{int_eq}
 use Rattle.std.proofs.Math.Bool.{beq}
 
 abbrev pub all_ones : ℕ → ℕ

@@ -1,3 +1,5 @@
 mod LikeRuns
 mod SaidRuns
 mod SampleRuns
+mod SampleSets
+mod sets

@@ -11,7 +11,6 @@ use Rattle.model.specs.rules.RightSide.{result_content}
 use Rattle.model.specs.claims.Layers.{own_program}
 use Rattle.model.specs.claims.Environments.{types_read}
 use Rattle.model.proofs.Elements.{In, in_from_contains, contains_from_in, in_either}
-use Rattle.laws_typing.specs.WellTypedPrograms.{IsWellTypedProgram}
 use Rattle.laws_typing.proofs.WellTypedRules.{elaborated_programs_are_well_typed_lem}
 use Rattle.laws_conditions.specs.Words.{Denoted}
 use Rattle.laws_conditions.specs.Specs.{Specs, IsRequired, IsProvided}
@@ -19,7 +18,7 @@ use Rattle.laws_conditions.specs.Conditions.{result_as, IsConstructedAsSaid}
 use Rattle.laws_conditions.specs.Meets.{Atoms, stands_for, stand_for, content_as, IsDenotation, answers_in, MeetsSpecs, AnswersAsSaid}
 use Rattle.laws_conditions.specs.ConditionLaws.{IsCalled, ChoosesAsSaid, ChoosesAsSaidByPriority}
 use Rattle.laws_programs.specs.WholeRuns.{Outside, Functions, by_rules, has_rules, IsAnswer, a_result, no_result, Either, IsMadeCall, AreMadeCalls, IsRun, WholeRun}
-use Rattle.laws_programs.specs.ProgramLaws.{MeetsSpecsOutside, AllAreValid, IsRunAsSaid, ProgramsComputeAsSaid, LoweredProgramsComputeAsSaid}
+use Rattle.laws_programs.specs.ProgramLaws.{MeetsSpecsOutside, IsRunAsSaid, AllRunsAreAsSaid, AllChooseAsSaid, ProgramsComputeAsSaid, LoweredProgramsComputeAsSaid}
 use Rattle.laws_programs.proofs.LikeRuns.{lowered_programs_run_as_their_source_lem}
 
 back : (vs : Values) → of_list (listed vs) ≡ vs
@@ -143,7 +142,7 @@ results_are : (partial : Bool) (o : Outcome) (c : Content) (v : Value) → IsAns
 results_are partial o c v (a_result w is results ended) e = results ∙ ap (λ x. x ∷ []) e
 results_are partial o c v (no_result partially is results ending) e = absurd (no_content partial v (sym is ∙ e))
 
-module _ (chooses : ChoosesAsSaid) (by_priority : ChoosesAsSaidByPriority) (p : Program) (specs : Specs) (d : Atoms) (well : IsWellTypedProgram p) (denotes : IsDenotation p specs d) (valid : AllAreValid p specs d) (o : Outside) (outside : MeetsSpecsOutside p specs d o) where
+module _ (p : Program) (specs : Specs) (d : Atoms) (denotes : IsDenotation p specs d) (choose : AllChooseAsSaid p specs d) (o : Outside) (outside : MeetsSpecsOutside p specs d o) where
   -- one function, where what it calls is as said
   one_run : (N : Call → List Call → Content → List Call → Type 0)
       → ((call : Call) (before : List Call) (c : Content) (after : List Call) → N call before c after → IsRequired specs call.term (stand_for d call.args) → IsRunAsSaid p specs d call before c after)
@@ -159,10 +158,7 @@ module _ (chooses : ChoosesAsSaid) (by_priority : ChoosesAsSaidByPriority) (p : 
         meets = meets p specs d o N said formed outside out.calls before after call c r r.calls;
         required = subst (λ vs. IsRequired specs call.term (stand_for d vs)) (sym (back call.args)) required;
       } in
-      let answers : AnswersAsSaid p specs call.term d args out = elim (valid call.term r.known r.single) [
-        | inl v ↦ chooses p specs call.term d r.meaning args well r.single v called
-        | inr v ↦ by_priority p specs call.term d r.meaning args well r.single v.0 v.1 called
-      ] in
+      let answers : AnswersAsSaid p specs call.term d args out = choose call.term r.known r.single r.meaning args called in
       let follows = follow_all p specs d o N said formed outside r.meaning 0 out.calls before after r.calls (λ k i. answers.calls k (contains_from_in out.calls k i)) in
       record {
         provides = λ v e.
@@ -177,9 +173,17 @@ module _ (chooses : ChoosesAsSaid) (by_priority : ChoosesAsSaidByPriority) (p : 
   whole_run zero call before c after r required = absurd r
   whole_run (suc n) call before c after r required = one_run (WholeRun (by_rules p) p o n) (whole_run n) (run_formed p o (by_rules p) n) call before c after r required
 
+-- where each choice answers as said, whole runs do
+pub runs_are_said : (p : Program) (specs : Specs) (d : Atoms) → IsDenotation p specs d → AllChooseAsSaid p specs d → AllRunsAreAsSaid p specs d (by_rules p)
+runs_are_said p specs d denotes choose o n call before c after outside r required = whole_run p specs d denotes choose o outside n call before c after r required
+
 pub programs_compute_as_said_lem : ChoosesAsSaid → ChoosesAsSaidByPriority → ProgramsComputeAsSaid
-programs_compute_as_said_lem chooses by_priority p specs d well denotes valid o n call before c after outside r required =
-    whole_run chooses by_priority p specs d well denotes valid o outside n call before c after r required
+programs_compute_as_said_lem chooses by_priority p specs d well denotes valid =
+    runs_are_said p specs d denotes
+    (λ t known single m args called. elim (valid t known single) [
+      | inl v ↦ chooses p specs t d m args well single v called
+      | inr v ↦ by_priority p specs t d m args well single v.0 v.1 called
+    ])
 
 pub lowered_programs_compute_as_said_lem : ProgramsComputeAsSaid → LoweredProgramsComputeAsSaid
 lowered_programs_compute_as_said_lem said defs expand rules terms f specs d accepted low runs denotes valid o n call before c after outside r required =

@@ -1,3 +1,5 @@
 pub mod WholeRuns
 pub mod ProgramLaws
 pub mod SampleRuns
+pub mod SetConditions
+pub mod SampleSets

@@ -5,7 +5,8 @@ use Rattle.model.specs.lists.Syntax.{Definition}
 use Rattle.model.specs.rules.Values.{Value, Values}
 use Rattle.model.specs.rules.Meaning.{Content, Meaning, bool_literal, int_literal}
 use Rattle.model.specs.rules.Outcome.{Call}
-use Rattle.model.specs.rules.Program.{Program, is_multi, is_partial, terms_with_rules}
+use Rattle.model.specs.rules.Choice.{choice}
+use Rattle.model.specs.rules.Program.{Program, is_multi, is_partial, rules_of, terms_with_rules}
 use Rattle.model.specs.rules.RightSide.{result_content}
 use Rattle.model.specs.trees.Run.{run, world_of}
 use Rattle.model.specs.claims.Layers.{own_program, IsAccepted, AreLowered, LoweredTerm}
@@ -16,8 +17,8 @@ use Rattle.laws_typing.specs.WellTypedPrograms.{IsWellTypedProgram}
 use Rattle.laws_conditions.specs.Specs.{Specs, constant_of, literal_of, IsRequired, IsProvided}
 use Rattle.laws_conditions.specs.Words.{Denoted, a_truth}
 use Rattle.laws_conditions.specs.Conditions.{IsExtractedAsSaid, IsConstructedAsSaid}
-use Rattle.laws_conditions.specs.Meets.{Atoms, stands_for, stand_for, content_as, IsDenotation, AreNumbers, answers_in}
-use Rattle.laws_conditions.specs.ConditionLaws.{AreValid, AreValidBelow}
+use Rattle.laws_conditions.specs.Meets.{Atoms, stands_for, stand_for, content_as, IsDenotation, AreNumbers, AnswersAsSaid, answers_in}
+use Rattle.laws_conditions.specs.ConditionLaws.{AreValid, AreValidBelow, IsCalled}
 use Rattle.laws_programs.specs.WholeRuns.{Outside, Functions, by_rules, has_rules, WholeRun}
 
 -- functions of the terms with rules that have the same outcomes, wherever a meaning serves and tells constants apart
@@ -60,6 +61,12 @@ pub record MeetsSpecsOutside (p : Program) (specs : Specs) (d : Atoms) (o : Outs
 -- the condition of each rule of each term that isn't multi is valid, alone or where no rule of greater priority matches
 abbrev pub AllAreValid : Program → Specs → Atoms → Type 0
 AllAreValid p specs d = (t : ℕ) → Contains (terms_with_rules p) t → is_multi p t ≡ false → AreValid p specs t ⊎ (AreValidBelow p specs t × AreNumbers d)
+
+-- the choice among the source rules of each term that isn't multi answers as said
+abbrev pub AllChooseAsSaid : Program → Specs → Atoms → Type 0
+AllChooseAsSaid p specs d =
+    (t : ℕ) → Contains (terms_with_rules p) t → is_multi p t ≡ false → (m : Meaning) (args : List Value)
+    → IsCalled p specs t d m args (choice p m (rules_of p t) args).calls → AnswersAsSaid p specs t d args (choice p m (rules_of p t) args)
 
 -- a call that meets its term's require is answered by what the term's spec provides, and each impure call that is made outside meets its
 -- require
