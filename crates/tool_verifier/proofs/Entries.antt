@@ -1,8 +1,7 @@
 -- An entry of an answer of `lower` runs as the chosen rule.
-use Rattle.std.proofs.Common.{◌≡◌, ℕ, Bool, true, false, List, map, None, Some, slice_get, get_or, All, refl, sym, ap, ◌∙◌, subst}
+use Rattle.std.proofs.Common.{◌≡◌, ℕ, Bool, true, false, List, map, None, Some, slice_get, All, sym, ap, ◌∙◌, subst}
 use Rattle.std.proofs.lemmas.List.Elements.{All-get_or}
 use Rattle.std.proofs.lemmas.Option.{slice_get_within, get_or_from_slice_get}
-use Rattle.cranelift_isle.specs.Elaborated.{TypedRules}
 use Rattle.cranelift_isle.specs.Syntax.{Definition}
 use Rattle.cranelift_isle.specs.Tables.{TermEntry, TypeEntry}
 use Rattle.cranelift_isle.specs.Meaning.{Meaning}
@@ -19,7 +18,11 @@ use Rattle.cranelift_isle.specs.Lowerings.{lowered_view, lowered_views, DemandWh
 use Rattle.cranelift_isle.specs.declared.lower.LoweredTerm as Code
 use Rattle.cranelift_isle.specs.declared.lower.Lowered.{Lowered}
 use Rattle.isle_queries.specs.Premises.{asks_own_constants}
-use Rattle.tool_verifier.specs.Verified.{CanRun, RunsAsRule, RunsWhereApart, RunsAlways}
+use Rattle.laws_conditions.specs.ConditionLaws.{IsCalled}
+use Rattle.laws_conditions.specs.Meets.{Atoms, AnswersAsSaid}
+use Rattle.laws_conditions.specs.Specs.{Specs}
+use Rattle.laws_programs.specs.SetConditions.{LoweredSetsComputeAsSaid}
+use Rattle.tool_verifier.specs.Verified.{CanRun, run_of, RunsAsRule, AreRight, RunsWhereApart, RunsAlways}
 use Rattle.tool_verifier.proofs.OwnConstants.{own_apart}
 
 abbrev multi_among : List TermEntry → ℕ → Bool
@@ -32,7 +35,7 @@ all_at P f xs i x at all =
     subst P (get_or_from_slice_get (map f xs) i (f x) (f x) e) (All-get_or P (map f xs) i (f x) (slice_get_within (map f xs) i (f x) e) all)
 
 module _ (defs : List Definition) (expand : Bool) (l : Lowered) (place : ℕ) (t : Code.LoweredTerm) (h : IsLowered defs expand l)
-    (at : slice_get l.terms.items place ≡ Some t) (single : is_multi (env_program l.termenv) t.id.0 ≡ false) where
+    (at : slice_get l.terms.items place ≡ Some t) (single : is_multi (env_program l.termenv) t.id.0 ≡ false) (law : LoweredSetsComputeAsSaid) where
   abbrev p : Program
   p = own_program defs h.0
 
@@ -45,16 +48,24 @@ module _ (defs : List Definition) (expand : Bool) (l : Lowered) (place : ℕ) (t
   chosen : (m : Meaning) (args : List Value) → CanRun p t.id.0 m args → TellsConstantsApart p m (rules_of p t.id.0) → RunsAsRule p (lowered_view t) m args
   chosen m args can apart = let r = entry.headline.runs one m args can.typed can.served apart in record { same = r.0; once = r.1 }
 
-  pub runs_apart : RunsWhereApart defs expand (lowered_view t)
-  runs_apart = record { rules = h.0; accepted = h.1.accepted; single = one; runs = chosen }
+  said : (specs : Specs) (d : Atoms) (m : Meaning) (args : List Value) → AreRight p specs d (lowered_view t) → IsCalled p specs t.id.0 d m args (run_of p (lowered_view t) m args).calls
+      → TellsConstantsApart p m (rules_of p t.id.0) → AnswersAsSaid p specs t.id.0 d args (run_of p (lowered_view t) m args)
+  said specs d m args right called apart = law defs expand h.0 (lowered_view t) specs d m args h.1.accepted entry one right called apart
 
-  pub runs_under_all : OfAccepted defs expand (DemandWhole (lowered_views l.terms.items)) → asks_own_constants (type_views l.tyenv.types.items) (set_view t.rules) ≡ true
-      → RunsAlways defs expand (lowered_view t)
-  runs_under_all whole own = record {
-    rules = h.0;
-    accepted = h.1.accepted;
-    single = one;
-    runs = λ m args can. chosen m args can (own_apart p t.id.0 (set_view t.rules) entry.built
+  pub runs_apart : RunsWhereApart defs expand (lowered_view t)
+  runs_apart = record { rules = h.0; accepted = h.1.accepted; single = one; runs = chosen; computes = said }
+
+  module _ (whole : OfAccepted defs expand (DemandWhole (lowered_views l.terms.items))) (own : asks_own_constants (type_views l.tyenv.types.items) (set_view t.rules) ≡ true) where
+    apart : (m : Meaning) → TellsConstantsApart p m (rules_of p t.id.0)
+    apart = own_apart p t.id.0 (set_view t.rules) entry.built
         (all_at (λ x. DemandsAreWhole p x.term) lowered_view l.terms.items place t at (whole h.0 h.1.accepted)) (h.1.accepted.checkable.built t.id.0)
-        (ap (λ (ts : List TypeEntry). asks_own_constants ts (set_view t.rules)) (sym h.1.environments.types.types) ∙ own) m);
-  }
+        (ap (λ (ts : List TypeEntry). asks_own_constants ts (set_view t.rules)) (sym h.1.environments.types.types) ∙ own)
+
+    pub runs_under_all : RunsAlways defs expand (lowered_view t)
+    runs_under_all = record {
+      rules = h.0;
+      accepted = h.1.accepted;
+      single = one;
+      runs = λ m args can. chosen m args can (apart m);
+      computes = λ specs d m args right called. said specs d m args right called (apart m);
+    }

@@ -1,7 +1,6 @@
 -- Rules whose sets ask no constant that a meaning may choose have their constants told apart by every meaning.
-use Rattle.std.proofs.Common.{◌≡◌, ◌||◌, not, ℕ, Bool, true, false, List, [], ◌∷◌, map, Contains, filter, flat_map, refl, sym, ap, ◌∙◌, subst, inl, inr}
+use Rattle.std.proofs.Common.{◌≡◌, ◌||◌, not, ℕ, true, false, List, [], ◌∷◌, map, Contains, flat_map, sym, ap, ◌∙◌, subst, inl, inr}
 use Rattle.std.proofs.lemmas.Bool.{false≢true}
-use Rattle.cranelift_isle.specs.Tables.{TypeEntry}
 use Rattle.cranelift_isle.specs.Meaning.{Meaning}
 use Rattle.cranelift_isle.specs.Program.{Program, rules_of}
 use Rattle.cranelift_isle.specs.Typed.{TypedRule}
@@ -9,7 +8,7 @@ use Rattle.cranelift_isle.specs.Closure.{itself, HasConstraint}
 use Rattle.cranelift_isle.specs.Demands.{demands_of}
 use Rattle.cranelift_isle.specs.Overlap.{BuiltRule, built_rules}
 use Rattle.cranelift_isle.specs.RuleSets.{IsBuilt, IsRuleOf, AreRulesOfSet}
-use Rattle.cranelift_isle.specs.Serves.{TellsConstantsApart, constant_site, tested_constants, is_open_constant, is_own_type}
+use Rattle.cranelift_isle.specs.Serves.{TellsConstantsApart, constant_site, tested_constants, is_open_constant}
 use Rattle.cranelift_isle.specs.Sites.{Site, SiteTerm, Constraint, is_variant, is_struct, is_bool, is_int, is_prim, is_present, SetRule, SiteSet}
 use Rattle.cranelift_isle.specs.SetMeanings.{DemandsAreWhole}
 use Rattle.model.proofs.Members.{nothing_in, in_head, in_tail, in_cases, in_alone, each_passes, from_map, from_flat_map}

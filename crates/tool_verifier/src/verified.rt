@@ -8,10 +8,11 @@ ghost use Rattle.tool_verifier.specs.Verified.{RunsAlways, RunsWhereApart};
 use cranelift_isle::lower::{Lowered, LoweredTerm};
 use cranelift_isle::syntax::Def;
 use isle_queries::premises::{asks_own_constants, is_multi};
+use laws_programs::lowered_sets_compute_as_said;
 
 /// The entry at a place of `lowered.terms`, where the term isn't `multi`: its tree runs as the chosen rule, on well-typed
-/// arguments and under meanings that serve the term's rules and tell their constants apart. None of another term, and where
-/// there is no such place. Condition: `lowered` is what `lower` answers to these definitions and this choice to expand.
+/// arguments and under meanings that serve the term's rules and tell their constants apart. And where each rule is right by specs,
+/// the run answers what the term's spec says. None of another term, and where there is no such place. Condition: `lowered` is what `lower` answers to these definitions and this choice to expand.
 pub fn runs_where_apart<'a>(
     defs: &[Def],
     expand: bool,
@@ -21,6 +22,8 @@ pub fn runs_where_apart<'a>(
     requires { IsLowered (definition_views defs.now) expand lowered.now }
     ensures { IfSome result (λ t. RunsWhereApart (definition_views defs.now) expand (lowered_view t.now)) }
 {
+    // a law, without code
+    lowered_sets_compute_as_said();
     let term = lowered.terms.get(place)?;
     if is_multi(&lowered.termenv, term.id) {
         return None;
@@ -41,6 +44,8 @@ pub fn runs_always<'a>(
     requires whole { OfAccepted (definition_views defs.now) expand (DemandWhole (lowered_views lowered.now.terms.items)) }
     ensures { IfSome result (λ t. RunsAlways (definition_views defs.now) expand (lowered_view t.now)) }
 {
+    // a law, without code
+    lowered_sets_compute_as_said();
     let term = lowered.terms.get(place)?;
     if is_multi(&lowered.termenv, term.id) || !asks_own_constants(&lowered.tyenv, &term.rules) {
         return None;

@@ -12,4 +12,4 @@ returns c =
     let at : slice_get c.args.lowered.now.terms.items c.args.place ≡ Some c.in_ok-term.term.now =
     ap (λ l. slice_get l c.args.place) (sym c.deref.ensures.value) ∙ slice_get-get_or c.deref.result.now c.args.place c.in_ok-term.term.now found.3.0 ∙ ap Some (sym found.1) in
     let single : is_multi (env_program c.args.lowered.now.termenv) c.in_ok-term.term.now.id.0 ≡ false = search rules in
-    runs_apart (definition_views c.args.defs.now) c.args.expand c.args.lowered.now c.args.place c.in_ok-term.term.now c.requires at single
+    runs_apart (definition_views c.args.defs.now) c.args.expand c.args.lowered.now c.args.place c.in_ok-term.term.now c.requires at single c.lowered_sets_compute_as_said.ensures
