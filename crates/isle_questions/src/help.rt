@@ -1,0 +1,22 @@
+//! The text of `isle conditions --help`.
+
+/// How the word `conditions` is used.
+pub(crate) const HELP: &str = "usage: isle conditions [OPTIONS] FILE..
+
+Prints questions for a solver: whether each rule gives what the specs say (docs/VERIFYING.md). The answer is one JSON
+object (docs/JSON.md). All files together are one list of definitions and specs. The file - is standard input.
+Options:
+  --rule RULE            only these rules. RULE is the name of a rule or of a term, a line in the rule, or FILE:LINE. FILE
+                         may be the end of a path.
+  --above                asks where no rule of greater priority matches
+  --format FORMAT        json: all questions, as without this option. smt: the text of the one question about the rule of
+                         --rule, for a solver. Its answer unsat says that the rule is right
+  --answers FILE         tells what a solver wrote in FILE, which was asked by the same words with --format smt. The line
+                         begins with right, wrong or unknown. The file - is standard input here too
+  -C FOLDER              looks for files in this folder
+  --help
+
+Status: 0 success, 1 errors or a rule that isn't shown to be right, 2 wrong use, 3 out of memory, 4 a file cannot be read or
+the answer cannot be written. The script ./isle adds 70: no program gave an answer. ./try-smt asks the solvers that are
+installed about all rules.
+";

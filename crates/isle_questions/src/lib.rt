@@ -1,0 +1,12 @@
+//! `isle conditions`: questions about rules for a solver, by specs, the forms that they are written in, and what an answer says of a
+//! rule.
+#![tactic(auto)]
+
+mod chosen;
+mod documents;
+mod forms;
+mod help;
+mod reading;
+pub mod run;
+mod told;
+pub mod words;
