@@ -7,8 +7,8 @@ mod stable;
 mod syntax;
 
 // What the maker makes, and what text spells.
-mod moved;
-mod moved_forms;
+mod listed;
+mod placing;
 mod printed;
 mod said;
 mod spelled;

@@ -5,7 +5,7 @@ use std::process::Abort;
 use std::test::Fail;
 
 // One place.
-fn span(file: usize, offset: usize) -> Span {
+fn at(file: usize, offset: usize) -> Span {
     let pos = Pos { file, offset };
     Span { from: pos, to: pos }
 }
@@ -15,60 +15,37 @@ fn message(alloc: Global) -> Result<String, AllocError> {
     String::from_str(alloc, "why")
 }
 
-#[test]
-fn errors_of_one_place_are_lines(rt: HostRuntime) -> Result<(), Fail> {
-    let alloc = rt.alloc();
-    let error = Error::TypeError {
-        msg: message(alloc)?,
-        span: span(0, 7),
-    };
-    assert_eq!(rt;
-        format!(in alloc; "{error}")?.as_str(),
-        "type error at 0:7: why"
-    );
-    let error = Error::UnreachableError {
-        msg: message(alloc)?,
-        span: span(3, 12),
-    };
-    assert_eq!(rt;
-        format!(in alloc; "{error}")?.as_str(),
-        "unreachable at 3:12: why"
-    );
-    let error = Error::LimitError {
-        limit: Limit::Arguments,
-        msg: message(alloc)?,
-        span: span(1, 0),
-    };
-    assert_eq!(rt;
-        format!(in alloc; "{error}")?.as_str(),
-        "limit L3 at 1:0: why"
-    );
-    let limit = Limit::Arguments;
-    assert_eq!(rt;
-        format!(in alloc; "{limit}")?.as_str(),
-        "more than 256 arguments"
-    );
+fn expect_line(rt: &impl Abort, alloc: Global, error: Error, line: &str) -> Result<(), AllocError> {
+    assert_eq!(rt; format!(in alloc; "{error}")?.as_str(), line);
     Ok(())
 }
 
 #[test]
-fn errors_of_several_places_are_lines(rt: HostRuntime) -> Result<(), Fail> {
+fn errors_are_lines(rt: HostRuntime) -> Result<(), Fail> {
     let alloc = rt.alloc();
-    let error = Error::OverlapError {
-        msg: message(alloc)?,
-        rules: vec![in alloc; span(0, 7), span(0, 9), span(2, 1)]?,
-    };
+    let msg = message(alloc)?;
+    let span = at(0, 7);
+    let error = Error::TypeError { msg, span };
+    expect_line(&rt, alloc, error, "type error at 0:7: why")?;
+    let msg = message(alloc)?;
+    let span = at(3, 12);
+    let error = Error::UnreachableError { msg, span };
+    expect_line(&rt, alloc, error, "unreachable at 3:12: why")?;
+    let msg = message(alloc)?;
+    let (limit, span) = (Limit::Arguments, at(1, 0));
+    let error = Error::LimitError { limit, msg, span };
+    expect_line(&rt, alloc, error, "limit L3 at 1:0: why")?;
+    let rules = vec![in alloc; at(0, 7), at(0, 9), at(2, 1)]?;
+    let msg = message(alloc)?;
+    let error = Error::OverlapError { msg, rules };
+    expect_line(&rt, alloc, error, "overlap at 0:7, 0:9, 2:1: why")?;
+    let shadowed = vec![in alloc; at(0, 4), at(1, 5)]?;
+    let mask = at(0, 2);
+    let error = Error::ShadowedError { shadowed, mask };
+    expect_line(&rt, alloc, error, "shadowed at 0:4, 1:5 by 0:2")?;
     assert_eq!(rt;
-        format!(in alloc; "{error}")?.as_str(),
-        "overlap at 0:7, 0:9, 2:1: why"
-    );
-    let error = Error::ShadowedError {
-        shadowed: vec![in alloc; span(0, 4), span(1, 5)]?,
-        mask: span(0, 2),
-    };
-    assert_eq!(rt;
-        format!(in alloc; "{error}")?.as_str(),
-        "shadowed at 0:4, 1:5 by 0:2"
+        format!(in alloc; "{limit}")?.as_str(),
+        "more than 256 arguments"
     );
     Ok(())
 }

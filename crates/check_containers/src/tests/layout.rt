@@ -7,17 +7,15 @@ use std::test::Fail;
 // A text is laid out as another one, which stays as it is.
 fn expect_laid(rt: &impl Abort, alloc: Global, text: &str, laid: &str) -> Result<(), Fail> {
     let made = formatted(alloc, 0, text)?;
-    assert_eq!(rt; made.as_str(), laid);
     let again = formatted(alloc, 0, &made)?;
-    assert_eq!(rt; again.as_str(), laid);
+    assert!(rt; made.as_str() == laid && again.as_str() == laid, "{made}");
     Ok(())
 }
 
-#[test]
-fn definitions(rt: HostRuntime) -> Result<(), Fail> {
-    expect_laid(
-        &rt,
-        rt.alloc(),
+// Texts, and how they are laid out.
+const LAID: [(&str, &str); 9] = [
+    // Definitions.
+    (
         "(rule  1 (lower (has_type ty(iadd x y)))
   (if-let k   (imm12 y) )
   (add_imm ty x k))
@@ -48,14 +46,9 @@ fn definitions(rt: HostRuntime) -> Result<(), Fail> {
              ;; nothing
              (Nop) (Ret (r Reg))))
 ",
-    )
-}
-
-#[test]
-fn lets(rt: HostRuntime) -> Result<(), Fail> {
-    expect_laid(
-        &rt,
-        rt.alloc(),
+    ),
+    // Lets.
+    (
         "(rule (f x)
   (let
   ;; a
@@ -76,45 +69,32 @@ fn lets(rt: HostRuntime) -> Result<(), Fail> {
              )
           (g w z))))
 ",
-    )
-}
-
-#[test]
-fn white_space(rt: HostRuntime) -> Result<(), Fail> {
-    expect_laid(&rt, rt.alloc(), "", "")?;
-    expect_laid(
-        &rt,
-        rt.alloc(),
-        "\n\n ; a\r\n\n\n\n( pragma )",
-        "; a\n\n(pragma)\n",
-    )?;
-    expect_laid(
-        &rt,
-        rt.alloc(),
-        "\u{feff}(pragma)\t(; b ;)",
-        "\u{feff}(pragma) (; b ;)\n",
-    )?;
-    // A byte order mark is one at the beginning alone.
-    expect_laid(&rt, rt.alloc(), " \u{feff}a", " \u{feff}a\n")?;
-    expect_laid(&rt, rt.alloc(), "; a\r\r\n(pragma)", "; a\n(pragma)\n")?;
-    expect_laid(
-        &rt,
-        rt.alloc(),
-        "(pragma ; c\n)( ; d\n)",
-        "(pragma ; c\n) ( ; d\n  )\n",
-    )?;
-    expect_laid(
-        &rt,
-        rt.alloc(),
+    ),
+    // White space. A byte order mark is one at the beginning alone.
+    ("", ""),
+    ("\n\n ; a\r\n\n\n\n( pragma )", "; a\n\n(pragma)\n"),
+    ("\u{feff}(pragma)\t(; b ;)", "\u{feff}(pragma) (; b ;)\n"),
+    (" \u{feff}a", " \u{feff}a\n"),
+    ("; a\r\r\n(pragma)", "; a\n(pragma)\n"),
+    ("(pragma ; c\n)( ; d\n)", "(pragma ; c\n) ( ; d\n  )\n"),
+    (
         "(spec (f x)\n(provide x))",
         "(spec (f x)\n    (provide x))\n",
-    )
+    ),
+];
+
+#[test]
+fn texts_are_laid_out(rt: HostRuntime) -> Result<(), Fail> {
+    for (text, laid) in LAID {
+        expect_laid(&rt, rt.alloc(), text, laid)?;
+    }
+    Ok(())
 }
 
 #[test]
 fn mistakes(rt: HostRuntime) -> Result<(), Fail> {
-    assert!(&rt; formatted(rt.alloc(), 0, "(decl f () u8").is_err());
-    assert!(&rt; formatted(rt.alloc(), 0, "(; a").is_err());
-    assert!(&rt; formatted(rt.alloc(), 0, "12a").is_err());
+    for text in ["(decl f () u8", "(; a", "12a"] {
+        assert!(&rt; formatted(rt.alloc(), 0, text).is_err());
+    }
     Ok(())
 }

@@ -35,26 +35,37 @@ fn shows_digit(sets: &DisjointSets<LastDigit>, digit: usize, picture: &[u8; 10])
     sets.find(x).is_some() == (picture[digit] != b'.')
 }
 
-// Merges two numbers whose digits differ. Before, the sets are those of the picture.
-fn merge(
-    rt: &impl Abort,
-    sets: &mut DisjointSets<LastDigit>,
-    before: &[u8; 10],
-    x: u32,
-    y: u32,
-) -> Result<(), AllocError> {
-    let (x, y) = (LastDigit(x), LastDigit(y));
-    assert!(rt; x != y);
-    match sets.merge(x, y) {
-        Ok(()) => Ok(()),
-        Err(_) => {
-            assert!(rt; shows(sets, before), "a refused merge");
-            sets.merge(x, y)
-        }
+fn copy_of<C: Clone>(value: &C) -> Result<C, AllocError> {
+    match value.clone() {
+        Ok(copy) => Ok(copy),
+        Err(_) => value.clone(),
     }
 }
 
-// Takes a number's set away. Before, the sets are those of the picture.
+// Merges two numbers whose digits differ, beside a copy that stays as it is. Pictures show the sets before and after.
+fn expect_merged(
+    rt: &impl Abort,
+    sets: &mut DisjointSets<LastDigit>,
+    before: &[u8; 10],
+    (x, y): (LastDigit, LastDigit),
+    after: &[u8; 10],
+) -> Result<(), AllocError> {
+    let copy = copy_of(sets)?;
+    assert!(rt; x != y);
+    if sets.merge(x, y).is_err() {
+        assert!(rt; shows(sets, before), "a refused merge");
+        sets.merge(x, y)?;
+    }
+    assert!(rt;
+        shows(sets, after) && shows(&copy, before),
+        "{} and {}",
+        x.0,
+        y.0
+    );
+    Ok(())
+}
+
+// Takes a number's set away.
 fn removed(
     rt: &impl Abort,
     sets: &mut DisjointSets<LastDigit>,
@@ -70,88 +81,89 @@ fn removed(
     }
 }
 
-fn copy_of<C: Clone>(value: &C) -> Result<C, AllocError> {
-    match value.clone() {
-        Ok(copy) => Ok(copy),
-        Err(_) => value.clone(),
-    }
-}
-
-// Merges as a row says, and looks at the sets and at a copy made before.
-fn merge_beside_a_copy(
-    rt: &impl Abort,
-    sets: &mut DisjointSets<LastDigit>,
-    before: &[u8; 10],
-    row: (u32, u32, &[u8; 10]),
-) -> Result<(), AllocError> {
-    let copy = copy_of(sets)?;
-    merge(rt, sets, before, row.0, row.1)?;
-    assert!(rt; shows(sets, row.2), "{} and {}", row.0, row.1);
-    assert!(rt; shows(&copy, before), "before {} and {}", row.0, row.1);
-    Ok(())
-}
-
-// Two sets, a merge that adds nothing, one set of both, members on either side, and the shorter set first.
-#[test]
-fn merges(rt: HostRuntime) -> Result<(), Fail> {
-    let mut sets = DisjointSets::new(rt.alloc());
-    let mut before = b"..........";
-    for row in [
-        (1, 2, b".aa......."),
-        (3, 4, b".aabb....."),
-        (12, 11, b".aabb....."),
-        (2, 3, b".aaaa....."),
-        (6, 7, b".aaaa.bb.."),
-        (6, 8, b".aaaa.bbb."),
-        (9, 18, b".aaaa.bbbb"),
-        (10, 6, b"baaaa.bbbb"),
-        (4, 9, b"aaaaa.aaaa"),
-    ] {
-        merge_beside_a_copy(&rt, &mut sets, before, row)?;
-        before = row.2;
-    }
-    assert_eq!(rt; sets.find_mut(LastDigit(3)), sets.find(LastDigit(8)));
-    assert_eq!(rt; sets.find_mut(LastDigit(5)), None);
-    Ok(())
-}
-
 // Takes a number's set away, and looks at its members and at the sets that are left.
 fn expect_removed(
     rt: &impl Abort,
     sets: &mut DisjointSets<LastDigit>,
     before: &[u8; 10],
-    row: (u32, &[u32], &[u8; 10]),
+    (number, members): (u32, &[u32]),
+    after: &[u8; 10],
 ) -> Result<(), AllocError> {
-    let set = removed(rt, sets, before, row.0)?;
-    let members = set.iter().map(|member| member.0);
-    assert!(rt; members.eq(row.1.iter().copied()), "of {}", row.0);
-    assert!(rt; shows(sets, row.2), "without {}", row.0);
+    let set = removed(rt, sets, before, number)?;
+    let found = set.iter().map(|member| member.0);
+    assert!(rt; found.eq(members.iter().copied()), "of {number}");
+    assert!(rt; shows(sets, after), "without {number}");
+    Ok(())
+}
+
+#[derive(Clone, Copy)]
+enum Step {
+    // Of the sets of two numbers.
+    Merge(u32, u32),
+    // Of the set of a number, which has these members.
+    Removal(u32, &'static [u32]),
+}
+
+// Makes steps on sets, each with the picture of the sets after it.
+fn expect_steps(
+    rt: &impl Abort,
+    sets: &mut DisjointSets<LastDigit>,
+    steps: &[(Step, &'static [u8; 10])],
+) -> Result<(), AllocError> {
+    let mut before = b"..........";
+    for (step, after) in steps {
+        match step {
+            Step::Merge(x, y) => {
+                let pair = (LastDigit(*x), LastDigit(*y));
+                expect_merged(rt, sets, before, pair, *after)?;
+            }
+            Step::Removal(number, members) => {
+                expect_removed(rt, sets, before, (*number, *members), *after)?;
+            }
+        }
+        before = *after;
+    }
+    Ok(())
+}
+
+// Two sets, a merge that adds nothing, one set of both, members on either side, and the shorter set first.
+const MERGES: [(Step, &[u8; 10]); 9] = [
+    (Step::Merge(1, 2), b".aa......."),
+    (Step::Merge(3, 4), b".aabb....."),
+    (Step::Merge(12, 11), b".aabb....."),
+    (Step::Merge(2, 3), b".aaaa....."),
+    (Step::Merge(6, 7), b".aaaa.bb.."),
+    (Step::Merge(6, 8), b".aaaa.bbb."),
+    (Step::Merge(9, 18), b".aaaa.bbbb"),
+    (Step::Merge(10, 6), b"baaaa.bbbb"),
+    (Step::Merge(4, 9), b"aaaaa.aaaa"),
+];
+
+#[test]
+fn merges(rt: HostRuntime) -> Result<(), Fail> {
+    let mut sets = DisjointSets::new(rt.alloc());
+    expect_steps(&rt, &mut sets, &MERGES)?;
+    assert_eq!(rt; sets.find_mut(LastDigit(3)), sets.find(LastDigit(8)));
+    assert_eq!(rt; sets.find_mut(LastDigit(5)), None);
     Ok(())
 }
 
 // A set that is gone takes its items, and leaves its place to the next one.
+const REMOVALS: [(Step, &[u8; 10]); 8] = [
+    (Step::Merge(1, 2), b".aa......."),
+    (Step::Merge(5, 6), b".aa..bb..."),
+    (Step::Merge(2, 5), b".aa..aa..."),
+    (Step::Merge(7, 9), b".aa..aab.b"),
+    (Step::Removal(9, &[7, 9]), b".aa..aa..."),
+    (Step::Removal(19, &[]), b".aa..aa..."),
+    (Step::Removal(16, &[1, 2, 5, 6]), b".........."),
+    (Step::Merge(12, 3), b"..aa......"),
+];
+
 #[test]
 fn removals(rt: HostRuntime) -> Result<(), Fail> {
     let mut sets = DisjointSets::new(rt.alloc());
-    let mut before = b"..........";
-    for row in [
-        (1, 2, b".aa......."),
-        (5, 6, b".aa..bb..."),
-        (2, 5, b".aa..aa..."),
-        (7, 9, b".aa..aab.b"),
-    ] {
-        merge_beside_a_copy(&rt, &mut sets, before, row)?;
-        before = row.2;
-    }
-    expect_removed(&rt, &mut sets, before, (9, &[7, 9], b".aa..aa..."))?;
-    expect_removed(&rt, &mut sets, b".aa..aa...", (19, &[], b".aa..aa..."))?;
-    expect_removed(
-        &rt,
-        &mut sets,
-        b".aa..aa...",
-        (16, &[1, 2, 5, 6], b".........."),
-    )?;
-    merge_beside_a_copy(&rt, &mut sets, b"..........", (12, 3, b"..aa......"))?;
+    expect_steps(&rt, &mut sets, &REMOVALS)?;
     Ok(())
 }
 

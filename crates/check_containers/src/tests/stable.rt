@@ -8,13 +8,6 @@ use std::collections::HashMap;
 use std::process::Abort;
 use std::test::Fail;
 
-fn inserted(set: &mut StableSet<LastDigit>, val: LastDigit) -> Result<bool, AllocError> {
-    match set.insert(val) {
-        Ok(new) => Ok(new),
-        Err(_) => set.insert(val),
-    }
-}
-
 fn set_copy(set: &StableSet<LastDigit>) -> Result<StableSet<LastDigit>, AllocError> {
     match set.clone() {
         Ok(copy) => Ok(copy),
@@ -22,7 +15,29 @@ fn set_copy(set: &StableSet<LastDigit>) -> Result<StableSet<LastDigit>, AllocErr
     }
 }
 
-// Each number in turn, whether it is new, and how many values there are then.
+// Adds a number, beside a copy that stays as it is: whether it is new, and how many values there are then.
+fn expect_inserted(
+    rt: &impl Abort,
+    set: &mut StableSet<LastDigit>,
+    val: LastDigit,
+    new: bool,
+    count: usize,
+) -> Result<(), AllocError> {
+    let before = set_copy(set)?;
+    let is_new = match set.insert(val) {
+        Ok(is_new) => is_new,
+        Err(_) => set.insert(val)?,
+    };
+    let is_there = set.len() == count && set.contains(&val.twin());
+    let was_there = before.contains(&val);
+    assert!(rt;
+        is_new == new && is_there && was_there != new,
+        "at {}",
+        val.0
+    );
+    Ok(())
+}
+
 #[test]
 fn sets(rt: HostRuntime) -> Result<(), Fail> {
     let mut set = StableSet::new(rt.alloc());
@@ -39,26 +54,9 @@ fn sets(rt: HostRuntime) -> Result<(), Fail> {
         (7, true, 8),
         (8, true, 9),
     ] {
-        let (val, before) = (LastDigit(number), set_copy(&set)?);
-        assert_eq!(rt; inserted(&mut set, val)?, new, "at {number}");
-        assert!(rt;
-            set.len() == count && set.contains(&val.twin()),
-            "at {number}"
-        );
-        assert!(rt; before.contains(&val) != new, "before {number}");
+        expect_inserted(&rt, &mut set, LastDigit(number), new, count)?;
     }
     Ok(())
-}
-
-fn given(
-    map: &mut StableMap<LastDigit, char>,
-    key: LastDigit,
-    value: char,
-) -> Result<Option<char>, AllocError> {
-    match map.insert(key, value) {
-        Ok(old) => Ok(old),
-        Err(_) => map.insert(key, value),
-    }
 }
 
 fn map_copy(map: &StableMap<LastDigit, char>) -> Result<StableMap<LastDigit, char>, AllocError> {
@@ -68,21 +66,37 @@ fn map_copy(map: &StableMap<LastDigit, char>) -> Result<StableMap<LastDigit, cha
     }
 }
 
-// The key's value by each call that reads it.
-fn expect_value(
-    rt: &impl Abort,
-    map: &StableMap<LastDigit, char>,
-    key: LastDigit,
-    value: Option<char>,
-) {
-    assert_eq!(rt; map.get(&key).copied(), value, "at {}", key.0);
-    assert_eq!(rt; map.contains_key(&key), value.is_some(), "at {}", key.0);
-    if map.contains_key(&key) {
-        assert_eq!(rt; Some(map[&key]), value, "at {}", key.0);
+// Whether this is the key's value by each call that reads it.
+fn has_value(map: &StableMap<LastDigit, char>, key: LastDigit, value: Option<char>) -> bool {
+    if map.contains_key(&key) && Some(map[&key]) != value {
+        return false;
     }
+    map.get(&key).copied() == value && map.contains_key(&key) == value.is_some()
 }
 
-// Each number in turn with its value, the value before, and how many keys there are then.
+// Gives a key a value, beside a copy that stays as it is: the value before, and how many keys there are then.
+fn expect_given(
+    rt: &impl Abort,
+    map: &mut StableMap<LastDigit, char>,
+    (key, value): (LastDigit, char),
+    old: Option<char>,
+    count: usize,
+) -> Result<(), AllocError> {
+    let before = map_copy(map)?;
+    let replaced = match map.insert(key, value) {
+        Ok(replaced) => replaced,
+        Err(_) => map.insert(key, value)?,
+    };
+    let is_given = has_value(map, key.twin(), Some(value)) && has_value(map, LastDigit(9), None);
+    let was_given = has_value(&before, key, old);
+    assert!(rt;
+        replaced == old && map.len() == count && is_given && was_given,
+        "at {}",
+        key.0
+    );
+    Ok(())
+}
+
 #[test]
 fn maps(rt: HostRuntime) -> Result<(), Fail> {
     let mut map = StableMap::new(rt.alloc());
@@ -99,12 +113,8 @@ fn maps(rt: HostRuntime) -> Result<(), Fail> {
         (7, 'j', None, 8),
         (8, 'k', None, 9),
     ] {
-        let (key, before) = (LastDigit(number), map_copy(&map)?);
-        assert_eq!(rt; given(&mut map, key, value)?, old, "at {number}");
-        assert_eq!(rt; map.len(), count, "at {number}");
-        expect_value(&rt, &map, key.twin(), Some(value));
-        expect_value(&rt, &map, LastDigit(9), None);
-        expect_value(&rt, &before, key, old);
+        let pair = (LastDigit(number), value);
+        expect_given(&rt, &mut map, pair, old, count)?;
     }
     Ok(())
 }
@@ -129,9 +139,8 @@ fn maps_of_pairs(rt: HostRuntime) -> Result<(), Fail> {
         Ok(map) => map,
         Err(_) => made(alloc, pairs)?,
     };
-    assert_eq!(rt; map.len(), 2);
-    expect_value(&rt, &map, LastDigit(23), Some('b'));
-    expect_value(&rt, &map, LastDigit(24), Some('c'));
+    assert!(rt; map.len() == 2 && has_value(&map, LastDigit(23), Some('b')));
+    assert!(rt; has_value(&map, LastDigit(24), Some('c')));
     Ok(())
 }
 
@@ -141,12 +150,11 @@ fn other_calls_take_no_memory(rt: HostRuntime) -> Result<(), Fail> {
     let alloc = rt.alloc();
     let hashed = HashMap::from_array(alloc, [(LastDigit(7), 'a'), (LastDigit(17), 'b')])?;
     let nowhere = StableMap::new(alloc);
-    expect_value(&rt, &nowhere, LastDigit(7), None);
+    assert!(rt; has_value(&nowhere, LastDigit(7), None));
     let none = StableSet::new(alloc);
     assert!(rt; none.len() == 0 && !none.contains(&LastDigit(7)) && nowhere.len() == 0);
     let map = StableMap::from(hashed);
-    assert_eq!(rt; map.len(), 1);
-    expect_value(&rt, &map, LastDigit(27), Some('b'));
-    expect_value(&rt, &map, LastDigit(4), None);
+    assert!(rt; map.len() == 1 && has_value(&map, LastDigit(27), Some('b')));
+    assert!(rt; has_value(&map, LastDigit(4), None));
     Ok(())
 }

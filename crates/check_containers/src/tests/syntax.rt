@@ -1,4 +1,5 @@
 // Calls on trees that text spells, whose answers a reader knows.
+use crate::tests::listed::listed;
 use isle_base::syntax::{Def, Files, Ident, Pattern, Pos, Rule, Span, Variant};
 use isle_reader::read;
 use std::alloc::{AllocError, Global};
@@ -7,6 +8,10 @@ use std::test::Fail;
 
 fn at(offset: usize) -> Pos {
     Pos { file: 0, offset }
+}
+
+fn text(alloc: Global, text: &str) -> Result<String, AllocError> {
+    String::from_str(alloc, text)
 }
 
 fn ident(alloc: Global, text: &str, offset: usize) -> Result<Ident, AllocError> {
@@ -34,13 +39,14 @@ const TEMPLATE: &str = "(rule (t (macro-arg 0) (macro-arg 1) z@7 y@7 z) 1)";
 #[test]
 fn templates(rt: HostRuntime) -> Result<(), Fail> {
     let alloc = rt.alloc();
-    let mut names = Vec::new(alloc);
-    for (offset, name) in ["x", "y", "x"].iter().enumerate() {
-        names.push(ident(alloc, *name, offset)?)?;
-    }
-    let made = rule(alloc, WRITTEN)?
-        .pattern
-        .make_macro_template(alloc, &names)?;
+    let names = [
+        ident(alloc, "x", 0),
+        ident(alloc, "y", 1),
+        ident(alloc, "x", 2),
+    ];
+    let names = listed(alloc, names)?;
+    let written = pattern(alloc, WRITTEN)?;
+    let made = written.make_macro_template(alloc, &names)?;
     assert!(rt; made == pattern(alloc, TEMPLATE)?);
     Ok(())
 }
@@ -51,52 +57,47 @@ fn arguments_of_templates(rt: HostRuntime) -> Result<(), Fail> {
     let template = pattern(alloc, TEMPLATE)?;
     let filled = pattern(alloc, "(rule (t 7             _             z@7 y@7 z) 1)")?;
     let Pattern::Term { args, .. } = &filled else {
-        return Err(Fail::from("no term"));
+        panic!(rt; "no term");
     };
     for count in 0..3 {
-        let given = args.get(..count).ok_or("too few")?;
+        let given = args.get(..count).unwrap_or(&[]);
         let made = template.subst_macro_args(alloc, given)?;
         assert!(rt; made.as_ref() == Some(&filled) || made.is_none() && count < 2);
     }
     Ok(())
 }
 
-// The terms of a pattern and of an expression, an outer one before its parts, with their offsets.
-#[test]
-fn parts(rt: HostRuntime) -> Result<(), Fail> {
-    let alloc = rt.alloc();
-    let rule = rule(
-        alloc,
-        "(rule (and (t x z@(u 7)) _) (let ((a T (f b))) (g a (h))))",
-    )?;
-    assert!(rt; rule.pattern.root_term().is_none() && rule.pattern.pos() == at(6));
-    assert!(rt; rule.expr.pos() == at(28));
+// The terms of a rule's pattern and of its expression, with their offsets.
+fn terms_of(alloc: Global, rule: &Rule) -> Result<String, AllocError> {
     let mut found = Vec::new(alloc);
     rule.pattern.terms(&mut found)?;
     rule.expr.terms(&mut found)?;
     let mut text = String::new(alloc);
     for (pos, name) in &found {
-        text = format!(in alloc; "{text}{} {}|", name.0, pos.offset)?;
+        write!(text, " {} {}|", name.0, pos.offset)?;
     }
-    assert_eq!(rt; text.as_str(), "t 11|u 18|f 39|g 47|h 52|");
-    Ok(())
+    Ok(text)
 }
 
-fn texts(alloc: Global, words: [&str; 2]) -> Result<Vec<String>, AllocError> {
-    let mut texts = Vec::new(alloc);
-    for word in words {
-        texts.push(String::from_str(alloc, word)?)?;
-    }
-    Ok(texts)
+const PARTS: &str = "(rule (and (t x z@(u 7)) _) (let ((a T (f b))) (g a (h))))";
+
+// An outer term comes before its parts.
+#[test]
+fn parts(rt: HostRuntime) -> Result<(), Fail> {
+    let rule = rule(rt.alloc(), PARTS)?;
+    assert!(rt; rule.pattern.root_term().is_none() && rule.pattern.pos() == at(6));
+    assert!(rt; rule.expr.pos() == at(28));
+    let terms = terms_of(rt.alloc(), &rule)?;
+    assert_eq!(rt; terms.as_str(), " t 11| u 18| f 39| g 47| h 52|");
+    Ok(())
 }
 
 #[test]
 fn lines(rt: HostRuntime) -> Result<(), Fail> {
     let alloc = rt.alloc();
-    let files = Files {
-        names: texts(alloc, ["a.isle", "b.isle"])?,
-        texts: texts(alloc, ["\n", "one\ntwo\n\nfour"])?,
-    };
+    let names = listed(alloc, [text(alloc, "a.isle"), text(alloc, "b.isle")])?;
+    let texts = listed(alloc, [text(alloc, "\n"), text(alloc, "one\ntwo\n\nfour")])?;
+    let files = Files { names, texts };
     for (file, offset, want) in [
         (0, 0, "a.isle line 1"),
         (1, 3, "b.isle line 1"),
@@ -129,8 +130,16 @@ fn places_and_names(rt: HostRuntime) -> Result<(), Fail> {
         assert!(rt; span.from == at(offset) && span.to == at(end));
     }
     assert!(rt; Pos::default() < at(1) && at(9) < Pos { file: 1, offset: 0 });
-    let name = Variant::full_name(&ident(alloc, "T", 1)?, &ident(alloc, "A", 3)?)?;
-    assert!(rt; name == ident(alloc, "T.A", 3)?);
+    let names = [
+        ident(alloc, "T", 1),
+        ident(alloc, "A", 3),
+        ident(alloc, "T.A", 3),
+    ];
+    let names = listed(alloc, names)?;
+    let [ty, variant, full] = names.as_slice() else {
+        panic!(rt; "not three names");
+    };
+    assert!(rt; Variant::full_name(ty, variant)? == *full);
     Ok(())
 }
 
