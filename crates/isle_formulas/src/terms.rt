@@ -1,5 +1,10 @@
 //! Formulas: truth values, integers and words, each made of earlier ones.
 
+ghost use Rattle.std.specs.Prelude.{◌≡◌, [], ◌∷◌, slice_get, IfOk};
+ghost use Rattle.std.specs.Option.{option_map};
+ghost use Rattle.isle_formulas.specs.NodeMeanings.{literal_in};
+ghost use Rattle.isle_formulas.specs.Solutions.{IsAdded, IsApplied, Keeps, Means};
+
 use crate::faults::NoCondition;
 use crate::operators::Operator;
 use crate::widths::{WidthId, Widths};
@@ -165,7 +170,9 @@ impl Terms {
     }
 
     /// How a formula is made.
-    pub fn node(&self, id: NodeId) -> Option<&Node> {
+    pub fn node(&self, id: NodeId) -> Option<&Node>
+        ensures { option_map (λ n. n.now) result ≡ slice_get self.now.nodes.items id.0 }
+    {
         self.nodes.get(id.0)
     }
 
@@ -221,7 +228,9 @@ impl Terms {
     }
 
     /// The truth value that a formula is, if that is known.
-    pub fn literal(&self, id: NodeId) -> Option<bool> {
+    pub fn literal(&self, id: NodeId) -> Option<bool>
+        ensures { result ≡ literal_in (slice_get self.now.nodes.items id.0) }
+    {
         match self.node(id) {
             Some(Node::Truth(value)) => Some(*value),
             _ => None,
@@ -229,7 +238,9 @@ impl Terms {
     }
 
     /// A new formula.
-    pub fn add(&mut self, node: Node, sort: Sort) -> Result<NodeId, AllocError> {
+    pub fn add(&mut self, node: Node, sort: Sort) -> Result<NodeId, AllocError>
+        ensures { IfOk result (λ id. IsAdded self.old node sort self.new id.0) }
+    {
         let id = NodeId(self.nodes.len());
         let number = self.number_of(&node);
         self.numbers.push(number)?;
@@ -239,12 +250,16 @@ impl Terms {
     }
 
     /// A truth value.
-    pub fn truth(&mut self, value: bool) -> Result<NodeId, AllocError> {
+    pub fn truth(&mut self, value: bool) -> Result<NodeId, AllocError>
+        ensures { IfOk result (λ id. IsAdded self.old (Node.Truth value) Sort.Truth self.new id.0) }
+    {
         self.add(Node::Truth(value), Sort::Truth)
     }
 
     /// An integer.
-    pub fn integer(&mut self, value: i128) -> Result<NodeId, AllocError> {
+    pub fn integer(&mut self, value: i128) -> Result<NodeId, AllocError>
+        ensures { IfOk result (λ id. IsAdded self.old (Node.Integer value) Sort.Integer self.new id.0) }
+    {
         self.add(Node::Integer(value), Sort::Integer)
     }
 
@@ -276,7 +291,10 @@ impl Terms {
     }
 
     /// An operator on one formula.
-    pub fn one(&mut self, operator: Operator, a: NodeId, sort: Sort) -> Result<NodeId, AllocError> {
+    pub fn one(&mut self, operator: Operator, a: NodeId, sort: Sort) -> Result<NodeId, AllocError>
+        ensures keeps { IfOk result (λ _. Keeps self.old self.new) }
+        ensures applied { IfOk result (λ id. IsApplied self.new operator (a ∷ []) id.0) }
+    {
         let mut of = Vec::new(self.alloc);
         of.push(a)?;
         self.add(Node::Apply(operator, of), sort)
@@ -289,7 +307,10 @@ impl Terms {
         a: NodeId,
         b: NodeId,
         sort: Sort,
-    ) -> Result<NodeId, AllocError> {
+    ) -> Result<NodeId, AllocError>
+        ensures keeps { IfOk result (λ _. Keeps self.old self.new) }
+        ensures applied { IfOk result (λ id. IsApplied self.new operator (a ∷ b ∷ []) id.0) }
+    {
         let mut of = Vec::new(self.alloc);
         of.push(a)?;
         of.push(b)?;
@@ -297,7 +318,10 @@ impl Terms {
     }
 
     /// That a formula isn't true.
-    pub fn not(&mut self, a: NodeId) -> Result<NodeId, AllocError> {
+    pub fn not(&mut self, a: NodeId) -> Result<NodeId, AllocError>
+        ensures keeps { IfOk result (λ _. Keeps self.old self.new) }
+        ensures means { IfOk result (λ id. Means self.new Operator.Not (a ∷ []) id.0) }
+    {
         match self.literal(a) {
             Some(value) => self.truth(!value),
             None => self.one(Operator::Not, a, Sort::Truth),
@@ -337,12 +361,26 @@ impl Terms {
     }
 
     /// That the second is true where the first is.
-    pub fn implies(&mut self, a: NodeId, b: NodeId) -> Result<NodeId, AllocError> {
-        match (self.literal(a), self.literal(b)) {
-            (Some(true), _) => Ok(b),
-            (Some(false), _) | (_, Some(true)) => self.truth(true),
-            (_, Some(false)) => self.not(a),
-            _ => self.two(Operator::Implies, a, b, Sort::Truth),
+    pub fn implies(&mut self, a: NodeId, b: NodeId) -> Result<NodeId, AllocError>
+        ensures keeps { IfOk result (λ _. Keeps self.old self.new) }
+        ensures means { IfOk result (λ id. Means self.new Operator.Implies (a ∷ b ∷ []) id.0) }
+    {
+        match self.literal(a) {
+            Some(true) => Ok(b),
+            Some(false) => self.truth(true),
+            None => self.implies_open(a, b),
+        }
+    }
+
+    // The same, where nothing is known of the first.
+    fn implies_open(&mut self, a: NodeId, b: NodeId) -> Result<NodeId, AllocError>
+        ensures keeps { IfOk result (λ _. Keeps self.old self.new) }
+        ensures means { IfOk result (λ id. Means self.new Operator.Implies (a ∷ b ∷ []) id.0) }
+    {
+        match self.literal(b) {
+            Some(true) => self.truth(true),
+            Some(false) => self.not(a),
+            None => self.two(Operator::Implies, a, b, Sort::Truth),
         }
     }
 
@@ -395,25 +433,29 @@ impl Terms {
     }
 
     /// One of two formulas of one sort.
-    pub fn choice(
-        &mut self,
-        condition: NodeId,
-        a: NodeId,
-        b: NodeId,
-    ) -> Result<NodeId, AllocError> {
+    pub fn choice(&mut self, condition: NodeId, a: NodeId, b: NodeId) -> Result<NodeId, AllocError>
+        ensures keeps { IfOk result (λ _. Keeps self.old self.new) }
+        ensures means { IfOk result (λ id. Means self.new Operator.If (condition ∷ a ∷ b ∷ []) id.0) }
+    {
         match self.literal(condition) {
             Some(true) => Ok(a),
             Some(false) => Ok(b),
             None if a == b => Ok(a),
-            None => {
-                let mut of = Vec::new(self.alloc);
-                of.push(condition)?;
-                of.push(a)?;
-                of.push(b)?;
-                let sort = self.sort(a);
-                self.add(Node::Apply(Operator::If, of), sort)
-            }
+            None => self.choice_open(condition, a, b),
         }
+    }
+
+    // The same, where nothing is known of the condition.
+    fn choice_open(&mut self, condition: NodeId, a: NodeId, b: NodeId) -> Result<NodeId, AllocError>
+        ensures keeps { IfOk result (λ _. Keeps self.old self.new) }
+        ensures applied { IfOk result (λ id. IsApplied self.new Operator.If (condition ∷ a ∷ b ∷ []) id.0) }
+    {
+        let mut of = Vec::new(self.alloc);
+        of.push(condition)?;
+        of.push(a)?;
+        of.push(b)?;
+        let sort = self.sort(a);
+        self.add(Node::Apply(Operator::If, of), sort)
     }
 
     /// A width that is an integer.

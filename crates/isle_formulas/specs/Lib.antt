@@ -1,0 +1,5 @@
+pub mod WidthSolutions
+pub mod Operations
+pub mod SortMeanings
+pub mod NodeMeanings
+pub mod Solutions
