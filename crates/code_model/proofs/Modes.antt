@@ -171,7 +171,7 @@ pattern_fits (is_bool b ty) false h = absurd (false≢true h)
 pattern_fits (is_int z ty) true h = refl
 pattern_fits (is_int z ty) false h = absurd (false≢true h)
 pattern_fits (is_prim name) true h = refl
-pattern_fits (is_prim name) false h = absurd (false≢true h)
+pattern_fits (is_prim name) false h = refl
 pattern_fits is_present true h = refl
 pattern_fits is_present false h = refl
 

@@ -2,7 +2,7 @@
 -- nothing but the return that ends the function, or where moves may stand for clones (and by a loop, which takes the call that it goes
 -- over).
 use Rattle.std.specs.Prelude.{[], ◌≡◌, ◌&&◌, ◌||◌, ◌∷◌, ℕ, suc, Bool, true, false, not, List, Option, Some, None, slice_get, Contains}
-use Rattle.model.specs.sites.Sites.{Site, bool_site, extractor_site, constructor_site, iterator_site, make_variant_site, make_struct_site, make_some_site, match_some_site, match_variant_site, extract_struct_site, Constraint, is_variant, is_struct, is_present, SetRule, SiteSet}
+use Rattle.model.specs.sites.Sites.{Site, bool_site, extractor_site, constructor_site, iterator_site, make_variant_site, make_struct_site, make_some_site, match_some_site, match_variant_site, extract_struct_site, Constraint, is_variant, is_struct, is_prim, is_present, SetRule, SiteSet}
 use Rattle.model.specs.trees.Trees.{Tree, no_step, step, Check, match_at, equal_at, loop_at, return_at, Arms, no_arm, arm}
 use Rattle.code_model.specs.Code.{Place, variable, parameter, part_of, Pass, as_it_is, lent, cloned, seen_through, Use, Expr, truth_written, read, extraction, call, variant_of, struct_of, some_of, Block, no_statement, statement, Statement, bind, bind_some, no_way, match_on, if_equal, for_each_of, give, labelled, unless_let, unless_equal, CodeArms, no_code_arm, code_arm}
 use Rattle.code_model.specs.TreeCode.{Taker, to_extractor, to_parameter, to_field, to_some, to_match, to_compare, to_result, Passes, place_of, tree_code}
@@ -106,10 +106,12 @@ fits_equal _ gives_reference = false
 fits_equal _ gives_nothing = false
 fits_equal _ _ = true
 
--- variants and structs are matched by reference, constants by value; what is in an option is a reference where the option is
+-- variants and structs are matched by reference, literals by value. A named constant is compared with `==`, through the reference
+-- where its type is an enum or a struct. What is in an option is a reference where the option is
 abbrev pub fits_pattern : Constraint → Given → Bool
 fits_pattern (is_variant ty variant fields) g = fits_reference g
 fits_pattern (is_struct ty fields) g = fits_reference g
+fits_pattern (is_prim name) g = fits_reference g || fits_value false g
 fits_pattern is_present g = fits_reference g || fits_value false g
 fits_pattern _ g = fits_value false g
 
@@ -201,7 +203,7 @@ abbrev pub passes_of : Types → Bool → List Site → Passes
 passes_of types multi sites s taker = pass_at types multi (place_in sites) (place_in sites s) taker
 
 -- a tree is typed: what is Copy is no reference; a call's argument is taken by reference where it isn't Copy; what is made, and
--- the elements of a loop, are values; what is matched as a variant or a struct isn't Copy, what is compared with a constant
+-- the elements of a loop, are values; what is matched as a variant or a struct isn't Copy, what is compared with a literal
 -- is; fields that aren't Copy are references, and so is what is in an option that isn't
 abbrev pub copy_is_value : Mode → (copy : Bool) → Bool
 copy_is_value a_reference copy = not copy
@@ -253,6 +255,7 @@ binds_typed types sites (s ∷ rest) = site_typed types sites s (slice_get sites
 abbrev pub pattern_typed : Constraint → (copy : Bool) → Bool
 pattern_typed (is_variant ty variant fields) copy = not copy
 pattern_typed (is_struct ty fields) copy = not copy
+pattern_typed (is_prim name) copy = true
 pattern_typed is_present copy = true
 pattern_typed _ copy = copy
 

@@ -2,8 +2,8 @@
 use Rattle.std.specs.Prelude.{[], ◌∷◌, ◌&&◌, ℕ, Bool, true, false, not, List, Option, Some, None, slice_get}
 use Rattle.std.specs.List.{list_all}
 use Rattle.model.specs.rules.Program.{Program, is_multi}
-use Rattle.model.specs.rules.Values.{variant_types, struct_types}
-use Rattle.model.specs.sites.Serves.{term_args, term_results, constant_type, is_type_with_parts}
+use Rattle.model.specs.rules.Values.{is_composed_type, variant_types, struct_types}
+use Rattle.model.specs.sites.Serves.{term_args, term_results, constant_type}
 use Rattle.model.specs.sites.Sites.{Site, SiteTerm, bool_term, int_term, prim_term, argument, extractor_call, constructor_call, pick_of, variant_made, variant_field, struct_made, struct_field, some_made, some_part, tuple_part, no_site, unfold_site}
 use Rattle.code_model.specs.Code.{Place, variable, parameter, part_of, int_written, name_written, variant_written, struct_written}
 use Rattle.code_model.specs.Modes.{Mode, a_value, a_reference, Types}
@@ -41,7 +41,7 @@ types_at p args no_site = []
 
 -- an enum or a struct
 abbrev pub is_composed : Program → ℕ → Bool
-is_composed p ty = is_type_with_parts (slice_get p.types ty)
+is_composed p ty = is_composed_type (slice_get p.types ty)
 
 abbrev pub is_one_composed : Program → List ℕ → Bool
 is_one_composed p (ty ∷ []) = is_composed p ty

@@ -10,10 +10,8 @@ use Rattle.cranelift_isle.specs.Sites.{SiteTerm, bool_term, int_term, prim_term,
 use Rattle.cranelift_isle.specs.Serves.{constant_type, tested_constants, written_type, written_value}
 use Rattle.cranelift_isle.specs.ElaboratedLists.{program_of}
 use Rattle.model.proofs.Elements.{some_is, none_some}
-use Rattle.laws_typing.proofs.WellTypedRules.{elaborated_programs_are_well_typed_lem}
 use Rattle.laws_matching.specs.TotalLaws.{matched_by, called_by}
-use Rattle.laws_matching.proofs.Shapes.{atom_without_parts}
-use Rattle.laws_matching.proofs.total.Total.{runs_by_functions_as_chosen_lem, tested_constant_used}
+use Rattle.laws_matching.proofs.total.Total.{runs_by_functions_as_chosen_lem}
 use Rattle.isle_calls.specs.Echoes.{constant_number, named_value, echoes}
 use Rattle.isle_calls.specs.EchoLaws.{AreConstantTypesOf, WritesNoConstant, EchoesKeepConstantsApart, EchoesChooseAsSource}
 use Rattle.isle_calls.proofs.EchoesFit.{echoes_are_well_typed_lem}
@@ -86,15 +84,15 @@ module _ (p : Program) (types : ℕ → Option ℕ) (same : AreConstantTypesOf p
   apart rs unwritten _ _ (a_prim m r) (a_prim n q) ia ib e = ap prim_term (same_place (constant_number 0) m n (numbers (sym (value_of m r) ∙ is e ∙ value_of n q)))
 
 pub echoes_keep_constants_apart_lem : EchoesKeepConstantsApart
-echoes_keep_constants_apart_lem p t types well same can unwritten = record {
+echoes_keep_constants_apart_lem p t types same unwritten plain = record {
   different = λ a b ty v ia ib either wa wb ea eb. apart p types same ty (rules_of p t) unwritten a b (constant_of p ty a wa) (constant_of p ty b wb) ia ib (ea ∙ sym eb);
-  without_parts = λ r s name ty among asks is. atom_without_parts (slice_get p.types ty) (can.constants name ty (tested_constant_used p well t r s name among asks) is);
+  without_parts = plain;
 }
 
 pub echoes_choose_as_source_lem : EchoesChooseAsSource
-echoes_choose_as_source_lem e defs expand rules t sites tree types args elaborated plain runs same can unwritten typed =
+echoes_choose_as_source_lem e defs expand rules t sites tree types args elaborated single runs same can unwritten plain typed =
     let p = program_of e defs rules.rules in
     let rs = rules_of p t in
-    runs_by_functions_as_chosen_lem e defs expand rules t sites tree (echoes types p.terms) args elaborated plain runs
+    runs_by_functions_as_chosen_lem e defs expand rules t sites tree (echoes types p.terms) args elaborated single runs
     (echoes_are_well_typed_lem p types (matched_by rs) (called_by rs) same can)
-    (echoes_keep_constants_apart_lem p t types (elaborated_programs_are_well_typed_lem e defs expand rules elaborated) same can unwritten) typed
+    (echoes_keep_constants_apart_lem p t types same unwritten plain) typed

@@ -3,16 +3,17 @@ use Rattle.std.proofs.Common.{◌≡◌, ◌==◌, ℕ, ℤ, pos, Bool, true, fa
 use Rattle.std.specs.List.{list_all}
 use Rattle.std.proofs.lemmas.Bool.{and_parts, false≢true}
 use Rattle.cranelift_isle.specs.Tables.{Flags, TypeEntry, TermEntry, TermKindEntry, variant_term, struct_term, declared_term}
-use Rattle.cranelift_isle.specs.Values.{Value, atom, Values, no_value, value_and, is_atom_type, well_typed, all_well_typed}
+use Rattle.cranelift_isle.specs.Values.{Value, atom, Values, no_value, value_and, has_atoms, well_typed, all_well_typed}
 use Rattle.cranelift_isle.specs.Meaning.{Content, one}
 use Rattle.cranelift_isle.specs.Program.{Program, Kind, a_variant, a_struct, a_call, unknown, kind, kind_of, always_answers}
 use Rattle.cranelift_isle.specs.Serves.{fits_one, fits_answer, fits_extractor, fits_constructor, term_args, term_results}
 use Rattle.laws_matching.specs.TotalLaws.{can_be_matched, can_be_called}
+use Rattle.laws_matching.proofs.Shapes.{literals_are_atoms}
 use Rattle.isle_calls.specs.Echoes.{constant_number, named_value, in_form, for_each_type, outputs_of, extracted_by, extracted_echo, given_by, first_or_zero, pure_echo, impure_echo}
 use Rattle.isle_calls.specs.EchoLaws.{CanGiveFirst, EchoesAreWellTyped}
 
--- a number is of each type of numbers
-atom_fits : (types : List TypeEntry) (ty : ℕ) (z : ℤ) → is_atom_type (slice_get types ty) ≡ true → well_typed types ty (atom ty z) ≡ true
+-- a number makes an atom of each type with atoms
+atom_fits : (types : List TypeEntry) (ty : ℕ) (z : ℤ) → has_atoms (slice_get types ty) ≡ true → well_typed types ty (atom ty z) ≡ true
 atom_fits types ty z h = rw (eq-eqb ty ty refl, h) refl
 
 -- an answer in the form of its call
@@ -97,13 +98,13 @@ given_fits p t e v c there can h is =
     subst (λ k. fits_constructor p t k c ≡ true) (sym (known_kind p t e there))
     (subst (λ d. fits_constructor p t (kind_of e) d ≡ true) (sym is) of_kind)
 
-constant_fits : (p : Program) (name ty : ℕ) (o : Option ℕ) → o ≡ Some ty → is_atom_type (slice_get p.types ty) ≡ true → well_typed p.types ty (named_value o name) ≡ true
+constant_fits : (p : Program) (name ty : ℕ) (o : Option ℕ) → o ≡ Some ty → has_atoms (slice_get p.types ty) ≡ true → well_typed p.types ty (named_value o name) ≡ true
 constant_fits p name ty o is h = subst (λ o. well_typed p.types ty (named_value o name) ≡ true) (sym is) (atom_fits p.types ty (constant_number name) h)
 
 pub echoes_are_well_typed_lem : EchoesAreWellTyped
 echoes_are_well_typed_lem p types matched called same can = record {
   bools = λ b ty h. h;
-  ints = λ z ty h. atom_fits p.types ty z h;
+  ints = λ z ty h. atom_fits p.types ty z (literals_are_atoms (slice_get p.types ty) h);
   written_bools = λ b ty h. refl;
   written_ints = λ z ty h. refl;
   constants = λ name ty used is. constant_fits p name ty (types name) (same name ∙ is) (can.constants name ty used is);

@@ -7,7 +7,7 @@ pub fn echoes_are_well_typed()
     ensures { EchoesAreWellTyped }
 {}
 
-/// Where also no literal is a constant's number, echoes tell constants apart.
+/// Where no literal is a constant's number, and no pattern names a constant of a type with parts, echoes tell constants apart.
 pub fn echoes_keep_constants_apart()
     ensures { EchoesKeepConstantsApart }
 {}

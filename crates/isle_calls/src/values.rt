@@ -117,7 +117,8 @@ fn composed(
     }
 }
 
-/// An integer as a value of a type: of a built-in one the number of its range that it stands for.
+/// An integer as a value of a type: of a built-in one the number of its range that it stands for. Of an extern enum an integer is
+/// a value of none of its variants.
 pub fn integer(
     alloc: Global,
     lowered: &Lowered,
@@ -127,6 +128,12 @@ pub fn integer(
     match lowered.tyenv.types.get(ty.index()) {
         Some(Type::Builtin(BuiltinType::Int(int))) => Ok(Value::Atom(ty, int.reduce(val))),
         Some(Type::Primitive(..)) => Ok(Value::Atom(ty, val)),
+        Some(
+            Type::Enum {
+                is_extern: true,
+                ..
+            },
+        ) => Ok(Value::Atom(ty, val)),
         _ => {
             let text = format!(in alloc; "{val}")?;
             Err(no_value(alloc, lowered, &text, ty))

@@ -3,7 +3,8 @@ use Rattle.std.specs.Prelude.{◌≡◌, ℕ, Bool, false, not, List, [], ◌∷
 use Rattle.std.specs.List.{list_all}
 use Rattle.model.specs.rules.Program.{Program}
 use Rattle.model.specs.rules.Typed.{TypedRule}
-use Rattle.model.specs.sites.Serves.{constant_type, is_type_with_parts, term_args}
+use Rattle.model.specs.rules.Values.{is_composed_type}
+use Rattle.model.specs.sites.Serves.{constant_type, term_args}
 use Rattle.isle_types.specs.declared.type_env.TypeEnv.{TypeEnv}
 use Rattle.isle_types.specs.Envs.{constant_at}
 use Rattle.isle_types.specs.TypeViews.{type_views}
@@ -26,7 +27,7 @@ seen_types terms (T.OfArguments term) = term_args (slice_get (term_views terms) 
 
 -- whether a type of a number is an enum or a struct
 abbrev pub has_parts : TypeEnv → ℕ → Bool
-has_parts tyenv ty = is_type_with_parts (slice_get (type_views tyenv.types.items) ty)
+has_parts tyenv ty = is_composed_type (slice_get (type_views tyenv.types.items) ty)
 
 abbrev pub are_without_parts : TypeEnv → List ℕ → Bool
 are_without_parts tyenv tys = list_all (λ ty. not (has_parts tyenv ty)) tys

@@ -3,8 +3,8 @@
 ghost use Rattle.std.specs.Prelude.{◌≡◌, List, Some, map, not, option_map, slice_get};
 ghost use Rattle.std.specs.List.{list_all};
 ghost use Rattle.model.specs.lists.Tables.{struct_entries, tuple_entries};
-ghost use Rattle.model.specs.rules.Values.{field_types, struct_types, variant_types};
-ghost use Rattle.model.specs.sites.Serves.{is_type_with_parts, term_results};
+ghost use Rattle.model.specs.rules.Values.{field_types, is_composed_type, struct_types, variant_types};
+ghost use Rattle.model.specs.sites.Serves.{term_results};
 ghost use Rattle.model.specs.sites.Sites.{layer, unfold_site, unfolded};
 ghost use Rattle.code_model.specs.SiteTypes.{field_type, is_copied_at, one_type, or_no_types, types_at};
 ghost use Rattle.code_model.specs.TreeCode.{place_of};
@@ -55,7 +55,7 @@ pub(crate) enum SiteTypes {
 
 // Whether a type is an enum or a struct.
 fn is_composed(tyenv: &TypeEnv, ty: TypeId) -> bool
-    ensures { result ≡ is_type_with_parts (slice_get (type_views tyenv.now.types.items) ty.0) }
+    ensures { result ≡ is_composed_type (slice_get (type_views tyenv.now.types.items) ty.0) }
 {
     match tyenv.types.get(ty.index()) {
         Some(Type::Enum { .. }) => true,

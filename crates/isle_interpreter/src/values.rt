@@ -15,7 +15,7 @@ use std::alloc::{AllocError, Global};
 pub enum Value {
     /// A truth value.
     Truth(bool),
-    /// A value of a built-in integer type or of a primitive type.
+    /// A value of a built-in integer type or of a primitive type, or one of an extern enum that is of none of its variants.
     Atom(TypeId, i128),
     /// A variant with its fields, in order.
     Variant(TypeId, VariantId, Vec<Value>),

@@ -170,7 +170,7 @@ first_begins o c cs = elim (cases_Bool (c == 40)) [
     is : (d : ℕ) → Begins o (first_piece o d cs) (d ∷ cs) → (c == d) ≡ true → Begins o (first_piece o c cs) (c ∷ cs)
     is d h e = subst (λ x. Begins o (first_piece o x cs) (x ∷ cs)) (sym (eqb-true c d e)) h
 
-divided_from : (most o : ℕ) (text : List ℕ) → length text ≤ most → AreIn o text (pieces_from most o text)
+pub divided_from : (most o : ℕ) (text : List ℕ) → length text ≤ most → AreIn o text (pieces_from most o text)
 divided_from most o [] h = refl
 divided_from zero o (c ∷ cs) h = absurd (omega (arith, h))
 divided_from (suc most) o (c ∷ cs) h =

@@ -24,3 +24,6 @@ pub mod Definitions
 pub mod LetViews
 pub mod FlagViews
 pub mod Examples
+pub mod Chunks
+pub mod Recovering
+pub mod RecoveryViews

@@ -34,8 +34,8 @@ pub fn definitions(at: Source, forms: &[Form]) -> Result<Vec<Def>, ReadFault>
     Ok(defs)
 }
 
-// The definition that a form is.
-fn definition(at: Source, form: &Form) -> Result<Def, ReadFault>
+/// The definition that a form is.
+pub fn definition(at: Source, form: &Form) -> Result<Def, ReadFault>
     requires { FormIsWithin at.file at.len form.now }
     ensures read { Gives definition_view result (definition_of (form_view form.now)) }
     ensures within { MatchResult result (λ d. DefinitionIsWithin at.file at.len (definition_view d)) (FaultIsWithin at.file at.len) }

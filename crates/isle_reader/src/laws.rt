@@ -1,15 +1,17 @@
 //! What holds of the notation, whatever reads it.
 
-ghost use Rattle.std.specs.Prelude.{◌≡◌, ◌++◌, ℕ, List, [], Err, Ok, ◌⊎◌};
+ghost use Rattle.std.specs.Prelude.{◌≡◌, ◌+◌, ◌++◌, ℕ, List, [], Err, Ok, true, ◌⊎◌};
 ghost use Rattle.std.specs.Str.{IsUtf8};
 ghost use Rattle.model.specs.lists.Syntax.{Definition, Position};
 ghost use Rattle.isle_reader.specs.declared.errors.Mistake.TheVariants.{CommentEnd};
+ghost use Rattle.isle_reader.specs.Chunks.{EndsLine, begins, chunks_at};
 ghost use Rattle.isle_reader.specs.Definitions.{IsOfDefinitions, IsOfLists, IsOfTokens, Spells, forms_in, reading, tokens_in};
 ghost use Rattle.isle_reader.specs.Examples.{SkippedAreRead, IntegersAreRead, NamesAreRead, ConstantsAreRead, PrimitivesAreRead, EnumerationsAreRead, StructuresAreRead, DeclarationsAreRead, RulesAreRead, ExtractorsAreRead, ExternalConstructorsAreRead, ExternalExtractorsAreRead, ExternalConstantsAreRead, ConversionsAreRead, OthersAreRead, VariantsAreRead, FieldsAreRead, PatternsAreRead, StatementsAreRead, ExpressionsAreRead};
 ghost use Rattle.isle_reader.specs.FormTrees.{FormTrees, all_spelled};
 ghost use Rattle.isle_reader.specs.Lexemes.{Wrong, expected, unclosed};
 ghost use Rattle.isle_reader.specs.Lexing.{Tokens, between, reached, run, tokens_after};
-ghost use Rattle.isle_reader.specs.Pieces.{AreIn, Piece, pieces_of};
+ghost use Rattle.isle_reader.specs.Pieces.{AreIn, Piece, pieces_of, size};
+ghost use Rattle.isle_reader.specs.Recovering.{beside, of_parts, recovering};
 ghost use Rattle.isle_reader.specs.Solid.{solid, stripped};
 
 /// A text has one list of pieces.
@@ -62,6 +64,19 @@ pub fn unended_lists_can_be_ended()
 pub fn unended_comments_can_be_ended()
     ensures { (file : ℕ) (text : List ℕ) (place : Position) → IsUtf8 text → reading file text ≡ Err (expected CommentEnd, place)
         → (more : List ℕ) × (ts : Tokens) × IsUtf8 (text ++ more) × (tokens_in file (text ++ more) ≡ Ok ts) }
+{}
+
+/// Of a text that is read nothing else is recovered; and a text where nothing is wrong is read.
+pub fn read_texts_are_recovered()
+    ensures read { (file : ℕ) (text : List ℕ) (ds : List Definition) → reading file text ≡ Ok ds → recovering file text ≡ record { definitions = ds; mistakes = [] } }
+    ensures fine { (file : ℕ) (text : List ℕ) → IsUtf8 text → (recovering file text).mistakes ≡ [] → reading file text ≡ Ok (recovering file text).definitions }
+{}
+
+/// What begins in the first column is read apart: what stands before it gives what it gives alone, and it gives what it gives
+/// alone at that offset.
+pub fn chunks_are_read_apart()
+    ensures { (file offset : ℕ) (front rest : List ℕ) → EndsLine front → begins rest ≡ true
+        → of_parts file (chunks_at offset (front ++ rest)) ≡ beside (of_parts file (chunks_at offset front)) (of_parts file (chunks_at (offset + size front) rest)) }
 {}
 
 /// Each row of the grammar of docs/NOTATION.md has a text that is read as it says.

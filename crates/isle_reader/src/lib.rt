@@ -4,6 +4,7 @@
 //! to definitions. A position is the file's number and the offset of a byte.
 #![tactic(auto)]
 
+pub mod chunks;
 mod definitions;
 pub mod errors;
 mod expressions;
@@ -14,6 +15,7 @@ pub mod lists;
 pub mod numbers;
 pub mod parts;
 mod patterns;
+pub mod recovery;
 mod rules;
 pub mod source;
 mod terms;

@@ -1,6 +1,6 @@
 //! Characters to tokens: parentheses, words, numbers, constants, and names that `@` binds. Comments and white space part them.
 
-ghost use Rattle.std.specs.Prelude.{◌≡◌, List, [], ◌∷◌, ◌++◌, length, Ok, option_map, slice_index, ◌==◌, IfSome, MatchResult, OnOk};
+ghost use Rattle.std.specs.Prelude.{◌≡◌, ◌+◌, List, [], ◌∷◌, ◌++◌, length, Ok, option_map, slice_index, ◌==◌, IfSome, MatchResult, OnOk};
 ghost use Rattle.std.specs.Str.{chars};
 ghost use Rattle.std.specs.Char.{encode_utf8};
 ghost use Rattle.model.specs.lists.Syntax.{Name};
@@ -77,6 +77,30 @@ fn read_all(at: Source, text: &str) -> Result<Vec<Token>, ReadFault>
         let pos = Pos {
             file: at.file,
             offset,
+        };
+        match next(at, state, pos, c, &mut tokens) {
+            Ok(after) => state = after,
+            Err(fault) => return Err(fault),
+        }
+    }
+    match finish(at, state, &mut tokens) {
+        Ok(()) => Ok(tokens),
+        Err(fault) => Err(fault),
+    }
+}
+
+/// The tokens of a part of a text that ends where reading ends: what its characters give, or the first mistake among them.
+pub fn tokens_from(at: Source, begin: usize, part: &str) -> Result<Vec<Token>, ReadFault>
+    requires len { begin + length part.now ≡ at.len }
+    ensures read { Gives (λ ts. token_views ts.items) result (run at.file at.len between begin (chars part.now) []) }
+    ensures within { MatchResult result (λ ts. TokensAreWithin at.file at.len ts.items) (FaultIsWithin at.file at.len) }
+{
+    let mut tokens = Vec::new(at.alloc);
+    let mut state = State::Between;
+    for (index, c) in part.char_indices() {
+        let pos = Pos {
+            file: at.file,
+            offset: begin + index,
         };
         match next(at, state, pos, c, &mut tokens) {
             Ok(after) => state = after,

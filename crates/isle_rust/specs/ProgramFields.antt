@@ -1,7 +1,8 @@
 -- What is looked up in the tables of a program.
 use Rattle.std.specs.Prelude.{ℕ, Bool, false, List, [], ◌∷◌, Option, Some, None, slice_get}
 use Rattle.model.specs.lists.Tables.{FieldEntries, unit_entries, TermKindEntry, variant_term, struct_term, declared_term, TermEntry}
-use Rattle.model.specs.sites.Serves.{is_type_with_parts, term_args, term_results}
+use Rattle.model.specs.rules.Values.{is_composed_type}
+use Rattle.model.specs.sites.Serves.{term_args, term_results}
 use Rattle.code_text.specs.Tokens.{Owner}
 use Rattle.code_text.specs.Notation.{Callee, extractor_of, constructor_of}
 use Rattle.code_text.specs.ProgramNotation.{fields_in, type_of_owner}
@@ -12,7 +13,7 @@ use Rattle.isle_types.specs.TypeViews.{fields_view, type_views}
 -- a type that is there, and an enum or a struct
 abbrev pub composed_in : TypeEnv → Option ℕ → Bool
 composed_in tyenv None = false
-composed_in tyenv (Some ty) = is_type_with_parts (slice_get (type_views tyenv.types.items) ty)
+composed_in tyenv (Some ty) = is_composed_type (slice_get (type_views tyenv.types.items) ty)
 
 abbrev pub fields_seen : Option Fields → FieldEntries
 fields_seen None = unit_entries

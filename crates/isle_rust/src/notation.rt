@@ -2,7 +2,8 @@
 
 ghost use Rattle.std.specs.Prelude.{◌≡◌, map, option_map, slice_get};
 ghost use Rattle.model.specs.rules.Values.{field_types};
-ghost use Rattle.model.specs.sites.Serves.{is_type_with_parts, term_args, term_results};
+ghost use Rattle.model.specs.rules.Values.{is_composed_type};
+ghost use Rattle.model.specs.sites.Serves.{term_args, term_results};
 ghost use Rattle.code_text.specs.Tokens.{struct_owner, variant_owner};
 ghost use Rattle.code_text.specs.Pieces as Pieces;
 ghost use Rattle.code_text.specs.Pieces.{result_ends};
@@ -122,7 +123,7 @@ fn ends_function(gives: ReturnKind) -> bool
 
 // Whether a type is an enum or a struct.
 fn is_composed(tyenv: &TypeEnv, ty: TypeId) -> bool
-    ensures { result ≡ is_type_with_parts (slice_get (type_views tyenv.now.types.items) ty.0) }
+    ensures { result ≡ is_composed_type (slice_get (type_views tyenv.now.types.items) ty.0) }
 {
     match tyenv.types.get(ty.index()) {
         Some(Type::Enum { .. }) => true,

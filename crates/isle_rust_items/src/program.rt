@@ -2,9 +2,9 @@
 
 ghost use Rattle.std.specs.Prelude.{◌≡◌, ◌++◌, OnOk, slice_get, string_bytes};
 ghost use Rattle.cranelift_isle.specs.Envs.{names_of};
-ghost use Rattle.cranelift_isle.specs.Serves.{is_type_with_parts};
 ghost use Rattle.cranelift_isle.specs.SyntaxViews.{position};
 ghost use Rattle.cranelift_isle.specs.TypeViews.{type_views};
+ghost use Rattle.cranelift_isle.specs.Values.{is_composed_type};
 ghost use Rattle.isle_rust_names.specs.RustNames.{quoted};
 ghost use Rattle.isle_rust_items.specs.FilePlaces.{place_written};
 ghost use Rattle.isle_rust_items.specs.LineViews.{lines_view};
@@ -32,7 +32,7 @@ pub const ALLOWED: &str = "#[allow(warnings)]\n";
 impl<'a> Program<'a> {
     /// Whether the values of a type are composed: those of enums and structs. Only these are passed by reference.
     pub fn is_composed(self, id: TypeId) -> bool
-        ensures { result ≡ is_type_with_parts (slice_get (type_views self.entry.tyenv.now.types.items) id.0) }
+        ensures { result ≡ is_composed_type (slice_get (type_views self.entry.tyenv.now.types.items) id.0) }
     {
         matches!(
             self.tyenv.types.get(id.index()),

@@ -11,7 +11,7 @@ use isle_diagnostics::names::Names;
 use isle_printing::report::Report;
 use std::alloc::{AllocError, Global};
 
-/// Adds a warning for each pattern of a definition that names a constant of an enum or struct type.
+/// Adds a warning for each pattern of a definition that names a constant of a struct type, or of an enum type with variants.
 pub(crate) fn add_named(
     alloc: Global,
     reports: &mut Vec<Report>,
@@ -73,7 +73,7 @@ fn add_in_patterns(
     Ok(())
 }
 
-// Adds a warning if a constant's type is an enum or a struct.
+// Adds a warning if a constant's type is a struct, or an enum with variants.
 fn add_constant(
     alloc: Global,
     reports: &mut Vec<Report>,
@@ -104,11 +104,12 @@ fn add_constant(
     Ok(())
 }
 
-// Whether the type of a constant is an enum or a struct.
+// Whether the type of a constant is a struct, or an enum with variants: what patterns take apart.
 fn has_form(lowered: &Lowered, name: &Ident) -> bool {
     match lowered.tyenv.intern(name) {
         Some(name) => match type_of(lowered, name) {
-            Some(Type::Enum { .. } | Type::Struct { .. }) => true,
+            Some(Type::Enum { variants, .. }) => variants.len() > 0,
+            Some(Type::Struct { .. }) => true,
             Some(Type::Builtin(_) | Type::Primitive(..)) | None => false,
         },
         None => false,

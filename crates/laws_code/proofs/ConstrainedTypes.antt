@@ -1,7 +1,7 @@
 -- A rule that hangs together constrains sites by their types: to variants and structs of the site's type, and to constants of it. So
--- built sets do, where no pattern names a constant with parts.
-use Rattle.std.proofs.Common.{◌≡◌, ◌⊎◌, ◌&&◌, ℕ, zero, suc, ◌+◌, ◌==◌, Bool, true, false, not, List, [], ◌∷◌, Option, Some, None, is_some, slice_get, Contains, refl, sym, ap, subst, ◌∙◌, inl, inr, eqb-true, eq-eqb, arith}
-use Rattle.std.proofs.lemmas.Bool.{cases_Bool, cond-true, cond-false, false≢true}
+-- built sets do.
+use Rattle.std.proofs.Common.{◌≡◌, ◌⊎◌, ◌&&◌, ℕ, ℤ, zero, suc, ◌+◌, ◌==◌, Bool, true, false, not, List, [], ◌∷◌, Option, Some, None, is_some, slice_get, Contains, refl, sym, ap, subst, ◌∙◌, inl, inr, eqb-true, eq-eqb, arith}
+use Rattle.std.proofs.lemmas.Bool.{and_parts, cases_Bool, cond-true, cond-false, false≢true}
 use Rattle.model.specs.lists.Tables.{TypeEntry, builtin_type, primitive_type, enum_type, struct_type, TermEntry}
 use Rattle.model.specs.lists.Ranges.{is_literal_of}
 use Rattle.model.specs.lists.Setting.{bool_type, expr_type}
@@ -9,9 +9,9 @@ use Rattle.model.specs.lists.Formed.{pattern_type, var_type, is_type, formed_pat
 use Rattle.model.specs.rules.Meaning.{look}
 use Rattle.model.specs.rules.Program.{Program, Kind, a_variant, a_struct, a_call, unknown, kind, kind_of, arg_types, rules_of}
 use Rattle.model.specs.rules.Typed.{TypedPattern, match_bind, match_var, match_bool, match_int, match_prim, match_term, match_any, match_and, TypedPatterns, no_typed_pattern, typed_pattern_and, TypedExpr, make_term, make_var, make_bool, make_int, make_prim, make_let, TypedLets, no_typed_let, typed_let_and, TypedIfLet, TypedRule}
-use Rattle.model.specs.rules.Values.{variant_types, struct_types}
+use Rattle.model.specs.rules.Values.{is_atom_type, is_composed_type, variant_types, struct_types}
 use Rattle.model.specs.sites.Closure.{Joined, given, itself, turned, chained, at_field}
-use Rattle.model.specs.sites.Serves.{constant_type, is_type_with_parts, term_args, term_results}
+use Rattle.model.specs.sites.Serves.{constant_type, term_args, term_results}
 use Rattle.model.specs.sites.Sites.{Constraint, is_variant, is_struct, is_bool, is_int, is_prim, is_present, SiteTerm, argument, extractor_call, constructor_call, pick_of, variant_field, struct_field, some_part, SiteTerms, fields_from, field_terms, unfold_site}
 use Rattle.model.specs.sites.Overlap.{BuiltRule, built_rule}
 use Rattle.model.specs.sites.RuleSets.{IsRuleOf}
@@ -31,26 +31,36 @@ use Rattle.laws_visits.proofs.WithTypes.{Facts, AtEachTyped, all_fields_each, ou
 use Rattle.laws_closure.proofs.Closing.{closing_is_sound_lem}
 use Rattle.laws_closure.proofs.built.BuiltGates.{set_rule, WasBuilt, was_built}
 use Rattle.laws_closure.proofs.built.BuiltSets.{BuiltSet, RuleOfSet, of_term}
-use Rattle.laws_matching.proofs.Shapes.{literal_without_parts}
 use Rattle.code_model.specs.Modes.{pattern_typed}
 use Rattle.code_model.specs.SiteTypes.{one_type, field_type, types_at, is_composed, are_copied}
-use Rattle.laws_code.specs.TypedTrees.{ConstrainsByTypes, NamesConstantsWithoutParts, BuiltSetsConstrainByTypes}
+use Rattle.laws_code.specs.TypedTrees.{ConstrainsByTypes, BuiltSetsConstrainByTypes}
 use Rattle.laws_code.proofs.TypedSets.{field_of_type, shaped_types, uses_of, demands_shaped}
 
--- 1. types with parts
-has_variants : (o : Option TypeEntry) (i : ℕ) (tys : List ℕ) → variant_types o i ≡ Some tys → is_type_with_parts o ≡ true
+-- 1. enums and structs
+has_variants : (o : Option TypeEntry) (i : ℕ) (tys : List ℕ) → variant_types o i ≡ Some tys → is_composed_type o ≡ true
 has_variants (Some (enum_type name id a b vs at)) i tys e = refl
 has_variants (Some (builtin_type n)) i tys e = absurd (none_some tys e)
 has_variants (Some (primitive_type id name at)) i tys e = absurd (none_some tys e)
 has_variants (Some (struct_type name id a b fs at)) i tys e = absurd (none_some tys e)
 has_variants None i tys e = absurd (none_some tys e)
 
-has_fields : (o : Option TypeEntry) (tys : List ℕ) → struct_types o ≡ Some tys → is_type_with_parts o ≡ true
+has_fields : (o : Option TypeEntry) (tys : List ℕ) → struct_types o ≡ Some tys → is_composed_type o ≡ true
 has_fields (Some (struct_type name id a b fs at)) tys e = refl
 has_fields (Some (builtin_type n)) tys e = absurd (none_some tys e)
 has_fields (Some (primitive_type id name at)) tys e = absurd (none_some tys e)
 has_fields (Some (enum_type name id a b vs at)) tys e = absurd (none_some tys e)
 has_fields None tys e = absurd (none_some tys e)
+
+-- a type of literals is neither
+literals_plain : (o : Option TypeEntry) → is_atom_type o ≡ true → is_composed_type o ≡ false
+literals_plain None h = refl
+literals_plain (Some (builtin_type n)) h = refl
+literals_plain (Some (primitive_type id name at)) h = refl
+literals_plain (Some (enum_type name id a b vs at)) h = absurd (false≢true h)
+literals_plain (Some (struct_type name id a b fs at)) h = absurd (false≢true h)
+
+literal_plain : (o : Option TypeEntry) (z : ℤ) → is_literal_of o z ≡ true → is_composed_type o ≡ false
+literal_plain o z h = literals_plain o (and_parts (is_atom_type o) _ h).0
 
 module _ (p : Program) (args : List ℕ) (well : IsWellTypedProgram p) where
   abbrev T : SiteTerm → List ℕ
@@ -165,7 +175,7 @@ module _ (p : Program) (args : List ℕ) (well : IsWellTypedProgram p) where
 
   -- 4. patterns
   bool_plain : (ty : ℕ) → (ty == bool_type) ≡ true → is_composed p ty ≡ false
-  bool_plain ty h = ap (is_composed p) (eqb-true ty bool_type h) ∙ ap is_type_with_parts well.types.first
+  bool_plain ty h = ap (is_composed p) (eqb-true ty bool_type h) ∙ ap is_composed_type well.types.first
 
   mutual
     pattern_after : (q : TypedPattern) (s : SiteTerm) (v : Visit) (vars more : List (ℕ × ℕ)) → formed_pattern p q vars ≡ Some more → OfType s (pattern_type q) → Fit v.demands → OfTypes vars v
@@ -184,7 +194,7 @@ module _ (p : Program) (args : List ℕ) (well : IsWellTypedProgram p) where
         let a = from_if (ty == bool_type) (Some vars) more e in no_new_variable v (asking s (is_bool b ty) v) vars more a.1 refl (asked_fits s (is_bool b ty) v (h, bool_plain ty a.0) g) d
     pattern_after (match_int ty z) s v vars more e h g d =
         let a = from_if (is_literal_of (slice_get p.types ty) z) (Some vars) more e in
-        no_new_variable v (asking s (is_int z ty) v) vars more a.1 refl (asked_fits s (is_int z ty) v (h, literal_without_parts (slice_get p.types ty) z a.0) g) d
+        no_new_variable v (asking s (is_int z ty) v) vars more a.1 refl (asked_fits s (is_int z ty) v (h, literal_plain (slice_get p.types ty) z a.0) g) d
     pattern_after (match_prim ty name) s v vars more e h g d =
         let a = from_if (is_type (constant_type p name) ty) (Some vars) more e in
         no_new_variable v (asking s (is_prim name) v) vars more a.1 refl (asked_fits s (is_prim name) v (ty, h, type_is (constant_type p name) ty a.0) g) d
@@ -316,7 +326,7 @@ module _ (p : Program) (args : List ℕ) (well : IsWellTypedProgram p) where
   joined_alike d h (chained j k) = joined_alike d h j ∙ joined_alike d h k
   joined_alike d h (at_field {a = a} {b = b} {x = x} {y = y} {k = k} i j l n e f) = field_alike a b k i x y (joined_alike d h j) e f
 
-  -- 8. so a constraint that fits is one by types, where no constant has parts
+  -- 8. so a constraint that fits is one by types
   copied_of : (s : SiteTerm) (ty : ℕ) (c : Bool) → OfType s ty → is_composed p ty ≡ c → are_copied p (T s) ≡ not c
   copied_of s ty c h e = ap (are_copied p) h ∙ ap (λ b. not b && true) e ∙ last c
     where
@@ -324,16 +334,16 @@ module _ (p : Program) (args : List ℕ) (well : IsWellTypedProgram p) where
       last true = refl
       last false = refl
 
-  fits_by_type : (s : SiteTerm) (c : Constraint) → Fits s c → ((name ty : ℕ) → c ≡ is_prim name → constant_type p name ≡ Some ty → is_composed p ty ≡ false) → pattern_typed c (are_copied p (T s)) ≡ true
-  fits_by_type s (is_variant ty i n) f plain = ap not (copied_of s ty true f.0 f.1)
-  fits_by_type s (is_struct ty n) f plain = ap not (copied_of s ty true f.0 f.1)
-  fits_by_type s (is_bool b ty) f plain = copied_of s ty false f.0 f.1
-  fits_by_type s (is_int z ty) f plain = copied_of s ty false f.0 f.1
-  fits_by_type s (is_prim name) f plain = copied_of s f.0 false f.1 (plain name f.0 refl f.2)
-  fits_by_type s is_present f plain = refl
+  fits_by_type : (s : SiteTerm) (c : Constraint) → Fits s c → pattern_typed c (are_copied p (T s)) ≡ true
+  fits_by_type s (is_variant ty i n) f = ap not (copied_of s ty true f.0 f.1)
+  fits_by_type s (is_struct ty n) f = ap not (copied_of s ty true f.0 f.1)
+  fits_by_type s (is_bool b ty) f = copied_of s ty false f.0 f.1
+  fits_by_type s (is_int z ty) f = copied_of s ty false f.0 f.1
+  fits_by_type s (is_prim name) f = refl
+  fits_by_type s is_present f = refl
 
 -- 9. sets
-module _ (b : BuiltSet) (h : IsWellTypedProgram b.program) (plain : NamesConstantsWithoutParts b.program (rules_of b.program b.term)) where
+module _ (b : BuiltSet) (h : IsWellTypedProgram b.program) where
   abbrev q : Program
   q = b.program
 
@@ -353,7 +363,7 @@ module _ (b : BuiltSet) (h : IsWellTypedProgram b.program) (plain : NamesConstan
       let fit = rule_fits q own_args h w.rule (h.rules w.rule of.0).formed (ap (arg_types q) of.1) (x.source, c) (in_from_contains d.constraints (x.source, c) x.asked) in
       let same = joined_alike q own_args h d equal_types x.joined in
       ap (λ l. pattern_typed c (are_copied q l)) (sym same)
-      ∙ fits_by_type q own_args h x.source c fit (λ name ty e k. plain w.rule x.source name ty listed (subst (λ y. Contains d.constraints (x.source, y)) e x.asked) k)
+      ∙ fits_by_type q own_args h x.source c fit
     where
       here : RuleOfSet b
       here = set_rule b r (in_from_contains b.set.rules r i)
@@ -377,4 +387,4 @@ module _ (b : BuiltSet) (h : IsWellTypedProgram b.program) (plain : NamesConstan
           shaped_types q uses x.0 e.1 ∙ sym (shaped_types q uses x.1 e.2)
 
 pub built_sets_constrain_by_types_lem : BuiltSetsConstrainByTypes
-built_sets_constrain_by_types_lem p t set h built plain = constrained_by_type (record { program = p; term = t; set = set; built = built }) h plain
+built_sets_constrain_by_types_lem p t set h built = constrained_by_type (record { program = p; term = t; set = set; built = built }) h

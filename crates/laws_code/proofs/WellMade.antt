@@ -17,7 +17,7 @@ use Rattle.code_model.specs.SiteTypes.{types_of}
 use Rattle.laws_code.specs.CodeChoices.{CollectsUpTo, MeansItsSource, CodeChoosesAsSource}
 use Rattle.laws_code.specs.CodeScopes.{CodeOfAcceptedIsScoped}
 use Rattle.laws_code.specs.CodeMoves.{CodeOfAcceptedTakesOnce}
-use Rattle.laws_code.specs.TypedTrees.{TypedSetsHaveTypedTrees, BuiltSetsAreTyped, BuiltSetsConstrainByTypes, CodeOfAcceptedIsWellMade, CodeWithoutSuchConstantsIsWellMade}
+use Rattle.laws_code.specs.TypedTrees.{TypedSetsHaveTypedTrees, BuiltSetsAreTyped, BuiltSetsConstrainByTypes, CodeOfAcceptedIsWellMade, CodeOfEachTermIsWellMade}
 
 -- what runs the same means the same
 pub means_same : (p : Program) (l : LoweredTerm) (a b : Block) → ((w : World) (most : Option ℕ) → code_run a w most ≡ code_run b w most) → MeansItsSource p l a → MeansItsSource p l b
@@ -62,6 +62,6 @@ code_of_accepted_is_well_made_lem laws defs expand rules l accepted built best b
       means = means_same p l code _ (λ w most. ap outcome_of (sym (same.runs w most [] at_start))) (laws.means defs expand rules l accepted built best passes deep n);
     }
 
-pub code_without_such_constants_is_well_made_lem : BuiltSetsConstrainByTypes → CodeOfAcceptedIsWellMade → CodeWithoutSuchConstantsIsWellMade
-code_without_such_constants_is_well_made_lem constrained code defs expand rules l accepted built best plain =
-    code defs expand rules l accepted built best (constrained (own_program defs rules) l.term l.set (read_programs_are_well_typed accepted.read) built plain)
+pub code_of_each_term_is_well_made_lem : BuiltSetsConstrainByTypes → CodeOfAcceptedIsWellMade → CodeOfEachTermIsWellMade
+code_of_each_term_is_well_made_lem constrained code defs expand rules l accepted built best =
+    code defs expand rules l accepted built best (constrained (own_program defs rules) l.term l.set (read_programs_are_well_typed accepted.read) built)

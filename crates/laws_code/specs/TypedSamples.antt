@@ -2,11 +2,10 @@
 -- the enum, named 7, and one of numbers, named 8.
 use Rattle.std.specs.Prelude.{◌∷◌, [], ℕ, pos, None}
 use Rattle.model.specs.rules.Program.{Program}
-use Rattle.model.specs.rules.Typed.{match_prim, make_prim, TypedRule}
 use Rattle.model.specs.sites.Sites.{Constraint, is_int, is_prim, SetRule, SiteSet}
 use Rattle.code_model.specs.Samples.{somewhere, sites, is_a}
 use Rattle.code_model.specs.TypeSamples.{program}
-use Rattle.laws_code.specs.TypedTrees.{ConstrainsByTypes, NamesConstantsWithoutParts}
+use Rattle.laws_code.specs.TypedTrees.{ConstrainsByTypes}
 
 abbrev pub with_constants : Program
 with_constants = record program { constants = (7, 1) ∷ ((8, 2) ∷ []) }
@@ -27,29 +26,12 @@ a_rule s c = record {
 abbrev pub asks : ℕ → Constraint → SiteSet
 asks s c = record { rules = a_rule s c ∷ []; sites = sites }
 
--- (rule (f $NAME) $NAME), with the constant's type. That it is the type of f's argument isn't asked here
-abbrev pub names : ℕ → ℕ → TypedRule
-names name ty = record {
-  id = 0;
-  root_term = 0;
-  args = match_prim ty name ∷ [];
-  iflets = [];
-  rhs = make_prim ty name;
-  vars = [];
-  prio = pos 0;
-  at = somewhere;
-  name = None;
-}
-
 -- of the argument, an E, or of its field x, a number
 pub record ConstraintsAreJudged : Type 0 where
   pub a_variant : ConstrainsByTypes with_constants 0 (asks 0 is_a)
   pub a_literal : ConstrainsByTypes with_constants 0 (asks 1 (is_int (pos 5) 2))
   pub a_named_number : ConstrainsByTypes with_constants 0 (asks 1 (is_prim 8))
-  -- a pattern that names a constant of the enum
-  pub a_named_enum : ConstrainsByTypes with_constants 0 (asks 0 (is_prim 7)) → ⊥
-  -- no rule that is well typed asks a number to be a variant
+  pub a_named_enum : ConstrainsByTypes with_constants 0 (asks 0 (is_prim 7))
+  -- no rule that is well typed asks a number to be a variant, or an enum to be a number
   pub a_variant_of_numbers : ConstrainsByTypes with_constants 0 (asks 1 is_a) → ⊥
-  -- of such constants in patterns one is without parts
-  pub names_number : NamesConstantsWithoutParts with_constants (names 8 2 ∷ [])
-  pub names_enum : NamesConstantsWithoutParts with_constants (names 7 1 ∷ []) → ⊥
+  pub a_literal_of_the_enum : ConstrainsByTypes with_constants 0 (asks 0 (is_int (pos 5) 2)) → ⊥

@@ -1,11 +1,8 @@
--- The types of accepted definitions make the trees of their terms typed, where constraints are of their sites' types: that is, where
--- no pattern names a constant of an enum or struct type. So their code is well made.
-use Rattle.std.specs.Prelude.{◌≡◌, ℕ, Bool, true, false, List, Some, slice_get, Contains}
-use Rattle.model.specs.rules.Program.{Program, arg_types, is_multi, rules_of}
-use Rattle.model.specs.rules.Typed.{TypedRule}
-use Rattle.model.specs.sites.Serves.{constant_type, is_type_with_parts}
-use Rattle.model.specs.sites.Sites.{Constraint, is_prim, SetRule, SiteSet, SiteTerm, unfold_site}
-use Rattle.model.specs.visits.Demands.{demands_of}
+-- The types of accepted definitions make the trees of their terms typed, since constraints are of their sites' types. So their code is
+-- well made.
+use Rattle.std.specs.Prelude.{◌≡◌, ℕ, Bool, true, Contains}
+use Rattle.model.specs.rules.Program.{Program, arg_types, is_multi}
+use Rattle.model.specs.sites.Sites.{Constraint, SetRule, SiteSet, unfold_site}
 use Rattle.model.specs.trees.Trees.{Tree}
 use Rattle.model.specs.trees.Best.{IsBestTree}
 use Rattle.model.specs.claims.Layers.{LoweredTerm}
@@ -25,24 +22,17 @@ use Rattle.laws_code.specs.CodeChoices.{MeansItsSource}
 abbrev pub TypedSetsHaveTypedTrees : Type 0
 TypedSetsHaveTypedTrees = (types : Types) (set : SiteSet) (tree : Tree) → IsTypedSet types set → IsBestTree set tree → tree_typed types set.sites tree ≡ true
 
--- rules constrain to variants and structs what has an enum or a struct in it, and to constants what hasn't. It is false where a
--- pattern of one of them names a constant of an enum or struct type, of which `isle check` warns
+-- rules constrain to variants and structs what has an enum or a struct in it, and to literals what hasn't
 abbrev pub ConstrainsByTypes : Program → ℕ → SiteSet → Type 0
 ConstrainsByTypes p t set =
     (r : SetRule) (s : ℕ) (c : Constraint) → Contains set.rules r → Contains r.constraints (s, c)
     → pattern_typed c (are_copied p (types_at p (arg_types p t) (unfold_site set.sites s))) ≡ true
 
--- no pattern of these rules names such a constant. That a meaning tells constants apart (`TellsConstantsApart`) asks this too
-abbrev pub NamesConstantsWithoutParts : Program → List TypedRule → Type 0
-NamesConstantsWithoutParts p rs =
-    (r : TypedRule) (s : SiteTerm) (name ty : ℕ) → Contains rs r → Contains (demands_of p r).constraints (s, is_prim name) → constant_type p name ≡ Some ty
-    → is_type_with_parts (slice_get p.types ty) ≡ false
-
--- then a built set constrains by types
+-- a built set does
 abbrev pub BuiltSetsConstrainByTypes : Type 0
-BuiltSetsConstrainByTypes = OfBuiltSets (λ p t set. NamesConstantsWithoutParts p (rules_of p t) → ConstrainsByTypes p t set)
+BuiltSetsConstrainByTypes = OfBuiltSets ConstrainsByTypes
 
--- a built set is typed
+-- then it is typed
 abbrev pub BuiltSetsAreTyped : Type 0
 BuiltSetsAreTyped = OfBuiltSets (λ p t set. ConstrainsByTypes p t set → IsTypedSet (types_of p (arg_types p t) set.sites) set)
 
@@ -63,7 +53,6 @@ pub record IsWellMade (p : Program) (l : LoweredTerm) (code : Block) : Type 0 wh
 abbrev pub CodeOfAcceptedIsWellMade : Type 0
 CodeOfAcceptedIsWellMade = OfBestTrees (λ p l. ConstrainsByTypes p l.term l.set → (deep : ℕ → Bool) (n : ℕ) → IsWellMade p l (code_by_types p l deep n))
 
--- so the code of each term whose patterns name no constant of an enum or struct type is
-abbrev pub CodeWithoutSuchConstantsIsWellMade : Type 0
-CodeWithoutSuchConstantsIsWellMade =
-    OfBestTrees (λ p l. NamesConstantsWithoutParts p (rules_of p l.term) → (deep : ℕ → Bool) (n : ℕ) → IsWellMade p l (code_by_types p l deep n))
+-- so the code of each term is
+abbrev pub CodeOfEachTermIsWellMade : Type 0
+CodeOfEachTermIsWellMade = OfBestTrees (λ p l. (deep : ℕ → Bool) (n : ℕ) → IsWellMade p l (code_by_types p l deep n))

@@ -9,7 +9,7 @@ ghost use Rattle.laws_code.specs.CodeChoices.{CodeChoosesAsSource, CodeOfLowered
 ghost use Rattle.laws_code.specs.CodeMoves.{CallsAreGoneOverInBuiltSets, CodeOfAcceptedTakesOnce, LoopsTakeOnce};
 ghost use Rattle.laws_code.specs.CodeScopes.{BuiltSetsLoopOverBound, CodeOfAcceptedIsScoped};
 ghost use Rattle.laws_code.specs.TypedSamples.{ConstraintsAreJudged};
-ghost use Rattle.laws_code.specs.TypedTrees.{BuiltSetsAreTyped, BuiltSetsConstrainByTypes, CodeOfAcceptedIsWellMade, CodeWithoutSuchConstantsIsWellMade, TypedSetsHaveTypedTrees};
+ghost use Rattle.laws_code.specs.TypedTrees.{BuiltSetsAreTyped, BuiltSetsConstrainByTypes, CodeOfAcceptedIsWellMade, CodeOfEachTermIsWellMade, TypedSetsHaveTypedTrees};
 
 use code_model::{
     fitting_code_moves_once, passes_by_types_fit, printed_code_is_scoped, printed_code_runs,
@@ -106,14 +106,14 @@ pub fn code_of_accepted_is_well_made()
     code_chooses_as_source();
 }
 
-/// The rules of a built set constrain by types, where no pattern names a constant of an enum or struct type.
+/// The rules of a built set constrain by types.
 pub fn built_sets_constrain_by_types()
     ensures { BuiltSetsConstrainByTypes }
 {}
 
-/// So the code of a term of accepted definitions is well made, where no pattern of its rules names such a constant.
-pub fn code_without_such_constants_is_well_made()
-    ensures { CodeWithoutSuchConstantsIsWellMade }
+/// So the code of each term of accepted definitions is well made.
+pub fn code_of_each_term_is_well_made()
+    ensures { CodeOfEachTermIsWellMade }
 {
     built_sets_constrain_by_types();
     code_of_accepted_is_well_made();
@@ -125,7 +125,7 @@ pub fn bounds_are_kept()
     ensures { BoundsAreKept }
 {}
 
-/// Sets constrain by types, and near ones don't: one that names a constant of an enum in a pattern is such.
+/// Sets constrain by types, and near ones don't: one that asks a number to be a variant, or an enum to be a literal.
 #[tactic(auto, using(crate::proofs::TypedSamples::constraints_are_judged_lem))]
 pub fn constraints_are_judged()
     ensures { ConstraintsAreJudged }

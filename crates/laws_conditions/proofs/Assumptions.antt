@@ -313,6 +313,7 @@ module _ (k : Called) where
   assumed r a typed required h = record {
     arguments = values_typed k (Some (arg_types k.program r.root_term)) (of_list k.args) typed;
     required = required;
+    unknowns = k.denotes.unknowns;
     held = site_held k;
     formed = site_formed k;
     constraints = λ s c i. met s c (h.constraints s c i);

@@ -10,7 +10,9 @@ mod SampleLists
 mod SampleNumbers
 mod SampleOperators
 mod SamplePriorities
+mod SampleUnknowns
 mod SampleUnwraps
+mod SampleWidths
 mod SampleWritten
 mod TotalAnswers
 pub mod Valuations

@@ -133,6 +133,7 @@ argument_assumed provided =
     record {
       arguments = refl;
       required = All-nil (IsSaid no_unknown one_argument None);
+      unknowns = λ g s xs e sorted formed. absurd (none_some s e);
       held = alone_held specs;
       formed = alone_formed;
       constraints = λ s k i. absurd (in_from_contains [] (s, k) i);
@@ -180,6 +181,7 @@ call_assumed : Assumed (adding x x) failing one_argument called
 call_assumed = record {
   arguments = refl;
   required = All-nil (IsSaid no_unknown one_argument None);
+  unknowns = λ g s xs e sorted formed. absurd (none_some s e);
   held = each_held (IsHeldAs failing one_argument called) with_call (record { part = byte 1; there = refl; held = refl }, ((two (byte 1) (byte 1), refl), tt));
   formed = each_held (λ s h. is_told_formed h ≡ true) with_call (refl, (refl, tt));
   constraints = λ s k i. absurd (in_from_contains [] (s, k) i);
@@ -228,6 +230,7 @@ note_assumed : Assumed (noting x) noted one_argument alone
 note_assumed = record {
   arguments = refl;
   required = All-nil (IsSaid no_unknown one_argument None);
+  unknowns = λ g s xs e sorted formed. absurd (none_some s e);
   held = alone_held noted;
   formed = alone_formed;
   constraints = λ s k i. absurd (in_from_contains [] (s, k) i);

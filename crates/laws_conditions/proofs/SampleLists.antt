@@ -63,6 +63,7 @@ alone_assumed : IsAssumed (lists_with x) list_specs (condition (lists_with x) (r
 alone_assumed = record {
   arguments = refl;
   required = All-nil (IsSaid no_unknown one_argument None);
+  unknowns = λ g s xs e sorted formed. absurd (none_some s e);
   held = alone_held list_specs;
   formed = alone_formed;
   constraints = λ s k i. absurd (in_from_contains [] (s, k) i);
@@ -105,6 +106,8 @@ denotes = record {
   formed = λ ty z. byte_formed z;
   sorted = λ ty z s e. byte_sorted ty (word_of 8 z) s e;
   numbers = λ ty z y own e. byte_numbered ty z y e;
+  plain = λ ty z h. refl;
+  unknowns = λ g s xs e sorted formed. absurd (none_some s e);
 }
 
 meets : MeetsSpecs list_specs bytes_as liking_100 []

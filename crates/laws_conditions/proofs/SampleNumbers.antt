@@ -68,6 +68,8 @@ denotes = record {
   formed = λ ty z. byte_formed z;
   sorted = λ ty z s e. byte_sorted ty (word_of 8 z) s e;
   numbers = λ ty z y own e. byte_numbered ty z y e;
+  plain = λ ty z h. refl;
+  unknowns = λ g s xs e sorted formed. absurd (none_some s e);
 }
 
 -- 3. the program

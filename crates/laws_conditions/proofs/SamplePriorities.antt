@@ -30,6 +30,7 @@ wrong_assumed : IsAssumed codes code_specs (condition codes for_others) argument
 wrong_assumed = record {
   arguments = refl;
   required = All-nil (IsSaid no_unknown argument_a None);
+  unknowns = λ g s xs e sorted formed. absurd (none_some s e);
   held = each_held (IsHeldAs code_specs argument_a wrong) wrong_sites (record { part = letter 0; there = refl; held = refl }, ((λ y e. literal_is 20 y e), tt));
   formed = each_held (λ s h. is_told_formed h ≡ true) wrong_sites (refl, (refl, tt));
   constraints = λ s k i. absurd (in_from_contains [] (s, k) i);

@@ -27,6 +27,7 @@ unused_assumed : IsAssumed maybes maybe_specs (condition maybes unused_rule) one
 unused_assumed = record {
   arguments = refl;
   required = All-nil (IsSaid no_unknown one_argument None);
+  unknowns = λ g s xs e sorted formed. absurd (none_some s e);
   held = each_held (IsHeldAs maybe_specs one_argument f) sites (record { part = byte 1; there = refl; held = refl }, ((denoted_and (byte 1) no_denoted, refl), tt));
   formed = each_held (λ s h. is_told_formed h ≡ true) sites (refl, (refl, tt));
   constraints = λ s k i. absurd (in_from_contains [] (s, k) i);

@@ -3,7 +3,7 @@ use Rattle.std.proofs.Common.{◌≡◌, ◌⊎◌, ℕ, ℤ, suc, Bool, true, L
 use Rattle.std.specs.List.{AllByRecursion}
 use Rattle.std.proofs.lemmas.List.Elements.{All-contains, All-from_recursion}
 use Rattle.model.specs.lists.Tables.{builtin_type}
-use Rattle.model.specs.rules.Values.{Value, truth, atom, is_atom_type, well_typed}
+use Rattle.model.specs.rules.Values.{Value, truth, atom, has_atoms, well_typed}
 use Rattle.model.specs.rules.Outcome.{Call}
 use Rattle.model.specs.rules.Program.{Program, rules_of}
 use Rattle.model.specs.sites.Serves.{asked, Serves}
@@ -43,7 +43,7 @@ int_type z ty (inr (y, e)) = cc
 pub written_serves : (p : Program) (t : ℕ) (args : List Value) → slice_get p.types 1 ≡ Some (builtin_type 1) → AllByRecursion IsPlainSite (asked p (rules_of p t)) → Serves p written args (rules_of p t)
 written_serves p t args bytes sites = record {
   bools = λ b ty i. absurd (no_bool b ty (only (bool_term b ty) i));
-  ints = λ z ty i. subst (λ n. well_typed p.types n (atom n z) ≡ true) (int_type z ty (only (int_term z ty) i)) (ap is_atom_type bytes);
+  ints = λ z ty i. subst (λ n. well_typed p.types n (atom n z) ≡ true) (int_type z ty (only (int_term z ty) i)) (ap has_atoms bytes);
   written_bools = λ b ty i. refl;
   written_ints = λ z ty i own. refl;
   prims = λ name i. absurd (no_prim name (only (prim_term name) i));

@@ -1,20 +1,21 @@
 -- What the sites of a run stand for: values, fields, answers and results, by their parts.
-use Rattle.std.proofs.Common.{◌≡◌, ℕ, ℤ, zero, suc, ◌==◌, ◌&&◌, Bool, true, false, List, [], ◌∷◌, Option, Some, None, cond, slice_get, refl, sym, ap, subst, ◌∙◌}
-use Rattle.std.proofs.lemmas.Bool.{and_parts, and_from, false≢true, eqb-true}
+use Rattle.std.proofs.Common.{◌≡◌, ℕ, ℤ, zero, suc, ◌==◌, ◌&&◌, ◌||◌, not, Bool, true, false, List, [], ◌∷◌, Option, Some, None, cond, slice_get, refl, sym, ap, subst, ◌∙◌, inl, inr}
+use Rattle.std.proofs.lemmas.Bool.{and_parts, and_from, cases_Bool, false≢true, eqb-true}
 use Rattle.model.specs.lists.Tables.{TypeEntry}
-use Rattle.model.specs.rules.Values.{Value, truth, atom, of_variant, of_struct, Values, no_value, value_and, listed, of_list, well_typed, all_well_typed, is_truth_type, is_atom_type, variant_types, struct_types}
+use Rattle.model.specs.rules.Values.{Value, truth, atom, of_variant, of_struct, Values, no_value, value_and, listed, of_list, well_typed, all_well_typed, is_truth_type, has_atoms, variant_types, struct_types}
 use Rattle.model.specs.rules.Meaning.{Content, one, parts, nothing, just, many, Meaning, bool_literal, int_literal, literal_value, constant_value, extractor_answer}
 use Rattle.model.specs.rules.Outcome.{Call, then_option}
 use Rattle.model.specs.rules.Program.{Program}
 use Rattle.model.specs.rules.Picks.{Pick, picked, part_of_some, field_of_variant, field_of_struct, call_answer, site_content, site_values}
 use Rattle.model.specs.sites.Sites.{SiteTerm, bool_term, int_term, prim_term, argument, extractor_call, constructor_call, pick_of, variant_made, variant_field, struct_made, struct_field, some_made, some_part, tuple_part, no_site, SiteTerms, no_site_term, site_term_and}
+use Rattle.model.specs.sites.Serves.{is_type_with_parts}
 use Rattle.model.specs.trees.Run.{as_value, from_value, part_at}
 use Rattle.model.proofs.Elements.{or_left, or_right, some_is, none_some}
 use Rattle.model.proofs.Options.{then_some}
 use Rattle.laws_runs.proofs.picks.HeldContents.{is_just}
-use Rattle.laws_conditions.specs.Words.{Denoted, a_truth, an_integer, a_word, variant_of, struct_of, DenotedList, denoted_and, denoted_list, is_formed, are_formed}
+use Rattle.laws_conditions.specs.Words.{Denoted, a_truth, an_integer, a_word, variant_of, struct_of, DenotedList, denoted_and, denoted_list, is_plain, is_formed, are_formed}
 use Rattle.laws_conditions.specs.Specs.{Sort, Specs, sort_of}
-use Rattle.laws_conditions.specs.Conditions.{Told, told, told_many, is_told_formed, as_denoted, denoted_at_each, IsPartHeld, IsHeldAs, is_modelled_as, is_of_atoms, is_of_type, are_of_types}
+use Rattle.laws_conditions.specs.Conditions.{Told, told, told_many, is_told_formed, as_denoted, denoted_at_each, IsPartHeld, IsHeldAs, is_modelled_as, is_atom_as, is_of_atoms, is_of_type, are_of_types}
 use Rattle.laws_conditions.specs.Meets.{Atoms, stands_for, stand_for, content_as, IsDenotation, MeetsSpecs}
 
 -- 1. optional contents
@@ -261,14 +262,20 @@ module _ (k : Called) where
   modelled ty z None e = refl
   modelled ty z (Some s) e = k.denotes.sorted ty z s e
 
+  atom_as : (ty : ℕ) (z : ℤ) → is_atom_as (slice_get types ty) (sort_of k.specs ty) (d ty z) ≡ true
+  atom_as ty z =
+      let parts = is_type_with_parts (slice_get types ty) in
+      and_from (is_modelled_as (sort_of k.specs ty) (d ty z)) (not parts || is_plain (d ty z)) (modelled ty z (sort_of k.specs ty) refl)
+      (elim (cases_Bool parts) [ inl t ↦ or_right (not parts) (is_plain (d ty z)) (k.denotes.plain ty z t) | inr f ↦ or_left (not parts) (is_plain (d ty z)) (ap not f) ])
+
   mutual
     pub value_typed : (ty : ℕ) (v : Value) → well_typed types ty v ≡ true → is_of_type types k.specs ty (stands_for d v) ≡ true
     value_typed ty (truth b) h = or_left (is_truth_type (slice_get types ty) && true) _ (and_from (is_truth_type (slice_get types ty)) true h refl)
     value_typed ty (atom s z) h =
-        let a = and_parts (s == ty) (is_atom_type (slice_get types ty)) h in
+        let a = and_parts (s == ty) (has_atoms (slice_get types ty)) h in
         let same = eqb-true s ty a.0 in
         subst (λ n. is_of_type types k.specs ty (d n z) ≡ true) (sym same)
-        (atoms_typed ty (d ty z) (or_right _ _ (and_from (is_atom_type (slice_get types ty)) (is_modelled_as (sort_of k.specs ty) (d ty z)) a.1 (modelled ty z (sort_of k.specs ty) refl))))
+        (atoms_typed ty (d ty z) (or_right _ _ (and_from (has_atoms (slice_get types ty)) (is_atom_as (slice_get types ty) (sort_of k.specs ty) (d ty z)) a.1 (atom_as ty z))))
     value_typed ty (of_variant s i vs) h =
         let a = and_parts (s == ty) (all_well_typed types (variant_types (slice_get types ty) i) vs) h in
         or_right _ _ (and_from (s == ty) (are_of_types types k.specs (variant_types (slice_get types ty) i) (stand_for d vs)) a.0 (values_typed (variant_types (slice_get types ty) i) vs a.1))

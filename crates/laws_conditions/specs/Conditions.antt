@@ -1,16 +1,16 @@
 -- The condition of a rule: what its sites may hold where it is taken, and what is to be shown of them by the specs.
-use Rattle.std.specs.Prelude.{◌≡◌, ℕ, suc, Bool, true, false, ◌&&◌, ◌||◌, List, [], ◌∷◌, ◌++◌, ◌<ℤ◌, Option, Some, None, slice_get, is_some, Contains, IsTrue}
+use Rattle.std.specs.Prelude.{◌≡◌, ℕ, suc, Bool, true, false, not, ◌&&◌, ◌||◌, List, [], ◌∷◌, ◌++◌, ◌<ℤ◌, Option, Some, None, slice_get, is_some, Contains, IsTrue}
 use Rattle.std.specs.Bool.{◌==◌}
 use Rattle.model.specs.lists.Tables.{TypeEntry}
 use Rattle.model.specs.rules.Outcome.{then_option}
 use Rattle.model.specs.rules.Program.{Program, arg_types, rules_of}
 use Rattle.model.specs.rules.Typed.{TypedRule}
-use Rattle.model.specs.rules.Values.{is_truth_type, is_atom_type, variant_types, struct_types}
+use Rattle.model.specs.rules.Values.{is_truth_type, has_atoms, variant_types, struct_types}
 use Rattle.model.specs.sites.Sites.{Constraint, is_variant, is_struct, is_bool, is_int, is_prim, is_present, SiteTerm, bool_term, int_term, prim_term, argument, extractor_call, constructor_call, pick_of, variant_made, variant_field, struct_made, struct_field, some_made, some_part, tuple_part, no_site, SiteTerms, no_site_term, site_term_and}
-use Rattle.model.specs.sites.Serves.{constant_type, term_args, term_results}
+use Rattle.model.specs.sites.Serves.{constant_type, is_type_with_parts, term_args, term_results}
 use Rattle.model.specs.visits.Demands.{demands_of, result_of}
-use Rattle.laws_conditions.specs.Words.{Denoted, a_truth, variant_of, struct_of, DenotedList, no_denoted, denoted_and, denoted_list, is_formed, are_formed}
-use Rattle.laws_conditions.specs.Specs.{Sort, truths, is_of_sort, Specs, sort_of, constant_of, literal_of, IsRequired, IsProvided}
+use Rattle.laws_conditions.specs.Words.{Denoted, a_truth, variant_of, struct_of, DenotedList, no_denoted, denoted_and, denoted_list, is_plain, is_formed, are_formed}
+use Rattle.laws_conditions.specs.Specs.{Sort, truths, is_of_sort, Specs, sort_of, constant_of, literal_of, IsRequired, IsProvided, AreUnknownsSorted}
 
 -- what a content stands for; the answers of a multi call are told at the sites that pick them
 pub data Told : Type 0 where
@@ -115,13 +115,17 @@ abbrev pub call_of : SiteTerm → SiteTerm
 call_of (some_part s) = s
 call_of s = s
 
--- what a type's values stand for: truths, what its model says, variants and structs of such; where there is no model, anything
+-- what a type's values stand for: truths, what its model says, variants and structs of such; where there is no model, anything.
+-- An atom of a type that has variants too stands for nothing with parts
 abbrev pub is_modelled_as : Option Sort → Denoted → Bool
 is_modelled_as None x = true
 is_modelled_as (Some s) x = is_of_sort s x
 
+abbrev pub is_atom_as : Option TypeEntry → Option Sort → Denoted → Bool
+is_atom_as o s x = is_modelled_as s x && (not (is_type_with_parts o) || is_plain x)
+
 abbrev pub is_of_atoms : List TypeEntry → Specs → ℕ → Denoted → Bool
-is_of_atoms types specs ty x = (is_truth_type (slice_get types ty) && is_of_sort truths x) || (is_atom_type (slice_get types ty) && is_modelled_as (sort_of specs ty) x)
+is_of_atoms types specs ty x = (is_truth_type (slice_get types ty) && is_of_sort truths x) || (has_atoms (slice_get types ty) && is_atom_as (slice_get types ty) (sort_of specs ty) x)
 
 abbrev mutual
   pub is_of_type : List TypeEntry → Specs → ℕ → Denoted → Bool
@@ -166,10 +170,12 @@ condition p r = record {
 
 -- what is assumed: arguments of the term's types under its require; sites stand for what their parts make; words lie below 2 to
 -- their width; what the rule demands is met; and pure calls and extractors answer as their specs say, by
--- values of their types, those that answer lists by each of their answers. Named constants are of their types too
+-- values of their types, those that answer lists by each of their answers. Named constants are of their types too, and what unknown
+-- functions answer is of their sorts
 pub record IsAssumed (p : Program) (specs : Specs) (c : Condition) (args : DenotedList) (f : Valuation) : Type 0 where
   pub arguments : IsTrue (are_of_types p.types specs (Some (arg_types p c.term)) args)
   pub required : IsRequired specs c.term args
+  pub unknowns : AreUnknownsSorted specs
   pub held : (s : SiteTerm) (h : Told) → f s ≡ Some h → IsHeldAs specs args f s h
   pub formed : (s : SiteTerm) (h : Told) → f s ≡ Some h → IsTrue (is_told_formed h)
   pub constraints : (s : SiteTerm) (k : Constraint) → Contains c.constraints (s, k) → IsMetAs specs f s k

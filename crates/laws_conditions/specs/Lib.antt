@@ -13,4 +13,6 @@ pub mod SampleNumbers
 pub mod SampleOperators
 pub mod SamplePriorities
 pub mod TotalLaws
+pub mod SampleUnknowns
 pub mod SampleUnwraps
+pub mod SampleWidths

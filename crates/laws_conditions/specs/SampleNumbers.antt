@@ -47,7 +47,7 @@ numbers = record {
 }
 
 abbrev pub number_specs : Specs
-number_specs = record { models = (1, words 8) ∷ []; constants = []; unknowns = no_unknown; terms = (0, providing (ten_where (byte 5) ∷ [])) ∷ [] }
+number_specs = record { models = (1, words 8) ∷ []; constants = []; unknowns = no_unknown; unknown_sorts = []; terms = (0, providing (ten_where (byte 5) ∷ [])) ∷ [] }
 
 -- the rule above is right; the lower one isn't, also where that one doesn't match: of 261, which stands for 5 too, it gives 20
 abbrev pub NumbersExcludeNothing : Type 0

@@ -3,8 +3,8 @@ use Rattle.std.specs.Prelude.{ℕ, ℤ, pos, true, false, [], ◌∷◌, Some, N
 use Rattle.model.specs.lists.Tables.{VariantEntry, unit_entries, builtin_type, enum_type, TermEntry, variant_term, declared_term, internal_constructor}
 use Rattle.model.specs.rules.Program.{Program}
 use Rattle.model.specs.rules.Typed.{TypedPattern, match_term, match_any, no_typed_pattern, make_int, TypedRule}
-use Rattle.laws_conditions.specs.Words.{Denoted, variant_of, no_denoted, equals, choice_of}
-use Rattle.laws_conditions.specs.Specs.{words, SpecExpr, its_argument, its_result, the_same, operation, spec_expr_and, Specs, no_unknown}
+use Rattle.laws_conditions.specs.Words.{Denoted, variant_of, no_denoted, equals}
+use Rattle.laws_conditions.specs.Specs.{words, SpecExpr, its_argument, its_result, the_same, operation, if_else, Specs, no_unknown}
 use Rattle.laws_conditions.specs.Conditions.{condition, IsValid, IsValidBelow}
 use Rattle.laws_conditions.specs.Samples.{of_two, byte, providing}
 
@@ -59,13 +59,13 @@ letter i = variant_of 2 i no_denoted
 
 -- (= result (if (= a WHAT) 10 20))
 abbrev pub ten_where : Denoted → SpecExpr
-ten_where what = operation equals (of_two its_result (operation choice_of (spec_expr_and (operation equals (of_two (its_argument 0) (the_same what))) (of_two (the_same (byte 10)) (the_same (byte 20))))))
+ten_where what = operation equals (of_two its_result (if_else (operation equals (of_two (its_argument 0) (the_same what))) (the_same (byte 10)) (the_same (byte 20))))
 
 abbrev pub its_code : SpecExpr
 its_code = ten_where (letter 0)
 
 abbrev pub code_specs : Specs
-code_specs = record { models = (1, words 8) ∷ []; constants = []; unknowns = no_unknown; terms = (2, providing (its_code ∷ [])) ∷ [] }
+code_specs = record { models = (1, words 8) ∷ []; constants = []; unknowns = no_unknown; unknown_sorts = []; terms = (2, providing (its_code ∷ [])) ∷ [] }
 
 -- the lower rule alone is wrong of A; below the other one it is right, and so is that one
 abbrev pub PrioritiesCount : Type 0

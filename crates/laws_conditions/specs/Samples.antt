@@ -91,6 +91,7 @@ specs_with provided required noted = record {
   models = (1, words 8) ∷ [];
   constants = [];
   unknowns = no_unknown;
+  unknown_sorts = [];
   terms = (0, providing provided) ∷ ((1, record { require = required; provide = is_sum (its_argument 0) (its_argument 1) ∷ [] }) ∷ ((2, record { require = noted; provide = [] }) ∷ []));
 }
 

@@ -5,10 +5,14 @@ use Rattle.std.proofs.Math.Bool.{beq}
 abbrev pub all_ones : ℕ → ℕ
 all_ones width = 2 ^ width - 1
 
+-- an integer modulo a number, from 0 up
+abbrev pub residue : ℕ → ℤ → ℕ
+residue m (pos n) = n % m
+residue m (negsuc n) = (m - suc (n % m)) % m
+
 -- an integer modulo 2 to a width
 abbrev pub word_of : ℕ → ℤ → ℕ
-word_of width (pos n) = n % (2 ^ width)
-word_of width (negsuc n) = (2 ^ width - suc (n % (2 ^ width))) % (2 ^ width)
+word_of width z = residue (2 ^ width) z
 
 -- the highest bit is set
 abbrev pub is_negative : ℕ → ℕ → Bool
@@ -63,3 +67,7 @@ right_by_sign width a b = if is_negative width a then all_ones width - right_by 
 -- to the left by fewer places than there are bits
 abbrev pub turned : ℕ → ℕ → ℕ → ℕ
 turned width a places = (a * 2 ^ places) % (2 ^ width) + a / 2 ^ (width - places)
+
+-- to the right by such is to the left by the others
+abbrev pub turned_back : ℕ → ℕ → ℕ → ℕ
+turned_back width a places = turned width a ((width - places) % width)

@@ -11,7 +11,9 @@ ghost use Rattle.laws_conditions.specs.SampleLists.{ListsAreSaid, BagPremisesHol
 ghost use Rattle.laws_conditions.specs.SampleNumbers.{NumbersExcludeNothing};
 ghost use Rattle.laws_conditions.specs.SampleOperators.{FormsAreSaid, OperatorsAreApplied};
 ghost use Rattle.laws_conditions.specs.SamplePriorities.{PrioritiesCount};
+ghost use Rattle.laws_conditions.specs.SampleUnknowns.{UnknownsHaveSorts};
 ghost use Rattle.laws_conditions.specs.SampleUnwraps.{UnusedCallsShowNothing};
+ghost use Rattle.laws_conditions.specs.SampleWidths.{WidthsAreListed};
 ghost use Rattle.laws_conditions.specs.Samples.{SumsAreSaid, WordsAreFormed, SumsAreRight, CallsAreRequired};
 ghost use Rattle.laws_conditions.specs.TotalLaws.{TotalMeaningsAnswerAsSaid};
 
@@ -120,6 +122,18 @@ pub fn numbers_exclude_nothing()
 /// What the spec of a call says that the result doesn't use, and that gives no value, makes no wrong rule right.
 pub fn unused_calls_show_nothing()
     ensures { UnusedCallsShowNothing }
+{}
+
+/// What an unknown function answers to operands of its sort is of its sort, whatever it is; without a sort nothing is known of it.
+#[tactic(auto, using(crate::proofs::SampleUnknowns::unknowns_have_sorts_lem))]
+pub fn unknowns_have_sorts()
+    ensures { UnknownsHaveSorts }
+{}
+
+/// A rule that is right of words of eight bits isn't where sixteen are listed too, and no atom stands for a word of another width.
+#[tactic(auto, using(crate::proofs::SampleWidths::widths_are_listed_lem))]
+pub fn widths_are_listed()
+    ensures { WidthsAreListed }
 {}
 
 /// Operators are applied as two SMT solvers apply them, and say nothing of operands that don't fit.

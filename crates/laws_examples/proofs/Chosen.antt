@@ -21,7 +21,7 @@ use Rattle.laws_examples.specs.MeaningForms.{given, just_number}
 pub extract_is_without_multi : ExtractIsWithoutMulti
 extract_is_without_multi = (refl, refl)
 
-laws : ChoosingLaws
+pub laws : ChoosingLaws
 laws =
     let whole = built_demands_are_whole_lem in
     record {

@@ -3,6 +3,7 @@ mod Expansions
 mod Extract
 mod FallOverlap
 mod FoundSites
+mod OpaqueTypes
 mod OtherTypes
 mod Hiding
 mod Impure

@@ -4,13 +4,14 @@ use Rattle.std.proofs.lemmas.Bool.{and_from, false≢true}
 use Rattle.std.proofs.lemmas.Option.{none-some, same_Some}
 use Rattle.model.proofs.Members.{nothing_in, in_alone, in_cases, in_head}
 use Rattle.model.specs.lists.Tables.{TermEntry}
-use Rattle.model.specs.rules.Values.{Value, is_atom_type, well_typed}
+use Rattle.model.specs.rules.Values.{Value, has_atoms, well_typed}
 use Rattle.model.specs.rules.Meaning.{one, just}
 use Rattle.model.specs.rules.Program.{kind}
 use Rattle.model.specs.sites.Sites.{SiteTerm, int_term}
 use Rattle.model.specs.sites.Serves.{fits_extractor}
 use Rattle.laws_visits.specs.RuleUses.{Use, a_term, a_constant}
 use Rattle.laws_matching.specs.TotalLaws.{IsTotalFor}
+use Rattle.laws_matching.proofs.Shapes.{literals_are_atoms}
 use Rattle.laws_matching.proofs.total.Total.{total_meanings_serve_lem}
 use Rattle.laws_examples.proofs.SampleStages.{extract_stages}
 use Rattle.model.specs.claims.Layers.{own_program}
@@ -48,7 +49,7 @@ tested a c = in_alone (int_term (pos 1) 1) a c
 echo_well_typed : IsTotalFor extract_program 1 echo
 echo_well_typed = record {
   bools = λ b ty h. h;
-  ints = λ z ty h. and_from (ty == ty) (is_atom_type (slice_get extract_program.types ty)) (eq-eqb ty ty refl) h;
+  ints = λ z ty h. and_from (ty == ty) (has_atoms (slice_get extract_program.types ty)) (eq-eqb ty ty refl) (literals_are_atoms (slice_get extract_program.types ty) h);
   written_bools = λ b ty h. refl;
   written_ints = λ z ty h. refl;
   constants = λ name ty c h. absurd (no_constant name c);

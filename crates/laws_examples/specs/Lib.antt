@@ -12,6 +12,7 @@ pub mod Extract
 pub mod Fall
 pub mod FormedRules
 pub mod FoundSites
+pub mod OpaqueTypes
 pub mod OtherTypes
 pub mod Hiding
 pub mod Impure

@@ -23,13 +23,14 @@ ghost use Rattle.laws_examples.specs.FormedRules.{ArgumentsAreLimited, FormedRul
 ghost use Rattle.laws_examples.specs.ShownCounts.{VisitsCountWhatIsShown};
 ghost use Rattle.laws_examples.specs.VisitedRules.{LimitsAreMetInOrder, RunsAnswerOneSite, VisitsCount};
 ghost use Rattle.laws_examples.specs.FoundSites.{SitesAreFound};
+ghost use Rattle.laws_examples.specs.OpaqueTypes.{ClosedEnums, NamedEnds, NamedIsServed, OpaqueIsChosen, OpaqueIsServed, OpaqueIsTaken, OpenEnds, OpenIsServed, named_sample, nine_after_both, opaque_meaning, opaque_sample, open_sample};
 ghost use Rattle.laws_examples.specs.OtherTypes.{IllFormed, NamesGoOn, OwnTypesDoNotCount, TypesHandedIn};
 ghost use Rattle.laws_examples.specs.Hiding.{BetterTestsAreNotHidden, hidden_sample};
 ghost use Rattle.laws_examples.specs.Impure.{ImpureIsCalled, impure_sample};
 ghost use Rattle.laws_examples.specs.ImpureTaken.{ImpureIsServed, ImpureIsTaken};
 ghost use Rattle.laws_examples.specs.LeftoverSites.{LeftOverCollects, LeftOverIsCollected, LeftOverIsServed, LeftOverLacksACall, left_over_defs, left_over_rules, left_over_set, left_over_tree};
 ghost use Rattle.laws_examples.specs.LookUps.{ConvertersAreLookedUp, FallSpeaksOfNames, FlagIsKept, NearEnvironments};
-ghost use Rattle.laws_examples.specs.MeaningForms.{DoesNotServe, alone, answers, blank, ends_with, just_number, v};
+ghost use Rattle.laws_examples.specs.MeaningForms.{DoesNotServe, alone, answers, blank, ends_with, given, just_number, v};
 ghost use Rattle.laws_examples.specs.Multi.{LoopsMayBindAgain, MultiCollects, MultiGives, MultiIsCollected, MultiIsNot, MultiIsServed, MultiIsTaken, MultiResultsAreHeld, MultiSetCollects, MultiTakenGives, MultiTreeCollects, multi_mute, multi_program, multi_sample};
 ghost use Rattle.laws_examples.specs.MultiCalls.{DemandsGatesThough, Gives, LeavesACallUnused, OneCallIsServed, UnusedGateGives, call_in_call, calls_program, extracted_twice, impure_twice, pure_twice, unused_condition, unused_let, used_condition};
 ghost use Rattle.laws_examples.specs.NamedConstants.{ConstantsAreServed};
@@ -43,7 +44,7 @@ ghost use Rattle.laws_examples.specs.Prio.{prio_sample};
 ghost use Rattle.laws_examples.specs.ReportedOnce.{MultiGoesOverMultiCalls, OverlapIsListedOnce, ShadowIsReportedOnce};
 ghost use Rattle.laws_examples.specs.RulesPassed.{LeftOverGoesOn, ReportsAreNotDropped, WideRuleIsPassed};
 ghost use Rattle.laws_examples.specs.Shared.{SharedGives, SharedIsStuck};
-ghost use Rattle.laws_examples.specs.Stages.{HasStages, IsBuiltOf, IsJudged, OneIsBest};
+ghost use Rattle.laws_examples.specs.Stages.{Ends, HasStages, IsBuiltOf, IsJudged, OneIsBest};
 ghost use Rattle.laws_examples.specs.UntestedRules.{surplus_sample};
 ghost use Rattle.laws_examples.specs.Ties.{ties_sample};
 ghost use Rattle.laws_examples.specs.ShadowedRules.{MasksMatchToo, ShadowIsServed, ShadowIsTold};
@@ -297,6 +298,25 @@ pub fn dropped_sample()
 #[tactic(auto, using(crate::proofs::NamedConstants::constants_are_served))]
 pub fn named_constants()
     ensures served { ConstantsAreServed }
+{}
+
+/// Extern enums. One without variants has values, which calls hand on: its term is served, and its tree runs as the choice. A value
+/// that is of none of the declared variants falls through. Constants of an enum without variants may stand in patterns. An enum
+/// that isn't extern has no values but those of its variants.
+#[tactic(auto, using(crate::proofs::OpaqueTypes::opaque_stages, crate::proofs::OpaqueTypes::opaque_is_served, crate::proofs::OpaqueTypes::opaque_is_chosen, crate::proofs::OpaqueTypes::opaque_is_taken, crate::proofs::OpaqueTypes::open_stages, crate::proofs::OpaqueTypes::open_is_served, crate::proofs::OpaqueTypes::open_ends, crate::proofs::OpaqueTypes::named_stages, crate::proofs::OpaqueTypes::named_is_served, crate::proofs::OpaqueTypes::named_ends, crate::proofs::OpaqueTypes::closed_enums))]
+pub fn extern_enums()
+    ensures opaque_stages { HasStages opaque_sample }
+    ensures opaque_served { OpaqueIsServed }
+    ensures opaque_taken { OpaqueIsTaken }
+    ensures opaque_chosen { OpaqueIsChosen }
+    ensures opaque_ends { Ends opaque_sample opaque_meaning (given (pos 3)) nine_after_both }
+    ensures open_stages { HasStages open_sample }
+    ensures open_served { OpenIsServed }
+    ensures open_ends { OpenEnds }
+    ensures named_stages { HasStages named_sample }
+    ensures named_served { NamedIsServed }
+    ensures named_ends { NamedEnds }
+    ensures closed { ClosedEnums }
 {}
 
 /// A set with an impure call that none of its rules uses, and a pure one above it. A meaning in which the first answers what

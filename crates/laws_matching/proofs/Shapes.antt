@@ -3,7 +3,7 @@ use Rattle.std.proofs.Common.{◌≡◌, ◌==◌, ℕ, ℤ, zero, suc, Bool, tr
 use Rattle.std.proofs.lemmas.Bool.{and_parts, false≢true}
 use Rattle.model.specs.lists.Tables.{TypeEntry, builtin_type, primitive_type, enum_type, struct_type}
 use Rattle.model.specs.lists.Ranges.{is_literal_of}
-use Rattle.model.specs.rules.Values.{Value, truth, atom, of_variant, of_struct, Values, no_value, value_and, listed, is_truth_type, is_atom_type, variant_types, struct_types, well_typed, all_well_typed}
+use Rattle.model.specs.rules.Values.{Value, truth, atom, of_variant, of_struct, Values, no_value, value_and, listed, is_truth_type, is_atom_type, has_atoms, variant_types, struct_types, well_typed, all_well_typed}
 use Rattle.model.specs.rules.Meaning.{Content, one, parts, nothing, just, many, Meaning, bool_literal, int_literal, literal_value, constant_value}
 use Rattle.model.specs.trees.Run.{content_fields, all_one}
 use Rattle.model.specs.sites.Sites.{Constraint, is_variant, is_struct, is_bool, is_int, is_prim, is_present}
@@ -27,7 +27,7 @@ truth_type types h ty t = by (slice_get types ty) refl t
 pub one_type : (types : List TypeEntry) → HasTypes types → (v : Value) (a b : ℕ) → well_typed types a v ≡ true → well_typed types b v ≡ true → a ≡ b
 one_type types h (truth c) a b s t = truth_type types h a s ∙ sym (truth_type types h b t)
 one_type types h (atom u n) a b s t =
-    sym (eqb-true u a (and_parts (u == a) (is_atom_type (slice_get types a)) s).0) ∙ eqb-true u b (and_parts (u == b) (is_atom_type (slice_get types b)) t).0
+    sym (eqb-true u a (and_parts (u == a) (has_atoms (slice_get types a)) s).0) ∙ eqb-true u b (and_parts (u == b) (has_atoms (slice_get types b)) t).0
 one_type types h (of_variant u i fs) a b s t =
     sym (eqb-true u a (and_parts (u == a) (all_well_typed types (variant_types (slice_get types a) i) fs) s).0)
     ∙ eqb-true u b (and_parts (u == b) (all_well_typed types (variant_types (slice_get types b) i) fs) t).0
@@ -44,17 +44,26 @@ pub no_variant : (types : List TypeEntry) (o : Option TypeEntry) (i : ℕ) (vs :
 no_variant types None i vs h t = false≢true (sym (no_fields types vs) ∙ t)
 no_variant types (Some (builtin_type n)) i vs h t = false≢true (sym (no_fields types vs) ∙ t)
 no_variant types (Some (primitive_type id name at)) i vs h t = false≢true (sym (no_fields types vs) ∙ t)
-no_variant types (Some (enum_type name id a b ws at)) i vs h t = false≢true (sym h)
+no_variant types (Some (enum_type name id a b [] at)) i vs h t = false≢true (sym (no_fields types vs) ∙ t)
+no_variant types (Some (enum_type name id a b (w ∷ ws) at)) i vs h t = false≢true (sym h)
 no_variant types (Some (struct_type name id a b fs at)) i vs h t = false≢true (sym h)
 
 pub no_struct : (types : List TypeEntry) (o : Option TypeEntry) (vs : Values) → is_type_with_parts o ≡ false → all_well_typed types (struct_types o) vs ≡ true → ⊥
 no_struct types None vs h t = false≢true (sym (no_fields types vs) ∙ t)
 no_struct types (Some (builtin_type n)) vs h t = false≢true (sym (no_fields types vs) ∙ t)
 no_struct types (Some (primitive_type id name at)) vs h t = false≢true (sym (no_fields types vs) ∙ t)
-no_struct types (Some (enum_type name id a b ws at)) vs h t = false≢true (sym h)
+no_struct types (Some (enum_type name id a b ws at)) vs h t = false≢true (sym (no_fields types vs) ∙ t)
 no_struct types (Some (struct_type name id a b fs at)) vs h t = false≢true (sym h)
 
--- a type of numbers has no parts
+-- a type of literals has atoms, and no parts
+pub literals_are_atoms : (o : Option TypeEntry) → is_atom_type o ≡ true → has_atoms o ≡ true
+literals_are_atoms None h = h
+literals_are_atoms (Some (builtin_type zero)) h = h
+literals_are_atoms (Some (builtin_type (suc n))) h = h
+literals_are_atoms (Some (primitive_type id name at)) h = h
+literals_are_atoms (Some (enum_type name id a b vs at)) h = absurd (false≢true h)
+literals_are_atoms (Some (struct_type name id a b fs at)) h = h
+
 pub atom_without_parts : (o : Option TypeEntry) → is_atom_type o ≡ true → is_type_with_parts o ≡ false
 atom_without_parts None h = absurd (false≢true h)
 atom_without_parts (Some (builtin_type n)) h = refl

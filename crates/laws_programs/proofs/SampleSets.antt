@@ -23,6 +23,7 @@ fewer_made : (p : Program) (specs : Specs) (c b : Condition) → c.term ≡ b.te
 fewer_made p specs c b term constraints equalities made args f a = record {
   arguments = subst (λ t. IsTrue (are_of_types p.types specs (Some (arg_types p t)) args)) term a.arguments;
   required = subst (λ t. IsRequired specs t args) term a.required;
+  unknowns = a.unknowns;
   held = a.held;
   formed = a.formed;
   constraints = λ s k i. a.constraints s k (subst (λ l. Contains l (s, k)) (sym constraints) i);

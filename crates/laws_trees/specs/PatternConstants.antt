@@ -64,7 +64,7 @@ value_in m (a_literal l) = literal_value m l
 value_in m (a_name name ty) = constant_value m name
 
 -- different constants of one type that the patterns of these rules name have different values, unless both mean what they
--- write, and no pattern names a constant of an enum or of a struct
+-- write, and no pattern names a constant of an enum with variants or of a struct
 pub record TellsPatternsApart (p : Program) (m : Meaning) (rs : List TypedRule) : Type 0 where
   pub different : (a b : PatternConstant) (v : Value) → Contains (rules_constants rs) a → Contains (rules_constants rs) b
       → type_of_constant a ≡ type_of_constant b → (means_itself p a && means_itself p b) ≡ false → value_in m a ≡ Some v → value_in m b ≡ Some v → a ≡ b

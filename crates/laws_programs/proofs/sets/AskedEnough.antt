@@ -219,6 +219,7 @@ module _ (p : Program) (t : ℕ) (set : SiteSet) (built : IsBuilt p t set) (b : 
     set_assumed = record {
       arguments = subst (λ n. IsTrue (are_of_types p.types specs (Some (arg_types p n)) args)) root a.arguments;
       required = subst (λ n. IsRequired specs n args) root a.required;
+      unknowns = a.unknowns;
       held = completed_held specs args f a.held;
       formed = completed_formed specs args f a.held a.formed;
       constraints = λ s k i. constraint_met s k (in_from_contains c.constraints (s, k) i);

@@ -2,13 +2,12 @@
 use Rattle.std.proofs.Common.{◌≡◌, ℕ, zero, suc, ◌==◌, ◌&&◌, ◌||◌, not, Bool, true, false, List, [], ◌∷◌, length, Option, Some, None, slice_get, refl, sym, ap, ◌∙◌, inl, inr}
 use Rattle.std.proofs.lemmas.Bool.{and_parts, and_from, false≢true}
 use Rattle.model.specs.lists.Tables.{TypeEntry, builtin_type, primitive_type, enum_type, struct_type}
-use Rattle.model.specs.rules.Values.{is_truth_type, is_atom_type, variant_types, struct_types}
+use Rattle.model.specs.rules.Values.{is_truth_type, has_atoms, variant_types, struct_types}
 use Rattle.model.specs.sites.Serves.{is_type_with_parts}
 use Rattle.model.proofs.Elements.{or_split, or_left, or_right, some_is, none_some}
-use Rattle.laws_matching.proofs.Shapes.{atom_without_parts}
-use Rattle.laws_conditions.specs.Words.{Denoted, a_truth, an_integer, a_word, variant_of, struct_of, DenotedList, no_denoted, denoted_and, denoted_list}
+use Rattle.laws_conditions.specs.Words.{Denoted, a_truth, an_integer, a_word, variant_of, struct_of, DenotedList, no_denoted, denoted_and, denoted_list, is_plain}
 use Rattle.laws_conditions.specs.Specs.{Specs, truths, is_of_sort, sort_of}
-use Rattle.laws_conditions.specs.Conditions.{is_modelled_as, is_of_atoms, is_of_type, are_of_types}
+use Rattle.laws_conditions.specs.Conditions.{is_modelled_as, is_atom_as, is_of_atoms, is_of_type, are_of_types}
 
 abbrev mutual
   pub is_shaped : List TypeEntry → ℕ → Denoted → Bool
@@ -31,7 +30,8 @@ truth_without_parts (Some (enum_type name id a b vs at)) h = absurd (false≢tru
 truth_without_parts (Some (struct_type name id a b fs at)) h = absurd (false≢true h)
 
 variants_have_parts : (o : Option TypeEntry) (i : ℕ) (tys : List ℕ) → variant_types o i ≡ Some tys → is_type_with_parts o ≡ true
-variants_have_parts (Some (enum_type name id a b vs at)) i tys e = refl
+variants_have_parts (Some (enum_type name id a b [] at)) i tys e = absurd (none_some tys e)
+variants_have_parts (Some (enum_type name id a b (v ∷ vs) at)) i tys e = refl
 variants_have_parts None i tys e = absurd (none_some tys e)
 variants_have_parts (Some (builtin_type n)) i tys e = absurd (none_some tys e)
 variants_have_parts (Some (primitive_type id name at)) i tys e = absurd (none_some tys e)
@@ -52,12 +52,19 @@ plain_shaped types ty (a_truth b) h = refl
 plain_shaped types ty (an_integer z) h = refl
 plain_shaped types ty (a_word w n) h = refl
 
-atoms_plain : (types : List TypeEntry) (specs : Specs) (ty : ℕ) (x : Denoted) → is_of_atoms types specs ty x ≡ true → is_type_with_parts (slice_get types ty) ≡ false
-atoms_plain types specs ty x h =
+no_atom : (parts plain : Bool) → plain ≡ false → (not parts || plain) ≡ true → parts ≡ false
+no_atom true plain e h = absurd (false≢true (sym e ∙ h))
+no_atom false plain e h = refl
+
+-- an atom with parts is of a type without parts
+atoms_plain : (types : List TypeEntry) (specs : Specs) (ty : ℕ) (x : Denoted) → is_plain x ≡ false → is_of_atoms types specs ty x ≡ true → is_type_with_parts (slice_get types ty) ≡ false
+atoms_plain types specs ty x p h =
     let o = slice_get types ty in
-    elim (or_split (is_truth_type o && is_of_sort truths x) (is_atom_type o && is_modelled_as (sort_of specs ty) x) h) [
+    elim (or_split (is_truth_type o && is_of_sort truths x) (has_atoms o && is_atom_as o (sort_of specs ty) x) h) [
       | inl k ↦ truth_without_parts o (and_parts (is_truth_type o) (is_of_sort truths x) k).0
-      | inr k ↦ atom_without_parts o (and_parts (is_atom_type o) (is_modelled_as (sort_of specs ty) x) k).0
+      | inr k ↦
+          let a = (and_parts (has_atoms o) (is_atom_as o (sort_of specs ty) x) k).1 in
+          no_atom (is_type_with_parts o) (is_plain x) p (and_parts (is_modelled_as (sort_of specs ty) x) (not (is_type_with_parts o) || is_plain x) a).1
     ]
 
 mutual
@@ -65,7 +72,7 @@ mutual
   of_type_shaped types specs ty (variant_of t i xs) h =
       let parts = variant_types (slice_get types ty) i in
       elim (or_split (is_of_atoms types specs ty (variant_of t i xs)) ((t == ty) && are_of_types types specs parts xs) h) [
-        | inl k ↦ plain_shaped types ty (variant_of t i xs) (atoms_plain types specs ty (variant_of t i xs) k)
+        | inl k ↦ plain_shaped types ty (variant_of t i xs) (atoms_plain types specs ty (variant_of t i xs) refl k)
         | inr k ↦
             let a = and_parts (t == ty) (are_of_types types specs parts xs) k in
             or_right (not (is_type_with_parts (slice_get types ty))) ((t == ty) && are_shaped types parts xs) (and_from (t == ty) (are_shaped types parts xs) a.0 (of_types_shaped types specs parts xs a.1))
@@ -73,7 +80,7 @@ mutual
   of_type_shaped types specs ty (struct_of t xs) h =
       let parts = struct_types (slice_get types ty) in
       elim (or_split (is_of_atoms types specs ty (struct_of t xs)) ((t == ty) && are_of_types types specs parts xs) h) [
-        | inl k ↦ plain_shaped types ty (struct_of t xs) (atoms_plain types specs ty (struct_of t xs) k)
+        | inl k ↦ plain_shaped types ty (struct_of t xs) (atoms_plain types specs ty (struct_of t xs) refl k)
         | inr k ↦
             let a = and_parts (t == ty) (are_of_types types specs parts xs) k in
             or_right (not (is_type_with_parts (slice_get types ty))) ((t == ty) && are_shaped types parts xs) (and_from (t == ty) (are_shaped types parts xs) a.0 (of_types_shaped types specs parts xs a.1))

@@ -6,7 +6,7 @@ use Rattle.std.proofs.Math.Bool.{beq}
 use Rattle.model.specs.lists.Tables.{FieldEntries, unit_entries, struct_entries, tuple_entries, TypeEntry, builtin_type, primitive_type, enum_type, struct_type}
 
 mutual
-  -- a boolean, an atom of a built-in integer type or of a primitive type, a variant with its fields, a struct with its fields
+  -- a boolean, an atom of a type with atoms, a variant with its fields, a struct with its fields
   pub data Value : Type 0 where
     truth : (b : Bool) → Value
     atom : (ty : ℕ) (n : ℤ) → Value
@@ -49,11 +49,26 @@ abbrev pub is_truth_type : Option TypeEntry → Bool
 is_truth_type (Some (builtin_type zero)) = true
 is_truth_type _ = false
 
--- a built-in integer type or a primitive type
+-- a type of integer literals: a built-in integer type or a primitive type
 abbrev pub is_atom_type : Option TypeEntry → Bool
 is_atom_type (Some (builtin_type (suc k))) = true
 is_atom_type (Some (primitive_type id name at)) = true
 is_atom_type _ = false
+
+-- a type with atoms: a built-in integer type, a primitive type, or an extern enum. The variants that an extern enum declares needn't be
+-- all that it has, so it has values of which no variant's pattern holds: its atoms, of which each is equal to itself alone. An
+-- enum that isn't extern has its variants' values and no others, and without variants it has none
+abbrev pub has_atoms : Option TypeEntry → Bool
+has_atoms (Some (builtin_type (suc k))) = true
+has_atoms (Some (primitive_type id name at)) = true
+has_atoms (Some (enum_type name id is_extern is_nodebug variants at)) = is_extern
+has_atoms _ = false
+
+-- an enum or a struct
+abbrev pub is_composed_type : Option TypeEntry → Bool
+is_composed_type (Some (enum_type name id is_extern is_nodebug variants at)) = true
+is_composed_type (Some (struct_type name id is_extern is_nodebug fields at)) = true
+is_composed_type _ = false
 
 -- the types of a variant's fields, where the type is an enum with that variant
 abbrev pub variant_types : Option TypeEntry → ℕ → Option (List ℕ)
@@ -68,7 +83,7 @@ struct_types _ = None
 abbrev mutual
   pub well_typed : List TypeEntry → ℕ → Value → Bool
   well_typed types ty (truth b) = is_truth_type (slice_get types ty)
-  well_typed types ty (atom s n) = (s == ty) && is_atom_type (slice_get types ty)
+  well_typed types ty (atom s n) = (s == ty) && has_atoms (slice_get types ty)
   well_typed types ty (of_variant s i fields) = (s == ty) && all_well_typed types (variant_types (slice_get types ty) i) fields
   well_typed types ty (of_struct s fields) = (s == ty) && all_well_typed types (struct_types (slice_get types ty)) fields
 

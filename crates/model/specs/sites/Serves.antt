@@ -125,9 +125,10 @@ written_value m (int_term z ty) = literal_value m (int_literal z ty)
 written_value m (prim_term name) = constant_value m name
 written_value m _ = None
 
--- a type whose values have parts
+-- a type of which variant's or struct's patterns are: an enum with variants, or a struct
 abbrev pub is_type_with_parts : Option TypeEntry → Bool
-is_type_with_parts (Some (enum_type name id is_extern is_nodebug variants at)) = true
+is_type_with_parts (Some (enum_type name id is_extern is_nodebug [] at)) = false
+is_type_with_parts (Some (enum_type name id is_extern is_nodebug (v ∷ rest) at)) = true
 is_type_with_parts (Some (struct_type name id is_extern is_nodebug fields at)) = true
 is_type_with_parts _ = false
 

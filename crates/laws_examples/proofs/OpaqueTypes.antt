@@ -1,0 +1,135 @@
+-- Extern enums: their stages, that they are served, and that the headline speaks of them.
+use Rattle.std.proofs.Common.{◌≡◌, ◌==◌, ◌&&◌, ◌∷◌, [], ◌∙◌, ◌⊎◌, ℕ, ℤ, pos, zero, suc, Bool, true, false, List, Option, Some, None, if◌then◌else◌, slice_get, Contains, IsTrue, IsSomeAnd, refl, sym, ap, subst, inl, inr, arith}
+use Rattle.std.proofs.lemmas.Bool.{false≢true}
+use Rattle.std.proofs.lemmas.Option.{none-some, same_Some}
+use Rattle.model.proofs.Members.{in_alone, in_cases}
+use Rattle.model.specs.claims.Headline.{RunsAsChosen}
+use Rattle.model.specs.claims.Layers.{own_program}
+use Rattle.model.specs.rules.Meaning.{impure_answer}
+use Rattle.model.specs.rules.Program.{kind, rules_of}
+use Rattle.model.specs.rules.Values.{Value, truth, atom, of_variant, of_struct, Values, no_value, value_and, well_typed, all_well_typed}
+use Rattle.model.specs.sites.Serves.{Serves, TellsConstantsApart, fits_constructor, is_type_with_parts, tested_constants, written_type, written_value}
+use Rattle.model.specs.sites.Sites.{SiteTerm, SiteTerms, constructor_call, extractor_call, prim_term}
+use Rattle.laws_typing.proofs.WellTypedRules.{read_programs_are_well_typed}
+use Rattle.laws_trees.proofs.headline.Choosing.{best_trees_run_as_chosen_lem}
+use Rattle.laws_examples.proofs.Chosen.{laws}
+use Rattle.laws_examples.proofs.SampleStages.{stages}
+use Rattle.laws_examples.proofs.Served.{literals_apart, serves_from, serves_without_calls}
+use Rattle.laws_examples.specs.MeaningForms.{given, v}
+use Rattle.laws_examples.specs.OpaqueTypes.{ClosedEnums, NamedEnds, NamedIsServed, OpaqueIsChosen, OpaqueIsServed, OpaqueIsTaken, OpenEnds, OpenIsServed, named_meaning, named_program, named_sample, o, of_a, opaque_defs, opaque_meaning, opaque_program, opaque_rules, opaque_sample, opaque_set, opaque_tree, open_meaning, open_program, open_sample, with_enum}
+use Rattle.laws_examples.specs.Stages.{HasStages}
+use Rattle.laws_examples.specs.TypedForms.{own}
+
+-- 1. without variants
+pub opaque_stages : HasStages opaque_sample
+opaque_stages = stages opaque_sample refl refl refl refl refl refl refl refl refl refl
+
+-- the first call is that of `put`, the second that of `use`
+abbrev calls : SiteTerm → Bool
+calls (constructor_call zero ss (suc zero)) = true
+calls (constructor_call (suc zero) ss (suc (suc zero))) = true
+calls (constructor_call t ss i) = false
+calls (extractor_call t s) = false
+calls u = true
+
+no_pure : (t : ℕ) (ss : SiteTerms) → calls (constructor_call t ss 0) ≡ true → ⊥
+no_pure zero ss h = false≢true h
+no_pure (suc zero) ss h = false≢true h
+no_pure (suc (suc t)) ss h = false≢true h
+
+answered : (t before : ℕ) (ss : SiteTerms) → calls (constructor_call t ss (suc before)) ≡ true
+    → IsSomeAnd (impure_answer opaque_meaning t before) (λ c. IsTrue (fits_constructor opaque_program t (kind opaque_program t) c))
+answered zero zero ss h = refl
+answered (suc zero) (suc zero) ss h = refl
+answered _ _ ss h = absurd (false≢true h)
+
+pub opaque_is_served : OpaqueIsServed
+opaque_is_served = (
+  refl,
+  serves_from opaque_program opaque_meaning calls (given (pos 3)) (rules_of opaque_program 2) refl refl
+      (λ k t s w h holds. absurd (false≢true h)) (λ k t ss vs h holds. absurd (no_pure t ss h)) (λ k r t before ss i matched made h gave. answered t before ss h),
+  literals_apart opaque_program opaque_meaning (rules_of opaque_program 2) refl refl,
+)
+
+runs : RunsAsChosen opaque_program 2 opaque_set.sites opaque_tree
+runs =
+    best_trees_run_as_chosen_lem laws (own_program opaque_defs opaque_rules) 2 opaque_set (read_programs_are_well_typed opaque_stages.accepted.0.read) opaque_stages.built.0 opaque_stages.accepted.0.checkable opaque_tree
+    opaque_stages.judged.best
+
+pub opaque_is_chosen : OpaqueIsChosen
+opaque_is_chosen = (runs, (runs refl opaque_meaning (given (pos 3)) opaque_is_served.0 opaque_is_served.1 opaque_is_served.2).1)
+
+pub opaque_is_taken : OpaqueIsTaken
+opaque_is_taken z = refl
+
+-- 2. with a variant
+pub open_stages : HasStages open_sample
+open_stages = stages open_sample refl refl refl refl refl refl refl refl refl refl
+
+pub open_is_served : OpenIsServed
+open_is_served =
+    let apart = literals_apart open_program open_meaning (rules_of open_program 0) refl refl in (
+      (refl, serves_without_calls open_program open_meaning (of_a ∷ []) (rules_of open_program 0) refl refl, apart),
+      λ z. (refl, serves_without_calls open_program open_meaning (o z ∷ []) (rules_of open_program 0) refl refl, apart),
+    )
+
+pub open_ends : OpenEnds
+open_ends = record { of_the_variant = (refl, refl); of_no_variant = λ z. (refl, refl) }
+
+-- 3. constants
+pub named_stages : HasStages named_sample
+named_stages = stages named_sample refl refl refl refl refl refl refl refl refl refl
+
+abbrev IsNamed : SiteTerm → Type 0
+IsNamed a = (prim_term 14 ≡ a) ⊎ (prim_term 15 ≡ a)
+
+is_named : (a : SiteTerm) → Contains (tested_constants named_program (rules_of named_program 0)) a → IsNamed a
+is_named a c = elim (in_cases (prim_term 14) a (prim_term 15 ∷ []) c) [ inl e ↦ inl e | inr b ↦ inr (in_alone (prim_term 15) a b) ]
+
+two_values : (a b : SiteTerm) (x : Value) → prim_term 14 ≡ a → prim_term 15 ≡ b → written_value named_meaning a ≡ Some x → written_value named_meaning b ≡ Some x → ⊥
+two_values a b x e f s t =
+    let h : Some (o (pos 10)) ≡ Some x = ap (written_value named_meaning) e ∙ s in
+    let k : Some (o (pos 11)) ≡ Some x = ap (written_value named_meaning) f ∙ t in
+    let same : o (pos 10) ≡ o (pos 11) = same_Some (o (pos 10)) (o (pos 11)) (h ∙ sym k) in
+    cc
+
+one_of_each : (a b : SiteTerm) (x : Value) → IsNamed a → IsNamed b → written_value named_meaning a ≡ Some x → written_value named_meaning b ≡ Some x → a ≡ b
+one_of_each a b x (inl e) (inl f) s t = sym e ∙ f
+one_of_each a b x (inr e) (inr f) s t = sym e ∙ f
+one_of_each a b x (inl e) (inr f) s t = absurd (two_values a b x e f s t)
+one_of_each a b x (inr e) (inl f) s t = absurd (two_values b a x f e t s)
+
+-- the constants' type has no variants
+plain_type : (b c : Bool) (ty : ℕ) → (if b then Some own else (if c then Some own else None)) ≡ Some ty → is_type_with_parts (slice_get named_program.types ty) ≡ false
+plain_type true c ty e = subst (λ n. is_type_with_parts (slice_get named_program.types n) ≡ false) (same_Some own ty e) refl
+plain_type false true ty e = subst (λ n. is_type_with_parts (slice_get named_program.types n) ≡ false) (same_Some own ty e) refl
+plain_type false false ty e = absurd (none-some ty e)
+
+pub named_is_served : NamedIsServed
+named_is_served = (
+  λ z. refl,
+  λ z. serves_without_calls named_program named_meaning (o z ∷ []) (rules_of named_program 0) refl refl,
+  record {
+    different = λ a b ty w c d q s t u x. one_of_each a b w (is_named a c) (is_named b d) u x;
+    without_parts = λ r s name ty c d e. plain_type (14 == name) (15 == name) ty e;
+  },
+)
+
+pub named_ends : NamedEnds
+named_ends = record { of_k = (refl, refl); of_l = (refl, refl); of_another = (refl, refl) }
+
+-- 4. enums that are declared here
+never : (b : Bool) → (b && false) ≡ false
+never true = refl
+never false = refl
+
+no_values : (x : Value) → well_typed (with_enum false []) own x ≡ false
+no_values (truth b) = refl
+no_values (atom t z) = never (t == own)
+no_values (of_variant t i no_value) = never (t == own)
+no_values (of_variant t i (value_and w ws)) = never (t == own)
+no_values (of_struct t no_value) = never (t == own)
+no_values (of_struct t (value_and w ws)) = never (t == own)
+
+pub closed_enums : ClosedEnums
+closed_enums = record { no_value_of_none = no_values; of_a_variant = refl; of_no_variant = λ z. refl; of_no_such_variant = refl }
