@@ -1,6 +1,6 @@
 """Sends messages that were changed at random to the server: mutated.py PROGRAM COUNT [SEED].
 
-The messages are those of crates/check_server/stdin without the ones that end the server. The server has to go on, to answer a request that
+The messages are those of crates/check_json/stdin without the ones that end the server. The server has to go on, to answer a request that
 follows each message, to answer no id twice, and to end with the status 0 after shutdown and exit.
 """
 
@@ -27,7 +27,7 @@ PING = (
 def recorded():
     """The recorded messages, as texts."""
     folder = os.path.dirname(os.path.dirname(os.path.abspath(__file__)))
-    path = os.path.join(folder, 'crates', 'check_server', 'stdin')
+    path = os.path.join(folder, 'crates', 'check_json', 'stdin')
     with open(path, encoding='utf-8') as lines:
         texts = [line[2:].rstrip('\n') for line in lines if line.startswith('> ')]
     return [text for text in texts if '"shutdown"' not in text and '"exit"' not in text]

@@ -1,11 +1,11 @@
 // The JSON that is answered to each sample, read back.
 mod forms;
 
+use app_command::answers::answer_to;
+use app_command::words::{Asked, asked_by};
 use cranelift_isle::syntax::Files;
 use forms::{check_document, check_sizes};
-use isle_answers::samples::SAMPLES;
-use isle_command::answers::answer_to;
-use isle_command::words::{Asked, asked_by};
+use report_queries::samples::SAMPLES;
 use serde_json::Value;
 use std::alloc::{AllocError, Global};
 use std::process::Abort;

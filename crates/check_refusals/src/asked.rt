@@ -1,14 +1,14 @@
 //! Calls that take no memory, on values that are made before.
 
 use crate::environments::{ACCEPTED, defs_of, read_rules};
-use isle_base::stablemapset::{StableMap, StableSet};
-use isle_base::syntax::{Def, Fault, Ident, Pos, Span};
-use isle_disjointsets::disjointsets::DisjointSets;
-use isle_rule_sets::trie_again::{
+use core_containers::disjointsets::DisjointSets;
+use core_rule_sets::trie_again::{
     Binding, BindingId, Constraint, Overlap, Rule, RuleSet, TupleIndex,
 };
-use isle_rules::TermEnv;
-use isle_types::{BuiltinType, IntType, RuleId, Sym, TermId, TypeEnv, TypeId};
+use core_rules::TermEnv;
+use core_syntax::stablemapset::{StableMap, StableSet};
+use core_syntax::syntax::{Def, Fault, Ident, Pos, Span};
+use core_types::{BuiltinType, IntType, RuleId, Sym, TermId, TypeEnv, TypeId};
 use std::alloc::{AllocError, Global};
 use std::collections::HashMap;
 

@@ -3,7 +3,7 @@
 use crate::containers::{maps_stay, pairs_make_a_map, partitions_stay, removals_stay, sets_stay};
 use crate::environments::{ACCEPTED, REFUSED, Wanted, rules_stay};
 use crate::visits::visits_begin;
-use isle_base::syntax::Fault;
+use core_syntax::syntax::Fault;
 use std::alloc::Global;
 
 /// A claim that a line of the output stands for.

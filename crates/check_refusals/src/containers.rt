@@ -1,7 +1,7 @@
 //! Containers beside copies that were made before a call is refused.
 
-use isle_base::stablemapset::{StableMap, StableSet};
-use isle_disjointsets::disjointsets::DisjointSets;
+use core_containers::disjointsets::DisjointSets;
+use core_syntax::stablemapset::{StableMap, StableSet};
 use std::alloc::{AllocError, Global};
 
 // Numbers below this one are told apart; twelve are more than a table holds before it grows for the second time.

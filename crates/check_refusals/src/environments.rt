@@ -1,18 +1,18 @@
 //! A type environment beside a copy that was made before rules are read with it.
 
 ghost use Rattle.std.specs.Prelude.{OnErr};
-ghost use Rattle.isle_base.specs.SyntaxViews.{definition_views};
+ghost use Rattle.core_syntax.specs.SyntaxViews.{definition_views};
 ghost use Rattle.model.specs.claims.Environments.{AreTypesOf};
-ghost use Rattle.isle_types.specs.EnvViews.{environment_view};
+ghost use Rattle.core_types.specs.EnvViews.{environment_view};
 ghost use Rattle.check_refusals.specs.TypesAfterRefusal.{IsLeftOf};
 
-use isle_base::stablemapset::StableMap;
-use isle_base::syntax::{Def, Error, Fault};
-use isle_reader::errors::ReadFault;
-use isle_reader::read;
-use isle_rules::TermEnv;
-use isle_types::{Sym, Type, TypeEnv, TypeId};
+use core_rules::TermEnv;
+use core_syntax::stablemapset::StableMap;
+use core_syntax::syntax::{Def, Error, Fault};
+use core_types::{Sym, Type, TypeEnv, TypeId};
 use std::alloc::{AllocError, Global};
+use text_reader::errors::ReadFault;
+use text_reader::read;
 
 /// Definitions of all forms that are accepted: nine terms, of which two are a type's variants and one a struct, and three rules.
 pub const ACCEPTED: &str = "(type P (primitive P)) (extern const $K P)

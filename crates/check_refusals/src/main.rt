@@ -14,7 +14,7 @@ mod visits;
 
 use asked::{Asked, containers_answer, sites_answer, tables_answer, trees_answer};
 use claims::{CLAIMS, Claim};
-use isle_base::syntax::Fault;
+use core_syntax::syntax::Fault;
 use std::alloc::Global;
 use std::io::Write;
 use std::process::ExitCode;

@@ -2,16 +2,16 @@
 
 ghost use Rattle.std.specs.Prelude.{◌≡◌, [], IfOk, IsTrue};
 ghost use Rattle.model.specs.lists.Visitable.{is_visitable_rule};
-ghost use Rattle.isle_terms.specs.TermViews.{term_views};
-ghost use Rattle.isle_typed.specs.RuleViews.{rule_view};
+ghost use Rattle.core_terms.specs.TermViews.{term_views};
+ghost use Rattle.core_typed.specs.RuleViews.{rule_view};
 
-use check_recorders::recorder::{Call, Recorder};
-use isle_base::stablemapset::StableMap;
-use isle_base::syntax::Pos;
-use isle_rules::TermEnv;
-use isle_terms::{ConstructorKind, Term, TermFlags, TermKind};
-use isle_typed::{Expr, Pattern, Rule, VisitFault};
-use isle_types::{RuleId, Sym, TermId, TypeId, VarId};
+use check_support::recorder::{Call, Recorder};
+use core_rules::TermEnv;
+use core_syntax::stablemapset::StableMap;
+use core_syntax::syntax::Pos;
+use core_terms::{ConstructorKind, Term, TermFlags, TermKind};
+use core_typed::{Expr, Pattern, Rule, VisitFault};
+use core_types::{RuleId, Sym, TermId, TypeId, VarId};
 use std::alloc::{AllocError, Global};
 
 const NOWHERE: Pos = Pos { file: 0, offset: 0 };

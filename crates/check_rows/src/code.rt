@@ -3,15 +3,15 @@
 use crate::texts::push_told;
 use cranelift_isle::lower::{Lowered, lower};
 use cranelift_isle::syntax::{Def, Fault, Files};
-use isle_answers::answers::Answer;
-use isle_answers::texts::syntax_error_line;
-use isle_printing::errors::error_lines;
-use isle_printing::places::Places;
-use isle_reader::errors::ReadFault;
-use isle_reader::read;
-use isle_rust::code::{CodeError, CodegenOptions, Prefix, rust_code_with};
-use isle_rust_items::beside::BESIDE;
+use report_print::errors::error_lines;
+use report_print::places::Places;
+use report_queries::answers::Answer;
+use report_queries::answers_texts::syntax_error_line;
+use rust_items::beside::BESIDE;
+use rust_text::code::{CodeError, CodegenOptions, Prefix, rust_code_with};
 use std::alloc::{AllocError, Global};
+use text_reader::errors::ReadFault;
+use text_reader::read;
 
 /// Adds the Rust code of a row's files, or what is wrong with them, below the status.
 ///

@@ -1,8 +1,8 @@
 //! Rows that ask the command `isle`.
 
+use app_command::answers::answer_to;
+use app_command::words::{Asked, Request, Unasked, asked_by};
 use cranelift_isle::syntax::Files;
-use isle_command::answers::answer_to;
-use isle_command::words::{Asked, Request, Unasked, asked_by};
 use std::alloc::{AllocError, Global};
 
 /// Adds what the command answers to a row's words and files: a line with the status, then what goes to standard output and

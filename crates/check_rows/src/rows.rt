@@ -2,6 +2,7 @@
 
 use crate::code::push_code;
 use crate::command::push_command;
+use crate::questions::{push_answer, push_questions};
 use crate::texts::push_text;
 use cranelift_isle::syntax::Files;
 use std::alloc::{AllocError, Global};
@@ -22,20 +23,22 @@ impl<'a> Drop for Row<'a> {
 ///
 /// A row is a line that begins with `# `, behind it the row's name and its words, and the text of the file `a.isle` below it.
 /// A line that begins with `## ` and a name begins another file. What stands before the first row is passed over. The words
-/// are those of the command, or the first one is `code`, `tree` or `rules`. For `tree` and `rules` only the first file is
-/// looked at.
+/// are those of the command, or the first one is `code`, `tree`, `rules`, `shared`, `questions` or `reply`. For these but `code`
+/// only the first file is looked at. The text of a row `shared` has no answer, and stands before the text of each row `questions`
+/// behind it. The text of a row `reply` is what a solver wrote.
 pub fn answers(alloc: Global, text: &str) -> Result<String, AllocError> {
     let mut out = String::new(alloc);
+    let mut shared = String::new(alloc);
     let mut row = begun(alloc, "")?;
     for line in text.split('\n') {
         if line.starts_with("# ") {
-            push_row(alloc, &row, &mut out)?;
+            push_row(alloc, &row, &mut shared, &mut out)?;
             row = begun(alloc, line)?;
         } else {
             add_line(alloc, &mut row.files, line)?;
         }
     }
-    push_row(alloc, &row, &mut out)?;
+    push_row(alloc, &row, &mut shared, &mut out)?;
     Ok(out)
 }
 
@@ -74,17 +77,39 @@ fn push_line(out: &mut String, line: &str) -> Result<(), AllocError> {
 }
 
 // Adds a row's line and what is answered to it.
-fn push_row(alloc: Global, row: &Row<'_>, out: &mut String) -> Result<(), AllocError> {
+fn push_row(
+    alloc: Global,
+    row: &Row<'_>,
+    shared: &mut String,
+    out: &mut String,
+) -> Result<(), AllocError> {
     if row.line.is_empty() {
         return Ok(());
     }
     push_line(out, row.line)?;
     let words = words_of(alloc, row.line)?;
+    let text = first_of(&row.files.texts);
     match first_of(&words) {
+        "shared" => shared.push_str(text),
+        "questions" => push_behind(alloc, &words, shared, text, out),
+        "reply" => push_answer(alloc, &words, text, out),
         "code" => push_code(alloc, &words, &row.files, out),
-        "tree" | "rules" => push_text(alloc, &words, first_of(&row.files.texts), out),
+        "tree" | "rules" => push_text(alloc, &words, text, out),
         _ => push_command(alloc, &words, &row.files, out),
     }
+}
+
+// Adds what is asked about the rules of a text that stands behind another.
+fn push_behind(
+    alloc: Global,
+    words: &[String],
+    shared: &str,
+    text: &str,
+    out: &mut String,
+) -> Result<(), AllocError> {
+    let mut whole = String::from_str(alloc, shared)?;
+    whole.push_str(text)?;
+    push_questions(alloc, words, &whole, out)
 }
 
 // The first of some texts, or the empty one.

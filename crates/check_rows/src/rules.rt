@@ -2,13 +2,13 @@
 
 use cranelift_isle::sema::{Rule, TermEnv, TypeEnv};
 use cranelift_isle::syntax::{Def, Fault};
-use isle_answers::answers::Answer;
-use isle_answers::texts::syntax_error_line;
-use isle_printing::errors::error_lines;
-use isle_printing::places::Places;
-use isle_reader::errors::ReadFault;
-use isle_reader::read;
+use report_print::errors::error_lines;
+use report_print::places::Places;
+use report_queries::answers::Answer;
+use report_queries::answers_texts::syntax_error_line;
 use std::alloc::{AllocError, Global};
+use text_reader::errors::ReadFault;
+use text_reader::read;
 
 /// A line with the number of the terms of a text's definitions and a line for each rule, with its name and its variables, and
 /// its parts below it where `parts` says so; or one line for each error of reading them.

@@ -1,8 +1,8 @@
 //! Rows that ask for trees as `isle-tree` prints them, or for rules as they are read.
 
 use crate::rules::rules_of_text;
-use isle_answers::answers::Answer;
-use isle_answers::texts::{Asked, answer_to_text};
+use report_queries::answers::Answer;
+use report_queries::answers_texts::{Asked, answer_to_text};
 use std::alloc::{AllocError, Global};
 
 /// Adds what is answered to a row's text.

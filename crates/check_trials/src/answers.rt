@@ -1,19 +1,19 @@
 //! Answers to what trees call: an echo's, but for constants of built-in types, and for values that are withheld.
-#![tactic(auto, using(isle_interpreter::proofs::ContentSteps::content_steps, isle_interpreter::proofs::ValueSteps::value_steps))]
+#![tactic(auto, using(run_terms::proofs::ContentSteps::content_steps, run_terms::proofs::ValueSteps::value_steps))]
 
 ghost use Rattle.std.specs.Prelude.{◌≡◌};
 ghost use Rattle.cranelift_isle.specs.Meaning.{many};
-ghost use Rattle.isle_interpreter.specs.ValueViews.{content_view, content_views, value_view};
+ghost use Rattle.run_terms.specs.ValueViews.{content_view, content_views, value_view};
 ghost use Rattle.cranelift_isle.specs.Envs.{constant_at};
 ghost use Rattle.cranelift_isle.specs.TypeViews.{type_views};
 ghost use Rattle.cranelift_isle.specs.TermViews.{term_views};
 ghost use Rattle.check_trials.specs.TrialAnswers.{answer_given, answers_of, constant_answer, gives_withheld, in_place_of, is_answer_withheld, is_withheld};
 
+use core_typed::checks::literal_number;
 use cranelift_isle::sema::{Sym, Term, TermId, TypeEnv, TypeId};
-use isle_calls::echo::{Echo, constant_number};
-use isle_interpreter::externs::Externs;
-use isle_interpreter::values::{Content, Value};
-use isle_typed::checks::literal_number;
+use run_terms::externs::Externs;
+use run_terms::values::{Content, Value};
+use run_traces::echo::{Echo, constant_number};
 use std::alloc::{AllocError, Global};
 
 /// The number that is withheld: what may give nothing, or is multi, gives nothing in its place.

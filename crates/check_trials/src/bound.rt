@@ -2,7 +2,7 @@
 
 use crate::trial::Trial;
 use cranelift_isle::trie_again::Binding;
-use isle_queries::premises::is_multi;
+use report_queries::premises::is_multi;
 
 /// How many results the calls of a trial's term give at most, or None where they give all: in one list of ten a multi term gives
 /// two. A term that makes impure calls gives all, since what is told of a run doesn't say which calls come before which result.

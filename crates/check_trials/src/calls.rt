@@ -4,10 +4,10 @@ use crate::fitting::why_left_out;
 use crate::trial::Trial;
 use crate::type_sizes::has_endless;
 use crate::values::Makings;
-use check_lists::chance::Chance;
+use check_support::chance::Chance;
 use cranelift_isle::lower::LoweredTerm;
 use cranelift_isle::sema::TypeId;
-use isle_interpreter::values::Value;
+use run_terms::values::Value;
 use std::alloc::{AllocError, Global};
 
 /// What is done with a term.

@@ -5,7 +5,7 @@ use crate::fitting::{can_be_extracted, can_be_given, is_of_numbers};
 use crate::rust_names::{is_composed, push_name, push_part, push_tuple, push_type};
 use cranelift_isle::lower::Lowered;
 use cranelift_isle::sema::{ExternalSig, ReturnKind, Term, TermFlags, TermKind, TypeEnv, TypeId};
-use isle_queries::names::term_name;
+use report_queries::names::term_name;
 use std::alloc::{AllocError, Global};
 
 // What a call with many answers gives them by: one after the other, each after a look at the context.

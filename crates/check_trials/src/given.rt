@@ -2,10 +2,10 @@
 
 use crate::fitting::is_of_numbers;
 use crate::rust_names::{labels, push_number, push_sym, push_type};
+use core_typed::checks::literal_number;
 use cranelift_isle::lower::Lowered;
 use cranelift_isle::sema::{Fields, Sym, Type, TypeEnv, TypeId, Variant};
-use isle_calls::echo::constant_number;
-use isle_typed::checks::literal_number;
+use run_traces::echo::constant_number;
 use std::alloc::{AllocError, Global};
 
 /// Adds the items that generated code takes from outside, with how many results a call gives at most.

@@ -19,8 +19,8 @@ mod value_texts;
 mod values;
 mod words;
 
-use isle_answers::answers::{cannot_read, end, no_memory, write_answer};
-use isle_answers::words::words;
+use report_queries::answers::{cannot_read, end, no_memory, write_answer};
+use report_queries::words::words;
 use std::alloc::{AllocError, Global};
 use std::io;
 use std::io::{Read, Write};

@@ -6,12 +6,12 @@ use crate::calls::{Called, calls_of};
 use crate::trial::Trial;
 use crate::value_texts::push_composed;
 use cranelift_isle::lower::LoweredTerm;
-use isle_calls::outcomes::outcome_text;
-use isle_interpreter::choose::choose;
-use isle_interpreter::run::run;
-use isle_interpreter::state::{Ending, Outcome};
-use isle_interpreter::values::Value;
-use isle_queries::premises::is_multi;
+use report_queries::premises::is_multi;
+use run_terms::choose::choose;
+use run_terms::run::run;
+use run_terms::state::{Ending, Outcome};
+use run_terms::values::Value;
+use run_traces::outcomes::outcome_text;
 use std::alloc::{AllocError, Global};
 
 /// A line for each call of each term: the call, and its outcome.

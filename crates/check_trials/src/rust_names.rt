@@ -3,8 +3,8 @@
 
 use cranelift_isle::lower::Lowered;
 use cranelift_isle::sema::{BuiltinType, Fields, IntType, Sym, Type, TypeEnv, TypeId};
-use isle_interpreter::values::Value;
-use isle_queries::names::{sym_name, variant_of};
+use report_queries::names::{sym_name, variant_of};
+use run_terms::values::Value;
 use std::alloc::{AllocError, Global};
 
 /// Adds a name as generated code writes it.

@@ -9,9 +9,9 @@ use crate::trial::Trial;
 use crate::value_texts::push_showing;
 use cranelift_isle::sema::Term;
 use cranelift_isle::syntax::Files;
-use isle_interpreter::values::Value;
-use isle_queries::premises::is_multi;
-use isle_rust::code::{CodeError, rust_code};
+use report_queries::premises::is_multi;
+use run_terms::values::Value;
+use rust_text::code::{CodeError, rust_code};
 use std::alloc::{AllocError, Global};
 
 // What all terms share.

@@ -3,8 +3,8 @@
 use cranelift_isle::lower::{Lowered, LoweredTerm, lower};
 use cranelift_isle::sema::TermId;
 use cranelift_isle::syntax::{Def, Extern, Fault, Ident, Pos, Rule};
-use isle_queries::names::term_name;
-use isle_queries::rules::lowered_term;
+use report_queries::names::term_name;
+use report_queries::rules::lowered_term;
 use std::alloc::{AllocError, Global};
 
 /// A term alone: what its list becomes where the other terms with rules are external constructors. So a tree's calls of them,

@@ -3,9 +3,9 @@
 use crate::rust_names::{labels, push_sym, push_type};
 use cranelift_isle::lower::Lowered;
 use cranelift_isle::sema::{BuiltinType, Fields, IntType, Sym, Type, TypeEnv, TypeId, Variant};
-use isle_calls::echo::constant_number;
-use isle_interpreter::values::Value;
-use isle_queries::names::{full_variant_name, sym_name, type_name};
+use report_queries::names::{full_variant_name, sym_name, type_name};
+use run_terms::values::Value;
+use run_traces::echo::constant_number;
 use std::alloc::{AllocError, Global};
 
 /// Adds a function for each type that tells a value of it.

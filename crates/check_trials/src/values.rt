@@ -1,13 +1,13 @@
 //! Values of types, made by chance.
 
 use crate::answers::WITHHELD;
-use check_lists::chance::Chance;
+use check_support::chance::Chance;
+use core_typed::checks::literal_number;
 use cranelift_isle::lower::Lowered;
 use cranelift_isle::sema::{BuiltinType, IntType, Sym, Type, TypeId, Variant};
 use cranelift_isle::trie_again::{Binding, Constraint, Rule, RuleSet};
-use isle_calls::echo::constant_number;
-use isle_interpreter::values::Value;
-use isle_typed::checks::literal_number;
+use run_terms::values::Value;
+use run_traces::echo::constant_number;
 use std::alloc::{AllocError, Global};
 
 // How many composed values nest at most.

@@ -3,17 +3,17 @@
 use crate::outcomes::outcomes;
 use crate::source::source;
 use crate::trial::{Trial, trials};
-use check_lists::{one_term, two_terms};
+use check_support::{one_term, two_terms};
 use cranelift_isle::lower::lower;
 use cranelift_isle::syntax::{Def, Error, Fault, Files};
-use isle_answers::answers::Answer;
-use isle_answers::samples::sample_text;
-use isle_answers::texts::syntax_error_line;
-use isle_queries::texts::{Places, error_lines};
-use isle_reader::errors::ReadFault;
-use isle_reader::read;
-use isle_rust::code::CodeError;
+use report_queries::answers::Answer;
+use report_queries::answers_texts::syntax_error_line;
+use report_queries::samples::sample_text;
+use report_queries::texts::{Places, error_lines};
+use rust_text::code::CodeError;
 use std::alloc::{AllocError, Global};
+use text_reader::errors::ReadFault;
+use text_reader::read;
 
 /// What is asked for.
 #[derive(Clone, Copy)]

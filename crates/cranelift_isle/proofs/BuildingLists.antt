@@ -20,24 +20,24 @@ use Rattle.model.specs.sites.RuleSets.{StandFor}
 use Rattle.model.specs.sites.Sites.{SiteSet}
 use Rattle.model.proofs.Elements.{contains_from_in, in_slice, none_some}
 use Rattle.model.proofs.Positions.{distinct_nil}
-use Rattle.laws_closure.specs.RuleByRule.{AreBuiltSoFar, GoesPast, of_one_term, or_nothing_built}
-use Rattle.laws_matching.specs.AnswerLaws.{BuiltSetsAreAnswered}
-use Rattle.laws_closure.proofs.building.SetsSoFar.{building_ends_lem, building_goes_on_lem, building_starts_lem, stands}
-use Rattle.laws_closure.proofs.overlaps.JudgedLists.{well_typed_rules_have_terms_lem}
-use Rattle.laws_closure.proofs.built.DistinctSites.{once_after}
+use Rattle.laws_sites.specs.RuleByRule.{AreBuiltSoFar, GoesPast, of_one_term, or_nothing_built}
+use Rattle.laws_trees.specs.AnswerLaws.{BuiltSetsAreAnswered}
+use Rattle.laws_sites.proofs.building.SetsSoFar.{building_ends_lem, building_goes_on_lem, building_starts_lem, stands}
+use Rattle.laws_sites.proofs.overlaps.JudgedLists.{well_typed_rules_have_terms_lem}
+use Rattle.laws_sites.proofs.built.DistinctSites.{once_after}
 use Rattle.laws_typing.specs.WellTypedPrograms.{ElaboratedProgramsAreWellTyped}
-use Rattle.isle_base.specs.declared.syntax.Error.{Error}
-use Rattle.isle_types.specs.declared.ids.TermId.{TermId}
-use Rattle.isle_terms.specs.TermViews.{term_views}
-use Rattle.isle_base.specs.ErrorViews.{error_views}
-use Rattle.isle_typed.specs.RuleViews.{rule_view, rule_views}
-use Rattle.isle_typed.specs.declared.rules.Rule.{Rule}
-use Rattle.isle_rules.specs.declared.term_env.TermEnv.{TermEnv}
-use Rattle.isle_rule_sets.specs.declared.trie_again.RuleSet.{RuleSet}
-use Rattle.isle_builder.specs.AddedRules.{HasTable, MayAddRule, SetGoesOn, report_views, set_so_far}
+use Rattle.core_syntax.specs.declared.syntax.Error.{Error}
+use Rattle.core_types.specs.declared.ids.TermId.{TermId}
+use Rattle.core_terms.specs.TermViews.{term_views}
+use Rattle.core_syntax.specs.ErrorViews.{error_views}
+use Rattle.core_typed.specs.RuleViews.{rule_view, rule_views}
+use Rattle.core_typed.specs.declared.rules.Rule.{Rule}
+use Rattle.core_rules.specs.declared.term_env.TermEnv.{TermEnv}
+use Rattle.core_rule_sets.specs.declared.trie_again.RuleSet.{RuleSet}
+use Rattle.core_builder.specs.AddedRules.{HasTable, MayAddRule, SetGoesOn, report_views, set_so_far}
 use Rattle.cranelift_isle.specs.SetsSoFar.{MayGoOn, StandAfter, term_set_at, sets_so_far}
 use Rattle.cranelift_isle.specs.BuiltSets.{ShowsElaborated, WereBuilt, term_set_views}
-use Rattle.isle_builder.specs.declared.term_sets.TermSet.{TermSet}
+use Rattle.core_builder.specs.declared.term_sets.TermSet.{TermSet}
 use Rattle.cranelift_isle.proofs.TermsAscending.{looked_up, terms_listed}
 
 -- 1. one more rule

@@ -3,7 +3,7 @@ use Rattle.std.proofs.Common.{◌≡◌, ℕ, Bool, List, [], ◌++◌, map, sli
 use Rattle.std.specs.Prelude.{Result, Ok, Err, IfOk}
 use Rattle.std.specs.Global.{Vec}
 use Rattle.std.proofs.lemmas.List.{map-append}
-use Rattle.isle_base.specs.declared.syntax.Fault.{Fault}
+use Rattle.core_syntax.specs.declared.syntax.Fault.{Fault}
 use Rattle.laws_trees.specs.NoLimits.{BuildsWithinLimits}
 use Rattle.model.specs.rules.Program.{Program, kind_of, flags_of, unknown, is_multi}
 use Rattle.model.specs.lists.Tables.{TermEntry}
@@ -11,19 +11,19 @@ use Rattle.model.specs.sites.Overlap.{RuleReport, check_reports}
 use Rattle.model.specs.sites.SetRules.{reports_of_sets}
 use Rattle.model.specs.claims.Layers.{CheckAnswers, IsCheckable}
 use Rattle.model.specs.claims.Refusals.{refusal_of}
-use Rattle.laws_closure.specs.SetReportLaws.{all_reports}
+use Rattle.laws_sites.specs.SetReportLaws.{all_reports}
 use Rattle.model.proofs.Mapped.{nothing_mapped}
-use Rattle.laws_closure.proofs.overlaps.SetChecks.{built_sets_are_checked_lem}
-use Rattle.laws_closure.proofs.overlaps.SetReports.{built_sets_are_reported_lem}
-use Rattle.isle_base.specs.declared.syntax.Error.{Error}
-use Rattle.isle_types.specs.declared.ids.TermId.{TermId}
-use Rattle.isle_rules.specs.declared.term_env.TermEnv.{TermEnv}
-use Rattle.isle_rule_sets.specs.declared.trie_again.RuleSet.{RuleSet}
-use Rattle.isle_builder.specs.AddedRules.{report_views}
+use Rattle.laws_sites.proofs.overlaps.SetChecks.{built_sets_are_checked_lem}
+use Rattle.laws_sites.proofs.overlaps.SetReports.{built_sets_are_reported_lem}
+use Rattle.core_syntax.specs.declared.syntax.Error.{Error}
+use Rattle.core_types.specs.declared.ids.TermId.{TermId}
+use Rattle.core_rules.specs.declared.term_env.TermEnv.{TermEnv}
+use Rattle.core_rule_sets.specs.declared.trie_again.RuleSet.{RuleSet}
+use Rattle.core_builder.specs.AddedRules.{report_views}
 use Rattle.cranelift_isle.specs.BuiltSets.{term_set_views, WereBuilt}
 use Rattle.cranelift_isle.specs.Checks.{env_program, IsChecked, NamesRules, ReportsAreErrors}
 use Rattle.cranelift_isle.proofs.NamedPlaces.{reports_name_rules}
-use Rattle.isle_base.specs.ErrorViews.{error_view, error_views}
+use Rattle.core_syntax.specs.ErrorViews.{error_view, error_views}
 
 -- where the rules of a program can be told apart, what is so of all such programs is so of it
 pub within : (p : Program) (result : Result (Vec (TermId × RuleSet)) Fault) → (IsCheckable p → BuildsWithinLimits p) → IsChecked p result → IfOk result (λ sets. BuildsWithinLimits p)

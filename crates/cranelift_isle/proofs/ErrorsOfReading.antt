@@ -1,22 +1,22 @@
 -- Errors of reading types and rules, as errors of the environments of definitions.
 use Rattle.std.proofs.Common.{◌≡◌, Bool, List, Err, sym, subst}
 use Rattle.std.specs.Prelude.{Result}
-use Rattle.isle_base.specs.Answers.{Answers, OnErrors}
-use Rattle.isle_base.specs.declared.syntax.Error.{Error}
-use Rattle.isle_base.specs.declared.syntax.Fault.{Fault}
-use Rattle.isle_base.specs.declared.syntax.Fault.TheVariants.{Memory, Errors}
-use Rattle.isle_base.specs.ErrorViews.{error_views}
+use Rattle.core_syntax.specs.Answers.{Answers, OnErrors}
+use Rattle.core_syntax.specs.declared.syntax.Error.{Error}
+use Rattle.core_syntax.specs.declared.syntax.Fault.{Fault}
+use Rattle.core_syntax.specs.declared.syntax.Fault.TheVariants.{Memory, Errors}
+use Rattle.core_syntax.specs.ErrorViews.{error_views}
 use Rattle.model.specs.lists.Syntax.{Definition}
 use Rattle.model.specs.lists.TypeTable.{IsValidTypes}
 use Rattle.model.specs.claims.Environments.{types_read}
 use Rattle.model.specs.claims.Refusals.{Refusal, NamesOnlyPassed, PassedInReading, RefusesTypes}
 use Rattle.laws_trees.specs.NoLimits.{PassedInLowering, in_reading}
 use Rattle.laws_trees.specs.OneAnswer.{AreCheckErrors}
-use Rattle.isle_rules.specs.LimitsNamed.{NamesTypedPastLimits, NamesFirstPastLimits}
-use Rattle.isle_rules.specs.RuleBreaches.{FirstBreaksRules}
-use Rattle.isle_rules.specs.RulesTold.{TellsReading}
-use Rattle.isle_types.specs.TypeBreaches.{FirstBreaksTypes}
-use Rattle.isle_types.specs.TypeErrors.{AreErrorsOfTypes}
+use Rattle.core_rules.specs.LimitsNamed.{NamesTypedPastLimits, NamesFirstPastLimits}
+use Rattle.core_rules.specs.RuleBreaches.{FirstBreaksRules}
+use Rattle.core_rules.specs.RulesTold.{TellsReading}
+use Rattle.core_types.specs.TypeBreaches.{FirstBreaksTypes}
+use Rattle.core_types.specs.TypeErrors.{AreErrorsOfTypes}
 use Rattle.cranelift_isle.specs.Environments.{AreTyped, BreaksWhereRefused, NamesLackedLimits, TellsOfEach}
 use Rattle.cranelift_isle.specs.declared.environments.Environments.{Environments}
 use Rattle.cranelift_isle.specs.declared.lower.Lowered.{Lowered}

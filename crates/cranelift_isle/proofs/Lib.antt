@@ -1,10 +1,10 @@
-mod TreesSoFar
-mod SharedTrees
-pub mod LoweredAnswers
+mod BuildingLists
 mod CheckedSets
-mod OneAnswer
+mod ErrorsOfReading
 mod NamedErrors
 mod NamedPlaces
-mod ErrorsOfReading
+mod OneAnswer
+mod SharedTrees
 mod TermsAscending
-mod BuildingLists
+mod TreesSoFar
+pub mod LoweredAnswers

@@ -3,11 +3,11 @@ use Rattle.std.proofs.Common.{◌≡◌, Bool, List, [], ◌∷◌, map, option_
 use Rattle.std.specs.Prelude.{All, Result, slice_index_or}
 use Rattle.std.specs.Global.{Vec}
 use Rattle.std.proofs.lemmas.List.Elements.{All-nil, All-cons, All-head, All-tail}
-use Rattle.isle_base.specs.Answers.{Answers, OnErrors}
-use Rattle.isle_base.specs.Positions.{HasSingleSpans, ErrorStandsAt, positions_of}
-use Rattle.isle_base.specs.declared.syntax.Error.{Error}
-use Rattle.isle_base.specs.declared.syntax.Fault.{Fault}
-use Rattle.isle_base.specs.declared.syntax.Fault.TheVariants.{Memory, Errors}
+use Rattle.core_syntax.specs.Answers.{Answers, OnErrors}
+use Rattle.core_syntax.specs.Positions.{HasSingleSpans, ErrorStandsAt, positions_of}
+use Rattle.core_syntax.specs.declared.syntax.Error.{Error}
+use Rattle.core_syntax.specs.declared.syntax.Fault.{Fault}
+use Rattle.core_syntax.specs.declared.syntax.Fault.TheVariants.{Memory, Errors}
 use Rattle.model.specs.lists.Syntax.{Definition}
 use Rattle.model.specs.lists.TypeTable.{IsValidTypes}
 use Rattle.model.specs.lists.Elaborated.{TypedRules, named}
@@ -24,12 +24,12 @@ use Rattle.laws_trees.specs.OneAnswer.{AreCheckErrors}
 use Rattle.laws_trees.proofs.OneAnswer.{typed_one}
 use Rattle.laws_trees.specs.WholeDemands.{AcceptedDemandsAreWhole, AcceptedSetsAreWhole}
 use Rattle.laws_typing.proofs.NoReadLimits.{elaborated_rules_are_within_limits_lem}
-use Rattle.laws_closure.specs.ShadowLaws.{check_errors}
-use Rattle.isle_types.specs.declared.ids.TermId.{TermId}
-use Rattle.isle_base.specs.ErrorViews.{error_views}
-use Rattle.isle_rules.specs.ShownEnvs.{environment_shown_by}
-use Rattle.isle_rules.specs.declared.term_env.TermEnv.{TermEnv}
-use Rattle.isle_rule_sets.specs.declared.trie_again.RuleSet.{RuleSet}
+use Rattle.laws_sites.specs.ShadowLaws.{check_errors}
+use Rattle.core_types.specs.declared.ids.TermId.{TermId}
+use Rattle.core_syntax.specs.ErrorViews.{error_views}
+use Rattle.core_rules.specs.ShownEnvs.{environment_shown_by}
+use Rattle.core_rules.specs.declared.term_env.TermEnv.{TermEnv}
+use Rattle.core_rule_sets.specs.declared.trie_again.RuleSet.{RuleSet}
 use Rattle.cranelift_isle.specs.BuiltSets.{IsOfElaborated, ShowsElaborated, term_set_views}
 use Rattle.cranelift_isle.specs.Checks.{IsChecked, NamesRules, OfErrors, ReportsAreErrors}
 use Rattle.cranelift_isle.proofs.NamedPlaces.{rules_stand}

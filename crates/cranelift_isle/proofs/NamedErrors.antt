@@ -2,17 +2,17 @@
 use Rattle.std.proofs.Common.{List, map, Ok, Err, sym, subst}
 use Rattle.std.specs.Prelude.{Result}
 use Rattle.std.specs.Global.{Vec}
-use Rattle.isle_base.specs.Answers.{OnErrors}
-use Rattle.isle_base.specs.declared.syntax.Fault.{Fault}
-use Rattle.isle_base.specs.declared.syntax.Fault.TheVariants.{Memory, Errors}
+use Rattle.core_syntax.specs.Answers.{OnErrors}
+use Rattle.core_syntax.specs.declared.syntax.Fault.{Fault}
+use Rattle.core_syntax.specs.declared.syntax.Fault.TheVariants.{Memory, Errors}
 use Rattle.model.specs.rules.Program.{Program}
 use Rattle.model.specs.sites.Overlap.{RuleReport}
 use Rattle.model.specs.claims.Layers.{CheckReports}
 use Rattle.model.specs.claims.Refusals.{Refusal, refusal_of}
-use Rattle.isle_types.specs.declared.ids.TermId.{TermId}
-use Rattle.isle_base.specs.ErrorViews.{error_views}
-use Rattle.isle_rule_sets.specs.declared.trie_again.RuleSet.{RuleSet}
-use Rattle.laws_closure.specs.ShadowLaws.{check_errors}
+use Rattle.core_types.specs.declared.ids.TermId.{TermId}
+use Rattle.core_syntax.specs.ErrorViews.{error_views}
+use Rattle.core_rule_sets.specs.declared.trie_again.RuleSet.{RuleSet}
+use Rattle.laws_sites.specs.ShadowLaws.{check_errors}
 use Rattle.cranelift_isle.specs.Checks.{IsChecked}
 
 pub named : (P : Program → List Refusal → Type 0) (p : Program) (result : Result (Vec (TermId × RuleSet)) Fault)

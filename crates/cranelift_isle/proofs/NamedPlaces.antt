@@ -20,15 +20,15 @@ use Rattle.model.specs.claims.Refusals.{refusal_of}
 use Rattle.model.proofs.Elements.{In, in_from_contains, contains_from_in, in_either, in_slice, in_filter, in_map, map_in, in_flat_map, from_flat_map}
 use Rattle.model.proofs.Members.{all_members}
 use Rattle.laws_typing.proofs.TypedRules.{lists_agree}
-use Rattle.laws_closure.proofs.overlaps.ListedOverlaps.{ascending_in}
-use Rattle.laws_closure.proofs.overlaps.Pairs.{sorted_in}
-use Rattle.laws_closure.proofs.overlaps.ReportedOverlaps.{built_of, wrong_means, report_of, masked_means}
-use Rattle.isle_base.specs.declared.syntax.Error.{Error}
-use Rattle.isle_base.specs.ErrorViews.{error_view, error_views}
-use Rattle.isle_base.specs.Positions.{HasSingleSpans, ErrorStandsAt, OccurAmong, definition_positions, positions_of, positions_named}
-use Rattle.isle_base.proofs.Positioned.{stand_among}
-use Rattle.isle_types.specs.TypePositions.{types_positions}
-use Rattle.isle_types.proofs.TablePositions.{table_among}
+use Rattle.laws_sites.proofs.overlaps.ListedOverlaps.{ascending_in}
+use Rattle.laws_sites.proofs.overlaps.Pairs.{sorted_in}
+use Rattle.laws_sites.proofs.overlaps.ReportedOverlaps.{built_of, wrong_means, report_of, masked_means}
+use Rattle.core_syntax.specs.declared.syntax.Error.{Error}
+use Rattle.core_syntax.specs.ErrorViews.{error_view, error_views}
+use Rattle.core_syntax.specs.Positions.{HasSingleSpans, ErrorStandsAt, OccurAmong, definition_positions, positions_of, positions_named}
+use Rattle.core_syntax.proofs.Positioned.{stand_among}
+use Rattle.core_types.specs.TypePositions.{types_positions}
+use Rattle.core_types.proofs.TablePositions.{table_among}
 use Rattle.cranelift_isle.specs.Checks.{rule_places, NamesRules}
 
 module _ (p : Program) where

@@ -1,7 +1,7 @@
 -- All that definitions become is one answer.
 use Rattle.laws_trees.proofs.OneAnswer.{lowering_gives_one_lem}
-use Rattle.isle_types.specs.EnvViews.{environment_view}
-use Rattle.isle_rules.specs.ShownEnvs.{environment_shown_by}
+use Rattle.core_types.specs.EnvViews.{environment_view}
+use Rattle.core_rules.specs.ShownEnvs.{environment_shown_by}
 use Rattle.cranelift_isle.specs.Lowerings.{lowered_views, LoweringIsAFunction}
 
 pub lowering_is_a_function_lem : LoweringIsAFunction

@@ -13,11 +13,11 @@ use Rattle.model.specs.rules.Program.{Program, numbers_from, terms_with_rules}
 use Rattle.model.specs.sites.Sites.{SiteSet}
 use Rattle.model.proofs.Elements.{In, contains_from_in, in_any, in_map, in_slice, map_in, slice_in}
 use Rattle.model.proofs.Members.{all_members, get_from_member}
-use Rattle.laws_closure.specs.RuleByRule.{AreLookedUp}
-use Rattle.laws_closure.specs.ReportLaws.{RulesHaveTerms}
-use Rattle.isle_builder.specs.AddedRules.{set_so_far}
+use Rattle.laws_sites.specs.RuleByRule.{AreLookedUp}
+use Rattle.laws_sites.specs.ReportLaws.{RulesHaveTerms}
+use Rattle.core_builder.specs.AddedRules.{set_so_far}
 use Rattle.cranelift_isle.specs.SetsSoFar.{term_set_at}
-use Rattle.isle_builder.specs.declared.term_sets.TermSet.{TermSet}
+use Rattle.core_builder.specs.declared.term_sets.TermSet.{TermSet}
 use Rattle.model.proofs.Numbers.{tied}
 
 -- 1. ascending numbers of a range

@@ -8,16 +8,16 @@ use Rattle.model.specs.sites.Overlap.{RuleReport}
 use Rattle.model.specs.sites.Sites.{SiteSet}
 use Rattle.model.specs.claims.Environments.{TypesRead, IsElaborated}
 use Rattle.model.specs.claims.Layers.{BuildAnswers}
-use Rattle.laws_closure.specs.ReportLaws.{RulesHaveTerms}
-use Rattle.isle_base.specs.declared.syntax.Error.{Error}
-use Rattle.isle_types.specs.declared.ids.TermId.{TermId}
-use Rattle.isle_terms.specs.TermViews.{term_views}
-use Rattle.isle_base.specs.ErrorViews.{error_views}
-use Rattle.isle_typed.specs.RuleViews.{rule_views}
-use Rattle.isle_rules.specs.declared.term_env.TermEnv.{TermEnv}
-use Rattle.isle_rule_sets.specs.SiteViews.{set_view}
-use Rattle.isle_builder.specs.AddedRules.{report_views}
-use Rattle.isle_rule_sets.specs.declared.trie_again.RuleSet.{RuleSet}
+use Rattle.laws_sites.specs.ReportLaws.{RulesHaveTerms}
+use Rattle.core_syntax.specs.declared.syntax.Error.{Error}
+use Rattle.core_types.specs.declared.ids.TermId.{TermId}
+use Rattle.core_terms.specs.TermViews.{term_views}
+use Rattle.core_syntax.specs.ErrorViews.{error_views}
+use Rattle.core_typed.specs.RuleViews.{rule_views}
+use Rattle.core_rules.specs.declared.term_env.TermEnv.{TermEnv}
+use Rattle.core_rule_sets.specs.SiteViews.{set_view}
+use Rattle.core_builder.specs.AddedRules.{report_views}
+use Rattle.core_rule_sets.specs.declared.trie_again.RuleSet.{RuleSet}
 
 -- sets of terms, without where they lie in memory
 abbrev pub term_set_view : TermId × RuleSet → ℕ × SiteSet

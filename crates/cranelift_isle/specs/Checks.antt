@@ -6,22 +6,22 @@ use Rattle.model.specs.lists.Syntax.{Definition, Position}
 use Rattle.model.specs.lists.Elaborated.{TypedRules}
 use Rattle.model.specs.claims.Environments.{TypesRead, IsElaborated, program_of}
 use Rattle.model.specs.claims.Refusals.{Refusal}
-use Rattle.laws_closure.specs.ShadowLaws.{check_errors}
-use Rattle.isle_base.specs.Answers.{OnErrors}
+use Rattle.laws_sites.specs.ShadowLaws.{check_errors}
+use Rattle.core_syntax.specs.Answers.{OnErrors}
 use Rattle.model.specs.sites.Overlap.{RuleReport}
 use Rattle.model.specs.claims.Layers.{CheckAnswers, CheckReports}
-use Rattle.isle_base.specs.declared.syntax.Error.{Error}
-use Rattle.isle_base.specs.declared.syntax.Fault.{Fault}
-use Rattle.isle_base.specs.declared.syntax.Fault.TheVariants.{Memory, Errors}
-use Rattle.isle_types.specs.declared.ids.TermId.{TermId}
-use Rattle.isle_terms.specs.TermViews.{term_views}
-use Rattle.isle_typed.specs.RuleViews.{rule_views}
-use Rattle.isle_rules.specs.declared.term_env.TermEnv.{TermEnv}
-use Rattle.isle_rule_sets.specs.declared.trie_again.RuleSet.{RuleSet}
-use Rattle.isle_builder.specs.AddedRules.{report_views}
+use Rattle.core_syntax.specs.declared.syntax.Error.{Error}
+use Rattle.core_syntax.specs.declared.syntax.Fault.{Fault}
+use Rattle.core_syntax.specs.declared.syntax.Fault.TheVariants.{Memory, Errors}
+use Rattle.core_types.specs.declared.ids.TermId.{TermId}
+use Rattle.core_terms.specs.TermViews.{term_views}
+use Rattle.core_typed.specs.RuleViews.{rule_views}
+use Rattle.core_rules.specs.declared.term_env.TermEnv.{TermEnv}
+use Rattle.core_rule_sets.specs.declared.trie_again.RuleSet.{RuleSet}
+use Rattle.core_builder.specs.AddedRules.{report_views}
 use Rattle.cranelift_isle.specs.BuiltSets.{ShowsElaborated, term_set_views}
-use Rattle.isle_base.specs.ErrorViews.{error_views}
-use Rattle.isle_base.specs.Positions.{positions_named}
+use Rattle.core_syntax.specs.ErrorViews.{error_views}
+use Rattle.core_syntax.specs.Positions.{positions_named}
 
 -- the terms and rules of an environment, as a program; which terms are multi needs no more of it
 abbrev pub env_program : TermEnv → Program

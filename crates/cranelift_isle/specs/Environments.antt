@@ -1,16 +1,16 @@
 -- What definitions become before their rules are compared, and what the errors say where they become nothing.
 use Rattle.std.specs.Prelude.{Bool, List}
-use Rattle.isle_base.specs.declared.syntax.Error.{Error}
+use Rattle.core_syntax.specs.declared.syntax.Error.{Error}
 use Rattle.model.specs.lists.Elaborated.{TypedRules}
 use Rattle.model.specs.lists.Syntax.{Definition}
 use Rattle.model.specs.lists.TypeTable.{IsValidTypes}
 use Rattle.model.specs.claims.Environments.{types_read, AreRulesOf, HasTypedRules, TermEnvironment, TypeEnvironment}
 use Rattle.model.specs.claims.Refusals.{Refusal}
-use Rattle.isle_rules.specs.LimitsNamed.{NamesTypedPastLimits, NamesFirstPastLimits}
-use Rattle.isle_rules.specs.RuleBreaches.{FirstBreaksRules}
-use Rattle.isle_rules.specs.RulesTold.{TellsReading}
-use Rattle.isle_types.specs.TypeBreaches.{FirstBreaksTypes}
-use Rattle.isle_types.specs.TypeErrors.{AreErrorsOfTypes}
+use Rattle.core_rules.specs.LimitsNamed.{NamesTypedPastLimits, NamesFirstPastLimits}
+use Rattle.core_rules.specs.RuleBreaches.{FirstBreaksRules}
+use Rattle.core_rules.specs.RulesTold.{TellsReading}
+use Rattle.core_types.specs.TypeBreaches.{FirstBreaksTypes}
+use Rattle.core_types.specs.TypeErrors.{AreErrorsOfTypes}
 
 -- the types of definitions are valid, their terms are valid and defined, each rule has a typed rule within the limits on
 -- expansions, and no two have one name

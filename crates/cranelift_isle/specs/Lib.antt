@@ -1,22 +1,22 @@
-pub mod Lowerings
+pub mod BuiltSets
 pub mod Checks
 pub mod Environments
+pub mod Lowerings
 pub mod SetsSoFar
-pub mod BuiltSets
-pub use Rattle.isle_base.specs.ErrorViews
-pub use Rattle.isle_base.specs.SyntaxViews
-pub use Rattle.isle_rule_sets.specs.SiteViews
-pub use Rattle.isle_rule_sets.specs.VariantTerms as TermsOfVariants
-pub use Rattle.isle_rules.specs.TermEnvs
-pub use Rattle.isle_serialize.specs.TreeViews
-pub use Rattle.isle_terms.specs.TermViews
-pub use Rattle.isle_typed.specs.ExprViews
-pub use Rattle.isle_typed.specs.PatternViews
-pub use Rattle.isle_typed.specs.RuleViews
-pub use Rattle.isle_types.specs.EnvViews
-pub use Rattle.isle_types.specs.Envs
-pub use Rattle.isle_types.specs.TypeViews
-pub use Rattle.isle_types.specs.Types
+pub use Rattle.core_syntax.specs.ErrorViews
+pub use Rattle.core_syntax.specs.SyntaxViews
+pub use Rattle.core_rule_sets.specs.SiteViews
+pub use Rattle.core_rule_sets.specs.VariantTerms as TermsOfVariants
+pub use Rattle.core_rules.specs.TermEnvs
+pub use Rattle.core_serialize.specs.TreeViews
+pub use Rattle.core_terms.specs.TermViews
+pub use Rattle.core_typed.specs.ExprViews
+pub use Rattle.core_typed.specs.PatternViews
+pub use Rattle.core_typed.specs.RuleViews
+pub use Rattle.core_types.specs.EnvViews
+pub use Rattle.core_types.specs.Envs
+pub use Rattle.core_types.specs.TypeViews
+pub use Rattle.core_types.specs.Types
 pub use Rattle.model.specs.claims.Environments as ElaboratedLists
 pub use Rattle.model.specs.claims.Headline
 pub use Rattle.model.specs.claims.Layers

@@ -12,10 +12,10 @@ use Rattle.model.specs.claims.Layers.{own_program, IsAccepted, LoweredTerm, Lowe
 use Rattle.model.specs.claims.SetMeanings.{DemandsAreWhole}
 use Rattle.laws_trees.specs.OneAnswer.{EachTwo, BecameSame}
 use Rattle.laws_trees.specs.WholeDemands.{IsWhole}
-use Rattle.isle_types.specs.EnvViews.{environment_view}
-use Rattle.isle_rules.specs.ShownEnvs.{environment_shown_by}
-use Rattle.isle_rule_sets.specs.SiteViews.{set_view}
-use Rattle.isle_serialize.specs.TreeViews.{tree_view}
+use Rattle.core_types.specs.EnvViews.{environment_view}
+use Rattle.core_rules.specs.ShownEnvs.{environment_shown_by}
+use Rattle.core_rule_sets.specs.SiteViews.{set_view}
+use Rattle.core_serialize.specs.TreeViews.{tree_view}
 use Rattle.cranelift_isle.specs.declared.lower.LoweredTerm as Code
 use Rattle.cranelift_isle.specs.declared.lower.Lowered.{Lowered}
 

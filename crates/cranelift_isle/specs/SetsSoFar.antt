@@ -8,11 +8,11 @@ use Rattle.model.specs.rules.Typed.{TypedRule}
 use Rattle.model.specs.rules.Program.{Program}
 use Rattle.model.specs.sites.Sites.{SiteSet}
 use Rattle.model.specs.sites.Overlap.{RuleReport}
-use Rattle.laws_closure.specs.RuleByRule.{AreBuiltSoFar}
-use Rattle.isle_base.specs.ErrorViews.{error_views}
-use Rattle.isle_base.specs.declared.syntax.Error.{Error}
-use Rattle.isle_builder.specs.AddedRules.{HasTable, report_views, set_so_far}
-use Rattle.isle_builder.specs.declared.term_sets.TermSet.{TermSet}
+use Rattle.laws_sites.specs.RuleByRule.{AreBuiltSoFar}
+use Rattle.core_syntax.specs.ErrorViews.{error_views}
+use Rattle.core_syntax.specs.declared.syntax.Error.{Error}
+use Rattle.core_builder.specs.AddedRules.{HasTable, report_views, set_so_far}
+use Rattle.core_builder.specs.declared.term_sets.TermSet.{TermSet}
 
 -- the set so far of each term that has one, by its number
 abbrev pub term_set_at : BTreeMap ℕ TermSet → ℕ → Option SiteSet

@@ -1,20 +1,20 @@
 //! The environments of definitions, also where `lower` answers errors of their rules.
 
 ghost use Rattle.std.specs.Prelude.{All};
-ghost use Rattle.isle_base.specs.Answers.{Answers, OnErrors};
-ghost use Rattle.isle_base.specs.ErrorViews.{error_views};
-ghost use Rattle.isle_base.specs.Positions.{ErrorStandsAt, positions_of};
-ghost use Rattle.isle_base.specs.SyntaxViews.{definition_views};
+ghost use Rattle.core_syntax.specs.Answers.{Answers, OnErrors};
+ghost use Rattle.core_syntax.specs.ErrorViews.{error_views};
+ghost use Rattle.core_syntax.specs.Positions.{ErrorStandsAt, positions_of};
+ghost use Rattle.core_syntax.specs.SyntaxViews.{definition_views};
 ghost use Rattle.model.specs.claims.Layers.{RefusedBy};
 ghost use Rattle.model.specs.claims.Refusals.{NamesOnlyPassed};
 ghost use Rattle.laws_trees.specs.NoLimits.{PassedInLowering};
-ghost use Rattle.isle_rules.specs.ShownEnvs.{environment_shown_by};
-ghost use Rattle.isle_types.specs.EnvViews.{environment_view};
+ghost use Rattle.core_rules.specs.ShownEnvs.{environment_shown_by};
+ghost use Rattle.core_types.specs.EnvViews.{environment_view};
 ghost use Rattle.cranelift_isle.specs.Environments.{AreEnvironments, AreTyped, BreaksWhereRefused, NamesLackedLimits, TellsOfEach};
 
-use isle_base::syntax::{Def, Fault};
-use isle_rules::TermEnv;
-use isle_types::TypeEnv;
+use core_rules::TermEnv;
+use core_syntax::syntax::{Def, Fault};
+use core_types::TypeEnv;
 use std::alloc::Global;
 
 /// What definitions become before their rules are compared.

@@ -2,9 +2,9 @@
 //! upstream crate's modules.
 #![tactic(auto)]
 
-pub use isle_base::{stablemapset, syntax};
-pub use isle_disjointsets::disjointsets;
-pub use isle_serialize::serialize;
+pub use core_containers::disjointsets;
+pub use core_serialize::serialize;
+pub use core_syntax::{stablemapset, syntax};
 
 pub mod environments;
 pub mod lower;

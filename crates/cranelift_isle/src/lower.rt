@@ -1,28 +1,28 @@
 //! One call from definitions to trees of tests.
 
 ghost use Rattle.std.specs.Prelude.{◌≡◌, List, map, All, IfOk};
-ghost use Rattle.isle_base.specs.Answers.{Answers, OnErrors};
-ghost use Rattle.isle_base.specs.Positions.{ErrorStandsAt, positions_of};
-ghost use Rattle.isle_base.specs.SyntaxViews.{definition_views};
+ghost use Rattle.core_syntax.specs.Answers.{Answers, OnErrors};
+ghost use Rattle.core_syntax.specs.Positions.{ErrorStandsAt, positions_of};
+ghost use Rattle.core_syntax.specs.SyntaxViews.{definition_views};
 ghost use Rattle.model.specs.claims.Layers.{IsBuiltForSome, RefusedBy};
 ghost use Rattle.model.specs.claims.Refusals.{NamesOnlyPassed};
 ghost use Rattle.laws_trees.specs.NoLimits.{PassedInLowering, PassNoLimit};
 ghost use Rattle.laws_trees.specs.OneAnswer.{AreCheckErrors};
 ghost use Rattle.laws_trees.specs.OneTree.{IsOnlyBest};
-ghost use Rattle.isle_base.specs.ErrorViews.{error_views};
+ghost use Rattle.core_syntax.specs.ErrorViews.{error_views};
 ghost use Rattle.cranelift_isle.specs.BuiltSets.{term_set_views};
-ghost use Rattle.isle_rule_sets.specs.SiteViews.{set_view};
-ghost use Rattle.isle_serialize.specs.TreeViews.{tree_view};
+ghost use Rattle.core_rule_sets.specs.SiteViews.{set_view};
+ghost use Rattle.core_serialize.specs.TreeViews.{tree_view};
 ghost use Rattle.cranelift_isle.specs.Environments.{BreaksWhereRefused, NamesLackedLimits, TellsOfEach};
 ghost use Rattle.cranelift_isle.specs.Lowerings.{lowered_views, set_of_term, AreAccepted, IsLowered, OfAccepted, ChooseAsSource, SharesTests, CollectBags, BindsBeforeAnyUse, DemandWhole, SetsAreWhole, LoweringIsAFunction};
 
 use crate::environments::{Environments, environments_of};
 use crate::overlap::check;
-use isle_base::syntax::{Def, Fault};
-use isle_rule_sets::trie_again::RuleSet;
-use isle_rules::TermEnv;
-use isle_serialize::serialize::{Block, serialize};
-use isle_types::{TermId, TypeEnv};
+use core_rule_sets::trie_again::RuleSet;
+use core_rules::TermEnv;
+use core_serialize::serialize::{Block, serialize};
+use core_syntax::syntax::{Def, Fault};
+use core_types::{TermId, TypeEnv};
 use laws_trees::{
     accepted_demands_are_whole, accepted_pass_no_limit, accepted_sets_are_whole,
     best_trees_bind_before_use, best_trees_keep_the_headline, best_trees_share_most,

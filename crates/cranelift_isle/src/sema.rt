@@ -1,14 +1,14 @@
 //! Types, terms and typed rules: what definitions mean.
 
-pub use isle_rules::TermEnv;
-pub use isle_terms::{
+pub use core_rules::TermEnv;
+pub use core_terms::{
     ConstructorKind, ExternalSig, ExtractorKind, ReturnKind, Term, TermFlags, TermKind, TermTable,
 };
-pub use isle_typed::{
+pub use core_typed::{
     Body, BoundIds, BoundVar, Expr, ExprVisitor, IfLet, Pattern, PatternVisitor, Rule, RuleVisitor,
     VisitFault, VisitedExpr,
 };
-pub use isle_types::{
+pub use core_types::{
     BuiltinType, FieldId, Fields, IntType, RuleId, StructField, StructFields, Sym, TermId,
     TupleField, TupleFields, Type, TypeEnv, TypeId, VarId, Variant, VariantId,
 };

@@ -9,23 +9,23 @@ ghost use Rattle.model.specs.lists.Syntax.{Definition};
 ghost use Rattle.model.specs.rules.Program.{Program};
 ghost use Rattle.model.specs.rules.Typed.{TypedRule};
 ghost use Rattle.model.specs.sites.Overlap.{build_reports};
-ghost use Rattle.isle_base.specs.Positions.{HasSingleSpans};
-ghost use Rattle.laws_closure.specs.RuleByRule.{or_nothing_built};
-ghost use Rattle.isle_typed.specs.RuleViews.{rule_view};
-ghost use Rattle.isle_builder.specs.AddedRules.{HasTable, set_so_far};
+ghost use Rattle.core_syntax.specs.Positions.{HasSingleSpans};
+ghost use Rattle.laws_sites.specs.RuleByRule.{or_nothing_built};
+ghost use Rattle.core_typed.specs.RuleViews.{rule_view};
+ghost use Rattle.core_builder.specs.AddedRules.{HasTable, set_so_far};
 ghost use Rattle.cranelift_isle.specs.SetsSoFar.{AreTables, MayGoOn, StandAfter, term_set_at, sets_so_far};
 ghost use Rattle.cranelift_isle.specs.BuiltSets.{IsOfElaborated, ShowsElaborated, WereBuilt, term_set_views};
 
-use isle_base::syntax::Error;
-use isle_builder::TermSet;
-pub use isle_rule_sets::trie_again::{
+use core_builder::TermSet;
+pub use core_rule_sets::trie_again::{
     Binding, BindingId, Constraint, OutOfRange, Overlap, Rule, RuleSet, TupleIndex,
 };
-use isle_rules::TermEnv;
-use isle_typed::UsedTerms;
-use isle_types::TermId;
-pub use isle_types::VariantTerms;
-use laws_matching::built_sets_are_answered;
+use core_rules::TermEnv;
+use core_syntax::syntax::Error;
+use core_typed::UsedTerms;
+use core_types::TermId;
+pub use core_types::VariantTerms;
+use laws_trees::built_sets_are_answered;
 use laws_typing::elaborated_programs_are_well_typed;
 use std::alloc::{AllocError, Global};
 use std::collections::BTreeMap;
@@ -77,7 +77,7 @@ fn take_set(alloc: Global, sets: &mut BTreeMap<usize, TermSet>, term: usize) -> 
 fn add_rule<E: UsedTerms>(
     alloc: Global,
     sets: &mut BTreeMap<usize, TermSet>,
-    rule: &isle_typed::Rule,
+    rule: &core_typed::Rule,
     termenv: &E,
     errors: &mut Vec<Error>,
 ) -> Result<(), AllocError>

@@ -1,3 +1,3 @@
+mod ReadTexts
 mod Telling
 mod Texts
-mod ReadTexts

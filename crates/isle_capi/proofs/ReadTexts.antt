@@ -2,10 +2,10 @@
 use Rattle.std.proofs.Common.{◌≡◌, ℕ, ◌+◌, ◌++◌, ◌==◌, Bool, false, List, [], ◌∷◌, refl, ap, ◌∙◌, subst, ◌&&◌, ◌||◌, is_some, length, Result, Ok, Err, IfOk}
 use Rattle.std.specs.declared.alloc.AllocError.{AllocError}
 use Rattle.cranelift_isle.specs.Syntax.{Definition}
-use Rattle.isle_command.specs.declared.reading.Reading.{Reading}
-use Rattle.isle_command.specs.declared.reading.Reading.TheVariants.{Defs, Unread}
-use Rattle.isle_command.specs.declared.words.Request.{Request}
-use Rattle.isle_command.specs.Readings.{has_no_definitions, is_comparison, mistake_of_text, mistakes_of_texts, none_without, AreOfText, AreOfTexts, IsReadingOf}
+use Rattle.app_command.specs.declared.reading.Reading.{Reading}
+use Rattle.app_command.specs.declared.reading.Reading.TheVariants.{Defs, Unread}
+use Rattle.app_command.specs.declared.words.Request.{Request}
+use Rattle.app_command.specs.Readings.{has_no_definitions, is_comparison, mistake_of_text, mistakes_of_texts, none_without, AreOfText, AreOfTexts, IsReadingOf}
 use Rattle.isle_capi.specs.declared.options.Asked.{Asked}
 use Rattle.isle_capi.specs.declared.options.Task.{Task}
 use Rattle.isle_capi.specs.declared.options.Task.TheVariants as A

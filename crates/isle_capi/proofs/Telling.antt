@@ -2,13 +2,13 @@
 use Rattle.std.proofs.Common.{◌≡◌, ◌≢◌, ◌≤◌, ◌⊎◌, ℕ, Bool, true, false, List, [], Option, Some, None, inl, inr, refl, sym, ap, ◌∙◌, ◌||◌, subst, arith, is_none, is_some, nat_eq, if◌then◌else◌, Result, Ok, Err, IfOk}
 use Rattle.std.proofs.lemmas.Bool.{eqb-false, eqb-true}
 use Rattle.std.specs.declared.alloc.AllocError.{AllocError}
-use Rattle.isle_command.specs.declared.answers.Answer.{Answer}
-use Rattle.isle_command.specs.declared.reading.Reading.{Reading}
-use Rattle.isle_command.specs.declared.words.Request.{Request}
-use Rattle.isle_command.specs.Codes.{IsNamesLine}
-use Rattle.isle_command.specs.Readings.{IsAcceptedReading}
-use Rattle.isle_command.specs.Statuses.{may_fail, IsStatusOfReading}
-use Rattle.isle_command.specs.TaskAnswers.{denies, has_one, IsAnswerToReading}
+use Rattle.app_command.specs.declared.answers.Answer.{Answer}
+use Rattle.app_command.specs.declared.reading.Reading.{Reading}
+use Rattle.app_command.specs.declared.words.Request.{Request}
+use Rattle.app_command.specs.Codes.{IsNamesLine}
+use Rattle.app_command.specs.Readings.{IsAcceptedReading}
+use Rattle.app_command.specs.Statuses.{may_fail, IsStatusOfReading}
+use Rattle.app_command.specs.TaskAnswers.{denies, has_one, IsAnswerToReading}
 use Rattle.isle_capi.specs.declared.options.Asked.{Asked}
 use Rattle.isle_capi.specs.declared.options.Task.{Task}
 use Rattle.isle_capi.specs.declared.options.Task.TheVariants as A

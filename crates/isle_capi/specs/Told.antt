@@ -1,16 +1,16 @@
 -- What a call answers to what the texts of files were read as, and with which text.
 use Rattle.std.specs.Prelude.{ℕ, ◌<◌, ◌≤◌, ◌≡◌, ◌≢◌, ◌⊎◌, false, true, List, [], ◌∷◌, is_none, length, nat_eq, string_bytes, take, if◌then◌else◌}
-use Rattle.isle_command.specs.declared.answers.Answer.{Answer}
-use Rattle.isle_command.specs.declared.reading.Reading.{Reading}
-use Rattle.isle_command.specs.declared.words.Format as CommandFormat
-use Rattle.isle_command.specs.declared.words.Format.TheVariants as C
-use Rattle.isle_command.specs.declared.words.Request.{Request}
-use Rattle.isle_command.specs.declared.words.Task as CommandTask
-use Rattle.isle_command.specs.declared.words.Task.TheVariants as T
-use Rattle.isle_command.specs.Codes.{IsNamesLine}
-use Rattle.isle_command.specs.Readings.{none_without, IsAcceptedReading, IsReadingOf}
-use Rattle.isle_command.specs.Statuses.{IsStatusOfReading}
-use Rattle.isle_command.specs.TaskAnswers.{IsAnswerToReading}
+use Rattle.app_command.specs.declared.answers.Answer.{Answer}
+use Rattle.app_command.specs.declared.reading.Reading.{Reading}
+use Rattle.app_command.specs.declared.words.Format as CommandFormat
+use Rattle.app_command.specs.declared.words.Format.TheVariants as C
+use Rattle.app_command.specs.declared.words.Request.{Request}
+use Rattle.app_command.specs.declared.words.Task as CommandTask
+use Rattle.app_command.specs.declared.words.Task.TheVariants as T
+use Rattle.app_command.specs.Codes.{IsNamesLine}
+use Rattle.app_command.specs.Readings.{none_without, IsAcceptedReading, IsReadingOf}
+use Rattle.app_command.specs.Statuses.{IsStatusOfReading}
+use Rattle.app_command.specs.TaskAnswers.{IsAnswerToReading}
 use Rattle.isle_capi.specs.declared.options.Asked.{Asked}
 use Rattle.isle_capi.specs.declared.options.Format.{Format}
 use Rattle.isle_capi.specs.declared.options.Format.TheVariants as F

@@ -1,7 +1,7 @@
 //! What is answered to files: Rust code, or what the command answers.
 
 ghost use Rattle.std.specs.Prelude.{◌≡◌, map, string_bytes, IfOk};
-ghost use Rattle.isle_command.specs.Readings.{none_without, IsReadingOf};
+ghost use Rattle.app_command.specs.Readings.{none_without, IsReadingOf};
 ghost use Rattle.isle_capi.specs.Calls.{HasText, IsAnswered, LeavesBehind};
 ghost use Rattle.isle_capi.specs.declared.options.Task.TheVariants.{Code};
 ghost use Rattle.isle_capi.specs.Told.{command_format, command_task, status_of, text_of, IsCommandAnswer, IsRequestOf, IsSaidTo, IsToldOf, IsToldOfTexts};
@@ -9,13 +9,13 @@ ghost use Rattle.isle_capi.specs.Told.{command_format, command_task, status_of, 
 use crate::options::{Asked, Format, Task};
 use crate::output::{Sizes, hand_over};
 use crate::statuses::{DONE, ERRORS, NO_CODE, NO_MEMORY};
+use app_command::answers::{Answer, answer_to_reading};
+use app_command::progress::Teller;
+use app_command::reading::{Reading, reading_of};
+use app_command::words::Request;
+use app_command::{code, words};
 use cranelift_isle::syntax::Files;
-use isle_command::answers::{Answer, answer_to_reading};
-use isle_command::progress::Teller;
-use isle_command::reading::{Reading, reading_of};
-use isle_command::words::Request;
-use isle_command::{code, words};
-use isle_rust::code::{CodegenOptions, Prefix};
+use rust_text::code::{CodegenOptions, Prefix};
 use std::alloc::{AllocError, Global};
 use std::io::sink;
 

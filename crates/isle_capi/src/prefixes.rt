@@ -5,7 +5,7 @@ ghost use Rattle.isle_capi.specs.Calls.{ArePrefixes};
 
 use crate::inputs::{FileLengths, Unread, add_up, files_of};
 use cranelift_isle::syntax::Files;
-use isle_rust::code::Prefix;
+use rust_text::code::Prefix;
 use std::alloc::{AllocError, Global};
 
 /// The prefixes that are handed in as files are: the beginning of a file's name in the place of a name, and what is shown for it

@@ -1,9 +1,9 @@
 //! Prints the trees of a built-in sample: `isle-tree SAMPLE`.
 #![tactic(auto)]
 
-use isle_answers::answers::no_memory;
-use isle_answers::sample_run::run_sample;
-use isle_answers::words::words;
+use report_queries::answers::no_memory;
+use report_queries::sample_run::run_sample;
+use report_queries::words::words;
 use std::alloc::AllocError;
 use std::process::ExitCode;
 

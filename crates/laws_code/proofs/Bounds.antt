@@ -2,8 +2,8 @@
 use Rattle.std.proofs.Common.{◌++◌, ℕ, suc, length, drop, sym, ap, ◌∙◌}
 use Rattle.std.proofs.lemmas.List.{take-append-drop, length-take-le}
 use Rattle.model.specs.rules.Outcome.{Outcome}
-use Rattle.code_model.specs.CodeLaws.{IsCut}
-use Rattle.code_model.specs.PrintedCode.{PrintedCodeRuns}
+use Rattle.model_code.specs.CodeLaws.{IsCut}
+use Rattle.model_code.specs.PrintedCode.{PrintedCodeRuns}
 use Rattle.laws_code.specs.Bounds.{KeepsBound, CodeKeepsBound}
 
 cut_keeps : (most : ℕ) (whole cut : Outcome) → IsCut most whole cut → KeepsBound most whole cut

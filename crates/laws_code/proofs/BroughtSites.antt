@@ -3,8 +3,8 @@ use Rattle.std.proofs.Common.{◌≡◌, ℕ, zero, suc, Bool, true, List, [], �
 use Rattle.model.specs.sites.Sites.{Site, match_variant_site, extract_struct_site, match_some_site, Constraint, is_variant, is_struct, is_bool, is_int, is_prim, is_present, sources_at}
 use Rattle.model.specs.trees.Places.{waits, is_variant_field, is_struct_field, is_part_of, site_from, each_field, fields_of, field_sites}
 use Rattle.model.proofs.Members.{nothing_in, in_cases, in_alone}
-use Rattle.laws_runs.proofs.runs.Contents.{sources_in}
-use Rattle.laws_runs.proofs.runs.FieldSites.{site_passes, variant_field_same, struct_field_same, part_same}
+use Rattle.laws_trees.proofs.runs.Contents.{sources_in}
+use Rattle.laws_trees.proofs.runs.FieldSites.{site_passes, variant_field_same, struct_field_same, part_same}
 
 -- a field that this constraint gives this source
 abbrev pub IsBrought : List Site → ℕ → Constraint → ℕ → Type 0

@@ -4,7 +4,7 @@ use Rattle.std.proofs.lemmas.Bool.{true≢false}
 use Rattle.std.proofs.lemmas.List.Sorted.{IsPermutation-refl, length_permutation}
 use Rattle.model.specs.rules.Meaning.{Content, nothing, just}
 use Rattle.model.specs.rules.Outcome.{Ending, ended, ran_through}
-use Rattle.code_model.specs.CodeLaws.{IsCut}
+use Rattle.model_code.specs.CodeLaws.{IsCut}
 use Rattle.laws_code.specs.ChoiceSamples.{three, gives, first_two, whole, BoundsAreKept}
 
 abbrev goes_through : Ending → Bool

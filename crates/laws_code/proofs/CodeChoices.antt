@@ -10,8 +10,8 @@ use Rattle.model.specs.rules.Picks.{bag}
 use Rattle.model.specs.trees.Run.{world_of}
 use Rattle.model.specs.trees.Collects.{Collects}
 use Rattle.model.specs.claims.Layers.{own_program, BestTreesKeepTheHeadline}
-use Rattle.code_model.specs.CodeLaws.{IsCut}
-use Rattle.code_model.specs.PrintedCode.{PrintedCodeRuns}
+use Rattle.model_code.specs.CodeLaws.{IsCut}
+use Rattle.model_code.specs.PrintedCode.{PrintedCodeRuns}
 use Rattle.laws_code.specs.CodeChoices.{CollectsUpTo, CodeOfLoweredTermsMeans, CodeChoosesAsSource}
 
 -- what a list without elements begins with

@@ -16,13 +16,13 @@ use Rattle.model.specs.claims.Layers.{own_program}
 use Rattle.laws_typing.proofs.WellTypedRules.{read_programs_are_well_typed}
 use Rattle.laws_trees.proofs.JudgeExactness.{not_exact}
 use Rattle.laws_code.proofs.BroughtSites.{IsBrought, is_brought, brought_waits, brought_source}
-use Rattle.code_model.specs.Code.{Block, statement}
-use Rattle.code_model.specs.TreeCode.{Passes, place_of, arguments_from, fields_of, bind_code, binds_code, loop_code, tree_code, check_code, arms_code}
-use Rattle.code_model.specs.Scopes.{LoopsAreOverBound}
-use Rattle.code_model.specs.Moves.{other, others, fresh_after, block_takes, statement_takes, arms_take, goes_over, is_called}
-use Rattle.code_model.proofs.FlatMoves.{flat_keeps_moves_lem}
-use Rattle.code_model.proofs.PrintedCode.{tree_unlabelled}
-use Rattle.code_model.proofs.TreeScopes.{ended_or}
+use Rattle.model_code.specs.Code.{Block, statement}
+use Rattle.model_code.specs.TreeCode.{Passes, place_of, arguments_from, fields_of, bind_code, binds_code, loop_code, tree_code, check_code, arms_code}
+use Rattle.model_code.specs.Scopes.{LoopsAreOverBound}
+use Rattle.model_code.specs.Moves.{other, others, fresh_after, block_takes, statement_takes, arms_take, goes_over, is_called}
+use Rattle.model_code.proofs.FlatMoves.{flat_keeps_moves_lem}
+use Rattle.model_code.proofs.PrintedCode.{tree_unlabelled}
+use Rattle.model_code.proofs.TreeScopes.{ended_or}
 use Rattle.laws_code.specs.CodeMoves.{HasLoopOver, CallsAreGoneOver, CallsAreGoneOverInBuiltSets, LoopsTakeOnce, CodeOfAcceptedTakesOnce}
 use Rattle.laws_code.specs.CodeScopes.{BuiltSetsLoopOverBound}
 

@@ -8,12 +8,12 @@ use Rattle.model.specs.trees.Places.{is_in_place}
 use Rattle.model.specs.claims.Layers.{own_program}
 use Rattle.laws_typing.specs.WellTypedPrograms.{IsWellTypedProgram}
 use Rattle.laws_typing.proofs.WellTypedRules.{read_programs_are_well_typed}
-use Rattle.laws_closure.proofs.built.BuiltSets.{BuiltSet}
-use Rattle.laws_runs.proofs.runs.Contents.{unfolded_layer}
-use Rattle.laws_matching.proofs.taken.BuiltSites.{sites_stand}
-use Rattle.laws_matching.proofs.taken.Forms.{Form, form, a_value, IsOfForm}
+use Rattle.laws_sites.proofs.built.BuiltSets.{BuiltSet}
+use Rattle.laws_trees.proofs.runs.Contents.{unfolded_layer}
+use Rattle.laws_trees.proofs.taken.BuiltSites.{sites_stand}
+use Rattle.laws_trees.proofs.taken.Forms.{Form, form, a_value, IsOfForm}
 use Rattle.laws_trees.specs.BuiltLaws.{BestTreesBindBeforeUse}
-use Rattle.code_model.specs.Scopes.{LoopsAreOverBound, PrintedCodeIsScoped}
+use Rattle.model_code.specs.Scopes.{LoopsAreOverBound, PrintedCodeIsScoped}
 use Rattle.laws_code.specs.CodeScopes.{BuiltSetsLoopOverBound, CodeOfAcceptedIsScoped}
 
 one_answer : (optional : Bool) (k : ℕ) → form true optional k ≡ a_value → ⊥

@@ -20,19 +20,19 @@ use Rattle.model.proofs.Elements.{In, in_either, in_from_contains, contains_from
 use Rattle.laws_typing.specs.WellTypedPrograms.{IsWellTypedProgram}
 use Rattle.laws_typing.proofs.FormedParts.{from_if, type_is}
 use Rattle.laws_typing.proofs.WellTypedPrograms.{variant_takes, struct_takes}
-use Rattle.laws_visits.proofs.AskedSites.{Same, same_binding, equating_binds, asked_binds}
-use Rattle.laws_visits.proofs.GrowingVisits.{expr_adds, rule_adds}
-use Rattle.laws_visits.proofs.Patterns.{its_kind, term_known}
-use Rattle.laws_visits.proofs.PatternParts.{AsMany, pattern_parts, from_part, from_bind, pattern_within, parts_within, each_within, as_many, outside}
-use Rattle.laws_visits.proofs.RuleParts.{iflet_parts, rule_parts}
-use Rattle.laws_visits.proofs.SameExprs.{AreWithin, from_let, from_term, from_body, expr_keeps}
-use Rattle.laws_visits.proofs.WithSites.{by_equating, open_binds}
-use Rattle.laws_visits.proofs.WithTypes.{Facts, AtEachTyped, all_fields_each, outputs_each}
-use Rattle.laws_closure.proofs.Closing.{closing_is_sound_lem}
-use Rattle.laws_closure.proofs.built.BuiltGates.{set_rule, WasBuilt, was_built}
-use Rattle.laws_closure.proofs.built.BuiltSets.{BuiltSet, RuleOfSet, of_term}
-use Rattle.code_model.specs.Modes.{pattern_typed}
-use Rattle.code_model.specs.SiteTypes.{one_type, field_type, types_at, is_composed, are_copied}
+use Rattle.laws_sites.proofs.AskedSites.{Same, same_binding, equating_binds, asked_binds}
+use Rattle.laws_sites.proofs.GrowingVisits.{expr_adds, rule_adds}
+use Rattle.laws_sites.proofs.Patterns.{its_kind, term_known}
+use Rattle.laws_sites.proofs.PatternParts.{AsMany, pattern_parts, from_part, from_bind, pattern_within, parts_within, each_within, as_many, outside}
+use Rattle.laws_sites.proofs.RuleParts.{iflet_parts, rule_parts}
+use Rattle.laws_sites.proofs.SameExprs.{AreWithin, from_let, from_term, from_body, expr_keeps}
+use Rattle.laws_sites.proofs.WithSites.{by_equating, open_binds}
+use Rattle.laws_sites.proofs.WithTypes.{Facts, AtEachTyped, all_fields_each, outputs_each}
+use Rattle.laws_sites.proofs.Closing.{closing_is_sound_lem}
+use Rattle.laws_sites.proofs.built.BuiltGates.{set_rule, WasBuilt, was_built}
+use Rattle.laws_sites.proofs.built.BuiltSets.{BuiltSet, RuleOfSet, of_term}
+use Rattle.model_code.specs.Modes.{pattern_typed}
+use Rattle.model_code.specs.SiteTypes.{one_type, field_type, types_at, is_composed, are_copied}
 use Rattle.laws_code.specs.TypedTrees.{ConstrainsByTypes, BuiltSetsConstrainByTypes}
 use Rattle.laws_code.proofs.TypedSets.{field_of_type, shaped_types, uses_of, demands_shaped}
 

@@ -14,16 +14,16 @@ use Rattle.model.specs.trees.Places.{waits, joins_in}
 use Rattle.model.proofs.Elements.{in_from_contains, in_slice}
 use Rattle.model.proofs.Members.{nothing_in, in_cases, in_alone}
 use Rattle.laws_typing.specs.WellTypedPrograms.{IsWellTypedProgram}
-use Rattle.laws_visits.proofs.Patterns.{by_field}
-use Rattle.laws_visits.proofs.WithSites.{by_leaf, KeptWithSites, rule_given}
-use Rattle.laws_closure.proofs.Closing.{closing_is_sound_lem}
-use Rattle.laws_closure.proofs.built.BuiltGates.{set_rule, WasBuilt, was_built}
-use Rattle.laws_closure.proofs.built.BuiltSets.{BuiltSet, RuleOfSet}
-use Rattle.laws_closure.proofs.built.DistinctSites.{one_number}
-use Rattle.laws_closure.proofs.built.MultiCalls.{multi_calls_are_gone_over_lem}
-use Rattle.laws_runs.proofs.runs.Contents.{unfolded_layer}
-use Rattle.laws_matching.proofs.taken.BuiltSites.{sites_stand}
-use Rattle.laws_matching.proofs.taken.Forms.{Form, form, a_value, IsCall, IsOfForm, AreValues}
+use Rattle.laws_sites.proofs.Patterns.{by_field}
+use Rattle.laws_sites.proofs.WithSites.{by_leaf, KeptWithSites, rule_given}
+use Rattle.laws_sites.proofs.Closing.{closing_is_sound_lem}
+use Rattle.laws_sites.proofs.built.BuiltGates.{set_rule, WasBuilt, was_built}
+use Rattle.laws_sites.proofs.built.BuiltSets.{BuiltSet, RuleOfSet}
+use Rattle.laws_sites.proofs.built.DistinctSites.{one_number}
+use Rattle.laws_sites.proofs.built.MultiCalls.{multi_calls_are_gone_over_lem}
+use Rattle.laws_trees.proofs.runs.Contents.{unfolded_layer}
+use Rattle.laws_trees.proofs.taken.BuiltSites.{sites_stand}
+use Rattle.laws_trees.proofs.taken.Forms.{Form, form, a_value, IsCall, IsOfForm, AreValues}
 use Rattle.laws_code.specs.CodeMoves.{HasLoopOver, CallsAreGoneOver, CallsAreGoneOverInBuiltSets}
 
 abbrev IsOther : Program → SiteTerm → Type 0

@@ -5,9 +5,9 @@ use Rattle.model.specs.rules.Program.{arg_types}
 use Rattle.model.specs.sites.Sites.{Constraint, SetRule, is_int, unfold_site}
 use Rattle.model.proofs.Elements.{in_from_contains}
 use Rattle.model.proofs.Members.{in_head}
-use Rattle.code_model.specs.Modes.{pattern_typed}
-use Rattle.code_model.specs.Samples.{sites, is_a}
-use Rattle.code_model.specs.SiteTypes.{types_at, are_copied}
+use Rattle.model_code.specs.Modes.{pattern_typed}
+use Rattle.model_code.specs.Samples.{sites, is_a}
+use Rattle.model_code.specs.SiteTypes.{types_at, are_copied}
 use Rattle.laws_code.specs.TypedTrees.{ConstrainsByTypes}
 use Rattle.laws_code.specs.TypedSamples.{with_constants, a_rule, asks, ConstraintsAreJudged}
 

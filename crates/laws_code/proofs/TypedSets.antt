@@ -12,16 +12,16 @@ use Rattle.model.specs.sites.Sites.{Site, bool_site, int_site, prim_site, argume
 use Rattle.model.specs.visits.Demands.{demands_of}
 use Rattle.model.proofs.Elements.{in_from_contains, contains_from_in, in_either, from_flat_map}
 use Rattle.laws_typing.specs.WellTypedPrograms.{IsWellTypedProgram}
-use Rattle.laws_visits.specs.RuleUses.{matched_in, called_in}
-use Rattle.laws_closure.proofs.built.BuiltSets.{BuiltSet, of_term}
-use Rattle.laws_runs.proofs.runs.Contents.{unfolded_layer}
-use Rattle.laws_matching.proofs.total.Shaped.{Uses, Shaped, shaped_bool, shaped_int, shaped_prim, shaped_argument, shaped_extractor, shaped_pure, shaped_impure, shaped_pick, shaped_variant, shaped_variant_field, shaped_struct, shaped_struct_field, shaped_some, shaped_part, shaped_tuple, ShapedAll, shaped_and, HasShape, extractor_shape, pure_shape, impure_shape}
-use Rattle.laws_matching.proofs.total.ShapedSites.{AreShaped, rule_shaped}
-use Rattle.laws_matching.proofs.taken.BuiltSites.{sites_stand}
-use Rattle.laws_matching.proofs.taken.Fits.{IsField}
-use Rattle.code_model.specs.TreeCode.{place_of}
-use Rattle.code_model.specs.Modes.{Types, is_value, copy_is_value, takes_what_is, is_typed_at, argument_typed, arguments_typed, fields_typed, inside_typed, is_seen, site_typed, pattern_typed, place_in, IsTypedSet}
-use Rattle.code_model.specs.SiteTypes.{one_type, or_no_types, field_type, types_at, is_composed, is_one_composed, are_copied, is_held_by_reference, mode_of, is_copied_at, types_of}
+use Rattle.laws_sites.specs.RuleUses.{matched_in, called_in}
+use Rattle.laws_sites.proofs.built.BuiltSets.{BuiltSet, of_term}
+use Rattle.laws_trees.proofs.runs.Contents.{unfolded_layer}
+use Rattle.laws_trees.proofs.total.Shaped.{Uses, Shaped, shaped_bool, shaped_int, shaped_prim, shaped_argument, shaped_extractor, shaped_pure, shaped_impure, shaped_pick, shaped_variant, shaped_variant_field, shaped_struct, shaped_struct_field, shaped_some, shaped_part, shaped_tuple, ShapedAll, shaped_and, HasShape, extractor_shape, pure_shape, impure_shape}
+use Rattle.laws_trees.proofs.total.ShapedSites.{AreShaped, rule_shaped}
+use Rattle.laws_trees.proofs.taken.BuiltSites.{sites_stand}
+use Rattle.laws_trees.proofs.taken.Fits.{IsField}
+use Rattle.model_code.specs.TreeCode.{place_of}
+use Rattle.model_code.specs.Modes.{Types, is_value, copy_is_value, takes_what_is, is_typed_at, argument_typed, arguments_typed, fields_typed, inside_typed, is_seen, site_typed, pattern_typed, place_in, IsTypedSet}
+use Rattle.model_code.specs.SiteTypes.{one_type, or_no_types, field_type, types_at, is_composed, is_one_composed, are_copied, is_held_by_reference, mode_of, is_copied_at, types_of}
 use Rattle.laws_code.specs.TypedTrees.{ConstrainsByTypes, BuiltSetsAreTyped}
 use Rattle.laws_code.proofs.PickedCalls.{called_is_multi}
 

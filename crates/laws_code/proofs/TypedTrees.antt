@@ -8,7 +8,7 @@ use Rattle.model.specs.trees.Places.{Around, nothing_around, field_sites, in_arm
 use Rattle.model.specs.trees.Best.{BestSteps, BestArms}
 use Rattle.model.proofs.Members.{in_head, in_tail, some_member, member_from_get, get_within, constraint_in}
 use Rattle.std.proofs.lemmas.List.Elements.{All-contains}
-use Rattle.code_model.specs.Modes.{Types, is_typed_at, inside_typed, field_typed, site_typed, binds_typed, brought_typed, tree_typed, check_typed, arms_typed, place_in, IsTypedSet}
+use Rattle.model_code.specs.Modes.{Types, is_typed_at, inside_typed, field_typed, site_typed, binds_typed, brought_typed, tree_typed, check_typed, arms_typed, place_in, IsTypedSet}
 use Rattle.laws_code.specs.TypedTrees.{TypedSetsHaveTypedTrees}
 use Rattle.laws_code.proofs.BroughtSites.{IsBrought, is_brought}
 

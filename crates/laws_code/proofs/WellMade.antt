@@ -6,14 +6,14 @@ use Rattle.model.specs.trees.Run.{World, world_of, at_start}
 use Rattle.model.specs.trees.Collects.{Collects}
 use Rattle.model.specs.claims.Layers.{own_program, LoweredTerm}
 use Rattle.laws_typing.proofs.WellTypedRules.{read_programs_are_well_typed}
-use Rattle.code_model.specs.Code.{Block}
-use Rattle.code_model.specs.CodeRuns.{outcome_of, code_run}
-use Rattle.code_model.specs.TreeCode.{tree_code}
-use Rattle.code_model.specs.Flat.{flat}
-use Rattle.code_model.specs.Modes.{passes_of, PassesByTypesFit}
-use Rattle.code_model.specs.MovedOnce.{FittingCodeMovesOnce}
-use Rattle.code_model.specs.Saving.{WithMovesSaysSame, WithMovesIsMadeWell}
-use Rattle.code_model.specs.SiteTypes.{types_of}
+use Rattle.model_code.specs.Code.{Block}
+use Rattle.model_code.specs.CodeRuns.{outcome_of, code_run}
+use Rattle.model_code.specs.TreeCode.{tree_code}
+use Rattle.model_code.specs.Flat.{flat}
+use Rattle.model_code.specs.Modes.{passes_of, PassesByTypesFit}
+use Rattle.model_code.specs.MovedOnce.{FittingCodeMovesOnce}
+use Rattle.model_code.specs.Saving.{WithMovesSaysSame, WithMovesIsMadeWell}
+use Rattle.model_code.specs.SiteTypes.{types_of}
 use Rattle.laws_code.specs.CodeChoices.{CollectsUpTo, MeansItsSource, CodeChoosesAsSource}
 use Rattle.laws_code.specs.CodeScopes.{CodeOfAcceptedIsScoped}
 use Rattle.laws_code.specs.CodeMoves.{CodeOfAcceptedTakesOnce}

@@ -6,9 +6,9 @@ use Rattle.model.specs.rules.Program.{Program}
 use Rattle.model.specs.sites.RuleSets.{IsBuilt}
 use Rattle.model.specs.trees.Best.{IsBestTree}
 use Rattle.model.specs.claims.Layers.{own_program, IsAccepted, LoweredTerm}
-use Rattle.code_model.specs.Code.{Block}
-use Rattle.code_model.specs.TreeCode.{Passes, tree_code}
-use Rattle.code_model.specs.Flat.{flat}
+use Rattle.model_code.specs.Code.{Block}
+use Rattle.model_code.specs.TreeCode.{Passes, tree_code}
+use Rattle.model_code.specs.Flat.{flat}
 
 -- what holds of each best tree of a set that is built of accepted definitions
 abbrev pub OfBestTrees : (Program → LoweredTerm → Type 0) → Type 0

@@ -6,10 +6,10 @@ use Rattle.model.specs.sites.Sites.{SiteSet}
 use Rattle.model.specs.trees.Trees.{Tree}
 use Rattle.model.specs.trees.Run.{World, run}
 use Rattle.model.specs.trees.Best.{IsBestTree}
-use Rattle.code_model.specs.CodeLaws.{IsBeginning}
-use Rattle.code_model.specs.CodeRuns.{code_run}
-use Rattle.code_model.specs.TreeCode.{Passes, tree_code}
-use Rattle.code_model.specs.Flat.{flat}
+use Rattle.model_code.specs.CodeLaws.{IsBeginning}
+use Rattle.model_code.specs.CodeRuns.{code_run}
+use Rattle.model_code.specs.TreeCode.{Passes, tree_code}
+use Rattle.model_code.specs.Flat.{flat}
 
 -- below the bound the outcome of the tree: its results, its calls, its ending. At the bound so many results, the first ones of the tree,
 -- and a return: no failure, and it isn't stuck. So always a part of the tree's results, and some first ones of its calls. How many of

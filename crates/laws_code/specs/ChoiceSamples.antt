@@ -2,7 +2,7 @@
 use Rattle.std.specs.Prelude.{◌∷◌, [], List}
 use Rattle.model.specs.rules.Meaning.{Content, nothing, just}
 use Rattle.model.specs.rules.Outcome.{Outcome, ended, failed, ran_through, stuck, Ending}
-use Rattle.code_model.specs.CodeLaws.{IsCut}
+use Rattle.model_code.specs.CodeLaws.{IsCut}
 use Rattle.laws_code.specs.Bounds.{KeepsBound}
 use Rattle.laws_code.specs.CodeChoices.{CollectsUpTo}
 

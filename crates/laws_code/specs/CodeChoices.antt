@@ -11,8 +11,8 @@ use Rattle.model.specs.sites.Serves.{Serves, TellsConstantsApart}
 use Rattle.model.specs.trees.Run.{world_of}
 use Rattle.model.specs.trees.Collects.{Collects, HasCollectedResults}
 use Rattle.model.specs.claims.Layers.{IsLoweredTerm, LoweredTerm}
-use Rattle.code_model.specs.Code.{Block}
-use Rattle.code_model.specs.CodeRuns.{code_run}
+use Rattle.model_code.specs.Code.{Block}
+use Rattle.model_code.specs.CodeRuns.{code_run}
 use Rattle.laws_code.specs.AcceptedCode.{OfBestTrees, EachCode}
 
 -- what holds on all well-typed arguments, under every meaning that serves the term's rules and tells constants apart

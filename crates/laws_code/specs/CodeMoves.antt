@@ -4,11 +4,11 @@ use Rattle.model.specs.sites.Sites.{Site, iterator_site, Constraint, SetRule, Si
 use Rattle.model.specs.trees.Trees.{Tree}
 use Rattle.model.specs.trees.Best.{IsBestTree}
 use Rattle.model.specs.trees.Places.{waits, joins_in}
-use Rattle.laws_closure.specs.BuiltSets.{OfBuiltSets}
-use Rattle.code_model.specs.Moves.{TakesOnce}
-use Rattle.code_model.specs.Scopes.{LoopsAreOverBound}
-use Rattle.code_model.specs.TreeCode.{Passes, tree_code}
-use Rattle.code_model.specs.Flat.{flat}
+use Rattle.laws_sites.specs.BuiltSets.{OfBuiltSets}
+use Rattle.model_code.specs.Moves.{TakesOnce}
+use Rattle.model_code.specs.Scopes.{LoopsAreOverBound}
+use Rattle.model_code.specs.TreeCode.{Passes, tree_code}
+use Rattle.model_code.specs.Flat.{flat}
 use Rattle.laws_code.specs.AcceptedCode.{OfBestTrees, EachCode}
 
 -- a call that a loop may go over

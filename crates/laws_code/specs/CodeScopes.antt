@@ -1,6 +1,6 @@
 -- What the code of a tree of accepted definitions reads is in scope.
-use Rattle.laws_closure.specs.BuiltSets.{OfBuiltSets}
-use Rattle.code_model.specs.Scopes.{IsScoped, LoopsAreOverBound}
+use Rattle.laws_sites.specs.BuiltSets.{OfBuiltSets}
+use Rattle.model_code.specs.Scopes.{IsScoped, LoopsAreOverBound}
 use Rattle.laws_code.specs.AcceptedCode.{OfBestTrees, EachCode}
 
 -- in a set that is built of a well-typed program's rules no loop goes over what is written in place

@@ -3,8 +3,8 @@
 use Rattle.std.specs.Prelude.{◌∷◌, [], ℕ, pos, None}
 use Rattle.model.specs.rules.Program.{Program}
 use Rattle.model.specs.sites.Sites.{Constraint, is_int, is_prim, SetRule, SiteSet}
-use Rattle.code_model.specs.Samples.{somewhere, sites, is_a}
-use Rattle.code_model.specs.TypeSamples.{program}
+use Rattle.model_code.specs.Samples.{somewhere, sites, is_a}
+use Rattle.model_code.specs.TypeSamples.{program}
 use Rattle.laws_code.specs.TypedTrees.{ConstrainsByTypes}
 
 abbrev pub with_constants : Program

@@ -6,15 +6,15 @@ use Rattle.model.specs.sites.Sites.{Constraint, SetRule, SiteSet, unfold_site}
 use Rattle.model.specs.trees.Trees.{Tree}
 use Rattle.model.specs.trees.Best.{IsBestTree}
 use Rattle.model.specs.claims.Layers.{LoweredTerm}
-use Rattle.laws_closure.specs.BuiltSets.{OfBuiltSets}
-use Rattle.code_model.specs.Code.{Block}
-use Rattle.code_model.specs.TreeCode.{tree_code}
-use Rattle.code_model.specs.Flat.{flat}
-use Rattle.code_model.specs.Scopes.{IsScoped}
-use Rattle.code_model.specs.Modes.{Types, block_fits, passes_of, pattern_typed, tree_typed, IsTypedSet}
-use Rattle.code_model.specs.MovedOnce.{IsMovedOnce}
-use Rattle.code_model.specs.Saving.{with_moves}
-use Rattle.code_model.specs.SiteTypes.{types_at, are_copied, types_of}
+use Rattle.laws_sites.specs.BuiltSets.{OfBuiltSets}
+use Rattle.model_code.specs.Code.{Block}
+use Rattle.model_code.specs.TreeCode.{tree_code}
+use Rattle.model_code.specs.Flat.{flat}
+use Rattle.model_code.specs.Scopes.{IsScoped}
+use Rattle.model_code.specs.Modes.{Types, block_fits, passes_of, pattern_typed, tree_typed, IsTypedSet}
+use Rattle.model_code.specs.MovedOnce.{IsMovedOnce}
+use Rattle.model_code.specs.Saving.{with_moves}
+use Rattle.model_code.specs.SiteTypes.{types_at, are_copied, types_of}
 use Rattle.laws_code.specs.AcceptedCode.{OfBestTrees}
 use Rattle.laws_code.specs.CodeChoices.{MeansItsSource}
 

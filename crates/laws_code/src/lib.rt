@@ -1,6 +1,12 @@
 //! What the code of a tree of accepted definitions means: what their source rules mean.
 //!
 //! A function here has no code, or calls the laws that its proof rests on: its clause is a law.
+//! The text of the code of accepted definitions: it can be written, and is read back.
+//!
+//! A function here has no code, or calls the laws that its proof rests on: its clause is a law.
+//! What the text of code shows does what the code does, so the text of accepted definitions does what their source rules mean.
+//!
+//! A function here has no code, or calls the laws that its proof rests on: its clause is a law.
 #![tactic(auto)]
 
 ghost use Rattle.laws_code.specs.Bounds.{CodeKeepsBound};
@@ -10,12 +16,21 @@ ghost use Rattle.laws_code.specs.CodeMoves.{CallsAreGoneOverInBuiltSets, CodeOfA
 ghost use Rattle.laws_code.specs.CodeScopes.{BuiltSetsLoopOverBound, CodeOfAcceptedIsScoped};
 ghost use Rattle.laws_code.specs.TypedSamples.{ConstraintsAreJudged};
 ghost use Rattle.laws_code.specs.TypedTrees.{BuiltSetsAreTyped, BuiltSetsConstrainByTypes, CodeOfAcceptedIsWellMade, CodeOfEachTermIsWellMade, TypedSetsHaveTypedTrees};
+ghost use Rattle.laws_code.specs.TextSamples.{WritableCodeIsJudged};
+ghost use Rattle.laws_code.specs.WritableCode.{CodeOfAcceptedIsWritable, CodeOfBuiltSetsIsWritable, TextOfAcceptedIsReadBack};
+ghost use Rattle.laws_code.specs.CalledAlike.{CodeCallsAlike, TreesCallAlike};
+ghost use Rattle.laws_code.specs.Meanings.{ShownCodeRunsUnderItsMeaning, TextRunsUnderItsMeaning};
+ghost use Rattle.laws_code.specs.Samples.{ShownRunsAreJudged};
+ghost use Rattle.laws_code.specs.ShownLaws.{ShownCodeRunsAsCode};
+ghost use Rattle.laws_code.specs.TextRuns.{EachTermHasItsText, TextOfAcceptedSaysItsSource};
 
-use code_model::{
-    fitting_code_moves_once, passes_by_types_fit, printed_code_is_scoped, printed_code_runs,
-    with_moves_is_made_well, with_moves_says_same,
-};
+use crate::{code_chooses_as_source, code_of_accepted_is_writable, text_of_accepted_is_read_back};
 use laws_trees::{best_trees_bind_before_use, best_trees_keep_the_headline};
+use model_code::{
+    fitting_code_moves_once, flat_keeps_writable, moves_keep_writable, passes_by_types_fit,
+    printed_code_is_scoped, printed_code_runs, text_is_read_back, with_moves_is_made_well,
+    with_moves_says_same, with_moves_says_same,
+};
 
 /// The code of the tree of each term that was lowered means what its source rules do: in a term that isn't multi the outcome of
 /// the matching rule of greatest priority, in a multi term the bag of results, or with a bound a part of it up to there.
@@ -130,3 +145,102 @@ pub fn bounds_are_kept()
 pub fn constraints_are_judged()
     ensures { ConstraintsAreJudged }
 {}
+
+/// The code of a best tree of a built set can be written: what is made, and each pattern, has as many fields as its type has.
+#[tactic(auto, using(crate::proofs::TreesWritable::code_of_built_sets_is_writable_lem))]
+pub fn code_of_built_sets_is_writable()
+    ensures { CodeOfBuiltSetsIsWritable }
+{}
+
+/// So the code of accepted definitions can be written.
+pub fn code_of_accepted_is_writable()
+    ensures { CodeOfAcceptedIsWritable }
+{
+    code_of_built_sets_is_writable();
+    flat_keeps_writable();
+    moves_keep_writable();
+}
+
+/// And the text of it is read back: its words and marks are those of tokens from which a reader gets what the code shows.
+pub fn text_of_accepted_is_read_back()
+    ensures { TextOfAcceptedIsReadBack }
+{
+    code_of_accepted_is_writable();
+    text_is_read_back();
+}
+
+/// Sample code can be written, and near code can't.
+#[tactic(auto, using(crate::proofs::TextSamples::writable_code_is_judged_lem))]
+pub fn writable_code_is_judged()
+    ensures { WritableCodeIsJudged }
+{}
+
+/// What a text shows of code runs as the code, if each call is an impure one exactly if its function is impure.
+#[tactic(auto, using(crate::proofs::ShownRuns::shown_code_runs_as_code_lem))]
+pub fn shown_code_runs_as_code()
+    ensures { ShownCodeRunsAsCode }
+{}
+
+/// So it is in the code of each tree of a built set, if terms that are one function are impure alike.
+#[tactic(auto, using(crate::proofs::CalledAlike::trees_call_alike_lem))]
+pub fn trees_call_alike()
+    ensures { TreesCallAlike }
+{}
+
+/// And in the code of accepted definitions.
+pub fn code_calls_alike()
+    ensures { CodeCallsAlike }
+{
+    trees_call_alike();
+}
+
+/// So the text of a term of accepted definitions is read as code that has the outcome of the matching source rule of greatest
+/// priority, or of a multi term the bag of its rules' results.
+pub fn text_of_accepted_says_its_source()
+    ensures { TextOfAcceptedSaysItsSource }
+{
+    code_chooses_as_source();
+    with_moves_says_same();
+    code_of_accepted_is_writable();
+    code_calls_alike();
+    shown_code_runs_as_code();
+    text_of_accepted_is_read_back();
+}
+
+/// And each term with rules of what lowering answers has its tree, its code and such a text.
+pub fn each_term_has_its_text()
+    ensures { EachTermHasItsText }
+{
+    code_chooses_as_source();
+    with_moves_says_same();
+    code_of_accepted_is_writable();
+    code_calls_alike();
+    shown_code_runs_as_code();
+    text_of_accepted_is_read_back();
+}
+
+/// Samples of shown code have the runs that a person says, and near ones have others.
+#[tactic(auto, using(crate::proofs::Samples::shown_runs_are_judged_lem))]
+pub fn shown_runs_are_judged()
+    ensures { ShownRunsAreJudged }
+{}
+
+/// Among whatever functions, what a text shows of code runs as the code does under the meaning that these functions are.
+pub fn shown_code_runs_under_its_meaning()
+    ensures { ShownCodeRunsUnderItsMeaning }
+{
+    shown_code_runs_as_code();
+}
+
+/// So the text of a term that isn't multi has the outcome that source rules choose under this meaning.
+pub fn text_runs_under_its_meaning()
+    ensures { TextRunsUnderItsMeaning }
+{
+    code_chooses_as_source();
+    with_moves_says_same();
+    code_of_accepted_is_writable();
+    code_calls_alike();
+    shown_code_runs_as_code();
+    text_of_accepted_is_read_back();
+    shown_code_runs_under_its_meaning();
+}

@@ -9,15 +9,15 @@ use Rattle.model.specs.rules.Program.{terms_with_rules}
 use Rattle.model.specs.sites.Overlap.{build_reports}
 use Rattle.model.specs.sites.RuleSets.{IsBuilt}
 use Rattle.model.specs.sites.Sites.{SiteSet}
-use Rattle.laws_matching.proofs.SetsAnswered.{built_sets_are_answered_lem}
-use Rattle.laws_matching.proofs.BuiltMatches.{built_sets_match_by_demands_lem}
-use Rattle.laws_matching.proofs.DisjointRules.{built_rules_are_told_apart_lem}
-use Rattle.laws_matching.proofs.outcomes.Outcomes.{taken_lem, taken_under_picks_lem}
-use Rattle.laws_matching.proofs.results.Held.{results_are_held_lem}
-use Rattle.laws_matching.proofs.taken.NumbersInRange.{built_sets_have_numbers_in_range_lem}
+use Rattle.laws_trees.proofs.SetsAnswered.{built_sets_are_answered_lem}
+use Rattle.laws_trees.proofs.BuiltMatches.{built_sets_match_by_demands_lem}
+use Rattle.laws_trees.proofs.DisjointRules.{built_rules_are_told_apart_lem}
+use Rattle.laws_trees.proofs.outcomes.Outcomes.{taken_lem, taken_under_picks_lem}
+use Rattle.laws_trees.proofs.results.Held.{results_are_held_lem}
+use Rattle.laws_trees.proofs.taken.NumbersInRange.{built_sets_have_numbers_in_range_lem}
 use Rattle.laws_typing.proofs.WellTypedRules.{elaborated_programs_are_well_typed_lem}
-use Rattle.laws_closure.proofs.built.ServedSets.{can_be_served_lem}
-use Rattle.laws_closure.proofs.built.WholeDemands.{built_demands_are_whole_lem}
+use Rattle.laws_sites.proofs.built.ServedSets.{can_be_served_lem}
+use Rattle.laws_sites.proofs.built.WholeDemands.{built_demands_are_whole_lem}
 use Rattle.laws_examples.proofs.ReadLists.{left_over_read}
 use Rattle.laws_examples.proofs.LeftoverSites.{left_over_built}
 use Rattle.laws_examples.proofs.SampleStages.{extract_stages}

@@ -3,13 +3,13 @@ use Rattle.std.proofs.Common.{pos, refl}
 use Rattle.model.specs.claims.Headline.{RunsAsChosen}
 use Rattle.model.specs.claims.Layers.{own_program}
 use Rattle.laws_typing.proofs.WellTypedRules.{read_programs_are_well_typed}
-use Rattle.laws_matching.proofs.BuiltMatches.{built_sets_match_by_demands_lem}
-use Rattle.laws_matching.proofs.NoMulti.{rules_without_multi_go_over_no_calls_lem}
-use Rattle.laws_matching.proofs.DisjointRules.{built_rules_are_told_apart_lem}
-use Rattle.laws_matching.proofs.outcomes.Outcomes.{taken_lem}
-use Rattle.laws_matching.proofs.taken.ServesRuns.{served_sets_serve_tests_lem}
-use Rattle.laws_closure.proofs.built.WellBuiltSets.{built_sets_are_tested_lem, built_sets_are_well_built_lem}
-use Rattle.laws_closure.proofs.built.WholeDemands.{built_demands_are_whole_lem}
+use Rattle.laws_trees.proofs.BuiltMatches.{built_sets_match_by_demands_lem}
+use Rattle.laws_trees.proofs.NoMulti.{rules_without_multi_go_over_no_calls_lem}
+use Rattle.laws_trees.proofs.DisjointRules.{built_rules_are_told_apart_lem}
+use Rattle.laws_trees.proofs.outcomes.Outcomes.{taken_lem}
+use Rattle.laws_trees.proofs.taken.ServesRuns.{served_sets_serve_tests_lem}
+use Rattle.laws_sites.proofs.built.WellBuiltSets.{built_sets_are_tested_lem, built_sets_are_well_built_lem}
+use Rattle.laws_sites.proofs.built.WholeDemands.{built_demands_are_whole_lem}
 use Rattle.laws_trees.proofs.Soundness.{best_trees_are_sound_lem}
 use Rattle.laws_trees.proofs.headline.Choosing.{ChoosingLaws, best_trees_run_as_chosen_lem}
 use Rattle.laws_examples.proofs.SampleStages.{extract_stages}

@@ -4,8 +4,8 @@ use Rattle.std.proofs.lemmas.Option.{none-some}
 use Rattle.model.proofs.Members.{in_alone}
 use Rattle.model.specs.visits.Demands.{demands_of}
 use Rattle.model.specs.sites.Sites.{Constraint, SiteTerm, field_terms}
-use Rattle.laws_closure.specs.ClosureLaws.{RespectsDemands}
-use Rattle.laws_closure.proofs.Classes.{classes_bound}
+use Rattle.laws_sites.specs.ClosureLaws.{RespectsDemands}
+use Rattle.laws_sites.proofs.Classes.{classes_bound}
 use Rattle.laws_examples.specs.ConstEq.{ConstEqIsRespected, const_eq_program, const_eq_rule, of_both}
 use Rattle.laws_examples.specs.SetForms.{a0, a1, a2, is_byte}
 

@@ -10,8 +10,8 @@ use Rattle.model.specs.trees.Collects.{content_at}
 use Rattle.model.specs.trees.Places.{fields_of, joins_in, waits}
 use Rattle.model.specs.trees.Run.{content_fields}
 use Rattle.model.specs.trees.SetRuns.{IsTestedSet, ServesTests}
-use Rattle.laws_runs.proofs.runs.Fields.{present_met}
-use Rattle.laws_matching.proofs.taken.ServesRuns.{constant_count}
+use Rattle.laws_trees.proofs.runs.Fields.{present_met}
+use Rattle.laws_trees.proofs.taken.ServesRuns.{constant_count}
 use Rattle.laws_examples.proofs.SampleStages.{extract_stages}
 use Rattle.laws_examples.proofs.SetStages.{tested}
 use Rattle.laws_examples.specs.Extract.{ExtractIsServed, NearSetsAreNotBuilt, answer_itself, extract_defs, extract_meaning, extract_program, extract_rules, extract_set, extract_world, less_asked, ten_for_answer_one}

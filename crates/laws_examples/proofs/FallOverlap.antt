@@ -1,6 +1,6 @@
 -- The two rules of `fall` are a subset pair: the set tells it, and so it holds of their closed demands.
 use Rattle.std.proofs.Common.{refl}
-use Rattle.laws_closure.proofs.overlaps.SetRules.{set_rules_overlap_as_their_demands_lem}
+use Rattle.laws_sites.proofs.overlaps.SetRules.{set_rules_overlap_as_their_demands_lem}
 use Rattle.laws_examples.proofs.SampleStages.{fall_stages}
 use Rattle.laws_examples.specs.Fall.{FallIsSubsetPair, fall_program, fall_set, itself, ten_for_one}
 

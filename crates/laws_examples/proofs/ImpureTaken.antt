@@ -8,8 +8,8 @@ use Rattle.model.specs.sites.Serves.{Serves, TellsConstantsApart, fits_construct
 use Rattle.model.specs.sites.Sites.{SiteTerms, constructor_call}
 use Rattle.model.specs.claims.Layers.{own_program}
 use Rattle.laws_typing.proofs.WellTypedRules.{read_programs_are_well_typed}
-use Rattle.laws_matching.proofs.outcomes.Outcomes.{taken_lem}
-use Rattle.laws_matching.proofs.taken.ServesRuns.{served_sets_serve_tests_lem}
+use Rattle.laws_trees.proofs.outcomes.Outcomes.{taken_lem}
+use Rattle.laws_trees.proofs.taken.ServesRuns.{served_sets_serve_tests_lem}
 use Rattle.laws_examples.proofs.Impure.{impure_is_called}
 use Rattle.laws_examples.proofs.SampleStages.{impure_stages}
 use Rattle.laws_examples.proofs.Served.{call_of_g, literals_apart, pure_none, serves_from}

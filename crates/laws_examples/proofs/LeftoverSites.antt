@@ -20,7 +20,7 @@ use Rattle.model.specs.trees.Collects.{content_at}
 use Rattle.model.specs.trees.Run.{as_value}
 use Rattle.model.specs.claims.Layers.{own_program}
 use Rattle.laws_typing.proofs.WellTypedRules.{read_programs_are_well_typed}
-use Rattle.laws_matching.proofs.taken.ServesSets.{served_multi_sets_serve_lem}
+use Rattle.laws_trees.proofs.taken.ServesSets.{served_multi_sets_serve_lem}
 use Rattle.laws_examples.proofs.ReadLists.{left_over_read}
 use Rattle.laws_examples.proofs.Served.{literals_apart, serves_from}
 use Rattle.laws_examples.proofs.SetStages.{built_multi, collected}

@@ -6,7 +6,7 @@ use Rattle.model.specs.claims.ReadJudge.{read_list}
 use Rattle.model.specs.lists.Elaborated.{TypedRules}
 use Rattle.model.specs.lists.Syntax.{Definition}
 use Rattle.model.specs.sites.Overlap.{check_reports}
-use Rattle.laws_closure.proofs.overlaps.JudgedLists.{lists_are_accepted_lem}
+use Rattle.laws_sites.proofs.overlaps.JudgedLists.{lists_are_accepted_lem}
 use Rattle.laws_typing.proofs.JudgedReading.{lists_are_read_lem, lists_are_refused_lem}
 use Rattle.laws_examples.specs.Stages.{IsAcceptedBoth, IsNotRead, IsReadBoth}
 

@@ -18,15 +18,15 @@ use Rattle.model.specs.trees.SetRuns.{IsReachedUnder, IsUnwrap}
 use Rattle.model.specs.sites.Overlap.{built_rule}
 use Rattle.model.specs.claims.Layers.{own_program}
 use Rattle.laws_typing.proofs.WellTypedRules.{read_programs_are_well_typed}
-use Rattle.laws_matching.proofs.BuiltMatches.{built_sets_match_by_demands_lem}
-use Rattle.laws_matching.proofs.outcomes.Outcomes.{taken_under_picks_lem}
-use Rattle.laws_matching.proofs.results.Held.{results_are_held_lem}
-use Rattle.laws_matching.proofs.taken.ServesSets.{served_multi_sets_serve_lem}
-use Rattle.laws_closure.proofs.built.CollectedSets.{are_collected_lem}
-use Rattle.laws_closure.proofs.built.MultiCalls.{no_rule_asks_and_goes_over_lem}
-use Rattle.laws_closure.proofs.built.Priorities.{one_priority_lem}
-use Rattle.laws_closure.proofs.built.WholeDemands.{built_demands_are_whole_lem}
-use Rattle.laws_runs.proofs.runs.Collection.{sound_trees_collect_lem}
+use Rattle.laws_trees.proofs.BuiltMatches.{built_sets_match_by_demands_lem}
+use Rattle.laws_trees.proofs.outcomes.Outcomes.{taken_under_picks_lem}
+use Rattle.laws_trees.proofs.results.Held.{results_are_held_lem}
+use Rattle.laws_trees.proofs.taken.ServesSets.{served_multi_sets_serve_lem}
+use Rattle.laws_sites.proofs.built.CollectedSets.{are_collected_lem}
+use Rattle.laws_sites.proofs.built.MultiCalls.{no_rule_asks_and_goes_over_lem}
+use Rattle.laws_sites.proofs.built.Priorities.{one_priority_lem}
+use Rattle.laws_sites.proofs.built.WholeDemands.{built_demands_are_whole_lem}
+use Rattle.laws_trees.proofs.runs.Collection.{sound_trees_collect_lem}
 use Rattle.laws_trees.proofs.headline.Collecting.{CollectingLaws, best_trees_collect_the_bag_lem}
 use Rattle.laws_examples.proofs.LoopPlaces.{emitted_there, in_loop, loop_env, reached_in_loop}
 use Rattle.laws_examples.proofs.Served.{multi_served}

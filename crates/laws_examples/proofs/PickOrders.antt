@@ -4,11 +4,11 @@ use Rattle.model.proofs.Members.{in_alone, nothing_in}
 use Rattle.model.proofs.SameSites.{term_means}
 use Rattle.model.specs.visits.Demands.{site_term_eq}
 use Rattle.model.specs.sites.Sites.{SiteTerm}
-use Rattle.laws_runs.specs.PickLaws.{GiveSamePlaces}
-use Rattle.laws_runs.specs.Orders.{IsOfPlaces}
-use Rattle.laws_runs.proofs.picks.PickLists.{picks_are_exact_lem}
-use Rattle.laws_runs.proofs.picks.FirstCall.{calls_can_come_first_lem, results_are_of_places_lem}
-use Rattle.laws_runs.proofs.picks.SamePlaces.{only_places_matter_lem}
+use Rattle.laws_trees.specs.PickLaws.{GiveSamePlaces}
+use Rattle.laws_trees.specs.Orders.{IsOfPlaces}
+use Rattle.laws_trees.proofs.picks.PickLists.{picks_are_exact_lem}
+use Rattle.laws_trees.proofs.picks.FirstCall.{calls_can_come_first_lem, results_are_of_places_lem}
+use Rattle.laws_trees.proofs.picks.SamePlaces.{only_places_matter_lem}
 use Rattle.laws_examples.specs.MeaningForms.{given}
 use Rattle.laws_examples.specs.MultiCalls.{calls_meaning, calls_program, impure_twice}
 use Rattle.laws_examples.specs.PickOrders.{MayComeFirst, OrderDoesNotMatter, OuterCallDoesNot, ResultIsOfPlaces, SecondCallComesFirst, first_of_w, in_visit_order, inner_of_m, results_on_one, second_of_w, turned_round}

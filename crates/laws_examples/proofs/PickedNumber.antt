@@ -10,8 +10,8 @@ use Rattle.model.specs.sites.Serves.{fits_extractor}
 use Rattle.model.specs.sites.Sites.{SiteTerm, argument, constructor_call, extractor_call}
 use Rattle.model.specs.claims.Layers.{own_program}
 use Rattle.laws_typing.proofs.WellTypedRules.{read_programs_are_well_typed}
-use Rattle.laws_matching.proofs.BuiltMatches.{built_sets_match_by_demands_lem}
-use Rattle.laws_closure.proofs.built.WholeDemands.{built_demands_are_whole_lem}
+use Rattle.laws_trees.proofs.BuiltMatches.{built_sets_match_by_demands_lem}
+use Rattle.laws_sites.proofs.built.WholeDemands.{built_demands_are_whole_lem}
 use Rattle.laws_trees.proofs.headline.Collecting.{best_trees_collect_the_bag_lem}
 use Rattle.laws_examples.proofs.Multi.{laws}
 use Rattle.laws_examples.proofs.SampleStages.{stages}

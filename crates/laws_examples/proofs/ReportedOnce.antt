@@ -8,11 +8,11 @@ use Rattle.model.specs.sites.Limits.{sites_after_rules}
 use Rattle.model.specs.sites.Overlap.{BuiltRule, HasDistinctPositions, OverlapsWrongly, built_rule}
 use Rattle.model.specs.claims.Layers.{own_program}
 use Rattle.laws_typing.proofs.WellTypedRules.{read_programs_are_well_typed}
-use Rattle.laws_closure.proofs.overlaps.JudgedLists.{well_typed_rules_have_terms_lem}
-use Rattle.laws_closure.proofs.overlaps.ListedOverlaps.{overlaps_are_listed_once_lem}
-use Rattle.laws_closure.proofs.overlaps.Masks.{masks_are_reported_once_lem}
-use Rattle.laws_closure.proofs.overlaps.Overlaps.{overlaps_decides}
-use Rattle.laws_closure.proofs.built.MultiCalls.{multi_calls_are_gone_over_lem}
+use Rattle.laws_sites.proofs.overlaps.JudgedLists.{well_typed_rules_have_terms_lem}
+use Rattle.laws_sites.proofs.overlaps.ListedOverlaps.{overlaps_are_listed_once_lem}
+use Rattle.laws_sites.proofs.overlaps.Masks.{masks_are_reported_once_lem}
+use Rattle.laws_sites.proofs.overlaps.Overlaps.{overlaps_decides}
+use Rattle.laws_sites.proofs.built.MultiCalls.{multi_calls_are_gone_over_lem}
 use Rattle.laws_examples.proofs.ReadLists.{overlap_read, shadow_read}
 use Rattle.laws_examples.proofs.ShadowedRules.{shadow_is_told}
 use Rattle.laws_examples.specs.Fall.{fall_any}

@@ -6,9 +6,9 @@ use Rattle.model.specs.sites.Limits.{most_sites, arguments_limit, sites_after_ru
 use Rattle.model.specs.sites.Overlap.{build_reports_of, built_rule}
 use Rattle.model.specs.sites.Sites.{SiteSet, argument_site, sources_at}
 use Rattle.model.specs.trees.Tests.{up_to}
-use Rattle.laws_closure.proofs.building.RulesPassed.{sets_go_past_rules_lem, sets_start_empty_lem}
-use Rattle.laws_closure.proofs.building.SetsSoFar.{building_goes_on_lem, building_starts_lem}
-use Rattle.laws_closure.specs.RuleByRule.{BuildsRule, limit_met, nothing_built, rule_added, rule_unreachable}
+use Rattle.laws_sites.proofs.building.RulesPassed.{sets_go_past_rules_lem, sets_start_empty_lem}
+use Rattle.laws_sites.proofs.building.SetsSoFar.{building_goes_on_lem, building_starts_lem}
+use Rattle.laws_sites.specs.RuleByRule.{BuildsRule, limit_met, nothing_built, rule_added, rule_unreachable}
 use Rattle.laws_trees.proofs.JudgedSets.{only_sites, stand}
 use Rattle.laws_trees.proofs.WellBuilt.{passes_well_built}
 use Rattle.laws_examples.proofs.SetStages.{rule_stands}

@@ -19,7 +19,7 @@ use Rattle.model.specs.trees.Best.{are_distinct}
 use Rattle.model.specs.trees.Collects.{IsCollectedRule, IsCollectedSet, IsPureAt, sites_of_rule}
 use Rattle.model.specs.trees.Places.{all_below, is_in}
 use Rattle.model.specs.trees.SetRuns.{IsTestedSet}
-use Rattle.laws_closure.proofs.built.WellBuiltSets.{built_sets_are_tested_lem}
+use Rattle.laws_sites.proofs.built.WellBuiltSets.{built_sets_are_tested_lem}
 use Rattle.laws_typing.proofs.WellTypedRules.{read_programs_are_well_typed}
 use Rattle.laws_trees.proofs.JudgeExactness.{not_exact}
 use Rattle.laws_trees.proofs.JudgedSets.{are_below, asks, calls_pass, can_be_served, equates, goes_over, multi_can_be_served, only_sites, serves, stand, unfolded_demand}

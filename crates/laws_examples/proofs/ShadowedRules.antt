@@ -4,9 +4,9 @@ use Rattle.model.specs.claims.SetMeanings.{TellsRulesApart}
 use Rattle.model.specs.rules.Program.{rules_of}
 use Rattle.model.specs.claims.Layers.{own_program}
 use Rattle.laws_typing.proofs.WellTypedRules.{read_programs_are_well_typed}
-use Rattle.laws_matching.proofs.DisjointRules.{built_rules_are_told_apart_lem}
-use Rattle.laws_closure.proofs.overlaps.ShadowTest.{shadows_decides}
-use Rattle.laws_closure.proofs.built.WholeDemands.{built_demands_are_whole_lem}
+use Rattle.laws_trees.proofs.DisjointRules.{built_rules_are_told_apart_lem}
+use Rattle.laws_sites.proofs.overlaps.ShadowTest.{shadows_decides}
+use Rattle.laws_sites.proofs.built.WholeDemands.{built_demands_are_whole_lem}
 use Rattle.laws_examples.proofs.ReadLists.{shadow_read}
 use Rattle.laws_examples.proofs.Served.{literals_apart, serves_without_calls}
 use Rattle.laws_examples.specs.MeaningForms.{given}

@@ -7,9 +7,9 @@ use Rattle.model.specs.rules.Typed.{TypedPattern, match_bind, match_var, match_b
 use Rattle.model.specs.sites.Sites.{fields_from, is_present, SiteTerm, SiteTerms, argument, constructor_call, extractor_call, some_part, pick_of, variant_field, struct_field}
 use Rattle.model.specs.visits.Demands.{Count, argument_taken, fields_matched, outputs_taken, Visit, visit_start, making, asking, iterating, taking_argument, site_term_eq, pattern_count, output_sites, outputs_opened, open_call, open_term, visit_pattern, visit_each, visit_all, Valued, ValuedAll, call_sites, visit_call, visit_term, visit_expr, asking_all, unwraps, visit_args, visit_iflets, finished, var_site, value_of_rule}
 use Rattle.model.proofs.Either.{either}
-use Rattle.laws_visits.proofs.VisitInvariants.{KeptByValues, expr_kept}
-use Rattle.laws_visits.proofs.Patterns.{AsManySites, as_many_sites, output_count}
-use Rattle.laws_visits.proofs.AskedSites.{equated}
+use Rattle.laws_sites.proofs.VisitInvariants.{KeptByValues, expr_kept}
+use Rattle.laws_sites.proofs.Patterns.{AsManySites, as_many_sites, output_count}
+use Rattle.laws_sites.proofs.AskedSites.{equated}
 use Rattle.laws_examples.specs.ShownCounts.{shown, shown_in, shown_of_args, term_shown, VisitsCountWhatIsShown}
 
 -- what a visit has counted so far

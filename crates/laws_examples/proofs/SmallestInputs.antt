@@ -22,7 +22,7 @@ use Rattle.laws_examples.proofs.SampleStages.{effects_stages}
 use Rattle.laws_examples.specs.Effects.{effects_defs}
 use Rattle.model.specs.claims.Refusals.{Refusal, past_limit, of_nesting, IsIllTyped}
 use Rattle.model.specs.claims.Layers.{RefusedBy, by_types, by_rules, by_check, IsAccepted}
-use Rattle.laws_closure.proofs.overlaps.JudgedLists.{lists_are_accepted_lem}
+use Rattle.laws_sites.proofs.overlaps.JudgedLists.{lists_are_accepted_lem}
 use Rattle.laws_typing.proofs.JudgedTerms.{terms_are_judged_lem}
 use Rattle.laws_examples.specs.MeaningForms.{v}
 use Rattle.laws_examples.specs.SetForms.{is_byte}

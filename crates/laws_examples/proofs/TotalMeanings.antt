@@ -9,10 +9,10 @@ use Rattle.model.specs.rules.Meaning.{one, just}
 use Rattle.model.specs.rules.Program.{kind}
 use Rattle.model.specs.sites.Sites.{SiteTerm, int_term}
 use Rattle.model.specs.sites.Serves.{fits_extractor}
-use Rattle.laws_visits.specs.RuleUses.{Use, a_term, a_constant}
-use Rattle.laws_matching.specs.TotalLaws.{IsTotalFor}
-use Rattle.laws_matching.proofs.Shapes.{literals_are_atoms}
-use Rattle.laws_matching.proofs.total.Total.{total_meanings_serve_lem}
+use Rattle.laws_sites.specs.RuleUses.{Use, a_term, a_constant}
+use Rattle.laws_trees.specs.TotalLaws.{IsTotalFor}
+use Rattle.laws_trees.proofs.Shapes.{literals_are_atoms}
+use Rattle.laws_trees.proofs.total.Total.{total_meanings_serve_lem}
 use Rattle.laws_examples.proofs.SampleStages.{extract_stages}
 use Rattle.model.specs.claims.Layers.{own_program}
 use Rattle.laws_typing.proofs.WellTypedRules.{read_programs_are_well_typed}

@@ -4,8 +4,8 @@ use Rattle.model.specs.rules.Program.{rules_of}
 use Rattle.model.specs.trees.SetRuns.{ServesTests}
 use Rattle.model.specs.claims.Layers.{own_program}
 use Rattle.laws_typing.proofs.WellTypedRules.{read_programs_are_well_typed}
-use Rattle.laws_matching.proofs.taken.ServesRuns.{served_sets_serve_tests_lem}
-use Rattle.laws_runs.proofs.runs.HoldsOnce.{rules_hold_once_lem}
+use Rattle.laws_trees.proofs.taken.ServesRuns.{served_sets_serve_tests_lem}
+use Rattle.laws_trees.proofs.runs.HoldsOnce.{rules_hold_once_lem}
 use Rattle.laws_examples.proofs.SmallestInputs.{overlaps_may_hold_twice_lem}
 use Rattle.laws_examples.proofs.SampleStages.{stages}
 use Rattle.laws_examples.proofs.Served.{literals_apart, serves_without_calls}

@@ -6,12 +6,12 @@ use Rattle.model.specs.sites.Overlap.{built_rule}
 use Rattle.laws_typing.proofs.WellTypedRules.{read_programs_are_well_typed}
 use Rattle.model.specs.visits.Demands.{demands_of}
 use Rattle.model.specs.claims.Layers.{own_program}
-use Rattle.laws_closure.proofs.Settled.{verdict_is_exact_lem}
-use Rattle.laws_matching.proofs.BuiltMatches.{built_demands_hold_alike_lem}
-use Rattle.laws_matching.proofs.NeverMatches.{unreachable_rules_never_match_lem}
-use Rattle.laws_matching.proofs.Visits.{visits_match_lem}
-use Rattle.laws_closure.proofs.built.WholeDemands.{built_demands_are_whole_lem}
-use Rattle.laws_closure.specs.BuiltLaws.{BuiltDemandsAreWhole}
+use Rattle.laws_sites.proofs.Settled.{verdict_is_exact_lem}
+use Rattle.laws_trees.proofs.BuiltMatches.{built_demands_hold_alike_lem}
+use Rattle.laws_trees.proofs.NeverMatches.{unreachable_rules_never_match_lem}
+use Rattle.laws_trees.proofs.Visits.{visits_match_lem}
+use Rattle.laws_sites.proofs.built.WholeDemands.{built_demands_are_whole_lem}
+use Rattle.laws_sites.specs.BuiltLaws.{BuiltDemandsAreWhole}
 use Rattle.laws_examples.proofs.ReadLists.{const_eq_read, one_step_read}
 use Rattle.laws_examples.proofs.SampleStages.{variant_eq_stages}
 use Rattle.laws_examples.proofs.Served.{literals_apart, serves_without_calls}

@@ -1,7 +1,7 @@
 -- The run of the visitor of sites through a rule worked by hand.
 use Rattle.std.proofs.Common.{refl, subst}
-use Rattle.laws_visits.proofs.SiteRuns.{site_runs_visit_lem}
-use Rattle.laws_visits.proofs.SiteRunsMade.{site_runs_exist_lem}
+use Rattle.laws_sites.proofs.SiteRuns.{site_runs_visit_lem}
+use Rattle.laws_sites.proofs.SiteRunsMade.{site_runs_exist_lem}
 use Rattle.model.specs.visits.SiteVisitor.{SiteRun}
 use Rattle.laws_examples.specs.VisitedRules.{RunsAnswerOneSite, f_of_pair, pair_rule}
 

@@ -11,7 +11,7 @@ use Rattle.model.specs.visits.Demands.{demands_of}
 use Rattle.model.specs.sites.Sites.{SiteSet, SiteTerm, argument, argument_site}
 use Rattle.model.specs.sites.Closure.{Joined}
 use Rattle.model.specs.trees.Trees.{Tree, match_at, no_step, step}
-use Rattle.laws_closure.specs.ClosureLaws.{RespectsDemands}
+use Rattle.laws_sites.specs.ClosureLaws.{RespectsDemands}
 use Rattle.laws_examples.specs.SetForms.{a0, a2, a_rule, is_byte, one_arm, returning}
 use Rattle.laws_examples.specs.Stages.{Sample}
 use Rattle.laws_examples.specs.TypedForms.{rules_and_names, typed, typed_var, u8}

@@ -6,8 +6,8 @@ use Rattle.model.specs.rules.Meaning.{Content}
 use Rattle.model.specs.rules.Picks.{Pick, picks, picks_over, results_under}
 use Rattle.model.specs.rules.Typed.{TypedRule}
 use Rattle.model.specs.sites.Sites.{SiteTerm, constructor_call, pick_of}
-use Rattle.laws_runs.specs.PickLaws.{ActAlike, GiveSamePlaces}
-use Rattle.laws_runs.specs.Orders.{Covered, IsOfPlaces, OrderedFrom}
+use Rattle.laws_trees.specs.PickLaws.{ActAlike, GiveSamePlaces}
+use Rattle.laws_trees.specs.Orders.{Covered, IsOfPlaces, OrderedFrom}
 use Rattle.laws_examples.specs.MeaningForms.{each, given}
 use Rattle.laws_examples.specs.MultiCalls.{call_in_call, calls_meaning, calls_program, impure_twice}
 use Rattle.laws_examples.specs.SetForms.{a0, one_source}

@@ -3,7 +3,7 @@ use Rattle.std.specs.Prelude.{◌∷◌, []}
 use Rattle.model.specs.sites.DemandedGates.{GoesOverMultiCalls, HasNoPartialMulti}
 use Rattle.model.specs.visits.Demands.{demands_of}
 use Rattle.model.specs.sites.Overlap.{HasDistinctPositions, OverlapsWrongly, overlap_reports, shadow_reports, wrong_overlaps}
-use Rattle.laws_closure.specs.ReportLaws.{IsListedOnce, IsOnlyOfMask}
+use Rattle.laws_sites.specs.ReportLaws.{IsListedOnce, IsOnlyOfMask}
 use Rattle.laws_examples.specs.Multi.{each_m, multi_program}
 use Rattle.laws_examples.specs.Overlap.{overlap_program}
 use Rattle.laws_examples.specs.Shadow.{shadow_program}

@@ -7,7 +7,7 @@ use Rattle.model.specs.sites.Limits.{arguments_limit}
 use Rattle.model.specs.sites.Overlap.{limit_passed}
 use Rattle.model.specs.sites.Sites.{SiteSet, argument_site}
 use Rattle.model.specs.trees.Tests.{up_to}
-use Rattle.laws_closure.specs.RuleByRule.{AreBuiltSoFar, BuildsRule, GoesPast, nothing_built}
+use Rattle.laws_sites.specs.RuleByRule.{AreBuiltSoFar, BuildsRule, GoesPast, nothing_built}
 use Rattle.laws_examples.specs.Answered.{one_or_two_asked}
 use Rattle.laws_examples.specs.FormedRules.{f_alone, wide_rule}
 use Rattle.laws_examples.specs.LeftoverSites.{any_rule, left_over_program, left_over_rules, left_over_set, never_rule}

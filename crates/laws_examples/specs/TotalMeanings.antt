@@ -6,7 +6,7 @@ use Rattle.model.specs.rules.Meaning.{Content, one, just, Literal, bool_literal,
 use Rattle.model.specs.rules.Choice.{choice}
 use Rattle.model.specs.rules.Program.{Program, rules_of}
 use Rattle.model.specs.sites.Serves.{Serves, TellsConstantsApart}
-use Rattle.laws_matching.specs.TotalLaws.{IsTotalFor}
+use Rattle.laws_trees.specs.TotalLaws.{IsTotalFor}
 use Rattle.laws_examples.specs.Extract.{extract_program}
 use Rattle.laws_examples.specs.MeaningForms.{answers, given, v}
 

@@ -8,7 +8,7 @@ use Rattle.model.specs.rules.Values.{Value, no_value, of_variant}
 use Rattle.model.specs.sites.Closure.{ClosedDemandsHold, ClosedIsWhole, DemandsHold}
 use Rattle.model.specs.visits.Demands.{demands_of}
 use Rattle.model.specs.sites.Serves.{TellsConstantsApart}
-use Rattle.laws_matching.specs.MatchLaws.{IsTried}
+use Rattle.laws_trees.specs.MatchLaws.{IsTried}
 use Rattle.laws_examples.specs.ConstEq.{const_eq_program, const_eq_rule}
 use Rattle.laws_examples.specs.Cycle.{one_step_program, one_step_rule}
 use Rattle.laws_examples.specs.MeaningForms.{alone, blank, literal, mute, v}

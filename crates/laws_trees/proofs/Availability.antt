@@ -7,7 +7,7 @@ use Rattle.std.proofs.Math.Nat.{zero-add}
 use Rattle.model.specs.sites.Sites.{Site, iterator_site, match_variant_site, extract_struct_site, match_some_site, Constraint, is_variant, is_struct, is_present, SetRule, SiteSet, sources_of, sources_at}
 use Rattle.model.specs.trees.Places.{Around, is_in, waits, is_available, available, below, is_variant_field, is_struct_field, is_part_of, site_from, fields_of, field_sites}
 use Rattle.model.specs.trees.WellBuilt.{IsWellBuilt}
-use Rattle.laws_runs.proofs.runs.FieldSites.{site_found, field_listed, variant_field_same, struct_field_same, part_same}
+use Rattle.laws_trees.proofs.runs.FieldSites.{site_found, field_listed, variant_field_same, struct_field_same, part_same}
 use Rattle.model.proofs.Members.{nothing_in, in_head, in_tail, in_cases, member_found, each_passes, all_pass, in_flat_map, from_flat_map, member_is_in}
 use Rattle.laws_trees.proofs.Gates.{variant_gate, struct_gate, answer_gate}
 use Rattle.model.specs.sites.Gates.{gate_demanded}

@@ -7,7 +7,7 @@ use Rattle.std.proofs.lemmas.Int.{ints}
 use Rattle.std.proofs.lemmas.List.Elements.{Contains-append_right}
 use Rattle.std.specs.Cmp.{int_ranks}
 use Rattle.std.specs.Ordering.{MatchOrdering}
-use Rattle.laws_runs.proofs.runs.ChosenRules.{through}
+use Rattle.laws_trees.proofs.runs.ChosenRules.{through}
 use Rattle.model.specs.sites.Sites.{SetRule}
 use Rattle.model.specs.trees.Sound.{NoneHigher}
 use Rattle.model.specs.trees.Tests.{Test, priority, needs_at, is_lower, is_covered, cover, needs, is_needed}

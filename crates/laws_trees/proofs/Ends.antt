@@ -13,7 +13,7 @@ use Rattle.laws_trees.proofs.Availability.{Made, TreePlace, within, reach}
 use Rattle.laws_trees.proofs.Covers.{prio_at, top_is_covered}
 use Rattle.laws_trees.proofs.JudgeExactness.{not_exact}
 use Rattle.laws_trees.proofs.Passing.{Passed}
-use Rattle.laws_runs.proofs.runs.RuleDemands.{joined_itself, joined_back}
+use Rattle.laws_trees.proofs.runs.RuleDemands.{joined_itself, joined_back}
 
 pub joins_turned : (ps : List (ℕ × ℕ)) (a b : ℕ) → joins ps a b ≡ true → joins ps b a ≡ true
 joins_turned ps a b h = eq-eqb (class ps b) (class ps a) (sym (eqb-true (class ps a) (class ps b) h))

@@ -3,7 +3,7 @@ use Rattle.model.specs.rules.Meaning.{finite, total}
 use Rattle.model.specs.claims.Environments.{types_read}
 use Rattle.model.specs.claims.Layers.{own_program}
 use Rattle.laws_typing.proofs.WellTypedRules.{elaborated_programs_are_well_typed_lem}
-use Rattle.laws_matching.proofs.total.Total.{total_meanings_serve_lem}
+use Rattle.laws_trees.proofs.total.Total.{total_meanings_serve_lem}
 use Rattle.laws_trees.specs.FiniteAndTotal.{HeadlineIsOfMaps, LoweredTermsRunByFunctions}
 use Rattle.laws_trees.proofs.PatternConstants.{tells_constants}
 

@@ -14,7 +14,7 @@ use Rattle.model.proofs.Members.{in_head, get_within, member_from_get, each_pass
 use Rattle.laws_trees.specs.BestLaws.{IsBestMarked, TreeJudgeIsExact}
 use Rattle.laws_trees.proofs.JudgeExactness.{judge_exact, not_exact}
 use Rattle.model.proofs.SameSites.{parts_mean}
-use Rattle.laws_runs.proofs.runs.Claims.{Known, known_left, known_right}
+use Rattle.laws_trees.proofs.runs.Claims.{Known, known_left, known_right}
 
 returns_itself : (r : SetRule) → returns_as r r.at r.result ≡ true
 returns_itself r =

@@ -11,7 +11,7 @@ use Rattle.model.specs.sites.Limits.{first_limit, sites_after_rule, sites_after_
 use Rattle.model.specs.sites.Overlap.{BuiltRule, is_built, built_rule, built_from}
 use Rattle.model.specs.claims.Refusals.{rule_passes}
 use Rattle.model.proofs.Elements.{some_is, none_some}
-use Rattle.laws_visits.proofs.LimitsPassed.{passed_limit_is_met_lem}
+use Rattle.laws_sites.proofs.LimitsPassed.{passed_limit_is_met_lem}
 use Rattle.laws_trees.specs.NoLimits.{CheckableProgramsPassNoLimit}
 
 abbrev typed_of : BuiltRule → TypedRule

@@ -1,7 +1,7 @@
 -- Lowering gives one answer: of the same definitions, the same environments, typed rules, sets and trees; or the same errors.
 use Rattle.std.proofs.Common.{◌≡◌, ℕ, suc, Bool, List, [], ◌∷◌, map, length, Option, refl, sym, ap, ◌∙◌, subst, inl, inr, arith}
 use Rattle.std.proofs.lemmas.Option.{same_Some}
-use Rattle.laws_closure.proofs.built.WellBuiltSets.{in_from_all}
+use Rattle.laws_sites.proofs.built.WellBuiltSets.{in_from_all}
 use Rattle.model.specs.lists.Syntax.{Definition}
 use Rattle.model.specs.lists.Names.{AreNumbersOf, IsDistinct}
 use Rattle.model.specs.lists.TermTable.{term_names_met}
@@ -15,9 +15,9 @@ use Rattle.model.specs.claims.Refusals.{Refusal}
 use Rattle.model.specs.claims.Layers.{own_program, IsCheckable, LoweredTerm, IsLoweredTerm, AreLowered, RefusedBy, by_types, by_rules, by_check}
 use Rattle.model.proofs.Elements.{In}
 use Rattle.model.proofs.Options.{options_one}
-use Rattle.laws_closure.proofs.built.DistinctSites.{sites_stand_once_lem}
-use Rattle.laws_closure.specs.ShadowLaws.{check_errors}
-use Rattle.laws_closure.proofs.overlaps.MaskErrors.{check_errors_are_answered_lem}
+use Rattle.laws_sites.proofs.built.DistinctSites.{sites_stand_once_lem}
+use Rattle.laws_sites.specs.ShadowLaws.{check_errors}
+use Rattle.laws_sites.proofs.overlaps.MaskErrors.{check_errors_are_answered_lem}
 use Rattle.laws_trees.specs.OneAnswer.{EachTwo, BecameSame, SameTermsShowSame, ReadingGivesOne, SerializingGivesOne, BuildingGivesOne, LoweringGivesOne, NoneIsAcceptedAndRefused, RefusingGivesOne}
 use Rattle.laws_trees.proofs.OneTree.{best_trees_are_one_lem}
 use Rattle.laws_trees.proofs.SameSets.{head_or, rest_of, built_sets_show_same_lem}

@@ -18,7 +18,7 @@ use Rattle.laws_trees.proofs.Covers.{first_at_least, at_least_not_lower, descend
 use Rattle.laws_trees.proofs.JudgeExactness.{not_exact}
 use Rattle.laws_trees.proofs.StepCounts.{once_distinct}
 use Rattle.laws_trees.proofs.Scores.{one_test_is_greatest_lem}
-use Rattle.laws_runs.proofs.runs.Order.{before_chain, before_itself}
+use Rattle.laws_trees.proofs.runs.Order.{before_chain, before_itself}
 
 -- 1. lists with the same members, none of which stands twice
 pub record Same (xs ys : List ℕ) : Type 0 where

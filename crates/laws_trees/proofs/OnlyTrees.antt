@@ -1,6 +1,6 @@
 -- The best tree of a built set is the only one.
 use Rattle.model.specs.claims.Environments.{program_of}
-use Rattle.laws_closure.proofs.built.DistinctSites.{sites_stand_once_lem}
+use Rattle.laws_sites.proofs.built.DistinctSites.{sites_stand_once_lem}
 use Rattle.laws_trees.specs.OneTree.{BuiltSetsHaveOneBestTree, LoweredTreesAreOnlyBest}
 use Rattle.laws_trees.proofs.OneTree.{best_trees_are_one_lem}
 

@@ -5,7 +5,7 @@ use Rattle.std.proofs.lemmas.Bool.{cases_Bool, cond-true, cond-false, and_from, 
 use Rattle.std.proofs.lemmas.List.Elements.{Contains-append_left, Contains-append_right, Contains-append_cases}
 use Rattle.model.specs.trees.Places.{is_in, class, joins}
 use Rattle.model.specs.trees.Best.{are_distinct, are_apart}
-use Rattle.laws_runs.proofs.runs.Classes.{SameAtPairs, joined_same}
+use Rattle.laws_trees.proofs.runs.Classes.{SameAtPairs, joined_same}
 use Rattle.model.proofs.Members.{nothing_in, in_head, in_tail, in_cases, member_found}
 use Rattle.laws_trees.proofs.JudgeExactness.{not_exact}
 use Rattle.laws_trees.proofs.Counting.{distinct_within}

@@ -16,11 +16,11 @@ use Rattle.model.proofs.Either.{either}
 use Rattle.model.proofs.Elements.{In, in_from_contains, contains_from_in, in_left, in_right, in_either, some_is, none_some, in_flat_map, from_flat_map}
 use Rattle.laws_typing.proofs.FormedParts.{from_if, type_is}
 use Rattle.laws_typing.proofs.WellTypedRules.{elaborated_programs_are_well_typed_lem}
-use Rattle.laws_visits.proofs.Patterns.{AsManySites, term_known, as_many_sites, output_count}
-use Rattle.laws_visits.proofs.RuleParts.{iflet_parts, rule_parts}
-use Rattle.laws_visits.proofs.GrowingVisits.{equated, Grown, each_grown, all_grown, args_grown, iflets_grown, expr_adds, rule_adds}
-use Rattle.laws_visits.proofs.PatternParts.{pattern_parts, from_part, from_bind}
-use Rattle.laws_closure.proofs.built.BuiltSets.{typed_rule}
+use Rattle.laws_sites.proofs.Patterns.{AsManySites, term_known, as_many_sites, output_count}
+use Rattle.laws_sites.proofs.RuleParts.{iflet_parts, rule_parts}
+use Rattle.laws_sites.proofs.GrowingVisits.{equated, Grown, each_grown, all_grown, args_grown, iflets_grown, expr_adds, rule_adds}
+use Rattle.laws_sites.proofs.PatternParts.{pattern_parts, from_part, from_bind}
+use Rattle.laws_sites.proofs.built.BuiltSets.{typed_rule}
 use Rattle.laws_typing.specs.WellTypedPrograms.{IsWellTypedProgram}
 use Rattle.laws_trees.specs.PatternConstants.{PatternConstant, a_literal, a_name, pattern_constants, patterns_constants, rule_constants, rules_constants, type_of_constant, means_itself, value_in, TellsPatternsApart, LiteralsAreToldApart, ConstantsAreOfPatterns, HeadlineIsOfPatterns}
 

@@ -16,14 +16,14 @@ use Rattle.model.specs.claims.Environments.{program_of}
 use Rattle.model.specs.claims.Layers.{IsBuiltForSome}
 use Rattle.model.proofs.Elements.{In, in_from_contains, in_left, in_right, in_either, slice_in}
 use Rattle.model.proofs.Positions.{get_front}
-use Rattle.laws_closure.proofs.Classes.{in_with_sites}
-use Rattle.laws_closure.proofs.Closing.{closing_keeps}
-use Rattle.laws_closure.proofs.BuiltWithinLimits.{reached_closed, few_made}
-use Rattle.laws_closure.proofs.built.BuiltGates.{rule_at}
+use Rattle.laws_sites.proofs.Classes.{in_with_sites}
+use Rattle.laws_sites.proofs.Closing.{closing_keeps}
+use Rattle.laws_sites.proofs.BuiltWithinLimits.{reached_closed, few_made}
+use Rattle.laws_sites.proofs.built.BuiltGates.{rule_at}
 use Rattle.laws_typing.proofs.WellTypedRules.{elaborated_programs_are_well_typed_lem}
-use Rattle.laws_closure.proofs.built.DistinctSites.{one_number}
-use Rattle.laws_closure.proofs.built.Unfolding.{unfolds}
-use Rattle.laws_visits.proofs.VisitInvariants.{rule_kept}
+use Rattle.laws_sites.proofs.built.DistinctSites.{one_number}
+use Rattle.laws_sites.proofs.built.Unfolding.{unfolds}
+use Rattle.laws_sites.proofs.VisitInvariants.{rule_kept}
 
 -- 1. the visit of a rule makes a pick of each call that it goes over
 abbrev AllPicked : Visit → Type 0

@@ -3,7 +3,7 @@ use Rattle.std.proofs.Common.{◌≡◌, ℕ, zero, suc, ◌<◌, true, if◌the
 use Rattle.std.proofs.lemmas.Bool.{cases_Bool, cond-true, cond-false}
 use Rattle.std.proofs.lemmas.Option.{none-some, same_Some}
 use Rattle.std.proofs.lemmas.List.Elements.{All-contains}
-use Rattle.laws_closure.proofs.overlaps.Overlaps.{bool_same}
+use Rattle.laws_sites.proofs.overlaps.Overlaps.{bool_same}
 use Rattle.model.specs.rules.Program.{Program, rules_of}
 use Rattle.model.specs.sites.Sites.{Site, bool_site, int_site, prim_site, argument_site, extractor_site, constructor_site, iterator_site, make_variant_site, match_variant_site, make_struct_site, extract_struct_site, make_some_site, match_some_site, match_tuple_site, Constraint, SetRule, SiteSet, sources_of, sources_at, SiteTerm, bool_term, int_term, prim_term, argument, extractor_call, constructor_call, pick_of, variant_made, variant_field, struct_made, struct_field, some_made, some_part, tuple_part, no_site, SiteTerms, no_site_term, site_term_and, each_term, layer, layer_at, unfold_site}
 use Rattle.model.specs.visits.Demands.{site_term_eq}
@@ -15,10 +15,10 @@ use Rattle.model.proofs.Elements.{In, contains_from_in}
 use Rattle.model.proofs.Members.{get_within, in_head, in_tail, member_found, member_is_in, constraint_in}
 use Rattle.model.proofs.SameSites.{term_means, same_term}
 use Rattle.model.proofs.Options.{options_one}
-use Rattle.laws_closure.proofs.built.DistinctSites.{once_of_term, one_number}
-use Rattle.laws_closure.proofs.built.Unfolding.{unfolds}
+use Rattle.laws_sites.proofs.built.DistinctSites.{once_of_term, one_number}
+use Rattle.laws_sites.proofs.built.Unfolding.{unfolds}
 use Rattle.laws_trees.specs.OneAnswer.{EachTwo, ShowSame, BuiltSetsShowSame}
-use Rattle.laws_runs.proofs.runs.Contents.{StandApart}
+use Rattle.laws_trees.proofs.runs.Contents.{StandApart}
 use Rattle.laws_trees.proofs.TreeMeanings.{asked_once}
 
 -- 1. values that answer alike

@@ -9,7 +9,7 @@ use Rattle.model.specs.trees.Best.{IsGreatest}
 use Rattle.model.proofs.Members.{nothing_in, in_head, in_tail, in_cases}
 use Rattle.laws_trees.specs.Scores.{ScoresAreOrdered, OneTestIsGreatest}
 use Rattle.laws_trees.proofs.OpenTests.{open_listed, listed_open}
-use Rattle.laws_runs.proofs.runs.Order.{not_below, below_chain}
+use Rattle.laws_trees.proofs.runs.Order.{not_below, below_chain}
 
 -- 1. one number, and what follows where two are the same
 

@@ -13,7 +13,7 @@ use Rattle.model.specs.trees.Best.{BestSteps}
 use Rattle.model.specs.claims.Layers.{IsBuiltForSome, IsSerialized}
 use Rattle.model.proofs.Members.{from_up_to}
 use Rattle.model.proofs.Elements.{contains_from_in}
-use Rattle.laws_closure.proofs.built.WellBuiltSets.{all_from_in}
+use Rattle.laws_sites.proofs.built.WellBuiltSets.{all_from_in}
 use Rattle.laws_trees.specs.TreeMeanings.{BestTreesMeanTheirSets}
 use Rattle.laws_trees.proofs.StepCounts.{steps_make_best_trees_lem}
 

@@ -13,17 +13,17 @@ use Rattle.model.specs.trees.SetRuns.{OverlapInSet, HasNoWrongOverlap}
 use Rattle.model.specs.claims.Environments.{types_read}
 use Rattle.model.specs.claims.Layers.{own_program, IsAccepted, LoweredTerm, IsLoweredTerm, MeansItsSet, IsCheckable}
 use Rattle.model.proofs.Members.{all_members}
-use Rattle.laws_runs.proofs.picks.Calls.{unfold_once}
+use Rattle.laws_trees.proofs.picks.Calls.{unfold_once}
 use Rattle.laws_typing.specs.WellTypedPrograms.{IsWellTypedProgram}
 use Rattle.laws_typing.proofs.WellTypedRules.{read_programs_are_well_typed}
-use Rattle.laws_closure.specs.BuiltLaws.{BuiltSetsAreTested, BuiltSetsAreCollected}
-use Rattle.laws_matching.specs.MatchLaws.{RulesWithoutMultiGoOverNoCalls}
-use Rattle.laws_matching.specs.OutcomeLaws.{BuiltSetsMeanTheirRules}
-use Rattle.laws_matching.specs.ServeLaws.{ServedSetsServeTests, ServedMultiSetsServe}
-use Rattle.laws_closure.specs.GateLaws.{MultiTermsHaveOnePriority}
-use Rattle.laws_closure.proofs.built.BuiltGates.{one_rule}
-use Rattle.laws_matching.proofs.BuiltMatches.{built_listed}
-use Rattle.laws_closure.proofs.built.DistinctSites.{sites_stand_once_lem}
+use Rattle.laws_sites.specs.BuiltLaws.{BuiltSetsAreTested, BuiltSetsAreCollected}
+use Rattle.laws_trees.specs.MatchLaws.{RulesWithoutMultiGoOverNoCalls}
+use Rattle.laws_trees.specs.OutcomeLaws.{BuiltSetsMeanTheirRules}
+use Rattle.laws_trees.specs.ServeLaws.{ServedSetsServeTests, ServedMultiSetsServe}
+use Rattle.laws_sites.specs.GateLaws.{MultiTermsHaveOnePriority}
+use Rattle.laws_sites.proofs.built.BuiltGates.{one_rule}
+use Rattle.laws_trees.proofs.BuiltMatches.{built_listed}
+use Rattle.laws_sites.proofs.built.DistinctSites.{sites_stand_once_lem}
 use Rattle.laws_trees.specs.TreeMeanings.{BestTreesMeanTheirSets}
 use Rattle.laws_trees.proofs.headline.NoCalls.{set_goes_over_none}
 use Rattle.laws_trees.proofs.headline.Places.{Pair, of_set_rule}

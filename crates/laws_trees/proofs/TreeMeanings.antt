@@ -15,11 +15,11 @@ use Rattle.model.specs.claims.Environments.{program_of}
 use Rattle.model.specs.claims.Layers.{IsBuiltForSome}
 use Rattle.model.proofs.Elements.{in_slice}
 use Rattle.model.proofs.Members.{in_cases, nothing_in, member_from_get, get_from_member, in_map, in_flat_map, member_found, constraint_in}
-use Rattle.laws_runs.proofs.runs.Choice.{sound_trees_choose_lem}
-use Rattle.laws_runs.proofs.runs.Collection.{sound_trees_collect_lem}
-use Rattle.laws_runs.proofs.runs.HoldsOnce.{rules_hold_once_lem}
-use Rattle.laws_closure.proofs.built.BuiltGates.{rule_at}
-use Rattle.laws_closure.proofs.built.MultiCalls.{no_rule_asks_and_goes_over_lem}
+use Rattle.laws_trees.proofs.runs.Choice.{sound_trees_choose_lem}
+use Rattle.laws_trees.proofs.runs.Collection.{sound_trees_collect_lem}
+use Rattle.laws_trees.proofs.runs.HoldsOnce.{rules_hold_once_lem}
+use Rattle.laws_sites.proofs.built.BuiltGates.{rule_at}
+use Rattle.laws_sites.proofs.built.MultiCalls.{no_rule_asks_and_goes_over_lem}
 use Rattle.laws_trees.specs.BuiltLaws.{BestTreesOfBuiltSetsAreSound}
 use Rattle.laws_typing.proofs.WellTypedRules.{elaborated_programs_are_well_typed_lem}
 use Rattle.laws_trees.specs.TreeMeanings.{BestTreesMeanTheirSets}

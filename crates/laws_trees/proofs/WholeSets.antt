@@ -11,10 +11,10 @@ use Rattle.model.specs.trees.Places.{joins_in}
 use Rattle.model.specs.claims.Layers.{own_program}
 use Rattle.model.proofs.Elements.{contains_from_in, in_slice}
 use Rattle.laws_typing.proofs.WellTypedRules.{read_programs_are_well_typed}
-use Rattle.laws_closure.specs.BuiltLaws.{BuiltDemandsAreWhole}
-use Rattle.laws_closure.proofs.built.BuiltGates.{stands_for}
-use Rattle.laws_closure.proofs.built.BuiltSets.{BuiltSet, RuleOfSet}
-use Rattle.laws_closure.proofs.built.DistinctSites.{one_number}
+use Rattle.laws_sites.specs.BuiltLaws.{BuiltDemandsAreWhole}
+use Rattle.laws_sites.proofs.built.BuiltGates.{stands_for}
+use Rattle.laws_sites.proofs.built.BuiltSets.{BuiltSet, RuleOfSet}
+use Rattle.laws_sites.proofs.built.DistinctSites.{one_number}
 use Rattle.laws_trees.proofs.headline.Places.{Pair, of_set_rule, of_typed_rule, typed_here}
 use Rattle.laws_trees.specs.WholeDemands.{AsksAt, JoinsAt, AsksWhatFollows, AcceptedSetsAreWhole}
 

@@ -6,7 +6,7 @@ use Rattle.model.specs.trees.Best.{IsBestTree}
 use Rattle.model.specs.trees.Collects.{CollectsTheBag}
 use Rattle.model.specs.trees.WellBuilt.{HasOnePriority}
 use Rattle.model.specs.claims.Layers.{BindsBeforeUse, IsCheckable}
-use Rattle.laws_closure.specs.BuiltSets.{OfBuiltSets}
+use Rattle.laws_sites.specs.BuiltSets.{OfBuiltSets}
 
 -- so its best trees are sound
 abbrev pub BestTreesOfBuiltSetsAreSound : Type 0

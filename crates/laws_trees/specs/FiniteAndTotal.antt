@@ -13,7 +13,7 @@ use Rattle.model.specs.trees.Run.{run, world_of}
 use Rattle.model.specs.trees.Trees.{Tree}
 use Rattle.model.specs.claims.Headline.{RunsAsChosen}
 use Rattle.model.specs.claims.Layers.{own_program, IsAccepted, LoweredTerm, IsLoweredTerm}
-use Rattle.laws_matching.specs.TotalLaws.{IsTotalFor, ChoosesUnder}
+use Rattle.laws_trees.specs.TotalLaws.{IsTotalFor, ChoosesUnder}
 use Rattle.laws_trees.specs.PatternConstants.{TellsPatternsApart}
 
 -- under a meaning a tree's run collects the bag of the rules

@@ -11,7 +11,7 @@ use Rattle.model.specs.trees.Best.{IsBestTree}
 use Rattle.model.specs.sites.Overlap.{HasDistinctPositions}
 use Rattle.model.specs.claims.Environments.{TypesRead, TypeEnvironment, TermsShown, TermEnvironment, IsRead, AreTypesOf, AreTermsOf, AreRulesOf}
 use Rattle.model.specs.claims.Refusals.{Refusal}
-use Rattle.laws_closure.specs.ShadowLaws.{check_errors}
+use Rattle.laws_sites.specs.ShadowLaws.{check_errors}
 use Rattle.model.specs.claims.Layers.{own_program, IsAccepted, AreBuiltSets, LoweredTerm, LoweringAnswers, RefusedBy, IsBuiltForSome, IsSerialized}
 
 -- two lists have as many elements, and those at one place are related

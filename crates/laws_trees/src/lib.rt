@@ -1,3 +1,10 @@
+//! Laws of runs: the run of a sound tree is a choice by priority, or collects the bag of a multi term; picks and bags.
+//!
+//! A function here has an empty body: its clause is a law, and its proof stands in `proofs/`.
+//! Laws of matching: rules match by what they demand, so built sets mean their rules, under every meaning that serves them.
+//!
+//! A function here has no code, or calls the laws that its proof rests on: its clause is a law, and its proof stands in
+//! `proofs/`.
 //! Laws of best trees: at each place the greatest test is made, for exactly the rules that it covers. And what follows for those
 //! who use what `lower` promises.
 //!
@@ -5,6 +12,21 @@
 //! `proofs/`.
 #![tactic(auto)]
 
+ghost use Rattle.model.specs.trees.Collects.{SoundTreesCollect};
+ghost use Rattle.laws_trees.specs.WithoutMulti.{NoMultiIsNoIterators, MatchesAsPlain, EndsAsPlain, BagAsPlain};
+ghost use Rattle.model.specs.rules.Meaning.{one};
+ghost use Rattle.laws_trees.specs.PickLaws.{PicksAreExact, OnlyPlacesMatter, ContentsAreHeld, HeldAreContents};
+ghost use Rattle.laws_trees.specs.ChoiceLaws.{ChoiceAsksTerms, OrderDoesntMatter, OthersCanBeTakenAway, OrderInProgramsDoesntMatter, OthersInProgramsCanBeTakenAway};
+ghost use Rattle.laws_trees.specs.Orders.{CallsCanComeFirst, ResultsAreOfPlaces};
+ghost use Rattle.model.specs.rules.Values.{Value, value_eq};
+ghost use Rattle.std.specs.Prelude.{◌≡◌, Decides};
+ghost use Rattle.model.specs.trees.SetRuns.{SoundTreesChoose, RulesHoldOnce, TakenOnce};
+ghost use Rattle.laws_trees.specs.ShadowedLaws.{ShadowedRulesAreNeverChosen, ShadowedRulesCanBeTakenAway};
+ghost use Rattle.laws_trees.specs.AnswerLaws.{BuiltSetsHaveNumbersInRange, BuiltSetsAreAnswered};
+ghost use Rattle.laws_trees.specs.TotalLaws.{RunsByFunctionsAsChosen, TotalMeaningsServe};
+ghost use Rattle.laws_trees.specs.MatchLaws.{VisitsMatch, UnreachableRulesNeverMatch, ClosedDemandsHoldAlike, BuiltDemandsHoldAlike, BuiltSetsMatchByDemands, BuiltRulesAreToldApart, RulesWithoutMultiGoOverNoCalls, BuiltSetsHoldResults};
+ghost use Rattle.laws_trees.specs.OutcomeLaws.{TakenRulesGiveTheirOutcome, TakenRulesGiveTheirOutcomeUnderPicks, BuiltSetsMeanTheirRules};
+ghost use Rattle.laws_trees.specs.ServeLaws.{ServedSetsServeTests, ServedMultiSetsServe};
 ghost use Rattle.laws_trees.specs.BestLaws.{OpenTestsAreListed, BestTreesShareMost, SitesAreTestedOnce, StepsAreFew, StepsMakeBestTrees, JudgeIsExact, TreeJudgeIsExact, BindingJudgeIsExact};
 ghost use Rattle.laws_trees.specs.Scores.{ScoresAreOrdered, OneTestIsGreatest};
 ghost use Rattle.model.specs.trees.WellBuilt.{BestTreesAreSound};
@@ -21,15 +43,249 @@ ghost use Rattle.laws_trees.specs.PatternConstants.{ConstantsAreOfPatterns, Head
 ghost use Rattle.laws_trees.specs.SetsServed.{LoweredSetsMeanTheirRules};
 ghost use Rattle.laws_trees.specs.Uses.{BytesAreToldApart};
 
-use laws_closure::{
-    built_demands_are_whole, built_sets_are_collected, built_sets_are_tested,
-    built_sets_are_well_built, multi_terms_have_one_priority, no_rule_asks_and_goes_over,
-};
-use laws_matching::{
+use crate::{
     built_rules_are_told_apart, built_sets_match_by_demands, built_sets_mean_their_rules,
     results_are_held, rules_without_multi_go_over_no_calls, served_multi_sets_serve,
     served_sets_serve_tests, taken_rules_give_their_outcome,
 };
+use laws_sites::{
+    built_demands_are_whole, built_sets_are_collected, built_sets_are_tested,
+    built_sets_are_well_built, built_sets_can_be_served, multi_terms_have_one_priority,
+    no_rule_asks_and_goes_over,
+};
+
+/// The run of a sound tree of any set of a multi term, whose rules make no impure call and demand every gate below their
+/// sites, collects the bag of the rules' results under each pick under which their demands hold.
+pub fn sound_trees_collect()
+    ensures { SoundTreesCollect }
+{}
+
+/// A rule is without multi calls exactly where its demands go over no call.
+#[tactic(auto, using(crate::proofs::picks::OnePick::no_iterators, crate::proofs::picks::NoIterators::calls_no_multi))]
+pub fn no_multi_is_no_iterators()
+    ensures { NoMultiIsNoIterators }
+{}
+
+/// A rule without multi calls matches under every pick as it does without one.
+#[tactic(auto, using(crate::proofs::picks::PlainMatching::matches_as_plain_lem))]
+pub fn matches_as_plain()
+    ensures { MatchesAsPlain }
+{}
+
+/// The right side of a rule without multi calls ends under every pick as it does without one.
+#[tactic(auto, using(crate::proofs::picks::PlainMatching::ends_as_plain_lem))]
+pub fn ends_as_plain()
+    ensures { EndsAsPlain }
+{}
+
+/// A rule without multi calls has the empty pick alone, and its bag is the result of its right side, where it matches.
+#[tactic(auto, using(crate::proofs::picks::OnePick::bag_as_plain_lem))]
+pub fn bag_as_plain()
+    ensures { BagAsPlain }
+{}
+
+/// The list of a rule's picks has its picks and no others, each once.
+pub fn picks_are_exact()
+    ensures { PicksAreExact }
+{}
+
+/// Of a pick only the places of its calls matter: two picks with the same places act alike, whatever their order.
+pub fn only_places_matter()
+    ensures { OnlyPlacesMatter }
+{}
+
+/// A call that takes answers of calls with a place alone can be gone over before others: what is made of the picks is one
+/// bag.
+#[tactic(auto, using(crate::proofs::picks::FirstCall::calls_can_come_first_lem))]
+pub fn calls_can_come_first()
+    ensures { CallsCanComeFirst }
+{}
+
+/// The results of a rule under a pick are of the pick's places alone, and so are those of a set's rule.
+#[tactic(auto, using(crate::proofs::picks::FirstCall::results_are_of_places_lem))]
+pub fn results_are_of_places()
+    ensures { ResultsAreOfPlaces }
+{}
+
+/// What a site has under a pick, it can hold.
+#[tactic(auto, using(crate::proofs::picks::HeldContents::contents_are_held_lem))]
+pub fn contents_are_held()
+    ensures { ContentsAreHeld }
+{}
+
+/// What a site can hold, it has under every pick, where it takes no answers of multi calls.
+#[tactic(auto, using(crate::proofs::picks::HeldContents::held_are_contents_lem))]
+pub fn held_are_contents()
+    ensures { HeldAreContents }
+{}
+
+/// The test of values is exact.
+#[tactic(auto, using(model::proofs::ValuesEqual::value_eq_decides))]
+pub fn value_eq_is_exact()
+    ensures { (v : Value) → (w : Value) → Decides (value_eq v w) (v ≡ w) }
+{}
+
+/// The run of a sound tree of any set whose rules go over no calls is a choice by priority.
+pub fn sound_trees_choose()
+    ensures { SoundTreesChoose }
+{}
+
+/// In a set without a wrong overlap, the demands of at most one rule of a priority hold.
+#[tactic(auto, using(crate::proofs::runs::HoldsOnce::rules_hold_once_lem))]
+pub fn rules_hold_once()
+    ensures { RulesHoldOnce }
+{}
+
+/// Taking a rule comes to one outcome, whatever the place that it is taken from.
+pub fn taken_once()
+    ensures { TakenOnce }
+{}
+
+/// Of a program, the choice by priority asks the terms alone.
+pub fn choice_asks_terms()
+    ensures { ChoiceAsksTerms }
+{}
+
+/// Where of two rules of one priority at most one matches, rules in another order choose the same.
+pub fn order_doesnt_matter()
+    ensures { OrderDoesntMatter }
+{}
+
+/// A rule that isn't chosen can be taken away.
+pub fn others_can_be_taken_away()
+    ensures { OthersCanBeTakenAway }
+{}
+
+/// So the terms of a program choose the same where its rules stand in another order.
+pub fn order_in_programs_doesnt_matter()
+    ensures { OrderInProgramsDoesntMatter }
+{}
+
+/// And where a rule is taken away that isn't chosen.
+pub fn others_in_programs_can_be_taken_away()
+    ensures { OthersInProgramsCanBeTakenAway }
+{}
+
+/// The integer literals of a set that is built of well-typed rules lie in the ranges of their types, as sites and as constraints.
+pub fn built_sets_have_numbers_in_range()
+    ensures { BuiltSetsHaveNumbersInRange }
+{}
+
+/// A rule of a well-typed program matches under a pick exactly where the demands of its visit hold.
+pub fn visits_match()
+    ensures { VisitsMatch }
+{}
+
+/// An unreachable rule never matches.
+pub fn unreachable_rules_never_match()
+    ensures { UnreachableRulesNeverMatch }
+{}
+
+/// The closed demands of a rule hold exactly where its demands do, if they are all that follows.
+pub fn closed_demands_hold_alike()
+    ensures { ClosedDemandsHoldAlike }
+{}
+
+/// So those of each rule that is built of well-typed ones do.
+pub fn built_demands_hold_alike()
+    ensures { BuiltDemandsHoldAlike }
+{
+    built_demands_are_whole();
+}
+
+/// And so, under each of its picks, a rule of a set that is built of well-typed ones matches exactly where its demands hold.
+pub fn built_sets_match_by_demands()
+    ensures { BuiltSetsMatchByDemands }
+{
+    built_demands_are_whole();
+}
+
+/// Of two rules of a term that isn't multi, built of well-typed rules, those that don't overlap never match together, and a
+/// shadowed one matches only where its mask does.
+pub fn built_rules_are_told_apart()
+    ensures { BuiltRulesAreToldApart }
+{
+    built_demands_are_whole();
+}
+
+/// The rules of a term that isn't multi go over no calls.
+pub fn rules_without_multi_go_over_no_calls()
+    ensures { RulesWithoutMultiGoOverNoCalls }
+{}
+
+/// For a built set of well-typed rules, a meaning that serves the term's rules and tells constants apart has what the tests
+/// of trees ask.
+pub fn served_sets_serve_tests()
+    ensures { ServedSetsServeTests }
+{}
+
+/// Under each of its picks, what the right side of a rule gives that makes no impure call is what the result's site holds.
+pub fn results_are_held()
+    ensures { BuiltSetsHoldResults }
+{}
+
+/// And where none of the set's rules makes an impure call, it has what collecting the results of a multi term asks.
+pub fn served_multi_sets_serve()
+    ensures { ServedMultiSetsServe }
+{}
+
+/// For a built set of well-typed rules, taking a rule that matches and goes over no calls gives its right side's outcome: its
+/// impure calls in order, and its result or a failure.
+pub fn taken_rules_give_their_outcome()
+    ensures { TakenRulesGiveTheirOutcome }
+{}
+
+/// And so does, under each of its picks, taking a rule that goes over calls and makes no impure one.
+pub fn taken_rules_give_their_outcome_under_picks()
+    ensures { TakenRulesGiveTheirOutcomeUnderPicks }
+{}
+
+/// A set that is built of well-typed rules means what they do: under each of its picks a rule matches exactly where its demands
+/// hold, taking it gives its right side's outcome, and the result's site holds what the right side gives.
+pub fn built_sets_mean_their_rules()
+    ensures { BuiltSetsMeanTheirRules }
+{
+    built_sets_match_by_demands();
+    taken_rules_give_their_outcome();
+    taken_rules_give_their_outcome_under_picks();
+    results_are_held();
+}
+
+/// Of a well-typed program, built sets of all its terms with rules, and these reports, are what building gives.
+pub fn built_sets_are_answered()
+    ensures { BuiltSetsAreAnswered }
+{
+    built_demands_are_whole();
+    built_sets_can_be_served();
+    built_sets_have_numbers_in_range();
+    built_sets_mean_their_rules();
+    built_rules_are_told_apart();
+}
+
+/// In a term that isn't multi a rule that is shadowed is never chosen.
+pub fn shadowed_rules_are_never_chosen()
+    ensures { ShadowedRulesAreNeverChosen }
+{
+    built_rules_are_told_apart();
+}
+
+/// So it can be taken away from the program, and the term chooses the same.
+pub fn shadowed_rules_can_be_taken_away()
+    ensures { ShadowedRulesCanBeTakenAway }
+{
+    shadowed_rules_are_never_chosen();
+}
+
+/// Every total meaning that is well typed for what the rules of a term use serves these rules.
+pub fn total_meanings_serve()
+    ensures { TotalMeaningsServe }
+{}
+
+/// In a term that isn't multi, by well-typed functions that tell constants apart, a tree that runs as chosen comes to the
+/// outcome of the matching source rule of greatest priority.
+pub fn runs_by_functions_as_chosen()
+    ensures { RunsByFunctionsAsChosen }
+{}
 
 /// The list of a place's open tests holds exactly the tests that are open there.
 #[tactic(auto, using(crate::proofs::OpenTests::open_tests_are_listed_lem))]

@@ -1,10 +1,18 @@
+mod AfterRefusals
 mod Converters
+mod DistinctLists
 mod ElaboratedCalls
 mod EnvironmentsRead
+mod FurtherNames
+mod RefusedAgain
+mod RulesAgain
+mod TermTypes
+mod UsesFound
+mod WellFormed
+mod WellTypedTerms
 pub mod EnvironmentsShown
 pub mod FormedParts
 pub mod FormedRules
-mod FurtherNames
 pub mod JudgedKnown
 pub mod JudgedReading
 pub mod JudgedTerms
@@ -16,8 +24,6 @@ pub mod OwnTypes
 pub mod Ranges
 pub mod RefusedTerms
 pub mod TermLaws
-mod TermTypes
-mod DistinctLists
 pub mod TwoTables
 pub mod TypeLaws
 pub mod TypedExprs
@@ -26,13 +32,7 @@ pub mod TypedResults
 pub mod TypedRules
 pub mod TypesStay
 pub mod Typings
-mod UsesFound
 pub mod VariantTerms
 pub mod VisitableRules
-mod WellFormed
 pub mod WellTypedPrograms
 pub mod WellTypedRules
-mod WellTypedTerms
-mod AfterRefusals
-mod RefusedAgain
-mod RulesAgain

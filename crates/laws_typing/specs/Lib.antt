@@ -1,3 +1,4 @@
+pub mod AfterRefusals
 pub mod FurtherNames
 pub mod JudgeLaws
 pub mod OwnTypes
@@ -10,4 +11,3 @@ pub mod TableLaws
 pub mod TypingLaws
 pub mod TypingResults
 pub mod WellTypedPrograms
-pub mod AfterRefusals

@@ -4,15 +4,15 @@ use cranelift_isle::lower::{Lowered, LoweredTerm, lower};
 use cranelift_isle::sema::RuleId;
 use cranelift_isle::syntax::{Def, Fault};
 use cranelift_isle::trie_again::Rule;
-use isle_answers::answers::Answer;
-use isle_answers::texts::syntax_error_line;
-use isle_queries::names::{rule_name, term_name};
-use isle_queries::rules::rule_returned;
-use isle_queries::texts::{Names, Places, error_lines, names_of, turn_text};
-use isle_queries::walk::{Turn, steps};
-use isle_reader::errors::ReadFault;
-use isle_reader::read;
+use report_queries::answers::Answer;
+use report_queries::answers_texts::syntax_error_line;
+use report_queries::names::{rule_name, term_name};
+use report_queries::rules::rule_returned;
+use report_queries::texts::{Names, Places, error_lines, names_of, turn_text};
+use report_queries::walk::{Turn, steps};
 use std::alloc::{AllocError, Global};
+use text_reader::errors::ReadFault;
+use text_reader::read;
 
 /// The traces of a text's definitions, or one line for each error.
 pub fn answer(alloc: Global, text: &str) -> Result<Answer, AllocError> {

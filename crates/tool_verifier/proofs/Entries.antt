@@ -17,11 +17,11 @@ use Rattle.cranelift_isle.specs.Checks.{env_program}
 use Rattle.cranelift_isle.specs.Lowerings.{lowered_view, lowered_views, DemandWhole, IsLowered, OfAccepted}
 use Rattle.cranelift_isle.specs.declared.lower.LoweredTerm as Code
 use Rattle.cranelift_isle.specs.declared.lower.Lowered.{Lowered}
-use Rattle.isle_queries.specs.Premises.{asks_own_constants}
-use Rattle.laws_conditions.specs.ConditionLaws.{IsCalled}
-use Rattle.laws_conditions.specs.Meets.{Atoms, AnswersAsSaid}
-use Rattle.laws_conditions.specs.Specs.{Specs}
-use Rattle.laws_programs.specs.SetConditions.{LoweredSetsComputeAsSaid}
+use Rattle.report_queries.specs.Premises.{asks_own_constants}
+use Rattle.laws_specs.specs.ConditionLaws.{IsCalled}
+use Rattle.laws_specs.specs.Meets.{Atoms, AnswersAsSaid}
+use Rattle.laws_specs.specs.Specs.{Specs}
+use Rattle.laws_specs.specs.SetConditions.{LoweredSetsComputeAsSaid}
 use Rattle.tool_verifier.specs.Verified.{CanRun, run_of, RunsAsRule, AreRight, RunsWhereApart, RunsAlways}
 use Rattle.tool_verifier.proofs.OwnConstants.{own_apart}
 

@@ -12,7 +12,7 @@ use Rattle.cranelift_isle.specs.Serves.{TellsConstantsApart, constant_site, test
 use Rattle.cranelift_isle.specs.Sites.{Site, SiteTerm, Constraint, is_variant, is_struct, is_bool, is_int, is_prim, is_present, SetRule, SiteSet}
 use Rattle.cranelift_isle.specs.SetMeanings.{DemandsAreWhole}
 use Rattle.model.proofs.Members.{nothing_in, in_head, in_tail, in_cases, in_alone, each_passes, from_map, from_flat_map}
-use Rattle.isle_queries.specs.Premises.{asks_own_constant, rule_asks_own, asks_own_constants}
+use Rattle.report_queries.specs.Premises.{asks_own_constant, rule_asks_own, asks_own_constants}
 
 -- the rule of a set that a built rule became
 became : (p : Program) (sites : List Site) (bs : List BuiltRule) (rs : List SetRule) → AreRulesOfSet p sites bs rs → (b : BuiltRule) → Contains bs b

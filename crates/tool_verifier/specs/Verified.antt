@@ -10,10 +10,10 @@ use Rattle.cranelift_isle.specs.Values.{Value, args_well_typed}
 use Rattle.cranelift_isle.specs.Serves.{Serves, TellsConstantsApart}
 use Rattle.cranelift_isle.specs.Layers.{own_program, IsAccepted, LoweredTerm}
 use Rattle.cranelift_isle.specs.Run.{run, world_of}
-use Rattle.laws_conditions.specs.ConditionLaws.{IsCalled}
-use Rattle.laws_conditions.specs.Meets.{Atoms, AreNumbers, AnswersAsSaid}
-use Rattle.laws_conditions.specs.Specs.{Specs}
-use Rattle.laws_programs.specs.SetConditions.{AreValidInSet, AreValidBelowInSet}
+use Rattle.laws_specs.specs.ConditionLaws.{IsCalled}
+use Rattle.laws_specs.specs.Meets.{Atoms, AreNumbers, AnswersAsSaid}
+use Rattle.laws_specs.specs.Specs.{Specs}
+use Rattle.laws_specs.specs.SetConditions.{AreValidInSet, AreValidBelowInSet}
 
 -- what is asked of a meaning and of arguments: these are well typed, and it has an answer for all that the rules call
 pub record CanRun (p : Program) (t : ℕ) (m : Meaning) (args : List Value) : Type 0 where

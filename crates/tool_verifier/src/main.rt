@@ -4,7 +4,7 @@
 mod verdicts;
 mod verified;
 
-use isle_answers::answers::{cannot_read, write_answer};
+use report_queries::answers::{cannot_read, write_answer};
 use std::alloc::Global;
 use std::io;
 use std::io::{Read, Write};

@@ -7,13 +7,13 @@ ghost use Rattle.cranelift_isle.specs.SyntaxViews.{definition_views};
 use crate::verified::{runs_always, runs_where_apart};
 use cranelift_isle::lower::{Lowered, lower};
 use cranelift_isle::syntax::{Def, Fault};
-use isle_answers::answers::Answer;
-use isle_answers::texts::syntax_error_line;
-use isle_queries::names::term_name;
-use isle_queries::texts::{Places, error_lines};
-use isle_reader::errors::ReadFault;
-use isle_reader::read;
+use report_queries::answers::Answer;
+use report_queries::answers_texts::syntax_error_line;
+use report_queries::names::term_name;
+use report_queries::texts::{Places, error_lines};
 use std::alloc::{AllocError, Global};
+use text_reader::errors::ReadFault;
+use text_reader::read;
 
 /// A line for each term of a text's definitions, or one line for each error.
 pub fn answer(alloc: Global, text: &str) -> Result<Answer, AllocError> {

@@ -7,8 +7,8 @@ ghost use Rattle.tool_verifier.specs.Verified.{RunsAlways, RunsWhereApart};
 
 use cranelift_isle::lower::{Lowered, LoweredTerm};
 use cranelift_isle::syntax::Def;
-use isle_queries::premises::{asks_own_constants, is_multi};
-use laws_programs::lowered_sets_compute_as_said;
+use laws_specs::lowered_sets_compute_as_said;
+use report_queries::premises::{asks_own_constants, is_multi};
 
 /// The entry at a place of `lowered.terms`, where the term isn't `multi`: its tree runs as the chosen rule, on well-typed
 /// arguments and under meanings that serve the term's rules and tell their constants apart. And where each rule is right by specs,

@@ -6,8 +6,8 @@ use Rattle.model.specs.sites.Sites.{Site, match_variant_site, extract_struct_sit
 use Rattle.model.specs.trees.Places.{is_in, waits, is_variant_field, is_struct_field, is_part_of, site_from, each_field, fields_of, field_sites}
 use Rattle.model.specs.trees.Best.{are_distinct}
 use Rattle.model.proofs.Members.{nothing_in, in_cases, in_alone, member_found}
-use Rattle.laws_runs.proofs.runs.Contents.{sources_in}
-use Rattle.laws_runs.proofs.runs.FieldSites.{site_passes, variant_field_same, struct_field_same, part_same}
+use Rattle.laws_trees.proofs.runs.Contents.{sources_in}
+use Rattle.laws_trees.proofs.runs.FieldSites.{site_passes, variant_field_same, struct_field_same, part_same}
 
 -- a field of this source
 pub record IsFieldOf (sites : List Site) (s x : ℕ) : Type 0 where

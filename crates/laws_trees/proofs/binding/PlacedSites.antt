@@ -7,10 +7,10 @@ use Rattle.model.specs.sites.Sites.{Site, int_site, prim_site, argument_site, ma
 use Rattle.model.specs.trees.Places.{is_in_place}
 use Rattle.model.proofs.Members.{nothing_in, in_alone}
 use Rattle.laws_typing.specs.WellTypedPrograms.{IsWellTypedProgram}
-use Rattle.laws_closure.proofs.built.BuiltSets.{BuiltSet}
-use Rattle.laws_runs.proofs.runs.Contents.{sources_in, unfolded_layer}
-use Rattle.laws_matching.proofs.taken.BuiltSites.{sites_stand}
-use Rattle.laws_matching.proofs.taken.Forms.{Form, form, a_value, IsOfForm}
+use Rattle.laws_sites.proofs.built.BuiltSets.{BuiltSet}
+use Rattle.laws_trees.proofs.runs.Contents.{sources_in, unfolded_layer}
+use Rattle.laws_trees.proofs.taken.BuiltSites.{sites_stand}
+use Rattle.laws_trees.proofs.taken.Forms.{Form, form, a_value, IsOfForm}
 use Rattle.laws_trees.proofs.binding.Scope.{PlacesApart}
 
 -- what is written in place is one value

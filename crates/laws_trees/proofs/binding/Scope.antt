@@ -2,7 +2,7 @@
 use Rattle.std.proofs.Common.{◌≡◌, ◌⊎◌, ℕ, suc, true, false, List, Option, Some, slice_get, Contains}
 use Rattle.model.specs.sites.Sites.{Site, iterator_site, Constraint, SiteSet, sources_at}
 use Rattle.model.specs.trees.Places.{Around, is_in_place, below, fields_of}
-use Rattle.laws_runs.proofs.runs.Contents.{SourcesBefore}
+use Rattle.laws_trees.proofs.runs.Contents.{SourcesBefore}
 
 -- what a site is made of that is written in place isn't written in place itself
 abbrev pub PlacesApart : List Site → Type 0

@@ -8,9 +8,9 @@ use Rattle.model.specs.sites.Sites.{Site, sources_at}
 use Rattle.model.specs.trees.Places.{Around, is_in, waits, is_available, available, is_in_place, below, all_below, each_after, listed_below, bind_order}
 use Rattle.model.specs.claims.Layers.{can_be_used, binds_once}
 use Rattle.model.proofs.Members.{nothing_in, in_head, in_tail, in_cases, all_pass, in_filter, from_filter, from_flat_map, member_found, member_is_in}
-use Rattle.laws_runs.proofs.runs.Below.{below_itself, below_deeper, source_below, all_below_itself, all_below_source}
-use Rattle.laws_runs.proofs.runs.BindOrders.{to_bind, opened}
-use Rattle.laws_runs.proofs.runs.Listing.{listed_last, NextSite, AreClosed, closed_next, Walk, WalkedTo, order_listed}
+use Rattle.laws_trees.proofs.runs.Below.{below_itself, below_deeper, source_below, all_below_itself, all_below_source}
+use Rattle.laws_trees.proofs.runs.BindOrders.{to_bind, opened}
+use Rattle.laws_trees.proofs.runs.Listing.{listed_last, NextSite, AreClosed, closed_next, Walk, WalkedTo, order_listed}
 use Rattle.laws_trees.proofs.binding.Scope.{BindableSet, ScopeAt}
 
 -- 1. scopes

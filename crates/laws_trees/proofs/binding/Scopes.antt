@@ -10,7 +10,7 @@ use Rattle.model.specs.trees.Tests.{sources_around}
 use Rattle.model.specs.trees.Best.{are_distinct}
 use Rattle.model.specs.claims.Layers.{brings_new}
 use Rattle.model.proofs.Members.{in_head, in_tail, in_cases, in_alone, all_pass, in_flat_map, from_flat_map, member_found, member_is_in}
-use Rattle.laws_runs.proofs.runs.Below.{under, below_enough, below_deeper, call_or_under, under_below}
+use Rattle.laws_trees.proofs.runs.Below.{under, below_enough, below_deeper, call_or_under, under_below}
 use Rattle.laws_trees.proofs.binding.ScopedOrders.{below_is_bound, binds_within, none_waits}
 use Rattle.laws_trees.proofs.binding.Scope.{Scoped, BindableSet, ScopeAt, ArmFields, LoopCall}
 use Rattle.laws_trees.proofs.binding.BroughtSites.{IsFieldOf, brought_is_field, brought_distinct}

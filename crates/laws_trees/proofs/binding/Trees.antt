@@ -10,7 +10,7 @@ use Rattle.model.specs.trees.Tests.{match_test, IsOpen, sources_around, is_at_ha
 use Rattle.model.specs.trees.Best.{BestSteps, BestArms, IsBestTree}
 use Rattle.model.specs.claims.Layers.{gone_over, can_be_used, brings_new, binds_once, binds_before_use, binds_in_check, binds_in_arms, BindsBeforeUse}
 use Rattle.model.proofs.Members.{nothing_in, in_cases, in_alone, all_pass}
-use Rattle.laws_runs.proofs.runs.Below.{under}
+use Rattle.laws_trees.proofs.runs.Below.{under}
 use Rattle.laws_trees.proofs.JudgeExactness.{not_exact}
 use Rattle.laws_trees.proofs.Passing.{sources_there}
 use Rattle.laws_trees.proofs.binding.ScopedOrders.{binds_are_once, uses_are_bound}

@@ -18,19 +18,19 @@ use Rattle.model.specs.trees.Best.{IsBestTree}
 use Rattle.model.specs.claims.Headline.{RunsAsChosen}
 use Rattle.model.specs.claims.Layers.{IsCheckable}
 use Rattle.model.specs.claims.SetMeanings.{TakenGivesOutcome, returning_once}
-use Rattle.laws_closure.specs.BuiltLaws.{BuiltSetsAreTested}
-use Rattle.laws_closure.specs.BuiltSets.{OfBuiltSets}
+use Rattle.laws_sites.specs.BuiltLaws.{BuiltSetsAreTested}
+use Rattle.laws_sites.specs.BuiltSets.{OfBuiltSets}
 use Rattle.model.proofs.Elements.{In, contains_from_in, in_slice, some_is}
 use Rattle.model.proofs.Members.{member_from_get, get_from_member}
 use Rattle.model.proofs.Options.{is_there}
 use Rattle.laws_typing.specs.WellTypedPrograms.{IsWellTypedProgram}
-use Rattle.laws_closure.proofs.built.BuiltSets.{BuiltSet, ServingMeaning}
-use Rattle.laws_runs.proofs.runs.Choice.{sound_trees_choose_lem}
-use Rattle.laws_runs.proofs.runs.ChosenRules.{Chosen, no_match, matching, chosen_is, one_number}
-use Rattle.laws_matching.specs.MatchLaws.{BuiltSetsMatchByDemands, BuiltRulesAreToldApart, RulesWithoutMultiGoOverNoCalls}
-use Rattle.laws_matching.specs.ServeLaws.{ServedSetsServeTests}
-use Rattle.laws_closure.proofs.built.BuiltGates.{one_rule}
-use Rattle.laws_matching.proofs.DisjointRules.{empty_pick, same_match}
+use Rattle.laws_sites.proofs.built.BuiltSets.{BuiltSet, ServingMeaning}
+use Rattle.laws_trees.proofs.runs.Choice.{sound_trees_choose_lem}
+use Rattle.laws_trees.proofs.runs.ChosenRules.{Chosen, no_match, matching, chosen_is, one_number}
+use Rattle.laws_trees.specs.MatchLaws.{BuiltSetsMatchByDemands, BuiltRulesAreToldApart, RulesWithoutMultiGoOverNoCalls}
+use Rattle.laws_trees.specs.ServeLaws.{ServedSetsServeTests}
+use Rattle.laws_sites.proofs.built.BuiltGates.{one_rule}
+use Rattle.laws_trees.proofs.DisjointRules.{empty_pick, same_match}
 use Rattle.laws_trees.specs.BuiltLaws.{BestTreesOfBuiltSetsAreSound}
 use Rattle.laws_trees.proofs.headline.NoCalls.{rule_goes_over_none, pair_goes_over_none, set_goes_over_none}
 use Rattle.laws_trees.proofs.headline.Places.{Pair, of_set_rule, of_typed_rule, typed_here}

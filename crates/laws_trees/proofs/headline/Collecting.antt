@@ -26,7 +26,7 @@ use Rattle.model.specs.trees.Collects.{calls_in, content_at, demands_hold, as_li
 use Rattle.model.specs.trees.SetRuns.{tested_sites}
 use Rattle.model.specs.trees.Best.{IsBestTree}
 use Rattle.model.specs.claims.Layers.{IsCheckable}
-use Rattle.laws_closure.specs.BuiltLaws.{BuiltSetsAreCollected}
+use Rattle.laws_sites.specs.BuiltLaws.{BuiltSetsAreCollected}
 use Rattle.model.proofs.Elements.{in_from_contains, contains_from_in}
 use Rattle.model.proofs.Bags.{flat_map_same}
 use Rattle.model.proofs.DistinctJoined.{distinct_filter, distinct_map}
@@ -36,22 +36,22 @@ use Rattle.model.proofs.Options.{is_there}
 use Rattle.model.proofs.Positions.{distinct_nil}
 use Rattle.model.proofs.SitesMade.{once_with}
 use Rattle.laws_typing.specs.WellTypedPrograms.{IsWellTypedProgram}
-use Rattle.laws_closure.proofs.built.BuiltSets.{BuiltSet, ServingMeaning}
-use Rattle.laws_runs.specs.Orders.{Within, OrderedFrom}
-use Rattle.laws_runs.proofs.picks.Calls.{unfold_once, calls_below, IsEarlier, numbers_ordered}
-use Rattle.laws_runs.proofs.picks.FirstCall.{results_are_of_places_lem}
-use Rattle.laws_runs.proofs.picks.VisitOrder.{calls_ordered}
-use Rattle.laws_runs.proofs.picks.CallOrders.{reordered}
-use Rattle.laws_runs.proofs.runs.Below.{below_within}
-use Rattle.laws_runs.proofs.runs.Collection.{sound_trees_collect_lem}
-use Rattle.laws_runs.proofs.runs.Contents.{sources_in}
-use Rattle.laws_matching.specs.MatchLaws.{BuiltSetsMatchByDemands, BuiltSetsHoldResults}
-use Rattle.laws_matching.specs.ServeLaws.{ServedMultiSetsServe}
-use Rattle.laws_closure.specs.GateLaws.{NoRuleAsksAndGoesOver, MultiTermsHaveOnePriority}
-use Rattle.laws_closure.proofs.Classes.{with_sites_in, in_with_sites}
-use Rattle.laws_closure.proofs.built.BuiltGates.{one_rule, rule_at}
-use Rattle.laws_matching.proofs.BuiltMatches.{built_listed}
-use Rattle.laws_closure.proofs.built.WellBuiltSets.{first_constraint}
+use Rattle.laws_sites.proofs.built.BuiltSets.{BuiltSet, ServingMeaning}
+use Rattle.laws_trees.specs.Orders.{Within, OrderedFrom}
+use Rattle.laws_trees.proofs.picks.Calls.{unfold_once, calls_below, IsEarlier, numbers_ordered}
+use Rattle.laws_trees.proofs.picks.FirstCall.{results_are_of_places_lem}
+use Rattle.laws_trees.proofs.picks.VisitOrder.{calls_ordered}
+use Rattle.laws_trees.proofs.picks.CallOrders.{reordered}
+use Rattle.laws_trees.proofs.runs.Below.{below_within}
+use Rattle.laws_trees.proofs.runs.Collection.{sound_trees_collect_lem}
+use Rattle.laws_trees.proofs.runs.Contents.{sources_in}
+use Rattle.laws_trees.specs.MatchLaws.{BuiltSetsMatchByDemands, BuiltSetsHoldResults}
+use Rattle.laws_trees.specs.ServeLaws.{ServedMultiSetsServe}
+use Rattle.laws_sites.specs.GateLaws.{NoRuleAsksAndGoesOver, MultiTermsHaveOnePriority}
+use Rattle.laws_sites.proofs.Classes.{with_sites_in, in_with_sites}
+use Rattle.laws_sites.proofs.built.BuiltGates.{one_rule, rule_at}
+use Rattle.laws_trees.proofs.BuiltMatches.{built_listed}
+use Rattle.laws_sites.proofs.built.WellBuiltSets.{first_constraint}
 use Rattle.laws_trees.specs.BuiltLaws.{BestTreesCollectTheBag}
 use Rattle.laws_trees.proofs.Soundness.{best_trees_are_sound_lem}
 use Rattle.laws_trees.proofs.headline.Places.{Pair, of_set_rule, of_typed_rule, typed_here}

@@ -6,10 +6,10 @@ use Rattle.model.specs.visits.Demands.{demands_of}
 use Rattle.model.specs.sites.Overlap.{BuiltRule, built_rules}
 use Rattle.model.proofs.Members.{nothing_in, all_members, member_from_get, get_from_member}
 use Rattle.laws_typing.specs.WellTypedPrograms.{IsWellTypedProgram}
-use Rattle.laws_closure.proofs.built.BuiltSets.{BuiltSet}
-use Rattle.laws_matching.specs.MatchLaws.{RulesWithoutMultiGoOverNoCalls}
-use Rattle.laws_closure.proofs.built.BuiltGates.{one_rule}
-use Rattle.laws_matching.proofs.BuiltMatches.{built_listed}
+use Rattle.laws_sites.proofs.built.BuiltSets.{BuiltSet}
+use Rattle.laws_trees.specs.MatchLaws.{RulesWithoutMultiGoOverNoCalls}
+use Rattle.laws_sites.proofs.built.BuiltGates.{one_rule}
+use Rattle.laws_trees.proofs.BuiltMatches.{built_listed}
 use Rattle.laws_trees.proofs.headline.Places.{Pair, of_set_rule}
 
 none_listed : (xs : List ℕ) → ((s : ℕ) → Contains xs s → ⊥) → xs ≡ []

@@ -1,7 +1,7 @@
 -- Rules are read with the types of the same definitions, and with the names that were met.
-use Rattle.isle_base.specs.SyntaxViews.{definition_views}
+use Rattle.core_syntax.specs.SyntaxViews.{definition_views}
 use Rattle.model.specs.claims.Environments.{types_read, with_read_names}
-use Rattle.isle_types.specs.EnvViews.{environment_view}
+use Rattle.core_types.specs.EnvViews.{environment_view}
 use Rattle.check_refusals.proofs.environments.read_again.Given as goal
 
 abbrev pub ghost-from_ast : goal.ghost-from_ast

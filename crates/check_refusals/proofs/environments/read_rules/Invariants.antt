@@ -1,5 +1,5 @@
 -- Rules are read with the types of the same definitions.
-use Rattle.isle_base.specs.SyntaxViews.{definition_views}
+use Rattle.core_syntax.specs.SyntaxViews.{definition_views}
 use Rattle.model.specs.claims.Environments.{types_read}
 use Rattle.check_refusals.proofs.environments.read_rules.Given as goal
 

@@ -1,18 +1,18 @@
 use Rattle.std.proofs.Common.{◌≡◌, ◌++◌, Err, None, All, sym, subst, rules}
-use Rattle.isle_base.specs.Answers.{OnErrors, limit_of}
-use Rattle.isle_base.specs.ErrorViews.{error_views}
-use Rattle.isle_base.specs.Positions.{ErrorStandsAt, positions_of}
-use Rattle.isle_base.specs.SyntaxViews.{definition_views}
+use Rattle.core_syntax.specs.Answers.{OnErrors, limit_of}
+use Rattle.core_syntax.specs.ErrorViews.{error_views}
+use Rattle.core_syntax.specs.Positions.{ErrorStandsAt, positions_of}
+use Rattle.core_syntax.specs.SyntaxViews.{definition_views}
 use Rattle.laws_trees.specs.NoLimits.{PassedInLowering}
 use Rattle.laws_typing.proofs.OwnTypes.{own_types_read}
 use Rattle.model.specs.claims.Environments.{types_read}
 use Rattle.model.specs.claims.Layers.{RefusedBy, by_types, by_rules}
 use Rattle.model.specs.claims.Refusals.{NamesOnlyPassed, PassedInReading, RefusesTypes, RefusesRules}
 use Rattle.model.specs.lists.TypeTable.{type_table}
-use Rattle.isle_rules.proofs.RuleErrorSteps.{no_limit_named}
-use Rattle.isle_rules.specs.declared.term_env.TermEnv.{TermEnv}
-use Rattle.isle_types.specs.TypePositions.{types_positions}
-use Rattle.isle_types.specs.declared.type_env.TypeEnv.{TypeEnv}
+use Rattle.core_rules.proofs.RuleErrorSteps.{no_limit_named}
+use Rattle.core_rules.specs.declared.term_env.TermEnv.{TermEnv}
+use Rattle.core_types.specs.TypePositions.{types_positions}
+use Rattle.core_types.specs.declared.type_env.TypeEnv.{TypeEnv}
 use Rattle.cranelift_isle.specs.Environments.{BreaksWhereRefused, NamesLackedLimits, TellsOfEach}
 use Rattle.cranelift_isle.specs.declared.environments.Environments.{Environments}
 use Rattle.cranelift_isle.proofs.ErrorsOfReading.{errors_so, passed_in_reading, no_valid_types, types_break, rules_break, types_told, rules_told, lacked_in_reading}

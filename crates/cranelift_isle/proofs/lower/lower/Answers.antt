@@ -1,14 +1,14 @@
 use Rattle.std.proofs.Common.{◌≡◌, Err, All, sym, subst, rules}
-use Rattle.isle_base.specs.Answers.{OnErrors}
-use Rattle.isle_base.specs.Positions.{ErrorStandsAt, positions_of}
-use Rattle.isle_base.specs.SyntaxViews.{definition_views}
-use Rattle.isle_base.specs.ErrorViews.{error_views}
+use Rattle.core_syntax.specs.Answers.{OnErrors}
+use Rattle.core_syntax.specs.Positions.{ErrorStandsAt, positions_of}
+use Rattle.core_syntax.specs.SyntaxViews.{definition_views}
+use Rattle.core_syntax.specs.ErrorViews.{error_views}
 use Rattle.model.specs.claims.Layers.{RefusedBy}
 use Rattle.model.specs.claims.Refusals.{NamesOnlyPassed}
 use Rattle.laws_trees.specs.NoLimits.{PassedInLowering}
 use Rattle.laws_trees.specs.OneAnswer.{AreCheckErrors}
-use Rattle.isle_types.specs.EnvViews.{environment_view}
-use Rattle.isle_rules.specs.ShownEnvs.{environment_shown_by}
+use Rattle.core_types.specs.EnvViews.{environment_view}
+use Rattle.core_rules.specs.ShownEnvs.{environment_shown_by}
 use Rattle.cranelift_isle.specs.declared.environments.Environments.{Environments}
 use Rattle.cranelift_isle.specs.declared.lower.Lowered.{Lowered}
 use Rattle.cranelift_isle.specs.Environments.{AreEnvironments, BreaksWhereRefused, NamesLackedLimits, TellsOfEach}

@@ -1,7 +1,7 @@
 use Rattle.std.proofs.lemmas.Result.{IfOk-weaker}
 use Rattle.model.specs.claims.Layers.{IsSerialized}
-use Rattle.isle_rule_sets.specs.SiteViews.{set_view}
-use Rattle.isle_serialize.specs.TreeViews.{tree_view}
+use Rattle.core_rule_sets.specs.SiteViews.{set_view}
+use Rattle.core_serialize.specs.TreeViews.{tree_view}
 use Rattle.cranelift_isle.specs.Lowerings.{SharesTests, BindsBeforeAnyUse}
 use Rattle.cranelift_isle.proofs.SharedTrees.{shares_tests, binds_before_any_use}
 use Rattle.cranelift_isle.proofs.lower.tree_of.Goals as goal

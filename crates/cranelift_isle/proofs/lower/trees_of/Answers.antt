@@ -3,8 +3,8 @@ use Rattle.std.specs.Prelude.{All}
 use Rattle.std.proofs.lemmas.List.{map-append}
 use Rattle.std.proofs.lemmas.List.Elements.{All-nil, All-push, All-head, All-tail}
 use Rattle.model.specs.claims.Layers.{IsBuiltForSome, LoweredTerm}
-use Rattle.isle_rule_sets.specs.SiteViews.{set_view}
-use Rattle.isle_serialize.specs.TreeViews.{tree_view}
+use Rattle.core_rule_sets.specs.SiteViews.{set_view}
+use Rattle.core_serialize.specs.TreeViews.{tree_view}
 use Rattle.cranelift_isle.specs.BuiltSets.{term_set_view, term_set_views}
 use Rattle.cranelift_isle.specs.Lowerings.{lowered_view, lowered_views, set_of_term, SharesTests, BindsBeforeAnyUse}
 use Rattle.cranelift_isle.proofs.TreesSoFar.{moved}

@@ -1,7 +1,7 @@
 use Rattle.model.specs.sites.Overlap.{build_reports}
 use Rattle.model.specs.claims.Environments.{program_of}
 use Rattle.laws_typing.proofs.WellTypedRules.{elaborated_programs_are_well_typed_lem}
-use Rattle.laws_closure.specs.ErrorLaws.{NamesLeftOut, NamesPairs, NamesMasks}
+use Rattle.laws_sites.specs.ErrorLaws.{NamesLeftOut, NamesPairs, NamesMasks}
 use Rattle.cranelift_isle.proofs.NamedErrors.{named, named_exactly}
 use Rattle.cranelift_isle.proofs.CheckedSets.{within}
 use Rattle.cranelift_isle.proofs.overlap.check.Goals as goal

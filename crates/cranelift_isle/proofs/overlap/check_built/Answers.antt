@@ -4,8 +4,8 @@ use Rattle.std.proofs.lemmas.List.{nil_from_length}
 use Rattle.std.proofs.lemmas.List.Elements.{All-append}
 use Rattle.model.specs.rules.Program.{is_multi}
 use Rattle.model.specs.sites.SetRules.{reports_of_sets}
-use Rattle.isle_builder.specs.AddedRules.{report_views}
-use Rattle.isle_base.specs.Positions.{HasSingleSpans}
+use Rattle.core_builder.specs.AddedRules.{report_views}
+use Rattle.core_syntax.specs.Positions.{HasSingleSpans}
 use Rattle.cranelift_isle.specs.BuiltSets.{term_set_views}
 use Rattle.cranelift_isle.specs.Checks.{env_program}
 use Rattle.cranelift_isle.proofs.CheckedSets.{found_names_rules, nothing_found, something_found}

@@ -1,7 +1,7 @@
 use Rattle.std.proofs.Common.{All}
 use Rattle.std.proofs.lemmas.Result.{IfOk-weaker}
-use Rattle.isle_base.specs.Positions.{HasSingleSpans}
-use Rattle.isle_overlap.specs.ComparedRules.{HaveSingleSpans}
+use Rattle.core_syntax.specs.Positions.{HasSingleSpans}
+use Rattle.core_overlap.specs.ComparedRules.{HaveSingleSpans}
 use Rattle.cranelift_isle.proofs.overlap.check_overlaps.Goals as goal
 
 pub returns-clause-single : goal.returns-clause-single

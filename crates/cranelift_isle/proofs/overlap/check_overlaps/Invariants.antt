@@ -4,7 +4,7 @@ use Rattle.model.specs.rules.Program.{is_multi}
 use Rattle.model.specs.sites.Overlap.{rule_shadows}
 use Rattle.model.specs.sites.SetRules.{shadows_in_sets, wrong_in_sets}
 use Rattle.cranelift_isle.specs.BuiltSets.{term_set_views}
-use Rattle.isle_overlap.specs.ComparedRules.{HaveSingleSpans, found_shadows, found_wrong}
+use Rattle.core_overlap.specs.ComparedRules.{HaveSingleSpans, found_shadows, found_wrong}
 use Rattle.cranelift_isle.specs.Checks.{env_program}
 use Rattle.cranelift_isle.proofs.overlap.check_overlaps.Given as goal
 

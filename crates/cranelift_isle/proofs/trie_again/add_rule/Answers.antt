@@ -1,9 +1,9 @@
 use Rattle.std.proofs.Common.{◌≡◌, [], ap, ◌∙◌, rules, subst, Some}
 use Rattle.std.specs.BTreeMap.{get}
 use Rattle.std.specs.Ordering.{nat_cmp}
-use Rattle.laws_closure.specs.RuleByRule.{of_one_term, or_nothing_built}
+use Rattle.laws_sites.specs.RuleByRule.{of_one_term, or_nothing_built}
 use Rattle.model.specs.sites.Limits.{sites_after_rules}
-use Rattle.isle_typed.specs.RuleViews.{rule_view}
+use Rattle.core_typed.specs.RuleViews.{rule_view}
 use Rattle.cranelift_isle.specs.SetsSoFar.{term_set_at}
 use Rattle.cranelift_isle.proofs.BuildingLists.{goes_on_next, may_add}
 use Rattle.cranelift_isle.proofs.TermsAscending.{not_at}

@@ -1,6 +1,6 @@
 use Rattle.std.proofs.Common.{◌≡◌, ◌≤◌, Some, ap, arith, length, rules, slice_get, subst, take}
 use Rattle.model.specs.claims.Environments.{program_of}
-use Rattle.isle_typed.specs.RuleViews.{rule_view, rule_views}
+use Rattle.core_typed.specs.RuleViews.{rule_view, rule_views}
 use Rattle.cranelift_isle.proofs.BuildingLists.{all_built, all_read, may_go_on, one_more_read, rule_at}
 use Rattle.cranelift_isle.proofs.trie_again.build.Goals as goal
 

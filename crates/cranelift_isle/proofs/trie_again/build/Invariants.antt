@@ -1,5 +1,5 @@
 use Rattle.std.proofs.Common.{All, Bool, List, take}
-use Rattle.isle_base.specs.Positions.{HasSingleSpans}
+use Rattle.core_syntax.specs.Positions.{HasSingleSpans}
 use Rattle.model.specs.claims.Environments.{IsElaborated, TypesRead, program_of}
 use Rattle.model.specs.lists.Elaborated.{TypedRules}
 use Rattle.model.specs.lists.Syntax.{Definition}

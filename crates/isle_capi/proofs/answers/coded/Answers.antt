@@ -1,5 +1,5 @@
 use Rattle.std.proofs.Common.{◌≢◌, [], subst, sym}
-use Rattle.isle_command.specs.Codes.{IsCode, IsCodeOf, IsNamesLine}
+use Rattle.app_command.specs.Codes.{IsCode, IsCodeOf, IsNamesLine}
 use Rattle.isle_capi.proofs.Telling.{told_of_code, told_of_names, told_of_wrong}
 use Rattle.isle_capi.proofs.answers.coded.Goals as goal
 

@@ -5,7 +5,7 @@ use Rattle.cranelift_isle.specs.Program.{is_multi}
 use Rattle.cranelift_isle.specs.TypeViews.{type_views}
 use Rattle.cranelift_isle.specs.SiteViews.{set_view}
 use Rattle.cranelift_isle.specs.Checks.{env_program}
-use Rattle.isle_queries.specs.Premises.{asks_own_constants}
+use Rattle.report_queries.specs.Premises.{asks_own_constants}
 use Rattle.tool_verifier.proofs.Entries.{runs_under_all}
 use Rattle.tool_verifier.proofs.verified.runs_always.Goals as goal
 

@@ -1,0 +1,4 @@
+pub mod Codes
+pub mod Readings
+pub mod Statuses
+pub mod TaskAnswers

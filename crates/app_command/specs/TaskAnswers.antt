@@ -1,0 +1,185 @@
+-- What the command answers to definitions, by what it is asked.
+use Rattle.std.specs.Prelude.{ℕ, ◌≡◌, ◌≢◌, ◌≤◌, ◌⊎◌, ◌||◌, ⊤, Bool, true, false, List, [], ◌∷◌, drop, is_none, is_some, length, map, None, Option, Some, string_bytes, take}
+use Rattle.cranelift_isle.specs.SyntaxViews.{definition_views}
+use Rattle.cranelift_isle.specs.Layers.{own_program, IsAccepted}
+use Rattle.cranelift_isle.specs.Elaborated.{TypedRules}
+use Rattle.cranelift_isle.specs.Syntax.{Definition}
+use Rattle.cranelift_isle.specs.Program.{terms_with_rules}
+use Rattle.cranelift_isle.specs.declared.lower.Lowered.{Lowered}
+use Rattle.cranelift_isle.specs.Lowerings.{lowered_views, AreAccepted}
+use Rattle.core_syntax.specs.declared.syntax.Pos.{Pos}
+use Rattle.report_print.specs.declared.report.Report.{Report}
+use Rattle.text_writer.specs.Spellable.{first_unspelled}
+use Rattle.text_writer.specs.Texts.{printed}
+use Rattle.app_command.specs.declared.answers.Answer.{Answer}
+use Rattle.app_command.specs.declared.code.Code.{Code}
+use Rattle.app_command.specs.declared.reading.Reading.{Reading}
+use Rattle.app_command.specs.declared.reading.Reading.TheVariants.{Defs, Unread}
+use Rattle.app_command.specs.declared.words.Format.{Format}
+use Rattle.app_command.specs.declared.words.Format.TheVariants as F
+use Rattle.app_command.specs.declared.words.Request.{Request}
+use Rattle.app_command.specs.declared.words.Task.{Task}
+use Rattle.app_command.specs.declared.words.Task.TheVariants as T
+use Rattle.app_command.specs.Codes.{IsAnswerOfCode, IsCode}
+use Rattle.app_command.specs.Readings.{has_no_definitions, IsAcceptedReading, IsReadingOf}
+
+-- nothing stands on standard error
+abbrev pub IsOnOut : Answer → Type 0
+IsOnOut answer = string_bytes answer.err ≡ []
+
+-- nothing stands on standard output
+abbrev pub IsOnErr : Answer → Type 0
+IsOnErr answer = string_bytes answer.out ≡ []
+
+-- what is asked is done, and standard output alone says what comes of it
+abbrev pub IsDone : Answer → Type 0
+IsDone answer = (answer.status ≡ 0) × IsOnOut answer
+
+-- with a text
+abbrev pub IsDoneWithText : Answer → Type 0
+IsDoneWithText answer = IsDone answer × (string_bytes answer.out ≢ [])
+
+-- and without
+abbrev pub IsDoneWithoutText : Answer → Type 0
+IsDoneWithoutText answer = IsDone answer × IsOnErr answer
+
+-- it isn't done, and standard error alone says why
+abbrev pub IsFailed : Answer → Type 0
+IsFailed answer = (answer.status ≡ 1) × IsOnErr answer × (string_bytes answer.err ≢ [])
+
+-- two versions differ, and standard output alone says how
+abbrev pub IsDifferent : Answer → Type 0
+IsDifferent answer = (answer.status ≡ 1) × IsOnOut answer × (string_bytes answer.out ≢ [])
+
+-- reports may stand on one side: as JSON, which is never empty, on standard output, else on standard error
+abbrev pub AreReports : Format → Answer → Type 0
+AreReports F.Json answer = IsOnOut answer × (string_bytes answer.out ≢ [])
+AreReports F.Text answer = IsOnErr answer
+AreReports F.Line answer = IsOnErr answer
+AreReports F.Dot answer = IsOnErr answer
+
+-- no report stands there, or one does: of a JSON document neither is said
+abbrev pub HasNoReport : Format → Answer → Type 0
+HasNoReport F.Json answer = ⊤
+HasNoReport F.Text answer = string_bytes answer.err ≡ []
+HasNoReport F.Line answer = string_bytes answer.err ≡ []
+HasNoReport F.Dot answer = string_bytes answer.err ≡ []
+
+abbrev pub HasReport : Format → Answer → Type 0
+HasReport F.Json answer = ⊤
+HasReport F.Text answer = string_bytes answer.err ≢ []
+HasReport F.Line answer = string_bytes answer.err ≢ []
+HasReport F.Dot answer = string_bytes answer.err ≢ []
+
+-- something is wrong with texts or definitions: the status says so, and reports may
+abbrev pub IsRefusal : Request → Answer → Type 0
+IsRefusal asked answer = (answer.status ≡ 1) × AreReports asked.format answer
+
+-- the text of the trees of so many terms: no JSON is empty, and every other form has at least one byte for each term
+abbrev pub AreTrees : Format → (count : ℕ) → (text : List ℕ) → Type 0
+AreTrees F.Json count text = text ≢ []
+AreTrees F.Text count text = count ≤ length text
+AreTrees F.Line count text = count ≤ length text
+AreTrees F.Dot count text = count ≤ length text
+
+-- the numbers of the terms that were lowered
+abbrev pub lowered_terms : Lowered → List ℕ
+lowered_terms l = map (λ t. t.term) (lowered_views l.terms.items)
+
+-- all terms are asked for, and none by its name
+abbrev pub AsksForAll : Request → Type 0
+AsksForAll asked = is_none asked.terms ≡ true
+
+abbrev pub AsksByName : Request → Type 0
+AsksByName asked = is_some asked.terms ≡ true
+
+-- the text of the trees of some terms: of all where all are asked for
+abbrev pub HasTrees : Request → (terms : List ℕ) → (text : List ℕ) → Type 0
+HasTrees asked terms text = (count : ℕ) × (AsksForAll asked → count ≡ length terms) × AreTrees asked.format count text
+
+-- whether there is one of something
+abbrev pub has_one : {T : Type 0} → List T → Bool
+has_one [] = false
+has_one (x ∷ xs) = true
+
+-- whether warnings may count as errors: all do, or those of some kinds
+abbrev pub denies : Request → Bool
+denies asked = asked.deny || has_one asked.denied.items
+
+-- the status 0 says that there is no warning, where all count as errors; the status 1 that there is one, where some may
+abbrev pub IsStatusOfWarnings : Request → Answer → Type 0
+IsStatusOfWarnings asked answer =
+    ((answer.status ≡ 0) × (asked.deny ≡ true → HasNoReport asked.format answer))
+    ⊎ ((denies asked ≡ true) × (answer.status ≡ 1) × HasReport asked.format answer)
+
+-- what accepted definitions with these terms with rules are answered, by the task. A task that may fail may do so on all of
+-- them: when it does isn't said
+abbrev pub IsAnswerBy : Task → Request → (terms : List ℕ) → Answer → Type 0
+IsAnswerBy T.Lower asked terms answer =
+    (IsDone answer × HasTrees asked terms (string_bytes answer.out)) ⊎ (AsksByName asked × IsFailed answer)
+IsAnswerBy T.Rust asked terms answer = (code : Code) × IsCode code × IsAnswerOfCode code answer
+IsAnswerBy T.Check asked terms answer = AreReports asked.format answer × IsStatusOfWarnings asked answer
+IsAnswerBy T.Explain asked terms answer = IsDoneWithText answer ⊎ IsFailed answer
+IsAnswerBy T.Stats asked terms answer = IsDoneWithText answer
+IsAnswerBy T.Compare asked terms answer = IsDoneWithoutText answer ⊎ IsFailed answer
+IsAnswerBy T.Diff asked terms answer = IsDoneWithoutText answer
+IsAnswerBy T.Print asked terms answer = IsDoneWithoutText answer
+IsAnswerBy T.Samples asked terms answer = IsDoneWithoutText answer
+IsAnswerBy T.Run asked terms answer = IsDoneWithText answer ⊎ IsFailed answer
+IsAnswerBy T.Why asked terms answer = IsDoneWithText answer ⊎ IsFailed answer
+
+-- definitions are accepted and the task is done or fails, or they aren't and are refused
+abbrev pub IsAnswerToDefinitions : List Definition → Request → Answer → Type 0
+IsAnswerToDefinitions defs asked answer =
+    ((rules : TypedRules) × IsAccepted defs asked.expand rules × IsAnswerBy asked.task asked (terms_with_rules (own_program defs rules)) answer)
+    ⊎ ((AreAccepted defs asked.expand → ⊥) × IsRefusal asked answer)
+
+-- what was read is answered: definitions, or mistakes of texts, which are told
+abbrev pub IsAnswerToReading : Request → Reading → Answer → Type 0
+IsAnswerToReading asked (Defs defs) answer = IsAnswerToDefinitions (definition_views defs.items) asked answer
+IsAnswerToReading asked (Unread mistakes) answer = IsRefusal asked answer × (mistakes.items ≢ [] → HasReport asked.format answer)
+
+-- texts are answered as something that they are read as
+abbrev pub IsAnswerToOneReading : Request → List (List ℕ) → Answer → Type 0
+IsAnswerToOneReading asked texts answer = (reading : Reading) × IsReadingOf (has_no_definitions asked) texts reading × IsAnswerToReading asked reading answer
+
+-- two versions, each accepted or not, are answered: both are, and nothing is said, or how they differ; or one isn't, and is refused
+abbrev pub IsAnswerToBoth : (Old New : Type 0) → Request → Answer → Type 0
+IsAnswerToBoth Old New asked answer =
+    (Old × New × (IsDoneWithoutText answer ⊎ IsDifferent answer)) ⊎ ((Old → New → ⊥) × IsRefusal asked answer)
+
+-- so many texts are answered as the old version, and the others as the new one
+abbrev pub IsAnswerToVersions : Request → List (List ℕ) → Answer → Type 0
+IsAnswerToVersions asked texts answer =
+    (old : Reading) × (new : Reading) × IsReadingOf (has_no_definitions asked) (take asked.old texts) old
+    × IsReadingOf (has_no_definitions asked) (drop asked.old texts) new
+    × IsAnswerToBoth (IsAcceptedReading asked.expand old) (IsAcceptedReading asked.expand new) asked answer
+
+-- definitions are printed: their text, and nothing else, where all can be spelled; else it is told that one can't
+abbrev pub IsPrintOfDefinitions : List Definition → Request → Answer → Type 0
+IsPrintOfDefinitions defs asked answer =
+    ((first_unspelled defs ≡ None) × IsDone answer × (string_bytes answer.out ≡ printed defs))
+    ⊎ ((first_unspelled defs ≢ None) × IsRefusal asked answer × HasReport asked.format answer)
+
+-- what was read is printed: definitions, or mistakes of texts are told
+abbrev pub IsPrintOfReading : Request → Reading → Answer → Type 0
+IsPrintOfReading asked (Defs defs) answer = IsPrintOfDefinitions (definition_views defs.items) asked answer
+IsPrintOfReading asked (Unread mistakes) answer = IsRefusal asked answer × (mistakes.items ≢ [] → HasReport asked.format answer)
+
+-- texts are printed as something that they are read as
+abbrev pub IsPrintOfTexts : Request → List (List ℕ) → Answer → Type 0
+IsPrintOfTexts asked texts answer = (reading : Reading) × IsReadingOf (has_no_definitions asked) texts reading × IsPrintOfReading asked reading answer
+
+-- the places of a report, and where a definition is told of: nowhere if it has no place
+abbrev pub label_places : Report → List Pos
+label_places report = map (λ label. label.pos) report.labels.items
+
+abbrev pub places_of : Option Pos → List Pos
+places_of None = []
+places_of (Some place) = place ∷ []
+
+-- texts are answered together, or as two versions, or as one text of all their definitions, by the task
+abbrev pub IsAnswerToTexts : Request → List (List ℕ) → Answer → Type 0
+IsAnswerToTexts asked texts answer =
+    ((asked.task ≢ T.Diff) × (asked.task ≢ T.Print) × IsAnswerToOneReading asked texts answer)
+    ⊎ (((asked.task ≡ T.Diff) × IsAnswerToVersions asked texts answer) ⊎ ((asked.task ≡ T.Print) × IsPrintOfTexts asked texts answer))

@@ -1,0 +1,567 @@
+//! What the command answers to texts.
+
+ghost use Rattle.std.specs.Prelude.{◌≡◌, ◌≢◌, ◌⊎◌, ◌≤◌, ◌<◌, true, false, [], length, is_none, map, string_bytes, string_len, IfOk, OnOk};
+ghost use Rattle.cranelift_isle.specs.SyntaxViews.{definition_views};
+ghost use Rattle.app_command.specs.declared.code.Code.{Code};
+ghost use Rattle.app_command.specs.declared.words.Task.TheVariants.{Lower};
+ghost use Rattle.app_command.specs.Codes.{IsAnswerOfCode, IsCode};
+ghost use Rattle.app_command.specs.TaskAnswers.{AreReports, AreTrees, HasNoReport, HasReport, IsDoneWithText, IsDoneWithoutText, IsFailed, IsRefusal, IsStatusOfWarnings, denies};
+ghost use Rattle.app_command.specs.TaskAnswers.{lowered_terms, AsksForAll, IsAnswerBy, IsAnswerToDefinitions, IsAnswerToOneReading, IsAnswerToReading, IsAnswerToTexts};
+ghost use Rattle.app_command.specs.Statuses.{IsStatusOfReading};
+
+use crate::calls::{Told, ran, told_why};
+use crate::code::{Code, code_of_lowered};
+use crate::comparison::{difference, differences};
+use crate::graphs::graph_of;
+use crate::printing::printed_texts;
+use crate::progress::Teller;
+use crate::reading::{Reading, reading_of};
+use crate::unread::refusal_of_texts;
+use crate::versions::answer_to_versions;
+use crate::words::{Format, Request, Task};
+use cranelift_isle::lower::{Lowered, LoweredTerm, lower};
+use cranelift_isle::syntax::{Def, Error, Fault, Files};
+use report_errors::diagnosis::reports_of;
+use report_errors::explanation::{explanation, with_rules};
+use report_errors::stats::stats;
+use report_json::documents::{
+    Document, document_of_reports, document_of_sizes, document_of_terms, document_of_warnings,
+};
+use report_print::layout::push_reports;
+use report_print::print::{Names, print_bindings, print_block};
+use report_print::report::Report;
+use report_warnings::kinds::is_one_of;
+use report_warnings::lints::warnings;
+use std::alloc::{AllocError, Global};
+use std::io::Write;
+
+/// What the command answers.
+pub struct Answer {
+    /// Its status: 0, or 1 where something is wrong with the files, there is nothing of a name that is asked for, or versions or
+    /// trees differ.
+    pub status: u8,
+    /// What goes to standard output.
+    pub out: String,
+    /// What goes to standard error.
+    pub err: String,
+}
+
+impl Drop for Answer {
+    fn drop(self) {
+        let Self {
+            status: _,
+            out: _,
+            err: _,
+        } = self;
+    }
+}
+
+/// What is answered to files. All errors of the first pass that finds some are told: of reading, one for each file. It is told
+/// on `err` what is being done, where that is asked for or `err` is a terminal.
+pub fn answer_to<E: Write>(
+    alloc: Global,
+    asked: &Request<'_>,
+    files: &Files,
+    terminal: bool,
+    err: &mut E,
+) -> Result<Answer, AllocError>
+    ensures { IfOk result (IsAnswerToTexts asked.now (map string_bytes files.now.texts.items)) }
+{
+    let mut teller = Teller::new(asked.progress, terminal, err);
+    let answer = answer_to_files(alloc, asked, files, &mut teller);
+    teller.end();
+    answer
+}
+
+// The same, by what tells what is being done.
+fn answer_to_files<E: Write>(
+    alloc: Global,
+    asked: &Request<'_>,
+    files: &Files,
+    teller: &mut Teller<'_, E>,
+) -> Result<Answer, AllocError>
+    ensures { IfOk result (IsAnswerToTexts asked.now (map string_bytes files.now.texts.items)) }
+{
+    if asked.task == Task::Diff {
+        let answer = answer_to_versions(alloc, asked, files, teller)?;
+        return Ok(answer);
+    }
+    if asked.task == Task::Print {
+        let answer = printed_texts(alloc, asked, files, teller)?;
+        return Ok(answer);
+    }
+    let answer = answer_to_texts(alloc, asked, files, teller)?;
+    Ok(answer)
+}
+
+// What is answered to files that together are one list of definitions.
+fn answer_to_texts<E: Write>(
+    alloc: Global,
+    asked: &Request<'_>,
+    files: &Files,
+    teller: &mut Teller<'_, E>,
+) -> Result<Answer, AllocError>
+    ensures { IfOk result (IsAnswerToOneReading asked.now (map string_bytes files.now.texts.items)) }
+{
+    let reading = reading_of(alloc, asked, files, teller)?;
+    answer_to_reading(alloc, asked, files, &reading, teller)
+}
+
+/// What is answered to what the texts of files were read as.
+pub fn answer_to_reading<E: Write>(
+    alloc: Global,
+    asked: &Request<'_>,
+    files: &Files,
+    reading: &Reading,
+    teller: &mut Teller<'_, E>,
+) -> Result<Answer, AllocError>
+    ensures answer { IfOk result (IsAnswerToReading asked.now reading.now) }
+    ensures status { IfOk result (λ a. IsStatusOfReading asked.now reading.now a.status) }
+{
+    match reading {
+        Reading::Defs(defs) => answer_to_defs(alloc, asked, files, defs, teller),
+        Reading::Unread(mistakes) => refusal_of_texts(alloc, asked, files, mistakes),
+    }
+}
+
+/// The answer where something is wrong: these reports, and how many more there are.
+pub(crate) fn refusal(
+    alloc: Global,
+    asked: &Request<'_>,
+    files: &Files,
+    reports: &[Report],
+    rest: usize,
+) -> Result<Answer, AllocError>
+    ensures refusal { IfOk result (IsRefusal asked.now) }
+    ensures told { reports.now ≢ [] → IfOk result (HasReport asked.now.format) }
+{
+    if asked.format == Format::Json {
+        return Ok(Answer {
+            status: 1,
+            out: document_of_reports(alloc, files, reports, document_for(asked.task))?,
+            err: String::new(alloc),
+        });
+    }
+    let mut err = String::new(alloc);
+    push_reports(&mut err, files, reports, asked.layout())?;
+    push_rest(&mut err, rest)?;
+    Ok(Answer {
+        status: 1,
+        out: String::new(alloc),
+        err,
+    })
+}
+
+// What a JSON document is made for.
+fn document_for(task: Task) -> Document {
+    match task {
+        Task::Lower => Document::Trees,
+        Task::Stats => Document::Sizes,
+        // the other tasks have no JSON
+        _ => Document::Check,
+    }
+}
+
+// Adds how many more errors there are.
+fn push_rest(err: &mut String, count: usize) -> Result<(), AllocError>
+    ensures { OnOk result (string_bytes err.old ≢ [] → string_bytes err.new ≢ []) }
+{
+    if count == 0 {
+        return Ok(());
+    }
+    write!(err, "and {count} more, shown by `--all`\n")
+}
+
+// What is answered to definitions.
+fn answer_to_defs<E: Write>(
+    alloc: Global,
+    asked: &Request<'_>,
+    files: &Files,
+    defs: &[Def],
+    teller: &mut Teller<'_, E>,
+) -> Result<Answer, AllocError>
+    ensures { IfOk result (IsAnswerToDefinitions (definition_views defs.now) asked.now) }
+{
+    teller.tell("lowering", "all terms");
+    match lower(alloc, defs, asked.expand) {
+        Ok(lowered) => answer_to_lowered(alloc, asked, files, defs, &lowered, teller),
+        Err(Fault::Errors(errors)) => refused(alloc, asked, files, defs, &errors, teller),
+        Err(Fault::Memory(error)) => Err(error),
+    }
+}
+
+/// The answer where definitions have errors.
+pub(crate) fn refused<E: Write>(
+    alloc: Global,
+    asked: &Request<'_>,
+    files: &Files,
+    defs: &[Def],
+    errors: &[Error],
+    teller: &mut Teller<'_, E>,
+) -> Result<Answer, AllocError>
+    ensures { IfOk result (IsRefusal asked.now) }
+{
+    teller.tell("explaining", "errors");
+    let found = reports_of(alloc, defs, asked.expand, errors, asked.wants_all())?;
+    refusal(alloc, asked, files, &found.reports, found.rest)
+}
+
+// What is answered to definitions with trees.
+fn answer_to_lowered<E: Write>(
+    alloc: Global,
+    asked: &Request<'_>,
+    files: &Files,
+    defs: &[Def],
+    lowered: &Lowered,
+    teller: &mut Teller<'_, E>,
+) -> Result<Answer, AllocError>
+    ensures { IfOk result (IsAnswerBy asked.now.task asked.now (lowered_terms lowered.now)) }
+{
+    match asked.task {
+        Task::Lower => trees(alloc, asked, files, defs, lowered, teller),
+        Task::Rust => {
+            teller.tell("printing", "all terms");
+            coded(alloc, asked, files, lowered)
+        }
+        Task::Check => {
+            teller.tell("checking", "all rules");
+            let warnings = warnings(alloc, defs, lowered, &asked.allowed)?;
+            warned(alloc, asked, files, &warnings)
+        }
+        // one list of definitions is no second version, and what is lowered isn't printed
+        Task::Samples | Task::Diff | Task::Print => Ok(accepted(alloc, String::new(alloc))),
+        Task::Stats => counted(alloc, asked, lowered),
+        Task::Compare => compared(alloc, asked, files, lowered, teller),
+        Task::Run => answer_of_call(alloc, ran(alloc, asked, files, lowered)?),
+        Task::Why => answer_of_call(alloc, told_why(alloc, asked, files, defs, lowered)?),
+        Task::Explain => explained(alloc, asked, files, defs, lowered),
+    }
+}
+
+// The Rust code of lowered definitions, or why there is none.
+fn coded(
+    alloc: Global,
+    asked: &Request<'_>,
+    files: &Files,
+    lowered: &Lowered,
+) -> Result<Answer, AllocError>
+    ensures { IfOk result (λ a. (code : Code) × IsCode code × IsAnswerOfCode code a) }
+{
+    let code = code_of_lowered(alloc, files, lowered, &asked.code)?;
+    Ok(answer_of_code(alloc, code))
+}
+
+// Code is answered on standard output, and why there is none on standard error.
+fn answer_of_code(alloc: Global, code: Code) -> Answer
+    ensures { IsAnswerOfCode code result }
+{
+    match code {
+        Code::Text(text) => accepted(alloc, text),
+        Code::Names(why) => Answer {
+            status: 1,
+            out: String::new(alloc),
+            err: why,
+        },
+    }
+}
+
+// How large terms are.
+fn counted(alloc: Global, asked: &Request<'_>, lowered: &Lowered) -> Result<Answer, AllocError>
+    ensures { IfOk result IsDoneWithText }
+{
+    let out = if asked.format == Format::Json {
+        document_of_sizes(alloc, lowered)?
+    } else {
+        stats(alloc, lowered)?
+    };
+    Ok(accepted(alloc, out))
+}
+
+// What is said of the rules that are so called.
+fn explained(
+    alloc: Global,
+    asked: &Request<'_>,
+    files: &Files,
+    defs: &[Def],
+    lowered: &Lowered,
+) -> Result<Answer, AllocError>
+    ensures { IfOk result (λ a. IsDoneWithText a ⊎ IsFailed a) }
+{
+    let text = explanation(alloc, files, defs, lowered, asked.rule)?;
+    if text.is_empty() {
+        missing(alloc, "rule or term with rules", asked.rule)
+    } else {
+        Ok(accepted(alloc, text))
+    }
+}
+
+/// The answer where nothing is wrong.
+pub(crate) fn accepted(alloc: Global, out: String) -> Answer
+    ensures status { result.status ≡ 0 }
+    ensures out { string_bytes result.out ≡ string_bytes out }
+    ensures err { string_bytes result.err ≡ [] }
+{
+    Answer {
+        status: 0,
+        out,
+        err: String::new(alloc),
+    }
+}
+
+// The answer to `check` where nothing is wrong: what is likely not meant. Its status is 1 where that is asked for.
+fn warned(
+    alloc: Global,
+    asked: &Request<'_>,
+    files: &Files,
+    warnings: &[Report],
+) -> Result<Answer, AllocError>
+    ensures reports { IfOk result (AreReports asked.now.format) }
+    // what is told are the warnings
+    ensures none { warnings.now ≡ [] → IfOk result (HasNoReport asked.now.format) }
+    ensures some { warnings.now ≢ [] → IfOk result (HasReport asked.now.format) }
+    ensures status { IfOk result (IsStatusOfWarnings asked.now) }
+{
+    let status = if has_denied(asked, warnings) { 1 } else { 0 };
+    let mut out = String::new(alloc);
+    let mut err = String::new(alloc);
+    if asked.format == Format::Json {
+        out = document_of_warnings(alloc, files, warnings)?;
+    } else {
+        push_reports(&mut err, files, warnings, asked.layout())?;
+    }
+    Ok(Answer { status, out, err })
+}
+
+// Whether one of these warnings counts as an error.
+fn has_denied(asked: &Request<'_>, warnings: &[Report]) -> bool
+    ensures all { asked.now.deny ≡ true → warnings.now ≢ [] → result ≡ true }
+    ensures none { warnings.now ≡ [] → result ≡ false }
+    ensures some { result ≡ true → denies asked.now ≡ true }
+{
+    if asked.deny {
+        return !warnings.is_empty();
+    }
+    !asked.denied.is_empty()
+        && warnings
+            .iter()
+            .any(|report| is_one_of(report, &asked.denied))
+}
+
+// The answer where there is nothing of a name.
+fn missing(alloc: Global, what: &str, name: &str) -> Result<Answer, AllocError>
+    ensures { IfOk result IsFailed }
+{
+    Ok(Answer {
+        status: 1,
+        out: String::new(alloc),
+        err: format!(in alloc; "error: no {what} is called `{name}`\n")?,
+    })
+}
+
+// The answer to a call, or what is wrong with it.
+fn answer_of_call(alloc: Global, told: Told) -> Result<Answer, AllocError>
+    ensures { IfOk result (λ a. IsDoneWithText a ⊎ IsFailed a) }
+{
+    match told {
+        Told::Text(text) => Ok(accepted(alloc, format!(in alloc; "{text}\n")?)),
+        Told::Wrong(why) => Ok(Answer {
+            status: 1,
+            out: String::new(alloc),
+            err: format!(in alloc; "{why}\n")?,
+        }),
+    }
+}
+
+// The terms that are asked for.
+fn wanted<'a>(
+    alloc: Global,
+    asked: &Request<'_>,
+    lowered: &'a Lowered,
+) -> Result<Vec<&'a LoweredTerm>, AllocError>
+    ensures { AsksForAll asked.now → IfOk result (λ ts. length ts.items ≡ length lowered.now.terms.items) }
+{
+    let mut wanted = Vec::new(alloc);
+    for term in &lowered.terms {
+        if is_wanted(asked.terms, term_name(lowered, term)) {
+            wanted.push(term)?;
+        }
+    }
+    Ok(wanted)
+}
+
+// Where the trees of the last file depart from those of the terms that are asked for.
+fn compared<E: Write>(
+    alloc: Global,
+    asked: &Request<'_>,
+    files: &Files,
+    lowered: &Lowered,
+    teller: &mut Teller<'_, E>,
+) -> Result<Answer, AllocError>
+    ensures { IfOk result (λ a. IsDoneWithoutText a ⊎ IsFailed a) }
+{
+    if let Some(name) = missing_term(asked.terms, lowered) {
+        return missing(alloc, "term with rules", name);
+    }
+    let wanted = wanted(alloc, asked, lowered)?;
+    let trees = drawn(alloc, Format::Text, files, lowered, &wanted, teller)?;
+    compared_with(alloc, asked.all, files, &trees)
+}
+
+// Where the trees of the last file depart from these: in all terms, or the first line.
+fn compared_with(alloc: Global, all: bool, files: &Files, trees: &str) -> Result<Answer, AllocError>
+    ensures { IfOk result (λ a. IsDoneWithoutText a ⊎ IsFailed a) }
+{
+    let (Some(name), Some(text)) = (files.names.last(), files.texts.last()) else {
+        return Ok(accepted(alloc, String::new(alloc)));
+    };
+    let err = if all {
+        differences(alloc, name, text, trees)?
+    } else {
+        difference(alloc, name, text, trees)?
+    };
+    let status = if err.is_empty() { 0 } else { 1 };
+    Ok(Answer {
+        status,
+        out: String::new(alloc),
+        err,
+    })
+}
+
+// The trees of the terms that are asked for.
+fn trees<E: Write>(
+    alloc: Global,
+    asked: &Request<'_>,
+    files: &Files,
+    defs: &[Def],
+    lowered: &Lowered,
+    teller: &mut Teller<'_, E>,
+) -> Result<Answer, AllocError>
+    ensures { IfOk result (IsAnswerBy Lower asked.now (lowered_terms lowered.now)) }
+{
+    if let Some(name) = missing_term(asked.terms, lowered) {
+        return missing(alloc, "term with rules", name);
+    }
+    let wanted = wanted(alloc, asked, lowered)?;
+    let out = text_of_trees(alloc, asked.format, files, defs, lowered, &wanted, teller)?;
+    Ok(accepted(alloc, out))
+}
+
+// The text of the trees of terms.
+fn text_of_trees<E: Write>(
+    alloc: Global,
+    format: Format,
+    files: &Files,
+    defs: &[Def],
+    lowered: &Lowered,
+    terms: &[&LoweredTerm],
+    teller: &mut Teller<'_, E>,
+) -> Result<String, AllocError>
+    ensures { IfOk result (λ text. AreTrees format (length terms.now) (string_bytes text)) }
+{
+    match format {
+        Format::Json => {
+            teller.tell("printing", "all terms");
+            document_of_terms(alloc, files, defs, lowered, terms)
+        }
+        Format::Dot | Format::Text | Format::Line => {
+            drawn(alloc, format, files, lowered, terms, teller)
+        }
+    }
+}
+
+// The trees of terms, one after another: as graphs, or in words.
+fn drawn<E: Write>(
+    alloc: Global,
+    format: Format,
+    files: &Files,
+    lowered: &Lowered,
+    terms: &[&LoweredTerm],
+    teller: &mut Teller<'_, E>,
+) -> Result<String, AllocError>
+    // each has a text
+    ensures { IfOk result (λ text. length terms.now ≤ string_len text) }
+{
+    let mut out = String::new(alloc);
+    for term in terms {
+        teller.tell("printing", term_name(lowered, term));
+        let drawing = drawing_of(alloc, format, files, lowered, term)?;
+        out.push_str(&drawing)?;
+    }
+    Ok(out)
+}
+
+// The tree of a term: as a graph, or in words.
+fn drawing_of(
+    alloc: Global,
+    format: Format,
+    files: &Files,
+    lowered: &Lowered,
+    term: &LoweredTerm,
+) -> Result<String, AllocError>
+    ensures { IfOk result (λ text. 0 < string_len text) }
+{
+    match format {
+        Format::Dot => graph_of(alloc, files, lowered, term),
+        Format::Json | Format::Text | Format::Line => tree(alloc, files, lowered, term),
+    }
+}
+
+// The tree of a term in words, with the rules that its returns take.
+fn tree(
+    alloc: Global,
+    files: &Files,
+    lowered: &Lowered,
+    term: &LoweredTerm,
+) -> Result<String, AllocError>
+    ensures { IfOk result (λ text. 0 < string_len text) }
+{
+    let names = Names {
+        syms: &lowered.tyenv.syms,
+        types: &lowered.tyenv.types,
+        terms: &lowered.termenv.terms,
+    };
+    let mut printed = String::new(alloc);
+    print_bindings(&mut printed, names, &term.rules.bindings)?;
+    print_block(&mut printed, names, 2, &term.block)?;
+    let steps = with_rules(alloc, files, lowered, term, &printed)?;
+    let name = term_name(lowered, term);
+    format!(in alloc; "term {name}\n{steps}")
+}
+
+// The name of a term.
+fn term_name<'a>(lowered: &'a Lowered, term: &LoweredTerm) -> &'a str {
+    match lowered.termenv.terms.get(term.id.index()) {
+        Some(term) => lowered.tyenv.text_of(term.name),
+        None => "",
+    }
+}
+
+// Whether a term is among those that are wanted, which are all where none are named.
+fn is_wanted(wanted: Option<&str>, name: &str) -> bool
+    ensures { is_none wanted.entry ≡ true → result ≡ true }
+{
+    match wanted {
+        Some(names) => names.split(',').any(|other| other == name),
+        None => true,
+    }
+}
+
+// The first name of a term that is wanted and has no rules.
+fn missing_term<'a>(wanted: Option<&'a str>, lowered: &Lowered) -> Option<&'a str>
+    ensures { is_none wanted.entry ≡ true → is_none result ≡ true }
+{
+    for name in wanted?.split(',') {
+        if !has_term(lowered, name) {
+            return Some(name);
+        }
+    }
+    None
+}
+
+// Whether a term of this name has rules.
+fn has_term(lowered: &Lowered, name: &str) -> bool {
+    lowered
+        .terms
+        .iter()
+        .any(|term| term_name(lowered, term) == name)
+}

@@ -1,0 +1,311 @@
+//! `isle fmt`: files in the usual layout.
+
+ghost use Rattle.std.specs.Prelude.{◌≡◌, ◌≢◌, ◌⊎◌, ◌≤◌, ◌↔◌, true};
+
+use crate::inputs::{file_text, path_of, standard_text};
+use crate::run::{cannot_read, say};
+use crate::words::Unasked;
+use cranelift_isle::syntax::Files;
+use report_errors::syntax_report;
+use report_print::layout::{Layout, push_reports};
+use report_queries::answers::{end, no_memory, write_text};
+use std::alloc::{AllocError, Global};
+use std::fs::{self, File, OpenFile};
+use std::io::{self, ErrorKind, Read, Write};
+use text_reader::errors::{ReadFault, TextError};
+use text_writer::formatted::formatted;
+
+/// What `fmt` is asked.
+pub struct Formatting<'a> {
+    /// Whether files only are named that would change.
+    pub check: bool,
+    /// Where files are looked for whose names don't begin with `/`; the empty text for where the command runs.
+    pub folder: &'a str,
+    /// The files, where `-` is standard input, whose layout goes to standard output.
+    pub files: Vec<&'a str>,
+}
+
+impl<'a> Drop for Formatting<'a> {
+    fn drop(self) {
+        let Self {
+            check: _,
+            folder: _,
+            files: _,
+        } = self;
+    }
+}
+
+// What the next word of `fmt` is.
+#[derive(Clone, Copy, PartialEq, Eq)]
+enum Awaited {
+    Folder,
+    // An option or a file.
+    Any,
+}
+
+/// What the words behind `fmt` ask: `--check`, `-C FOLDER`, and files, of which `-` and `--stdin` are standard input.
+///
+/// # Errors
+///
+/// What is wrong with the words, or that memory was refused.
+pub fn formatting_by<'a>(alloc: Global, words: &'a [String]) -> Result<Formatting<'a>, Unasked> {
+    let mut asked = Formatting {
+        check: false,
+        folder: "",
+        files: Vec::new(alloc),
+    };
+    let mut awaited = Awaited::Any;
+    for word in words {
+        awaited = asked.read(alloc, awaited, word.as_str())?;
+    }
+    if awaited == Awaited::Folder {
+        return Err(wrong(String::from_str(alloc, "nothing after '-C'")));
+    }
+    if asked.files.is_empty() {
+        return Err(wrong(String::from_str(alloc, "no file")));
+    }
+    Ok(asked)
+}
+
+// That something is wrong with the words.
+fn wrong(why: Result<String, AllocError>) -> Unasked {
+    match why {
+        Ok(why) => Unasked::Words(why),
+        Err(AllocError) => Unasked::Memory,
+    }
+}
+
+impl<'a> Formatting<'a> {
+    // Reads a word, and answers what is awaited then.
+    fn read(&mut self, alloc: Global, awaited: Awaited, word: &'a str) -> Result<Awaited, Unasked> {
+        if awaited == Awaited::Folder {
+            self.folder = word;
+            return Ok(Awaited::Any);
+        }
+        match word {
+            "--check" => self.check = true,
+            "-C" => return Ok(Awaited::Folder),
+            "--stdin" => self.files.push("-")?,
+            "" => return Err(wrong(String::from_str(alloc, "a file without a name"))),
+            _ if word != "-" && word.starts_with('-') => {
+                return Err(wrong(format!(in alloc; "fmt has no option '{word}'")));
+            }
+            _ => self.files.push(word)?,
+        }
+        Ok(Awaited::Any)
+    }
+}
+
+/// Lays files out, and answers the status: 0 where all are laid out, or with `check` where none would change; 1 where a text is
+/// wrong, or would change; 3 where memory is refused; 4 where a file can't be read or written. The greatest of all files counts.
+/// A changed layout is written to a new file, which then takes the name of the old one: so nothing is lost.
+pub fn run_formatting<R: std::rt::Files + AllocGlobal, I: Read + Drop, O: Write, E: Write>(
+    rt: &R,
+    asked: &Formatting<'_>,
+    input: I,
+    out: &mut O,
+    err: &mut E,
+) -> u8
+    ensures known { result ≤ 4 }
+    ensures used { result ≢ 2 }
+{
+    let wants = asked.files.iter().any(|name| *name == "-");
+    match standard_text(rt.alloc(), wants, input) {
+        Ok(standard) => format_files(rt, asked, &standard, out, err),
+        Err(why) => cannot_read(rt.alloc(), why, err),
+    }
+}
+
+// Lays out all files, where this is the text of standard input.
+fn format_files<R: std::rt::Files + AllocGlobal, O: Write, E: Write>(
+    rt: &R,
+    asked: &Formatting<'_>,
+    standard: &str,
+    out: &mut O,
+    err: &mut E,
+) -> u8
+    ensures known { result ≤ 4 }
+    ensures used { result ≢ 2 }
+{
+    let mut status = 0u8;
+    for name in &asked.files {
+        let one = if *name == "-" {
+            format_text(rt, asked, "<stdin>", standard, out, err)
+        } else {
+            format_file(rt, asked, name, out, err)
+        };
+        status = status.max(one);
+    }
+    status
+}
+
+// Lays a file out.
+fn format_file<R: std::rt::Files + AllocGlobal, O: Write, E: Write>(
+    rt: &R,
+    asked: &Formatting<'_>,
+    name: &str,
+    out: &mut O,
+    err: &mut E,
+) -> u8
+    ensures known { result ≤ 4 }
+    ensures used { result ≢ 2 }
+{
+    match file_text(rt, asked.folder, name) {
+        Ok(text) => format_text(rt, asked, name, &text, out, err),
+        Err(why) => cannot_read(rt.alloc(), why, err),
+    }
+}
+
+// Lays out the text of a file.
+fn format_text<R: std::rt::Files + AllocGlobal, O: Write, E: Write>(
+    rt: &R,
+    asked: &Formatting<'_>,
+    name: &str,
+    text: &str,
+    out: &mut O,
+    err: &mut E,
+) -> u8
+    ensures known { result ≤ 4 }
+    ensures used { result ≢ 2 }
+{
+    match formatted(rt.alloc(), 0, text) {
+        Ok(made) => hand_over(
+            rt,
+            asked,
+            Laid {
+                name,
+                text,
+                made: &made,
+            },
+            out,
+            err,
+        ),
+        Err(ReadFault::Text(error)) => refuse(rt.alloc(), name, text, error, err),
+        Err(ReadFault::Memory(_)) => no_memory(err),
+    }
+}
+
+// A file's name, its text, and its text as it is laid out.
+#[derive(Clone, Copy)]
+struct Laid<'a> {
+    name: &'a str,
+    text: &'a str,
+    made: &'a str,
+}
+
+// Hands over what is laid out: names the file with `check`, prints standard input, and writes a file that changes.
+fn hand_over<R: std::rt::Files + AllocGlobal, O: Write, E: Write>(
+    rt: &R,
+    asked: &Formatting<'_>,
+    laid: Laid<'_>,
+    out: &mut O,
+    err: &mut E,
+) -> u8
+    ensures known { result ≤ 4 }
+    ensures used { result ≢ 2 }
+    // with `check`, the status is 0 exactly where nothing would change
+    ensures checked { asked.now.check ≡ true → (result ≡ 0) ↔ (laid.entry.made.now ≡ laid.entry.text.now) }
+{
+    if asked.check {
+        return if laid.made == laid.text {
+            0
+        } else {
+            say_changed(rt.alloc(), laid.name, out, err)
+        };
+    }
+    if laid.name == "<stdin>" {
+        return write_text(laid.made, out, err);
+    }
+    if laid.made == laid.text {
+        return 0;
+    }
+    match replace(rt, asked.folder, laid.name, laid.made) {
+        Ok(()) => 0,
+        Err(error) => cannot_write(rt.alloc(), laid.name, &error, err),
+    }
+}
+
+// Says that a file can't be written, and why.
+fn cannot_write<E: Write>(alloc: Global, name: &str, error: &io::Error, err: &mut E) -> u8
+    ensures { (result ≡ 4) ⊎ (result ≡ 3) }
+{
+    let why = match error.kind() {
+        ErrorKind::OutOfMemory => return no_memory(err),
+        ErrorKind::AlreadyExists => format!(in alloc; "{name}: {name}.isle-fmt is there already"),
+        ErrorKind::PermissionDenied => format!(in alloc; "{name}: no permission"),
+        _ => format!(in alloc; "{name}: {error}"),
+    };
+    match why {
+        Ok(why) => say(alloc, "isle: cannot write ", &why, 4, err),
+        Err(AllocError) => no_memory(err),
+    }
+}
+
+// Names a file that would change.
+fn say_changed<O: Write, E: Write>(alloc: Global, name: &str, out: &mut O, err: &mut E) -> u8
+    ensures known { result ≤ 4 }
+    ensures used { result ≢ 2 }
+    ensures told { result ≢ 0 }
+{
+    match format!(in alloc; "{name}\n") {
+        Ok(line) => write_text(&line, out, err).max(1),
+        Err(AllocError) => no_memory(err),
+    }
+}
+
+// Says what is wrong with a text that can't be laid out.
+fn refuse<E: Write>(alloc: Global, name: &str, text: &str, error: TextError, err: &mut E) -> u8
+    ensures { (result ≡ 1) ⊎ (result ≡ 3) }
+{
+    match refusal(alloc, name, text, error) {
+        Ok(report) => end(err, &report, 1),
+        Err(AllocError) => no_memory(err),
+    }
+}
+
+// The report of what is wrong with a text.
+fn refusal(alloc: Global, name: &str, text: &str, error: TextError) -> Result<String, AllocError> {
+    let mut files = Files {
+        names: Vec::new(alloc),
+        texts: Vec::new(alloc),
+    };
+    files.names.push(String::from_str(alloc, name)?)?;
+    files.texts.push(String::from_str(alloc, text)?)?;
+    let mut reports = Vec::new(alloc);
+    reports.push(syntax_report(alloc, text, &error)?)?;
+    let mut report = String::new(alloc);
+    push_reports(&mut report, &files, &reports, Layout::Text)?;
+    Ok(report)
+}
+
+// Gives a file this text, by a new file beside it that takes its name. A link stays, and what it leads to is written.
+fn replace<R: std::rt::Files + AllocGlobal>(
+    rt: &R,
+    folder: &str,
+    name: &str,
+    text: &str,
+) -> io::Result<()> {
+    let path = fs::canonicalize(rt, path_of(rt.alloc(), folder, name)?.as_str())?;
+    let mut beside = String::from_str(rt.alloc(), path.as_str())?;
+    beside.push_str(".isle-fmt")?;
+    let file = File::create_new(rt, beside.as_str())?;
+    let moved = fill_and_move(rt, file, beside.as_str(), path.as_str(), text);
+    if moved.is_err() {
+        let _ = fs::remove_file(rt, beside.as_str());
+    }
+    moved
+}
+
+// Writes a text into a new file, with the permissions of another one, whose name it then takes.
+fn fill_and_move<R: std::rt::Files>(
+    rt: &R,
+    mut file: R::File,
+    beside: &str,
+    path: &str,
+    text: &str,
+) -> io::Result<()> {
+    file.write_all(text.as_bytes())?;
+    file.set_permissions(fs::metadata(rt, path)?.permissions())?;
+    file.sync_all()?;
+    fs::rename(rt, beside, path)
+}

@@ -1,0 +1,195 @@
+//! What the command does.
+
+ghost use Rattle.std.specs.Prelude.{◌≡◌, ◌≢◌, ◌⊎◌, ◌≤◌, [], ◌∷◌, false, map, string_bytes, true, IfOk, MatchResult};
+ghost use Rattle.report_queries.specs.Samples.{names_sample};
+ghost use Rattle.app_command.specs.declared.words.Task.TheVariants.{Samples};
+ghost use Rattle.app_command.specs.Statuses.{IsStatusFor, IsStatusOfUnread, IsWritten};
+
+use crate::answers::{Answer, answer_to};
+use crate::formatting::run_formatting;
+use crate::help::{HELP, VERSION};
+use crate::inputs::{Unread, read_files};
+use crate::words::{Asked, Request, Task, Unasked, asked_by};
+use cranelift_isle::syntax::Files;
+use report_queries::answers::{end, no_memory, write_text};
+use report_queries::sample_run::run_sample;
+use report_queries::samples::sample_names;
+use std::alloc::{AllocError, Global};
+use std::env::{Env, FillError};
+use std::io::{Read, Write};
+
+/// Runs the command: `words` are its arguments without its own name, `input` is standard input, `terminal` says whether `err`
+/// is a terminal, and the answer is its status. A terminal shows what is being done, and errors in colours if the environment
+/// has no `NO_COLOR`.
+///
+/// 0: what is asked is on `out`. 1: what is wrong with the files is on `err`, or on `out` as JSON; or `err` says what there
+/// isn't; or two versions differ, as `out` says. 2: the words ask nothing, and `err` says why. 3: memory was refused. 4: a file
+/// can't be read, or `out` can't be written. Neither a failure of `err` nor an `out` that nobody reads changes a status.
+pub fn run<R: std::rt::Files + Env + AllocGlobal, I: Read + Drop, O: Write, E: Write>(
+    rt: &R,
+    words: &[String],
+    input: I,
+    terminal: bool,
+    out: &mut O,
+    err: &mut E,
+) -> u8
+    // every status has its meaning
+    ensures { result ≤ 4 }
+{
+    let colors = terminal && !has_variable(rt, "NO_COLOR");
+    match asked_by(rt.alloc(), words, colors) {
+        Ok(Asked::Help) => write_text(HELP, out, err),
+        Ok(Asked::Version) => write_text(VERSION, out, err),
+        Ok(Asked::Formatting(asked)) => run_formatting(rt, &asked, input, out, err),
+        Ok(Asked::Request(asked)) => run_request(rt, &asked, input, terminal, out, err),
+        Err(Unasked::Words(why)) => wrong_words(rt.alloc(), &why, err),
+        Err(Unasked::Memory) => no_memory(err),
+    }
+}
+
+// Whether an environment variable has a text that isn't empty.
+fn has_variable(env: &impl Env, name: &str) -> bool {
+    let mut buf = [0u8; 1];
+    match env.var(name, &mut buf) {
+        Ok(length) => length > 0,
+        Err(FillError::TooLong) => true,
+        Err(FillError::NotPresent) => false,
+    }
+}
+
+// Says what is wrong with the words, and answers the status for it, or 3 where memory is refused.
+fn wrong_words<E: Write>(alloc: Global, why: &str, err: &mut E) -> u8
+    ensures { (result ≡ 2) ⊎ (result ≡ 3) }
+{
+    match format!(in alloc; "isle: {why} (see isle --help)\n") {
+        Ok(line) => end(err, &line, 2),
+        Err(AllocError) => no_memory(err),
+    }
+}
+
+// Does what is asked.
+fn run_request<R: std::rt::Files + AllocGlobal, I: Read + Drop, O: Write, E: Write>(
+    rt: &R,
+    asked: &Request<'_>,
+    input: I,
+    terminal: bool,
+    out: &mut O,
+    err: &mut E,
+) -> u8
+    ensures known { result ≤ 4 }
+    // only samples have names that may be wrong words
+    ensures used { asked.now.task ≢ Samples → result ≢ 2 }
+{
+    if asked.task == Task::Samples {
+        return run_samples(rt.alloc(), asked, out, err);
+    }
+    match read_files(rt, asked, input) {
+        Ok(files) => run_files(rt.alloc(), asked, &files, terminal, out, err),
+        Err(why) => cannot_read(rt.alloc(), why, err),
+    }
+}
+
+// Writes what is answered to files, and answers its status.
+fn run_files<O: Write, E: Write>(
+    alloc: Global,
+    asked: &Request<'_>,
+    files: &Files,
+    terminal: bool,
+    out: &mut O,
+    err: &mut E,
+) -> u8
+    ensures status { IsStatusFor asked.now (map string_bytes files.now.texts.items) result }
+    ensures known { result ≤ 4 }
+    ensures used { result ≢ 2 }
+{
+    let answer = answer_to(alloc, asked, files, terminal, err);
+    write_answer(answer, out, err)
+}
+
+// Writes what is answered, and answers its status: 3 exactly where memory was refused.
+fn write_answer<O: Write, E: Write>(
+    answer: Result<Answer, AllocError>,
+    out: &mut O,
+    err: &mut E,
+) -> u8
+    ensures { MatchResult answer (λ a. IsWritten a result) (λ _. result ≡ 3) }
+{
+    match answer {
+        Ok(answer) => write_both(&answer, out, err),
+        Err(AllocError) => no_memory(err),
+    }
+}
+
+// Writes both texts of an answer, and answers its status, or 4 where `out` can't be written.
+fn write_both<O: Write, E: Write>(answer: &Answer, out: &mut O, err: &mut E) -> u8
+    ensures { IsWritten answer.now result }
+{
+    if !answer.out.is_empty() {
+        let status = write_text(&answer.out, out, err);
+        if status != 0 {
+            return status;
+        }
+    }
+    end(err, &answer.err, answer.status)
+}
+
+/// Says why files can't be read, and answers the status for it.
+pub fn cannot_read<E: Write>(alloc: Global, why: Unread, err: &mut E) -> u8
+    ensures { IsStatusOfUnread why result }
+{
+    match why {
+        Unread::Memory => no_memory(err),
+        Unread::Text(why) => say(alloc, "error[syntax]: ", &why, 1, err),
+        Unread::File(why) => say(alloc, "isle: cannot read ", &why, 4, err),
+    }
+}
+
+/// Says why files can't be read, and answers this status, or 3 where memory is refused.
+pub(crate) fn say<E: Write>(alloc: Global, text: &str, why: &str, status: u8, err: &mut E) -> u8
+    ensures { (result ≡ status) ⊎ (result ≡ 3) }
+{
+    match format!(in alloc; "{text}{why}\n") {
+        Ok(line) => end(err, &line, status),
+        Err(AllocError) => no_memory(err),
+    }
+}
+
+// Writes the names of the samples, or what comes of one.
+fn run_samples<O: Write, E: Write>(
+    alloc: Global,
+    asked: &Request<'_>,
+    out: &mut O,
+    err: &mut E,
+) -> u8
+    ensures { result ≤ 4 }
+{
+    match asked.files.first() {
+        Some(name) => run_sample_named(alloc, name, out, err),
+        None => match sample_names(alloc) {
+            Ok(names) => write_text(&names, out, err),
+            Err(AllocError) => no_memory(err),
+        },
+    }
+}
+
+// Writes what comes of the sample of this name.
+fn run_sample_named<O: Write, E: Write>(alloc: Global, name: &str, out: &mut O, err: &mut E) -> u8
+    ensures known { result ≤ 4 }
+    // a name that is no sample's is wrong use, where memory isn't refused before
+    ensures used { names_sample (name.now ∷ []) ≡ true → result ≢ 2 }
+    ensures misused { names_sample (name.now ∷ []) ≡ false → (result ≡ 2) ⊎ (result ≡ 3) }
+{
+    match words_of(alloc, name) {
+        Ok(words) => run_sample(alloc, &words, out, err),
+        Err(AllocError) => no_memory(err),
+    }
+}
+
+// A word as the words of a program.
+fn words_of(alloc: Global, name: &str) -> Result<Vec<String>, AllocError>
+    ensures { IfOk result (λ words. map string_bytes words.items ≡ name.now ∷ []) }
+{
+    let mut words = Vec::new(alloc);
+    words.push(String::from_str(alloc, name)?)?;
+    Ok(words)
+}

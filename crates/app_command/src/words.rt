@@ -1,0 +1,747 @@
+//! What the command is asked by its words.
+
+ghost use Rattle.std.specs.Prelude.{◌≡◌};
+ghost use Rattle.app_command.specs.Readings.{has_no_definitions};
+
+use crate::formatting::{Formatting, formatting_by};
+use report_print::layout::Layout;
+use report_queries::samples::sample_text;
+use report_warnings::kinds::{Warning, warning_names};
+use rust_text::code::{CodegenOptions, Prefix};
+use std::alloc::{AllocError, AllocFailed, Global};
+
+/// What is to be done.
+#[derive(Clone, Copy, PartialEq, Eq)]
+pub enum Task {
+    /// The trees of the files' terms.
+    Lower,
+    /// The Rust code of the files' terms.
+    Rust,
+    /// Nothing but what is wrong.
+    Check,
+    /// What a rule demands and when it is taken.
+    Explain,
+    /// How large terms are.
+    Stats,
+    /// Where the printed trees of the last file depart from those of the others.
+    Compare,
+    /// What changed between two versions of definitions.
+    Diff,
+    /// The definitions of the files as one text.
+    Print,
+    /// The names of the samples, or the trees of one.
+    Samples,
+    /// The outcome of a call of a term.
+    Run,
+    /// Whether a rule is taken on a call.
+    Why,
+}
+
+// All tasks.
+const TASKS: [Task; 11] = [
+    Task::Lower,
+    Task::Rust,
+    Task::Check,
+    Task::Explain,
+    Task::Stats,
+    Task::Compare,
+    Task::Diff,
+    Task::Print,
+    Task::Samples,
+    Task::Run,
+    Task::Why,
+];
+
+impl Task {
+    // The word for a task.
+    fn word(self) -> &'static str {
+        match self {
+            Task::Lower => "lower",
+            Task::Rust => "rust",
+            Task::Check => "check",
+            Task::Explain => "explain",
+            Task::Stats => "stats",
+            Task::Compare => "compare",
+            Task::Diff => "diff",
+            Task::Print => "print",
+            Task::Samples => "samples",
+            Task::Run => "run",
+            Task::Why => "why",
+        }
+    }
+
+    // Whether a task is about a call.
+    fn has_call(self) -> bool {
+        self == Task::Run || self == Task::Why
+    }
+
+    // The task of a word.
+    fn of(word: &str) -> Option<Task> {
+        for task in TASKS {
+            if task.word() == word {
+                return Some(task);
+            }
+        }
+        None
+    }
+}
+
+/// The form of an answer.
+#[derive(Clone, Copy, PartialEq, Eq)]
+pub enum Format {
+    /// For a person: of an error the lines that it speaks of.
+    Text,
+    /// The same, but each error in one line.
+    Line,
+    /// One JSON object, errors too: docs/JSON.md.
+    Json,
+    /// Trees as graphs in Graphviz's notation.
+    Dot,
+}
+
+impl Format {
+    // The format of a word.
+    fn of(word: &str) -> Option<Format> {
+        match word {
+            "text" => Some(Format::Text),
+            "line" => Some(Format::Line),
+            "json" => Some(Format::Json),
+            "dot" => Some(Format::Dot),
+            _ => None,
+        }
+    }
+
+    // Whether a task has answers of this form.
+    fn is_of(self, task: Task) -> bool {
+        match self {
+            Format::Text | Format::Line => true,
+            Format::Json => matches!(task, Task::Lower | Task::Check | Task::Stats),
+            Format::Dot => task == Task::Lower,
+        }
+    }
+}
+
+/// What the command is asked.
+pub struct Request<'a> {
+    /// What is to be done.
+    pub task: Task,
+    /// Whether uses of internal extractors are replaced by their templates.
+    pub expand: bool,
+    /// Whether all warnings count as errors.
+    pub deny: bool,
+    /// The kinds of warnings that count as errors even if not all do.
+    pub denied: Vec<Warning>,
+    /// The kinds of warnings that aren't looked for.
+    pub allowed: Vec<Warning>,
+    /// Whether a person sees all errors, and not only the first ones; of printed trees, the first of each term.
+    pub all: bool,
+    /// The form of the answer.
+    pub format: Format,
+    /// Whether what is told to a person has a terminal's colours.
+    pub colored: bool,
+    /// The names of the terms whose trees are wanted, with commas between them; all where there are none.
+    pub terms: Option<&'a str>,
+    /// Where files are looked for whose names don't begin with `/`; the empty text for where the command runs.
+    pub folder: &'a str,
+    /// The rules that are asked about: the name of a rule or of a term, the number of a line in the rules, or the end of a
+    /// file's path, a colon and such a number.
+    pub rule: &'a str,
+    /// How Rust code is written.
+    pub code: CodegenOptions,
+    /// Whether it is told what is being done.
+    pub progress: bool,
+    /// The file that has the answers to what a call calls, where there is one. It is the last of `files`.
+    pub answers: Option<&'a str>,
+    /// Whether the tests of a run are told.
+    pub trace: bool,
+    /// The files, where `-` is standard input, or the sample. The last one has printed trees where they are compared.
+    pub files: Vec<&'a str>,
+    /// How many of the files are of the old version, where two versions are compared.
+    pub old: usize,
+    /// The words of the call.
+    pub call: Vec<&'a str>,
+}
+
+impl<'a> Drop for Request<'a> {
+    fn drop(self) {
+        let Request {
+            task: _,
+            expand: _,
+            deny: _,
+            denied: _,
+            allowed: _,
+            all: _,
+            format: _,
+            colored: _,
+            terms: _,
+            folder: _,
+            rule: _,
+            code: _,
+            progress: _,
+            answers: _,
+            trace: _,
+            files: _,
+            old: _,
+            call: _,
+        } = self;
+    }
+}
+
+/// What words ask.
+#[derive(Drop)]
+pub enum Asked<'a> {
+    /// How the command is used.
+    Help,
+    /// Which program this is.
+    Version,
+    /// Files in the usual layout.
+    Formatting(Formatting<'a>),
+    /// Something else to be done.
+    Request(Request<'a>),
+}
+
+/// Why words ask nothing.
+#[derive(Drop)]
+pub enum Unasked {
+    /// Memory was refused.
+    Memory,
+    /// What is wrong with the words, without a line's end.
+    Words(String),
+}
+
+impl From<AllocError> for Unasked {
+    fn from(_: AllocError) -> Unasked {
+        Unasked::Memory
+    }
+}
+
+impl<T: Drop> From<AllocFailed<T>> for Unasked {
+    fn from(_: AllocFailed<T>) -> Unasked {
+        Unasked::Memory
+    }
+}
+
+// That something is wrong with the words.
+fn wrong(why: Result<String, AllocError>) -> Unasked {
+    match why {
+        Ok(why) => Unasked::Words(why),
+        Err(AllocError) => Unasked::Memory,
+    }
+}
+
+// The same, with a fixed text.
+fn wrong_as(alloc: Global, why: &str) -> Unasked {
+    wrong(String::from_str(alloc, why))
+}
+
+// What the next word is.
+#[derive(Clone, Copy, PartialEq, Eq)]
+enum Awaited {
+    Task,
+    Rule,
+    Terms,
+    Folder,
+    Format,
+    Color,
+    Prefix,
+    Allowed,
+    Answers,
+    // An option or a file.
+    Any,
+    // A word of a call.
+    Call,
+}
+
+// Adds the kinds of warnings that a word names, with commas between them.
+fn push_kinds(alloc: Global, kinds: &mut Vec<Warning>, word: &str) -> Result<(), Unasked> {
+    for name in word.split(',') {
+        match Warning::of(name) {
+            Some(kind) => kinds.push(kind)?,
+            None => return Err(no_kind(alloc, name)),
+        }
+    }
+    Ok(())
+}
+
+// That there is no kind of warnings of a name.
+fn no_kind(alloc: Global, name: &str) -> Unasked {
+    match warning_names(alloc) {
+        Ok(names) => wrong(format!(in alloc;
+            "no warning is called '{name}'. The warnings are {names}"
+        )),
+        Err(AllocError) => Unasked::Memory,
+    }
+}
+
+// What the words are read with.
+#[derive(Clone, Copy)]
+struct Given {
+    alloc: Global,
+    // Whether errors have colours where no word says so.
+    colors: bool,
+}
+
+/// What these words ask. `colors` says whether errors have a terminal's colours where no word says so.
+///
+/// Where a word is `--help`, `-h` or `--version`, that is all they ask. Else the first word is the name of a task. For `explain`
+/// and `why` the rule follows. Then there are files; the last one of `compare` has trees, and `samples` has at most one name
+/// of a sample. For `run` and `why` then come `--` and the words of a call: the term and its arguments. For `diff` then come
+/// `--` and the files of the new version. Options may stand everywhere behind the task, but not in a call: `isle --help` lists
+/// them.
+///
+/// # Errors
+///
+/// What is wrong with the words, or that memory was refused.
+pub fn asked_by<'a>(
+    alloc: Global,
+    words: &'a [String],
+    colors: bool,
+) -> Result<Asked<'a>, Unasked> {
+    match asked_of_program(words) {
+        Some(asked) => Ok(asked),
+        None => match words {
+            [task, rest @ ..] if task.as_str() == "fmt" => {
+                Ok(Asked::Formatting(formatting_by(alloc, rest)?))
+            }
+            _ => Ok(Asked::Request(request_by(Given { alloc, colors }, words)?)),
+        },
+    }
+}
+
+// What is asked of the program itself. The words behind `--` are a call's.
+fn asked_of_program<'a>(words: &[String]) -> Option<Asked<'a>> {
+    for word in words {
+        match word.as_str() {
+            "--help" | "-h" => return Some(Asked::Help),
+            "--version" => return Some(Asked::Version),
+            "--" => return None,
+            _ => {}
+        }
+    }
+    None
+}
+
+// What these words ask to be done.
+fn request_by<'a>(given: Given, words: &'a [String]) -> Result<Request<'a>, Unasked> {
+    let mut asked = Request {
+        task: Task::Lower,
+        expand: true,
+        deny: false,
+        denied: Vec::new(given.alloc),
+        allowed: Vec::new(given.alloc),
+        all: false,
+        format: Format::Text,
+        colored: given.colors,
+        terms: None,
+        folder: "",
+        rule: "",
+        code: CodegenOptions::included(given.alloc),
+        progress: false,
+        answers: None,
+        trace: false,
+        files: Vec::new(given.alloc),
+        old: 0,
+        call: Vec::new(given.alloc),
+    };
+    let mut awaited = Awaited::Task;
+    for word in words {
+        awaited = asked.read(given, awaited, word.as_str())?;
+    }
+    match asked.missing(awaited) {
+        Some(why) => Err(wrong_as(given.alloc, why)),
+        None => {
+            asked.add_answers()?;
+            Ok(asked)
+        }
+    }
+}
+
+impl<'a> Request<'a> {
+    // The file with answers is read behind all others.
+    fn add_answers(&mut self) -> Result<(), AllocError> {
+        if let Some(name) = self.answers {
+            self.files.push(name)?;
+        }
+        Ok(())
+    }
+
+    // What is missing behind the last word, where something is.
+    fn missing(&self, awaited: Awaited) -> Option<&'static str> {
+        match awaited {
+            Awaited::Task => Some("no task"),
+            Awaited::Rule => Some(self.missing_rule()),
+            Awaited::Terms => Some("nothing after '--terms'"),
+            Awaited::Folder => Some("nothing after '-C'"),
+            Awaited::Format => Some("nothing after '--format'"),
+            Awaited::Color => Some("nothing after '--color'"),
+            Awaited::Prefix => Some("nothing after '--prefix'"),
+            Awaited::Allowed => Some("nothing after '--allow'"),
+            Awaited::Answers => Some("nothing after '--answers'"),
+            Awaited::Any | Awaited::Call => match self.wrong_files() {
+                Some(why) => Some(why),
+                None => self.missing_call(awaited),
+            },
+        }
+    }
+
+    // That the rule is missing that is asked about.
+    fn missing_rule(&self) -> &'static str {
+        if self.task == Task::Why {
+            "no rule to ask about"
+        } else {
+            "no rule to explain"
+        }
+    }
+
+    // What is wrong with how many files there are, where something is.
+    fn wrong_files(&self) -> Option<&'static str> {
+        let count = self.files.len();
+        if self.task == Task::Samples {
+            return if count > 1 {
+                Some("more than one sample")
+            } else {
+                None
+            };
+        }
+        if count == 0 {
+            return Some("no file");
+        }
+        if count == 1 && self.task == Task::Compare {
+            return Some("no trees to compare");
+        }
+        if self.task == Task::Diff && (self.old == 0 || self.old == count) {
+            return Some("no new version after the files, such as -- new.isle");
+        }
+        None
+    }
+
+    // What is missing where a call is wanted.
+    fn missing_call(&self, awaited: Awaited) -> Option<&'static str> {
+        if !self.task.has_call() || !self.call.is_empty() {
+            return None;
+        }
+        if awaited == Awaited::Call {
+            Some("nothing after '--'")
+        } else {
+            Some("no call after the files, such as -- f 1 2")
+        }
+    }
+
+    /// How reports are laid out where they are told to a person.
+    pub fn layout(&self) -> Layout {
+        match self.format {
+            Format::Line => Layout::Line,
+            Format::Text | Format::Json | Format::Dot => {
+                if self.colored {
+                    Layout::Colored
+                } else {
+                    Layout::Text
+                }
+            }
+        }
+    }
+
+    /// Whether all errors are shown: where that is asked for, and to programs.
+    pub fn wants_all(&self) -> bool {
+        match self.format {
+            Format::Line | Format::Json => true,
+            Format::Text | Format::Dot => self.all,
+        }
+    }
+
+    /// Whether the file of a number has printed trees or answers, and no definitions.
+    pub fn has_no_definitions(&self, number: usize) -> bool
+        ensures { result ≡ has_no_definitions self.now number }
+    {
+        let has_other = matches!(self.task, Task::Compare) || self.answers.is_some();
+        has_other && number.checked_add(1) == Some(self.files.len())
+    }
+
+    // Reads a word, and answers what is awaited then.
+    fn read(&mut self, given: Given, awaited: Awaited, word: &'a str) -> Result<Awaited, Unasked> {
+        match awaited {
+            Awaited::Task => self.read_task(given.alloc, word),
+            Awaited::Format => self.read_format(given.alloc, word),
+            Awaited::Color => self.read_color(given, word),
+            Awaited::Prefix => self.read_prefix(given.alloc, word),
+            Awaited::Allowed => self.read_allowed(given.alloc, word),
+            Awaited::Any => self.read_any(given.alloc, word),
+            Awaited::Rule => {
+                self.rule = word;
+                Ok(Awaited::Any)
+            }
+            Awaited::Terms => {
+                self.terms = Some(word);
+                Ok(Awaited::Any)
+            }
+            Awaited::Folder => {
+                self.folder = word;
+                Ok(Awaited::Any)
+            }
+            Awaited::Answers => {
+                self.answers = Some(word);
+                Ok(Awaited::Any)
+            }
+            Awaited::Call => {
+                self.call.push(word)?;
+                Ok(Awaited::Call)
+            }
+        }
+    }
+
+    // Reads the name of a task.
+    fn read_task(&mut self, alloc: Global, word: &str) -> Result<Awaited, Unasked> {
+        if word.is_empty() {
+            return Err(wrong_as(alloc, "no task"));
+        }
+        let Some(task) = Task::of(word) else {
+            return Err(wrong(format!(in alloc; "no task is called '{word}'")));
+        };
+        self.task = task;
+        Ok(if task == Task::Explain || task == Task::Why {
+            Awaited::Rule
+        } else {
+            Awaited::Any
+        })
+    }
+
+    // Reads the name of a format.
+    fn read_format(&mut self, alloc: Global, word: &str) -> Result<Awaited, Unasked> {
+        let Some(format) = Format::of(word) else {
+            return Err(wrong(format!(in alloc; "no format is called '{word}'")));
+        };
+        if !format.is_of(self.task) {
+            let task = self.task.word();
+            return Err(wrong(format!(in alloc; "{task} has no format {word}")));
+        }
+        self.format = format;
+        Ok(Awaited::Any)
+    }
+
+    // Reads when there are colours.
+    fn read_color(&mut self, given: Given, word: &str) -> Result<Awaited, Unasked> {
+        self.colored = match word {
+            "always" => true,
+            "never" => false,
+            "auto" => given.colors,
+            _ => {
+                let alloc = given.alloc;
+                return Err(wrong(format!(in alloc;
+                    "--color is always, never or auto, not '{word}'"
+                )));
+            }
+        };
+        Ok(Awaited::Any)
+    }
+
+    // Reads what is shown in place of the beginning of a file's name: the beginning, `=`, and what is shown.
+    fn read_prefix(&mut self, alloc: Global, word: &str) -> Result<Awaited, Unasked> {
+        let Some((prefix, name)) = word.split_once('=') else {
+            return Err(wrong(format!(in alloc; "--prefix is FROM=TO, not '{word}'")));
+        };
+        let prefix = String::from_str(alloc, prefix)?;
+        let name = String::from_str(alloc, name)?;
+        self.code.prefixes.push(Prefix { prefix, name })?;
+        Ok(Awaited::Any)
+    }
+
+    // Reads an option or a file.
+    fn read_any(&mut self, alloc: Global, word: &'a str) -> Result<Awaited, Unasked> {
+        match word {
+            "--no-expand" => self.read_no_expand(alloc),
+            "--deny" => self.read_deny(alloc),
+            "--allow" => self.begin_allowed(alloc),
+            "--all" => {
+                self.all = true;
+                Ok(Awaited::Any)
+            }
+            "--progress" => {
+                self.progress = true;
+                Ok(Awaited::Any)
+            }
+            "--with-allows" => self.read_with_allows(alloc),
+            "--log" => self.read_log(alloc),
+            "--prefix" => self.begin_prefix(alloc),
+            "--answers" => self.begin_answers(alloc),
+            "--trace" => self.read_trace(alloc),
+            "--" => self.begin_last(alloc),
+            "--terms" => self.begin_terms(alloc),
+            "--format" => Ok(Awaited::Format),
+            "--color" => Ok(Awaited::Color),
+            "-C" => Ok(Awaited::Folder),
+            _ => self.read_kinds_or_file(alloc, word),
+        }
+    }
+
+    // Rust code has no form for internal extractors.
+    fn read_no_expand(&mut self, alloc: Global) -> Result<Awaited, Unasked> {
+        if self.task == Task::Rust {
+            return Err(wrong_as(alloc, "rust always expands internal extractors"));
+        }
+        self.expand = false;
+        Ok(Awaited::Any)
+    }
+
+    // Code of a file of its own begins with attributes.
+    fn read_with_allows(&mut self, alloc: Global) -> Result<Awaited, Unasked> {
+        self.needs_code(alloc)?;
+        self.code.exclude_global_allow_pragmas = false;
+        Ok(Awaited::Any)
+    }
+
+    // Code may log each result.
+    fn read_log(&mut self, alloc: Global) -> Result<Awaited, Unasked> {
+        self.needs_code(alloc)?;
+        self.code.emit_logging = true;
+        Ok(Awaited::Any)
+    }
+
+    // Code names its files.
+    fn begin_prefix(&self, alloc: Global) -> Result<Awaited, Unasked> {
+        self.needs_code(alloc)?;
+        Ok(Awaited::Prefix)
+    }
+
+    // Only `rust` writes code.
+    fn needs_code(&self, alloc: Global) -> Result<(), Unasked> {
+        if self.task != Task::Rust {
+            let task = self.task.word();
+            return Err(wrong(format!(in alloc; "{task} writes no Rust code")));
+        }
+        Ok(())
+    }
+
+    // Only `check` has warnings.
+    fn needs_warnings(&self, alloc: Global) -> Result<(), Unasked> {
+        if self.task != Task::Check {
+            let task = self.task.word();
+            return Err(wrong(format!(in alloc; "{task} has no warnings")));
+        }
+        Ok(())
+    }
+
+    // All warnings count as errors.
+    fn read_deny(&mut self, alloc: Global) -> Result<Awaited, Unasked> {
+        self.needs_warnings(alloc)?;
+        self.deny = true;
+        Ok(Awaited::Any)
+    }
+
+    // The next word names terms whose trees are wanted.
+    fn begin_terms(&self, alloc: Global) -> Result<Awaited, Unasked> {
+        if self.task != Task::Lower && self.task != Task::Compare {
+            let task = self.task.word();
+            return Err(wrong(format!(in alloc; "{task} has no option '--terms'")));
+        }
+        Ok(Awaited::Terms)
+    }
+
+    // The next word names kinds of warnings.
+    fn begin_allowed(&self, alloc: Global) -> Result<Awaited, Unasked> {
+        self.needs_warnings(alloc)?;
+        Ok(Awaited::Allowed)
+    }
+
+    // Reads kinds of warnings that aren't looked for.
+    fn read_allowed(&mut self, alloc: Global, word: &str) -> Result<Awaited, Unasked> {
+        self.needs_warnings(alloc)?;
+        push_kinds(alloc, &mut self.allowed, word)?;
+        Ok(Awaited::Any)
+    }
+
+    // Reads kinds of warnings that count as errors.
+    fn read_denied(&mut self, alloc: Global, word: &str) -> Result<Awaited, Unasked> {
+        self.needs_warnings(alloc)?;
+        push_kinds(alloc, &mut self.denied, word)?;
+        Ok(Awaited::Any)
+    }
+
+    // Reads an option that kinds of warnings are joined to, or a file.
+    fn read_kinds_or_file(&mut self, alloc: Global, word: &'a str) -> Result<Awaited, Unasked> {
+        if let Some(kinds) = word.strip_prefix("--deny=") {
+            return self.read_denied(alloc, kinds);
+        }
+        if let Some(kinds) = word.strip_prefix("--allow=") {
+            return self.read_allowed(alloc, kinds);
+        }
+        self.read_file(alloc, word)
+    }
+
+    // Calls may have their answers from a file.
+    fn begin_answers(&mut self, alloc: Global) -> Result<Awaited, Unasked> {
+        self.needs_call(alloc)?;
+        Ok(Awaited::Answers)
+    }
+
+    // Only `run` tells its tests.
+    fn read_trace(&mut self, alloc: Global) -> Result<Awaited, Unasked> {
+        if self.task != Task::Run {
+            let task = self.task.word();
+            return Err(wrong(format!(in alloc; "{task} has no trace")));
+        }
+        self.trace = true;
+        Ok(Awaited::Any)
+    }
+
+    // Only some tasks are about a call.
+    fn needs_call(&self, alloc: Global) -> Result<(), Unasked> {
+        if !self.task.has_call() {
+            let task = self.task.word();
+            return Err(wrong(format!(in alloc; "{task} runs no call")));
+        }
+        Ok(())
+    }
+
+    // Only `run` and `why` have a call, and only `diff` has a new version.
+    fn begin_last(&mut self, alloc: Global) -> Result<Awaited, Unasked> {
+        if self.task == Task::Diff {
+            return self.begin_new(alloc);
+        }
+        self.needs_call(alloc)?;
+        Ok(Awaited::Call)
+    }
+
+    // The files behind are those of the new version.
+    fn begin_new(&mut self, alloc: Global) -> Result<Awaited, Unasked> {
+        if self.files.is_empty() {
+            return Err(wrong_as(alloc, "no old version before '--'"));
+        }
+        if self.old > 0 {
+            return Err(wrong_as(alloc, "more than two versions"));
+        }
+        self.old = self.files.len();
+        Ok(Awaited::Any)
+    }
+
+    // Reads the name of a file, or of a sample.
+    fn read_file(&mut self, alloc: Global, word: &'a str) -> Result<Awaited, Unasked> {
+        if word.is_empty() {
+            return Err(wrong_as(alloc, "a file without a name"));
+        }
+        if word != "-" && word.starts_with('-') {
+            return Err(wrong(format!(in alloc; "no option is called '{word}'")));
+        }
+        if self.task == Task::Samples && sample_text(word).is_none() {
+            return Err(wrong(format!(in alloc; "no sample is called '{word}'")));
+        }
+        if self.task != Task::Samples && self.has_file(word) {
+            return Err(wrong(format!(in alloc; "the file '{word}' is given twice")));
+        }
+        self.files.push(word)?;
+        Ok(Awaited::Any)
+    }
+
+    // Whether a file was given, of the same version.
+    fn has_file(&self, word: &str) -> bool {
+        let path = plain(word);
+        self.files
+            .iter()
+            .skip(self.old)
+            .any(|file| plain(file) == path)
+    }
+}
+
+// A path without `./` before it.
+fn plain(path: &str) -> &str {
+    path.strip_prefix("./").unwrap_or(path)
+}

@@ -1,0 +1,109 @@
+//! Questions about rules for a solver as JSON: docs/JSON.md says in which form.
+
+ghost use Rattle.std.specs.Prelude.{◌≢◌, [], string_bytes, IfOk};
+
+use crate::forms::push_forms;
+use cranelift_isle::lower::Lowered;
+use cranelift_isle::sema::{RuleId, TermId};
+use cranelift_isle::syntax::{Files, Pos};
+use report_json::documents::{begun, ended};
+use report_json::places::Places;
+use report_json::writer::Json;
+use report_queries::names::{rule_name, term_name};
+use spec_questions::questions::{Question, Questions, Without};
+use std::alloc::{AllocError, Global};
+use text_reader::syntax::VerificationForm;
+
+/// The document of what is asked of rules, in one line: the questions, the rules without any, and what is said for a verifier.
+pub(crate) fn document_of_questions(
+    alloc: Global,
+    files: &Files,
+    lowered: &Lowered,
+    forms: &[VerificationForm],
+    asked: &Questions,
+) -> Result<String, AllocError>
+    ensures { IfOk result (λ text. string_bytes text ≢ []) }
+{
+    let places = Places::new(alloc, files)?;
+    let writer = Writer {
+        lowered,
+        places: &places,
+    };
+    let mut json = begun(alloc)?;
+    json.begin_at("conditions", '[')?;
+    for question in &asked.questions {
+        writer.push_question(&mut json, question)?;
+    }
+    json.end(']')?;
+    json.begin_at("without", '[')?;
+    for rule in &asked.without {
+        writer.push_without(&mut json, rule)?;
+    }
+    json.end(']')?;
+    push_forms(alloc, &mut json, &places, forms)?;
+    ended(alloc, json)
+}
+
+// What questions are written with.
+#[derive(Clone, Copy)]
+struct Writer<'a> {
+    lowered: &'a Lowered,
+    places: &'a Places<'a>,
+}
+
+impl<'a> Writer<'a> {
+    // Adds a question.
+    fn push_question(self, json: &mut Json, question: &Question) -> Result<(), AllocError> {
+        json.begin('{')?;
+        self.push_rule(json, question.rule, question.pos, question.term)?;
+        json.begin_at("widths", '[')?;
+        for (of, width) in &question.widths {
+            json.begin('{')?;
+            json.key_string("of", of)?;
+            json.key_number("width", *width)?;
+            json.end('}')?;
+        }
+        json.end(']')?;
+        json.key_string("taken", &question.taken)?;
+        json.key_string("wrong", &question.wrong)?;
+        json.begin_at("names", '{')?;
+        for (name, words) in &question.names {
+            json.key_string(name, words)?;
+        }
+        json.end('}')?;
+        json.begin_at("values", '[')?;
+        for (of, is) in &question.values {
+            json.begin('{')?;
+            json.key_string("of", of)?;
+            json.key_string("is", is)?;
+            json.end('}')?;
+        }
+        json.end(']')?;
+        json.end('}')
+    }
+
+    // Adds a rule that has no question.
+    fn push_without(self, json: &mut Json, rule: &Without) -> Result<(), AllocError> {
+        json.begin('{')?;
+        self.push_rule(json, rule.rule, rule.pos, rule.term)?;
+        json.key_string("reason", &rule.reason)?;
+        json.end('}')
+    }
+
+    // Adds the name of a rule, its place and the name of its term.
+    fn push_rule(
+        self,
+        json: &mut Json,
+        rule: RuleId,
+        pos: Pos,
+        term: TermId,
+    ) -> Result<(), AllocError> {
+        let (tyenv, termenv) = (&self.lowered.tyenv, &self.lowered.termenv);
+        match rule_name(tyenv, termenv, rule) {
+            Some(name) => json.key_string("rule", name)?,
+            None => json.key_null("rule")?,
+        }
+        self.places.push_place(json, pos)?;
+        json.key_string("term", term_name(tyenv, termenv, term).unwrap_or("_"))
+    }
+}

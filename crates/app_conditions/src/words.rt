@@ -1,0 +1,178 @@
+//! What `conditions` is asked by its words.
+
+ghost use Rattle.std.specs.Prelude.{◌≡◌, ◌≢◌, ◌↔◌, [], IfOk, IsSome, IsTrue, None};
+ghost use Rattle.app_conditions.specs.Asked.{IsOfOne};
+
+use app_command::words::Unasked;
+use std::alloc::{AllocError, Global};
+
+/// The form that questions are written in.
+#[derive(Clone, Copy, PartialEq, Eq)]
+pub enum Format {
+    /// All that are asked about, as one JSON object: docs/JSON.md.
+    Json,
+    /// The only one that is asked about, as a text for a solver.
+    Smt,
+}
+
+/// What `conditions` is asked.
+pub struct Conditions<'a> {
+    /// Where files are looked for whose names don't begin with `/`; the empty text for where the command runs.
+    pub folder: &'a str,
+    /// Whether rules are asked about where no rule of greater priority matches.
+    pub above: bool,
+    /// What the rules are called that are asked about, as by `explain`; all where nothing is said.
+    pub rule: Option<&'a str>,
+    /// The form that questions are written in, where it is said.
+    pub format: Option<Format>,
+    /// The file with what a solver said of the only question that is asked about, or `-`; questions are written where there is
+    /// none.
+    pub answers: Option<&'a str>,
+    /// The files, where `-` is standard input.
+    pub files: Vec<&'a str>,
+}
+
+impl<'a> Drop for Conditions<'a> {
+    fn drop(self) {
+        let Self {
+            folder: _,
+            above: _,
+            rule: _,
+            format: _,
+            answers: _,
+            files: _,
+        } = self;
+    }
+}
+
+// What the next word is.
+#[derive(Clone, Copy, PartialEq, Eq)]
+enum Awaited {
+    Folder,
+    Rule,
+    Format,
+    Answers,
+    // An option or a file.
+    Any,
+}
+
+/// Whether words ask for help.
+pub fn ask_for_help(words: &[String]) -> bool {
+    words
+        .iter()
+        .any(|word| word.as_str() == "--help" || word.as_str() == "-h")
+}
+
+/// What the words behind `conditions` ask: `-C FOLDER`, `--above`, `--rule RULE`, `--format FORMAT`, `--answers FILE`, and files.
+/// A text for a solver and what a solver said are of one rule, so they go with `--rule`.
+///
+/// # Errors
+///
+/// What is wrong with the words, or that memory was refused.
+pub fn conditions_by<'a>(alloc: Global, words: &'a [String]) -> Result<Conditions<'a>, Unasked>
+    ensures files { IfOk result (λ asked. asked.files.items ≢ []) }
+    ensures one { IfOk result (λ asked. IsOfOne asked → IsSome asked.rule) }
+{
+    let mut asked = Conditions {
+        folder: "",
+        above: false,
+        rule: None,
+        format: None,
+        answers: None,
+        files: Vec::new(alloc),
+    };
+    let mut awaited = Awaited::Any;
+    for word in words {
+        awaited = asked.read(alloc, awaited, word.as_str())?;
+    }
+    match asked.missing(awaited) {
+        Some(why) => Err(wrong(String::from_str(alloc, why))),
+        None => Ok(asked),
+    }
+}
+
+// That something is wrong with the words.
+fn wrong(why: Result<String, AllocError>) -> Unasked {
+    match why {
+        Ok(why) => Unasked::Words(why),
+        Err(AllocError) => Unasked::Memory,
+    }
+}
+
+// The form of a word.
+fn format_of(alloc: Global, word: &str) -> Result<Format, Unasked> {
+    match word {
+        "json" => Ok(Format::Json),
+        "smt" => Ok(Format::Smt),
+        _ => Err(wrong(format!(in alloc; "conditions has no format '{word}', but json and smt"))),
+    }
+}
+
+impl<'a> Conditions<'a> {
+    // What is missing behind the last word, where something is.
+    fn missing(&self, awaited: Awaited) -> Option<&'static str>
+        ensures files { result ≡ None → self.now.files.items ≢ [] }
+        ensures one { result ≡ None → IsOfOne self.now → IsSome self.now.rule }
+    {
+        match awaited {
+            Awaited::Folder => Some("nothing after '-C'"),
+            Awaited::Rule => Some("nothing after '--rule'"),
+            Awaited::Format => Some("nothing after '--format'"),
+            Awaited::Answers => Some("nothing after '--answers'"),
+            Awaited::Any => self.lacking(),
+        }
+    }
+
+    // What is missing or too much where all words were read, where something is.
+    fn lacking(&self) -> Option<&'static str>
+        ensures files { result ≡ None → self.now.files.items ≢ [] }
+        ensures one { result ≡ None → IsOfOne self.now → IsSome self.now.rule }
+    {
+        if self.files.is_empty() {
+            return Some("no file");
+        }
+        if self.answers.is_some() && self.format.is_some() {
+            return Some("'--answers' and '--format' don't go together");
+        }
+        if self.is_of_one() && self.rule.is_none() {
+            return Some("no rule to ask about, by '--rule'");
+        }
+        None
+    }
+
+    /// Whether a single question is asked about.
+    pub fn is_of_one(&self) -> bool
+        ensures { IsTrue result ↔ IsOfOne self.now }
+    {
+        self.answers.is_some() || self.format == Some(Format::Smt)
+    }
+
+    // Reads a word, and answers what is awaited then.
+    fn read(&mut self, alloc: Global, awaited: Awaited, word: &'a str) -> Result<Awaited, Unasked> {
+        match awaited {
+            Awaited::Folder => self.folder = word,
+            Awaited::Rule => self.rule = Some(word),
+            Awaited::Format => self.format = Some(format_of(alloc, word)?),
+            Awaited::Answers => self.answers = Some(word),
+            Awaited::Any => return self.read_any(alloc, word),
+        }
+        Ok(Awaited::Any)
+    }
+
+    // Reads an option or a file.
+    fn read_any(&mut self, alloc: Global, word: &'a str) -> Result<Awaited, Unasked> {
+        match word {
+            "-C" => return Ok(Awaited::Folder),
+            "--rule" => return Ok(Awaited::Rule),
+            "--format" => return Ok(Awaited::Format),
+            "--answers" => return Ok(Awaited::Answers),
+            "--above" => self.above = true,
+            "" => return Err(wrong(String::from_str(alloc, "a file without a name"))),
+            _ if word != "-" && word.starts_with('-') => {
+                return Err(wrong(format!(in alloc; "conditions has no option '{word}'")));
+            }
+            _ => self.files.push(word)?,
+        }
+        Ok(Awaited::Any)
+    }
+}

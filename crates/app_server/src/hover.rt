@@ -1,0 +1,290 @@
+//! What is told of the thing at a place.
+
+use crate::analysis::Analysis;
+use crate::mentions::Mention;
+use crate::ranges::{form_range, name_range};
+use crate::references::position_in;
+use crate::refusals::Refusal;
+use crate::symbols::{Symbol, mention_at, names_of, symbol_of, type_named};
+use crate::variables::type_at;
+use cranelift_isle::sema::BuiltinType;
+use cranelift_isle::syntax::{Def, Extern, Extractor, Ident, Pos, Rule};
+use report_errors::definitions::{declaration_of, definition_around, variant_with_type};
+use report_errors::explanation::explanation;
+use report_errors::extents::end_of_form;
+use report_print::lines::line_at;
+use report_witness::conditions::{conditions_of, given_of};
+use serde_json::{Value, json};
+use std::alloc::{AllocError, Global};
+
+/// What is told of the thing at a place: null, where nothing is.
+pub fn hover_at(
+    alloc: Global,
+    analysis: &Analysis,
+    file: usize,
+    params: &Value,
+) -> Result<Value, Refusal> {
+    let pos = position_in(analysis, file, params)?;
+    if let Some(mention) = mention_at(alloc, analysis, pos)? {
+        let answer = hover_on_name(alloc, analysis, &mention)?;
+        return Ok(answer);
+    }
+    match rule_headed_at(analysis, pos) {
+        Some(rule) => {
+            let text = rule_text(alloc, analysis, rule)?;
+            let range = form_range(alloc, analysis, rule.pos)?;
+            Ok(hover_value(alloc, &text, range)?)
+        }
+        None => Ok(Value::Null),
+    }
+}
+
+// The rule whose head a place lies in: before its pattern.
+fn rule_headed_at(analysis: &Analysis, pos: Pos) -> Option<&Rule> {
+    match definition_around(&analysis.defs, pos) {
+        Some(Def::Rule(rule)) if pos.offset < rule.pattern.pos().offset => Some(rule),
+        _ => None,
+    }
+}
+
+// A text of Markdown with the range that it is of.
+fn hover_value(alloc: Global, text: &str, range: Value) -> Result<Value, AllocError> {
+    json!(in alloc; {"contents": {"kind": "markdown", "value": text}, "range": range})
+}
+
+// What is told of a name: null, where nothing is.
+fn hover_on_name(
+    alloc: Global,
+    analysis: &Analysis,
+    mention: &Mention<'_>,
+) -> Result<Value, AllocError> {
+    let text = text_of_name(alloc, analysis, mention)?;
+    if text.is_empty() {
+        return Ok(Value::Null);
+    }
+    let range = name_range(alloc, analysis, mention.name)?;
+    hover_value(alloc, &text, range)
+}
+
+// What is told of a name, or the empty text.
+fn text_of_name(
+    alloc: Global,
+    analysis: &Analysis,
+    mention: &Mention<'_>,
+) -> Result<String, AllocError> {
+    let symbol = symbol_of(&analysis.defs, mention);
+    match symbol {
+        Symbol::Type(name) | Symbol::Struct(name) => type_text(alloc, analysis, name),
+        Symbol::Term(name) => term_text(alloc, analysis, name),
+        Symbol::Variant(ty, name) => variant_text(alloc, analysis, ty, name),
+        Symbol::Variable(home) => variable_text(alloc, analysis, mention, home),
+        Symbol::Rule(_) => named_rule_text(alloc, analysis, mention.name.1),
+        Symbol::Constant(_) | Symbol::Field(_) => defining_text(alloc, analysis, symbol),
+    }
+}
+
+// A text as code of a language.
+fn code(alloc: Global, language: &str, text: &str) -> Result<String, AllocError> {
+    format!(in alloc; "```{language}\n{text}\n```\n")
+}
+
+// The form at a position, as it is written.
+fn form_at(analysis: &Analysis, pos: Pos) -> &str {
+    let text = analysis.text(pos.file);
+    text.get(pos.offset..end_of_form(text, pos.offset))
+        .unwrap_or("")
+}
+
+// The form at a position, as code.
+fn form_code(alloc: Global, analysis: &Analysis, pos: Pos) -> Result<String, AllocError> {
+    code(alloc, "isle", form_at(analysis, pos))
+}
+
+// What is told of a type.
+fn type_text(alloc: Global, analysis: &Analysis, name: &str) -> Result<String, AllocError> {
+    match type_named(&analysis.defs, name) {
+        Some(ty) => form_code(alloc, analysis, ty.pos),
+        None if is_built_in(name) => format!(in alloc; "`{name}` is a built-in type\n"),
+        None => Ok(String::new(alloc)),
+    }
+}
+
+// Whether a type needs no definition.
+fn is_built_in(name: &str) -> bool {
+    BuiltinType::ALL
+        .iter()
+        .any(|builtin| builtin.name() == name)
+}
+
+// What is told of a term: its declaration, and what makes it and takes it apart.
+fn term_text(alloc: Global, analysis: &Analysis, name: &str) -> Result<String, AllocError> {
+    let mut out = String::new(alloc);
+    if let Some(decl) = declaration_of(&analysis.defs, name) {
+        out.push_str(&form_code(alloc, analysis, decl.pos)?)?;
+    }
+    let mut rules = 0usize;
+    for def in &analysis.defs {
+        push_side(alloc, analysis, def, name, &mut out)?;
+        if is_rule_of(def, name) {
+            rules = rules.saturating_add(1);
+        }
+    }
+    push_count(&mut out, rules)?;
+    Ok(out)
+}
+
+// Adds how many rules a term has.
+fn push_count(out: &mut String, rules: usize) -> Result<(), AllocError> {
+    match rules {
+        0 => Ok(()),
+        1 => out.push_str("\n1 rule\n"),
+        _ => write!(out, "\n{rules} rules\n"),
+    }
+}
+
+// Whether a definition is a rule of a term.
+fn is_rule_of(def: &Def, name: &str) -> bool {
+    match def {
+        Def::Rule(rule) => match rule.pattern.root_term() {
+            Some(Ident(term, _)) => term.as_str() == name,
+            None => false,
+        },
+        _ => false,
+    }
+}
+
+// Adds a definition that says how a term is made or taken apart.
+fn push_side(
+    alloc: Global,
+    analysis: &Analysis,
+    def: &Def,
+    name: &str,
+    out: &mut String,
+) -> Result<(), AllocError> {
+    match def {
+        Def::Extern(Extern::Constructor { term, func, .. }) if term.0.as_str() == name => {
+            let func = &func.0;
+            write!(out, "\nmade by the function `{func}`\n")
+        }
+        Def::Extern(
+            Extern::Extractor {
+                term,
+                func,
+                infallible,
+                ..
+            },
+        ) if term.0.as_str() == name => {
+            let func = &func.0;
+            let always = if *infallible {
+                ", which always answers"
+            } else {
+                ""
+            };
+            write!(out, "\ntaken apart by the function `{func}`{always}\n")
+        }
+        Def::Extractor(Extractor { term, pos, .. }) if term.0.as_str() == name => {
+            out.push_str(&form_code(alloc, analysis, *pos)?)
+        }
+        _ => Ok(()),
+    }
+}
+
+// What is told of a variant.
+fn variant_text(
+    alloc: Global,
+    analysis: &Analysis,
+    ty: &str,
+    name: &str,
+) -> Result<String, AllocError> {
+    let full = format!(in alloc; "{ty}.{name}")?;
+    match variant_with_type(&analysis.defs, &full) {
+        Some((_, variant)) => {
+            let form = form_at(analysis, variant.pos);
+            let told = format!(in alloc; "{form} ; a variant of {ty}")?;
+            code(alloc, "isle", &told)
+        }
+        None => Ok(String::new(alloc)),
+    }
+}
+
+// What is told of a variable: its type.
+fn variable_text(
+    alloc: Global,
+    analysis: &Analysis,
+    mention: &Mention<'_>,
+    home: Pos,
+) -> Result<String, AllocError> {
+    let name = mention.text();
+    let Some(def) = definition_around(&analysis.defs, mention.name.1) else {
+        return Ok(String::new(alloc));
+    };
+    match type_at(alloc, &analysis.defs, def, home)? {
+        Some(ty) => {
+            let told = format!(in alloc; "{name}: {ty}")?;
+            code(alloc, "isle", &told)
+        }
+        None => format!(in alloc; "`{name}` is a variable\n"),
+    }
+}
+
+// The definition of a constant or a field, as it is written.
+fn defining_text(
+    alloc: Global,
+    analysis: &Analysis,
+    symbol: Symbol<'_>,
+) -> Result<String, AllocError> {
+    for mention in &names_of(alloc, analysis, symbol)? {
+        if mention.defines {
+            if let Some(def) = definition_around(&analysis.defs, mention.name.1) {
+                return defined_text(alloc, analysis, def);
+            }
+        }
+    }
+    Ok(String::new(alloc))
+}
+
+// A definition as it is written.
+fn defined_text(alloc: Global, analysis: &Analysis, def: &Def) -> Result<String, AllocError> {
+    match def.place() {
+        Some(pos) => form_code(alloc, analysis, pos),
+        None => Ok(String::new(alloc)),
+    }
+}
+
+// What is told of the rule that has its name at a position.
+fn named_rule_text(alloc: Global, analysis: &Analysis, pos: Pos) -> Result<String, AllocError> {
+    match definition_around(&analysis.defs, pos) {
+        Some(Def::Rule(rule)) => rule_text(alloc, analysis, rule),
+        _ => Ok(String::new(alloc)),
+    }
+}
+
+// What is told of a rule: its explanation, or what it demands and gives where something is wrong with the definitions.
+fn rule_text(alloc: Global, analysis: &Analysis, rule: &Rule) -> Result<String, AllocError> {
+    let Some(lowered) = &analysis.lowered else {
+        let told = demands_text(alloc, rule)?;
+        return code(alloc, "text", &told);
+    };
+    let files = &analysis.sources.files;
+    let line = line_at(analysis.text(rule.pos.file), rule.pos.offset).number;
+    let name = report_print::lines::file_name(files, rule.pos.file);
+    let called = format!(in alloc; "{name}:{line}")?;
+    let told = explanation(alloc, files, &analysis.defs, lowered, &called)?;
+    code(alloc, "text", told.trim_end())
+}
+
+// What a rule demands and gives.
+fn demands_text(alloc: Global, rule: &Rule) -> Result<String, AllocError> {
+    let conditions = conditions_of(alloc, rule)?;
+    let call = conditions.call.as_str();
+    let mut out = format!(in alloc; "demands of {call}\n")?;
+    if conditions.lines.is_empty() {
+        out.push_str("  nothing\n")?;
+    }
+    for line in &conditions.lines {
+        write!(out, "  {line}\n")?;
+    }
+    let given = given_of(alloc, rule)?;
+    write!(out, "gives {given}")?;
+    Ok(out)
+}

@@ -1,0 +1,229 @@
+//! The outline of a file: its definitions.
+
+use crate::analysis::Analysis;
+use crate::ranges::{end_of_name, range_value};
+use cranelift_isle::syntax::{
+    Decl, Def, Extern, Fields, Ident, Pos, Rule, StructFields, Type, TypeValue, Variant,
+};
+use report_errors::extents::end_of_form;
+use serde_json::{Value, json};
+use std::alloc::{AllocError, Global};
+
+// What a definition is, in the words of the protocol.
+#[derive(Clone, Copy, PartialEq, Eq)]
+enum Sort {
+    Primitive,
+    Enumeration,
+    Record,
+    Variant,
+    Field,
+    Term,
+    Extractor,
+    External,
+    Constant,
+    Converter,
+    Rule,
+}
+
+impl Sort {
+    // Its number in the protocol.
+    fn number(self) -> u8 {
+        match self {
+            Sort::Primitive => 5,
+            Sort::Enumeration => 10,
+            Sort::Record => 23,
+            Sort::Variant => 22,
+            Sort::Field => 8,
+            Sort::Term | Sort::External => 12,
+            Sort::Extractor => 11,
+            Sort::Constant => 14,
+            Sort::Converter => 25,
+            Sort::Rule => 6,
+        }
+    }
+}
+
+/// The definitions of a file, in the order of its text.
+pub fn outline_of(alloc: Global, analysis: &Analysis, file: usize) -> Result<Value, AllocError> {
+    let text = analysis.text(file);
+    let mut found = Vec::new(alloc);
+    for def in &analysis.defs {
+        if is_in(def, file) {
+            push_definition(alloc, text, def, &mut found)?;
+        }
+    }
+    Ok(Value::Array(found))
+}
+
+// Whether a definition is one of a file.
+fn is_in(def: &Def, file: usize) -> bool {
+    match def.place() {
+        Some(pos) => pos.file == file,
+        None => false,
+    }
+}
+
+// Adds a definition.
+fn push_definition(
+    alloc: Global,
+    text: &str,
+    def: &Def,
+    found: &mut Vec<Value>,
+) -> Result<(), AllocError> {
+    let entry = match def {
+        Def::TypeDef(ty) => type_entry(alloc, text, ty)?,
+        Def::Decl(decl) => declaration_entry(alloc, text, decl)?,
+        Def::Extractor(extractor) => {
+            let detail = "extractor";
+            let name = &extractor.term;
+            entry_of(alloc, text, (name, Sort::Extractor, detail), extractor.pos)?
+        }
+        Def::Converter(converter) => {
+            let detail = "conversion";
+            let name = &converter.term;
+            entry_of(alloc, text, (name, Sort::Converter, detail), converter.pos)?
+        }
+        Def::Rule(rule) => rule_entry(alloc, text, rule)?,
+        Def::Extern(external) => external_entry(alloc, text, external)?,
+        Def::Other => return Ok(()),
+    };
+    found.push(entry)?;
+    Ok(())
+}
+
+// An entry of a name, with what is said of it, for the form at a position.
+fn entry_of(
+    alloc: Global,
+    text: &str,
+    (name, sort, detail): (&Ident, Sort, &str),
+    pos: Pos,
+) -> Result<Value, AllocError> {
+    let begin = pos.offset.min(name.1.offset);
+    let end = end_of_form(text, pos.offset).max(end_of_name(name));
+    let range = range_value(alloc, text, begin, end)?;
+    let selection = range_value(alloc, text, name.1.offset, end_of_name(name))?;
+    json!(in alloc; {
+        "name": name.0.as_str(),
+        "detail": detail,
+        "kind": sort.number(),
+        "range": range,
+        "selectionRange": selection
+    })
+}
+
+// The entry of an external function or a constant.
+fn external_entry(alloc: Global, text: &str, external: &Extern) -> Result<Value, AllocError> {
+    match external {
+        Extern::Constructor { term, func, pos } => {
+            let func = &func.0;
+            let detail = format!(in alloc; "constructor {func}")?;
+            entry_of(alloc, text, (term, Sort::External, &detail), *pos)
+        }
+        Extern::Extractor {
+            term,
+            func,
+            pos,
+            ..
+        } => {
+            let func = &func.0;
+            let detail = format!(in alloc; "extractor {func}")?;
+            entry_of(alloc, text, (term, Sort::External, &detail), *pos)
+        }
+        Extern::Const { name, ty, pos } => {
+            entry_of(alloc, text, (name, Sort::Constant, ty.0.as_str()), *pos)
+        }
+    }
+}
+
+// The entry of a declaration.
+fn declaration_entry(alloc: Global, text: &str, decl: &Decl) -> Result<Value, AllocError> {
+    let mut detail = String::from_str(alloc, "(")?;
+    for (number, ty) in decl.arg_tys.iter().enumerate() {
+        if number > 0 {
+            detail.push(' ')?;
+        }
+        detail.push_str(&ty.0)?;
+    }
+    detail.push_str(") ")?;
+    detail.push_str(&decl.ret_ty.0)?;
+    entry_of(alloc, text, (&decl.term, Sort::Term, &detail), decl.pos)
+}
+
+// The entry of a rule: by its name, or by that of its term.
+fn rule_entry(alloc: Global, text: &str, rule: &Rule) -> Result<Value, AllocError> {
+    match (&rule.name, rule.pattern.root_term()) {
+        (Some(name), _) => entry_of(alloc, text, (name, Sort::Rule, "rule"), rule.pos),
+        (None, Some(term)) => entry_of(alloc, text, (term, Sort::Rule, "rule"), rule.pos),
+        (None, None) => {
+            let name = Ident(String::from_str(alloc, "rule")?, rule.pos);
+            entry_of(alloc, text, (&name, Sort::Rule, "rule"), rule.pos)
+        }
+    }
+}
+
+// The entry of a type, with those of its parts.
+fn type_entry(alloc: Global, text: &str, ty: &Type) -> Result<Value, AllocError> {
+    match &ty.ty {
+        TypeValue::Primitive(..) => {
+            entry_of(
+                alloc,
+                text,
+                (&ty.name, Sort::Primitive, "primitive"),
+                ty.pos,
+            )
+        }
+        TypeValue::Enum(variants, _) => {
+            let entry = entry_of(alloc, text, (&ty.name, Sort::Enumeration, "enum"), ty.pos)?;
+            with_parts(alloc, entry, variant_entries(alloc, text, variants)?)
+        }
+        TypeValue::Struct(fields, _) => {
+            let entry = entry_of(alloc, text, (&ty.name, Sort::Record, "struct"), ty.pos)?;
+            with_parts(alloc, entry, field_entries(alloc, text, fields)?)
+        }
+    }
+}
+
+// An entry with those of its parts.
+fn with_parts(alloc: Global, mut entry: Value, parts: Vec<Value>) -> Result<Value, AllocError> {
+    if let Some(object) = entry.as_object_mut() {
+        serde_json::put(object, alloc, "children", Value::Array(parts))?;
+    }
+    Ok(entry)
+}
+
+// The entries of variants.
+fn variant_entries(
+    alloc: Global,
+    text: &str,
+    variants: &[Variant],
+) -> Result<Vec<Value>, AllocError> {
+    let mut found = Vec::new(alloc);
+    for variant in variants {
+        let head = (&variant.name, Sort::Variant, "variant");
+        let entry = entry_of(alloc, text, head, variant.pos)?;
+        let parts = field_entries(alloc, text, &variant.fields)?;
+        found.push(with_parts(alloc, entry, parts)?)?;
+    }
+    Ok(found)
+}
+
+// The entries of fields that have names.
+fn field_entries(alloc: Global, text: &str, fields: &Fields) -> Result<Vec<Value>, AllocError> {
+    match fields {
+        Fields::Struct(fields) => named_entries(alloc, text, fields),
+        Fields::Unit | Fields::Tuple(_) => Ok(Vec::new(alloc)),
+    }
+}
+
+fn named_entries(
+    alloc: Global,
+    text: &str,
+    fields: &StructFields,
+) -> Result<Vec<Value>, AllocError> {
+    let mut found = Vec::new(alloc);
+    for field in &fields.fields {
+        let head = (&field.name, Sort::Field, field.ty.0.as_str());
+        found.push(entry_of(alloc, text, head, field.pos)?)?;
+    }
+    Ok(found)
+}

@@ -1,0 +1,174 @@
+//! What a name at a place means, and which other names mean the same.
+
+use crate::analysis::Analysis;
+use crate::mentions::{Kind, Mention, mentions_in};
+use cranelift_isle::syntax::{Def, Ident, Pos, Type};
+use report_errors::definitions::{declaration_of, definition_around, struct_of, variant_with_type};
+use std::alloc::{AllocError, Global};
+
+/// What a name means.
+#[derive(Clone, Copy)]
+pub enum Symbol<'a> {
+    /// A type that is no struct.
+    Type(&'a str),
+    /// A struct, which is a type and a term.
+    Struct(&'a str),
+    /// A term with a declaration, or one that isn't known.
+    Term(&'a str),
+    /// A variant of a type, by both names.
+    Variant(&'a str, &'a str),
+    /// A field, by where it is defined.
+    Field(Pos),
+    /// A rule.
+    Rule(&'a str),
+    /// A variable, by where it is bound.
+    Variable(Pos),
+    /// A constant.
+    Constant(&'a str),
+}
+
+impl<'a> Symbol<'a> {
+    /// Whether a name means this.
+    pub fn is_meant_by(self, mention: &Mention<'_>) -> bool {
+        match self {
+            Symbol::Type(name) => mention.kind == Kind::Type && mention.text() == name,
+            Symbol::Struct(name) => {
+                matches!(mention.kind, Kind::Type | Kind::Term) && mention.text() == name
+            }
+            Symbol::Term(name) => mention.kind == Kind::Term && mention.text() == name,
+            Symbol::Variant(ty, name) => is_variant(mention, ty, name),
+            Symbol::Field(pos) => mention.kind == Kind::Field && mention.name.1 == pos,
+            Symbol::Rule(name) => mention.kind == Kind::Rule && mention.text() == name,
+            Symbol::Variable(pos) => mention.kind == Kind::Variable && mention.home.1 == pos,
+            Symbol::Constant(name) => mention.kind == Kind::Constant && mention.text() == name,
+        }
+    }
+}
+
+// Whether a name means a variant.
+fn is_variant(mention: &Mention<'_>, ty: &str, name: &str) -> bool {
+    match mention.kind {
+        Kind::Variant => mention.text() == name && mention.home.0.as_str() == ty,
+        Kind::Term => short_name(mention.text(), ty) == Some(name),
+        _ => false,
+    }
+}
+
+// The name of a variant of a type in the name of its term.
+fn short_name<'a>(term: &'a str, ty: &str) -> Option<&'a str> {
+    term.strip_prefix(ty)?.strip_prefix(".")
+}
+
+/// The name that stands at a place.
+pub fn mention_at<'a>(
+    alloc: Global,
+    analysis: &'a Analysis,
+    pos: Pos,
+) -> Result<Option<Mention<'a>>, AllocError> {
+    let Some(def) = definition_around(&analysis.defs, pos) else {
+        return Ok(None);
+    };
+    for mention in mentions_in(alloc, def)? {
+        if mention.is_at(pos) {
+            return Ok(Some(mention));
+        }
+    }
+    Ok(None)
+}
+
+/// What a name means.
+pub fn symbol_of<'a>(defs: &'a [Def], mention: &Mention<'a>) -> Symbol<'a> {
+    let name = mention.text();
+    match mention.kind {
+        Kind::Type => match struct_of(defs, name) {
+            Some(_) if declaration_of(defs, name).is_none() => Symbol::Struct(name),
+            _ => Symbol::Type(name),
+        },
+        Kind::Term => term_symbol(defs, name),
+        Kind::Variant => Symbol::Variant(mention.home.0.as_str(), name),
+        Kind::Field => Symbol::Field(mention.name.1),
+        Kind::Rule => Symbol::Rule(name),
+        Kind::Variable => Symbol::Variable(mention.home.1),
+        Kind::Constant => Symbol::Constant(name),
+    }
+}
+
+// What the name of a term means.
+fn term_symbol<'a>(defs: &'a [Def], name: &'a str) -> Symbol<'a> {
+    if declaration_of(defs, name).is_some() {
+        return Symbol::Term(name);
+    }
+    if let Some((ty, variant)) = variant_with_type(defs, name) {
+        return Symbol::Variant(ty.name.0.as_str(), variant.name.0.as_str());
+    }
+    match struct_of(defs, name) {
+        Some(_) => Symbol::Struct(name),
+        None => Symbol::Term(name),
+    }
+}
+
+/// The type of a name.
+pub fn type_named<'a>(defs: &'a [Def], name: &str) -> Option<&'a Type> {
+    for def in defs {
+        if let Def::TypeDef(ty) = def {
+            if ty.name.0.as_str() == name {
+                return Some(ty);
+            }
+        }
+    }
+    None
+}
+
+/// The names that mean something, in the order of the definitions.
+pub fn names_of<'a>(
+    alloc: Global,
+    analysis: &'a Analysis,
+    symbol: Symbol<'_>,
+) -> Result<Vec<Mention<'a>>, AllocError> {
+    let mut found = Vec::new(alloc);
+    for def in &analysis.defs {
+        push_names(alloc, def, symbol, &mut found)?;
+    }
+    Ok(found)
+}
+
+// Adds the names of a definition that mean something.
+fn push_names<'a>(
+    alloc: Global,
+    def: &'a Def,
+    symbol: Symbol<'_>,
+    found: &mut Vec<Mention<'a>>,
+) -> Result<(), AllocError> {
+    for mention in mentions_in(alloc, def)? {
+        if symbol.is_meant_by(&mention) {
+            found.push(mention)?;
+        }
+    }
+    Ok(())
+}
+
+/// Whether a definition has a variable of a name.
+pub fn has_variable(alloc: Global, def: &Def, name: &str) -> Result<bool, AllocError> {
+    for mention in mentions_in(alloc, def)? {
+        if mention.kind == Kind::Variable && mention.text() == name {
+            return Ok(true);
+        }
+    }
+    Ok(false)
+}
+
+/// Whether a rule has a name.
+pub fn has_rule(defs: &[Def], name: &str) -> bool {
+    defs.iter().any(|def| is_rule_named(def, name))
+}
+
+// Whether a definition is a rule of a name.
+fn is_rule_named(def: &Def, name: &str) -> bool {
+    match def {
+        Def::Rule(rule) => match &rule.name {
+            Some(Ident(text, _)) => text.as_str() == name,
+            None => false,
+        },
+        _ => false,
+    }
+}

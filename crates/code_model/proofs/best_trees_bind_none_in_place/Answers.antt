@@ -1,5 +1,0 @@
-use Rattle.code_model.proofs.NothingInPlace.{best_trees_bind_none_in_place_lem}
-use Rattle.code_model.proofs.best_trees_bind_none_in_place.Goals as goal
-
-pub returns : goal.returns
-returns c = best_trees_bind_none_in_place_lem

@@ -1,5 +1,0 @@
-use Rattle.code_model.proofs.BestCode.{code_of_best_trees_runs_lem}
-use Rattle.code_model.proofs.code_of_best_trees_runs.Goals as goal
-
-pub returns : goal.returns
-returns c = code_of_best_trees_runs_lem

@@ -1,5 +1,0 @@
-use Rattle.code_model.proofs.Flattening.{flat_runs_same_lem}
-use Rattle.code_model.proofs.flat_runs_same.Goals as goal
-
-pub returns : goal.returns
-returns c = flat_runs_same_lem

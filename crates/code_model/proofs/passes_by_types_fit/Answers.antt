@@ -1,5 +1,0 @@
-use Rattle.code_model.proofs.Modes.{passes_by_types_fit_lem}
-use Rattle.code_model.proofs.passes_by_types_fit.Goals as goal
-
-pub returns : goal.returns
-returns c = passes_by_types_fit_lem

@@ -1,5 +1,0 @@
-use Rattle.code_model.proofs.PrintedCode.{printed_code_runs_lem}
-use Rattle.code_model.proofs.printed_code_runs.Goals as goal
-
-pub returns : goal.returns
-returns c = printed_code_runs_lem

@@ -1,5 +1,0 @@
-use Rattle.code_model.proofs.Samples.{samples_are_judged_lem}
-use Rattle.code_model.proofs.samples_are_judged.Goals as goal
-
-pub returns : goal.returns
-returns c = samples_are_judged_lem

@@ -1,0 +1,15 @@
+mod AskedAnswers
+mod BuilderCalls
+mod BuilderFields
+mod BuilderFollows
+mod BuilderSteps
+mod CallNumbers
+mod EndedRules
+mod EndedSteps
+mod FollowedRule
+mod GrownSites
+mod LendingVisitors
+mod PassedRules
+mod PassingSites
+mod RulesReported
+mod UnwrappedSites

@@ -1,0 +1,2 @@
+pub mod AddedRules
+pub mod VisitedSites

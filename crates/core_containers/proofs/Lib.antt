@@ -1,0 +1,6 @@
+mod Classes
+mod Merges
+mod Puts
+mod Removals
+mod Tables
+mod Togethers

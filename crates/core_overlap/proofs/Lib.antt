@@ -1,0 +1,9 @@
+mod Ascents
+mod Chains
+mod DistinctKeys
+mod ListIteration
+mod Orders
+mod OverlapCounts
+mod Reporting
+mod Rows
+mod SortedErrors

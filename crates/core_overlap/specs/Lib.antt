@@ -1,0 +1,5 @@
+pub mod ComparedRules
+pub mod Comparisons
+pub mod ErrorViews
+pub mod Graphs
+pub mod Keys

@@ -1,0 +1,8 @@
+use Rattle.std.proofs.Common.{◌≡◌}
+use Rattle.model.specs.sites.Sites.{match_variant_site}
+use Rattle.model.specs.sites.SetRules.{each_place}
+use Rattle.core_rule_sets.specs.SiteViews.{site_views}
+use Rattle.core_rule_sets.proofs.constraints.variant_fields.Given as goal
+
+abbrev pub invariant-loop-place : goal.invariant-loop-place
+invariant-loop-place l = site_views l.bindings.items ≡ each_place (match_variant_site l.source l.variant.0) 0 l.place

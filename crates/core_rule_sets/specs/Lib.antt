@@ -1,0 +1,11 @@
+pub mod Closings
+pub mod Endings
+pub mod FieldParts
+pub mod Listings
+pub mod Overlaps
+pub mod SetLists
+pub mod SiteDemands
+pub mod SiteTables
+pub mod SiteViews
+pub mod VariantTerms
+pub mod Verdicts

@@ -1,0 +1,35 @@
+use Rattle.std.proofs.Common.{map, take, None}
+use Rattle.core_syntax.specs.SyntaxViews as S
+use Rattle.core_syntax.specs.Positions.{NotesAt, patterns_positions}
+use Rattle.core_terms.specs.TermViews.{term_views}
+use Rattle.core_rules.specs.RulePositions.{with_templates}
+use Rattle.core_rules.specs.PatternReadings.{parts_reading, each_reading}
+use Rattle.core_rules.specs.ReachedLimits.{parts_limits, each_limits}
+use Rattle.core_rules.specs.LimitStops.{ComesTo}
+use Rattle.core_rules.specs.Translating.{standing, Keeps}
+use Rattle.core_rules.proofs.PatternLists.{SoFar}
+use Rattle.core_rules.proofs.PatternSizes.{tree_size, trees_size, growth, grown}
+use Rattle.core_rules.proofs.term_env.TermEnv.+translate_pattern.Given as goal
+
+abbrev pub decreases-translate_pattern : goal.decreases-translate_pattern
+decreases-translate_pattern l = grown (growth (term_views l.self.now.terms.items)) l.nesting (tree_size (S.pattern_view l.pat.now))
+
+abbrev pub decreases-translate_args : goal.decreases-translate_args
+decreases-translate_args l = grown (growth (term_views l.self.now.terms.items)) l.nesting (trees_size (S.pattern_views l.args.now))
+
+abbrev pub decreases-translate_each : goal.decreases-translate_each
+decreases-translate_each l = grown (growth (term_views l.self.now.terms.items)) l.nesting (trees_size (S.pattern_views l.subpats.now))
+
+abbrev pub invariant-translate_args-loop-i : goal.invariant-translate_args-loop-i
+invariant-translate_args-loop-i l =
+    Keeps l.fn.tyenv l.tyenv
+    × SoFar l.self (standing l.fn.tyenv l.fn.work) (standing l.tyenv l.work) l.nesting (parts_reading l.multi (S.pattern_views (take l.i l.args)) (map (λ t. t.0) (take l.i l.tys))) l.parts.items
+    × NotesAt (with_templates l.self (patterns_positions (S.pattern_views l.args))) l.fn.work.errors.items l.work.errors.items
+    × ComesTo l.self (standing l.fn.tyenv l.fn.work) l.nesting (parts_limits l.multi (S.pattern_views (take l.i l.args)) (map (λ t. t.0) (take l.i l.tys))) None
+
+abbrev pub invariant-translate_each-loop-subpat : goal.invariant-translate_each-loop-subpat
+invariant-translate_each-loop-subpat l =
+    Keeps l.fn.tyenv l.tyenv
+    × SoFar l.self (standing l.fn.tyenv l.fn.work) (standing l.tyenv l.work) l.nesting (each_reading l.multi (S.pattern_views (take l.subpat-index l.subpats)) l.expected_ty.0) l.parts.items
+    × NotesAt (with_templates l.self (patterns_positions (S.pattern_views l.subpats))) l.fn.work.errors.items l.work.errors.items
+    × ComesTo l.self (standing l.fn.tyenv l.fn.work) l.nesting (each_limits l.multi (S.pattern_views (take l.subpat-index l.subpats)) l.expected_ty.0) None

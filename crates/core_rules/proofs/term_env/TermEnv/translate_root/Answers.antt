@@ -1,0 +1,28 @@
+use Rattle.std.proofs.Common.{refl, [], ◌∷◌}
+use Rattle.core_syntax.specs.SyntaxViews as S
+use Rattle.core_rules.specs.Translating.{standing}
+use Rattle.core_rules.proofs.IfLetLists.{counted_args}
+use Rattle.core_syntax.specs.Positions.{patterns_positions}
+use Rattle.core_syntax.proofs.Positioned.{among_first, among_rest}
+use Rattle.core_rules.specs.RulePositions.{with_templates}
+use Rattle.core_rules.proofs.ErrorPositions.{among_here, among_with, stays_step}
+use Rattle.core_rules.proofs.RuleLimits.{root_meets}
+use Rattle.core_rules.proofs.term_env.TermEnv.translate_root.Goals as goal
+
+pub returns-clause-made : goal.returns-clause-made
+returns-clause-made c =
+    counted_args c.args.multi c.args.self.now (standing c.args.tyenv.now c.args.work.now) (standing c.args.tyenv.now _) (standing c.translate_args.new.tyenv c.translate_args.new.work) c.args.nesting c.args.args.now c.args.tys.now
+    refl (record { vars = refl; names = λ k. refl; expansions = refl }) c.in_ok-check_count.ensures.checks c.translate_args.result c.translate_args.ensures.made c.translate_args.ensures.errors
+
+pub returns-clause-places : goal.returns-clause-places
+returns-clause-places c =
+    let env = c.args.self.now in
+    let at = S.position c.args.pos in
+    let args = patterns_positions (S.pattern_views c.args.args.now) in
+    stays_step (at ∷ []) (with_templates env args) (with_templates env (at ∷ args)) c.args.work.now.errors.items c.check_count.new.errors.items c.translate_args.new.work.errors.items c.translate_args.result (among_here env (at ∷ []) (at ∷ args) (among_first at args)) (among_with env args (at ∷ args) (among_rest at args))
+    c.in_ok-check_count.ensures.places c.translate_args.ensures.places
+
+pub returns-clause-limits : goal.returns-clause-limits
+returns-clause-limits c =
+    root_meets c.args.multi c.args.self.now (standing c.args.tyenv.now c.args.work.now) (standing c.args.tyenv.now _) (standing c.translate_args.new.tyenv c.translate_args.new.work) c.args.nesting c.args.args.now c.args.tys.now
+    refl (record { vars = refl; names = λ k. refl; expansions = refl }) c.in_ok-check_count.ensures.checks c.translate_args.result c.translate_args.ensures.errors c.translate_args.ensures.limits

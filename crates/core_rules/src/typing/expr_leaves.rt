@@ -1,0 +1,142 @@
+//! How expressions without parts are typed, but for variables.
+
+ghost use Rattle.std.specs.Prelude.{◌≡◌, [], ◌∷◌, ℕ, true, OnOk};
+ghost use Rattle.core_syntax.specs.SyntaxViews.{name_view, position};
+ghost use Rattle.model.specs.lists.Syntax.{bool_expr, int_expr, prim_expr};
+ghost use Rattle.model.specs.lists.Tables.{Flags};
+ghost use Rattle.model.specs.lists.Setting.{is_expected};
+ghost use Rattle.core_types.specs.Envs.{IsInterned};
+ghost use Rattle.core_syntax.specs.NotedErrors.{NotesMore};
+ghost use Rattle.core_typed.specs.Elaborating.{Checks};
+ghost use Rattle.core_typed.specs.ExprViews.{expr_view};
+ghost use Rattle.core_rules.specs.ExprReadings.{expected, expr_reading};
+ghost use Rattle.core_rules.specs.LimitStops.{NotLimited};
+ghost use Rattle.core_rules.specs.Translating.{standing, Keeps, MayTranslate};
+ghost use Rattle.core_syntax.specs.Positions.{NotesAt};
+ghost use Rattle.core_rules.specs.RulePositions.{StaysPlaced};
+
+use crate::term_env::TermEnv;
+use crate::typing::expr_uses::meets_expected;
+use crate::typing::progress::{Progress, Stop};
+use core_syntax::syntax::{Error, Ident, Pos};
+use core_typed::Expr;
+use core_typed::checks::{check_bool, check_integer, constant_type, literal_number};
+use core_typed::reports::{expected_text, report, type_text};
+use core_types::{TypeEnv, TypeId};
+use std::alloc::AllocError;
+
+impl TermEnv {
+    // A truth value, which only the type of truth values has.
+    pub(crate) fn make_bool(
+        &self,
+        tyenv: &TypeEnv,
+        work: &mut Progress,
+        val: bool,
+        pos: Pos,
+        expected_ty: Option<TypeId>,
+    ) -> Result<Option<Expr>, Stop>
+        ensures made { (flags : Flags) (d : ℕ) → MayTranslate self.now (standing tyenv.now work.old) (standing tyenv.now work.new) d
+            (expr_reading (bool_expr val (position pos)) flags (expected expected_ty)) expr_view result }
+        ensures places { StaysPlaced (position pos ∷ []) work.old.errors.items work.new.errors.items result }
+        ensures unlimited { NotLimited result }
+    {
+        check_truth(tyenv, &mut work.errors, pos, val, expected_ty)?;
+        Ok(Some(Expr::ConstBool(TypeId::BOOL, val)))
+    }
+
+    // An integer, at a type that is expected and has integers: one of the type's range, where it has one. What is noted
+    // names the number as it is written.
+    pub(crate) fn make_int(
+        &self,
+        tyenv: &TypeEnv,
+        work: &mut Progress,
+        val: i128,
+        pos: Pos,
+        expected_ty: Option<TypeId>,
+    ) -> Result<Option<Expr>, Stop>
+        ensures made { (flags : Flags) (d : ℕ) → MayTranslate self.now (standing tyenv.now work.old) (standing tyenv.now work.new) d
+            (expr_reading (int_expr val (position pos)) flags (expected expected_ty)) expr_view result }
+        ensures places { StaysPlaced (position pos ∷ []) work.old.errors.items work.new.errors.items result }
+        ensures unlimited { NotLimited result }
+    {
+        let Some(ty) = expected_ty else {
+            report(
+                &mut work.errors,
+                pos,
+                "integer literal in a context that needs an explicit type",
+            )?;
+            return Ok(None);
+        };
+        check_integer(tyenv, &mut work.errors, pos, val, ty)?;
+        let number = literal_number(tyenv, ty, val);
+        Ok(Some(Expr::ConstInt(ty, number)))
+    }
+
+    // A named constant, at its own type. One of another type is noted, and nothing is made.
+    #[tactic(auto, using(core_syntax::proofs::Positioned::notes_nothing))]
+    pub(crate) fn make_prim(
+        &self,
+        tyenv: &mut TypeEnv,
+        work: &mut Progress,
+        val: &Ident,
+        pos: Pos,
+        expected_ty: Option<TypeId>,
+    ) -> Result<Option<Expr>, Stop>
+        requires { IsInterned tyenv.old }
+        ensures keeps { Keeps tyenv.old tyenv.new }
+        ensures made { (flags : Flags) (d : ℕ) → MayTranslate self.now (standing tyenv.old work.old) (standing tyenv.new work.new) d
+            (expr_reading (prim_expr (name_view val.now) (position pos)) flags (expected expected_ty)) expr_view result }
+        ensures places { StaysPlaced (position pos ∷ []) work.old.errors.items work.new.errors.items result }
+        ensures unlimited { NotLimited result }
+    {
+        let name = tyenv.intern_mut(val)?;
+        let Some(ty) = constant_type(tyenv, name) else {
+            report(&mut work.errors, pos, "Unknown constant")?;
+            return Ok(None);
+        };
+        if !meets_expected(ty, expected_ty) {
+            report_constant(tyenv, &mut work.errors, pos, val, ty, expected_ty)?;
+            return Ok(None);
+        }
+        Ok(Some(Expr::ConstPrim(ty, name)))
+    }
+}
+
+// Whether a truth value is expected, or anything; else this is noted.
+#[tactic(auto, using(core_syntax::proofs::Positioned::notes_nothing))]
+fn check_truth(
+    tyenv: &TypeEnv,
+    errors: &mut Vec<Error>,
+    pos: Pos,
+    val: bool,
+    expected_ty: Option<TypeId>,
+) -> Result<(), AllocError>
+    ensures checks { OnOk result (Checks errors.old.items errors.new.items (is_expected (expected expected_ty) 0 ≡ true)) }
+    ensures places { OnOk result (NotesAt (position pos ∷ []) errors.old.items errors.new.items) }
+{
+    match expected_ty {
+        Some(ty) => check_bool(tyenv, errors, pos, val, ty),
+        None => Ok(()),
+    }
+}
+
+// Notes that a constant has another type than is expected.
+fn report_constant(
+    tyenv: &TypeEnv,
+    errors: &mut Vec<Error>,
+    pos: Pos,
+    val: &Ident,
+    has: TypeId,
+    want: Option<TypeId>,
+) -> Result<(), AllocError>
+    ensures noted { OnOk result (NotesMore errors.old.items errors.new.items) }
+    ensures places { OnOk result (NotesAt (position pos ∷ []) errors.old.items errors.new.items) }
+{
+    let name = val.0.as_str();
+    let want = expected_text(tyenv, want);
+    let has = type_text(tyenv, has);
+    let msg = format_args!(
+        "Constant '{name}' has wrong type: expected {want}, but is actually {has}"
+    );
+    report(errors, pos, msg)
+}

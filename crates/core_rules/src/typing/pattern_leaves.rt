@@ -1,0 +1,203 @@
+//! How patterns without parts are typed, and how a name is bound around a pattern.
+
+ghost use Rattle.std.specs.Prelude.{◌≡◌, [], ◌∷◌, ℕ, Bool, None, OnOk, string_bytes};
+ghost use Rattle.core_syntax.specs.SyntaxViews.{name_view, position};
+ghost use Rattle.model.specs.lists.Syntax.{var_pattern, bool_pattern, int_pattern, prim_pattern, macro_arg};
+ghost use Rattle.core_types.specs.Envs.{IsInterned};
+ghost use Rattle.core_typed.specs.Elaborating.{Checks};
+ghost use Rattle.core_typed.specs.PatternViews.{pattern_view};
+ghost use Rattle.core_rules.specs.PatternReadings.{pattern_reading, BindsAround};
+ghost use Rattle.core_rules.specs.Progress.{newest, Remains};
+ghost use Rattle.core_rules.specs.LimitStops.{NotLimited};
+ghost use Rattle.core_rules.specs.Translating.{standing, Keeps, MayTranslate};
+ghost use Rattle.core_syntax.specs.Positions.{NotesAt};
+ghost use Rattle.core_rules.specs.RulePositions.{StaysPlaced};
+
+use crate::term_env::TermEnv;
+use crate::typing::progress::{Progress, Stop};
+use core_syntax::syntax::{Error, Ident, Pos};
+use core_typed::Pattern;
+use core_typed::checks::{check_bool, check_integer, check_same, constant_type, literal_number};
+use core_typed::reports::{report, type_text};
+use core_types::{Sym, TypeEnv, TypeId};
+use std::alloc::AllocError;
+
+impl TermEnv {
+    // A name that is bound already is a use of its variable, at that one's type; a new name is bound.
+    #[tactic(auto, using(core_syntax::proofs::Positioned::notes_nothing))]
+    pub(crate) fn translate_var(
+        &self,
+        tyenv: &mut TypeEnv,
+        work: &mut Progress,
+        var: &Ident,
+        pos: Pos,
+        expected_ty: TypeId,
+    ) -> Result<Option<Pattern>, Stop>
+        requires { IsInterned tyenv.old }
+        ensures keeps { Keeps tyenv.old tyenv.new }
+        ensures made { (multi : Bool) (d : ℕ) → MayTranslate self.now (standing tyenv.old work.old) (standing tyenv.new work.new) d
+            (pattern_reading multi (var_pattern (name_view var.now) (position pos)) expected_ty.0) pattern_view result }
+        ensures places { StaysPlaced (position pos ∷ []) work.old.errors.items work.new.errors.items result }
+        ensures unlimited { NotLimited result }
+    {
+        let name = tyenv.intern_mut(var)?;
+        let Some(bound) = work.lookup(name) else {
+            let of = Box::new(*work.errors.allocator(), Pattern::Wildcard(expected_ty))?;
+            let id = work.add_var(name, expected_ty)?;
+            return Ok(Some(Pattern::BindPattern(expected_ty, id, of)));
+        };
+        check_bound(tyenv, &mut work.errors, pos, var, bound.ty, expected_ty)?;
+        Ok(Some(Pattern::Var(bound.ty, bound.id)))
+    }
+
+    // A truth value, which only the type of truth values has.
+    pub(crate) fn translate_bool(
+        &self,
+        tyenv: &TypeEnv,
+        work: &mut Progress,
+        val: bool,
+        pos: Pos,
+        expected_ty: TypeId,
+    ) -> Result<Option<Pattern>, Stop>
+        ensures made { (multi : Bool) (d : ℕ) → MayTranslate self.now (standing tyenv.now work.old) (standing tyenv.now work.new) d
+            (pattern_reading multi (bool_pattern val (position pos)) expected_ty.0) pattern_view result }
+        ensures places { StaysPlaced (position pos ∷ []) work.old.errors.items work.new.errors.items result }
+        ensures unlimited { NotLimited result }
+    {
+        check_bool(tyenv, &mut work.errors, pos, val, expected_ty)?;
+        Ok(Some(Pattern::ConstBool(TypeId::BOOL, val)))
+    }
+
+    // An integer, at a type that has integers: one of the type's range, where it has one. What is noted names the
+    // number as it is written.
+    pub(crate) fn translate_int(
+        &self,
+        tyenv: &TypeEnv,
+        work: &mut Progress,
+        val: i128,
+        pos: Pos,
+        expected_ty: TypeId,
+    ) -> Result<Option<Pattern>, Stop>
+        ensures made { (multi : Bool) (d : ℕ) → MayTranslate self.now (standing tyenv.now work.old) (standing tyenv.now work.new) d
+            (pattern_reading multi (int_pattern val (position pos)) expected_ty.0) pattern_view result }
+        ensures places { StaysPlaced (position pos ∷ []) work.old.errors.items work.new.errors.items result }
+        ensures unlimited { NotLimited result }
+    {
+        check_integer(tyenv, &mut work.errors, pos, val, expected_ty)?;
+        let number = literal_number(tyenv, expected_ty, val);
+        Ok(Some(Pattern::ConstInt(expected_ty, number)))
+    }
+
+    // A named constant, at its own type.
+    #[tactic(auto, using(core_syntax::proofs::Positioned::notes_nothing))]
+    pub(crate) fn translate_prim(
+        &self,
+        tyenv: &mut TypeEnv,
+        work: &mut Progress,
+        val: &Ident,
+        pos: Pos,
+        expected_ty: TypeId,
+    ) -> Result<Option<Pattern>, Stop>
+        requires { IsInterned tyenv.old }
+        ensures keeps { Keeps tyenv.old tyenv.new }
+        ensures made { (multi : Bool) (d : ℕ) → MayTranslate self.now (standing tyenv.old work.old) (standing tyenv.new work.new) d
+            (pattern_reading multi (prim_pattern (name_view val.now) (position pos)) expected_ty.0) pattern_view result }
+        ensures places { StaysPlaced (position pos ∷ []) work.old.errors.items work.new.errors.items result }
+        ensures unlimited { NotLimited result }
+    {
+        let name = tyenv.intern_mut(val)?;
+        let Some(ty) = constant_type(tyenv, name) else {
+            report(&mut work.errors, pos, "Unknown constant")?;
+            return Ok(None);
+        };
+        let msg = "Type mismatch for constant";
+        check_same(&mut work.errors, pos, ty, expected_ty, msg)?;
+        Ok(Some(Pattern::ConstPrim(ty, name)))
+    }
+
+    // A pattern under a name, which must be new, and is bound after the pattern: a name that isn't new is noted, and
+    // bound all the same.
+    pub(crate) fn bind_around(
+        &self,
+        tyenv: &mut TypeEnv,
+        work: &mut Progress,
+        var: &Ident,
+        pos: Pos,
+        of: Pattern,
+    ) -> Result<Option<Pattern>, Stop>
+        requires { IsInterned tyenv.old }
+        ensures keeps { Keeps tyenv.old tyenv.new }
+        ensures binds { (d : ℕ) → BindsAround self.now (standing tyenv.old work.old) (standing tyenv.new work.new) d
+            (string_bytes var.now.0) (pattern_view of) result }
+        ensures places { StaysPlaced (position pos ∷ []) work.old.errors.items work.new.errors.items result }
+        ensures unlimited { NotLimited result }
+    {
+        let ty = of.ty();
+        let name = tyenv.intern_mut(var)?;
+        let of = Box::new(*work.errors.allocator(), of)?;
+        check_new(work, name, var, pos)?;
+        let id = work.add_var(name, ty)?;
+        Ok(Some(Pattern::BindPattern(ty, id, of)))
+    }
+
+    // A macro argument stands in templates alone.
+    pub(crate) fn refuse_macro_arg(
+        &self,
+        tyenv: &TypeEnv,
+        work: &mut Progress,
+        pos: Pos,
+        index: usize,
+        expected_ty: TypeId,
+    ) -> Result<Option<Pattern>, Stop>
+        ensures made { (multi : Bool) (d : ℕ) → MayTranslate self.now (standing tyenv.now work.old) (standing tyenv.now work.new) d
+            (pattern_reading multi (macro_arg index (position pos)) expected_ty.0) pattern_view result }
+        ensures places { StaysPlaced (position pos ∷ []) work.old.errors.items work.new.errors.items result }
+        ensures unlimited { NotLimited result }
+    {
+        report(
+            &mut work.errors,
+            pos,
+            "macro argument outside of an extractor template",
+        )?;
+        Ok(None)
+    }
+}
+
+// Whether a variable that is bound has the type that is expected; else this is noted.
+#[tactic(auto, using(core_syntax::proofs::Positioned::notes_nothing))]
+fn check_bound(
+    tyenv: &TypeEnv,
+    errors: &mut Vec<Error>,
+    pos: Pos,
+    var: &Ident,
+    has: TypeId,
+    want: TypeId,
+) -> Result<(), AllocError>
+    ensures checks { OnOk result (Checks errors.old.items errors.new.items (has.0 ≡ want.0)) }
+    ensures places { OnOk result (NotesAt (position pos ∷ []) errors.old.items errors.new.items) }
+{
+    if has == want {
+        return Ok(());
+    }
+    let name = var.0.as_str();
+    let wanted = type_text(tyenv, want);
+    let own = type_text(tyenv, has);
+    let msg = format_args!(
+        "Mismatched types: pattern expects type '{wanted}' but already-bound var '{name}' has type '{own}'"
+    );
+    report(errors, pos, msg)
+}
+
+// Whether a name stands for no variable; else this is noted.
+#[tactic(auto, using(core_syntax::proofs::Positioned::notes_nothing))]
+fn check_new(work: &mut Progress, name: Sym, var: &Ident, pos: Pos) -> Result<(), AllocError>
+    ensures checks { OnOk result (Checks work.old.errors.items work.new.errors.items (newest work.old name.0 ≡ None)) }
+    ensures remains { Remains work.old work.new }
+    ensures places { OnOk result (NotesAt (position pos ∷ []) work.old.errors.items work.new.errors.items) }
+{
+    if work.lookup(name).is_none() {
+        return Ok(());
+    }
+    let msg = format_args!("Re-bound variable name in LHS pattern: '{}'", var.0);
+    report(&mut work.errors, pos, msg)
+}

@@ -1,0 +1,244 @@
+-- The rules of a match in the order of its arms: how a sort puts them there, and that an arm's rules stand at the head.
+use Rattle.std.proofs.Common.{◌≡◌, ℕ, zero, suc, ◌+◌, ◌≤◌, ◌<◌, Bool, true, false, not, cond, List, [], ◌∷◌, ◌++◌, length, Option, Some, None, is_some, get_or, slice_get, take, drop, Contains, filter, refl, sym, ap, ◌∙◌, subst, inl, inr, arith}
+use Rattle.std.specs.Prelude.{IsPermutation}
+use Rattle.std.specs.Cmp.{IsStrictWeakOrder}
+use Rattle.std.specs.List.{take_while, prefix_len}
+use Rattle.std.specs.List.Sorted.{ties, IsSortedBy, IsStableBy}
+use Rattle.std.proofs.lemmas.Bool.{cases_Bool, cond-true, cond-false, and_parts, and_from, not-true, false≢true, false_from_ne_true}
+use Rattle.std.proofs.lemmas.List.{append-nil, length-map, map_push}
+use Rattle.std.proofs.lemmas.List.Elements.{filter_agree, filter_more, Contains-append_cases}
+use Rattle.std.proofs.lemmas.List.Sorted.{sorted_far, Contains-permutation, IsPermutation-map, IsPermutation-sym}
+use Rattle.std.proofs.lemmas.List.Sums.{take_while-cons}
+use Rattle.std.proofs.lemmas.Option.{none-some, same_Some}
+use Rattle.model.specs.sites.Sites.{Constraint, SetRule}
+use Rattle.model.specs.trees.Judge.{is_that}
+use Rattle.model.specs.trees.Sound.{comes_before}
+use Rattle.model.proofs.Members.{in_head, in_tail, in_cases, from_map, in_alone, in_map}
+use Rattle.laws_sites.proofs.overlaps.Overlaps.{bool_same}
+use Rattle.laws_trees.proofs.runs.Order.{before_chain, before_itself}
+use Rattle.laws_trees.proofs.Constraints.{that_exact}
+use Rattle.laws_trees.proofs.ConstraintsTotal.{before_total}
+use Rattle.core_serialize.specs.declared.arms.Asked.{Asked}
+use Rattle.core_serialize.specs.ArmOrder.{asked_at, asks, asks_some, asked_constraint, asks_that, asked_numbers, AreAsked, is_ahead, Ascend, AreTurns, AreInTurn, IsLeastAsked}
+use Rattle.core_serialize.proofs.Descents.{all_kept, none_kept}
+
+-- 1. the order of constraints
+not_itself : (c : Constraint) → comes_before c c ≡ false
+not_itself c = false_from_ne_true (comes_before c c) (before_itself c)
+
+same_as : (c : Constraint) (a : Asked) → asks_that c a ≡ true → asked_constraint a ≡ c
+same_as c a h = same_Some (asked_constraint a) c ((that_exact (Some (asked_constraint a)) c).0 h)
+
+from_same : (c : Constraint) (a : Asked) → asked_constraint a ≡ c → asks_that c a ≡ true
+from_same c a e = (that_exact (Some (asked_constraint a)) c).1 (ap Some e)
+
+not_before_chain : (x y z : Constraint) → comes_before x y ≡ false → comes_before y z ≡ false → comes_before x z ≡ false
+not_before_chain x y z h k =
+    false_from_ne_true (comes_before x z) (λ t.
+    elim (before_total y x h) [
+      | inl e ↦ false≢true (sym k ∙ ap (λ w. comes_before w z) e ∙ t)
+      | inr b ↦ elim (before_total z y k) [
+        | inl e ↦ false≢true (sym h ∙ ap (comes_before x) (sym e) ∙ t)
+        | inr d ↦ before_itself x (before_chain x z x t (before_chain z y x d b))
+      ]
+    ])
+
+pub order : IsStrictWeakOrder is_ahead
+order = record {
+  one_way = λ a b h. false_from_ne_true (is_ahead b a) (λ t. before_itself (asked_constraint a) (before_chain (asked_constraint a) (asked_constraint b) (asked_constraint a) h t));
+  chain = λ a b c. not_before_chain (asked_constraint a) (asked_constraint b) (asked_constraint c);
+}
+
+-- those that tie with one ask the same
+ask_alike : (a b : Asked) → asks_that (asked_constraint a) b ≡ ties is_ahead a b
+ask_alike a b =
+    bool_same (asks_that (asked_constraint a) b) (ties is_ahead a b)
+    (λ h. let e = same_as (asked_constraint a) b h in
+    and_from (not (is_ahead a b)) (not (is_ahead b a)) (ap not (ap (comes_before (asked_constraint a)) e ∙ not_itself (asked_constraint a)))
+    (ap not (ap (λ c. comes_before c (asked_constraint a)) e ∙ not_itself (asked_constraint a))))
+    (λ h. let both = and_parts (not (is_ahead a b)) (not (is_ahead b a)) h in
+    elim (before_total (asked_constraint b) (asked_constraint a) (not-true (is_ahead a b) both.0)) [
+      | inl e ↦ from_same (asked_constraint a) b e
+      | inr t ↦ absurd (false≢true (ap not (sym t) ∙ both.1))
+    ])
+
+-- 2. lists that ascend
+ascends : (ys : List Asked) → ((i j : ℕ) (d : Asked) → i ≤ j → j < length ys → is_ahead (get_or ys j d) (get_or ys i d) ≡ false) → Ascend ys
+ascends [] far = tt
+ascends (a ∷ ys) far = (
+  λ b c. (let l = c.1 in subst (λ x. is_ahead x a ≡ false) c.2 (far 0 (suc c.0) b (omega arith) (omega arith))),
+  ascends ys (λ i j d l m. far (suc i) (suc j) d (omega arith) (omega arith)),
+)
+
+ascend_drop : (k : ℕ) (xs : List Asked) → Ascend xs → Ascend (drop k xs)
+ascend_drop zero xs h = h
+ascend_drop (suc k) [] h = tt
+ascend_drop (suc k) (a ∷ xs) h = ascend_drop k xs h.1
+
+in_drop : (k : ℕ) (xs : List Asked) (a : Asked) → Contains (drop k xs) a → Contains xs a
+in_drop zero xs a c = c
+in_drop (suc k) [] a c = c
+in_drop (suc k) (x ∷ xs) a c = in_tail x a xs (in_drop k xs a c)
+
+-- none asks what comes before c
+abbrev NoneBefore : Constraint → List Asked → Type 0
+NoneBefore c xs = (a : Asked) → Contains xs a → comes_before (asked_constraint a) c ≡ false
+
+none_before_rest : (c : Constraint) (x : Asked) (xs : List Asked) → NoneBefore c (x ∷ xs) → NoneBefore c xs
+none_before_rest c x xs f a k = f a (in_tail x a xs k)
+
+module _ (c : Constraint) where
+  abbrev is_c : Asked → Bool
+  is_c = asks_that c
+
+  -- behind one that asks another constraint no one asks c
+  no_more : (b : Asked) (xs : List Asked) → is_c b ≡ false → comes_before (asked_constraint b) c ≡ false → ((a : Asked) → Contains xs a → is_ahead a b ≡ false) → (a : Asked) → Contains xs a → is_c a ≡ false
+  no_more b xs f n later a k =
+      false_from_ne_true (is_c a) (λ t.
+      elim (before_total c (asked_constraint b) n) [
+        | inl e ↦ false≢true (sym f ∙ from_same c b (sym e))
+        | inr d ↦ false≢true (sym (later a k) ∙ ap (λ w. comes_before w (asked_constraint b)) (same_as c a t) ∙ d)
+      ])
+
+  -- those that ask c stand at the head
+  run_first : (xs : List Asked) → Ascend xs → NoneBefore c xs → take_while is_c xs ≡ filter is_c xs
+  run_first [] up none = refl
+  run_first (x ∷ xs) up none =
+      take_while-cons is_c x xs
+      ∙ elim (cases_Bool (is_c x)) [
+        | inl t ↦
+            cond-true (is_c x) (x ∷ take_while is_c xs) [] t ∙ ap (λ l. x ∷ l) (run_first xs up.1 (none_before_rest c x xs none))
+            ∙ sym (cond-true (is_c x) (x ∷ filter is_c xs) (filter is_c xs) t)
+        | inr f ↦
+            cond-false (is_c x) (x ∷ take_while is_c xs) [] f
+            ∙ sym (cond-false (is_c x) (x ∷ filter is_c xs) (filter is_c xs) f ∙ none_kept is_c xs (no_more x xs f (none x (in_head x xs)) up.0))
+      ]
+
+  run_rest : (xs : List Asked) → Ascend xs → NoneBefore c xs → drop (length (filter is_c xs)) xs ≡ filter (λ a. not (is_c a)) xs
+  run_rest [] up none = refl
+  run_rest (x ∷ xs) up none =
+      elim (cases_Bool (is_c x)) [
+        | inl t ↦
+            ap (λ l. drop (length l) (x ∷ xs)) (cond-true (is_c x) (x ∷ filter is_c xs) (filter is_c xs) t) ∙ run_rest xs up.1 (none_before_rest c x xs none)
+            ∙ sym (cond-false (not (is_c x)) (x ∷ others xs) (others xs) (ap not t))
+        | inr f ↦ let no = no_more x xs f (none x (in_head x xs)) up.0 in
+            ap (λ l. drop (length l) (x ∷ xs)) (cond-false (is_c x) (x ∷ filter is_c xs) (filter is_c xs) f ∙ none_kept is_c xs no)
+            ∙ sym (cond-true (not (is_c x)) (x ∷ others xs) (others xs) (ap not f) ∙ ap (λ l. x ∷ l) (all_kept (λ a. not (is_c a)) xs (λ a k. ap not (no a k))))
+      ]
+    where
+      others : List Asked → List Asked
+      others ys = filter (λ a. not (is_c a)) ys
+
+-- 3. the rules that ask
+numbers_kept : (f : ℕ → Bool) (p : Asked → Bool) (xs : List Asked) → ((a : Asked) → Contains xs a → f a.number ≡ p a) → filter f (asked_numbers xs) ≡ asked_numbers (filter p xs)
+numbers_kept f p [] h = refl
+numbers_kept f p (a ∷ xs) h =
+    let rest = numbers_kept f p xs (λ b c. h b (in_tail a b xs c)) in
+    let this = h a (in_head a xs) in
+    (λ i. cond (this i) (a.number ∷ rest i) (rest i)) ∙ of (p a)
+  where
+    of : (b : Bool) → cond b (a.number ∷ asked_numbers (filter p xs)) (asked_numbers (filter p xs)) ≡ asked_numbers (cond b (a ∷ filter p xs) (filter p xs))
+    of true = refl
+    of false = refl
+
+kept_within : (p q : ℕ → Bool) (xs : List ℕ) → ((x : ℕ) → q x ≡ false → p x ≡ false) → filter p (filter q xs) ≡ filter p xs
+kept_within p q [] h = refl
+kept_within p q (x ∷ xs) h =
+    let rest = kept_within p q xs h in
+    elim (cases_Bool (q x)) [
+      | inl t ↦ ap (filter p) (cond-true (q x) (x ∷ filter q xs) (filter q xs) t) ∙ (λ i. cond (p x) (x ∷ rest i) (rest i))
+      | inr f ↦ ap (filter p) (cond-false (q x) (x ∷ filter q xs) (filter q xs) f) ∙ rest ∙ sym (cond-false (p x) (x ∷ filter p xs) (filter p xs) (h x f))
+    ]
+
+module _ (rules : List SetRule) (s : ℕ) where
+  asks_told : (c : Constraint) (xs : List Asked) → AreAsked rules s xs → filter (asks rules s c) (asked_numbers xs) ≡ asked_numbers (filter (asks_that c) xs)
+  asks_told c xs each = numbers_kept (asks rules s c) (asks_that c) xs (λ a k. ap (λ o. is_that o c) (each a k))
+
+  others_told : (c : Constraint) (xs : List Asked) → AreAsked rules s xs → filter (λ i. not (asks rules s c i)) (asked_numbers xs) ≡ asked_numbers (filter (λ a. not (asks_that c a)) xs)
+  others_told c xs each = numbers_kept (λ i. not (asks rules s c i)) (λ a. not (asks_that c a)) xs (λ a k. ap (λ o. not (is_that o c)) (each a k))
+
+  some_asked : (c : Constraint) (i : ℕ) → asks_some rules s i ≡ false → asks rules s c i ≡ false
+  some_asked c i = of (asked_at rules s i)
+    where
+      of : (o : Option Constraint) → is_some o ≡ false → is_that o c ≡ false
+      of None e = refl
+      of (Some d) e = absurd (false≢true (sym e))
+
+  -- one rule more
+  pub asked_more : (here : List ℕ) (k : ℕ) (xs ys : List Asked) (a : Asked) → k < length here → a.number ≡ get_or here k 0 → asked_at rules s (get_or here k 0) ≡ Some (asked_constraint a) → ys ≡ xs ++ a ∷ []
+      → AreAsked rules s xs → asked_numbers xs ≡ filter (asks_some rules s) (take k here) → AreAsked rules s ys × (asked_numbers ys ≡ filter (asks_some rules s) (take (k + 1) here))
+  asked_more here k xs ys a l n e is each h = (
+    subst (AreAsked rules s) (sym is) (λ b m. elim (Contains-append_cases xs (a ∷ []) b m) [
+      | inl q ↦ each b q
+      | inr q ↦ subst (λ x. asked_at rules s x.number ≡ Some (asked_constraint x)) (in_alone a b q) (ap (asked_at rules s) n ∙ e)
+    ]),
+    (
+        let this : asks_some rules s (get_or here k 0) ≡ true = ap is_some e in
+        ap asked_numbers is ∙ map_push (λ x. x.number) xs a ∙ (λ i. h i ++ n i ∷ [])
+        ∙ ap (λ m. filter (asks_some rules s) (take k here) ++ m) (sym (cond-true (asks_some rules s (get_or here k 0)) (get_or here k 0 ∷ []) [] this))
+        ∙ sym (filter_more (asks_some rules s) here k 0 l)),
+  )
+
+  pub asked_none : (here : List ℕ) (k : ℕ) → k < length here → asked_at rules s (get_or here k 0) ≡ None → filter (asks_some rules s) (take k here) ≡ filter (asks_some rules s) (take (k + 1) here)
+  asked_none here k l e =
+      let this : asks_some rules s (get_or here k 0) ≡ false = ap is_some e in
+      sym (append-nil (filter (asks_some rules s) (take k here)))
+      ∙ ap (λ m. filter (asks_some rules s) (take k here) ++ m) (sym (cond-false (asks_some rules s (get_or here k 0)) (get_or here k 0 ∷ []) [] this))
+      ∙ sym (filter_more (asks_some rules s) here k 0 l)
+
+  -- a stable sort puts them in turn
+  pub in_turn : (here : List ℕ) (xs ys : List Asked) → AreAsked rules s xs → asked_numbers xs ≡ filter (asks_some rules s) here → IsPermutation xs ys → IsSortedBy is_ahead ys → IsStableBy is_ahead xs ys → AreInTurn rules s here ys
+  in_turn here xs ys each e moved sorted stable = record {
+    told = record { each = each_sorted; ascend = ascends ys (sorted_far is_ahead order ys sorted) };
+    same = subst (λ l. IsPermutation l (asked_numbers ys)) e (IsPermutation-map (λ a. a.number) xs ys moved);
+    kept = λ a. let c = asked_constraint a in
+        asks_told c ys each_sorted
+        ∙ ap asked_numbers (tied a ys ∙ stable a ∙ sym (tied a xs))
+        ∙ sym (asks_told c xs each)
+        ∙ ap (filter (asks rules s c)) e
+        ∙ kept_within (asks rules s c) (asks_some rules s) here (some_asked c);
+  }
+    where
+      each_sorted : AreAsked rules s ys
+      each_sorted a k = each a (Contains-permutation ys xs a (IsPermutation-sym xs ys moved) k)
+
+      tied : (a : Asked) (zs : List Asked) → filter (asks_that (asked_constraint a)) zs ≡ filter (ties is_ahead a) zs
+      tied a zs = filter_agree (asks_that (asked_constraint a)) (ties is_ahead a) (ask_alike a) zs
+
+  pub turns_behind : (k : ℕ) (xs : List Asked) → AreTurns rules s xs → AreTurns rules s (drop k xs)
+  turns_behind k xs t = record { each = λ a c. t.each a (in_drop k xs a c); ascend = ascend_drop k xs t.ascend }
+
+  -- 4. the arm at the head
+  least_first : (a : Asked) (xs : List Asked) → AreTurns rules s (a ∷ xs) → IsLeastAsked rules s (asked_numbers (a ∷ xs)) (asked_constraint a)
+  least_first a xs t = (
+    (a.number, in_head a.number (asked_numbers xs), t.each a (in_head a xs)),
+    λ i d k e. (
+        let m = from_map (λ b. b.number) (a ∷ xs) i k in
+        let asked : asked_constraint m.0 ≡ d = same_Some (asked_constraint m.0) d (sym (t.each m.0 m.1) ∙ ap (asked_at rules s) m.2 ∙ e) in
+        subst (λ w. comes_before w (asked_constraint a) ≡ false) asked (none m.0 m.1)),
+  )
+    where
+      none : (b : Asked) → Contains (a ∷ xs) b → is_ahead b a ≡ false
+      none b k = elim (in_cases a b xs k) [
+        | inl e ↦ subst (λ w. is_ahead w a ≡ false) e (not_itself (asked_constraint a))
+        | inr m ↦ t.ascend.0 b m
+      ]
+
+  pub least_of : (xs : List Asked) (a : Asked) → slice_get xs 0 ≡ Some a → AreTurns rules s xs → IsLeastAsked rules s (asked_numbers xs) (asked_constraint a)
+  least_of [] a e t = absurd (none-some a e)
+  least_of (x ∷ xs) a e t = subst (λ b. IsLeastAsked rules s (asked_numbers (x ∷ xs)) (asked_constraint b)) (same_Some x a e) (least_first x xs t)
+
+  module _ (c : Constraint) (xs : List Asked) (t : AreTurns rules s xs) (least : IsLeastAsked rules s (asked_numbers xs) c) where
+    none_before : NoneBefore c xs
+    none_before a k = least.1 a.number (asked_constraint a) (in_numbers xs a k) (t.each a k)
+      where
+        in_numbers : (ys : List Asked) (b : Asked) → Contains ys b → Contains (asked_numbers ys) b.number
+        in_numbers ys b m = in_map (λ x. x.number) ys b m
+
+    pub asking_first : (n : ℕ) → n ≡ prefix_len (asks_that c) xs → asked_numbers (take n xs) ≡ filter (asks rules s c) (asked_numbers xs)
+    asking_first n e = ap (λ m. asked_numbers (take m xs)) e ∙ ap asked_numbers (run_first c xs t.ascend none_before) ∙ sym (asks_told c xs t.each)
+
+    pub left_behind : asked_numbers (drop (length (filter (asks rules s c) (asked_numbers xs))) xs) ≡ filter (λ i. not (asks rules s c i)) (asked_numbers xs)
+    left_behind =
+        let same = ap length (asks_told c xs t.each) ∙ length-map (filter (asks_that c) xs) (λ a. a.number) in
+        ap (λ m. asked_numbers (drop m xs)) same ∙ ap asked_numbers (run_rest c xs t.ascend none_before) ∙ sym (others_told c xs t.each)

@@ -1,0 +1,215 @@
+-- The search for the best open test: one test more, those of one more thing, and when all that may cover a rule are tried.
+use Rattle.std.proofs.Common.{◌≡◌, ℕ, ◌+◌, ◌<◌, Bool, true, false, not, ◌&&◌, ◌==◌, nat_lt, List, [], ◌∷◌, ◌++◌, map, option_map, take, drop, get_or, length, is_some, Option, Some, None, Contains, slice_get, refl, sym, ap, ◌∙◌, subst, inl, inr, ◌⊎◌, eqb-true, eq-eqb}
+use Rattle.std.specs.Global.{Vec}
+use Rattle.std.specs.List.{filter, find, list_any}
+use Rattle.std.proofs.lemmas.Bool.{cases_Bool, cond-true, cond-false, and_from, and_parts, not-false, or_cases, false≢true}
+use Rattle.std.proofs.lemmas.List.{take_more, take-append-drop}
+use Rattle.std.proofs.lemmas.Option.{none-some}
+use Rattle.std.proofs.lemmas.List.Elements.{Contains-append_left, Contains-append_cases}
+use Rattle.model.specs.sites.Sites.{iterator_site, SetRule, Site, SiteSet}
+use Rattle.model.specs.trees.Places.{Around, is_in, class, joins, joins_in, constraint_at}
+use Rattle.model.specs.trees.Tests as Tests
+use Rattle.model.specs.trees.Tests.{match_test, equal_test, loop_test, needs, is_needed, needs_at, cover, IsOpen, is_at_hand}
+use Rattle.model.proofs.Members.{nothing_in, in_cases, in_head, in_tail, in_alone, from_map, one_passes, member_found, member_from_get, passes_any}
+use Rattle.core_rule_sets.specs.Listings.{class_lists}
+use Rattle.core_rule_sets.specs.SiteViews.{constraint_views}
+use Rattle.core_rule_sets.specs.declared.trie_again.Constraint.{Constraint as WrittenConstraint}
+use Rattle.core_serialize.specs.declared.open_tests.BestSearch.{BestSearch}
+use Rattle.core_serialize.specs.declared.tests.Scored.{Scored}
+use Rattle.core_serialize.specs.declared.tests.Test.{Test}
+use Rattle.core_serialize.specs.AroundViews.{AreAtHand}
+use Rattle.core_serialize.specs.Bars.{reaches}
+use Rattle.core_serialize.specs.FieldTests.{is_iterator_of}
+use Rattle.core_serialize.specs.Growing.{CanGrow}
+use Rattle.core_serialize.specs.NeededTests.{EmittedAreJoined, IsBestSearch, SearchesMore, OfSome, IsTest, IsMatch, IsMatchOf, IsEqualOf, IsPairOf, IsPairWith, IsWanted, IsLoopBy, IsLoopOf}
+use Rattle.core_serialize.specs.TestViews.{test_view, greater_test, IsBestOpen, IsNoBetter, IsOpenScored, IsScored}
+use Rattle.core_serialize.proofs.BarSteps.{highest_need}
+use Rattle.core_serialize.proofs.FieldSteps.{picks_call}
+use Rattle.core_serialize.proofs.TestSteps.{greater_open, no_better_itself, no_better_kept}
+
+-- one of the first of a list is one of it
+pub in_first : {X : Type 0} (i : ℕ) (xs : List X) (x : X) → Contains (take i xs) x → Contains xs x
+in_first i xs x c = subst (λ l. Contains l x) (take-append-drop i xs) (Contains-append_left (take i xs) (drop i xs) x c)
+
+module _ (set : SiteSet) (ar : Around) (here : List ℕ) where
+  -- 1. searches
+  pub nothing_searched : (search : BestSearch) → search.found ≡ [] → search.scored.items ≡ [] → search.best ≡ None → IsBestSearch set ar here search
+  nothing_searched search f s b = record {
+    found = λ x h. absurd (false≢true (ap (is_in x) (sym f) ∙ h));
+    best = subst (IsOpenScored set ar here) (sym b) tt;
+    scored = λ t c. absurd (nothing_in t (subst (λ l. Contains l t) s c));
+  }
+
+  -- nothing is tried of no things
+  pub searches_none : {X : Type 0} (Kind : X → Tests.Test → Type 0) (old : BestSearch) → IsBestSearch set ar here old → SearchesMore set ar here (OfSome Kind []) old old
+  searches_none Kind old h = record { now = h; kept = λ u l. l; tried = λ u o k. absurd (nothing_in k.0 k.1) }
+
+  pub searches_as : (Kind Other : Tests.Test → Type 0) (old new : BestSearch) → ((u : Tests.Test) → Other u → Kind u) → SearchesMore set ar here Kind old new → SearchesMore set ar here Other old new
+  searches_as Kind Other old new f h = record { now = h.now; kept = h.kept; tried = λ u o k. h.tried u o (f u k) }
+
+  pub searches_both : (Kind Other : Tests.Test → Type 0) (old mid new : BestSearch) → SearchesMore set ar here Kind old mid → SearchesMore set ar here Other mid new → SearchesMore set ar here (λ u. Kind u ⊎ Other u) old new
+  searches_both Kind Other old mid new g h = record {
+    now = h.now;
+    kept = λ u l. h.kept u (g.kept u l);
+    tried = λ u o k. elim k [ inl a ↦ h.kept u (g.tried u o a) | inr b ↦ h.tried u o b ];
+  }
+
+  -- of the things so far, and of one more
+  pub searches_more : {X : Type 0} (Kind : X → Tests.Test → Type 0) (xs : List X) (i : ℕ) (x d : X) (old mid new : BestSearch) → i < length xs → x ≡ get_or xs i d
+      → SearchesMore set ar here (OfSome Kind (take i xs)) old mid → SearchesMore set ar here (Kind x) mid new → SearchesMore set ar here (OfSome Kind (take (i + 1) xs)) old new
+  searches_more Kind xs i x d old mid new l e g h =
+      searches_as (λ u. OfSome Kind (take i xs) u ⊎ Kind x u) (OfSome Kind (take (i + 1) xs)) old new
+      (λ u k. elim (Contains-append_cases (take i xs) (get_or xs i d ∷ []) k.0 (subst (λ l. Contains l k.0) (take_more xs i d l) k.1)) [
+        | inl c ↦ inl (k.0, c, k.2)
+        | inr c ↦ inr (subst (λ y. Kind y u) (sym (e ∙ in_alone (get_or xs i d) k.0 c)) k.2)
+      ])
+      (searches_both (OfSome Kind (take i xs)) (Kind x) old mid new g h)
+
+  -- one open test is scored
+  pub one_scored : (t : Test) (old new : BestSearch) (next : Scored) → new.found ≡ old.found → new.scored.items ≡ old.scored.items ++ t ∷ [] → new.best ≡ Some next
+      → next.test ≡ greater_test set ar here (option_map (λ s. s.test) old.best) t → IsScored set ar here next → IsOpen set ar (test_view t) → IsBestSearch set ar here old → SearchesMore set ar here (IsTest t) old new
+  one_scored t old new next f s b e k o h =
+      let kept : (u : Tests.Test) → IsNoBetter set ar here old.best u → IsNoBetter set ar here new.best u =
+      λ u n. subst (λ x. IsNoBetter set ar here x u) (sym b) (no_better_kept set ar here old.best t next e h.best k u n) in
+      let this : IsNoBetter set ar here new.best (test_view t) = subst (λ x. IsNoBetter set ar here x (test_view t)) (sym b) (no_better_itself set ar here old.best t next e k) in
+      record {
+        now = record {
+          found = subst (AreAtHand set.sites ar) (sym f) h.found;
+          best = subst (IsOpenScored set ar here) (sym b) (greater_open set ar here old.best t next e o h.best, k);
+          scored = λ x c. elim (Contains-append_cases old.scored.items (t ∷ []) x (subst (λ l. Contains l x) s c)) [
+            | inl d ↦ kept (test_view x) (h.scored x d)
+            | inr d ↦ subst (λ y. IsNoBetter set ar here new.best (test_view y)) (in_alone t x d) this
+          ];
+        };
+        kept = kept;
+        tried = λ u p i. subst (IsNoBetter set ar here new.best) i this;
+      }
+
+  -- one test is no better
+  pub one_below : (t : Test) (search : BestSearch) → IsNoBetter set ar here search.best (test_view t) → IsBestSearch set ar here search → SearchesMore set ar here (IsTest t) search search
+  one_below t search n h = record { now = h; kept = λ u l. l; tried = λ u o i. subst (IsNoBetter set ar here search.best) i n }
+
+  -- where all emitted sites are joined, no open equality has two of them
+  pub none_both : (sites : List ℕ) (a b : ℕ) → EmittedAreJoined ar sites → Contains sites a → Contains sites b → IsOpen set ar (equal_test a b) → (is_in a ar.emitted && is_in b ar.emitted) ≡ false
+  none_both sites a b j c d o =
+      elim (cases_Bool (is_in a ar.emitted && is_in b ar.emitted)) [
+        | inl t ↦
+            let p = and_parts (is_in a ar.emitted) (is_in b ar.emitted) t in
+            absurd (false≢true (ap not (sym (j a b c d p.0 p.1)) ∙ (and_parts (nat_lt a b && is_at_hand set ar a && is_at_hand set ar b) (not (joins ar.joined a b)) o).1))
+        | inr f ↦ f
+      ]
+
+  -- no equality of a site is better
+  pub pairs_below : (sites : List ℕ) (a : ℕ) (are_joined : Bool) (search : BestSearch) → (are_joined ≡ true → EmittedAreJoined ar sites) → Contains sites a
+      → ((b : ℕ) → (are_joined ≡ true → (is_in a ar.emitted && is_in b ar.emitted) ≡ false) → IsNoBetter set ar here search.best (equal_test a b))
+      → IsBestSearch set ar here search → SearchesMore set ar here (IsPairWith sites a) search search
+  pairs_below sites a are_joined search j c n h = record {
+    now = h;
+    kept = λ u l. l;
+    tried = λ u o k. subst (IsNoBetter set ar here search.best) k.2 (n k.0 (λ t. none_both sites a k.0 (j t) c k.1 (subst (IsOpen set ar) (sym k.2) o)));
+  }
+
+-- sites of which all that are emitted are joined with one of them
+pub all_joined : (ar : Around) (sites : List ℕ) (one : ℕ) → list_any (λ s. is_in s ar.emitted && not (joins ar.joined one s)) sites ≡ false → EmittedAreJoined ar sites
+all_joined ar sites one h a b c d e f = eq-eqb (class ar.joined a) (class ar.joined b) (sym (alike a c e) ∙ alike b d f)
+  where
+    alike : (s : ℕ) → Contains sites s → is_in s ar.emitted ≡ true → class ar.joined one ≡ class ar.joined s
+    alike s k g =
+        eqb-true (class ar.joined one) (class ar.joined s)
+        (not-false (joins ar.joined one s)
+        (elim (cases_Bool (not (joins ar.joined one s))) [
+          | inl t ↦ absurd (false≢true (sym h ∙ passes_any (λ x. is_in x ar.emitted && not (joins ar.joined one x)) sites s k (and_from (is_in s ar.emitted) (not (joins ar.joined one s)) g t)))
+          | inr n ↦ n
+        ]))
+
+not_found : (p : ℕ → Bool) (xs : List ℕ) → find p xs ≡ None → (x : ℕ) → Contains xs x → p x ≡ false
+not_found p [] h x c = absurd (nothing_in x c)
+not_found p (y ∷ xs) h x c =
+    elim (cases_Bool (p y)) [
+      | inl t ↦ absurd (none-some y (sym h ∙ cond-true (p y) (Some y) (find p xs) t))
+      | inr f ↦ elim (in_cases y x xs c) [
+        | inl e ↦ ap p (sym e) ∙ f
+        | inr d ↦ not_found p xs (sym (cond-false (p y) (Some y) (find p xs) f) ∙ h) x d
+      ]
+    ]
+
+pub none_emitted : (ar : Around) (sites : List ℕ) → find (λ s. is_in s ar.emitted) sites ≡ None → EmittedAreJoined ar sites
+none_emitted ar sites h a b c d e f = absurd (false≢true (sym (not_found (λ s. is_in s ar.emitted) sites h a c) ∙ e))
+
+-- 2. what a rule needs
+asked_one : (cs : List (ℕ × WrittenConstraint)) (s : ℕ) → is_some (constraint_at (constraint_views cs) s) ≡ true → (c : ℕ × WrittenConstraint) × Contains cs c × (c.0 ≡ s)
+asked_one [] s h = absurd (false≢true h)
+asked_one (c ∷ cs) s h =
+    elim (cases_Bool (c.0 == s)) [
+      | inl t ↦ (c, in_head c cs, eqb-true c.0 s t)
+      | inr f ↦ let r = asked_one cs s (sym (ap is_some (cond-false (c.0 == s) _ (constraint_at (constraint_views cs) s) f)) ∙ h) in (r.0, in_tail c r.0 cs r.1, r.2)
+    ]
+
+pub matches_of : (cs : List (ℕ × WrittenConstraint)) (r : SetRule) → r.constraints ≡ constraint_views cs → (u : Tests.Test) → IsMatchOf r u → OfSome (λ c. IsMatch c.0) cs u
+matches_of cs r e (match_test s) h = let k = asked_one cs s (sym (ap (λ l. is_some (constraint_at l s)) e) ∙ h) in (k.0, k.1, ap match_test k.2)
+matches_of cs r e (equal_test a b) h = absurd h
+matches_of cs r e (loop_test s) h = absurd h
+
+joined_one : (cs : List (Vec ℕ)) (a b : ℕ) → joins_in (class_lists cs) a b ≡ true → (c : Vec ℕ) × Contains cs c × (Contains c.items a × Contains c.items b)
+joined_one [] a b h = absurd (false≢true h)
+joined_one (c ∷ cs) a b h =
+    elim (or_cases (is_in a c.items && is_in b c.items) (joins_in (class_lists cs) a b) h) [
+      | inl t ↦ let q = and_parts (is_in a c.items) (is_in b c.items) t in (c, in_head c cs, (member_found a c.items q.0, member_found b c.items q.1))
+      | inr r ↦ let k = joined_one cs a b r in (k.0, in_tail c k.0 cs k.1, k.2)
+    ]
+
+pub equalities_of : (cs : List (Vec ℕ)) (r : SetRule) → ((a b : ℕ) → joins_in (class_lists cs) a b ≡ joins_in r.classes a b) → (u : Tests.Test) → IsEqualOf r u → OfSome (λ c. IsPairOf c.items) cs u
+equalities_of cs r e (match_test s) h = absurd h
+equalities_of cs r e (equal_test a b) h = let k = joined_one cs a b (e a b ∙ h) in (k.0, k.1, (a, k.2.0, (b, k.2.1, refl)))
+equalities_of cs r e (loop_test s) h = absurd h
+
+-- 3. what some rules need
+module _ (set : SiteSet) (ar : Around) (here : List ℕ) where
+  pub wanted_of : (i : ℕ) (r : SetRule) → slice_get set.rules i ≡ Some r → (u : Tests.Test) → IsWanted set.rules i u → IsMatchOf r u ⊎ IsEqualOf r u
+  wanted_of i r e (match_test s) h = inl (sym (ap (is_needed (match_test s)) e) ∙ h)
+  wanted_of i r e (equal_test a b) h = inr (sym (ap (is_needed (equal_test a b)) e) ∙ h)
+  wanted_of i r e (loop_test s) h = absurd h
+
+  -- the call of the site for its answers
+  abbrev call_of : Site → ℕ
+  call_of (iterator_site s) = s
+  call_of _ = 0
+
+  -- each call that a rule goes over has a site for its answers
+  loop_at : CanGrow set → (numbers : List ℕ) (s i : ℕ) → list_any (needs_at set.rules (loop_test s)) numbers ≡ true → (o : Option SetRule) → slice_get set.rules i ≡ o → needs_at set.rules (loop_test s) i ≡ true
+      → OfSome (IsLoopBy set.rules numbers) set.sites (loop_test s)
+  loop_at g numbers s i k None e n = absurd (false≢true (sym (ap (is_needed (loop_test s)) e) ∙ n))
+  loop_at g numbers s i k (Some r) e n =
+      let p = g.picks r s (member_from_get set.rules i r e) (member_found s r.iterators (sym (ap (is_needed (loop_test s)) e) ∙ n)) in
+      let q = one_passes (is_iterator_of s) set.sites p in
+      (q.0, q.1, (s, picks_call s q.0 q.2, refl, k))
+
+  pub loops_of : CanGrow set → (numbers : List ℕ) (u : Tests.Test) → IsLoopOf set.rules numbers u → OfSome (IsLoopBy set.rules numbers) set.sites u
+  loops_of g numbers (match_test s) k = absurd k
+  loops_of g numbers (equal_test a b) k = absurd k
+  loops_of g numbers (loop_test s) k = let m = one_passes (needs_at set.rules (loop_test s)) numbers k in loop_at g numbers s m.0 k (slice_get set.rules m.0) refl m.2
+
+  -- where all that the highest rules need is tried, other open tests cover no rule
+  abbrev highest : List ℕ
+  highest = filter (reaches set.rules (slice_get here 0)) here
+
+  needed_one : (u : Tests.Test) → list_any (needs_at set.rules u) highest ≡ true → OfSome (IsWanted set.rules) highest u ⊎ IsLoopOf set.rules highest u
+  needed_one (match_test s) k = inl (one_passes (needs_at set.rules (match_test s)) highest k)
+  needed_one (equal_test a b) k = inl (one_passes (needs_at set.rules (equal_test a b)) highest k)
+  needed_one (loop_test s) k = inr k
+
+  pub best_found : (top : List ℕ) (start some all : BestSearch) → top ≡ highest → SearchesMore set ar here (OfSome (IsWanted set.rules) top) start some → SearchesMore set ar here (IsLoopOf set.rules top) some all → IsBestOpen set ar here all.best
+  best_found top start some all e g h = record {
+    scored = h.now.best;
+    others = λ u o. elim (cases_Bool (list_any (needs_at set.rules u) highest)) [
+      | inl y ↦ elim (needed_one u y) [
+        | inl w ↦ inl (h.kept u (g.tried u o (subst (λ l. OfSome (IsWanted set.rules) l u) (sym e) w)))
+        | inr w ↦ inl (h.tried u o (subst (λ l. IsLoopOf set.rules l u) (sym e) w))
+      ]
+      | inr f ↦ inr (highest_need set.rules here u f)
+    ];
+  }
+
+-- of what is seen of some things
+pub of_seen : {X Y : Type 0} (f : X → Y) (Kind : Y → Tests.Test → Type 0) (xs : List X) (u : Tests.Test) → OfSome Kind (map f xs) u → OfSome (λ x. Kind (f x)) xs u
+of_seen f Kind xs u k = let m = from_map f xs k.0 k.1 in (m.0, m.1, subst (λ y. Kind y u) (sym m.2) k.2)

@@ -1,0 +1,23 @@
+mod ArmRuns
+mod ArmSteps
+mod AroundSteps
+mod Ascents
+mod AvailableSites
+mod BarSteps
+mod BestSearches
+mod BodySteps
+mod Descents
+mod EndSteps
+mod EqualSurroundings
+mod FieldLists
+mod FieldSteps
+mod Growth
+mod ListChanges
+mod ListedSites
+mod PlaceSteps
+mod StepsJoined
+mod Tables
+mod TestSteps
+mod UntriedTests
+mod WholeTrees
+pub mod TreeLaws

@@ -1,0 +1,156 @@
+-- Lists of what stands around a place that grow and are cut again.
+use Rattle.std.proofs.Common.{◌≡◌, ℕ, true, List, [], ◌++◌, Contains, length, map, take, refl, sym, ap, ◌∙◌, subst}
+use Rattle.std.specs.List.{remove}
+use Rattle.std.proofs.lemmas.Bool.{or_left}
+use Rattle.std.proofs.lemmas.List.{append_assoc, append-nil, take_at}
+use Rattle.model.specs.sites.Sites.{Site, SiteSet}
+use Rattle.model.specs.trees.Places.{class, is_in}
+use Rattle.core_containers.specs.Places.{Extends}
+use Rattle.core_serialize.specs.declared.around.Around.{Around}
+use Rattle.core_serialize.specs.declared.around.Mark.{Mark}
+use Rattle.core_serialize.specs.AroundViews.{around_view, Alike, after_uses, sites_of_pairs, where_emitted, where_joined, AreEmitted, NamesClasses}
+use Rattle.core_serialize.specs.Changes.{Emits, Goes, IsBack, IsCutBack, IsKept, IsMark, JoinsPair, TakesApart}
+use Rattle.core_serialize.proofs.Tables.{is_in_append}
+
+-- 1. lists with more at their ends
+pub extends_itself : (xs : List ℕ) → Extends xs xs
+extends_itself xs = ([], sym (append-nil xs))
+
+extends_same : (xs ys : List ℕ) → ys ≡ xs → Extends xs ys
+extends_same xs ys e = ([], e ∙ sym (append-nil xs))
+
+extends_more : (xs ys zs : List ℕ) → Extends xs ys → Extends ys zs → Extends xs zs
+extends_more xs ys zs e f = (e.0 ++ f.0, f.1 ∙ ap (λ l. l ++ f.0) e.1 ∙ append_assoc xs e.0 f.0)
+
+cut_back : (xs ys zs : List ℕ) (n : ℕ) → n ≡ length xs → Extends xs ys → zs ≡ take n ys → zs ≡ xs
+cut_back xs ys zs n m e c = c ∙ ap (λ k. take k ys) m ∙ ap (take (length xs)) e.1 ∙ take_at xs e.0 (length xs) refl
+
+extended_in : (xs ys : List ℕ) (s : ℕ) → Extends xs ys → is_in s xs ≡ true → is_in s ys ≡ true
+extended_in xs ys s e h = ap (is_in s) e.1 ∙ is_in_append s xs e.0 ∙ or_left (is_in s xs) (is_in s e.0) h
+
+-- 2. what stands around a place
+pub back_itself : (a : Around) → IsBack a a
+back_itself a = record { sources = refl; joined = refl; brought = refl; emitted = refl; closed = refl; names = refl }
+
+pub back_more : (a b c : Around) → IsBack a b → IsBack b c → IsBack a c
+back_more a b c h k = record {
+  sources = k.sources ∙ h.sources;
+  joined = k.joined ∙ h.joined;
+  brought = k.brought ∙ h.brought;
+  emitted = k.emitted ∙ h.emitted;
+  closed = k.closed ∙ h.closed;
+  names = k.names ∙ h.names;
+}
+
+pub emits_itself : (a : Around) → Emits a a
+emits_itself a = record { sources = refl; joined = refl; brought = refl; emitted = extends_itself a.emitted; closed = extends_itself a.closed; names = refl }
+
+pub emits_more : (a b c : Around) → Emits a b → Emits b c → Emits a c
+emits_more a b c h k = record {
+  sources = k.sources ∙ h.sources;
+  joined = k.joined ∙ h.joined;
+  brought = k.brought ∙ h.brought;
+  emitted = extends_more a.emitted b.emitted c.emitted h.emitted k.emitted;
+  closed = extends_more a.closed b.closed c.closed h.closed k.closed;
+  names = k.names ∙ h.names;
+}
+
+pub emits_back : (a b c : Around) → Emits a b → IsBack b c → Emits a c
+emits_back a b c h k = record {
+  sources = k.sources ∙ h.sources;
+  joined = k.joined ∙ h.joined;
+  brought = k.brought ∙ h.brought;
+  emitted = subst (Extends a.emitted) (sym k.emitted) h.emitted;
+  closed = subst (Extends a.closed) (sym k.closed) h.closed;
+  names = k.names ∙ h.names;
+}
+
+-- cut to where they were
+pub emits_cut : (a b c : Around) (m : Mark) → IsMark a m → Emits a b → IsCutBack b m c → IsBack a c
+emits_cut a b c m k h t = record {
+  sources = cut_back a.sources b.sources c.sources m.sources k.sources (extends_same a.sources b.sources h.sources) t.sources;
+  joined = t.joined ∙ h.joined;
+  brought = cut_back a.brought b.brought c.brought m.brought k.brought (extends_same a.brought b.brought h.brought) t.brought;
+  emitted = cut_back a.emitted b.emitted c.emitted m.emitted k.emitted h.emitted t.emitted;
+  closed = cut_back a.closed b.closed c.closed m.closed k.closed h.closed t.closed;
+  names = t.names ∙ h.names;
+}
+
+pub goes_cut : (a b c d : Around) (m : Mark) → IsMark a m → Goes a b → IsBack b c → IsCutBack c m d → IsBack a d
+goes_cut a b c d m k h r t = record {
+  sources = cut_back a.sources c.sources d.sources m.sources k.sources (subst (Extends a.sources) (sym r.sources) h.sources) t.sources;
+  joined = t.joined ∙ r.joined ∙ h.joined;
+  brought = cut_back a.brought c.brought d.brought m.brought k.brought (subst (Extends a.brought) (sym r.brought) h.brought) t.brought;
+  emitted = cut_back a.emitted c.emitted d.emitted m.emitted k.emitted (subst (Extends a.emitted) (sym r.emitted) h.emitted) t.emitted;
+  closed = cut_back a.closed c.closed d.closed m.closed k.closed (subst (Extends a.closed) (sym r.closed) h.closed) t.closed;
+  names = t.names ∙ r.names ∙ h.names;
+}
+
+-- where nothing is joined, nothing is named
+pub no_names : (a : Around) → a.joined.items ≡ [] → a.names.items ≡ [] → NamesClasses a.joined.items a.names.items
+no_names a j n = n ∙ ap (λ ps. map (λ s. (s, class ps s)) (sites_of_pairs ps)) (sym j)
+
+-- names stay those of the same pairs
+pub still_named : (a b : Around) → b.joined.items ≡ a.joined.items → b.names.items ≡ a.names.items → NamesClasses a.joined.items a.names.items → NamesClasses b.joined.items b.names.items
+still_named a b j n h = n ∙ h ∙ ap (λ ps. map (λ s. (s, class ps s)) (sites_of_pairs ps)) (sym j)
+
+-- closed sites stay emitted
+pub kept_back : (sites : List Site) (a b : Around) → IsBack a b → IsKept sites a → IsKept sites b
+kept_back sites a b h k = record {
+  closed = record { whole = λ s x c u. subst (λ l. Contains l x) (sym h.closed) (k.closed.whole s x (subst (λ l. Contains l s) h.closed c) u) };
+  within = λ s e. ap (is_in s) h.emitted ∙ k.within s (sym (ap (is_in s) h.closed) ∙ e);
+  named = still_named a b h.joined h.names k.named;
+}
+
+pub kept_goes : (sites : List Site) (a b : Around) → Goes a b → b.closed ≡ a.closed → IsKept sites a → IsKept sites b
+kept_goes sites a b h q k = record {
+  closed = record { whole = λ s x c u. subst (λ l. Contains l x) (sym q) (k.closed.whole s x (subst (λ l. Contains l s) q c) u) };
+  within = λ s e. extended_in a.emitted b.emitted s h.emitted (k.within s (sym (ap (is_in s) q) ∙ e));
+  named = still_named a b h.joined h.names k.named;
+}
+
+-- 3. what is said of it
+pub same_view : (a b : Around) → IsBack a b → around_view b ≡ around_view a
+same_view a b h =
+    let s = h.sources in
+    let j = h.joined in
+    let r = h.brought in
+    let e = h.emitted in
+    λ i. record { tested = []; joined = j i; looped = s i; brought = r i; emitted = e i }
+
+pub emits_view : (a b : Around) → Emits a b → around_view b ≡ where_emitted (around_view a) b.emitted
+emits_view a b h =
+    let s = h.sources in
+    let j = h.joined in
+    let r = h.brought in
+    λ i. record { tested = []; joined = j i; looped = s i; brought = r i; emitted = b.emitted }
+
+pub emits_alike : (set : SiteSet) (a b : Around) (used : List ℕ) → Emits a b → AreEmitted set (around_view a) used b.emitted → Alike (around_view b) (after_uses set (around_view a) used)
+emits_alike set a b used h k = record { sources = λ s. ap (is_in s) h.sources; joined = h.joined; brought = λ s. ap (is_in s) h.brought; emitted = k }
+
+-- one more pair
+pub joined_view : (a b : Around) (x y : ℕ) → JoinsPair x y a b → around_view b ≡ where_joined (around_view a) x y
+joined_view a b x y h =
+    let s = h.sources in
+    let j = h.joined in
+    let r = h.brought in
+    let e = h.emitted in
+    λ i. record { tested = []; joined = j i; looped = s i; brought = r i; emitted = e i }
+
+pub kept_joined : (sites : List Site) (a b : Around) (x y : ℕ) → JoinsPair x y a b → IsKept sites a → IsKept sites b
+kept_joined sites a b x y h k = record {
+  closed = record { whole = λ s z c u. subst (λ l. Contains l z) (sym h.closed) (k.closed.whole s z (subst (λ l. Contains l s) h.closed c) u) };
+  within = λ s e. ap (is_in s) h.emitted ∙ k.within s (sym (ap (is_in s) h.closed) ∙ e);
+  named = h.named;
+}
+
+-- and taken apart again
+pub joined_back : (a b c d : Around) (x y : ℕ) (names : List (ℕ × ℕ)) → JoinsPair x y a b → IsBack b c → names ≡ a.names.items → TakesApart names c d → IsBack a d
+joined_back a b c d x y names h k n t = record {
+  sources = t.sources ∙ k.sources ∙ h.sources;
+  joined = t.joined ∙ ap (λ l. remove l 0) (k.joined ∙ h.joined);
+  brought = t.brought ∙ k.brought ∙ h.brought;
+  emitted = t.emitted ∙ k.emitted ∙ h.emitted;
+  closed = t.closed ∙ k.closed ∙ h.closed;
+  names = t.names ∙ n;
+}

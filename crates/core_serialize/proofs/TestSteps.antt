@@ -1,0 +1,130 @@
+-- Tests of a place by their scores: the better one of two, and bounds of scores.
+use Rattle.std.proofs.Common.{◌≡◌, ℕ, ◌≤◌, ◌==◌, ◌||◌, ◌&&◌, not, nat_lt, Bool, true, false, cond, length, ap, arith, eqb-true, eq-eqb, ltb-true, ltb-false, List, [], ◌∷◌, Option, Some, None, option_map, Contains, refl, sym, ◌∙◌, subst, inl, inr}
+use Rattle.std.specs.List.{filter}
+use Rattle.std.proofs.lemmas.Bool.{cases_Bool, cond-true, cond-false, or_parts, false≢true}
+use Rattle.std.proofs.lemmas.List.Filters.{length-filter_both}
+use Rattle.model.specs.sites.Sites.{SiteSet}
+use Rattle.model.specs.trees.Places.{Around, is_in}
+use Rattle.model.specs.trees.Tests as Tests
+use Rattle.model.specs.trees.Sound.{as_number, or_later}
+use Rattle.model.specs.trees.Tests.{match_test, equal_test, loop_test, cover, is_covered, IsOpen, score, is_greater}
+use Rattle.model.proofs.Members.{in_head, in_tail}
+use Rattle.laws_trees.proofs.Scores.{scores_are_ordered_lem}
+use Rattle.core_serialize.specs.declared.tests.Test.{Test}
+use Rattle.core_serialize.specs.declared.tests.Scored.{Scored}
+use Rattle.core_serialize.specs.TestViews.{test_view, beats, counted_score, greater_test, IsNoBetter, IsOpenScored, IsScored}
+
+-- 1. filters
+module _ {X : Type 0} where
+  pub kept_alike : (p q : X → Bool) (xs : List X) → ((x : X) → Contains xs x → p x ≡ q x) → filter p xs ≡ filter q xs
+  kept_alike p q [] h = refl
+  kept_alike p q (x ∷ xs) h =
+      let e = h x (in_head x xs) in
+      let r = kept_alike p q xs (λ y c. h y (in_tail x y xs c)) in
+      λ i. cond (e i) (x ∷ r i) (r i)
+
+-- 2. the better one of two
+module _ (set : SiteSet) (ar : Around) (here : List ℕ) where
+  abbrev of : Test → Tests.Score
+  of t = score set ar here (test_view t)
+
+  below : (x y z : Tests.Score) → is_greater x y ≡ false → is_greater z y ≡ true → is_greater x z ≡ false
+  below x y z h k =
+      elim (cases_Bool (is_greater x z)) [
+        | inl t ↦ absurd (false≢true (sym h ∙ scores_are_ordered_lem.chain x z y t k))
+        | inr f ↦ f
+      ]
+
+  -- the better one is one of both
+  either : (P : Test → Type 0) (b t next : Test) → next ≡ greater_test set ar here (Some b) t → (beats set ar here t b ≡ true → P t) → (beats set ar here t b ≡ false → P b) → P next
+  either P b t next e better rest =
+      elim (cases_Bool (beats set ar here t b)) [
+        | inl y ↦ subst P (sym (e ∙ cond-true (beats set ar here t b) t b y)) (better y)
+        | inr f ↦ subst P (sym (e ∙ cond-false (beats set ar here t b) t b f)) (rest f)
+      ]
+
+  abbrev test_of : Scored → Test
+  test_of s = s.test
+
+  pub no_better_kept : (best : Option Scored) (t : Test) (next : Scored) → next.test ≡ greater_test set ar here (option_map test_of best) t → IsOpenScored set ar here best → IsScored set ar here next
+      → (u : Tests.Test) → IsNoBetter set ar here best u → IsNoBetter set ar here (Some next) u
+  no_better_kept None t next e o k u n = absurd n
+  no_better_kept (Some b) t next e o k u n =
+      let than : is_greater (score set ar here u) (of b.test) ≡ false = subst (λ v. is_greater (score set ar here u) v ≡ false) o.1 n in
+      subst (λ v. is_greater (score set ar here u) v ≡ false) (sym k)
+      (either (λ x. is_greater (score set ar here u) (of x) ≡ false) b.test t next.test e (λ y. below (score set ar here u) (of b.test) (of t) than y) (λ f. than))
+
+  pub no_better_itself : (best : Option Scored) (t : Test) (next : Scored) → next.test ≡ greater_test set ar here (option_map test_of best) t → IsScored set ar here next → IsNoBetter set ar here (Some next) (test_view t)
+  no_better_itself None t next e k = subst (λ v. is_greater (of t) v ≡ false) (sym (k ∙ ap of e)) (scores_are_ordered_lem.itself (of t))
+  no_better_itself (Some b) t next e k = subst (λ v. is_greater (of t) v ≡ false) (sym k) (either (λ x. is_greater (of t) (of x) ≡ false) b.test t next.test e (λ y. scores_are_ordered_lem.itself (of t)) (λ f. f))
+
+  pub greater_open : (best : Option Scored) (t : Test) (next : Scored) → next.test ≡ greater_test set ar here (option_map test_of best) t → IsOpen set ar (test_view t) → IsOpenScored set ar here best → IsOpen set ar (test_view next.test)
+  greater_open None t next e o h = subst (λ x. IsOpen set ar (test_view x)) (sym e) o
+  greater_open (Some b) t next e o h = either (λ x. IsOpen set ar (test_view x)) b.test t next.test e (λ y. o) (λ f. h.0)
+
+-- 3. bounds
+-- a score is that by the count of what the test covers
+pub score_counted : (set : SiteSet) (ar : Around) (here : List ℕ) (t : Tests.Test) (n : ℕ) → n ≡ length (cover set.rules here t) → counted_score ar t n ≡ score set ar here t
+score_counted set ar here (match_test s) n e = ap (counted_score ar (match_test s)) e
+score_counted set ar here (equal_test a b) n e = ap (counted_score ar (equal_test a b)) e
+score_counted set ar here (loop_test s) n e = ap (counted_score ar (loop_test s)) e
+
+-- where a number that is no less makes a score no greater, whatever is compared behind it, neither does a lesser one
+fewer : (n m y : ℕ) (later other : Bool) → m ≤ n → (later ≡ false → other ≡ false) → or_later (nat_lt y n) (n == y) later ≡ false → or_later (nat_lt y m) (m == y) other ≡ false
+fewer n m y later other l up h =
+    let p = or_parts (nat_lt y n) ((n == y) && later) h in
+    let k = ltb-false y n p.0 in
+    elim (cases_Bool (nat_lt y m)) [
+      | inl t ↦ let q = ltb-true y m t in absurd (omega (arith, q, l, k))
+      | inr f ↦
+          ap (λ b. b || ((m == y) && other)) f
+          ∙ elim (cases_Bool (m == y)) [
+            | inl t ↦
+                let e = eqb-true m y t in
+                let same : n ≡ y = omega (arith, e, l, k) in
+                ap (λ b. b && other) t ∙ up (sym (ap (λ b. b && later) (eq-eqb n y same)) ∙ p.1)
+            | inr g ↦ ap (λ b. b && other) g
+          ]
+    ]
+
+-- nor does one that is the same
+behind_same : (x y later other : Bool) → (later ≡ false → other ≡ false) → or_later x y later ≡ false → or_later x y other ≡ false
+behind_same true y later other up h = h
+behind_same false true later other up h = up h
+behind_same false false later other up h = refl
+
+fewer_counted : (ar : Around) (t : Tests.Test) (y : Tests.Score) (n m : ℕ) → m ≤ n → is_greater (counted_score ar t n) y ≡ false → is_greater (counted_score ar t m) y ≡ false
+fewer_counted ar (match_test s) y n m l h = fewer n m y.count _ _ l (λ e. e) h
+fewer_counted ar (equal_test a b) y n m l h = fewer n m y.count _ _ l (λ e. e) h
+fewer_counted ar (loop_test s) y n m l h = fewer n m y.count _ _ l (λ e. e) h
+
+pub below_bound : (set : SiteSet) (ar : Around) (here : List ℕ) (t : Tests.Test) (y : Tests.Score) (n : ℕ) → n ≡ length here → is_greater (counted_score ar t n) y ≡ false → is_greater (score set ar here t) y ≡ false
+below_bound set ar here t y n e h =
+    let both = length-filter_both (is_covered set.rules here t) (λ i. not (is_covered set.rules here t i)) (λ i. refl) here in
+    let most : length (cover set.rules here t) ≤ n = omega (arith, both, e) in
+    ap (λ x. is_greater x y) (sym (score_counted set ar here t (length (cover set.rules here t)) refl)) ∙ fewer_counted ar t y n (length (cover set.rules here t)) most h
+
+-- the equalities of a site, where both sites are emitted as one bound says
+pub pair_below : (set : SiteSet) (ar : Around) (here : List ℕ) (a b : ℕ) (are_joined : Bool) (y : Tests.Score) → (are_joined ≡ true → (is_in a ar.emitted && is_in b ar.emitted) ≡ false)
+    → is_greater (record { count = length here; emitted = as_number (is_in a ar.emitted && not are_joined); form = 1; site = a; other = 0 }) y ≡ false → is_greater (score set ar here (equal_test a b)) y ≡ false
+pair_below set ar here a b are_joined y none h =
+    let both = length-filter_both (is_covered set.rules here (equal_test a b)) (λ i. not (is_covered set.rules here (equal_test a b) i)) (λ i. refl) here in
+    let count = length (cover set.rules here (equal_test a b)) in
+    let most : count ≤ length here = omega (arith, both) in
+    fewer (length here) count y.count _ _ most
+    (fewer (as_number (is_in a ar.emitted && not are_joined)) (as_number (is_in a ar.emitted && is_in b ar.emitted)) y.emitted _ _ (emitted (is_in a ar.emitted) (is_in b ar.emitted) are_joined none)
+    (behind_same (nat_lt 1 y.form) (1 == y.form) _ _ (behind_same (nat_lt a y.site) (a == y.site) (nat_lt 0 y.other) (nat_lt b y.other) (no_other b y.other)))) h
+  where
+    emitted : (p q j : Bool) → (j ≡ true → (p && q) ≡ false) → as_number (p && q) ≤ as_number (p && not j)
+    emitted true true true h = absurd (false≢true (sym (h refl)))
+    emitted true false true h = omega arith
+    emitted true true false h = omega arith
+    emitted true false false h = omega arith
+    emitted false q j h = omega arith
+
+    no_other : (n m : ℕ) → nat_lt 0 m ≡ false → nat_lt n m ≡ false
+    no_other n m h =
+        elim (cases_Bool (nat_lt n m)) [
+          | inl t ↦ let k = ltb-true n m t in let g = ltb-false 0 m h in absurd (omega (arith, k, g))
+          | inr f ↦ f
+        ]

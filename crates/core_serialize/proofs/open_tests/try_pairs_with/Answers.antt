@@ -1,0 +1,25 @@
+use Rattle.std.proofs.Common.{subst}
+use Rattle.core_serialize.specs.NeededTests.{SearchesMore, IsPair, OfSome}
+use Rattle.core_serialize.specs.PlaceViews.{around_at, here_at, set_at}
+use Rattle.core_serialize.proofs.BestSearches.{searches_more, searches_none}
+use Rattle.core_serialize.proofs.open_tests.try_pairs_with.Goals as goal
+use Rattle.std.proofs.lemmas.List.{take_all}
+
+pub loop-b-init : goal.loop-b-init
+loop-b-init c = searches_none (set_at c.args.place.now) (around_at c.args.place.now) (here_at c.args.place.now) (IsPair c.args.a) c.args.search.now c.requires
+
+pub loop-b-preserved : goal.loop-b-preserved
+loop-b-preserved c =
+    let set = set_at c.args.place.now in
+    let ar = around_at c.args.place.now in
+    let here = here_at c.args.place.now in
+    let x = c.b-item.result in
+    searches_more set ar here (IsPair c.args.a) c.args.others.now c.loop-b.b-index x x c.args.search.now c.loop-b.search c.try_test.new.search
+    c.loop-b-test.true c.b-item.is c.loop-b.invariant c.in_ok-try_test.ensures
+
+pub returns : goal.returns
+returns c =
+    let set = set_at c.args.place.now in
+    let ar = around_at c.args.place.now in
+    let here = here_at c.args.place.now in
+    subst (λ l. SearchesMore set ar here (OfSome (IsPair c.args.a) l) c.args.search.now c.loop-b.search) (take_all c.loop-b.b-index c.args.others.now c.loop-b-test.false) c.loop-b.invariant

@@ -1,0 +1,10 @@
+pub mod ArmOrder
+pub mod AroundViews
+pub mod Bars
+pub mod Changes
+pub mod FieldTests
+pub mod Growing
+pub mod NeededTests
+pub mod PlaceViews
+pub mod TestViews
+pub mod TreeViews

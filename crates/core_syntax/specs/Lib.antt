@@ -1,0 +1,9 @@
+pub mod Answers
+pub mod ErrorViews
+pub mod Expressions
+pub mod NotedErrors
+pub mod Patterns
+pub mod Places
+pub mod Positions
+pub mod Stable
+pub mod SyntaxViews

@@ -1,0 +1,17 @@
+pub mod Converting
+pub mod ExternStages
+pub mod Externing
+pub mod ReadTerms
+pub mod Reading
+pub mod Recursion
+pub mod ShownTables
+pub mod SignatureViews
+pub mod Signing
+pub mod Stages
+pub mod Templating
+pub mod TermBreaches
+pub mod TermErrors
+pub mod TermPositions
+pub mod TermTables
+pub mod TermViews
+pub mod Terms

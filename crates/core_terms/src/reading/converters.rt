@@ -1,0 +1,116 @@
+//! How converters are read: each is the term that a conversion from one type to another calls.
+
+ghost use Rattle.std.specs.Prelude.{◌≡◌, [], ◌∷◌, OnOk};
+ghost use Rattle.model.specs.claims.Environments.{TypesRead, AreReadable};
+ghost use Rattle.core_syntax.specs.Positions.{NotesAt, converter_positions, definition_positions, positions_of};
+ghost use Rattle.core_syntax.specs.SyntaxViews.{converter_view, definition_view, definition_views, position};
+ghost use Rattle.core_syntax.specs.NotedErrors.{NotesMore};
+ghost use Rattle.core_types.specs.ToldErrors.{Notes, NotesEach};
+ghost use Rattle.core_terms.specs.TermErrors.{TellsOfConverter};
+ghost use Rattle.core_terms.specs.Reading.{IsWithin};
+ghost use Rattle.core_terms.specs.TermBreaches.{of_converters};
+ghost use Rattle.core_terms.specs.Signing.{ReadsTerms};
+ghost use Rattle.core_terms.specs.Converting.{ConvertersRead, ReadsConverter, ReadsIfConverter};
+
+use crate::reading::report_name;
+use crate::term_table::TermTable;
+use core_syntax::syntax::{Converter, Def, Error};
+use core_types::{TypeEnv, report};
+use std::alloc::AllocError;
+
+impl TermTable {
+    // Reads all converters.
+    pub(crate) fn read_converters(
+        &mut self,
+        tyenv: &TypeEnv,
+        errors: &mut Vec<Error>,
+        defs: &[Def],
+    ) -> Result<(), AllocError>
+        ghost read: { TypesRead }
+        requires readable { AreReadable read }
+        requires start { ReadsTerms read of_converters (definition_views defs.now)
+            (ConvertersRead read (definition_views defs.now) []) tyenv.now self.old errors.old.items }
+        requires none { errors.old.items ≡ [] }
+        ensures reads { OnOk result (ReadsTerms read of_converters (definition_views defs.now)
+            (ConvertersRead read (definition_views defs.now) (definition_views defs.now)) tyenv.now self.new errors.new.items) }
+        ensures places { OnOk result (NotesAt (positions_of (definition_views defs.now)) errors.old.items errors.new.items) }
+        ensures terms { self.new.terms ≡ self.old.terms }
+        ensures told { OnOk result (NotesEach (TellsOfConverter read.known (definition_views defs.now))
+            (definition_views defs.now) errors.old.items errors.new.items) }
+    {
+        for def in defs {
+            self.read_if_converter(tyenv, errors, def)?;
+        }
+        Ok(())
+    }
+
+    // Reads a definition, if it is a converter.
+    #[tactic(auto, using(core_syntax::proofs::Positioned::notes_nothing))]
+    fn read_if_converter(
+        &mut self,
+        tyenv: &TypeEnv,
+        errors: &mut Vec<Error>,
+        def: &Def,
+    ) -> Result<(), AllocError>
+        requires { IsWithin self.old }
+        ensures within { OnOk result (IsWithin self.new) }
+        ensures reads { OnOk result (ReadsIfConverter (definition_view def.now) tyenv.now self.old errors.old.items self.new errors.new.items) }
+        ensures places { OnOk result (NotesAt (definition_positions (definition_view def.now)) errors.old.items errors.new.items) }
+        ensures terms { self.new.terms ≡ self.old.terms }
+    {
+        let Def::Converter(converter) = def else {
+            return Ok(());
+        };
+        self.read_converter(tyenv, errors, converter)
+    }
+
+    // Reads a converter: the first one of a pair of types.
+    #[tactic(auto, using(core_syntax::proofs::Positioned::notes_nothing))]
+    fn read_converter(
+        &mut self,
+        tyenv: &TypeEnv,
+        errors: &mut Vec<Error>,
+        converter: &Converter,
+    ) -> Result<(), AllocError>
+        requires { IsWithin self.old }
+        ensures within { OnOk result (IsWithin self.new) }
+        ensures reads { OnOk result (ReadsConverter (converter_view converter.now) tyenv.now self.old errors.old.items self.new errors.new.items) }
+        ensures places { OnOk result (NotesAt (converter_positions (converter_view converter.now)) errors.old.items errors.new.items) }
+        ensures terms { self.new.terms ≡ self.old.terms }
+    {
+        let Some(inner) = tyenv.get_type_by_name(&converter.inner_ty) else {
+            let what = "Unknown inner type for converter:";
+            let name = &converter.inner_ty;
+            return report_name(errors, name.1, what, name);
+        };
+        let Some(outer) = tyenv.get_type_by_name(&converter.outer_ty) else {
+            let what = "Unknown outer type for converter:";
+            let name = &converter.outer_ty;
+            return report_name(errors, name.1, what, name);
+        };
+        let Some(term) = self.find_term(tyenv, &converter.term) else {
+            let what = "Unknown term for converter:";
+            let name = &converter.term;
+            return report_name(errors, name.1, what, name);
+        };
+        if self.converters.contains_key(&(inner, outer)) {
+            return report_converted(errors, converter);
+        }
+        self.converters.insert((inner, outer), term)?;
+        Ok(())
+    }
+}
+
+// Notes a converter of a pair of types that has one already.
+fn report_converted(errors: &mut Vec<Error>, converter: &Converter) -> Result<(), AllocError>
+    ensures noted { OnOk result (NotesMore errors.old.items errors.new.items) }
+    ensures places { OnOk result (NotesAt (position converter.now.pos ∷ []) errors.old.items errors.new.items) }
+    ensures told { OnOk result (Notes 1 (position converter.now.pos ∷ []) errors.old.items errors.new.items) }
+{
+    let alloc = *errors.allocator();
+    let msg = format!(in alloc;
+        "Converter already exists for this type pair: '{}', '{}'",
+        converter.inner_ty.0, converter.outer_ty.0
+    )?;
+    report(errors, converter.pos, msg.as_str())
+}

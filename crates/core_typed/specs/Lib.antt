@@ -1,0 +1,9 @@
+pub mod BoundEntries
+pub mod Elaborating
+pub mod ExprViews
+pub mod FirstErrors
+pub mod PatternViews
+pub mod RuleNaming
+pub mod RuleViews
+pub mod VisitAnswers
+pub mod VisitorSteps

@@ -1,0 +1,137 @@
+//! What is checked of literals and of counts, in patterns and in expressions alike. What is wrong is noted.
+
+ghost use Rattle.std.specs.Prelude.{◌≡◌, true, [], ◌∷◌, OnOk, Some, option_map, slice_get};
+ghost use Rattle.core_syntax.specs.Positions.{NotesAt};
+ghost use Rattle.core_syntax.specs.SyntaxViews.{position};
+ghost use Rattle.model.specs.lists.Ranges.{reduced};
+ghost use Rattle.model.specs.rules.Values.{is_atom_type};
+ghost use Rattle.core_types.specs.Envs.{constant_at};
+ghost use Rattle.core_types.specs.TypeViews.{type_view, type_views};
+ghost use Rattle.core_typed.specs.Elaborating.{Checks};
+
+use crate::reports::{report, type_text};
+use core_syntax::syntax::{Error, Ident, Pos};
+use core_types::{BuiltinType, Sym, Type, TypeEnv, TypeId};
+use std::alloc::AllocError;
+use std::fmt::Display;
+
+/// Whether integers stand for values of the type: of a built-in integer type, or of a primitive one.
+#[tactic(auto, using(core_syntax::proofs::Positioned::notes_nothing))]
+pub fn check_integer(
+    tyenv: &TypeEnv,
+    errors: &mut Vec<Error>,
+    pos: Pos,
+    val: i128,
+    ty: TypeId,
+) -> Result<(), AllocError>
+    ensures checks { OnOk result (Checks errors.old.items errors.new.items (is_atom_type (slice_get (type_views tyenv.now.types.items) ty.0) ≡ true)) }
+    ensures places { OnOk result (NotesAt (position pos ∷ []) errors.old.items errors.new.items) }
+{
+    if has_integers(tyenv, ty) {
+        return Ok(());
+    }
+    let name = type_text(tyenv, ty);
+    let msg = format_args!("expected non-integer type {name}, but found integer literal '{val}'");
+    report(errors, pos, msg)
+}
+
+// Whether integers stand for values of the type.
+fn has_integers(tyenv: &TypeEnv, ty: TypeId) -> bool
+    ensures { result ≡ is_atom_type (slice_get (type_views tyenv.now.types.items) ty.0) }
+{
+    match tyenv.types.get(ty.index()) {
+        Some(known) => known.is_int() || known.is_prim(),
+        None => false,
+    }
+}
+
+/// The number that an integer literal of a type stands for: at a built-in integer type the one of its range, else the
+/// one that is written.
+pub fn literal_number(tyenv: &TypeEnv, ty: TypeId, val: i128) -> i128
+    ensures { result ≡ reduced (slice_get (type_views tyenv.now.types.items) ty.0) val }
+{
+    match tyenv.types.get(ty.index()) {
+        Some(known) => number_at(known, val),
+        None => val,
+    }
+}
+
+// The number that an integer literal of a type that is known stands for.
+fn number_at(ty: &Type, val: i128) -> i128
+    ensures { result ≡ reduced (Some (type_view ty.now)) val }
+{
+    match ty {
+        Type::Builtin(BuiltinType::Int(int)) => int.reduce(val),
+        Type::Builtin(BuiltinType::Bool)
+        | Type::Primitive(..)
+        | Type::Enum { .. }
+        | Type::Struct { .. } => val,
+    }
+}
+
+/// Whether the type is that of truth values.
+#[tactic(auto, using(core_syntax::proofs::Positioned::notes_nothing))]
+pub fn check_bool(
+    tyenv: &TypeEnv,
+    errors: &mut Vec<Error>,
+    pos: Pos,
+    val: bool,
+    ty: TypeId,
+) -> Result<(), AllocError>
+    ensures checks { OnOk result (Checks errors.old.items errors.new.items (ty.0 ≡ 0)) }
+    ensures places { OnOk result (NotesAt (position pos ∷ []) errors.old.items errors.new.items) }
+{
+    if ty == TypeId::BOOL {
+        return Ok(());
+    }
+    let name = type_text(tyenv, ty);
+    let msg = format_args!("Boolean literal '{val}' has type bool but we need {name} in context");
+    report(errors, pos, msg)
+}
+
+/// Whether a type is the one that is wanted; else this is noted.
+#[tactic(auto, using(core_syntax::proofs::Positioned::notes_nothing))]
+pub fn check_same<M: Display + Drop>(
+    errors: &mut Vec<Error>,
+    pos: Pos,
+    has: TypeId,
+    want: TypeId,
+    msg: M,
+) -> Result<(), AllocError>
+    ensures checks { OnOk result (Checks errors.old.items errors.new.items (has.0 ≡ want.0)) }
+    ensures places { OnOk result (NotesAt (position pos ∷ []) errors.old.items errors.new.items) }
+{
+    if has == want {
+        return Ok(());
+    }
+    report(errors, pos, msg)
+}
+
+/// Whether there are as many arguments as the term has.
+#[tactic(auto, using(core_syntax::proofs::Positioned::notes_nothing))]
+pub fn check_count(
+    errors: &mut Vec<Error>,
+    pos: Pos,
+    term: &Ident,
+    got: usize,
+    expect: usize,
+) -> Result<(), AllocError>
+    ensures checks { OnOk result (Checks errors.old.items errors.new.items (got ≡ expect)) }
+    ensures places { OnOk result (NotesAt (position pos ∷ []) errors.old.items errors.new.items) }
+{
+    if got == expect {
+        return Ok(());
+    }
+    let name = term.0.as_str();
+    let msg = format_args!(
+        "Incorrect argument count for term '{name}': got {got}, expect {expect}"
+    );
+    report(errors, pos, msg)
+}
+
+/// The type of the constant of a name.
+pub fn constant_type(tyenv: &TypeEnv, name: Sym) -> Option<TypeId>
+    ensures { option_map (λ t. t.0) result ≡ constant_at tyenv.now name.0 }
+{
+    tyenv.const_types.get(&name).copied()
+}

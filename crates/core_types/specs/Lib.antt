@@ -1,0 +1,17 @@
+pub mod Builtin
+pub mod ConstantReading
+pub mod EnvViews
+pub mod Envs
+pub mod FieldReading
+pub mod IntRanges
+pub mod Promises
+pub mod Reading
+pub mod Stages
+pub mod ToldErrors
+pub mod TypeBreaches
+pub mod TypeErrors
+pub mod TypePositions
+pub mod TypeTables
+pub mod TypeViews
+pub mod Types
+pub mod VariantReading

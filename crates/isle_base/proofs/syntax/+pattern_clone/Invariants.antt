@@ -1,7 +1,0 @@
-use Rattle.std.proofs.Common.{◌≡◌, drop}
-use Rattle.isle_base.specs.SyntaxViews.{pattern_views}
-use Rattle.isle_base.proofs.PatternViews.{before}
-use Rattle.isle_base.proofs.syntax.+pattern_clone.Given as goal
-
-abbrev pub invariant-pattern_clones-loop-part : goal.invariant-pattern_clones-loop-part
-invariant-pattern_clones-loop-part l = before l.out.items (pattern_views (drop l.part-index l.parts)) ≡ pattern_views l.parts

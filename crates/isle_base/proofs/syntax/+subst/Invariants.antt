@@ -1,9 +1,0 @@
-use Rattle.std.proofs.Common.{◌≡◌, drop, map}
-use Rattle.isle_base.specs.SyntaxViews.{pattern_view, pattern_views}
-use Rattle.model.specs.lists.Expansions.{all_substituted}
-use Rattle.isle_base.proofs.PatternViews.{after}
-use Rattle.isle_base.proofs.syntax.+subst.Given as goal
-
-abbrev pub invariant-subst_each-loop-part : goal.invariant-subst_each-loop-part
-invariant-subst_each-loop-part l =
-    after l.out.items (all_substituted (map pattern_view l.macro_args) (pattern_views (drop l.part-index l.parts))) ≡ all_substituted (map pattern_view l.macro_args) (pattern_views l.parts)

@@ -1,5 +1,0 @@
-use Rattle.std.proofs.Common.{refl}
-use Rattle.isle_builder.proofs.builder_rules.RuleSetBuilderRuleVisitor.expr_as_pattern.Goals as goal
-
-pub returns : goal.returns
-returns c before v h there nothing_else = (refl, c.in_ok-ask_unwrapped.ensures before v h there nothing_else)

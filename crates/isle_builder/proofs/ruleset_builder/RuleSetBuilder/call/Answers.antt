@@ -1,5 +1,0 @@
-use Rattle.isle_builder.proofs.BuilderSteps.{call_made}
-use Rattle.isle_builder.proofs.ruleset_builder.RuleSetBuilder.call.Goals as goal
-
-pub returns : goal.returns
-returns c = record { called = λ before v h l next. call_made before c.args.self.now v h c.push.new.self c.args.site l next c.in_ok-push.ensures.items }

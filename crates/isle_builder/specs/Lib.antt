@@ -1,2 +1,0 @@
-pub mod VisitedSites
-pub mod AddedRules

@@ -1,3 +1,0 @@
-mod EchoesFit
-mod EchoesApart
-mod EchoSteps

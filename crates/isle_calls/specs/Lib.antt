@@ -1,2 +1,0 @@
-pub mod Echoes
-pub mod EchoLaws

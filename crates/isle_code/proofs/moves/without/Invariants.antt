@@ -1,6 +1,0 @@
-use Rattle.std.proofs.Common.{◌≡◌, ◌++◌, drop}
-use Rattle.code_model.specs.MovedOnce as Moved
-use Rattle.isle_code.proofs.moves.without.Given as goal
-
-abbrev pub invariant-loop-bound : goal.invariant-loop-bound
-invariant-loop-bound l = l.out.items ++ Moved.without l.site (drop l.bound-index l.inside) ≡ Moved.without l.site l.inside

@@ -1,8 +1,0 @@
-pub mod CodeViews
-pub mod HeldPasses
-pub mod HeldViews
-pub mod Labels
-pub mod CodeOf
-pub mod SeenTypes
-pub mod SiteHolds
-pub mod Spots

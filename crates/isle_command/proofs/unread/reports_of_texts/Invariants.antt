@@ -1,8 +1,0 @@
--- Each mistake so far has a report at its place.
-use Rattle.std.proofs.Common.{take}
-use Rattle.std.specs.List.{AllZip}
-use Rattle.isle_unread.specs.Places.{IsAtError}
-use Rattle.isle_command.proofs.unread.reports_of_texts.Given as goal
-
-abbrev pub invariant-loop-mistake : goal.invariant-loop-mistake
-invariant-loop-mistake l = AllZip IsAtError (take l.mistake-index l.mistakes) l.reports.items

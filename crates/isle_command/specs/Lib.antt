@@ -1,4 +1,0 @@
-pub mod Readings
-pub mod Codes
-pub mod TaskAnswers
-pub mod Statuses

@@ -1,5 +1,0 @@
-mod Puts
-mod Classes
-mod Togethers
-mod Merges
-mod Removals

@@ -1,6 +1,0 @@
-use Rattle.std.proofs.Common.{◌≡◌, take}
-use Rattle.isle_disjointsets.specs.Numbers.{sets_of}
-use Rattle.isle_disjointsets.proofs.disjointsets.members_copied.Given as goal
-
-abbrev pub invariant-loop-set : goal.invariant-loop-set
-invariant-loop-set g l = sets_of l.copy.items ≡ sets_of (take l.set-index l.members)

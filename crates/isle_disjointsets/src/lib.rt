@@ -1,4 +1,0 @@
-//! Partitions: sets of items that are apart from each other.
-#![tactic(auto)]
-
-pub mod disjointsets;

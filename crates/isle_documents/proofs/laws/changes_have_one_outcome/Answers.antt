@@ -1,5 +1,0 @@
-use Rattle.isle_documents.proofs.ChangeLemmas.{edits_one}
-use Rattle.isle_documents.proofs.laws.changes_have_one_outcome.Goals as goal
-
-pub returns : goal.returns
-returns c = edits_one

@@ -1,5 +1,0 @@
-use Rattle.isle_documents.proofs.PlaceLemmas.{each_cut}
-use Rattle.isle_documents.proofs.laws.cuts_have_places.Goals as goal
-
-pub returns : goal.returns
-returns c = each_cut

@@ -1,5 +1,0 @@
-use Rattle.isle_documents.proofs.EditLemmas.{edit_one}
-use Rattle.isle_documents.proofs.laws.edits_have_one_outcome.Goals as goal
-
-pub returns : goal.returns
-returns c = edit_one

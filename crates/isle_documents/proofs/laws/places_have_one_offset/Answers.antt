@@ -1,5 +1,0 @@
-use Rattle.isle_documents.proofs.OffsetLemmas.{offset_one}
-use Rattle.isle_documents.proofs.laws.places_have_one_offset.Goals as goal
-
-pub returns : goal.returns
-returns c = offset_one

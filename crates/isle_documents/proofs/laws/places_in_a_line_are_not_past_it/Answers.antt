@@ -1,5 +1,0 @@
-use Rattle.isle_documents.proofs.OffsetLemmas.{past_not_at}
-use Rattle.isle_documents.proofs.laws.places_in_a_line_are_not_past_it.Goals as goal
-
-pub returns : goal.returns
-returns c = past_not_at

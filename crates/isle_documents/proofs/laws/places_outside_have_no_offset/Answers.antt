@@ -1,5 +1,0 @@
-use Rattle.isle_documents.proofs.OffsetLemmas.{outside}
-use Rattle.isle_documents.proofs.laws.places_outside_have_no_offset.Goals as goal
-
-pub returns : goal.returns
-returns c = outside

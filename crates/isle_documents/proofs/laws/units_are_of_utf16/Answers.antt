@@ -1,5 +1,0 @@
-use Rattle.isle_documents.proofs.UnitLemmas.{units-length}
-use Rattle.isle_documents.proofs.laws.units_are_of_utf16.Goals as goal
-
-pub returns : goal.returns
-returns c = units-length

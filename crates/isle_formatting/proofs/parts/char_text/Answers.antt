@@ -1,6 +1,0 @@
-use Rattle.std.proofs.Common.{◌≡◌, [], ◌∷◌, ◌++◌, subst, chars}
-use Rattle.std.specs.Prelude.{IfOk, string_bytes}
-use Rattle.isle_formatting.proofs.parts.char_text.Goals as goal
-
-pub returns : goal.returns
-returns c = subst (λ xs. IfOk c.with_char.result (λ made. chars (string_bytes made) ≡ xs ++ c.args.c ∷ [])) c.empty.ensures c.with_char.ensures

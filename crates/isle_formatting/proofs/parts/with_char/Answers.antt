@@ -1,5 +1,0 @@
-use Rattle.isle_formatting.proofs.Texts.{pushed_text}
-use Rattle.isle_formatting.proofs.parts.with_char.Goals as goal
-
-pub returns : goal.returns
-returns c = pushed_text c.args.text c.push.new.self c.args.c c.in_ok-push.ensures.bytes

@@ -1,8 +1,0 @@
-use Rattle.std.proofs.Common.{◌≡◌, option_map, take}
-use Rattle.model.specs.trees.Run.{bound_to}
-use Rattle.isle_interpreter.specs.RunViews.{env_view}
-use Rattle.isle_interpreter.specs.ValueViews.{content_view}
-use Rattle.isle_interpreter.proofs.env.bound.Given as goal
-
-abbrev pub invariant-loop-entry : goal.invariant-loop-entry
-invariant-loop-entry l = option_map (λ c. content_view c.now) l.found ≡ bound_to (env_view (take l.entry-index l.env)) l.site

@@ -1,7 +1,0 @@
-use Rattle.std.proofs.Common.{◌≡◌, drop}
-use Rattle.isle_interpreter.specs.ValueViews.{value_views}
-use Rattle.isle_interpreter.proofs.ValueSteps.{before}
-use Rattle.isle_interpreter.proofs.values.+value_clone.Given as goal
-
-abbrev pub invariant-value_clones-loop-part : goal.invariant-value_clones-loop-part
-invariant-value_clones-loop-part l = before l.out.items (value_views (drop l.part-index l.parts)) ≡ value_views l.parts

@@ -1,6 +1,0 @@
-use Rattle.std.proofs.Common.{◌≡◌, take}
-use Rattle.isle_interpreter.specs.SourceViews.{vars_view}
-use Rattle.isle_interpreter.proofs.vars.copied.Given as goal
-
-abbrev pub invariant-loop-entry : goal.invariant-loop-entry
-invariant-loop-entry l = vars_view l.copy.items ≡ vars_view (take l.entry-index l.vars)

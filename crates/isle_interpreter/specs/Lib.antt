@@ -1,3 +1,0 @@
-pub mod ValueViews
-pub mod RunViews
-pub mod SourceViews

@@ -1,9 +1,0 @@
-mod DistinctKeys
-mod Chains
-mod ListIteration
-mod Rows
-mod Ascents
-mod Orders
-mod SortedErrors
-mod Reporting
-mod OverlapCounts

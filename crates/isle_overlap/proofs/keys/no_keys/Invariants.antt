@@ -1,5 +1,0 @@
-use Rattle.std.proofs.Common.{◌≡◌, None, replicate}
-use Rattle.isle_overlap.proofs.keys.no_keys.Given as goal
-
-abbrev pub invariant-loop : goal.invariant-loop
-invariant-loop l = l.keys.items ≡ replicate l.counter None

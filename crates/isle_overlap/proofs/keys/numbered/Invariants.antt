@@ -1,7 +1,0 @@
-use Rattle.std.proofs.Common.{take}
-use Rattle.isle_rule_sets.specs.SiteViews.{set_rule_views}
-use Rattle.isle_overlap.specs.Keys.{AreKeyed, IsAskedNumber}
-use Rattle.isle_overlap.proofs.keys.numbered.Given as goal
-
-abbrev pub invariant-loop-rule : goal.invariant-loop-rule
-invariant-loop-rule l = AreKeyed (IsAskedNumber l.numbers l.site) (set_rule_views (take l.rule-index l.rules)) l.keys.items

@@ -1,7 +1,0 @@
-use Rattle.std.proofs.Common.{take}
-use Rattle.isle_rule_sets.specs.SiteViews.{set_rule_views}
-use Rattle.isle_overlap.specs.Keys.{AreKeyed, IsPriorityNumber}
-use Rattle.isle_overlap.proofs.keys.priorities.Given as goal
-
-abbrev pub invariant-loop-rule : goal.invariant-loop-rule
-invariant-loop-rule l = AreKeyed IsPriorityNumber (set_rule_views (take l.rule-index l.rules)) l.keys.items

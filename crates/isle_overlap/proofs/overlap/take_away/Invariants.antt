@@ -1,7 +1,0 @@
-use Rattle.std.proofs.Common.{◌≡◌, ◌-◌, take}
-use Rattle.isle_base.specs.declared.syntax.Pos.{Pos}
-use Rattle.isle_overlap.specs.Graphs.{unreported_at, position_count}
-use Rattle.isle_overlap.proofs.overlap.take_away.Given as goal
-
-abbrev pub invariant-loop-other : goal.invariant-loop-other
-invariant-loop-other l = (q : Pos) → unreported_at l.counts q ≡ unreported_at l.initial.counts q - position_count q (take l.other-index l.found)

@@ -1,4 +1,0 @@
-pub mod Lookups
-pub mod NameTexts
-pub mod Premises
-pub mod Walks

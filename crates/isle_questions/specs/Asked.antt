@@ -1,8 +1,0 @@
--- What words ask.
-use Rattle.std.specs.Prelude.{◌≡◌, ◌⊎◌, IsSome, Some}
-use Rattle.isle_questions.specs.declared.words.Conditions.{Conditions}
-use Rattle.isle_questions.specs.declared.words.Format.TheVariants.{Smt}
-
--- a single question is asked about: its text for a solver, or what a solver said of it
-abbrev pub IsOfOne : Conditions → Type 0
-IsOfOne asked = IsSome asked.answers ⊎ (asked.format ≡ Some Smt)

@@ -1,5 +1,0 @@
-use Rattle.isle_reader.proofs.Apart.{read_apart}
-use Rattle.isle_reader.proofs.laws.chunks_are_read_apart.Goals as goal
-
-pub returns : goal.returns
-returns c = read_apart

@@ -1,5 +1,0 @@
-use Rattle.isle_reader.proofs.Fronts.{same_front}
-use Rattle.isle_reader.proofs.laws.fronts_keep_their_mistake.Goals as goal
-
-pub returns : goal.returns
-returns c = same_front

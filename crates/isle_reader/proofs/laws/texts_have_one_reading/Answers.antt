@@ -1,5 +1,0 @@
-use Rattle.isle_reader.proofs.OneText.{one_text}
-use Rattle.isle_reader.proofs.laws.texts_have_one_reading.Goals as goal
-
-pub returns : goal.returns
-returns c = one_text

@@ -1,5 +1,0 @@
-use Rattle.isle_reader.proofs.SameTokens.{same_tokens}
-use Rattle.isle_reader.proofs.laws.white_space_says_nothing.Goals as goal
-
-pub returns : goal.returns
-returns c = same_tokens

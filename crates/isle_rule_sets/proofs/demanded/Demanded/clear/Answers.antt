@@ -1,8 +1,0 @@
-use Rattle.std.proofs.Common.{ap, ◌∙◌}
-use Rattle.std.specs.Prelude.{nat_eq}
-use Rattle.isle_disjointsets.specs.Partition.{together}
-use Rattle.isle_rule_sets.proofs.NotedSites.{none_together}
-use Rattle.isle_rule_sets.proofs.demanded.Demanded.clear.Goals as goal
-
-pub returns-clause-equated : goal.returns-clause-equated
-returns-clause-equated c a b = ap (λ l. together nat_eq l a b) c.new.ensures ∙ none_together a b

@@ -1,6 +1,0 @@
-use Rattle.std.proofs.Common.{sym}
-use Rattle.isle_rust.proofs.WrittenSteps.{alone_by_length}
-use Rattle.isle_rust.proofs.blocks.stands_alone.Goals as goal
-
-pub returns : goal.returns
-returns c = λ p. sym (alone_by_length p c.args.arms.now)

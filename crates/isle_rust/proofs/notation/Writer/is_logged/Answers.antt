@@ -1,6 +1,0 @@
-use Rattle.std.proofs.Common.{◌≡◌, refl}
-use Rattle.isle_rust.proofs.ProgramSteps.{said}
-use Rattle.isle_rust.proofs.notation.Writer.is_logged.Goals as goal
-
-pub returns : goal.returns
-returns c = said c.args.self.now (λ p. c.args.self.now.program.is_logged ≡ p.is_logged) (λ constants rules types. refl)

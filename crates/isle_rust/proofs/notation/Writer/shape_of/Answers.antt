@@ -1,9 +1,0 @@
-use Rattle.std.proofs.Common.{◌≡◌, ◌∙◌, ap}
-use Rattle.code_text.specs.ProgramNotation.{shape_of}
-use Rattle.isle_rust_tokens.specs.TokenViews.{owner_view}
-use Rattle.isle_rust.specs.Writers.{shape_view}
-use Rattle.isle_rust.proofs.ProgramSteps.{said}
-use Rattle.isle_rust.proofs.notation.Writer.shape_of.Goals as goal
-
-pub returns : goal.returns
-returns c = said c.args.self.now (λ p. shape_view c.form_of.result ≡ p.shape (owner_view c.args.owner)) (λ constants rules types. c.form_of.ensures ∙ ap shape_of c.fields_of.ensures)

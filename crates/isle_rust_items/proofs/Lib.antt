@@ -1,2 +1,0 @@
-mod Grown
-mod FileLines

@@ -1,7 +1,0 @@
--- The files that lines are of.
-use Rattle.isle_rust_items.specs.declared.lines.Lines.{Lines}
-use Rattle.isle_rust_items.specs.FilePlaces.{Sources}
-use Rattle.isle_rust_items.specs.SourceViews.{sources_view}
-
-abbrev pub lines_view : Lines → Sources
-lines_view l = sources_view l.files.now l.prefixes.now

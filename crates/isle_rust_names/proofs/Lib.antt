@@ -1,6 +1,0 @@
-mod GrownTexts
-mod HeldNames
-mod Segments
-mod Spellings
-mod Turns
-mod Variables

@@ -1,7 +1,0 @@
-use Rattle.std.proofs.Common.{take}
-use Rattle.isle_rust_names.specs.ClaimViews.{claim_views, owner_in}
-use Rattle.isle_rust_names.proofs.HeldNames.{IsHeld}
-use Rattle.isle_rust_names.proofs.claims.check_apart.Given as goal
-
-abbrev pub invariant-loop-claim : goal.invariant-loop-claim
-invariant-loop-claim l = IsHeld (claim_views (take l.claim-index l.claims)) (owner_in l.owners)

@@ -1,4 +1,0 @@
-mod CalleeNumbers
-mod HexDigits
-mod IntegerTexts
-mod PieceTexts

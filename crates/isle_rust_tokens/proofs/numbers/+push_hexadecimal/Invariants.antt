@@ -1,4 +1,0 @@
-use Rattle.isle_rust_tokens.proofs.numbers.+push_hexadecimal.Given as goal
-
-abbrev pub decreases-push_hexadecimal : goal.decreases-push_hexadecimal
-decreases-push_hexadecimal l = l.number

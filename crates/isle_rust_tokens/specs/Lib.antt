@@ -1,3 +1,0 @@
-pub mod TokenViews
-pub mod ProgramNames
-pub mod SettingViews

@@ -1,7 +1,0 @@
-use Rattle.std.proofs.Common.{◌∙◌, ap}
-use Rattle.model.specs.trees.Places.{is_in}
-use Rattle.isle_serialize.specs.PlaceViews.{around_at}
-use Rattle.isle_serialize.proofs.around.is_brought.Goals as goal
-
-pub returns : goal.returns
-returns c = c.contains.ensures ∙ ap (λ n. is_in n (around_at c.args.place.now).brought) c.number_of.ensures

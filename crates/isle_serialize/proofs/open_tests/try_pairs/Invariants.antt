@@ -1,6 +1,0 @@
-use Rattle.std.proofs.Common.{take}
-use Rattle.isle_serialize.specs.NeededTests.{SearchesAt, IsPairWith, OfSome}
-use Rattle.isle_serialize.proofs.open_tests.try_pairs.Given as goal
-
-abbrev pub invariant-loop-a : goal.invariant-loop-a
-invariant-loop-a l = SearchesAt l.place (OfSome (IsPairWith l.class) (take l.a-index l.class)) l.fn.search l.search

@@ -1,2 +1,0 @@
-pub mod SpecViews
-pub mod Digits

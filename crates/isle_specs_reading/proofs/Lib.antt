@@ -1,2 +1,0 @@
-mod ReadSpecs
-mod Numbered

@@ -1,5 +1,0 @@
-use Rattle.isle_specs.proofs.Digits.{bits_fit}
-use Rattle.isle_specs_reading.proofs.expressions.number.Goals as goal
-
-pub returns-in-None : goal.returns-in-None
-returns-in-None c = absurd (c.in-None.ensures (bits_fit c.args.radix c.args.each c.args.digits.now c.requires.lower c.requires.fits c.requires.bits))

@@ -1,9 +1,0 @@
-use Rattle.isle_specs.specs.SpecViews.{signature_view}
-use Rattle.isle_specs.specs.SpecGrammar.{signature_of}
-use Rattle.isle_reader.proofs.ReadOn.{put}
-use Rattle.isle_specs_reading.proofs.signatures.signatures.Goals as goal
-
-pub loop-form-preserved : goal.loop-form-preserved
-loop-form-preserved c =
-    put signature_of signature_view c.args.forms.now c.loop-form.form-index c.loop-form.signatures.items c.push.new.self.items c.form-item.result c.in_ok-signature.field-0
-    c.loop-form-test.true c.form-item.is c.in_ok-signature.ensures c.in_ok-push.ensures.items c.loop-form.invariant

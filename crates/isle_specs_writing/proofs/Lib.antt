@@ -1,9 +1,0 @@
-mod WordTests
-mod DigitTexts
-mod TreesRead
-mod BareTrees
-mod TwiceTrees
-mod TreesFit
-mod ItemsReadBack
-mod WovenText
-mod SpecTexts

@@ -1,8 +1,0 @@
-use Rattle.std.proofs.Common.{◌≡◌, map, drop}
-use Rattle.std.specs.List.{list_all}
-use Rattle.isle_specs.specs.SpecViews.{model_type_view}
-use Rattle.isle_specs_writing.specs.SpellableTrees.{signature_type_is_spellable}
-use Rattle.isle_specs_writing.proofs.spellable.types_are_spellable.Given as goal
-
-abbrev pub invariant-loop-ty : goal.invariant-loop-ty
-invariant-loop-ty l = list_all signature_type_is_spellable (map model_type_view (drop l.ty-index l.types)) ≡ list_all signature_type_is_spellable (map model_type_view l.types)

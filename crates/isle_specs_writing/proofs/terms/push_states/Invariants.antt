@@ -1,9 +1,0 @@
-use Rattle.std.proofs.Common.{◌≡◌, ◌++◌, map, drop, string_bytes}
-use Rattle.isle_writing.specs.Texts.{spaced}
-use Rattle.isle_specs_writing.specs.SpecForms.{forms_by, modifies_form}
-use Rattle.isle_specs.specs.SpecViews.{modifies_view}
-use Rattle.isle_specs_writing.proofs.terms.push_states.Given as goal
-
-abbrev pub invariant-loop-modifies : goal.invariant-loop-modifies
-invariant-loop-modifies l =
-    string_bytes l.out ++ spaced (forms_by modifies_form (map modifies_view (drop l.modifies-index l.states))) ≡ string_bytes l.fn.out ++ spaced (forms_by modifies_form (map modifies_view l.states))

@@ -1,6 +1,0 @@
-use Rattle.std.proofs.Common.{◌∙◌}
-use Rattle.isle_stacks.proofs.Tables.{has_place}
-use Rattle.isle_stacks.proofs.stacks.Stack.contains.Goals as goal
-
-pub returns : goal.returns
-returns c = c.is_some.ensures ∙ has_place c.args.self.now c.args.number c.place_of.result c.place_of.ensures

@@ -1,8 +1,0 @@
-use Rattle.std.proofs.Common.{refl}
-use Rattle.isle_base.specs.Positions.{definition_positions}
-use Rattle.isle_base.specs.SyntaxViews.{definition_view}
-use Rattle.isle_terms.proofs.NotedPositions.{placed_same}
-use Rattle.isle_terms.proofs.term_table.TermTable.read_if_extern.Goals as goal
-
-pub returns-in_default-clause-placed : goal.returns-in_default-clause-placed
-returns-in_default-clause-placed c = placed_same c.args.self.now c.args.self.now (definition_positions (definition_view c.args.def.now)) refl

@@ -1,7 +1,0 @@
-use Rattle.std.proofs.Common.{length, take}
-use Rattle.isle_typed.specs.RuleNaming.{AreCounts}
-use Rattle.isle_typed.specs.RuleViews.{rule_views}
-use Rattle.isle_typed.proofs.rule_names.count_rules.Given as goal
-
-abbrev pub invariant-loop-rule : goal.invariant-loop-rule
-invariant-loop-rule l = AreCounts (length l.terms) (rule_views (take l.rule-index l.rules.items)) l.counts.items

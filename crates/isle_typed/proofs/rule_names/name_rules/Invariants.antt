@@ -1,7 +1,0 @@
-use Rattle.isle_terms.specs.TermViews.{term_views}
-use Rattle.isle_typed.specs.RuleViews.{rule_views}
-use Rattle.isle_typed.proofs.NameSteps.{NamedUpTo}
-use Rattle.isle_typed.proofs.rule_names.name_rules.Given as goal
-
-abbrev pub invariant-loop-i : goal.invariant-loop-i
-invariant-loop-i l = NamedUpTo (term_views l.terms) (rule_views l.initial.rules.items) (rule_views l.rules.items) l.i

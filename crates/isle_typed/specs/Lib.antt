@@ -1,9 +1,0 @@
-pub mod PatternViews
-pub mod ExprViews
-pub mod RuleViews
-pub mod BoundEntries
-pub mod VisitorSteps
-pub mod VisitAnswers
-pub mod Elaborating
-pub mod FirstErrors
-pub mod RuleNaming

@@ -1,5 +1,0 @@
-use Rattle.isle_types.proofs.TypingConstants.{ConstantsUpTo}
-use Rattle.isle_types.proofs.type_env.TypeEnv.read_constants.Given as goal
-
-abbrev pub invariant-loop-def : goal.invariant-loop-def
-invariant-loop-def l = ConstantsUpTo l.defs l.def-index l.initial.errors.items l.self l.errors.items

@@ -1,9 +1,0 @@
-use Rattle.std.proofs.Common.{rules}
-use Rattle.isle_types.proofs.NotedPositions.{tuple_type_among}
-use Rattle.isle_types.proofs.ToldErrors.{noted_among}
-use Rattle.isle_base.specs.SyntaxViews.{tuple_field_view}
-use Rattle.isle_types.proofs.type_env.TypeEnv.read_tuple_field.Goals as goal
-
-pub returns-in_default : goal.returns-in_default
-returns-in_default c =
-    record { reads = (noted_among 1 _ _ _ _ (tuple_type_among (tuple_field_view c.args.field.now)) c.in_ok-report_unknown_type.ensures, search rules) }

@@ -1,8 +1,0 @@
-use Rattle.std.proofs.Common.{◌≡◌, drop}
-use Rattle.isle_base.specs.SyntaxViews.{definition_views}
-use Rattle.isle_writing.specs.Spellable.{first_unspelled}
-use Rattle.isle_writing.proofs.definitions.first_unspelled.Given as goal
-
-abbrev pub invariant-loop-def : goal.invariant-loop-def
-invariant-loop-def l =
-    first_unspelled (definition_views (drop l.def-index l.defs)) ≡ first_unspelled (definition_views l.defs)

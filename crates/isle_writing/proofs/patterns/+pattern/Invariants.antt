@@ -1,9 +1,0 @@
-use Rattle.std.proofs.Common.{◌≡◌, ◌++◌, drop, string_bytes}
-use Rattle.isle_base.specs.SyntaxViews.{pattern_views}
-use Rattle.isle_writing.specs.Forms.{pattern_forms}
-use Rattle.isle_writing.specs.Texts.{spaced}
-use Rattle.isle_writing.proofs.patterns.+pattern.Given as goal
-
-abbrev pub invariant-push_patterns-loop-pattern : goal.invariant-push_patterns-loop-pattern
-invariant-push_patterns-loop-pattern l =
-    string_bytes l.out ++ spaced (pattern_forms (pattern_views (drop l.pattern-index l.patterns))) ≡ string_bytes l.fn.out ++ spaced (pattern_forms (pattern_views l.patterns))

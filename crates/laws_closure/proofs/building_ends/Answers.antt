@@ -1,5 +1,0 @@
-use Rattle.laws_closure.proofs.building.SetsSoFar.{building_ends_lem}
-use Rattle.laws_closure.proofs.building_ends.Goals as goal
-
-pub returns : goal.returns
-returns c = building_ends_lem

@@ -1,5 +1,0 @@
-use Rattle.laws_closure.proofs.building.SetsSoFar.{building_goes_on_lem}
-use Rattle.laws_closure.proofs.building_goes_on.Goals as goal
-
-pub returns : goal.returns
-returns c = building_goes_on_lem

@@ -1,5 +1,0 @@
-use Rattle.laws_closure.proofs.built.WholeDemands.{built_demands_are_whole_lem}
-use Rattle.laws_closure.proofs.built_demands_are_whole.Goals as goal
-
-pub returns : goal.returns
-returns c = built_demands_are_whole_lem

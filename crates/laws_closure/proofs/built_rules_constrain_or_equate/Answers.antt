@@ -1,5 +1,0 @@
-use Rattle.laws_closure.proofs.built.ConstrainedOrEquated.{built_rules_constrain_or_equate_lem}
-use Rattle.laws_closure.proofs.built_rules_constrain_or_equate.Goals as goal
-
-pub returns : goal.returns
-returns c = built_rules_constrain_or_equate_lem

@@ -1,5 +1,0 @@
-use Rattle.laws_closure.proofs.built.CollectedSets.{are_collected_lem}
-use Rattle.laws_closure.proofs.built_sets_are_collected.Goals as goal
-
-pub returns : goal.returns
-returns c = are_collected_lem

@@ -1,5 +1,0 @@
-use Rattle.laws_closure.proofs.built.WellBuiltSets.{built_sets_are_tested_lem}
-use Rattle.laws_closure.proofs.built_sets_are_tested.Goals as goal
-
-pub returns : goal.returns
-returns c = built_sets_are_tested_lem

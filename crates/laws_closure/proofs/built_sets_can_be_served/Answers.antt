@@ -1,5 +1,0 @@
-use Rattle.laws_closure.proofs.built.ServedSets.{can_be_served_lem}
-use Rattle.laws_closure.proofs.built_sets_can_be_served.Goals as goal
-
-pub returns : goal.returns
-returns c = can_be_served_lem

@@ -1,5 +1,0 @@
-use Rattle.laws_closure.proofs.overlaps.Errors.{check_errors_name_left_out_lem}
-use Rattle.laws_closure.proofs.check_errors_name_left_out.Goals as goal
-
-pub returns : goal.returns
-returns c = check_errors_name_left_out_lem

@@ -1,5 +1,0 @@
-use Rattle.laws_closure.proofs.WholeClosing.{closing_is_whole_lem}
-use Rattle.laws_closure.proofs.closing_is_whole.Goals as goal
-
-pub returns : goal.returns
-returns c = closing_is_whole_lem

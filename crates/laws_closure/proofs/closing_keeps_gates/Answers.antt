@@ -1,5 +1,0 @@
-use Rattle.laws_closure.proofs.ClosingGates.{closing_keeps_gates_lem}
-use Rattle.laws_closure.proofs.closing_keeps_gates.Goals as goal
-
-pub returns : goal.returns
-returns c = closing_keeps_gates_lem

@@ -1,5 +1,0 @@
-use Rattle.laws_closure.proofs.building.Listed.{listed_demands_stand_lem}
-use Rattle.laws_closure.proofs.listed_demands_stand.Goals as goal
-
-pub returns : goal.returns
-returns c = listed_demands_stand_lem

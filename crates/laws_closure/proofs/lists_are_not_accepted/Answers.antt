@@ -1,5 +1,0 @@
-use Rattle.laws_closure.proofs.overlaps.JudgedLists.{lists_are_not_accepted_lem}
-use Rattle.laws_closure.proofs.lists_are_not_accepted.Goals as goal
-
-pub returns : goal.returns
-returns c = lists_are_not_accepted_lem

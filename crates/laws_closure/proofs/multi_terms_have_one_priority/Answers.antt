@@ -1,5 +1,0 @@
-use Rattle.laws_closure.proofs.built.Priorities.{one_priority_lem}
-use Rattle.laws_closure.proofs.multi_terms_have_one_priority.Goals as goal
-
-pub returns : goal.returns
-returns c = one_priority_lem

@@ -1,5 +1,0 @@
-use Rattle.laws_closure.proofs.Settled.{names_are_exact_lem}
-use Rattle.laws_closure.proofs.names_are_exact.Goals as goal
-
-pub returns : goal.returns
-returns c = names_are_exact_lem

@@ -1,5 +1,0 @@
-use Rattle.laws_closure.proofs.built.MultiCalls.{no_rule_asks_and_goes_over_lem}
-use Rattle.laws_closure.proofs.no_rule_asks_and_goes_over.Goals as goal
-
-pub returns : goal.returns
-returns c = no_rule_asks_and_goes_over_lem

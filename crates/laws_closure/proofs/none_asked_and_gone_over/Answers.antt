@@ -1,5 +1,0 @@
-use Rattle.laws_closure.proofs.built.MultiCalls.{none_asked_and_gone_over_lem}
-use Rattle.laws_closure.proofs.none_asked_and_gone_over.Goals as goal
-
-pub returns : goal.returns
-returns c = none_asked_and_gone_over_lem

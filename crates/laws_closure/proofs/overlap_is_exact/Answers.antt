@@ -1,5 +1,0 @@
-use Rattle.laws_closure.proofs.overlaps.Overlaps.{overlap_is_exact_lem}
-use Rattle.laws_closure.proofs.overlap_is_exact.Goals as goal
-
-pub returns : goal.returns
-returns c = overlap_is_exact_lem

@@ -1,5 +1,0 @@
-use Rattle.laws_closure.proofs.overlaps.ListedOverlaps.{overlaps_are_listed_once_lem}
-use Rattle.laws_closure.proofs.overlaps_are_listed_once.Goals as goal
-
-pub returns : goal.returns
-returns c = overlaps_are_listed_once_lem

@@ -1,5 +1,0 @@
-use Rattle.laws_closure.proofs.Reports.{reports_are_exact_lem}
-use Rattle.laws_closure.proofs.reports_are_exact.Goals as goal
-
-pub returns : goal.returns
-returns c = reports_are_exact_lem

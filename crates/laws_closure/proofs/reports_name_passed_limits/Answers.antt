@@ -1,5 +1,0 @@
-use Rattle.laws_closure.proofs.LimitsReported.{reports_name_passed_limits_lem}
-use Rattle.laws_closure.proofs.reports_name_passed_limits.Goals as goal
-
-pub returns : goal.returns
-returns c = reports_name_passed_limits_lem

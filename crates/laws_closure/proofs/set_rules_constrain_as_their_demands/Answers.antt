@@ -1,5 +1,0 @@
-use Rattle.laws_closure.proofs.overlaps.Totals.{set_rules_constrain_as_their_demands_lem}
-use Rattle.laws_closure.proofs.set_rules_constrain_as_their_demands.Goals as goal
-
-pub returns : goal.returns
-returns c = set_rules_constrain_as_their_demands_lem

@@ -1,5 +1,0 @@
-use Rattle.laws_closure.proofs.overlaps.SetRules.{set_rules_overlap_as_their_demands_lem}
-use Rattle.laws_closure.proofs.set_rules_overlap_as_their_demands.Goals as goal
-
-pub returns : goal.returns
-returns c = set_rules_overlap_as_their_demands_lem

@@ -1,0 +1,83 @@
+-- A pattern that hangs together asks variants and structs for all their fields.
+use Rattle.std.proofs.Common.{◌≡◌, ℕ, Bool, true, false, List, [], ◌∷◌, length, Some, slice_get, refl, subst, inl, inr}
+use Rattle.model.specs.lists.Tables.{TermEntry}
+use Rattle.model.specs.lists.Formed.{is_formed_rule}
+use Rattle.model.specs.rules.Values.{variant_types, struct_types}
+use Rattle.model.specs.rules.Program.{Program, Kind, a_variant, a_struct, a_call, unknown, kind, kind_of}
+use Rattle.model.specs.rules.Typed.{TypedPatterns, TypedRule}
+use Rattle.model.specs.sites.Sites.{Constraint, is_variant, is_struct, is_bool, is_int, is_prim, is_present, SiteTerm, extractor_call, pick_of, some_part, variant_field, struct_field}
+use Rattle.model.specs.visits.Demands.{Demands, demands_of, Visit, making, asking, pattern_count, open_call, open_term, asking_all}
+use Rattle.model.proofs.Elements.{In, in_either}
+use Rattle.laws_typing.specs.WellTypedPrograms.{HasTypedParts}
+use Rattle.laws_typing.proofs.WellTypedPrograms.{variant_takes, struct_takes}
+use Rattle.laws_sites.proofs.Patterns.{its_kind, term_known}
+use Rattle.laws_sites.proofs.GrowingVisits.{term_adds}
+use Rattle.laws_sites.proofs.PatternParts.{AsMany, as_many_types}
+use Rattle.laws_sites.proofs.RuleParts.{rule_parts}
+use Rattle.laws_sites.proofs.WithSites.{by_equating}
+use Rattle.laws_sites.proofs.WithTypes.{Facts, AtEachTyped, KeptWithTypes, all_fields_each, outputs_each, rule_kept_typed}
+
+-- as many fields as the variant or the struct has
+abbrev pub HasAllFields : Program → Constraint → Type 0
+HasAllFields p (is_variant ty i n) = (tys : List ℕ) × (variant_types (slice_get p.types ty) i ≡ Some tys) × (length tys ≡ n)
+HasAllFields p (is_struct ty n) = (tys : List ℕ) × (struct_types (slice_get p.types ty) ≡ Some tys) × (length tys ≡ n)
+HasAllFields p c = Unit {0}
+
+abbrev pub AskAllFields : Program → Demands → Type 0
+AskAllFields p d = (x : SiteTerm × Constraint) → In d.constraints x → HasAllFields p x.1
+
+module _ (p : Program) where
+  asked_too : (s : SiteTerm) (c : Constraint) (v : Visit) → HasAllFields p c → AskAllFields p v.demands → AskAllFields p (asking s c v).demands
+  asked_too s c v f a x i =
+      elim (in_either v.demands.constraints ((s, c) ∷ []) x i) [
+        | inl j ↦ a x j
+        | inr j ↦ elim j [ inl e ↦ subst (λ (y : SiteTerm × Constraint). HasAllFields p y.1) e f | inr n ↦ absurd n ]
+      ]
+
+  all_asked_too : (ss : List SiteTerm) (v : Visit) → AskAllFields p v.demands → AskAllFields p (asking_all ss v).demands
+  all_asked_too [] v a = a
+  all_asked_too (s ∷ ss) v a = all_asked_too ss (asking s is_present v) (asked_too s is_present v tt a)
+
+  -- of sites nothing is said
+  abbrev asked : Facts
+  asked = record { demands = AskAllFields p; site = λ s ty. Unit {0}; matched = λ t. Unit {0}; called = λ t. Unit {0} }
+
+  call_opened : (pure multi partial rec infallible : Bool) (c : SiteTerm) (args : TypedPatterns) (tys : List ℕ) (v : Visit) → AsMany args tys → AskAllFields p v.demands
+      → AskAllFields p (open_call (record { pure = pure; multi = multi; partial = partial; rec = rec }) infallible c args v).visit.demands
+      × AtEachTyped asked (open_call (record { pure = pure; multi = multi; partial = partial; rec = rec }) infallible c args v).inputs tys
+  call_opened pure true partial rec infallible c args tys v n h = (h, outputs_each asked (pick_of c) args tys n (λ ty e. tt) (λ a b rest e j ty x. tt))
+  call_opened pure false partial rec true c args tys v n h = (h, outputs_each asked c args tys n (λ ty e. tt) (λ a b rest e j ty x. tt))
+  call_opened pure false partial rec false c args tys v n h =
+      (asked_too c is_present (making (c ∷ (some_part c ∷ [])) v) tt h, outputs_each asked (some_part c) args tys n (λ ty e. tt) (λ a b rest e j ty x. tt))
+
+  module _ (fields : HasTypedParts p) where
+    term_opened : (t : ℕ) (e : TermEntry) → slice_get p.terms t ≡ Some e → (k : Kind) → kind p t ≡ k → kind_of e ≡ k → (s : SiteTerm) (args : TypedPatterns) → AsMany args e.arg_tys → (v : Visit) → AskAllFields p v.demands
+        → AskAllFields p (open_term k t s args v).visit.demands × AtEachTyped asked (open_term k t s args v).inputs e.arg_tys
+    term_opened t e there (a_variant ty i) w q s args n v h = (
+      asked_too s (is_variant ty i (pattern_count args)) v (e.arg_tys, (variant_takes p fields t e there ty i q).1, as_many_types args e.arg_tys n) h,
+      all_fields_each asked (variant_field s i) args e.arg_tys n (λ j u x. tt),
+    )
+    term_opened t e there (a_struct ty) w q s args n v h = (
+      asked_too s (is_struct ty (pattern_count args)) v (e.arg_tys, (struct_takes p fields t e there ty q).1, as_many_types args e.arg_tys n) h,
+      all_fields_each asked (struct_field s) args e.arg_tys n (λ j u x. tt),
+    )
+    term_opened t e there (a_call flags infallible) w q s args n v h = call_opened flags.pure flags.multi flags.partial flags.rec infallible (extractor_call t s) args e.arg_tys v n h
+    term_opened t e there unknown w q s args n v h = absurd (term_known p t e there w)
+
+    kept : KeptWithTypes asked p
+    kept = record {
+      equates = λ a b ty v m n h. by_equating (λ w. AskAllFields p w.demands) a b v h h;
+      asks_bool = λ s b ty v e h. asked_too s (is_bool b ty) v tt h;
+      asks_int = λ s z ty v e h. asked_too s (is_int z ty) v tt h;
+      asks_prim = λ s name ty v e u h. asked_too s (is_prim name) v tt h;
+      opens = λ t e there x m s i args n v h. term_opened t e there (kind p t) refl (its_kind p t e there) s args n v h;
+      makes_bool = λ b ty v e h. (tt, h);
+      makes_int = λ z ty v e h. (tt, h);
+      makes_prim = λ name ty v e u h. (tt, h);
+      values = λ t e there x m a g h. (tt, λ y i. h y (subst (λ l. In l y) (term_adds (kind p t) t a).constraints i));
+      asks_all = all_asked_too;
+      result = λ s ty v i h. h;
+    }
+
+    pub rule_asks_all_fields : (r : TypedRule) → is_formed_rule p r ≡ true → AskAllFields p (demands_of p r)
+    rule_asks_all_fields r f = rule_kept_typed p asked kept r (rule_parts p r f) (λ t i. tt) (λ t i. tt) (λ j ty v e h. (tt, h)) (λ x i. absurd i)

@@ -1,0 +1,225 @@
+-- Each call in the code of accepted definitions is impure as its function is.
+use Rattle.std.proofs.Common.{◌≡◌, ◌&&◌, ◌⊎◌, ℕ, zero, suc, Bool, true, false, not, List, [], ◌∷◌, ◌++◌, flat_map, Option, Some, slice_get, Contains, refl, ap, ◌∙◌, subst, inl, inr}
+use Rattle.std.proofs.lemmas.Bool.{and_parts, and_from}
+use Rattle.std.proofs.lemmas.Option.{slice_get_within}
+use Rattle.model.specs.rules.Program.{Program, arg_types, is_multi, rules_of}
+use Rattle.model.specs.rules.Typed.{TypedRule}
+use Rattle.model.specs.sites.Sites.{Site, extractor_site, constructor_site, iterator_site, Constraint, SiteTerm, bool_term, int_term, prim_term, argument, extractor_call, constructor_call, pick_of, variant_made, variant_field, struct_made, struct_field, some_made, some_part, tuple_part, no_site, layer, unfold_site}
+use Rattle.model.specs.sites.Serves.{asked, asked_by, constant_site}
+use Rattle.model.specs.visits.Demands.{demands_of}
+use Rattle.model.specs.trees.Trees.{Tree, no_step, step, Check, match_at, equal_at, loop_at, return_at, Arms, no_arm, arm}
+use Rattle.model.specs.trees.Places.{field_sites}
+use Rattle.model.specs.claims.Layers.{own_program}
+use Rattle.model.proofs.Elements.{in_from_contains, contains_from_in, in_either, from_flat_map}
+use Rattle.laws_typing.specs.WellTypedPrograms.{IsWellTypedProgram}
+use Rattle.laws_typing.proofs.WellTypedRules.{read_programs_are_well_typed}
+use Rattle.laws_sites.specs.RuleUses.{matched_in, called_in}
+use Rattle.laws_sites.proofs.built.BuiltSets.{BuiltSet, of_term}
+use Rattle.laws_trees.proofs.runs.Contents.{unfolded_layer}
+use Rattle.laws_trees.proofs.taken.Fits.{IsField}
+use Rattle.laws_trees.proofs.taken.BuiltSites.{sites_stand}
+use Rattle.laws_trees.proofs.total.Shaped.{Uses, Shaped, shaped_extractor, shaped_pure, shaped_impure, HasShape}
+use Rattle.laws_trees.proofs.total.ShapedSites.{AreShaped, rule_shaped}
+use Rattle.model_code.specs.Code.{Place, Use, Expr, truth_written, read, extraction, call, variant_of, struct_of, some_of, Block, no_statement, statement, Statement, bind, bind_some, no_way, match_on, if_equal, for_each_of, give, labelled, unless_let, unless_equal, CodeArms, no_code_arm, code_arm}
+use Rattle.model_code.specs.TreeCode.{Passes, bind_code, binds_code, loop_code, tree_code, check_code, arms_code}
+use Rattle.model_code.specs.Flat.{within, flat, flat_at, flat_arms, leaving, leaving_last, leaving_match}
+use Rattle.model_code.specs.Modes.{Types, passes_of}
+use Rattle.model_code.specs.MovedOnce.{behind, movable_after, read_no_more, unlooked}
+use Rattle.model_code.specs.Saving.{saved_expr, saved, saved_at, saved_arms}
+use Rattle.model_code.specs.SiteTypes.{types_of}
+use Rattle.model_code.specs.Notation.{Notation, extractor_of, constructor_of}
+use Rattle.laws_code.specs.ShownLaws.{impure_call, expr_calls_as, calls_as, calls_as_at, arms_call_as}
+use Rattle.laws_code.specs.CalledAlike.{AreCalledAlike, TreesCallAlike, CodeCallsAlike}
+
+-- 1. labels and moves keep the calls
+module _ (p : Notation) (is_impure : ℕ → Bool) where
+  within_calls : (x : Bool) (a b : Block) → calls_as p is_impure a ≡ true → calls_as p is_impure b ≡ true → calls_as p is_impure (within x a b) ≡ true
+  within_calls true a b h k = and_from _ _ h refl
+  within_calls false a b h k = k
+
+  module _ (deep : ℕ → Bool) where
+    mutual
+      flat_calls : (b : Block) (n : ℕ) → calls_as p is_impure b ≡ true → calls_as p is_impure (flat b deep n) ≡ true
+      flat_calls no_statement n h = refl
+      flat_calls (statement s rest) n h =
+          let hs = and_parts (calls_as_at p is_impure s) (calls_as p is_impure rest) h in
+          and_from _ _ (flat_calls_at s n hs.0) (flat_calls rest n hs.1)
+
+      flat_calls_at : (s : Statement) (n : ℕ) → calls_as_at p is_impure s ≡ true → calls_as_at p is_impure (flat_at s deep n) ≡ true
+      flat_calls_at (match_on u arms) n h = flat_calls_arms arms n h
+      flat_calls_at (if_equal a b body) n h = within_calls (deep n) (leaving body deep (suc n)) (flat body deep (suc n)) (leaving_calls body (suc n) h) (flat_calls body (suc n) h)
+      flat_calls_at (for_each_of v from body) n h = within_calls (deep n) (leaving body deep (suc n)) (flat body deep (suc n)) (leaving_calls body (suc n) h) (flat_calls body (suc n) h)
+      flat_calls_at (bind v e) n h = h
+      flat_calls_at (bind_some v u) n h = refl
+      flat_calls_at no_way n h = refl
+      flat_calls_at (give at u) n h = refl
+      flat_calls_at (labelled body) n h = h
+      flat_calls_at (unless_let u pattern fields) n h = refl
+      flat_calls_at (unless_equal a b) n h = refl
+
+      flat_calls_arms : (arms : CodeArms) (n : ℕ) → arms_call_as p is_impure arms ≡ true → arms_call_as p is_impure (flat_arms arms deep n) ≡ true
+      flat_calls_arms no_code_arm n h = refl
+      flat_calls_arms (code_arm pattern fields body rest) n h =
+          let hs = and_parts (calls_as p is_impure body) (arms_call_as p is_impure rest) h in
+          and_from _ _ (within_calls (deep n) (leaving body deep (suc n)) (flat body deep (suc n)) (leaving_calls body (suc n) hs.0) (flat_calls body (suc n) hs.0)) (flat_calls_arms rest n hs.1)
+
+      leaving_calls : (b : Block) (n : ℕ) → calls_as p is_impure b ≡ true → calls_as p is_impure (leaving b deep n) ≡ true
+      leaving_calls no_statement n h = refl
+      leaving_calls (statement s no_statement) n h = leaving_last_calls s n (and_parts (calls_as_at p is_impure s) true h).0
+      leaving_calls (statement s (statement next rest)) n h =
+          let hs = and_parts (calls_as_at p is_impure s) (calls_as p is_impure (statement next rest)) h in
+          and_from _ _ (flat_calls_at s n hs.0) (leaving_calls (statement next rest) n hs.1)
+
+      leaving_last_calls : (s : Statement) (n : ℕ) → calls_as_at p is_impure s ≡ true → calls_as p is_impure (leaving_last s deep n) ≡ true
+      leaving_last_calls (match_on u arms) n h = leaving_match_calls u arms n h
+      leaving_last_calls (if_equal a b body) n h = leaving_calls body n h
+      leaving_last_calls (for_each_of v from body) n h = and_from _ _ (within_calls (deep n) (leaving body deep (suc n)) (flat body deep (suc n)) (leaving_calls body (suc n) h) (flat_calls body (suc n) h)) refl
+      leaving_last_calls (bind v e) n h = and_from _ _ h refl
+      leaving_last_calls (bind_some v u) n h = refl
+      leaving_last_calls no_way n h = refl
+      leaving_last_calls (give at u) n h = refl
+      leaving_last_calls (labelled body) n h = and_from _ _ h refl
+      leaving_last_calls (unless_let u pattern fields) n h = refl
+      leaving_last_calls (unless_equal a b) n h = refl
+
+      leaving_match_calls : (u : Use) (arms : CodeArms) (n : ℕ) → arms_call_as p is_impure arms ≡ true → calls_as p is_impure (leaving_match u arms deep n) ≡ true
+      leaving_match_calls u no_code_arm n h = refl
+      leaving_match_calls u (code_arm pattern fields body no_code_arm) n h = leaving_calls body n (and_parts (calls_as p is_impure body) true h).0
+      leaving_match_calls u (code_arm pattern fields body (code_arm p2 f2 b2 rest)) n h =
+          let hs = and_parts (calls_as p is_impure body) (calls_as p is_impure b2 && arms_call_as p is_impure rest) h in
+          let ks = and_parts (calls_as p is_impure b2) (arms_call_as p is_impure rest) hs.1 in
+          and_from _ _
+          (and_from _ _ (within_calls (deep n) (leaving body deep (suc n)) (flat body deep (suc n)) (leaving_calls body (suc n) hs.0) (flat_calls body (suc n) hs.0))
+          (and_from _ _ (within_calls (deep n) (leaving b2 deep (suc n)) (flat b2 deep (suc n)) (leaving_calls b2 (suc n) ks.0) (flat_calls b2 (suc n) ks.0)) (flat_calls_arms rest n ks.1))) refl
+
+  module _ (types : Types) where
+    expr_same : (inside : List ℕ) (later : Place → Bool) (e : Expr) → expr_calls_as p is_impure (saved_expr types inside later e) ≡ expr_calls_as p is_impure e
+    expr_same inside later (truth_written b ty) = refl
+    expr_same inside later (read u) = refl
+    expr_same inside later (extraction term u) = refl
+    expr_same inside later (call term us instance) = refl
+    expr_same inside later (variant_of ty variant us) = refl
+    expr_same inside later (struct_of ty us) = refl
+    expr_same inside later (some_of u) = refl
+
+    mutual
+      saved_calls : (b : Block) (inside : List ℕ) (after : Place → Bool) → calls_as p is_impure (saved types inside after b) ≡ calls_as p is_impure b
+      saved_calls no_statement inside after = refl
+      saved_calls (statement s rest) inside after = λ i. saved_calls_at s inside (behind s rest after) i && saved_calls rest (movable_after inside s) after i
+
+      saved_calls_at : (s : Statement) (inside : List ℕ) (later : Place → Bool) → calls_as_at p is_impure (saved_at types inside later s) ≡ calls_as_at p is_impure s
+      saved_calls_at (bind v e) inside later = expr_same inside later e
+      saved_calls_at (match_on u arms) inside later = saved_calls_arms arms (unlooked inside u.place) later
+      saved_calls_at (if_equal a b body) inside later = saved_calls body inside later
+      saved_calls_at (for_each_of v from body) inside later = saved_calls body (v ∷ []) read_no_more
+      saved_calls_at (labelled body) inside later = saved_calls body inside later
+      saved_calls_at (bind_some v u) inside later = refl
+      saved_calls_at no_way inside later = refl
+      saved_calls_at (give at u) inside later = refl
+      saved_calls_at (unless_let u pattern fields) inside later = refl
+      saved_calls_at (unless_equal a b) inside later = refl
+
+      saved_calls_arms : (arms : CodeArms) (inside : List ℕ) (later : Place → Bool) → arms_call_as p is_impure (saved_arms types inside later arms) ≡ arms_call_as p is_impure arms
+      saved_calls_arms no_code_arm inside later = refl
+      saved_calls_arms (code_arm pattern fields body rest) inside later = λ i. saved_calls body (field_sites fields ++ inside) later i && saved_calls_arms rest inside later i
+
+-- 2. the calls of sites are those of their terms
+module _ (p : Program) (n : Notation) (is_impure : ℕ → Bool) (alike : AreCalledAlike p n is_impure) where
+  abbrev IsAlike : SiteTerm → Type 0
+  IsAlike (extractor_call t s) = is_impure (n.function (extractor_of t)) ≡ false
+  IsAlike (constructor_call t ss i) = impure_call i (is_impure (n.function (constructor_of t))) ≡ true
+  IsAlike s = Unit {0}
+
+  call_alike : {multi optional : Bool} {tys : List ℕ} (uses : Uses) (s : SiteTerm) → Shaped p uses s multi optional tys → IsAlike s
+  call_alike uses (extractor_call t s) (shaped_extractor e flags infallible used there can k h) = alike.extractors t e there can
+  call_alike uses (constructor_call t ss zero) (shaped_pure e flags infallible used there can k pure h) = ap not (alike.constructors t e flags infallible there can k ∙ ap not pure)
+  call_alike uses (constructor_call t ss (suc before)) (shaped_impure e flags infallible used there can k pure h) = alike.constructors t e flags infallible there can k ∙ ap not pure
+  call_alike uses (bool_term b ty) h = tt
+  call_alike uses (int_term z ty) h = tt
+  call_alike uses (prim_term name) h = tt
+  call_alike uses (argument i) h = tt
+  call_alike uses (pick_of s) h = tt
+  call_alike uses (variant_made ty variant ss) h = tt
+  call_alike uses (variant_field s variant i) h = tt
+  call_alike uses (struct_made ty ss) h = tt
+  call_alike uses (struct_field s i) h = tt
+  call_alike uses (some_made s) h = tt
+  call_alike uses (some_part s) h = tt
+  call_alike uses (tuple_part s i) h = tt
+  call_alike uses no_site h = tt
+
+  shape_alike : (uses : Uses) (u : SiteTerm) → HasShape p uses u → IsAlike u
+  shape_alike uses u found = call_alike {multi = found.multi} {optional = found.optional} {tys = found.tys} uses u found.shaped
+
+module _ (b : BuiltSet) (h : IsWellTypedProgram b.program) (n : Notation) (is_impure : ℕ → Bool) (alike : AreCalledAlike b.program n is_impure) (passes : Passes) where
+  abbrev p : Program
+  p = b.program
+
+  abbrev sites : List Site
+  sites = b.set.sites
+
+  abbrev rs : List TypedRule
+  rs = rules_of p b.term
+
+  abbrev Alike : SiteTerm → Type 0
+  Alike = IsAlike p n is_impure alike
+
+  asked_alike : (u : SiteTerm) → Contains (asked p rs) u → Alike u
+  asked_alike u c =
+      let r = from_flat_map (λ (q : TypedRule). asked_by (demands_of p q)) rs u (in_from_contains (asked p rs) u c) in
+      let o = of_term p b.term r.0 (contains_from_in rs r.0 r.1) in
+      let uses : Uses = record { args = arg_types p r.0.root_term; matched = matched_in r.0; called = called_in r.0 } in
+      let shaped : AreShaped p uses (demands_of p r.0) = rule_shaped p uses h r.0 (h.rules r.0 o.0).formed (λ t i. contains_from_in (matched_in r.0) t i) (λ t i. contains_from_in (called_in r.0) t i) refl in
+      let found : HasShape p uses u = elim (in_either (demands_of p r.0).made (flat_map (λ (x : SiteTerm × Constraint). constant_site x.1) (demands_of p r.0).constraints) u r.2) [
+        | inl j ↦ shaped.0 u j
+        | inr j ↦ let x = from_flat_map (λ (x : SiteTerm × Constraint). constant_site x.1) (demands_of p r.0).constraints u j in shaped.1 x.0 x.1 u x.2
+      ] in
+      shape_alike p n is_impure alike uses u found
+
+  site_alike : (s : ℕ) (x : Site) → slice_get sites s ≡ Some x → (IsField (layer (unfold_site sites) x) → ⊥) → Alike (layer (unfold_site sites) x)
+  site_alike s x at no_field =
+      let same = unfolded_layer sites b.built.sources s x at in
+      elim (subst (λ u. Contains (asked p rs) u ⊎ IsField u) same (sites_stand b h s (slice_get_within sites s x at)).asks) [
+        | inl c ↦ asked_alike (layer (unfold_site sites) x) c
+        | inr f ↦ absurd (no_field f)
+      ]
+
+  bind_calls : (s : ℕ) (o : Option Site) → slice_get sites s ≡ o → calls_as_at n is_impure (bind_code sites passes s o) ≡ true
+  bind_calls s (Some (extractor_site t source)) at = ap not (site_alike s (extractor_site t source) at (λ f. f))
+  bind_calls s (Some (constructor_site t sources i)) at = site_alike s (constructor_site t sources i) at (λ f. f)
+  bind_calls s o at = refl
+
+  binds_calls : (ss : List ℕ) (rest : Block) → calls_as n is_impure rest ≡ true → calls_as n is_impure (binds_code sites passes ss rest) ≡ true
+  binds_calls [] rest w = w
+  binds_calls (s ∷ ss) rest w = and_from _ _ (bind_calls s (slice_get sites s) refl) (binds_calls ss rest w)
+
+  loop_calls : (o : Option Site) (s : ℕ) (body : Block) → calls_as n is_impure body ≡ true → calls_as_at n is_impure (loop_code o s body) ≡ true
+  loop_calls (Some (iterator_site source)) s body w = w
+  loop_calls o s body w = refl
+
+  mutual
+    tree_calls : (tree : Tree) → calls_as n is_impure (tree_code tree sites passes) ≡ true
+    tree_calls no_step = refl
+    tree_calls (step binds check rest) = binds_calls binds (statement (check_code check sites passes) (tree_code rest sites passes)) (and_from _ _ (check_calls check) (tree_calls rest))
+
+    check_calls : (check : Check) → calls_as_at n is_impure (check_code check sites passes) ≡ true
+    check_calls (match_at source arms) = arms_calls arms
+    check_calls (equal_at x y body) = tree_calls body
+    check_calls (loop_at result body) = loop_calls (slice_get sites result) result (tree_code body sites passes) (tree_calls body)
+    check_calls (return_at at result) = refl
+
+    arms_calls : (arms : Arms) → arms_call_as n is_impure (arms_code arms sites passes) ≡ true
+    arms_calls no_arm = refl
+    arms_calls (arm constraint fields body rest) = and_from _ _ (tree_calls body) (arms_calls rest)
+
+pub trees_call_alike_lem : TreesCallAlike
+trees_call_alike_lem p t set h built n is_impure alike tree passes = tree_calls (record { program = p; term = t; set = set; built = built }) h n is_impure alike passes tree
+
+pub code_calls_alike_lem : TreesCallAlike → CodeCallsAlike
+code_calls_alike_lem trees defs expand rules l accepted built best n is_impure alike deep d =
+    let p = own_program defs rules in
+    let types : Types = types_of p (arg_types p l.term) l.set.sites in
+    let passes = passes_of types (is_multi p l.term) l.set.sites in
+    let code = tree_code l.tree l.set.sites passes in
+    saved_calls n is_impure types (flat code deep d) [] read_no_more
+    ∙ flat_calls n is_impure deep code d (trees p l.term l.set (read_programs_are_well_typed accepted.read) built n is_impure alike l.tree passes)

@@ -1,5 +1,0 @@
-use Rattle.laws_conditions.proofs.Answers.{chooses_as_said_by_priority_lem}
-use Rattle.laws_conditions.proofs.chooses_as_said_by_priority.Goals as goal
-
-pub returns : goal.returns
-returns c = chooses_as_said_by_priority_lem

@@ -1,5 +1,0 @@
-use Rattle.laws_conditions.proofs.Answers.{computes_as_said_lem}
-use Rattle.laws_conditions.proofs.computes_as_said.Goals as goal
-
-pub returns : goal.returns
-returns c = computes_as_said_lem

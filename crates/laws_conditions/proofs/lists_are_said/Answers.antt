@@ -1,5 +1,0 @@
-use Rattle.laws_conditions.proofs.SampleLists.{lists_are_said_lem}
-use Rattle.laws_conditions.proofs.lists_are_said.Goals as goal
-
-pub returns : goal.returns
-returns c = lists_are_said_lem

@@ -1,5 +1,0 @@
-use Rattle.laws_conditions.proofs.SampleNumbers.{numbers_exclude_nothing_lem}
-use Rattle.laws_conditions.proofs.numbers_exclude_nothing.Goals as goal
-
-pub returns : goal.returns
-returns c = numbers_exclude_nothing_lem

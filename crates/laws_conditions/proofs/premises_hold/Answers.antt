@@ -1,5 +1,0 @@
-use Rattle.laws_conditions.proofs.SampleAnswers.{premises_hold_lem}
-use Rattle.laws_conditions.proofs.premises_hold.Goals as goal
-
-pub returns : goal.returns
-returns c = premises_hold_lem

@@ -1,5 +1,0 @@
-use Rattle.laws_conditions.proofs.TotalAnswers.{total_meanings_answer_as_said_lem}
-use Rattle.laws_conditions.proofs.total_meanings_answer_as_said.Goals as goal
-
-pub returns : goal.returns
-returns c = total_meanings_answer_as_said_lem

@@ -1,5 +1,0 @@
-use Rattle.laws_matching.proofs.taken.NumbersInRange.{built_sets_have_numbers_in_range_lem}
-use Rattle.laws_matching.proofs.built_sets_have_numbers_in_range.Goals as goal
-
-pub returns : goal.returns
-returns c = built_sets_have_numbers_in_range_lem

@@ -1,5 +1,0 @@
-use Rattle.laws_matching.proofs.taken.ServesSets.{served_multi_sets_serve_lem}
-use Rattle.laws_matching.proofs.served_multi_sets_serve.Goals as goal
-
-pub returns : goal.returns
-returns c = served_multi_sets_serve_lem

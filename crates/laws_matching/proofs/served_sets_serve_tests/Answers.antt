@@ -1,5 +1,0 @@
-use Rattle.laws_matching.proofs.taken.ServesRuns.{served_sets_serve_tests_lem}
-use Rattle.laws_matching.proofs.served_sets_serve_tests.Goals as goal
-
-pub returns : goal.returns
-returns c = served_sets_serve_tests_lem

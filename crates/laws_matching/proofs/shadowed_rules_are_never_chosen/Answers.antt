@@ -1,5 +1,0 @@
-use Rattle.laws_matching.proofs.NeverChosen.{shadowed_rules_are_never_chosen_lem}
-use Rattle.laws_matching.proofs.shadowed_rules_are_never_chosen.Goals as goal
-
-pub returns : goal.returns
-returns c = shadowed_rules_are_never_chosen_lem c.built_rules_are_told_apart.ensures

@@ -1,5 +1,0 @@
-use Rattle.laws_matching.proofs.outcomes.Outcomes.{taken_lem}
-use Rattle.laws_matching.proofs.taken_rules_give_their_outcome.Goals as goal
-
-pub returns : goal.returns
-returns c = taken_lem

@@ -1,2 +1,0 @@
-mod WholeNames
-mod PrintedTexts

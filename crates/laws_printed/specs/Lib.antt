@@ -1,2 +1,0 @@
-pub mod WholeNames
-pub mod PrintedTexts

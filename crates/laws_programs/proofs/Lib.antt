@@ -1,5 +1,0 @@
-mod LikeRuns
-mod SaidRuns
-mod SampleRuns
-mod SampleSets
-mod sets

@@ -1,5 +1,0 @@
-pub mod WholeRuns
-pub mod ProgramLaws
-pub mod SampleRuns
-pub mod SetConditions
-pub mod SampleSets

@@ -1,4 +1,0 @@
-pub mod choosing
-pub mod picks
-pub mod runs
-pub mod taking

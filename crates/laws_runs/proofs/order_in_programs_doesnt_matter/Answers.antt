@@ -1,5 +1,0 @@
-use Rattle.laws_runs.proofs.choosing.OtherRules.{order_in_programs_doesnt_matter_lem}
-use Rattle.laws_runs.proofs.order_in_programs_doesnt_matter.Goals as goal
-
-pub returns : goal.returns
-returns c = order_in_programs_doesnt_matter_lem

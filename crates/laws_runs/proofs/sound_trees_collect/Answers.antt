@@ -1,5 +1,0 @@
-use Rattle.laws_runs.proofs.runs.Collection.{sound_trees_collect_lem}
-use Rattle.laws_runs.proofs.sound_trees_collect.Goals as goal
-
-pub returns : goal.returns
-returns c = sound_trees_collect_lem

@@ -1,4 +1,0 @@
-pub mod ChoiceLaws
-pub mod Orders
-pub mod PickLaws
-pub mod WithoutMulti

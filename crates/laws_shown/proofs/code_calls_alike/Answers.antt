@@ -1,5 +1,0 @@
-use Rattle.laws_shown.proofs.CalledAlike.{code_calls_alike_lem}
-use Rattle.laws_shown.proofs.code_calls_alike.Goals as goal
-
-pub returns : goal.returns
-returns c = code_calls_alike_lem c.trees_call_alike.ensures

@@ -1,0 +1,5 @@
+use Rattle.laws_sites.proofs.overlaps.Errors.{check_errors_name_masks_lem}
+use Rattle.laws_sites.proofs.check_errors_name_masks.Goals as goal
+
+pub returns : goal.returns
+returns c = check_errors_name_masks_lem

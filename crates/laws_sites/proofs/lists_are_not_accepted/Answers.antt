@@ -1,0 +1,5 @@
+use Rattle.laws_sites.proofs.overlaps.JudgedLists.{lists_are_not_accepted_lem}
+use Rattle.laws_sites.proofs.lists_are_not_accepted.Goals as goal
+
+pub returns : goal.returns
+returns c = lists_are_not_accepted_lem

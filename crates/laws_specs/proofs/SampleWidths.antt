@@ -1,0 +1,108 @@
+-- Listed widths: what they leave an argument, and atoms.
+use Rattle.std.proofs.Common.{◌≡◌, ◌||◌, ℕ, ℤ, pos, true, false, List, [], ◌∷◌, Some, None, refl, sym, ap, subst, ◌∙◌, ◌==◌, inl, inr}
+use Rattle.std.proofs.lemmas.Bool.{and_parts, cases_Bool, cond-true, cond-false, false≢true, eqb-true}
+use Rattle.std.proofs.lemmas.List.Elements.{All-nil}
+use Rattle.model.specs.rules.Outcome.{then_option}
+use Rattle.model.specs.sites.Sites.{SiteTerm, argument}
+use Rattle.model.proofs.Elements.{in_from_contains, or_split, some_is, none_some}
+use Rattle.laws_specs.specs.Words.{Denoted, a_truth, an_integer, a_word, variant_of, struct_of, DenotedList, no_denoted, denoted_and}
+use Rattle.laws_specs.specs.WordOperators.{word_of}
+use Rattle.laws_specs.specs.Specs.{Sort, words_among, is_of_sort, sort_of, integer_in, literal_of, IsSaid, no_unknown}
+use Rattle.laws_specs.specs.Conditions.{Told, told, result_as, is_told_formed, is_of_type, IsPartHeld, IsHeldAs, IsAnsweredAsSaid, IsTypedAs, Valuation, IsAssumed, condition}
+use Rattle.laws_specs.specs.Meets.{IsDenotation}
+use Rattle.laws_specs.specs.Samples.{x, rule_of, program_with}
+use Rattle.laws_specs.specs.SampleCalls.{bytes_as}
+use Rattle.laws_specs.specs.SampleWidths.{has_eight_bits, among, IsRightAmong, WidthsAreListed}
+use Rattle.laws_specs.proofs.SampleAnswers.{byte_formed}
+use Rattle.laws_specs.proofs.SampleConditions.{listed_as, each_held, no_picks, only_one, just_one, truths_same, none_first, none_made}
+
+-- 1. an argument of eight bits
+a_byte_is_said : (b : Denoted) → is_of_type (program_with x).types (among (8 ∷ [])) 1 b ≡ true → IsSaid no_unknown (denoted_and b no_denoted) (Some b) has_eight_bits
+a_byte_is_said (a_truth b) h = absurd (false≢true h)
+a_byte_is_said (an_integer z) h = absurd (false≢true h)
+a_byte_is_said (a_word w n) h =
+    elim (or_split (w == 8) false (and_parts ((w == 8) || false) true h).0) [
+      | inl e ↦ subst (λ v. IsSaid no_unknown (denoted_and (a_word v n) no_denoted) (Some (a_word v n)) has_eight_bits) (sym (eqb-true w 8 e)) refl
+      | inr n ↦ absurd (false≢true n)
+    ]
+a_byte_is_said (variant_of t i xs) h = absurd (false≢true (and_parts (t == 1) false h).1)
+a_byte_is_said (struct_of t xs) h = absurd (false≢true (and_parts (t == 1) false h).1)
+
+byte_right : IsRightAmong (8 ∷ [])
+byte_right no_denoted f a = absurd (false≢true a.arguments)
+byte_right (denoted_and b no_denoted) f a = record {
+  provides = λ h y made e q.
+      (let part : IsPartHeld (denoted_and b no_denoted) 0 h = a.held (argument 0) h e in
+      let same : b ≡ y = some_is b part.part part.there ∙ some_is part.part y (sym (ap result_as part.held) ∙ q) in
+      just_one (IsSaid no_unknown (denoted_and b no_denoted) (Some y)) has_eight_bits
+      (subst (λ z. IsSaid no_unknown (denoted_and b no_denoted) (Some z) has_eight_bits) same
+      (a_byte_is_said b (and_parts (is_of_type (program_with x).types (among (8 ∷ [])) 1 b) true a.arguments).0)));
+  requires = λ before after u t n ss xs split made e q. absurd (none_first before after u split);
+}
+byte_right (denoted_and b (denoted_and c rest)) f a = absurd (false≢true (and_parts (is_of_type (program_with x).types (among (8 ∷ [])) 1 b) false a.arguments).1)
+
+-- 2. and one of sixteen
+abbrev a_wide_one : Denoted
+a_wide_one = a_word 16 1
+
+abbrev wide_argument : DenotedList
+wide_argument = denoted_and a_wide_one no_denoted
+
+abbrev wide_sites : List (SiteTerm × Told)
+wide_sites = (argument 0, told a_wide_one) ∷ []
+
+abbrev wide : Valuation
+wide = listed_as wide_sites
+
+wide_assumed : IsAssumed (program_with x) (among (8 ∷ (16 ∷ []))) (condition (program_with x) (rule_of x)) wide_argument wide
+wide_assumed =
+    let specs = among (8 ∷ (16 ∷ [])) in
+    record {
+      arguments = refl;
+      required = All-nil (IsSaid no_unknown wide_argument None);
+      unknowns = λ g s xs e sorted formed. absurd (none_some s e);
+      held = each_held (IsHeldAs specs wide_argument wide) wide_sites (record { part = a_wide_one; there = refl; held = refl }, tt);
+      formed = each_held (λ s h. is_told_formed h ≡ true) wide_sites (refl, tt);
+      constraints = λ s k i. absurd (in_from_contains [] (s, k) i);
+      equalities = λ a b i. absurd (in_from_contains [] (a, b) i);
+      calls = λ s i e. elim (in_from_contains (argument 0 ∷ []) s i) [ inl q ↦ subst (λ z. IsAnsweredAsSaid specs wide z z) q tt | inr n ↦ absurd n ];
+      typed = λ s h i e there. elim (in_from_contains (argument 0 ∷ []) s i) [ inl q ↦ subst (λ z. IsTypedAs (program_with x) specs z h) q tt | inr n ↦ absurd n ];
+      picks = λ s i e. no_picks specs wide (λ u h there. none_some h there) s;
+      typed_picks = λ s h i e there. absurd (none_some h there);
+    }
+
+wide_wrong : IsRightAmong (8 ∷ (16 ∷ [])) → ⊥
+wide_wrong right =
+    let shown = right wide_argument wide wide_assumed in
+    false≢true (truths_same false true (only_one (IsSaid no_unknown wide_argument (Some a_wide_one)) has_eight_bits
+    (shown.provides (told a_wide_one) a_wide_one (none_made (program_with x) (among (8 ∷ (16 ∷ []))) wide) refl refl)))
+
+-- 3. atoms
+byte_listed : (ty n : ℕ) (s : Sort) → sort_of (among (8 ∷ (16 ∷ []))) ty ≡ Some s → is_of_sort s (a_word 8 n) ≡ true
+byte_listed ty n s e =
+    let sort = words_among (8 ∷ (16 ∷ [])) in
+    elim (cases_Bool (1 == ty)) [
+      | inl t ↦ subst (λ r. is_of_sort r (a_word 8 n) ≡ true) (some_is sort s (sym (cond-true (1 == ty) (Some sort) None t) ∙ e)) refl
+      | inr f ↦ absurd (none_some s (sym (cond-false (1 == ty) (Some sort) None f) ∙ e))
+    ]
+
+-- of listed widths no literal stands for a number
+none_numbered : (ty : ℕ) (z : ℤ) (y : Denoted) → literal_of (among (8 ∷ (16 ∷ []))) z ty ≡ Some y → bytes_as ty z ≡ y
+none_numbered ty z y e =
+    let sort = words_among (8 ∷ (16 ∷ [])) in
+    elim (cases_Bool (1 == ty)) [
+      | inl t ↦ absurd (none_some y (sym (ap (λ o. then_option o (λ s. integer_in s z)) (cond-true (1 == ty) (Some sort) None t)) ∙ e))
+      | inr f ↦ absurd (none_some y (sym (ap (λ o. then_option o (λ s. integer_in s z)) (cond-false (1 == ty) (Some sort) None f)) ∙ e))
+    ]
+
+pub widths_are_listed_lem : WidthsAreListed
+widths_are_listed_lem = record {
+  listed = refl;
+  not_listed = refl;
+  no_word = refl;
+  none_listed = refl;
+  right = byte_right;
+  wrong = wide_wrong;
+  bytes = record { formed = λ ty z. byte_formed z; sorted = λ ty z s e. byte_listed ty (word_of 8 z) s e; numbers = λ ty z y own e. none_numbered ty z y e; plain = λ ty z h. refl; unknowns = λ g s xs e sorted formed. absurd (none_some s e) };
+  no_bytes = λ (d : IsDenotation (program_with x) (among (16 ∷ [])) bytes_as). false≢true (d.sorted 1 (pos 0) (words_among (16 ∷ [])) refl);
+}

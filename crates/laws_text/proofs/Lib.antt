@@ -1,5 +1,0 @@
-mod TypeShapes
-mod AskedFields
-mod TreesWritable
-mod ReadCode
-mod TextSamples

@@ -1,5 +1,0 @@
-use Rattle.laws_text.proofs.ReadCode.{text_of_accepted_is_read_back_lem}
-use Rattle.laws_text.proofs.text_of_accepted_is_read_back.Goals as goal
-
-pub returns : goal.returns
-returns c = text_of_accepted_is_read_back_lem c.code_of_accepted_is_writable.ensures c.text_is_read_back.ensures

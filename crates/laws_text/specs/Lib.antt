@@ -1,2 +1,0 @@
-pub mod WritableCode
-pub mod TextSamples

@@ -1,0 +1,5 @@
+use Rattle.laws_trees.proofs.choosing.OtherRules.{order_in_programs_doesnt_matter_lem}
+use Rattle.laws_trees.proofs.order_in_programs_doesnt_matter.Goals as goal
+
+pub returns : goal.returns
+returns c = order_in_programs_doesnt_matter_lem

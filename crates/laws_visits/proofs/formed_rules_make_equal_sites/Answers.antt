@@ -1,5 +1,0 @@
-use Rattle.laws_visits.proofs.BoundSites.{formed_rules_make_equal_sites_lem}
-use Rattle.laws_visits.proofs.formed_rules_make_equal_sites.Goals as goal
-
-pub returns : goal.returns
-returns c = formed_rules_make_equal_sites_lem

@@ -1,5 +1,0 @@
-use Rattle.laws_visits.proofs.SiteRuns.{site_runs_visit_lem}
-use Rattle.laws_visits.proofs.site_runs_visit.Goals as goal
-
-pub returns : goal.returns
-returns c = site_runs_visit_lem

@@ -1,5 +1,0 @@
-use Rattle.laws_visits.proofs.VisitedRules.{visits_make_lem}
-use Rattle.laws_visits.proofs.visits_make_equal_sites.Goals as goal
-
-pub returns : goal.returns
-returns c = visits_make_lem

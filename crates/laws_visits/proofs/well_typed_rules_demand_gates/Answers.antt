@@ -1,5 +1,0 @@
-use Rattle.laws_visits.proofs.Rules.{well_typed_rules_demand_gates_lem}
-use Rattle.laws_visits.proofs.well_typed_rules_demand_gates.Goals as goal
-
-pub returns : goal.returns
-returns c = well_typed_rules_demand_gates_lem

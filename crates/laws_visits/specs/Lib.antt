@@ -1,4 +1,0 @@
-pub mod Followers
-pub mod LimitLaws
-pub mod RuleUses
-pub mod VisitLaws

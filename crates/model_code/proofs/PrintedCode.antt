@@ -1,0 +1,75 @@
+-- The code that is printed: without labels where it is made, then flat; it runs as the tree.
+use Rattle.std.proofs.Common.{◌≡◌, ℕ, suc, true, List, [], ◌∷◌, Option, Some, None, slice_get, refl, ap, subst, ◌∙◌}
+use Rattle.std.proofs.lemmas.Bool.{and_from}
+use Rattle.model.specs.sites.Sites.{Site, bool_site, int_site, prim_site, argument_site, extractor_site, constructor_site, iterator_site, make_variant_site, match_variant_site, make_struct_site, extract_struct_site, make_some_site, match_some_site, match_tuple_site}
+use Rattle.model.specs.trees.Trees.{Tree, no_step, step, Check, match_at, equal_at, loop_at, return_at, Arms, no_arm, arm}
+use Rattle.model.specs.trees.Run.{run, at_start}
+use Rattle.model_code.specs.Code.{Block}
+use Rattle.model_code.specs.CodeRuns.{outcome_of, code_run}
+use Rattle.model_code.specs.TreeCode.{Passes, bind_code, binds_code, loop_code, tree_code, check_code, arms_code}
+use Rattle.model_code.specs.CodeLaws.{IsCut}
+use Rattle.model_code.specs.Flat.{unlabelled, unlabelled_at, unlabelled_arms, flat}
+use Rattle.model_code.specs.PrintedCode.{PrintedCodeRuns}
+use Rattle.model_code.proofs.BestCode.{code_of_best_trees_runs_lem}
+use Rattle.model_code.proofs.CodeCut.{code_stops_at_bound_lem}
+use Rattle.model_code.proofs.Flattening.{flat_runs_same_lem}
+
+module _ (sites : List Site) (p : Passes) where
+  bind_unlabelled : (s : ℕ) (o : Option Site) → unlabelled_at (bind_code sites p s o) ≡ true
+  bind_unlabelled s None = refl
+  bind_unlabelled s (Some (bool_site b ty)) = refl
+  bind_unlabelled s (Some (int_site z ty)) = refl
+  bind_unlabelled s (Some (prim_site name)) = refl
+  bind_unlabelled s (Some (argument_site i)) = refl
+  bind_unlabelled s (Some (extractor_site term source)) = refl
+  bind_unlabelled s (Some (constructor_site term sources instance)) = refl
+  bind_unlabelled s (Some (iterator_site source)) = refl
+  bind_unlabelled s (Some (make_variant_site ty variant fields)) = refl
+  bind_unlabelled s (Some (match_variant_site source variant field)) = refl
+  bind_unlabelled s (Some (make_struct_site ty fields)) = refl
+  bind_unlabelled s (Some (extract_struct_site source field)) = refl
+  bind_unlabelled s (Some (make_some_site source)) = refl
+  bind_unlabelled s (Some (match_some_site source)) = refl
+  bind_unlabelled s (Some (match_tuple_site source field)) = refl
+
+  binds_unlabelled : (ss : List ℕ) (rest : Block) → unlabelled rest ≡ true → unlabelled (binds_code sites p ss rest) ≡ true
+  binds_unlabelled [] rest h = h
+  binds_unlabelled (s ∷ ss) rest h = and_from _ _ (bind_unlabelled s (slice_get sites s)) (binds_unlabelled ss rest h)
+
+  loop_unlabelled : (o : Option Site) (s : ℕ) (body : Block) → unlabelled body ≡ true → unlabelled_at (loop_code o s body) ≡ true
+  loop_unlabelled None s body h = refl
+  loop_unlabelled (Some (bool_site b ty)) s body h = refl
+  loop_unlabelled (Some (int_site z ty)) s body h = refl
+  loop_unlabelled (Some (prim_site name)) s body h = refl
+  loop_unlabelled (Some (argument_site i)) s body h = refl
+  loop_unlabelled (Some (extractor_site term source)) s body h = refl
+  loop_unlabelled (Some (constructor_site term sources instance)) s body h = refl
+  loop_unlabelled (Some (iterator_site source)) s body h = h
+  loop_unlabelled (Some (make_variant_site ty variant fields)) s body h = refl
+  loop_unlabelled (Some (match_variant_site source variant field)) s body h = refl
+  loop_unlabelled (Some (make_struct_site ty fields)) s body h = refl
+  loop_unlabelled (Some (extract_struct_site source field)) s body h = refl
+  loop_unlabelled (Some (make_some_site source)) s body h = refl
+  loop_unlabelled (Some (match_some_site source)) s body h = refl
+  loop_unlabelled (Some (match_tuple_site source field)) s body h = refl
+
+  mutual
+    pub tree_unlabelled : (tree : Tree) → unlabelled (tree_code tree sites p) ≡ true
+    tree_unlabelled no_step = refl
+    tree_unlabelled (step binds check rest) = binds_unlabelled binds _ (and_from _ _ (check_unlabelled check) (tree_unlabelled rest))
+
+    check_unlabelled : (check : Check) → unlabelled_at (check_code check sites p) ≡ true
+    check_unlabelled (match_at source arms) = arms_unlabelled arms
+    check_unlabelled (equal_at a b body) = tree_unlabelled body
+    check_unlabelled (loop_at result body) = loop_unlabelled (slice_get sites result) result (tree_code body sites p) (tree_unlabelled body)
+    check_unlabelled (return_at at result) = refl
+
+    arms_unlabelled : (arms : Arms) → unlabelled_arms (arms_code arms sites p) ≡ true
+    arms_unlabelled no_arm = refl
+    arms_unlabelled (arm constraint fields body rest) = and_from _ _ (tree_unlabelled body) (arms_unlabelled rest)
+
+pub printed_code_runs_lem : PrintedCodeRuns
+printed_code_runs_lem set tree w p deep n best same =
+    let code : Block = tree_code tree w.sites p in
+    let whole : code_run (flat code deep n) w None ≡ run tree w = ap outcome_of (flat_runs_same_lem code deep n w None [] at_start (tree_unlabelled w.sites p tree)) ∙ code_of_best_trees_runs_lem set tree w p best same in
+    record { whole = whole; cut = λ most. subst (λ o. IsCut (suc most) o (code_run (flat code deep n) w (Some (suc most)))) whole (code_stops_at_bound_lem (flat code deep n) w most) }

@@ -1,0 +1,260 @@
+-- The code of a tree that binds sites before it uses them reads what is in scope, by induction on the marked tree.
+use Rattle.std.proofs.Common.{◌≡◌, inl, inr, ℕ, suc, ◌<◌, ◌&&◌, ◌||◌, Bool, true, false, not, if◌then◌else◌, List, [], ◌∷◌, ◌++◌, length, Option, Some, None, slice_get, Contains, refl, sym, ap, subst, ◌∙◌}
+use Rattle.std.specs.List.{list_all}
+use Rattle.std.proofs.lemmas.Bool.{and_parts, and_from, false≢true, true≢false}
+use Rattle.std.proofs.lemmas.Option.{none-some}
+use Rattle.std.proofs.lemmas.List.Elements.{All-contains, Contains-append_left, Contains-append_right, Contains-append_cases}
+use Rattle.model.specs.sites.Sites.{Site, bool_site, int_site, prim_site, argument_site, extractor_site, constructor_site, iterator_site, make_variant_site, match_variant_site, make_struct_site, extract_struct_site, make_some_site, match_some_site, match_tuple_site, SetRule, SiteSet, sources_of, sources_at}
+use Rattle.model.specs.trees.Trees.{Marked, m_no_step, m_step, MarkedCheck, m_match, m_equal, m_loop, m_return, MarkedArms, m_no_arm, m_arm, plain, plain_check, plain_arms, return_of, marks, marks_check, marks_arms}
+use Rattle.model.specs.trees.Places.{is_in, is_in_place, return_uses, uses, field_sites}
+use Rattle.model.specs.trees.Sound.{is_return}
+use Rattle.model.specs.claims.Layers.{gone_over, can_be_used, brings_new, binds_once, binds_before_use, binds_in_check, binds_in_arms}
+use Rattle.model.proofs.Elements.{or_split}
+use Rattle.model.proofs.Members.{nothing_in, in_head, in_tail, in_cases, each_passes, member_found, member_is_in, get_within}
+use Rattle.model_code.specs.Code.{Block, statement, Statement, bind, bind_some, no_way, match_on, if_equal, for_each_of, give, labelled, unless_let, unless_equal}
+use Rattle.model_code.specs.TreeCode.{Passes, place_of, arguments_from, fields_of, bind_code, binds_code, loop_code, tree_code, check_code, arms_code}
+use Rattle.model_code.specs.CodeLaws.{not_in_place, none_in_place, no_field_in_place, binds_none_in_place, check_binds_none, arms_bind_none}
+use Rattle.model_code.specs.Scopes.{knows, knows_all, scope_after, unless_ended, block_scoped, statement_scoped, arms_scoped, LoopsAreOverBound, PrintedCodeIsScoped}
+use Rattle.model_code.proofs.CodeRunning.{outside}
+use Rattle.model_code.proofs.FlatScopes.{flat_keeps_scopes_lem}
+use Rattle.model_code.proofs.NothingInPlace.{best_trees_bind_none_in_place_lem}
+use Rattle.model_code.proofs.PrintedCode.{tree_unlabelled}
+
+first_only : (a : Bool) → (a || false) ≡ true → a ≡ true
+first_only true h = refl
+first_only false h = absurd (false≢true h)
+
+abbrev made_of : Option Site → List ℕ
+made_of o = elim o as (λ _. List ℕ) [ None ↦ [] | Some b ↦ sources_of b ]
+
+pub ended_or : (s : Statement) (later : Bool) → later ≡ true → unless_ended s later ≡ true
+ended_or (bind v e) later h = h
+ended_or (bind_some v u) later h = h
+ended_or no_way later h = refl
+ended_or (match_on u arms) later h = h
+ended_or (if_equal a b body) later h = h
+ended_or (for_each_of v from body) later h = h
+ended_or (give at u) later h = h
+ended_or (labelled body) later h = h
+ended_or (unless_let u pattern fields) later h = h
+ended_or (unless_equal a b) later h = h
+
+later_there : (check : MarkedCheck) (x : Bool) → (if is_return check && not true then true else x) ≡ true → x ≡ true
+later_there (m_match source arms) x h = h
+later_there (m_equal a b body) x h = h
+later_there (m_loop result body) x h = h
+later_there (m_return rule) x h = h
+
+module _ (sites : List Site) (p : Passes) where
+  -- what a tree has bound, the code has too; none of it is written in place
+  pub record Kept (ts cs : List ℕ) : Type 0 where
+    pub there : (x : ℕ) → Contains ts x → Contains cs x
+    pub outside : (x : ℕ) → Contains ts x → is_in_place (slice_get sites x) ≡ true → ⊥
+
+  kept_more : (ts cs : List ℕ) (s : ℕ) → Kept ts cs → not_in_place sites s ≡ true → Kept (s ∷ ts) (s ∷ cs)
+  kept_more ts cs s k n = record {
+    there = λ x c. elim (in_cases s x ts c) [ inl e ↦ subst (Contains (s ∷ cs)) e (in_head s cs) | inr d ↦ in_tail s x cs (k.there x d) ];
+    outside = λ x c i. elim (in_cases s x ts c) [
+      | inl e ↦ true≢false (sym i ∙ ap (λ y. is_in_place (slice_get sites y)) (sym e) ∙ outside (is_in_place (slice_get sites s)) n)
+      | inr d ↦ k.outside x d i
+    ];
+  }
+
+  -- 1. what is used is known
+  module _ (ts cs : List ℕ) (k : Kept ts cs) where
+    carried : (s : ℕ) → is_in s ts ≡ true → is_in s cs ≡ true
+    carried s h = member_is_in s cs (k.there s (member_found s ts h))
+
+    known_at : (s : ℕ) (o : Option Site) → (is_in_place o ≡ true → Contains ts s → ⊥) → (is_in s ts || (is_in_place o && list_all (λ a. is_in a ts) (made_of o))) ≡ true → knows cs (place_of o s) ≡ true
+    known_at s None n h = carried s (first_only (is_in s ts) h)
+    known_at s (Some (bool_site b ty)) n h = carried s (first_only (is_in s ts) h)
+    known_at s (Some (int_site z ty)) n h = refl
+    known_at s (Some (prim_site name)) n h = refl
+    known_at s (Some (argument_site i)) n h = refl
+    known_at s (Some (extractor_site term source)) n h = carried s (first_only (is_in s ts) h)
+    known_at s (Some (constructor_site term sources instance)) n h = carried s (first_only (is_in s ts) h)
+    known_at s (Some (iterator_site source)) n h = carried s (first_only (is_in s ts) h)
+    known_at s (Some (make_variant_site ty variant [])) n h = refl
+    known_at s (Some (make_variant_site ty variant (f ∷ fs))) n h = carried s (first_only (is_in s ts) h)
+    known_at s (Some (match_variant_site source variant field)) n h = carried s (first_only (is_in s ts) h)
+    known_at s (Some (make_struct_site ty [])) n h = refl
+    known_at s (Some (make_struct_site ty (f ∷ fs))) n h = carried s (first_only (is_in s ts) h)
+    known_at s (Some (extract_struct_site source field)) n h = carried s (first_only (is_in s ts) h)
+    known_at s (Some (make_some_site source)) n h = carried s (first_only (is_in s ts) h)
+    known_at s (Some (match_some_site source)) n h = carried s (first_only (is_in s ts) h)
+    known_at s (Some (match_tuple_site source field)) n h =
+        elim (or_split (is_in s ts) (list_all (λ a. is_in a ts) (source ∷ [])) h) [
+          | inl e ↦ absurd (n refl (member_found s ts e))
+          | inr e ↦ carried source (each_passes (λ a. is_in a ts) (source ∷ []) e source (in_head source []))
+        ]
+
+    known : (s : ℕ) → can_be_used sites ts s ≡ true → knows cs (place_of (slice_get sites s) s) ≡ true
+    known s h = known_at s (slice_get sites s) (λ i c. k.outside s c i) h
+
+    abbrev AllUsable : List ℕ → Type 0
+    AllUsable ss = (x : ℕ) → Contains ss x → can_be_used sites ts x ≡ true
+
+    arguments_known : (term i : ℕ) (ss : List ℕ) → AllUsable ss → knows_all cs (arguments_from sites p term i ss) ≡ true
+    arguments_known term i [] h = refl
+    arguments_known term i (s ∷ ss) h = and_from _ _ (known s (h s (in_head s ss))) (arguments_known term (suc i) ss (λ x c. h x (in_tail s x ss c)))
+
+    fields_known : (ss : List ℕ) → AllUsable ss → knows_all cs (fields_of sites p ss) ≡ true
+    fields_known [] h = refl
+    fields_known (s ∷ ss) h = and_from _ _ (known s (h s (in_head s ss))) (fields_known ss (λ x c. h x (in_tail s x ss c)))
+
+    -- 2. a site is bound
+    bind_scoped : (s : ℕ) (o : Option Site) (rest : Block) → is_in_place o ≡ false → AllUsable (made_of o) → block_scoped false (s ∷ cs) rest ≡ true
+        → block_scoped false cs (statement (bind_code sites p s o) rest) ≡ true
+    bind_scoped s None rest n u h = refl
+    bind_scoped s (Some (bool_site b ty)) rest n u h = h
+    bind_scoped s (Some (int_site z ty)) rest n u h = absurd (true≢false n)
+    bind_scoped s (Some (prim_site name)) rest n u h = absurd (true≢false n)
+    bind_scoped s (Some (argument_site i)) rest n u h = absurd (true≢false n)
+    bind_scoped s (Some (extractor_site term source)) rest n u h = and_from _ _ (known source (u source (in_head source []))) h
+    bind_scoped s (Some (constructor_site term sources instance)) rest n u h = and_from _ _ (arguments_known term 0 sources u) h
+    bind_scoped s (Some (iterator_site source)) rest n u h = refl
+    bind_scoped s (Some (make_variant_site ty variant fields)) rest n u h = and_from _ _ (fields_known fields u) h
+    bind_scoped s (Some (match_variant_site source variant field)) rest n u h = refl
+    bind_scoped s (Some (make_struct_site ty fields)) rest n u h = and_from _ _ (fields_known fields u) h
+    bind_scoped s (Some (extract_struct_site source field)) rest n u h = refl
+    bind_scoped s (Some (make_some_site source)) rest n u h = and_from _ _ (known source (u source (in_head source []))) h
+    bind_scoped s (Some (match_some_site source)) rest n u h = and_from _ _ (known source (u source (in_head source []))) h
+    bind_scoped s (Some (match_tuple_site source field)) rest n u h = absurd (true≢false n)
+
+  -- sites are bound in order, and what follows
+  moved_back : (s : ℕ) (ss ts : List ℕ) (x : ℕ) → Contains (s ∷ (ss ++ ts)) x → Contains (ss ++ s ∷ ts) x
+  moved_back s ss ts x c =
+      elim (in_cases s x (ss ++ ts) c) [
+        | inl e ↦ Contains-append_right ss (s ∷ ts) x (subst (Contains (s ∷ ts)) e (in_head s ts))
+        | inr d ↦ elim (Contains-append_cases ss ts x d) [ inl f ↦ Contains-append_left ss (s ∷ ts) x f | inr f ↦ Contains-append_right ss (s ∷ ts) x (in_tail s x ts f) ]
+      ]
+
+  binds_scoped : (again ss ts cs : List ℕ) (rest : Block) → binds_once sites again ts ss ≡ true → none_in_place sites ss ≡ true → Kept ts cs
+      → ((cs' : List ℕ) → Kept (ss ++ ts) cs' → block_scoped false cs' rest ≡ true) → block_scoped false cs (binds_code sites p ss rest) ≡ true
+  binds_scoped again [] ts cs rest h n k next = next cs k
+  binds_scoped again (s ∷ ss) ts cs rest h n k next =
+      let hs = and_parts ((not (is_in s ts) || is_in s again) && list_all (can_be_used sites ts) (sources_at sites s)) (binds_once sites again (s ∷ ts) ss) h in
+      let us = and_parts (not (is_in s ts) || is_in s again) (list_all (can_be_used sites ts) (sources_at sites s)) hs.0 in
+      let ns = and_parts (not_in_place sites s) (none_in_place sites ss) n in
+      bind_scoped ts cs k s (slice_get sites s) (binds_code sites p ss rest) (outside (is_in_place (slice_get sites s)) ns.0) (each_passes (can_be_used sites ts) (sources_at sites s) us.1)
+      (binds_scoped again ss (s ∷ ts) (s ∷ cs) rest hs.1 ns.1 (kept_more ts cs s k ns.0)
+      (λ cs' k'. next cs' (record { there = λ x c. k'.there x (moved_back s ss ts x c); outside = λ x c i. k'.outside x (moved_back s ss ts x c) i })))
+
+  kept_fields : (fields : List (Option ℕ)) (ts cs : List ℕ) → no_field_in_place sites fields ≡ true → Kept ts cs → Kept (field_sites fields ++ ts) (field_sites fields ++ cs)
+  kept_fields [] ts cs n k = k
+  kept_fields (None ∷ rest) ts cs n k = kept_fields rest ts cs n k
+  kept_fields (Some s ∷ rest) ts cs n k =
+      let ns = and_parts (not_in_place sites s) (no_field_in_place sites rest) n in
+      kept_more (field_sites rest ++ ts) (field_sites rest ++ cs) s (kept_fields rest ts cs ns.1 k) ns.0
+
+  -- 3. a loop, and a return
+  loop_scoped : (over : LoopsAreOverBound sites) (result : ℕ) (o : Option Site) (body : Block) (ts cs : List ℕ) → slice_get sites result ≡ o → Kept ts cs
+      → ((x : ℕ) → Contains (made_of o) x → can_be_used sites ts x ≡ true) → block_scoped false (result ∷ cs) body ≡ true → statement_scoped false cs (loop_code o result body) ≡ true
+  loop_scoped over result None body ts cs at k u h = refl
+  loop_scoped over result (Some (bool_site b ty)) body ts cs at k u h = refl
+  loop_scoped over result (Some (int_site z ty)) body ts cs at k u h = refl
+  loop_scoped over result (Some (prim_site name)) body ts cs at k u h = refl
+  loop_scoped over result (Some (argument_site i)) body ts cs at k u h = refl
+  loop_scoped over result (Some (extractor_site term source)) body ts cs at k u h = refl
+  loop_scoped over result (Some (constructor_site term sources instance)) body ts cs at k u h = refl
+  loop_scoped over result (Some (iterator_site source)) body ts cs at k u h =
+      and_from _ _
+      (carried ts cs k source (first_only (is_in source ts)
+      (ap (λ b. is_in source ts || (b && list_all (λ a. is_in a ts) (sources_at sites source))) (sym (over result source at)) ∙ u source (in_head source [])))) h
+  loop_scoped over result (Some (make_variant_site ty variant fields)) body ts cs at k u h = refl
+  loop_scoped over result (Some (match_variant_site source variant field)) body ts cs at k u h = refl
+  loop_scoped over result (Some (make_struct_site ty fields)) body ts cs at k u h = refl
+  loop_scoped over result (Some (extract_struct_site source field)) body ts cs at k u h = refl
+  loop_scoped over result (Some (make_some_site source)) body ts cs at k u h = refl
+  loop_scoped over result (Some (match_some_site source)) body ts cs at k u h = refl
+  loop_scoped over result (Some (match_tuple_site source field)) body ts cs at k u h = refl
+
+  loop_after : (o : Option Site) (result : ℕ) (body : Block) (cs : List ℕ) → scope_after cs (loop_code o result body) ≡ cs
+  loop_after None result body cs = refl
+  loop_after (Some (bool_site b ty)) result body cs = refl
+  loop_after (Some (int_site z ty)) result body cs = refl
+  loop_after (Some (prim_site name)) result body cs = refl
+  loop_after (Some (argument_site i)) result body cs = refl
+  loop_after (Some (extractor_site term source)) result body cs = refl
+  loop_after (Some (constructor_site term sources instance)) result body cs = refl
+  loop_after (Some (iterator_site source)) result body cs = refl
+  loop_after (Some (make_variant_site ty variant fields)) result body cs = refl
+  loop_after (Some (match_variant_site source variant field)) result body cs = refl
+  loop_after (Some (make_struct_site ty fields)) result body cs = refl
+  loop_after (Some (extract_struct_site source field)) result body cs = refl
+  loop_after (Some (make_some_site source)) result body cs = refl
+  loop_after (Some (match_some_site source)) result body cs = refl
+  loop_after (Some (match_tuple_site source field)) result body cs = refl
+
+  return_scoped : (o : Option SetRule) (r : SetRule) (ts cs : List ℕ) → o ≡ Some r → Kept ts cs → ((x : ℕ) → Contains (return_uses o) x → can_be_used sites ts x ≡ true)
+      → statement_scoped false cs (check_code (return_of o) sites p) ≡ true
+  return_scoped None r ts cs e k u = absurd (none-some r e)
+  return_scoped (Some q) r ts cs e k u = known ts cs k q.result (u q.result (Contains-append_right q.impure (q.result ∷ []) q.result (in_head q.result [])))
+
+  return_after : (o : Option SetRule) (cs : List ℕ) → scope_after cs (check_code (return_of o) sites p) ≡ cs
+  return_after None cs = refl
+  return_after (Some r) cs = refl
+
+-- 4. by induction on the marked tree
+module _ (set : SiteSet) (p : Passes) (over : LoopsAreOverBound set.sites) where
+  abbrev AreOfRules : List ℕ → Type 0
+  AreOfRules ms = (i : ℕ) → Contains ms i → i < length set.rules
+
+  check_after : (check : MarkedCheck) (cs : List ℕ) → scope_after cs (check_code (plain_check set.rules check) set.sites p) ≡ cs
+  check_after (m_match source arms) cs = refl
+  check_after (m_equal a b body) cs = refl
+  check_after (m_loop result body) cs = loop_after set.sites p (slice_get set.sites result) result (tree_code (plain set.rules body) set.sites p) cs
+  check_after (m_return rule) cs = return_after set.sites p (slice_get set.rules rule) cs
+
+  mutual
+    steps_scoped : (m : Marked) (again ts cs : List ℕ) → binds_before_use set true again ts m ≡ true → binds_none_in_place (plain set.rules m) set.sites ≡ true → AreOfRules (marks m) → Kept set.sites p ts cs
+        → block_scoped false cs (tree_code (plain set.rules m) set.sites p) ≡ true
+    steps_scoped m_no_step again ts cs h n ks k = refl
+    steps_scoped (m_step binds check rest) again ts cs h n ks k =
+        let inner = binds ++ ts in
+        let hs = and_parts _ (if is_return check && not true then true else binds_before_use set true (gone_over set check ++ again) inner rest) h in
+        let cs1 = and_parts (binds_once set.sites again ts binds && list_all (can_be_used set.sites inner) (uses set check)) (binds_in_check set true again inner check) hs.0 in
+        let bs = and_parts (binds_once set.sites again ts binds) (list_all (can_be_used set.sites inner) (uses set check)) cs1.0 in
+        let ns = and_parts (none_in_place set.sites binds) (check_binds_none (plain_check set.rules check) set.sites && binds_none_in_place (plain set.rules rest) set.sites) n in
+        let ms = and_parts (check_binds_none (plain_check set.rules check) set.sites) (binds_none_in_place (plain set.rules rest) set.sites) ns.1 in
+        binds_scoped set.sites p again binds ts cs _ bs.0 ns.0 k
+        (λ cs' k'. and_from (statement_scoped false cs' (check_code (plain_check set.rules check) set.sites p)) _
+        (check_scoped check again inner cs' (each_passes (can_be_used set.sites inner) (uses set check) bs.1) cs1.1 ms.0 (λ i c. ks i (Contains-append_left (marks_check check) (marks rest) i c)) k')
+        (ended_or (check_code (plain_check set.rules check) set.sites p) _
+        (ap (λ sc. block_scoped false sc (tree_code (plain set.rules rest) set.sites p)) (check_after check cs')
+        ∙ steps_scoped rest (gone_over set check ++ again) inner cs' (later_there check _ hs.1) ms.1 (λ i c. ks i (Contains-append_right (marks_check check) (marks rest) i c)) k')))
+
+    check_scoped : (check : MarkedCheck) (again ts cs : List ℕ) → ((x : ℕ) → Contains (uses set check) x → can_be_used set.sites ts x ≡ true)
+        → binds_in_check set true again ts check ≡ true → check_binds_none (plain_check set.rules check) set.sites ≡ true → AreOfRules (marks_check check) → Kept set.sites p ts cs
+        → statement_scoped false cs (check_code (plain_check set.rules check) set.sites p) ≡ true
+    check_scoped (m_match source arms) again ts cs u h n ms k = and_from _ _ (known set.sites p ts cs k source (u source (in_head source []))) (arms_are_scoped arms again ts cs h n ms k)
+    check_scoped (m_equal a b body) again ts cs u h n ms k =
+        and_from _ _ (and_from _ _ (known set.sites p ts cs k a (u a (in_head a (b ∷ [])))) (known set.sites p ts cs k b (u b (in_tail a b (b ∷ []) (in_head b []))))) (steps_scoped body again ts cs h n ms k)
+    check_scoped (m_loop result body) again ts cs u h n ms k =
+        let hs = and_parts (brings_new ts (result ∷ [])) (binds_before_use set true (sources_at set.sites result ++ again) (result ∷ ts) body) h in
+        let ns = and_parts (not_in_place set.sites result) (binds_none_in_place (plain set.rules body) set.sites) n in
+        loop_scoped set.sites p over result (slice_get set.sites result) (tree_code (plain set.rules body) set.sites p) ts cs refl k u
+        (steps_scoped body (sources_at set.sites result ++ again) (result ∷ ts) (result ∷ cs) hs.1 ns.1 ms (kept_more set.sites p ts cs result k ns.0))
+    check_scoped (m_return rule) again ts cs u h n ms k =
+        let r = get_within set.rules rule (ms rule (in_head rule [])) in
+        return_scoped set.sites p (slice_get set.rules rule) r.0 ts cs r.1 k u
+
+    arms_are_scoped : (arms : MarkedArms) (again ts cs : List ℕ) → binds_in_arms set true again ts arms ≡ true → arms_bind_none (plain_arms set.rules arms) set.sites ≡ true → AreOfRules (marks_arms arms) → Kept set.sites p ts cs
+        → arms_scoped false cs (arms_code (plain_arms set.rules arms) set.sites p) ≡ true
+    arms_are_scoped m_no_arm again ts cs h n ms k = refl
+    arms_are_scoped (m_arm constraint fields body rest) again ts cs h n ms k =
+        let hs = and_parts (brings_new ts (field_sites fields) && binds_before_use set true again (field_sites fields ++ ts) body) (binds_in_arms set true again ts rest) h in
+        let bs = and_parts (brings_new ts (field_sites fields)) (binds_before_use set true again (field_sites fields ++ ts) body) hs.0 in
+        let ns = and_parts (no_field_in_place set.sites fields) (binds_none_in_place (plain set.rules body) set.sites && arms_bind_none (plain_arms set.rules rest) set.sites) n in
+        let os = and_parts (binds_none_in_place (plain set.rules body) set.sites) (arms_bind_none (plain_arms set.rules rest) set.sites) ns.1 in
+        and_from _ _
+        (steps_scoped body again (field_sites fields ++ ts) (field_sites fields ++ cs) bs.1 os.0 (λ i c. ms i (Contains-append_left (marks body) (marks_arms rest) i c)) (kept_fields set.sites p fields ts cs ns.0 k))
+        (arms_are_scoped rest again ts cs hs.1 os.1 (λ i c. ms i (Contains-append_right (marks body) (marks_arms rest) i c)) k)
+
+pub printed_code_is_scoped_lem : PrintedCodeIsScoped
+printed_code_is_scoped_lem set tree p deep n best binds over =
+    flat_keeps_scopes_lem (tree_code tree set.sites p) deep n [] (tree_unlabelled set.sites p tree)
+    (subst (λ t. block_scoped false [] (tree_code t set.sites p) ≡ true) binds.returns.same
+    (steps_scoped set p over binds.marked [] [] [] binds.bound (ap (λ t. binds_none_in_place t set.sites) binds.returns.same ∙ best_trees_bind_none_in_place_lem set tree best)
+    (λ i c. All-contains (λ j. j < length set.rules) (marks binds.marked) i binds.returns.known c)
+    (record { there = λ x c. c; outside = λ x c i. nothing_in x c })))

@@ -1,0 +1,127 @@
+-- The words and marks of a text, without white space and comments. Letters, digits and `_` that touch are one word, what is in
+-- quotes is one too, and any other character is a mark.
+use Rattle.std.specs.Prelude.{◌≡◌, ◌≢◌, ◌||◌, ◌++◌, ◌==◌, ◌∷◌, [], ℕ, ℤ, Bool, true, false, not, Option, List, All}
+use Rattle.std.specs.Char.{is_ascii_alphanumeric}
+use Rattle.model.specs.lists.Syntax.{Position}
+use Rattle.model_code.specs.Code.{Block}
+use Rattle.model_code.specs.Tokens.{Owner}
+use Rattle.model_code.specs.Notation.{Notation}
+use Rattle.model_code.specs.Pieces.{Piece, token, log_line}
+use Rattle.model_code.specs.Written.{function_body}
+use Rattle.model_code.specs.Spelling.{Names, token_text, spelled}
+
+abbrev pub is_letter : ℕ → Bool
+is_letter c = is_ascii_alphanumeric c || c == 95
+
+abbrev pub is_white : ℕ → Bool
+is_white c = c == 32 || c == 10
+
+-- what is begun, with what there is of it
+pub data State : Type 0 where
+  between : State
+  in_word : (w : List ℕ) → State
+  behind_slash : State
+  in_comment : State
+  in_quotes : (q : List ℕ) → State
+  behind_backslash : (q : List ℕ) → State
+
+-- what goes on behind a character, by the state that it leaves
+abbrev pub Going : Type 0
+Going = State → List (List ℕ)
+
+-- a character where nothing is begun
+abbrev pub quotes_or_mark : Bool → ℕ → Going → List (List ℕ)
+quotes_or_mark true c go = go (in_quotes (c ∷ []))
+quotes_or_mark false c go = (c ∷ []) ∷ go between
+
+abbrev pub slash_or_other : Bool → ℕ → Going → List (List ℕ)
+slash_or_other true c go = go behind_slash
+slash_or_other false c go = quotes_or_mark (c == 34) c go
+
+abbrev pub white_or_other : Bool → ℕ → Going → List (List ℕ)
+white_or_other true c go = go between
+white_or_other false c go = slash_or_other (c == 47) c go
+
+abbrev pub letter_or_other : Bool → ℕ → Going → List (List ℕ)
+letter_or_other true c go = go (in_word (c ∷ []))
+letter_or_other false c go = white_or_other (is_white c) c go
+
+abbrev pub begun : ℕ → Going → List (List ℕ)
+begun c go = letter_or_other (is_letter c) c go
+
+abbrev pub word_goes_on : Bool → List ℕ → ℕ → Going → List (List ℕ)
+word_goes_on true w c go = go (in_word (w ++ (c ∷ [])))
+word_goes_on false w c go = w ∷ begun c go
+
+abbrev pub comment_begins : Bool → ℕ → Going → List (List ℕ)
+comment_begins true c go = go in_comment
+comment_begins false c go = (47 ∷ []) ∷ begun c go
+
+abbrev pub comment_ends : Bool → Going → List (List ℕ)
+comment_ends true go = go between
+comment_ends false go = go in_comment
+
+abbrev pub quotes_end : Bool → List ℕ → Going → List (List ℕ)
+quotes_end true q go = q ∷ go between
+quotes_end false q go = go (in_quotes q)
+
+abbrev pub escapes : Bool → Bool → List ℕ → Going → List (List ℕ)
+escapes true ends q go = go (behind_backslash q)
+escapes false ends q go = quotes_end ends q go
+
+abbrev pub next_state : State → ℕ → Going → List (List ℕ)
+next_state between c go = begun c go
+next_state (in_word w) c go = word_goes_on (is_letter c) w c go
+next_state behind_slash c go = comment_begins (c == 47) c go
+next_state in_comment c go = comment_ends (c == 10) go
+next_state (in_quotes q) c go = escapes (c == 92) (c == 34) (q ++ (c ∷ [])) go
+next_state (behind_backslash q) c go = go (in_quotes (q ++ (c ∷ [])))
+
+abbrev pub at_end : State → List (List ℕ)
+at_end between = []
+at_end (in_word w) = w ∷ []
+at_end behind_slash = (47 ∷ []) ∷ []
+at_end in_comment = []
+at_end (in_quotes q) = q ∷ []
+at_end (behind_backslash q) = q ∷ []
+
+abbrev pub lexed_from : List ℕ → State → List (List ℕ)
+lexed_from [] s = at_end s
+lexed_from (c ∷ cs) s = next_state s c (lexed_from cs)
+
+abbrev pub lexed : List ℕ → List (List ℕ)
+lexed text = lexed_from text between
+
+-- a text that is read by itself, where no letter follows
+abbrev pub starts_apart : List ℕ → Bool
+starts_apart [] = true
+starts_apart (c ∷ cs) = not (is_letter c)
+
+abbrev pub IsWhole : List ℕ → Type 0
+IsWhole text = (rest : List ℕ) → starts_apart rest ≡ true → lexed (text ++ rest) ≡ lexed text ++ lexed rest
+
+-- names that are read by themselves, and places that stay on their line
+pub record AreWhole (names : Names) : Type 0 where
+  pub owner : (o : Owner) → IsWhole (names.owner o)
+  pub field : (o : Owner) (i : ℕ) → IsWhole (names.field o i)
+  pub function : (f : ℕ) → IsWhole (names.function f)
+  pub list : (l : Option ℕ) → IsWhole (names.list l)
+  pub constant : (name : ℕ) → IsWhole (names.constant name)
+  pub number : (z : ℤ) (ending : ℕ) → IsWhole (names.number z ending)
+  pub panic : IsWhole names.panic
+  pub log : (at : Position) → IsWhole (names.log at)
+  pub place : (at : Position) → All (λ c. c ≢ 10) (names.place at)
+
+-- the words and marks of each token, and of what tells the log a rule: white space and comments have none
+abbrev pub piece_lexed : Names → Piece → List (List ℕ)
+piece_lexed names (token t) = lexed (token_text names t)
+piece_lexed names (log_line at) = lexed (names.log at)
+piece_lexed names piece = []
+
+abbrev pub pieces_lexed : Names → List Piece → List (List ℕ)
+pieces_lexed names [] = []
+pieces_lexed names (piece ∷ rest) = piece_lexed names piece ++ pieces_lexed names rest
+
+-- the text of a function's body has the words and marks of its tokens
+abbrev pub TextHasTokens : Type 0
+TextHasTokens = (names : Names) (p : Notation) (code : Block) → AreWhole names → lexed (spelled names (function_body p code)) ≡ pieces_lexed names (function_body p code)

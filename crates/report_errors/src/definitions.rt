@@ -1,0 +1,148 @@
+//! Where the things that errors speak of are defined.
+
+use core_syntax::syntax::{Decl, Def, Extern, Ident, Pos, Rule, Type, TypeValue, Variant};
+
+/// The declaration of a term: the first, where there are several.
+pub fn declaration_of<'a>(defs: &'a [Def], term: &str) -> Option<&'a Decl> {
+    for def in defs {
+        if let Def::Decl(decl) = def {
+            if decl.term.0.as_str() == term {
+                return Some(decl);
+            }
+        }
+    }
+    None
+}
+
+/// The variant that makes the term of a name.
+pub fn variant_of<'a>(defs: &'a [Def], term: &str) -> Option<&'a Variant> {
+    match variant_with_type(defs, term) {
+        Some((_, variant)) => Some(variant),
+        None => None,
+    }
+}
+
+/// The variant that makes the term of a name, behind its type.
+pub fn variant_with_type<'a>(defs: &'a [Def], term: &str) -> Option<(&'a Type, &'a Variant)> {
+    for def in defs {
+        if let Def::TypeDef(ty) = def {
+            if let Some(variant) = variant_in(ty, term) {
+                return Some((ty, variant));
+            }
+        }
+    }
+    None
+}
+
+/// The variant of a type that makes the term of a name.
+pub fn variant_in<'a>(ty: &'a Type, term: &str) -> Option<&'a Variant> {
+    let TypeValue::Enum(variants, _) = &ty.ty else {
+        return None;
+    };
+    let short = term.strip_prefix(ty.name.0.as_str())?.strip_prefix(".")?;
+    for variant in variants {
+        if variant.name.0.as_str() == short {
+            return Some(variant);
+        }
+    }
+    None
+}
+
+/// The struct of a name.
+pub fn struct_of<'a>(defs: &'a [Def], name: &str) -> Option<&'a Type> {
+    for def in defs {
+        if let Def::TypeDef(ty) = def {
+            if is_struct(ty, name) {
+                return Some(ty);
+            }
+        }
+    }
+    None
+}
+
+/// Whether a type is the struct of a name.
+pub fn is_struct(ty: &Type, name: &str) -> bool {
+    matches!(&ty.ty, TypeValue::Struct(..)) && ty.name.0.as_str() == name
+}
+
+/// Where the term of a name is defined.
+pub fn place_of_term(defs: &[Def], term: &str) -> Option<Pos> {
+    if let Some(decl) = declaration_of(defs, term) {
+        return Some(decl.pos);
+    }
+    place_of_made(defs, term)
+}
+
+/// Where the variant or the struct that makes the term of a name is defined.
+pub fn place_of_made(defs: &[Def], term: &str) -> Option<Pos> {
+    if let Some(variant) = variant_of(defs, term) {
+        return Some(variant.pos);
+    }
+    match struct_of(defs, term) {
+        Some(ty) => Some(ty.pos),
+        None => None,
+    }
+}
+
+/// Where a constant is defined.
+pub fn place_of_constant(defs: &[Def], constant: &str) -> Option<Pos> {
+    for def in defs {
+        if let Def::Extern(Extern::Const { name, pos, .. }) = def {
+            if name.0.as_str() == constant {
+                return Some(*pos);
+            }
+        }
+    }
+    None
+}
+
+/// Where the pattern of a term's internal extractor stands.
+pub fn place_of_template(defs: &[Def], term: &str) -> Option<Pos> {
+    for def in defs {
+        if let Def::Extractor(extractor) = def {
+            if extractor.term.0.as_str() == term {
+                return Some(extractor.template.pos());
+            }
+        }
+    }
+    None
+}
+
+/// The definition that a place lies in: the last one of its file that begins there or before.
+pub fn definition_around(defs: &[Def], pos: Pos) -> Option<&Def> {
+    let mut found = None;
+    let mut begin = 0;
+    for def in defs {
+        if let Some(at) = def.place() {
+            if at.file == pos.file && at.offset <= pos.offset && at.offset >= begin {
+                found = Some(def);
+                begin = at.offset;
+            }
+        }
+    }
+    found
+}
+
+/// The rule that a place lies in.
+pub fn rule_around(defs: &[Def], pos: Pos) -> Option<&Rule> {
+    match definition_around(defs, pos) {
+        Some(Def::Rule(rule)) => Some(rule),
+        _ => None,
+    }
+}
+
+/// The name of the term that a rule is of, or the empty text.
+pub fn root_of(rule: &Rule) -> &str {
+    match rule.pattern.root_term() {
+        Some(root) => root.0.as_str(),
+        None => "",
+    }
+}
+
+/// The term that an external function is of, or the type of a constant.
+pub fn subject_of(external: &Extern) -> &Ident {
+    match external {
+        Extern::Constructor { term, .. } | Extern::Extractor { term, .. } => term,
+        Extern::Const { ty, .. } => ty,
+    }
+}

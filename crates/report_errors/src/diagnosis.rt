@@ -1,0 +1,519 @@
+//! What is wrong with definitions, as reports.
+
+use crate::names::{name_of, priority_of, rule_at};
+use crate::numbered::{named_forms, only_place};
+use crate::order::Order;
+use crate::reports::report_of as report_of_type_error;
+use crate::templates::{Templates, report_of_template};
+use crate::uses::add_uses;
+use cranelift_isle::syntax::{Def, Error, Limit, Pos, Span};
+use report_print::report::{Level, Report};
+use report_witness::forms::{Form, push_form};
+use report_witness::witness::{Conflict, conflict_in, left_side, witness};
+use std::alloc::{AllocError, Global};
+
+// How many errors are reported, if not all are wanted.
+const MOST_ERRORS: usize = 20;
+
+// How many of the rules that overlap one are shown, if not all are wanted.
+const MOST_RULES: usize = 5;
+
+// How many of the rules that overlap one are shown with what both match.
+const MOST_VALUES: usize = 3;
+
+// The definitions that errors are of, and how much is said of an error.
+#[derive(Clone, Copy)]
+struct Source<'a> {
+    alloc: Global,
+    defs: &'a [Def],
+    // Whether uses of internal extractors are replaced by their templates.
+    expand: bool,
+    // How many of the rules that overlap one are shown.
+    most_rules: usize,
+}
+
+/// The reports of errors.
+pub struct Reports {
+    /// A report for each error that is shown.
+    pub reports: Vec<Report>,
+    /// How many more there are.
+    pub rest: usize,
+}
+
+impl Drop for Reports {
+    fn drop(self) {
+        let Reports {
+            reports: _,
+            rest: _,
+        } = self;
+    }
+}
+
+/// The reports of the errors of lowering these definitions. If `all` are wanted, each error has one, in order. Else those have
+/// one that say no more than another one, causes before what follows from them, and rules that can't match only because of an
+/// internal extractor are told with the extractor, once; only the first 20 are shown, and only the first 5 rules that overlap a
+/// rule. Overlaps are reported with what both rules match.
+pub fn reports_of(
+    alloc: Global,
+    defs: &[Def],
+    expand: bool,
+    errors: &[Error],
+    all: bool,
+) -> Result<Reports, AllocError> {
+    let source = Source {
+        alloc,
+        defs,
+        expand,
+        most_rules: if all { usize::MAX } else { MOST_RULES },
+    };
+    let order = if all {
+        Order::of_all(alloc, errors.len())?
+    } else {
+        Order::by_causes(alloc, defs, errors)?
+    };
+    let templates = if all || !expand {
+        Templates::none(alloc)
+    } else {
+        Templates::behind(alloc, defs, errors)?
+    };
+    let shown = templates.leading(alloc, &order.shown)?;
+    let most = if all { usize::MAX } else { MOST_ERRORS };
+    let mut reports = Vec::new(alloc);
+    for number in shown.iter().take(most) {
+        match templates.told_with(*number) {
+            Some(one) => reports.push(report_of_template(alloc, defs, one)?)?,
+            None => add_report(source, &mut reports, errors, &order, *number)?,
+        }
+    }
+    let rest = shown.len().saturating_sub(reports.len());
+    Ok(Reports { reports, rest })
+}
+
+// Adds the report of the error of a number.
+fn add_report(
+    source: Source<'_>,
+    reports: &mut Vec<Report>,
+    errors: &[Error],
+    order: &Order,
+    number: usize,
+) -> Result<(), AllocError> {
+    let Some(error) = errors.get(number) else {
+        return Ok(());
+    };
+    let before = times_before(errors, number, error);
+    let mut report = report_of(source, error, before)?;
+    add_uses(
+        source.alloc,
+        &mut report,
+        source.defs,
+        errors,
+        order,
+        number,
+    )?;
+    reports.push(report)?;
+    Ok(())
+}
+
+/// How many of the first errors, so many, say that the rule of an error can't match.
+pub(crate) fn times_before(errors: &[Error], count: usize, error: &Error) -> usize {
+    let Error::UnreachableError { span, .. } = error else {
+        return 0;
+    };
+    errors
+        .iter()
+        .take(count)
+        .filter(|other| is_unreachable(other, *span))
+        .count()
+}
+
+// Whether an error says that the rule there can't match.
+fn is_unreachable(error: &Error, place: Span) -> bool {
+    match error {
+        Error::UnreachableError { span, .. } => *span == place,
+        _ => false,
+    }
+}
+
+// The report of an error. `before` is how many reports say that its rule can't match.
+fn report_of(source: Source<'_>, error: &Error, before: usize) -> Result<Report, AllocError> {
+    match error {
+        Error::TypeError { msg, span } => {
+            report_of_type_error(source.alloc, source.defs, msg, span.from)
+        }
+        Error::UnreachableError { msg, span } => unreachable(source, msg, *span, before),
+        Error::LimitError { limit, msg, span } => of_rule(
+            source,
+            ("limit", msg),
+            *span,
+            way_below(*limit),
+        ),
+        Error::OverlapError { rules, .. } => overlap(source, rules),
+        Error::ShadowedError { shadowed, mask } => shadow(source, shadowed, *mask),
+    }
+}
+
+// The report of a rule that can't match.
+fn unreachable(
+    source: Source<'_>,
+    msg: &str,
+    span: Span,
+    before: usize,
+) -> Result<Report, AllocError> {
+    let found = match rule_at(source.defs, span.from) {
+        Some(rule) => conflict_in(source.alloc, source.defs, source.expand, rule, before)?,
+        None => None,
+    };
+    match found {
+        Some(conflict) => of_conflict(source, span, conflict),
+        None => of_words(source, msg, span),
+    }
+}
+
+// The report of a rule that can't match, by the library's words.
+fn of_words(source: Source<'_>, msg: &str, span: Span) -> Result<Report, AllocError> {
+    let alloc = source.alloc;
+    let Some((first, second)) = named_forms(alloc, source.defs, source.expand, msg)? else {
+        return of_rule(source, ("unreachable", msg), span, WAY_OUT);
+    };
+    let mut message = String::new(alloc);
+    push_rule(&mut message, source.defs, span.from)?;
+    write!(
+        message,
+        " can never match: no value is both `{first}` and `{second}`"
+    )?;
+    let mut report = begun(alloc, "unreachable", &message)?;
+    match (
+        place_of_form(source, span.from, &first)?,
+        place_of_form(source, span.from, &second)?,
+    ) {
+        (Some(left), Some(right)) => {
+            report.add_label(left, format!(in alloc; "must be `{first}`")?)?;
+            report.add_label(right, format!(in alloc; "must be `{second}`")?)?;
+        }
+        _ => add_rule(alloc, &mut report, source.defs, span.from, "", "")?,
+    }
+    add_help(alloc, &mut report, WAY_OUT)?;
+    Ok(report)
+}
+
+// The place of a form in the patterns of the rule at a position, if it stands there once.
+fn place_of_form(source: Source<'_>, rule: Pos, form: &str) -> Result<Option<Pos>, AllocError> {
+    match rule_at(source.defs, rule) {
+        Some(rule) => only_place(source.alloc, rule, form),
+        None => Ok(None),
+    }
+}
+
+// What to do about a rule that can't match.
+const WAY_OUT: &str =
+    "no value meets all conditions of the rule: change one of them, or remove the rule";
+
+// The report of a rule that demands two forms of one value, with the places of both.
+fn of_conflict(
+    source: Source<'_>,
+    span: Span,
+    conflict: Conflict<'_>,
+) -> Result<Report, AllocError> {
+    let alloc = source.alloc;
+    let mut message = String::new(alloc);
+    push_rule(&mut message, source.defs, span.from)?;
+    message.push_str(" can never match: no value is both ")?;
+    push_quoted(&mut message, conflict.first.0)?;
+    message.push_str(" and ")?;
+    push_quoted(&mut message, conflict.second.0)?;
+    let mut report = begun(alloc, "unreachable", &message)?;
+    add_form(alloc, &mut report, "must be ", conflict.first)?;
+    add_form(alloc, &mut report, "must be ", conflict.second)?;
+    add_help(alloc, &mut report, WAY_OUT)?;
+    Ok(report)
+}
+
+/// Adds the place where a form is demanded.
+pub(crate) fn add_form(
+    alloc: Global,
+    report: &mut Report,
+    before: &str,
+    (form, pos): (Form<'_>, Pos),
+) -> Result<(), AllocError> {
+    let mut text = String::from_str(alloc, before)?;
+    push_quoted(&mut text, form)?;
+    report.add_label(pos, text)
+}
+
+// Adds a form as a quotation.
+fn push_quoted(out: &mut String, form: Form<'_>) -> Result<(), AllocError> {
+    out.push('`')?;
+    push_form(out, form)?;
+    out.push('`')
+}
+
+// A report with these words and places to come.
+fn begun(alloc: Global, kind: &'static str, message: &str) -> Result<Report, AllocError> {
+    let message = String::from_str(alloc, message)?;
+    Ok(Report::new(alloc, Level::Error, kind, message))
+}
+
+// A report of one rule, with what helps.
+fn of_rule(
+    source: Source<'_>,
+    (kind, message): (&'static str, &str),
+    span: Span,
+    help: &str,
+) -> Result<Report, AllocError> {
+    let alloc = source.alloc;
+    let mut report = begun(alloc, kind, message)?;
+    add_rule(alloc, &mut report, source.defs, span.from, "", "")?;
+    add_help(alloc, &mut report, help)?;
+    Ok(report)
+}
+
+// What keeps a rule below a limit.
+fn way_below(limit: Limit) -> &'static str {
+    match limit {
+        Limit::Fields =>
+            "split the type: a variant or struct that patterns match may have at most 255 fields",
+        Limit::Outputs => "split the extractor, or let it return a struct",
+        Limit::Arguments => "split the term, or pass some of its arguments in a struct",
+        Limit::Sites =>
+            "split the term or the rule: the limit is on the sites of all rules of a term together",
+        Limit::Nesting => {
+            "nest fewer internal extractors; if the extractor of a converter needs this converter again, expansion never ends"
+        }
+        Limit::Expansions => "use fewer internal extractors, or make some of them external",
+    }
+}
+
+// A report of rules of one priority of which the first overlaps each of the others.
+fn overlap(source: Source<'_>, rules: &[Span]) -> Result<Report, AllocError> {
+    let alloc = source.alloc;
+    let mut report = begun(
+        alloc,
+        "overlap",
+        "rules of the same priority match the same values",
+    )?;
+    let shown = source.most_rules.saturating_add(1);
+    let alike = add_overlapping(source, &mut report, rules, shown)?;
+    add_values(source, &mut report, rules)?;
+    add_rest(alloc, &mut report, rules.len().saturating_sub(shown))?;
+    add_way_out(source, &mut report, rules, alike)?;
+    if !source.expand {
+        add_help(alloc, &mut report, NO_TEMPLATES)?;
+    }
+    Ok(report)
+}
+
+// Adds the places of so many rules of which the first overlaps each of the others. How many of the others have its left side.
+fn add_overlapping(
+    source: Source<'_>,
+    report: &mut Report,
+    rules: &[Span],
+    shown: usize,
+) -> Result<usize, AllocError> {
+    let first = match rules.first() {
+        Some(span) => left_side_at(source.alloc, source.defs, span.from)?,
+        None => String::new(source.alloc),
+    };
+    let mut alike = 0usize;
+    for (i, span) in rules.iter().take(shown).enumerate() {
+        let own = left_side_at(source.alloc, source.defs, span.from)?;
+        let is_alike = i > 0 && are_one(&first, &own);
+        if is_alike {
+            alike = alike.saturating_add(1);
+        }
+        let (before, after) = words_of_overlap(i, is_alike);
+        add_rule(source.alloc, report, source.defs, span.from, before, after)?;
+    }
+    Ok(alike)
+}
+
+// The left side of the rule at a place; the empty text if there is none.
+fn left_side_at(alloc: Global, defs: &[Def], place: Pos) -> Result<String, AllocError> {
+    match rule_at(defs, place) {
+        Some(rule) => left_side(alloc, rule),
+        None => Ok(String::new(alloc)),
+    }
+}
+
+// Whether two left sides are known and the same.
+fn are_one(left: &str, right: &str) -> bool {
+    !left.is_empty() && left == right
+}
+
+// What stands before and behind the name of a rule of this number, where rules overlap.
+fn words_of_overlap(number: usize, is_alike: bool) -> (&'static str, &'static str) {
+    if number == 0 {
+        ("", "")
+    } else if is_alike {
+        ("", " has the same pattern")
+    } else {
+        ("overlaps ", "")
+    }
+}
+
+// Adds what to do about rules of which the first overlaps each of the others, so many of which are alike.
+fn add_way_out(
+    source: Source<'_>,
+    report: &mut Report,
+    rules: &[Span],
+    alike: usize,
+) -> Result<(), AllocError> {
+    if alike > 0 {
+        add_help(source.alloc, report, ONE_OF_ALIKE)?;
+    }
+    if alike.saturating_add(1) < rules.len() {
+        let above = priority_above(source.defs, rules);
+        let help = format!(in source.alloc;
+            "give one of the rules a greater priority, as (rule {above} ..), or make one pattern narrower"
+        )?;
+        report.add_note("help", help)?;
+    }
+    Ok(())
+}
+
+/// What to do about rules that have the same pattern.
+pub const ONE_OF_ALIKE: &str =
+    "of rules with the same pattern only one is ever taken: remove the others";
+
+/// Whether the rules at two places have the same left side, but for the names of variables that stand there once.
+///
+/// # Errors
+///
+/// If memory is refused.
+pub fn are_alike(alloc: Global, defs: &[Def], left: Pos, right: Pos) -> Result<bool, AllocError> {
+    let first = left_side_at(alloc, defs, left)?;
+    let second = left_side_at(alloc, defs, right)?;
+    Ok(are_one(&first, &second))
+}
+
+// Why more rules overlap if internal extractors aren't expanded.
+const NO_TEMPLATES: &str = "--no-expand hides what internal extractors demand: check without it";
+
+// Adds how many of the rules that overlap one aren't shown.
+fn add_rest(alloc: Global, report: &mut Report, count: usize) -> Result<(), AllocError> {
+    if count == 0 {
+        return Ok(());
+    }
+    let text = format!(in alloc; "it overlaps {count} more, shown by `--all`")?;
+    report.add_note("help", text)
+}
+
+// A priority above that of rules of one priority, where there is one.
+fn priority_above(defs: &[Def], rules: &[Span]) -> i64 {
+    let Some(first) = rules.first() else {
+        return 1;
+    };
+    match rule_at(defs, first.from) {
+        Some(rule) => priority_of(rule).saturating_add(1),
+        None => 1,
+    }
+}
+
+// A report of rules that another one shadows.
+fn shadow(source: Source<'_>, shadowed: &[Span], mask: Span) -> Result<Report, AllocError> {
+    let alloc = source.alloc;
+    let mut report = begun(alloc, "shadow", "a rule is never taken")?;
+    let mut alike = 0usize;
+    for span in shadowed {
+        let is_alike = are_alike(alloc, source.defs, mask.from, span.from)?;
+        if is_alike {
+            alike = alike.saturating_add(1);
+        }
+        let after = if is_alike {
+            " has the same pattern, and is never taken"
+        } else {
+            " is never taken"
+        };
+        add_rule(alloc, &mut report, source.defs, span.from, "", after)?;
+    }
+    add_rule(
+        alloc,
+        &mut report,
+        source.defs,
+        mask.from,
+        "",
+        " matches these values too, and comes first",
+    )?;
+    if alike > 0 {
+        add_help(alloc, &mut report, ONE_OF_ALIKE)?;
+    }
+    if alike < shadowed.len() {
+        add_help(alloc, &mut report, FIRST_TAKEN)?;
+    }
+    Ok(report)
+}
+
+// What to do about a rule that another one is taken before.
+const FIRST_TAKEN: &str = "give the rule that is never taken a greater priority, or remove it";
+
+/// Adds the place of a rule, with its name and priority between two texts.
+pub fn add_rule(
+    alloc: Global,
+    report: &mut Report,
+    defs: &[Def],
+    pos: Pos,
+    before: &str,
+    after: &str,
+) -> Result<(), AllocError> {
+    let mut text = String::from_str(alloc, before)?;
+    push_rule(&mut text, defs, pos)?;
+    text.push_str(after)?;
+    report.add_label(pos, text)
+}
+
+// Adds a rule's name and priority.
+fn push_rule(text: &mut String, defs: &[Def], pos: Pos) -> Result<(), AllocError> {
+    let Some(rule) = rule_at(defs, pos) else {
+        return text.push_str("this rule");
+    };
+    let name = name_of(rule);
+    if name.is_empty() {
+        text.push_str("this rule")?;
+    } else {
+        write!(text, "rule `{name}`")?;
+    }
+    let priority = priority_of(rule);
+    write!(text, " (priority {priority})")
+}
+
+/// Adds a line that helps.
+pub fn add_help(alloc: Global, report: &mut Report, text: &str) -> Result<(), AllocError> {
+    report.add_note("help", String::from_str(alloc, text)?)
+}
+
+// Adds what the first of some rules and each of the others match.
+fn add_values(source: Source<'_>, report: &mut Report, rules: &[Span]) -> Result<(), AllocError> {
+    let Some(first) = rules.first() else {
+        return Ok(());
+    };
+    for span in rules.iter().skip(1).take(MOST_VALUES) {
+        add_value(source, report, first.from, span.from)?;
+    }
+    Ok(())
+}
+
+// Adds what two rules match.
+fn add_value(
+    source: Source<'_>,
+    report: &mut Report,
+    left: Pos,
+    right: Pos,
+) -> Result<(), AllocError> {
+    let alloc = source.alloc;
+    let (Some(left), Some(right)) = (rule_at(source.defs, left), rule_at(source.defs, right)) else {
+        return Ok(());
+    };
+    let found = witness(alloc, source.defs, left, right)?;
+    let text = value_text(alloc, found)?;
+    report.add_note("note", text)
+}
+
+// What is said of a value that two rules match, or that none was found.
+fn value_text(alloc: Global, found: Option<String>) -> Result<String, AllocError> {
+    match found {
+        Some(value) => format!(in alloc; "both match `{value}`"),
+        None => String::from_str(
+            alloc,
+            "no value that both match was found: the check for overlaps doesn't compare values that must be equal",
+        ),
+    }
+}

@@ -1,0 +1,148 @@
+//! What is behind a type error, for a person: the names that may be meant, the other places that it speaks of, and which errors
+//! say no more than another one.
+//! The report of a text that can't be read.
+//! What a person asks about rules: why they are refused, what a rule demands and when it is taken, and how large trees are.
+#![tactic(auto)]
+
+ghost use Rattle.std.specs.Prelude.{◌≡◌, ◌++◌, ◌∷◌, [], IfOk, List, OnOk};
+ghost use Rattle.core_syntax.specs.declared.syntax.Pos.{Pos};
+ghost use Rattle.report_errors.specs.Places.{AreAtError, IsAtError, begin_of, places_of};
+
+use crate::misspelled::question_at;
+use crate::unclosed::line_with_list;
+use core_syntax::syntax::Pos;
+use report_print::report::{Label, Level, Note, Report};
+use std::alloc::{AllocError, Global};
+use text_reader::errors::{Mistake, Problem, TextError};
+
+pub mod called;
+pub mod definitions;
+pub mod demands;
+pub mod diagnosis;
+pub mod explanation;
+pub mod extents;
+mod forms;
+pub mod lines;
+mod mismatches;
+pub mod misspelled;
+pub mod names;
+mod nearest;
+mod numbered;
+pub mod order;
+mod repeats;
+pub mod reports;
+mod scopes;
+pub mod stats;
+mod templates;
+mod terms;
+pub mod trees;
+pub mod unclosed;
+mod unknown;
+pub mod uses;
+pub mod way_text;
+pub mod ways;
+
+/// The report of what is wrong with a text: at its place, with where a list that isn't ended begins, and with the word that may be
+/// meant where one of a few is expected.
+///
+/// # Errors
+///
+/// Where memory is refused.
+pub fn syntax_report(alloc: Global, text: &str, error: &TextError) -> Result<Report, AllocError>
+    ensures { IfOk result (IsAtError error.now) }
+{
+    let message = format!(in alloc; "{error}")?;
+    let labels = labels_of(alloc, text, error)?;
+    let notes = notes_of(alloc, text, error)?;
+    Ok(Report {
+        level: Level::Error,
+        kind: "syntax",
+        message,
+        labels,
+        notes,
+    })
+}
+
+// The places of what is wrong with a text.
+fn labels_of(alloc: Global, text: &str, error: &TextError) -> Result<Vec<Label>, AllocError>
+    ensures { IfOk result (λ labels. AreAtError error.now labels.items) }
+{
+    let mut labels = Vec::new(alloc);
+    push_label(alloc, &mut labels, error.pos, "")?;
+    push_begin(alloc, &mut labels, text, &error.problem)?;
+    Ok(labels)
+}
+
+// Adds where the list begins that isn't ended, and where the next form seems to begin.
+fn push_begin(
+    alloc: Global,
+    labels: &mut Vec<Label>,
+    text: &str,
+    problem: &Problem,
+) -> Result<(), AllocError>
+    ensures { OnOk result ((others : List Pos) × (places_of labels.new.items ≡ places_of labels.old.items ++ (begin_of problem.now ++ others))) }
+{
+    match problem {
+        Problem::Unclosed(begin) => {
+            push_label(alloc, labels, *begin, "begins here")?;
+            push_next_line(alloc, labels, text, *begin)
+        }
+        Problem::Expected(_) | Problem::UnknownDefinition(_) => Ok(()),
+    }
+}
+
+// Adds a place, with what it has to do with the report.
+fn push_label(
+    alloc: Global,
+    labels: &mut Vec<Label>,
+    pos: Pos,
+    text: &str,
+) -> Result<(), AllocError>
+    ensures { OnOk result (places_of labels.new.items ≡ places_of labels.old.items ++ pos ∷ []) }
+{
+    let text = String::from_str(alloc, text)?;
+    labels.push(Label { pos, text })?;
+    Ok(())
+}
+
+// Adds the line behind a list that isn't ended where the next form seems to begin.
+fn push_next_line(
+    alloc: Global,
+    labels: &mut Vec<Label>,
+    text: &str,
+    begin: Pos,
+) -> Result<(), AllocError>
+    ensures { OnOk result ((others : List Pos) × (places_of labels.new.items ≡ places_of labels.old.items ++ others)) }
+{
+    match line_with_list(text, begin.offset) {
+        Some(offset) => {
+            let file = begin.file;
+            push_label(alloc, labels, Pos { file, offset }, NEXT_LINE)
+        }
+        None => Ok(()),
+    }
+}
+
+// What is said of a line that begins with a list, inside a list that isn't ended.
+const NEXT_LINE: &str = "this line begins a new form: is a `)` missing before it?";
+
+// The words that may stand before a declaration's name.
+const FLAGS: [&str; 4] = ["pure", "multi", "partial", "rec"];
+
+// The words that a further condition of a rule may begin with.
+const STATEMENTS: [&str; 2] = ["if-let", "if"];
+
+// The word that may be meant where one of a few is expected.
+fn notes_of(alloc: Global, text: &str, error: &TextError) -> Result<Vec<Note>, AllocError> {
+    let offset = error.pos.offset;
+    let question = match &error.problem {
+        Problem::Expected(Mistake::Flag) => question_at(alloc, text, offset, &FLAGS)?,
+        Problem::Expected(Mistake::Statement) => question_at(alloc, text, offset, &STATEMENTS)?,
+        _ => None,
+    };
+    let mut notes = Vec::new(alloc);
+    if let Some(text) = question {
+        notes.push(Note { word: "help", text })?;
+    }
+    Ok(notes)
+}

@@ -1,0 +1,37 @@
+//! How large terms are.
+
+use crate::writer::Json;
+use cranelift_isle::lower::Lowered;
+use report_errors::names::Names;
+use report_errors::stats::{TermSize, sizes};
+use std::alloc::{AllocError, Global};
+
+/// Adds the sizes of terms with rules, the one with most rules first.
+pub(crate) fn push_sizes(
+    alloc: Global,
+    json: &mut Json,
+    lowered: &Lowered,
+) -> Result<(), AllocError> {
+    let names = Names {
+        tyenv: &lowered.tyenv,
+        terms: &lowered.termenv.terms,
+    };
+    json.begin_at("terms", '[')?;
+    for size in &sizes(alloc, lowered)? {
+        push_size(json, names, size)?;
+    }
+    json.end(']')
+}
+
+// Adds the size of a term.
+fn push_size(json: &mut Json, names: Names<'_>, size: &TermSize) -> Result<(), AllocError> {
+    json.begin('{')?;
+    json.key_string("name", names.term(size.term))?;
+    json.key_number("rules", size.rules)?;
+    json.key_number("sites", size.sites)?;
+    json.key_number("tests", size.tree.tests as usize)?;
+    json.key_number("arms", size.tree.arms as usize)?;
+    json.key_number("returns", size.tree.returns as usize)?;
+    json.key_number("depth", size.tree.depth as usize)?;
+    json.end('}')
+}

@@ -1,0 +1,108 @@
+//! Terms with rules.
+
+use crate::heads::push_head;
+use crate::places::Places;
+use crate::rules::push_rule;
+use crate::site_types::types_of_sites;
+use crate::sites::push_sites;
+use crate::trees::Sources;
+use crate::typed_rules::TypedForms;
+use crate::writer::Json;
+use cranelift_isle::lower::LoweredTerm;
+use cranelift_isle::sema::TypeId;
+use cranelift_isle::trie_again::{BindingId, Rule, RuleSet};
+use report_errors::explanation::comes_first;
+use report_errors::names::Names;
+use report_queries::variable_sites::KnownSites;
+use report_queries::walk::steps;
+use std::alloc::{AllocError, Global};
+
+/// What terms are shown with.
+#[derive(Clone, Copy)]
+pub(crate) struct Shown<'a> {
+    pub(crate) alloc: Global,
+    /// What names are looked up in.
+    pub(crate) names: Names<'a>,
+    /// The places of files.
+    pub(crate) places: &'a Places<'a>,
+    /// The typed rules.
+    pub(crate) typed: &'a TypedForms<'a>,
+}
+
+/// Adds a term with rules.
+pub(crate) fn push_term(
+    json: &mut Json,
+    shown: &Shown<'_>,
+    term: &LoweredTerm,
+) -> Result<(), AllocError> {
+    json.begin('{')?;
+    if let Some(head) = shown.names.terms.get(term.id.index()) {
+        push_head(json, shown.names, head)?;
+        push_all_sites(json, shown, &head.arg_tys, term)?;
+    }
+    push_rules(json, shown, &term.rules)?;
+    let sources = Sources {
+        names: shown.names,
+        set: &term.rules,
+    };
+    sources.push_block(json, "tree", &term.block)?;
+    json.end('}')
+}
+
+// Adds the sites of a term with arguments of these types.
+fn push_all_sites(
+    json: &mut Json,
+    shown: &Shown<'_>,
+    arguments: &[TypeId],
+    term: &LoweredTerm,
+) -> Result<(), AllocError> {
+    let marked = marked_sites(shown.alloc, term)?;
+    let types = types_of_sites(shown.alloc, shown.names, arguments, &term.rules.bindings)?;
+    push_sites(json, shown.names, &term.rules.bindings, &types, &marked)
+}
+
+// Adds the rules of a set, in the order of their numbers.
+fn push_rules(json: &mut Json, shown: &Shown<'_>, set: &RuleSet) -> Result<(), AllocError> {
+    let sites = KnownSites::new(shown.alloc, shown.names.terms, &set.bindings)?;
+    json.begin_at("rules", '[')?;
+    for rule in &set.rules {
+        json.begin('{')?;
+        push_rule(json, shown.places, shown.names, rule)?;
+        push_higher(json, &set.rules, rule)?;
+        shown.typed.push_forms(json, &sites, rule.id)?;
+        json.end('}')?;
+    }
+    json.end(']')
+}
+
+// Adds the rules that come first where both they and this rule match.
+fn push_higher(json: &mut Json, rules: &[Rule], rule: &Rule) -> Result<(), AllocError> {
+    json.begin_at("higher", '[')?;
+    for other in rules {
+        if comes_first(rule, other) {
+            json.number(other.id.index())?;
+        }
+    }
+    json.end(']')
+}
+
+// Whether some step of a term's tree binds it, of each site.
+fn marked_sites(alloc: Global, term: &LoweredTerm) -> Result<Vec<bool>, AllocError> {
+    let mut marked = Vec::new(alloc);
+    for _ in &term.rules.bindings {
+        marked.push(false)?;
+    }
+    for visit in &steps(alloc, &term.block)? {
+        mark(&mut marked, &visit.step.bind_order);
+    }
+    Ok(marked)
+}
+
+// Marks these sites.
+fn mark(marked: &mut Vec<bool>, sites: &[BindingId]) {
+    for site in sites {
+        if let Some(entry) = marked.get_mut(site.index()) {
+            *entry = true;
+        }
+    }
+}

@@ -1,0 +1,268 @@
+//! Lines of text, and the columns that characters take.
+
+use core_syntax::syntax::Files;
+use std::alloc::AllocError;
+use unicode_width::UnicodeWidthChar;
+
+// How many columns a tab takes. Lines are shown with spaces in its place, so that what is below stands below.
+const TAB: &str = "    ";
+
+// How many columns of a line are shown. A line that has more is cut.
+const WIDEST: u64 = 200;
+
+// How many columns are shown before the offset where a line is cut.
+const BEFORE: u64 = 60;
+
+// What stands where a line is cut, and how many columns it takes.
+const CUT: &str = "..";
+
+const CUT_COLUMNS: u64 = 2;
+
+// Marks the beginning of some texts, and is no part of their first line.
+const BYTE_ORDER_MARK: char = '\u{feff}';
+
+/// The line that an offset lies in.
+#[derive(Clone, Copy)]
+pub struct Line<'a> {
+    /// Its number, from 1.
+    pub number: u64,
+    /// Its text, without the line feed that ends it.
+    pub text: &'a str,
+    /// The offset, in the bytes of the line.
+    pub at: usize,
+}
+
+/// The name of a file by its number, or `?` where there is none.
+pub fn file_name(files: &Files, file: usize) -> &str {
+    match files.names.get(file) {
+        Some(name) => name.as_str(),
+        None => "?",
+    }
+}
+
+/// The text of a file by its number, or the empty text where there is none.
+pub fn file_text(files: &Files, file: usize) -> &str {
+    match files.texts.get(file) {
+        Some(text) => text.as_str(),
+        None => "",
+    }
+}
+
+/// The line of a text that an offset lies in. An offset past the end lies in the last one.
+pub fn line_at(text: &str, offset: usize) -> Line<'_> {
+    let mut found = Line {
+        number: 1,
+        text: "",
+        at: 0,
+    };
+    let mut begin = 0usize;
+    let mut number = 1u64;
+    for text in text.split('\n') {
+        if begin > offset {
+            break;
+        }
+        let at = offset.saturating_sub(begin);
+        found = Line { number, text, at };
+        begin = begin.saturating_add(text.len()).saturating_add(1);
+        number = number.saturating_add(1);
+    }
+    found
+}
+
+impl<'a> Line<'a> {
+    /// The column of the offset, from 1, in characters.
+    pub fn column(self) -> u64 {
+        let mut column = 1u64;
+        for (at, c) in self.text.char_indices() {
+            if at < self.at && c != BYTE_ORDER_MARK {
+                column = column.saturating_add(1);
+            }
+        }
+        column
+    }
+
+    // How many columns of the whole line stand before a character that begins at this offset or behind it.
+    fn columns_before(self, offset: usize) -> u64 {
+        let mut columns = 0u64;
+        for (at, c) in self.text.char_indices() {
+            if at < offset {
+                columns = columns.saturating_add(columns_of(c));
+            }
+        }
+        columns
+    }
+
+    /// The columns of the whole line that are shown: all, or those around the offset of a line that is too long.
+    pub fn part(self) -> Part {
+        let count = self.columns_before(self.text.len());
+        if count <= WIDEST {
+            return Part {
+                begin: 0,
+                end: count,
+                count,
+            };
+        }
+        let shown = WIDEST.saturating_sub(CUT_COLUMNS.saturating_mul(2));
+        let begin = self
+            .columns_before(self.at)
+            .saturating_sub(BEFORE)
+            .min(count.saturating_sub(shown));
+        Part {
+            begin,
+            end: begin.saturating_add(shown).min(count),
+            count,
+        }
+    }
+
+    /// How many columns stand before the offset where the line is shown.
+    pub fn indent(self) -> u64 {
+        let part = self.part();
+        self.columns_before(self.at)
+            .saturating_sub(part.begin)
+            .saturating_add(part.cut_columns())
+    }
+
+    /// How many columns the form or the word at the offset takes where the line is shown: at least one, and no more than the
+    /// line has, though a form may go on below.
+    pub fn extent(self) -> u64 {
+        let mut form = Form {
+            depth: 0,
+            columns: 0,
+            seen: 0,
+            ended: false,
+        };
+        for (at, c) in self.text.char_indices() {
+            if at >= self.at {
+                form = form.after(c);
+            }
+        }
+        let room = self.part().end.saturating_sub(self.columns_before(self.at));
+        form.seen.min(room).max(1)
+    }
+
+    /// Adds the line as it is shown: tabs are spaces, what takes no column is left out, and a long line is cut.
+    pub fn push(self, out: &mut String) -> Result<(), AllocError> {
+        let part = self.part();
+        if part.begin > 0 {
+            out.push_str(CUT)?;
+        }
+        let mut column = 0u64;
+        for c in self.text.chars() {
+            let next = column.saturating_add(columns_of(c));
+            if column >= part.begin && next <= part.end {
+                push_char(out, c)?;
+            }
+            column = next;
+        }
+        if part.end < part.count {
+            out.push_str(CUT)?;
+        }
+        Ok(())
+    }
+}
+
+/// The columns of a line that are shown.
+#[derive(Clone, Copy)]
+pub struct Part {
+    /// The first.
+    pub begin: u64,
+    /// How many stand before the end.
+    pub end: u64,
+    /// How many the line has.
+    pub count: u64,
+}
+
+impl Part {
+    // How many columns show that the beginning is left out.
+    fn cut_columns(self) -> u64 {
+        if self.begin > 0 { CUT_COLUMNS } else { 0 }
+    }
+}
+
+// Adds a character as it is shown.
+fn push_char(out: &mut String, c: char) -> Result<(), AllocError> {
+    if c == '\t' {
+        return out.push_str(TAB);
+    }
+    if columns_of(c) == 0 && c.is_ascii() || c == BYTE_ORDER_MARK {
+        return Ok(());
+    }
+    out.push(c)
+}
+
+/// How many columns a character takes where a line is shown.
+pub fn columns_of(c: char) -> u64 {
+    if c == '\t' {
+        return 4;
+    }
+    match c.width() {
+        Some(columns) => columns as u64,
+        None => 0,
+    }
+}
+
+// A form or a word as far as it was walked over.
+#[derive(Clone, Copy)]
+struct Form {
+    // How many parentheses are open.
+    depth: u64,
+    // The columns so far, and those up to the last character that isn't white space.
+    columns: u64,
+    seen: u64,
+    // Whether it ends before the character that comes next.
+    ended: bool,
+}
+
+impl Form {
+    // The form after one more character.
+    fn after(self, c: char) -> Form {
+        if self.ended || self.ends_before(c) {
+            return Form {
+                ended: true,
+                ..self
+            };
+        }
+        let depth = depth_after(self.depth, c);
+        let columns = self.columns.saturating_add(columns_of(c));
+        let seen = if c.is_whitespace() {
+            self.seen
+        } else {
+            columns
+        };
+        let ended = c == ')' && depth == 0;
+        Form {
+            depth,
+            columns,
+            seen,
+            ended,
+        }
+    }
+
+    // Whether it ends before this character: a word does before white space, and each before a comment.
+    fn ends_before(self, c: char) -> bool {
+        let begun = self.columns > 0;
+        begun && (c == ';' || self.depth == 0 && (c.is_whitespace() || c == ')' || c == '('))
+    }
+}
+
+/// How many parentheses are open after a character, if so many are before it.
+pub fn depth_after(depth: u64, c: char) -> u64 {
+    match c {
+        '(' => depth.saturating_add(1),
+        ')' => depth.saturating_sub(1),
+        _ => depth,
+    }
+}
+
+/// Adds so many spaces.
+pub fn push_spaces(out: &mut String, count: u64) -> Result<(), AllocError> {
+    push_times(out, ' ', count)
+}
+
+/// Adds a character so many times.
+pub fn push_times(out: &mut String, c: char, count: u64) -> Result<(), AllocError> {
+    for _ in 0..count {
+        out.push(c)?;
+    }
+    Ok(())
+}

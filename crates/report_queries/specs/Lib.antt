@@ -1,0 +1,6 @@
+pub mod Lookups
+pub mod NameTexts
+pub mod Premises
+pub mod Samples
+pub mod Statuses
+pub mod Walks

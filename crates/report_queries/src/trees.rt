@@ -1,0 +1,19 @@
+//! The text of what definitions become.
+
+use cranelift_isle::lower::Lowered;
+use report_print::print::{Names, print_term};
+use std::alloc::{AllocError, Global};
+
+// The text of all terms' trees.
+pub(crate) fn trees(alloc: Global, lowered: &Lowered) -> Result<String, AllocError> {
+    let names = Names {
+        syms: &lowered.tyenv.syms,
+        types: &lowered.tyenv.types,
+        terms: &lowered.termenv.terms,
+    };
+    let mut out = String::new(alloc);
+    for term in &lowered.terms {
+        print_term(&mut out, names, term.id, &term.rules.bindings, &term.block)?;
+    }
+    Ok(out)
+}

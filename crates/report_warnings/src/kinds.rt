@@ -1,0 +1,108 @@
+//! The kinds of warnings.
+
+use cranelift_isle::syntax::Pos;
+use report_print::report::{Label, Level, Report};
+use std::alloc::{AllocError, Global};
+
+/// A kind of warning. docs/USING.md has an example of each.
+#[derive(Clone, Copy, PartialEq, Eq)]
+pub enum Warning {
+    /// A rule can never be taken.
+    NeverRun,
+    /// A priority has no effect.
+    Priority,
+    /// No rule takes some value, and the term can't fail.
+    Uncovered,
+    /// A term calls itself without `rec`, or has `rec` and doesn't.
+    Recursion,
+    /// A constant in a pattern may be equal to what it is taken to differ from.
+    Constant,
+    /// A variable looks like something else.
+    Name,
+    /// A variable is never used.
+    Unused,
+    /// A literal is out of range.
+    Literal,
+}
+
+/// All kinds of warnings.
+pub const WARNINGS: [Warning; 8] = [
+    Warning::NeverRun,
+    Warning::Priority,
+    Warning::Uncovered,
+    Warning::Recursion,
+    Warning::Constant,
+    Warning::Name,
+    Warning::Unused,
+    Warning::Literal,
+];
+
+impl Warning {
+    /// The name of the kind.
+    pub fn name(self) -> &'static str {
+        match self {
+            Warning::NeverRun => "never-run",
+            Warning::Priority => "priority",
+            Warning::Uncovered => "uncovered",
+            Warning::Recursion => "recursion",
+            Warning::Constant => "constant",
+            Warning::Name => "name",
+            Warning::Unused => "unused",
+            Warning::Literal => "literal",
+        }
+    }
+
+    /// The kind of a name, if it is that of one.
+    pub fn of(name: &str) -> Option<Warning> {
+        for warning in WARNINGS {
+            if warning.name() == name {
+                return Some(warning);
+            }
+        }
+        None
+    }
+}
+
+/// The names of all kinds, with commas between them.
+///
+/// # Errors
+///
+/// If memory is refused.
+pub fn warning_names(alloc: Global) -> Result<String, AllocError> {
+    let mut names = String::new(alloc);
+    for warning in WARNINGS {
+        names.push_str(if names.is_empty() { "" } else { ", " })?;
+        names.push_str(warning.name())?;
+    }
+    Ok(names)
+}
+
+/// Whether a report is a warning of one of these kinds.
+pub fn is_one_of(report: &Report, kinds: &[Warning]) -> bool {
+    kinds.iter().any(|kind| kind.name() == report.kind)
+}
+
+// A warning with these words and places to come.
+pub(crate) fn begun(alloc: Global, kind: Warning, message: String) -> Report {
+    Report {
+        level: Level::Warning,
+        kind: kind.name(),
+        message,
+        labels: Vec::new(alloc),
+        notes: Vec::new(alloc),
+    }
+}
+
+// Adds a place, and what is said of it.
+pub(crate) fn add_place(
+    alloc: Global,
+    report: &mut Report,
+    pos: Pos,
+    text: &str,
+) -> Result<(), AllocError> {
+    report.labels.push(Label {
+        pos,
+        text: String::from_str(alloc, text)?,
+    })?;
+    Ok(())
+}

@@ -1,0 +1,83 @@
+//! The warnings of definitions that are accepted.
+
+use crate::constants::{add_beside, add_named};
+use crate::kinds::{Warning, is_one_of};
+use crate::literals::add_outside;
+use crate::recursion::add_recursion;
+use crate::returns::{add_dead, add_idle_priorities};
+use crate::uncovered::add_uncovered;
+use crate::variables::add_variables;
+use cranelift_isle::lower::{Lowered, LoweredTerm};
+use cranelift_isle::syntax::Def;
+use report_print::report::Report;
+use report_queries::premises::is_multi;
+use report_queries::walk::steps;
+use std::alloc::{AllocError, Global};
+
+/// The warnings of accepted definitions, without those of the kinds that are `allowed`: first what is said of each term with
+/// rules, then of calls among terms, then of each definition.
+///
+/// # Errors
+///
+/// If memory is refused.
+pub fn warnings(
+    alloc: Global,
+    defs: &[Def],
+    lowered: &Lowered,
+    allowed: &[Warning],
+) -> Result<Vec<Report>, AllocError> {
+    let mut reports = Vec::new(alloc);
+    for term in &lowered.terms {
+        add_of_term(alloc, &mut reports, defs, lowered, term)?;
+    }
+    add_recursion(alloc, &mut reports, lowered)?;
+    for def in defs {
+        add_of_definition(alloc, &mut reports, lowered, def)?;
+    }
+    without(alloc, reports, allowed)
+}
+
+// Reports without those of some kinds.
+fn without(
+    alloc: Global,
+    reports: Vec<Report>,
+    allowed: &[Warning],
+) -> Result<Vec<Report>, AllocError> {
+    let mut kept = Vec::new(alloc);
+    for report in reports {
+        if !is_one_of(&report, allowed) {
+            kept.push(report)?;
+        }
+    }
+    Ok(kept)
+}
+
+// Adds what a term's rules say together that is likely not meant. Rules of multi terms all run.
+fn add_of_term(
+    alloc: Global,
+    reports: &mut Vec<Report>,
+    defs: &[Def],
+    lowered: &Lowered,
+    term: &LoweredTerm,
+) -> Result<(), AllocError> {
+    if !is_multi(&lowered.termenv, term.id) {
+        add_dead(alloc, reports, defs, &steps(alloc, &term.block)?)?;
+        add_idle_priorities(alloc, reports, defs, &term.rules.rules)?;
+        add_uncovered(alloc, reports, lowered, term)?;
+    }
+    add_beside(alloc, reports, defs, lowered, term)
+}
+
+// Adds what a definition says that is likely not meant.
+fn add_of_definition(
+    alloc: Global,
+    reports: &mut Vec<Report>,
+    lowered: &Lowered,
+    def: &Def,
+) -> Result<(), AllocError> {
+    if let Def::Rule(rule) = def {
+        add_variables(alloc, reports, lowered, rule)?;
+    }
+    add_named(alloc, reports, lowered, def)?;
+    add_outside(alloc, reports, lowered, def)
+}

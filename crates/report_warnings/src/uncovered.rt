@@ -1,0 +1,59 @@
+//! Values that no rule of a term takes.
+
+use crate::kinds::{Warning, add_place, begun};
+use crate::passing::{Fact, passing};
+use crate::untaken::push_untaken;
+use cranelift_isle::lower::{Lowered, LoweredTerm};
+use cranelift_isle::sema::Term;
+use report_errors::diagnosis::add_help;
+use report_print::report::Report;
+use std::alloc::{AllocError, Global};
+
+/// Adds a warning if no rule of a term takes some value, and the term isn't `partial`. It must not be `multi`.
+pub(crate) fn add_uncovered(
+    alloc: Global,
+    reports: &mut Vec<Report>,
+    lowered: &Lowered,
+    lowered_term: &LoweredTerm,
+) -> Result<(), AllocError> {
+    let Some(term) = lowered.termenv.terms.get(lowered_term.id.index()) else {
+        return Ok(());
+    };
+    if term.is_partial() {
+        return Ok(());
+    }
+    let bindings = &lowered_term.rules.bindings;
+    match passing(alloc, &lowered.tyenv, bindings, &lowered_term.block)? {
+        Some(facts) => {
+            let report = uncovered(alloc, lowered, lowered_term, term, &facts)?;
+            reports.push(report)?;
+            Ok(())
+        }
+        None => Ok(()),
+    }
+}
+
+// The warning of a term, with a call that no rule takes, by what a run of it found.
+fn uncovered(
+    alloc: Global,
+    lowered: &Lowered,
+    lowered_term: &LoweredTerm,
+    term: &Term,
+    facts: &[Fact],
+) -> Result<Report, AllocError> {
+    let mut message = String::from_str(alloc, "no rule takes ")?;
+    push_untaken(alloc, lowered, lowered_term, facts, &mut message)?;
+    let mut report = begun(alloc, Warning::Uncovered, message);
+    add_place(
+        alloc,
+        &mut report,
+        term.decl_pos,
+        "the term isn't partial, so its code panics there",
+    )?;
+    add_help(
+        alloc,
+        &mut report,
+        "add a rule that takes it, or declare the term partial",
+    )?;
+    Ok(report)
+}

@@ -1,0 +1,86 @@
+//! The forms of values, as rules write them.
+
+use core_syntax::syntax::{Def, TypeValue};
+use std::alloc::AllocError;
+
+/// A constant, or a term that makes values or takes them apart.
+#[derive(Clone, Copy)]
+pub enum Form<'a> {
+    /// A truth value.
+    Bool(bool),
+    /// An integer.
+    Int(i128),
+    /// A named constant.
+    Const(&'a str),
+    /// A term.
+    Term(&'a str),
+}
+
+/// Whether two forms are one.
+pub fn is_same(left: Form<'_>, right: Form<'_>) -> bool {
+    match (left, right) {
+        (Form::Bool(left), Form::Bool(right)) => left == right,
+        (Form::Int(left), Form::Int(right)) => left == right,
+        (Form::Const(left), Form::Const(right)) => left == right,
+        (Form::Term(left), Form::Term(right)) => left == right,
+        _ => false,
+    }
+}
+
+/// Whether a form is a constant.
+pub fn is_constant(form: Form<'_>) -> bool {
+    match form {
+        Form::Bool(_) | Form::Int(_) | Form::Const(_) => true,
+        Form::Term(_) => false,
+    }
+}
+
+/// Whether no value has both of two forms that differ: both are constants, or variants of one enum.
+pub fn are_apart(defs: &[Def], left: Form<'_>, right: Form<'_>) -> bool {
+    match (left, right) {
+        (Form::Term(left), Form::Term(right)) => are_variants(defs, left, right),
+        _ => is_constant(left) && is_constant(right),
+    }
+}
+
+// Whether two names are those of variants of one enum.
+fn are_variants(defs: &[Def], left: &str, right: &str) -> bool {
+    match (left.rsplit_once('.'), right.rsplit_once('.')) {
+        (Some((left_type, left)), Some((right_type, right))) => {
+            left_type == right_type
+                && has_variant(defs, left_type, left)
+                && has_variant(defs, left_type, right)
+        }
+        _ => false,
+    }
+}
+
+// Whether a type is an enum that has a variant of this name.
+fn has_variant(defs: &[Def], ty: &str, variant: &str) -> bool {
+    for def in defs {
+        if let Def::TypeDef(def) = def {
+            if let TypeValue::Enum(variants, _) = &def.ty {
+                if def.name.0.as_str() == ty {
+                    return variants
+                        .iter()
+                        .any(|other| other.name.0.as_str() == variant);
+                }
+            }
+        }
+    }
+    false
+}
+
+/// Adds a form, without what it is made of.
+pub fn push_form(out: &mut String, form: Form<'_>) -> Result<(), AllocError> {
+    match form {
+        Form::Bool(true) => out.push_str("true"),
+        Form::Bool(false) => out.push_str("false"),
+        Form::Int(val) => write!(out, "{val}"),
+        Form::Const(name) => {
+            out.push('$')?;
+            out.push_str(name)
+        }
+        Form::Term(name) => out.push_str(name),
+    }
+}

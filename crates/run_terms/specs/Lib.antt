@@ -1,0 +1,3 @@
+pub mod RunViews
+pub mod SourceViews
+pub mod ValueViews

@@ -1,0 +1,3 @@
+mod EchoSteps
+mod EchoesApart
+mod EchoesFit

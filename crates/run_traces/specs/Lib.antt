@@ -1,0 +1,3 @@
+pub mod EchoLaws
+pub mod Echoes
+pub mod KnownAnswers

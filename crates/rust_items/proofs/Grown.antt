@@ -1,0 +1,76 @@
+-- Lists that grow, turn by turn of a loop over another list, by what each element gives.
+use Rattle.std.proofs.Common.{◌≡◌, ℕ, ◌+◌, ◌<◌, ◌≤◌, List, [], ◌∷◌, ◌++◌, length, get_or, take, map, codes, refl, sym, ap, ◌∙◌, arith}
+use Rattle.std.specs.Prelude.{string_bytes}
+use Rattle.std.specs.List.{flat_map, range_with_len}
+use Rattle.std.proofs.lemmas.Grind.{flat_map-append}
+use Rattle.std.proofs.lemmas.List.{append_assoc, append-nil, map-append, take_all, take_more}
+use Rattle.std.proofs.lemmas.List.FromFn.{map-range_with_len_more}
+use Rattle.rust_items.specs.declared.claims.Claim as C
+use Rattle.rust_items.specs.declared.claims.Kind as K
+use Rattle.rust_items.specs.Claims.{Claim, Kind}
+use Rattle.rust_items.specs.ClaimViews.{claim_view, claim_views, kind_view, kind_views}
+use Rattle.rust_items.specs.OwnNames.{is_own_type, is_own_value}
+use Rattle.rust_items.specs.NamedPrograms.{NamedProgram, claim, constant_claim, constants_kind, functions_kind, functions_of, kind_as, kinds, kinds_inside, no_own, term_claim, terms_kind, type_claim, types_kind}
+
+taken_more : {X Y : Type 0} (v : X → Y) (xs : List X) (i : ℕ) (x : X) → i < length xs → x ≡ get_or xs i x → map v (take (i + 1) xs) ≡ map v (take i xs) ++ v x ∷ []
+taken_more v xs i x h e = ap (map v) (take_more xs i x h) ∙ map-append v (take i xs) (get_or xs i x ∷ []) ∙ ap (λ y. map v (take i xs) ++ v y ∷ []) (sym e)
+
+module _ {X Y Z : Type 0} (v : X → Y) (xs : List X) (i : ℕ) where
+  -- some of each
+  pub grown_by : (f : Y → List Z) (base : List Z) (x : X) (old new : List Z) → i < length xs → x ≡ get_or xs i x → old ≡ base ++ flat_map f (map v (take i xs)) → new ≡ old ++ f (v x) → new ≡ base ++ flat_map f (map v (take (i + 1) xs))
+  grown_by f base x old new h e is more =
+      more ∙ ap (λ y. y ++ f (v x)) is ∙ append_assoc base (flat_map f (map v (take i xs))) (f (v x))
+      ∙ ap (λ y. base ++ y) (sym (ap (flat_map f) (taken_more v xs i x h e) ∙ flat_map-append f (map v (take i xs)) (v x ∷ []) ∙ ap (λ y. flat_map f (map v (take i xs)) ++ y) (append-nil (f (v x)))))
+
+  pub grown_all : (f : Y → List Z) (base old : List Z) → length xs ≤ i → old ≡ base ++ flat_map f (map v (take i xs)) → old ≡ base ++ flat_map f (map v xs)
+  grown_all f base old h is = is ∙ ap (λ ys. base ++ flat_map f (map v ys)) (take_all i xs h)
+
+  -- one of each
+  pub grown_one : (g : Y → Z) (base : List Z) (x : X) (old new : List Z) → i < length xs → x ≡ get_or xs i x → old ≡ base ++ map g (map v (take i xs)) → new ≡ old ++ g (v x) ∷ [] → new ≡ base ++ map g (map v (take (i + 1) xs))
+  grown_one g base x old new h e is more =
+      more ∙ ap (λ y. y ++ g (v x) ∷ []) is ∙ append_assoc base (map g (map v (take i xs))) (g (v x) ∷ [])
+      ∙ ap (λ y. base ++ y) (sym (ap (map g) (taken_more v xs i x h e) ∙ map-append g (map v (take i xs)) (v x ∷ [])))
+
+  pub grown_ones : (g : Y → Z) (base old : List Z) → length xs ≤ i → old ≡ base ++ map g (map v (take i xs)) → old ≡ base ++ map g (map v xs)
+  grown_ones g base old h is = is ∙ ap (λ ys. base ++ map g (map v ys)) (take_all i xs h)
+
+map_same : {X : Type 0} (xs : List X) → map (λ x. x) xs ≡ xs
+map_same [] = refl
+map_same (x ∷ xs) = ap (λ ys. x ∷ ys) (map_same xs)
+
+one_number : (n : ℕ) → range_with_len 0 (n + 1) ≡ range_with_len 0 n ++ n ∷ []
+one_number n = sym (map_same (range_with_len 0 (n + 1))) ∙ map-range_with_len_more (λ k. k) 0 n n (omega arith) ∙ ap (λ ys. ys ++ n ∷ []) (map_same (range_with_len 0 n))
+
+-- over numbers
+pub counted : {Y Z : Type 0} (g : Y → Z) (f : ℕ → List Y) (n : ℕ) (old new : List Z) → old ≡ map g (flat_map f (range_with_len 0 n)) → new ≡ old ++ map g (f n) → new ≡ map g (flat_map f (range_with_len 0 (n + 1)))
+counted g f n old new is more =
+    more ∙ ap (λ y. y ++ map g (f n)) is ∙ sym (map-append g (flat_map f (range_with_len 0 n)) (f n))
+    ∙ ap (map g) (sym (ap (flat_map f) (one_number n) ∙ flat_map-append f (range_with_len 0 n) (n ∷ []) ∙ ap (λ y. flat_map f (range_with_len 0 n) ++ y) (append-nil (f n))))
+
+-- a thing more
+pub pushed_claim : (old new : List C.Claim) (x : C.Claim) (written owner : List ℕ) → new ≡ old ++ x ∷ [] → string_bytes x.written ≡ written → string_bytes x.owner ≡ owner → claim_views new ≡ claim_views old ++ claim written owner ∷ []
+pushed_claim old new x written owner e w o =
+    ap claim_views e ∙ map-append claim_view old (x ∷ []) ∙ ap (λ y. claim_views old ++ claim y (string_bytes x.owner) ∷ []) w ∙ ap (λ y. claim_views old ++ claim written y ∷ []) o
+
+-- a kind more
+pub pushed_kind : (old new : List K.Kind) (x : K.Kind) (kind : Kind) → new ≡ old ++ x ∷ [] → kind_view x ≡ kind → kind_views new ≡ kind_views old ++ kind ∷ []
+pushed_kind old new x kind e k = ap kind_views e ∙ map-append kind_view old (x ∷ []) ∙ ap (λ y. kind_views old ++ y ∷ []) k
+
+-- the kinds of a program, one after another
+module _ (p : NamedProgram) (k0 k1 k2 k3 k4 k5 inside : List Kind) (ts fs cs rs : List Claim) where
+  pub all_kinds : ts ≡ flat_map (type_claim p.names) p.types → inside ≡ flat_map (kinds_inside p.names) p.types
+      → fs ≡ flat_map (functions_of p.names) p.terms → cs ≡ map (constant_claim p.names) p.constants → rs ≡ flat_map (term_claim p.names p.terms) p.with_rules
+      → k0 ≡ []
+      → k1 ≡ k0 ++ kind_as (codes "the types") (codes "type") is_own_type ts ∷ []
+      → k2 ≡ k1 ++ inside
+      → k3 ≡ k2 ++ kind_as (codes "the functions") (codes "function") no_own fs ∷ []
+      → k4 ≡ k3 ++ kind_as (codes "the constants") (codes "constant") is_own_value cs ∷ []
+      → k5 ≡ k4 ++ kind_as (codes "the terms") (codes "term") no_own rs ∷ []
+      → k5 ≡ kinds p
+  all_kinds t i f c r e0 e1 e2 e3 e4 e5 =
+      let one : k1 ≡ types_kind p ∷ [] = e1 ∙ ap (λ k. k ++ kind_as (codes "the types") (codes "type") is_own_type ts ∷ []) e0 ∙ ap (λ x. kind_as (codes "the types") (codes "type") is_own_type x ∷ []) t in
+      let two : k2 ≡ types_kind p ∷ flat_map (kinds_inside p.names) p.types = e2 ∙ ap (λ k. k ++ inside) one ∙ ap (λ x. types_kind p ∷ x) i in
+      let three : k3 ≡ (types_kind p ∷ flat_map (kinds_inside p.names) p.types) ++ functions_kind p ∷ [] = e3 ∙ ap (λ k. k ++ kind_as (codes "the functions") (codes "function") no_own fs ∷ []) two ∙ ap (λ x. (types_kind p ∷ flat_map (kinds_inside p.names) p.types) ++ kind_as (codes "the functions") (codes "function") no_own x ∷ []) f in
+      let four : k4 ≡ ((types_kind p ∷ flat_map (kinds_inside p.names) p.types) ++ functions_kind p ∷ []) ++ constants_kind p ∷ [] = e4 ∙ ap (λ k. k ++ kind_as (codes "the constants") (codes "constant") is_own_value cs ∷ []) three ∙ ap (λ x. ((types_kind p ∷ flat_map (kinds_inside p.names) p.types) ++ functions_kind p ∷ []) ++ kind_as (codes "the constants") (codes "constant") is_own_value x ∷ []) c in
+      e5 ∙ ap (λ k. k ++ kind_as (codes "the terms") (codes "term") no_own rs ∷ []) four ∙ ap (λ x. (((types_kind p ∷ flat_map (kinds_inside p.names) p.types) ++ functions_kind p ∷ []) ++ constants_kind p ∷ []) ++ kind_as (codes "the terms") (codes "term") no_own x ∷ []) r
+      ∙ ap (λ k. types_kind p ∷ k) (ap (λ k. k ++ terms_kind p ∷ []) (append_assoc (flat_map (kinds_inside p.names) p.types) (functions_kind p ∷ []) (constants_kind p ∷ [])) ∙ append_assoc (flat_map (kinds_inside p.names) p.types) (functions_kind p ∷ (constants_kind p ∷ [])) (terms_kind p ∷ []))

@@ -1,0 +1,12 @@
+pub mod ClaimViews
+pub mod Claims
+pub mod Faults
+pub mod FilePlaces
+pub mod LineViews
+pub mod NameLaws
+pub mod NamedPrograms
+pub mod OwnNames
+pub mod ProgramViews
+pub mod RustNames
+pub mod SourceViews
+pub mod WrittenTypes

@@ -1,0 +1,117 @@
+-- The names of a program's things in Rust, kind by kind.
+use Rattle.std.specs.Prelude.{ℕ, Bool, false, List, [], ◌∷◌, ◌++◌, Option, Some, None, codes, map, slice_get}
+use Rattle.std.specs.List.{flat_map}
+use Rattle.model.specs.lists.Signatures.{text_of}
+use Rattle.cranelift_isle.specs.Tables.{FieldEntry, FieldEntries, unit_entries, struct_entries, tuple_entries, VariantEntry, TypeEntry, builtin_type, primitive_type, enum_type, struct_type, ConstructorEntry, internal_constructor, external_constructor, ExtractorEntry, internal_extractor, external_extractor, TermKindEntry, variant_term, struct_term, declared_term, TermEntry}
+use Rattle.rust_items.specs.Claims.{Claim, Kind}
+use Rattle.rust_items.specs.OwnNames.{is_own_type, is_own_value}
+use Rattle.rust_items.specs.RustNames.{part, spelled, spelled_path, spelled_constant}
+
+-- what has names: types, terms, the constants by the numbers of their names, and the terms with rules
+pub record NamedProgram : Type 0 where
+  pub names : List (List ℕ)
+  pub types : List TypeEntry
+  pub terms : List TermEntry
+  pub constants : List ℕ
+  pub with_rules : List ℕ
+
+abbrev pub claim : List ℕ → List ℕ → Claim
+claim written owner = record { written = written; owner = owner }
+
+-- a thing that is written as an identifier
+abbrev pub identified : List (List ℕ) → ℕ → Claim
+identified names name = claim (spelled (text_of names name)) (text_of names name)
+
+-- a primitive type is outside, where several types may be one
+abbrev pub primitive : List (List ℕ) → ℕ → Claim
+primitive names name = claim (spelled_path (text_of names name)) (codes "primitive " ++ text_of names name)
+
+-- a built-in type has no name of the program's
+abbrev pub type_claim : List (List ℕ) → TypeEntry → List Claim
+type_claim names (builtin_type place) = []
+type_claim names (primitive_type id name at) = primitive names name ∷ []
+type_claim names (enum_type name id is_extern is_nodebug variants at) = identified names name ∷ []
+type_claim names (struct_type name id is_extern is_nodebug fields at) = identified names name ∷ []
+
+abbrev pub field_claim : List (List ℕ) → FieldEntry → Claim
+field_claim names f = identified names f.name
+
+abbrev pub field_claims : List (List ℕ) → FieldEntries → List Claim
+field_claims names unit_entries = []
+field_claims names (struct_entries fields) = map (field_claim names) fields
+field_claims names (tuple_entries fields) = []
+
+abbrev pub variant_claim : List (List ℕ) → VariantEntry → Claim
+variant_claim names v = identified names v.name
+
+abbrev pub kind_as : List ℕ → List ℕ → (List ℕ → Bool) → List Claim → Kind
+kind_as what one own claims = record { what = what; one = one; own = own; claims = claims }
+
+-- no names are the code's own there
+abbrev pub no_own : List ℕ → Bool
+no_own name = false
+
+abbrev pub field_kind : List (List ℕ) → FieldEntries → Kind
+field_kind names fields = kind_as (codes "the fields") (codes "field") no_own (field_claims names fields)
+
+abbrev pub variant_kind : List (List ℕ) → List VariantEntry → Kind
+variant_kind names variants = kind_as (codes "the variants") (codes "variant") no_own (map (variant_claim names) variants)
+
+abbrev pub variant_fields : List (List ℕ) → VariantEntry → Kind
+variant_fields names v = field_kind names v.fields
+
+-- the variants of an enum, and the fields of each variant; the fields of a struct
+abbrev pub kinds_inside : List (List ℕ) → TypeEntry → List Kind
+kinds_inside names (builtin_type place) = []
+kinds_inside names (primitive_type id name at) = []
+kinds_inside names (enum_type name id is_extern is_nodebug variants at) = variant_kind names variants ∷ map (variant_fields names) variants
+kinds_inside names (struct_type name id is_extern is_nodebug fields at) = field_kind names fields ∷ []
+
+abbrev pub constructor_claim : List (List ℕ) → Option ConstructorEntry → List Claim
+constructor_claim names None = []
+constructor_claim names (Some internal_constructor) = []
+constructor_claim names (Some (external_constructor name)) = identified names name ∷ []
+
+abbrev pub extractor_claim : List (List ℕ) → Option ExtractorEntry → List Claim
+extractor_claim names None = []
+extractor_claim names (Some (internal_extractor template)) = []
+extractor_claim names (Some (external_extractor name infallible at)) = identified names name ∷ []
+
+-- the functions from outside of a term
+abbrev pub functions_of_kind : List (List ℕ) → TermKindEntry → List Claim
+functions_of_kind names (variant_term variant) = []
+functions_of_kind names struct_term = []
+functions_of_kind names (declared_term flags made taken) = extractor_claim names taken ++ constructor_claim names made
+
+abbrev pub functions_of : List (List ℕ) → TermEntry → List Claim
+functions_of names t = functions_of_kind names t.kind
+
+abbrev pub constant_claim : List (List ℕ) → ℕ → Claim
+constant_claim names name = claim (spelled_constant (text_of names name)) (text_of names name)
+
+-- the function of a term with rules
+abbrev pub constructor_named : List (List ℕ) → ℕ → Claim
+constructor_named names name = claim (codes "constructor_" ++ part (text_of names name)) (text_of names name)
+
+abbrev pub constructors_of : List (List ℕ) → Option TermEntry → List Claim
+constructors_of names None = []
+constructors_of names (Some t) = constructor_named names t.name ∷ []
+
+abbrev pub term_claim : List (List ℕ) → List TermEntry → ℕ → List Claim
+term_claim names terms id = constructors_of names (slice_get terms id)
+
+abbrev pub types_kind : NamedProgram → Kind
+types_kind p = kind_as (codes "the types") (codes "type") is_own_type (flat_map (type_claim p.names) p.types)
+
+abbrev pub functions_kind : NamedProgram → Kind
+functions_kind p = kind_as (codes "the functions") (codes "function") no_own (flat_map (functions_of p.names) p.terms)
+
+abbrev pub constants_kind : NamedProgram → Kind
+constants_kind p = kind_as (codes "the constants") (codes "constant") is_own_value (map (constant_claim p.names) p.constants)
+
+abbrev pub terms_kind : NamedProgram → Kind
+terms_kind p = kind_as (codes "the terms") (codes "term") no_own (flat_map (term_claim p.names p.terms) p.with_rules)
+
+-- all kinds
+abbrev pub kinds : NamedProgram → List Kind
+kinds p = types_kind p ∷ (flat_map (kinds_inside p.names) p.types ++ functions_kind p ∷ (constants_kind p ∷ (terms_kind p ∷ [])))

@@ -1,0 +1,20 @@
+//! Names as Rust has them: how they are written, which the code takes for itself, and whether things are told apart by them.
+//! The items of generated Rust code but for the functions of terms: the trait of what comes from outside, the traits beside it,
+//! and the types that definitions declare; and whether all their names are told apart.
+#![tactic(auto)]
+
+pub use crate::names;
+
+pub mod beside;
+pub mod claims;
+pub mod context;
+pub mod faults;
+pub mod head;
+pub mod laws;
+pub mod lines;
+pub mod names;
+pub mod options;
+pub mod own;
+pub mod program;
+pub mod taken;
+pub mod types;

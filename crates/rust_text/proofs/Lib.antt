@@ -1,0 +1,15 @@
+mod AddedSteps
+mod CalleeNumbers
+mod FieldSteps
+mod FieldTypes
+mod HexDigits
+mod IntegerTexts
+mod LabelSteps
+mod LoweredCode
+mod PieceSteps
+mod PieceTexts
+mod PrintedTexts
+mod ProgramSteps
+mod WholeNames
+mod WrittenSteps
+pub mod ClosedNames

@@ -1,0 +1,13 @@
+use Rattle.std.proofs.Common.{◌≡◌, List, drop}
+use Rattle.model_code.specs.Notation.{Notation}
+use Rattle.model_code.specs.Pieces as P
+use Rattle.model_code.specs.Pieces.{named_values}
+use Rattle.rust_code.specs.CodeViews.{use_views}
+use Rattle.rust_text.specs.TokenViews.{owner_view}
+use Rattle.rust_text.specs.Adding.{ahead}
+use Rattle.rust_text.proofs.expressions.add_named_values.Given as goal
+
+abbrev pub invariant-loop-index : goal.invariant-loop-index
+invariant-loop-index l =
+    (p : Notation) (rest : List P.Piece) → ahead p l.out.items (named_values p (owner_view l.owner) l.index (use_views (drop l.index l.values)) rest)
+    ≡ ahead p l.fn.out.items (named_values p (owner_view l.owner) 0 (use_views l.values) rest)

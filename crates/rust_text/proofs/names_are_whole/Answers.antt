@@ -1,0 +1,5 @@
+use Rattle.rust_text.proofs.WholeNames.{names_are_whole_lem}
+use Rattle.rust_text.proofs.names_are_whole.Goals as goal
+
+pub returns : goal.returns
+returns c = names_are_whole_lem

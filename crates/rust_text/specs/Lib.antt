@@ -1,0 +1,14 @@
+pub mod Adding
+pub mod ClosedNames
+pub mod Fields
+pub mod LoweredCode
+pub mod Margins
+pub mod PrintedTexts
+pub mod ProgramFields
+pub mod ProgramNames
+pub mod SettingViews
+pub mod Settings
+pub mod TokenViews
+pub mod WholeNames
+pub mod Writers
+pub mod WrittenBodies

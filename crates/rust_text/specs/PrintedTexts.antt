@@ -1,0 +1,17 @@
+-- What is printed of accepted definitions is read back.
+use Rattle.std.specs.Prelude.{ℕ, Bool}
+use Rattle.model_code.specs.Notation.{Kind}
+use Rattle.model_code.specs.ProgramNotation.{notation_of}
+use Rattle.model_code.specs.Written.{shown_code, function_body}
+use Rattle.model_code.specs.Spelling.{spelled}
+use Rattle.model_code.specs.ReadTexts.{IsReadAs}
+use Rattle.laws_code.specs.AcceptedCode.{OfBestTrees}
+use Rattle.laws_code.specs.TypedTrees.{code_by_types}
+use Rattle.rust_text.specs.ProgramNames.{Setting, names_of}
+
+-- the text of a term's function, by the names of its program, has the words and marks of tokens that are read as what it shows of the
+-- code
+abbrev pub PrintedTextsAreReadBack : Type 0
+PrintedTextsAreReadBack =
+    OfBestTrees (λ p l. (s : Setting) (kind : Kind) (is_logged : Bool) (deep : ℕ → Bool) (n : ℕ)
+    → IsReadAs (names_of s) (notation_of p kind is_logged) (spelled (names_of s) (function_body (notation_of p kind is_logged) (code_by_types p l deep n))) (shown_code (notation_of p kind is_logged) (code_by_types p l deep n)))

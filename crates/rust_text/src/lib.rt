@@ -1,0 +1,109 @@
+//! What is written of names and texts is read by itself.
+//!
+//! A function here has no code: its clause is a law.
+//! The functions of terms with rules as data, and what they do: what the source rules mean.
+//! The text of generated functions as pieces: tokens, white space, comments, lines for the log; and how pieces are written.
+//! What is printed of accepted definitions is read back.
+//!
+//! A function here has no code, or calls the laws that its proof rests on: its clause is a law.
+//! The Rust code of lowered programs. The functions of terms are printed from code as data (`isle_code`), and from nothing else:
+//! code becomes pieces, which are exactly those that `code_text` says, and pieces become text.
+#![tactic(auto)]
+
+ghost use Rattle.rust_text.specs.ClosedNames.{WrittenNamesAreClosed};
+ghost use Rattle.std.specs.Prelude.{IfOk};
+ghost use Rattle.laws_code.specs.CodeChoices.{MeansItsSource};
+ghost use Rattle.laws_code.specs.TypedTrees.{ConstrainsByTypes, IsWellMade};
+ghost use Rattle.rust_code.specs.CodeViews.{block_view};
+ghost use Rattle.rust_text.specs.LoweredCode.{IsItsCode, OfLowered};
+ghost use Rattle.rust_text.specs.PrintedTexts.{PrintedTextsAreReadBack};
+ghost use Rattle.rust_text.specs.WholeNames.{NamesAreClosed, NamesAreWhole};
+
+use cranelift_isle::lower::{Lowered, LoweredTerm};
+use laws_code::{
+    code_chooses_as_source, code_of_accepted_is_well_made, text_of_accepted_is_read_back,
+};
+use model_code::with_moves_says_same;
+use rust_code::code::CodeBlock;
+use rust_code::code_of::code_of;
+use rust_code::types::Tables;
+use std::alloc::{AllocError, Global};
+
+mod added;
+mod blocks;
+pub mod code;
+mod conditions;
+mod expressions;
+mod functions;
+mod labels;
+mod layout;
+pub mod names;
+mod notation;
+pub mod numbers;
+mod patterns;
+mod pieces;
+mod places;
+pub mod spelling;
+mod statements;
+pub mod tokens;
+
+/// Names as they are written in Rust, quoted texts and numbers are texts whose quotes end in them, and in which no comment begins.
+#[tactic(auto, using(crate::proofs::ClosedNames::written_names_are_closed_lem))]
+pub fn written_names_are_closed()
+    ensures { WrittenNamesAreClosed }
+{}
+
+/// The code of a term's function. The clauses speak of a term of an answer of `lower`, handed in with that answer.
+///
+/// # Errors
+///
+/// Where memory is refused.
+pub fn function_code(
+    alloc: Global,
+    lowered: &Lowered,
+    term: &LoweredTerm,
+) -> Result<CodeBlock, AllocError>
+    // it is the code of the term's tree, with values handed on as the types of the definitions' program ask, and moves in place of
+    // clones wherever a move may stand
+    ensures made { IfOk result (λ c. OfLowered lowered.now term.now (IsItsCode (block_view c))) }
+
+    // in a term that isn't multi it has the outcome of the matching source rule of greatest priority; in a multi term it gives the
+    // bag of the rules' results, or with a bound a part of it
+    ensures means { IfOk result (λ c. OfLowered lowered.now term.now (λ p t. MeansItsSource p t (block_view c))) }
+
+    // and where the rules constrain by types, what it reads is in scope, each use gives a reference or a value as is wanted, and
+    // what isn't Copy is moved once at most
+    ensures well_made { IfOk result (λ c. OfLowered lowered.now term.now (λ p t. ConstrainsByTypes p t.term t.set
+        → IsWellMade p t (block_view c))) }
+{
+    // laws, without code
+    code_chooses_as_source();
+    with_moves_says_same();
+    code_of_accepted_is_well_made();
+    let tables = Tables {
+        tyenv: &lowered.tyenv,
+        terms: &lowered.termenv.terms,
+        term: term.id,
+        sites: &term.rules.bindings,
+    };
+    Ok(code_of(alloc, &tables, &term.block)?)
+}
+
+/// The names of a function's code are closed texts, whatever the program calls its things: no quotes begin in them that don't end
+/// there, and no comment begins. And places stay on their line.
+pub fn names_are_closed()
+    ensures { NamesAreClosed }
+{}
+
+/// So they are read by themselves.
+pub fn names_are_whole()
+    ensures { NamesAreWhole }
+{}
+
+/// So the text of each function is read back: its words and marks are those of tokens from which a reader gets what the code shows.
+pub fn printed_texts_are_read_back()
+    ensures { PrintedTextsAreReadBack }
+{
+    text_of_accepted_is_read_back();
+    names_are_whole();
+}

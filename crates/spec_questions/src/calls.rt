@@ -1,0 +1,218 @@
+//! What is said of the calls of a rule, and of its result.
+
+use crate::makers::Maker;
+use cranelift_isle::sema::TermId;
+use cranelift_isle::trie_again::{Binding, BindingId};
+use spec_formulas::faults::NoCondition;
+use spec_formulas::terms::NodeId;
+use spec_values::values::{ValueId, copied};
+use std::slice;
+use text_reader::syntax::Spec;
+
+impl<'a, 'b> Maker<'a, 'b> {
+    /// Assumes what the term requires of its arguments.
+    pub(crate) fn assume_required(&mut self) -> Result<(), NoCondition> {
+        let Some(spec) = self.builder.specs.spec(self.root.id) else {
+            return Err(self.no_spec(self.root.id));
+        };
+        let args = copied(self.builder.alloc, &self.args)?;
+        self.assume_list(spec, &args, None, &spec.required)
+    }
+
+    /// Assumes what is said of the calls among these sites, but for impure ones.
+    pub(crate) fn assume_calls(&mut self, sites: &[usize]) -> Result<(), NoCondition> {
+        for site in sites {
+            self.assume_call(*site)?;
+        }
+        Ok(())
+    }
+
+    // Assumes what is said of the call at a site, if it is a pure one.
+    fn assume_call(&mut self, site: usize) -> Result<(), NoCondition> {
+        let bindings = self.sites.bindings;
+        match bindings.get(site) {
+            Some(Binding::Extractor { term, parameter }) => {
+                self.assume_extractor(*term, *parameter, site)
+            }
+            Some(
+                Binding::Constructor {
+                    term,
+                    parameters,
+                    instance,
+                },
+            ) => {
+                if *instance == 0 {
+                    self.assume_constructor(*term, parameters, site)
+                } else {
+                    Ok(())
+                }
+            }
+            _ => Ok(()),
+        }
+    }
+
+    // Assumes what is said of an extractor that answers: what it looks at is the result, and its outputs are the arguments.
+    fn assume_extractor(
+        &mut self,
+        term: TermId,
+        parameter: BindingId,
+        site: usize,
+    ) -> Result<(), NoCondition> {
+        let Some(spec) = self.builder.specs.spec(term) else {
+            return Err(self.no_spec(term));
+        };
+        let result = Some(self.sites.value_at(parameter)?);
+        let args = self.sites.outputs_at(site)?;
+        self.take_signature(term, &args, result)?;
+        self.assume_list(spec, &args, result, &spec.required)?;
+        self.assume_list(spec, &args, result, &spec.provides)?;
+        self.assume_list(spec, &args, result, &spec.matches)
+    }
+
+    // Assumes what is said of a constructor that answers, where its arguments are as required.
+    fn assume_constructor(
+        &mut self,
+        term: TermId,
+        parameters: &[BindingId],
+        site: usize,
+    ) -> Result<(), NoCondition> {
+        let args = self.sites.values_at(parameters)?;
+        let Some(spec) = self.builder.specs.spec(term) else {
+            return self.check_function(term, &args);
+        };
+        let result = self.answer_at(term, site)?;
+        self.take_signature(term, &args, Some(result))?;
+        let required = self.required_of(spec, &args)?;
+        self.assume_provided(spec, &args, result, &required)
+    }
+
+    // That a term without a spec is an unknown function.
+    fn check_function(&mut self, term: TermId, args: &[ValueId]) -> Result<(), NoCondition> {
+        let lowered = self.builder.lowered;
+        if let Some(known) = lowered.termenv.terms.get(term.index()) {
+            if self.builder.answer_of(known, args)?.is_some() {
+                return Ok(());
+            }
+        }
+        Err(self.no_spec(term))
+    }
+
+    // What a call of a term gives, which is one value.
+    fn answer_at(&self, term: TermId, site: usize) -> Result<ValueId, NoCondition> {
+        let outputs = self.sites.outputs_at(site)?;
+        match outputs.as_slice() {
+            [result] => Ok(*result),
+            _ => Err(self.no_spec(term)),
+        }
+    }
+
+    // That arguments are as a spec requires.
+    fn required_of(
+        &mut self,
+        spec: &'a Spec,
+        args: &[ValueId],
+    ) -> Result<Vec<NodeId>, NoCondition> {
+        let mut required = Vec::new(self.builder.alloc);
+        self.show_list(spec, args, None, &spec.required, &mut required)?;
+        Ok(required)
+    }
+
+    // Assumes what a call provides where this is true.
+    fn assume_provided(
+        &mut self,
+        spec: &'a Spec,
+        args: &[ValueId],
+        given: ValueId,
+        required: &[NodeId],
+    ) -> Result<(), NoCondition> {
+        let guard = self.builder.terms.all(required)?;
+        if self.builder.terms.literal(guard) == Some(false) {
+            return Ok(());
+        }
+        self.assume_list_under(spec, args, given, &spec.provides, guard)?;
+        self.assume_list_under(spec, args, given, &spec.matches, guard)
+    }
+
+    /// An impure call: that it is called as required is to be shown, and then it answers as its spec says.
+    pub(crate) fn make_call(&mut self, made: BindingId) -> Result<(), NoCondition> {
+        let call = self.call_of(made);
+        let bindings = self.sites.bindings;
+        match bindings.get(call.index()) {
+            Some(
+                Binding::Constructor {
+                    term,
+                    parameters,
+                    ..
+                },
+            ) => self.make_call_of(*term, parameters, call),
+            _ => Ok(()),
+        }
+    }
+
+    // An impure call of a term at a site.
+    fn make_call_of(
+        &mut self,
+        term: TermId,
+        parameters: &[BindingId],
+        call: BindingId,
+    ) -> Result<(), NoCondition> {
+        let new = self.hold_below(parameters)?;
+        let outcome = self.assume_calls(&new);
+        self.fitting(term, outcome)?;
+        let _call = self.hold_below(slice::from_ref(&call))?;
+        let Some(spec) = self.builder.specs.spec(term) else {
+            return Err(self.no_spec(term));
+        };
+        let args = self.sites.values_at(parameters)?;
+        let result = self.answer_at(term, call.index())?;
+        let outcome = self.take_signature(term, &args, Some(result));
+        self.fitting(term, outcome)?;
+        self.take_step(term, spec, &args, result)
+    }
+
+    // That an impure call is called as required is to be shown, and then it answers as its spec says.
+    fn take_step(
+        &mut self,
+        term: TermId,
+        spec: &'a Spec,
+        args: &[ValueId],
+        given: ValueId,
+    ) -> Result<(), NoCondition> {
+        let required = self.required_of(spec, args)?;
+        self.begin_step(&required)?;
+        let outcome = self.assume_provided(spec, args, given, &required);
+        self.fitting(term, outcome)
+    }
+
+    // The call that an impure call's answer is of, unwrapped or not.
+    fn call_of(&self, site: BindingId) -> BindingId {
+        match self.sites.bindings.get(site.index()) {
+            Some(Binding::MatchSome { source } | Binding::Iterator { source }) => *source,
+            _ => site,
+        }
+    }
+
+    /// That the result is what the term provides is to be shown.
+    pub(crate) fn show_result(&mut self) -> Result<(), NoCondition> {
+        let new = self.hold_below(slice::from_ref(&self.rule.result))?;
+        let outcome = self.assume_calls(&new);
+        self.fitting(self.root.id, outcome)?;
+        let outcome = self.builder.terms.settle();
+        self.fitting(self.root.id, outcome)?;
+        let Some(spec) = self.builder.specs.spec(self.root.id) else {
+            return Err(self.no_spec(self.root.id));
+        };
+        let goals = self.goals_of(spec)?;
+        self.add_step(goals)
+    }
+
+    // That the result is what the term's spec provides.
+    fn goals_of(&mut self, spec: &'a Spec) -> Result<Vec<NodeId>, NoCondition> {
+        let result = Some(self.sites.value_at(self.rule.result)?);
+        let args = copied(self.builder.alloc, &self.args)?;
+        let mut goals = Vec::new(self.builder.alloc);
+        self.show_list(spec, &args, result, &spec.provides, &mut goals)?;
+        self.show_list(spec, &args, result, &spec.matches, &mut goals)?;
+        Ok(goals)
+    }
+}

@@ -1,0 +1,19 @@
+//! Questions about rules for a solver: whether each rule gives what the specs of its term and of the terms that it calls say.
+//! What a solver wrote when it was asked: `unsat`, or `sat` and the values of formulas.
+#![tactic(auto)]
+
+mod above;
+mod calls;
+mod conditions;
+mod demands;
+mod left_sides;
+mod makers;
+mod outcomes;
+pub mod questions;
+pub mod replies;
+mod said;
+mod signatures;
+mod sites;
+mod tokens;
+mod values;
+mod wanted;

@@ -1,0 +1,665 @@
+//! The questions about all rules.
+
+ghost use Rattle.std.specs.Prelude.{◌≡◌, ◌<◌, ◌≤◌, length, true, IsTrue, IfOk, OnOk};
+ghost use Rattle.std.specs.List.{list_all, list_any};
+ghost use Rattle.spec_questions.specs.Telling.{AreTold, AreAllTold, KeepsTold, has_spec, is_about, is_place, is_told, is_wanted_at};
+
+use crate::conditions::{Choice, Condition, Step, condition_of};
+use crate::sites::Variable;
+use crate::wanted::add_wanted;
+use core_syntax::syntax::Pos;
+use cranelift_isle::lower::{Lowered, LoweredTerm};
+use cranelift_isle::sema::{BoundVar, RuleId, TermId};
+use cranelift_isle::trie_again::{BindingId, Rule};
+use report_queries::rules::typed_rule;
+use report_queries::variable_sites::KnownSites;
+use spec_formulas::faults::{NoCondition, SpecError};
+use spec_formulas::terms::{NodeId, Terms, Unknown};
+use spec_formulas::text::{question, shown_in, unknowns_in};
+use spec_values::checks::check_names;
+use spec_values::specs::Specs;
+use std::alloc::{AllocError, Global};
+use std::{mem, slice};
+use text_reader::syntax::VerificationForm;
+
+/// What is asked of a rule at one choice of widths.
+pub struct Question {
+    /// The rule.
+    pub rule: RuleId,
+    /// Where it is defined.
+    pub pos: Pos,
+    /// Its term.
+    pub term: TermId,
+    /// The widths of arguments and of the result that are words of any width or of a known one: what, and how wide.
+    pub widths: Vec<(String, usize)>,
+    /// A text that has an answer `sat` exactly if the rule may be taken.
+    pub taken: String,
+    /// A text whose answer `unsat` says that the rule is right.
+    pub wrong: String,
+    /// The constants of the texts, each with what it is in words.
+    pub names: Vec<(String, String)>,
+    /// The variables of the rule, then its `result`, then what its spec wants the result to be, called `wanted`: each with a
+    /// formula for it that may stand behind the text `wrong`.
+    pub values: Vec<(String, String)>,
+}
+
+impl Drop for Question {
+    fn drop(self) {
+        let Question {
+            rule: _,
+            pos: _,
+            term: _,
+            widths: _,
+            taken: _,
+            wrong: _,
+            names: _,
+            values: _,
+        } = self;
+    }
+}
+
+/// A rule without a question, and why it has none.
+pub struct Without {
+    /// The rule.
+    pub rule: RuleId,
+    /// Where it is defined.
+    pub pos: Pos,
+    /// Its term.
+    pub term: TermId,
+    /// What lacks, in one line.
+    pub reason: String,
+}
+
+impl Drop for Without {
+    fn drop(self) {
+        let Without {
+            rule: _,
+            pos: _,
+            term: _,
+            reason: _,
+        } = self;
+    }
+}
+
+/// What is asked of rules.
+pub struct Questions {
+    /// The questions, in the order of terms and rules.
+    pub questions: Vec<Question>,
+    /// The rules of terms with specs that have none.
+    pub without: Vec<Without>,
+}
+
+impl Drop for Questions {
+    fn drop(self) {
+        let Questions {
+            questions: _,
+            without: _,
+        } = self;
+    }
+}
+
+/// Why there are no questions.
+#[derive(Drop)]
+pub enum QuestionFault {
+    /// Memory was refused.
+    Memory,
+    /// Specs are wrong: each error once.
+    Wrong(Vec<SpecError>),
+}
+
+impl From<AllocError> for QuestionFault {
+    fn from(_: AllocError) -> QuestionFault {
+        QuestionFault::Memory
+    }
+}
+
+impl<T: Drop> From<std::alloc::AllocFailed<T>> for QuestionFault {
+    fn from(_: std::alloc::AllocFailed<T>) -> QuestionFault {
+        QuestionFault::Memory
+    }
+}
+
+// What questions are made with.
+#[derive(Clone, Copy)]
+struct Asker<'a> {
+    alloc: Global,
+    lowered: &'a Lowered,
+    specs: &'a Specs<'a>,
+    wanted: Wanted<'a>,
+}
+
+// A rule that is asked about.
+#[derive(Clone, Copy)]
+struct Asked<'r> {
+    term: &'r LoweredTerm,
+    rule: &'r Rule,
+    variables: &'r [Variable<'r>],
+}
+
+// The most choices of signatures that are tried for one rule.
+const MOST_TRIES: usize = 2000;
+
+/// Which questions are wanted.
+#[derive(Clone, Copy)]
+pub struct Wanted<'w> {
+    /// Whether rules are asked about where no rule of greater priority matches.
+    pub above: bool,
+    /// The positions of the rules that are asked about, or None for all.
+    pub only: Option<&'w [Pos]>,
+}
+
+/// The questions about the rules of terms with specs, of definitions that were lowered with internal extractors expanded.
+///
+/// # Errors
+///
+/// What is wrong with the specs, or that memory was refused.
+pub fn questions_about(
+    alloc: Global,
+    lowered: &Lowered,
+    forms: &[VerificationForm],
+    wanted: Wanted<'_>,
+) -> Result<Questions, QuestionFault> {
+    let (specs, mut errors) = Specs::of(alloc, lowered, forms)?;
+    let found = checked_questions(alloc, lowered, &specs, wanted, &mut errors)?;
+    if errors.is_empty() {
+        Ok(found)
+    } else {
+        Err(QuestionFault::Wrong(errors))
+    }
+}
+
+// The questions by these specs, whose names are checked first.
+fn checked_questions(
+    alloc: Global,
+    lowered: &Lowered,
+    specs: &Specs<'_>,
+    wanted: Wanted<'_>,
+    errors: &mut Vec<SpecError>,
+) -> Result<Questions, AllocError>
+    ensures { IfOk result (λ found. length errors.new.items ≡ 0 → AreAllTold wanted.entry specs.now.terms.items found lowered.now.terms.items) }
+{
+    check_names(alloc, lowered, specs, errors)?;
+    questions_by(alloc, lowered, specs, wanted, errors)
+}
+
+/// The questions about the rules of terms with these specs, of definitions that were lowered with internal extractors expanded.
+/// Each rule that is asked about has one, or is among those without, unless what is wrong with the specs is added to the errors.
+///
+/// # Errors
+///
+/// Where memory is refused.
+pub fn questions_by(
+    alloc: Global,
+    lowered: &Lowered,
+    specs: &Specs<'_>,
+    wanted: Wanted<'_>,
+    errors: &mut Vec<SpecError>,
+) -> Result<Questions, AllocError>
+    ensures { IfOk result (λ found. length errors.new.items ≡ 0 → AreAllTold wanted.entry specs.now.terms.items found lowered.now.terms.items) }
+{
+    let asker = Asker {
+        alloc,
+        lowered,
+        specs,
+        wanted,
+    };
+    let mut found = Questions {
+        questions: Vec::new(alloc),
+        without: Vec::new(alloc),
+    };
+    add_terms(asker, &mut found, errors)?;
+    Ok(found)
+}
+
+// Adds the questions about the rules of all terms with specs.
+fn add_terms(
+    asker: Asker<'_>,
+    found: &mut Questions,
+    errors: &mut Vec<SpecError>,
+) -> Result<(), AllocError>
+    ensures { OnOk result (length errors.new.items ≡ 0 → AreAllTold asker.entry.wanted asker.entry.specs.now.terms.items found.new asker.entry.lowered.now.terms.items) }
+{
+    for term in &asker.lowered.terms {
+        add_said(asker, term, found, errors)?;
+    }
+    Ok(())
+}
+
+// Adds the questions about the rules of a term, if it has a spec.
+fn add_said(
+    asker: Asker<'_>,
+    term: &LoweredTerm,
+    found: &mut Questions,
+    errors: &mut Vec<SpecError>,
+) -> Result<(), AllocError>
+    ensures told { OnOk result (length errors.new.items ≡ 0 → IsTrue (has_spec asker.entry.specs.now.terms.items term.now.id.0) → AreTold asker.entry.wanted found.new term.now.id.0 term.now.rules.rules.items) }
+    ensures kept { OnOk result (KeepsTold found.old found.new) }
+    ensures noted { OnOk result (length errors.old.items ≤ length errors.new.items) }
+{
+    if says_of(asker.specs, term.id) {
+        add_term(asker, term, found, errors)
+    } else {
+        Ok(())
+    }
+}
+
+// Whether a spec is said of a term.
+fn says_of(specs: &Specs<'_>, term: TermId) -> bool
+    ensures { result ≡ has_spec specs.now.terms.items term.0 }
+{
+    match specs.terms.get(term.index()) {
+        Some(said) => said.spec.is_some(),
+        None => false,
+    }
+}
+
+// Adds the questions about the rules of a term.
+fn add_term(
+    asker: Asker<'_>,
+    term: &LoweredTerm,
+    found: &mut Questions,
+    errors: &mut Vec<SpecError>,
+) -> Result<(), AllocError>
+    ensures told { OnOk result (length errors.new.items ≡ 0 → AreTold asker.entry.wanted found.new term.now.id.0 term.now.rules.rules.items) }
+    ensures kept { OnOk result (KeepsTold found.old found.new) }
+    ensures noted { OnOk result (length errors.old.items ≤ length errors.new.items) }
+{
+    let terms = &asker.lowered.termenv.terms;
+    let sites = KnownSites::new(asker.alloc, terms, &term.rules.bindings)?;
+    for rule in &term.rules.rules {
+        add_if_wanted(asker, &sites, term, rule, found, errors)?;
+    }
+    Ok(())
+}
+
+// Adds the questions about a rule, if it is asked about.
+fn add_if_wanted(
+    asker: Asker<'_>,
+    sites: &KnownSites<'_>,
+    term: &LoweredTerm,
+    rule: &Rule,
+    found: &mut Questions,
+    errors: &mut Vec<SpecError>,
+) -> Result<(), AllocError>
+    ensures told { OnOk result (length errors.new.items ≡ 0 → IsTrue (is_wanted_at asker.entry.wanted rule.now.pos) → IsTrue (is_told found.new term.now.id.0 rule.now.id.0)) }
+    ensures kept { OnOk result (KeepsTold found.old found.new) }
+    ensures noted { OnOk result (length errors.old.items ≤ length errors.new.items) }
+{
+    if is_wanted(asker.wanted, rule) {
+        add_rule(asker, sites, term, rule, found, errors)
+    } else {
+        Ok(())
+    }
+}
+
+// Whether a rule is asked about.
+fn is_wanted(wanted: Wanted<'_>, rule: &Rule) -> bool
+    ensures { result ≡ is_wanted_at wanted.entry rule.now.pos }
+{
+    match wanted.only {
+        Some(places) => is_among(places, rule.pos),
+        None => true,
+    }
+}
+
+// Whether a position is one of these.
+fn is_among(places: &[Pos], pos: Pos) -> bool
+    ensures { result ≡ list_any (is_place pos) places.now }
+{
+    places.iter().any(|place| *place == pos)
+}
+
+// The variables of a rule.
+fn variables_of<'a>(
+    asker: Asker<'a>,
+    sites: &KnownSites<'_>,
+    rule: &Rule,
+) -> Result<Vec<Variable<'a>>, AllocError> {
+    let mut variables = Vec::new(asker.alloc);
+    let lowered = asker.lowered;
+    if let Some(typed) = typed_rule(&lowered.termenv, rule.id) {
+        let found = sites.of_rule(typed)?;
+        for (place, variable) in typed.vars.iter().enumerate() {
+            if let Some(Some(site)) = found.get(place) {
+                let variable = variable_at(lowered, variable, *site);
+                variables.extend_from_slice(slice::from_ref(&variable))?;
+            }
+        }
+    }
+    Ok(variables)
+}
+
+// A variable whose value is at a site.
+fn variable_at<'a>(lowered: &'a Lowered, variable: &BoundVar, site: BindingId) -> Variable<'a> {
+    Variable {
+        name: lowered.tyenv.text_of(variable.name),
+        site,
+        ty: variable.ty,
+    }
+}
+
+// Adds the questions about a rule, or why there are none.
+fn add_rule(
+    asker: Asker<'_>,
+    sites: &KnownSites<'_>,
+    term: &LoweredTerm,
+    rule: &Rule,
+    found: &mut Questions,
+    errors: &mut Vec<SpecError>,
+) -> Result<(), AllocError>
+    ensures told { OnOk result (length errors.new.items ≡ 0 → IsTrue (is_told found.new term.now.id.0 rule.now.id.0)) }
+    ensures kept { OnOk result (KeepsTold found.old found.new) }
+    ensures noted { OnOk result (length errors.old.items ≤ length errors.new.items) }
+{
+    let variables = variables_of(asker, sites, rule)?;
+    let asked = Asked {
+        term,
+        rule,
+        variables: &variables,
+    };
+    match ask(asker, asked) {
+        Ok(questions) => found.add_questions(asked, questions),
+        Err(fault) => add_fault(asker.alloc, asked, fault, found, errors),
+    }
+}
+
+// Adds why a rule has no question: an error, or a reason.
+fn add_fault(
+    alloc: Global,
+    asked: Asked<'_>,
+    fault: NoCondition,
+    found: &mut Questions,
+    errors: &mut Vec<SpecError>,
+) -> Result<(), AllocError>
+    ensures told { OnOk result (length errors.new.items ≡ 0 → IsTrue (is_told found.new asked.entry.term.now.id.0 asked.entry.rule.now.id.0)) }
+    ensures kept { OnOk result (KeepsTold found.old found.new) }
+    ensures noted { OnOk result (length errors.old.items ≤ length errors.new.items) }
+{
+    match fault {
+        NoCondition::Memory => Err(AllocError),
+        NoCondition::Wrong(error) => add_error(errors, error),
+        NoCondition::Missing(reason) => found.add_without(asked, reason),
+        NoCondition::Undecided(_) => {
+            let reason = String::from_str(alloc, "too many choices of widths")?;
+            found.add_without(asked, reason)
+        }
+        NoCondition::Unfit | NoCondition::Untaken | NoCondition::Nothing | NoCondition::Unsorted =>
+            {
+                let reason = String::from_str(alloc, "no choice of widths fits the rule")?;
+                found.add_without(asked, reason)
+            }
+    }
+}
+
+// Adds an error, unless one stands at its place.
+fn add_error(errors: &mut Vec<SpecError>, error: SpecError) -> Result<(), AllocError>
+    ensures some { OnOk result (0 < length errors.new.items) }
+    ensures noted { OnOk result (length errors.old.items ≤ length errors.new.items) }
+{
+    if !has_error_at(errors, error.pos) {
+        errors.push(error)?;
+    }
+    Ok(())
+}
+
+// Whether an error stands at a place.
+fn has_error_at(errors: &[SpecError], pos: Pos) -> bool
+    ensures { IsTrue result → 0 < length errors.now }
+{
+    for error in errors {
+        if error.pos == pos {
+            return true;
+        }
+    }
+    false
+}
+
+impl Questions {
+    // Adds the questions about a rule.
+    fn add_questions(
+        &mut self,
+        asked: Asked<'_>,
+        questions: Vec<Question>,
+    ) -> Result<(), AllocError>
+        requires { IsTrue (list_any (is_about asked.term.now.id.0 asked.rule.now.id.0) questions.items) }
+        ensures told { OnOk result (IsTrue (is_told self.new asked.entry.term.now.id.0 asked.entry.rule.now.id.0)) }
+        ensures kept { OnOk result (KeepsTold self.old self.new) }
+    {
+        let mut questions = questions;
+        self.questions.append(&mut questions)
+    }
+
+    // Adds a rule that has no question.
+    fn add_without(&mut self, asked: Asked<'_>, reason: String) -> Result<(), AllocError>
+        ensures told { OnOk result (IsTrue (is_told self.new asked.entry.term.now.id.0 asked.entry.rule.now.id.0)) }
+        ensures kept { OnOk result (KeepsTold self.old self.new) }
+    {
+        self.without.push(Without {
+            rule: asked.rule.id,
+            pos: asked.rule.pos,
+            term: asked.term.id,
+            reason,
+        })?;
+        Ok(())
+    }
+}
+
+// The questions about a rule at each choice of signatures that fits. There is at least one.
+fn ask(asker: Asker<'_>, asked: Asked<'_>) -> Result<Vec<Question>, NoCondition>
+    ensures { IfOk result (λ qs. IsTrue (list_any (is_about asked.entry.term.now.id.0 asked.entry.rule.now.id.0) qs.items)) }
+{
+    let mut questions = Vec::new(asker.alloc);
+    let mut waiting = Vec::new(asker.alloc);
+    waiting.push(Vec::new(asker.alloc))?;
+    for _try in 0..MOST_TRIES {
+        let Some(decisions) = waiting.pop() else {
+            return some_of(asked, questions);
+        };
+        try_choice(asker, asked, &decisions, &mut questions, &mut waiting)?;
+    }
+    Err(NoCondition::Undecided(0))
+}
+
+// These questions about a rule, if there are some.
+#[tactic(auto, using(crate::proofs::Told::any_of_all))]
+fn some_of(asked: Asked<'_>, questions: Vec<Question>) -> Result<Vec<Question>, NoCondition>
+    requires { list_all (is_about asked.term.now.id.0 asked.rule.now.id.0) questions.items ≡ true }
+    ensures { IfOk result (λ qs. IsTrue (list_any (is_about asked.entry.term.now.id.0 asked.entry.rule.now.id.0) qs.items)) }
+{
+    if questions.is_empty() {
+        Err(NoCondition::Unfit)
+    } else {
+        Ok(questions)
+    }
+}
+
+// Asks about a rule at one choice of signatures, or adds the choices that go further.
+fn try_choice(
+    asker: Asker<'_>,
+    asked: Asked<'_>,
+    decisions: &[usize],
+    questions: &mut Vec<Question>,
+    waiting: &mut Vec<Vec<usize>>,
+) -> Result<(), NoCondition>
+    ensures { OnOk result (list_all (is_about asked.entry.term.now.id.0 asked.entry.rule.now.id.0) questions.old.items ≡ true → list_all (is_about asked.entry.term.now.id.0 asked.entry.rule.now.id.0) questions.new.items ≡ true) }
+{
+    let choice = Choice {
+        decisions,
+        above: asker.wanted.above,
+        variables: asked.variables,
+    };
+    match question_at(asker, asked, choice) {
+        Ok(question) => Ok(questions.push(question)?),
+        Err(NoCondition::Undecided(count)) => Ok(branch(asker.alloc, waiting, decisions, count)?),
+        Err(NoCondition::Unfit | NoCondition::Untaken) => Ok(()),
+        Err(fault) => Err(fault),
+    }
+}
+
+// What is asked of a rule where these signatures are taken.
+fn question_at(
+    asker: Asker<'_>,
+    asked: Asked<'_>,
+    choice: Choice<'_>,
+) -> Result<Question, NoCondition>
+    ensures { IfOk result (λ q. is_about asked.entry.term.now.id.0 asked.entry.rule.now.id.0 q ≡ true) }
+{
+    let alloc = asker.alloc;
+    let condition = condition_of(
+        alloc,
+        asker.lowered,
+        asker.specs,
+        asked.term,
+        asked.rule,
+        choice,
+    )?;
+    question_of(alloc, asked, condition)
+}
+
+// Adds each further decision, so that the first is tried first.
+fn branch(
+    alloc: Global,
+    waiting: &mut Vec<Vec<usize>>,
+    decisions: &[usize],
+    count: usize,
+) -> Result<(), AllocError> {
+    for decision in (0..count).rev() {
+        let mut more = Vec::from_slice(alloc, decisions)?;
+        more.push(decision)?;
+        waiting.push(more)?;
+    }
+    Ok(())
+}
+
+// What is asked of a rule by its condition.
+fn question_of(
+    alloc: Global,
+    asked: Asked<'_>,
+    condition: Condition,
+) -> Result<Question, NoCondition>
+    ensures { IfOk result (λ q. is_about asked.entry.term.now.id.0 asked.entry.rule.now.id.0 q ≡ true) }
+{
+    let mut condition = condition;
+    let texts = texts_of(alloc, &mut condition)?;
+    Ok(texts.into_question(asked, condition.into_widths()))
+}
+
+// The texts of a question.
+struct Texts {
+    taken: String,
+    wrong: String,
+    names: Vec<(String, String)>,
+    values: Vec<(String, String)>,
+}
+
+impl Drop for Texts {
+    fn drop(self) {
+        let Texts {
+            taken: _,
+            wrong: _,
+            names: _,
+            values: _,
+        } = self;
+    }
+}
+
+impl Texts {
+    // What is asked of a rule at these widths.
+    fn into_question(self, asked: Asked<'_>, widths: Vec<(String, usize)>) -> Question
+        ensures { is_about asked.entry.term.now.id.0 asked.entry.rule.now.id.0 result ≡ true }
+    {
+        let Texts {
+            taken,
+            wrong,
+            names,
+            values,
+        } = self;
+        Question {
+            rule: asked.rule.id,
+            pos: asked.rule.pos,
+            term: asked.term.id,
+            widths,
+            taken,
+            wrong,
+            names,
+            values,
+        }
+    }
+}
+
+// The texts of the question that a condition asks. It has no values any more then.
+fn texts_of(alloc: Global, condition: &mut Condition) -> Result<Texts, NoCondition> {
+    let taken = taken_text(alloc, condition)?;
+    let facts = facts_where_wrong(alloc, condition)?;
+    let wrong = question(alloc, &condition.terms, &facts)?;
+    let names = names_of(alloc, &condition.terms, &facts)?;
+    add_wanted(alloc, condition)?;
+    let values = mem::replace(&mut condition.values, Vec::new(alloc));
+    let values = shown_in(alloc, &condition.terms, &facts, values)?;
+    Ok(Texts {
+        taken,
+        wrong,
+        names,
+        values,
+    })
+}
+
+// The question whether a rule may be taken, and its calls answer.
+fn taken_text(alloc: Global, condition: &Condition) -> Result<String, NoCondition> {
+    let mut facts = Vec::from_slice(alloc, &condition.assumed)?;
+    for step in &condition.steps {
+        facts.extend_from_slice(&step.then)?;
+    }
+    question(alloc, &condition.terms, &facts)
+}
+
+// What is true where something that is to be shown isn't so: at first what is assumed, and then a goal that fails, or what is
+// assumed after it and a later goal that fails.
+fn facts_where_wrong(alloc: Global, condition: &mut Condition) -> Result<Vec<NodeId>, AllocError> {
+    let mut fails = condition.terms.truth(false)?;
+    for step in condition.steps.iter().rev() {
+        fails = fails_from(alloc, &mut condition.terms, step, fails)?;
+    }
+    let mut facts = Vec::from_slice(alloc, &condition.assumed)?;
+    facts.push(fails)?;
+    Ok(facts)
+}
+
+// That a goal of a step fails, or one after it.
+fn fails_from(
+    alloc: Global,
+    terms: &mut Terms,
+    step: &Step,
+    later: NodeId,
+) -> Result<NodeId, AllocError> {
+    let goal = terms.all(&step.goals)?;
+    let fails = terms.not(goal)?;
+    let mut then = Vec::from_slice(alloc, &step.then)?;
+    then.push(later)?;
+    let after = terms.all(&then)?;
+    terms.any(&[fails, after])
+}
+
+// The constants of a question, each with what it is in words.
+fn names_of(
+    alloc: Global,
+    terms: &Terms,
+    facts: &[NodeId],
+) -> Result<Vec<(String, String)>, AllocError> {
+    let numbers = unknowns_in(alloc, terms, facts)?;
+    let mut names = Vec::new(alloc);
+    for number in &numbers {
+        if let Some(unknown) = terms.unknowns.get(*number) {
+            push_name(&mut names, unknown)?;
+        }
+    }
+    Ok(names)
+}
+
+// Adds the name of an unknown, with what it is in words.
+fn push_name(names: &mut Vec<(String, String)>, unknown: &Unknown) -> Result<(), AllocError> {
+    let name = unknown.name.clone()?;
+    let words = unknown.words.clone()?;
+    names.push((name, words))?;
+    Ok(())
+}

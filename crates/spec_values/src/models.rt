@@ -1,0 +1,88 @@
+//! What the values of types stand for.
+
+use cranelift_isle::sema::{BuiltinType, IntType, Type, TypeEnv, TypeId};
+use report_queries::names::type_name;
+use spec_formulas::faults::{NoCondition, wrong};
+use std::alloc::{AllocError, Global};
+use text_reader::syntax::ModelType;
+
+/// What the values of a type stand for.
+#[derive(Clone, Copy, PartialEq, Eq)]
+pub enum Model {
+    /// Truth values.
+    Truth,
+    /// Integers.
+    Integer,
+    /// Words of this width.
+    Word(usize),
+    /// Words, each of a width of its own.
+    AnyWord,
+    /// Nothing that differs.
+    Unit,
+    /// Themselves: variants with fields, or structs.
+    Own,
+    /// What nobody says.
+    Unknown,
+}
+
+/// The models of types where no spec says another one, by the types' ids: truth values, words of the bits of built-in integers,
+/// and enums and structs as they are.
+pub fn own_models(alloc: Global, types: &[Type]) -> Result<Vec<Model>, AllocError> {
+    let mut models = Vec::new(alloc);
+    for ty in types {
+        models.push(own_model(ty))?;
+    }
+    Ok(models)
+}
+
+// The model of a type where no spec says another one.
+fn own_model(ty: &Type) -> Model {
+    match ty {
+        Type::Builtin(BuiltinType::Bool) => Model::Truth,
+        Type::Builtin(BuiltinType::Int(int)) => Model::Word(bits_of(*int)),
+        Type::Primitive(..) => Model::Unknown,
+        Type::Enum { .. } | Type::Struct { .. } => Model::Own,
+    }
+}
+
+// The bits of a built-in integer.
+fn bits_of(int: IntType) -> usize {
+    int.bits() as usize
+}
+
+/// The model that a spec says.
+pub fn said_model(
+    alloc: Global,
+    tyenv: &TypeEnv,
+    models: &[Model],
+    said: &ModelType,
+) -> Result<Model, NoCondition> {
+    match said {
+        ModelType::Int(_) => Ok(Model::Integer),
+        ModelType::Bool(_) => Ok(Model::Truth),
+        ModelType::Unit(_) => Ok(Model::Unit),
+        ModelType::BitVec(None, _) => Ok(Model::AnyWord),
+        ModelType::BitVec(Some(0), pos) => {
+            Err(wrong(*pos, String::from_str(alloc, "a word of no bits")))
+        }
+        ModelType::BitVec(Some(width), _) => Ok(Model::Word(*width)),
+        ModelType::Named(name, _) => match tyenv.get_type_by_name(name) {
+            Some(ty) => Ok(model_at(models, ty)),
+            None => Err(wrong(name.1, format!(in alloc; "no type is called `{}`", name.0))),
+        },
+    }
+}
+
+/// The model of a type.
+pub fn model_at(models: &[Model], ty: TypeId) -> Model {
+    match models.get(ty.index()) {
+        Some(model) => *model,
+        None => Model::Unknown,
+    }
+}
+
+/// That a type has no model.
+pub fn without_model(alloc: Global, tyenv: &TypeEnv, ty: TypeId) -> Result<String, AllocError> {
+    let name = type_name(tyenv, ty).unwrap_or("_");
+    format!(in alloc; "the type `{name}` has no model")
+}

@@ -1,0 +1,5 @@
+pub mod Changes
+pub mod Contents
+pub mod Lines
+pub mod Places
+pub mod Walks

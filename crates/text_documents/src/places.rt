@@ -1,0 +1,121 @@
+//! Places in a text and its byte offsets, each from the other.
+
+ghost use Rattle.std.specs.Prelude.{◌≡◌, ◌+◌, ◌<◌, ◌≤◌, ◌⊎◌, ◌&&◌, ◌==◌, ℕ, List, IfNone, IfSome, option_map, if◌then◌else◌};
+ghost use Rattle.std.specs.Str.{chars, IsUtf8};
+ghost use Rattle.text_documents.specs.declared.places.Place.{Place};
+ghost use Rattle.text_documents.specs.Places.{IsCut, IsInEnd, IsInPair, IsOffsetOf, IsPlaceAt, LacksLine, units};
+ghost use Rattle.text_documents.specs.Walks.{back_at, place_after, place_past};
+
+use crate::lines::{after_lines, after_units};
+
+/// A place in a text: LSP 3.17's `Position`.
+#[derive(Clone, Copy, PartialEq, Eq, Debug)]
+pub struct Place {
+    /// The line, counted from 0.
+    pub line: usize,
+    /// How many UTF-16 units of the line stand before the place.
+    pub character: usize,
+}
+
+// How a text is walked over.
+#[derive(Clone, Copy)]
+struct Walk {
+    // the place that is reached
+    place: Place,
+    // whether it is behind `\r`
+    after_return: bool,
+}
+
+/// The byte offset of a place, from 0 to the text's length. Past the end of its line that is the line's end, before the
+/// characters that end it (LSP 3.17: a greater character "defaults back to the line length").
+///
+/// None where the text has no such line, and where the place is inside a surrogate pair.
+pub fn offset_at(text: &str, place: Place) -> Option<usize>
+    ensures offset { IfSome result (IsOffsetOf (chars text.now) place) }
+    ensures only { (o : ℕ) → IsOffsetOf (chars text.now) place o → result ≡ Some o }
+    ensures none { IfNone result (LacksLine (chars text.now) place.line ⊎ IsInPair (chars text.now) place) }
+{
+    let back = back_at(text, place)?;
+    Some(text.len() - back.len())
+}
+
+/// The place of a byte offset.
+///
+/// None where the offset isn't at the boundary of a character of the text, and between a `\r` and its `\n`.
+pub fn place_at(text: &str, offset: usize) -> Option<Place>
+    ensures place { IfSome result (IsPlaceAt (chars text.now) offset) }
+    ensures only { (p : Place) → IsPlaceAt (chars text.now) offset p → result ≡ Some p }
+    ensures none { IfNone result ((front back : List ℕ) → IsCut (chars text.now) offset front back → IsInEnd front back) }
+{
+    let start = Walk {
+        place: Place {
+            line: 0,
+            character: 0,
+        },
+        after_return: false,
+    };
+    start.over(text, offset)
+}
+
+// What follows a place.
+fn back_at(text: &str, place: Place) -> Option<&str>
+    ensures text { IfSome result (λ rest. IsUtf8 rest.now) }
+    ensures rest { option_map (λ rest. chars rest.now) result ≡ back_at place (chars text.now) }
+{
+    after_units(after_lines(text, place.line)?, place.character)
+}
+
+impl Walk {
+    // The place behind the first `len` bytes of what follows. None where there are fewer, or they end inside a character, or
+    // between `\r` and `\n`.
+    fn over(self, text: &str, len: usize) -> Option<Place>
+        requires line { self.place.line + len ≤ usize.MAX }
+        requires character { self.place.character + len ≤ usize.MAX }
+        ensures { result ≡ place_after self.place self.after_return len (chars text.now) }
+    {
+        let mut walk = self;
+        let mut left = len;
+        for c in text.chars() {
+            if left == 0 {
+                return walk.place_before(c);
+            }
+            left = left.checked_sub(c.len_utf8())?;
+            walk = walk.past(c);
+        }
+        if left == 0 { Some(walk.place) } else { None }
+    }
+
+    // The place before a character, unless that is the `\n` of a `\r`.
+    fn place_before(self, next: char) -> Option<Place>
+        ensures { result ≡ (if self.after_return && next == 10 then None else Some self.place) }
+    {
+        if self.after_return && next == '\n' {
+            return None;
+        }
+        Some(self.place)
+    }
+
+    // Goes past a character.
+    fn past(self, c: char) -> Walk
+        requires line { self.place.line < usize.MAX }
+        requires character { self.place.character + units c ≤ usize.MAX }
+        ensures place { result.place ≡ place_past self.place self.after_return c }
+        ensures after_return { result.after_return ≡ (c == 13) }
+    {
+        let place = match c {
+            '\n' if self.after_return => self.place,
+            '\n' | '\r' => Place {
+                line: self.place.line + 1,
+                character: 0,
+            },
+            _ => Place {
+                line: self.place.line,
+                character: self.place.character + c.len_utf16(),
+            },
+        };
+        Walk {
+            place,
+            after_return: c == '\r',
+        }
+    }
+}

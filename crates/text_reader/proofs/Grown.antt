@@ -1,0 +1,24 @@
+-- Numbers grow by each digit.
+use Rattle.std.proofs.Common.{◌≡◌, ◌≤◌, ◌<◌, ℕ, suc, zero, ◌+◌, ◌*◌, ◌==◌, List, [], ◌∷◌, inl, inr, arith, drop, get_or, length}
+use Rattle.std.proofs.lemmas.Bool.{cases_Bool}
+use Rattle.std.proofs.lemmas.List.{drop_more}
+use Rattle.text_reader.specs.Numbers.{digits_after, grown}
+
+times : (radix n d : ℕ) → 2 ≤ radix → n ≤ n * radix + d
+times zero n d r = absurd (omega (arith, r))
+times (suc radix) n d r = omega (arith)
+
+grows : (radix n b : ℕ) → 2 ≤ radix → n ≤ grown radix n b
+grows radix n b r = elim (cases_Bool (b == 95)) [
+  | inl e ↦ rw e (omega arith)
+  | inr e ↦ rw e (times radix n _ r)
+]
+
+pub digits_grow : (radix n : ℕ) (bs : List ℕ) → 2 ≤ radix → n ≤ digits_after radix n bs
+digits_grow radix n [] r = omega arith
+digits_grow radix n (b ∷ bs) r = omega (arith, grows radix n b r, digits_grow radix (grown radix n b) bs r)
+
+pub one_digit : (radix n : ℕ) (bs : List ℕ) (i : ℕ) → i < length bs → digits_after radix n (drop i bs) ≡ digits_after radix (grown radix n (get_or bs i 0)) (drop (i + 1) bs)
+one_digit radix n bs i l = rw (drop_more bs i 0 l)
+
+pub ruleset grown_parts = (digits_grow, one_digit)

@@ -1,0 +1,99 @@
+-- Forms that are begun, and one more.
+use Rattle.std.proofs.Common.{◌≡◌, ℕ, ◌+◌, ◌<◌, ◌≤◌, true, false, List, [], ◌∷◌, ◌++◌, length, refl, sym, ap, ◌∙◌, Vec, arith}
+use Rattle.std.specs.Prelude.{nat_le, Option, Some, option_to_list, Ok, Err}
+use Rattle.std.proofs.lemmas.Bool.Decides.{nat_tests}
+use Rattle.std.specs.declared.alloc.Global.{Global}
+use Rattle.model.specs.lists.Syntax.{Position}
+use Rattle.core_syntax.specs.SyntaxViews.{position}
+use Rattle.core_syntax.specs.declared.syntax.Ident.{Ident}
+use Rattle.core_syntax.specs.declared.syntax.Pos.{Pos}
+use Rattle.text_reader.specs.declared.errors.Mistake.TheVariants as M
+use Rattle.text_reader.specs.declared.forms.Form.{Form, Group, Row_of-Form, end_of-Form, more_of-Form, items-the_row-Form}
+use Rattle.text_reader.specs.declared.forms.Form.TheBlock.{hidden-the_row-Form-0, items_hidden-the_row-Form-0}
+use Rattle.text_reader.specs.declared.forms.Open.{Open}
+use Rattle.text_reader.specs.declared.forms.Open.TheVariants as V
+use Rattle.text_reader.specs.FormTrees.{a_list, FormTrees, form_and}
+use Rattle.text_reader.specs.FormViews.{form_view, row_view, all_view, open_view, stacked, begun_views, outermost_passes}
+use Rattle.text_reader.specs.Forming.{Begun, a_group, behind, put, passes, started, ended, whole}
+use Rattle.text_reader.specs.Grammar.{no}
+use Rattle.text_reader.specs.Lexemes.{unclosed}
+
+pub stack_pushed : (old new : List Open) (o : Open) → new ≡ old ++ o ∷ [] → begun_views new ≡ open_view o ∷ begun_views old
+stack_pushed old new o e = ap begun_views e ∙ at_end old []
+  where
+    at_end : (os : List Open) (under : List Begun) → stacked (os ++ o ∷ []) under ≡ open_view o ∷ stacked os under
+    at_end [] under = refl
+    at_end (x ∷ os) under = at_end os (open_view x ∷ under)
+
+pub forms_pushed : (old new : List Form) (f : Form) → new ≡ old ++ f ∷ [] → all_view new ≡ behind (all_view old) (form_view f)
+forms_pushed old new f e = ap all_view e ∙ at_end old
+  where
+    at_end : (fs : List Form) → all_view (fs ++ f ∷ []) ≡ behind (all_view fs) (form_view f)
+    at_end [] = refl
+    at_end (x ∷ fs) = ap (form_and (form_view x)) (at_end fs)
+
+row_items : {m : _} (r : Row_of-Form m) → row_view r ≡ all_view (items-the_row-Form m r)
+row_items end_of-Form = refl
+row_items (more_of-Form f fs) = ap (form_and (form_view f)) (row_items fs)
+
+pub row_hidden : (v : Vec Form Global) → row_view (hidden-the_row-Form-0 v) ≡ all_view v.items
+row_hidden v = row_items (hidden-the_row-Form-0 v) ∙ ap all_view (items_hidden-the_row-Form-0 v)
+
+-- how much is begun
+begun_count : (os : List Open) (under : List Begun) → length (stacked os under) ≡ length os + length under
+begun_count [] under = omega arith
+begun_count (o ∷ os) under = omega (arith, begun_count os (open_view o ∷ under))
+
+pub too_deep : (old : List Open) (o : Begun) (p : Position) (fs : FormTrees) → 1000 ≤ length old → started o p fs (begun_views old) ≡ no M.Depth p
+too_deep old o p fs deep =
+    let there : 1000 ≤ length (begun_views old) = omega (arith, deep, begun_count old []) in
+    let test : nat_le 1000 (length (begun_views old)) ≡ true = grind (arith, nat_tests, there) in
+    rw test refl
+
+pub not_deep : (old new : List Open) (o : Open) (p : Position) (fs : FormTrees) → length old < 1000 → new ≡ old ++ o ∷ [] → started (open_view o) p fs (begun_views old) ≡ Ok (fs, begun_views new)
+not_deep old new o p fs room e =
+    let there : length (begun_views old) < 1000 = omega (arith, room, begun_count old []) in
+    let test : nat_le 1000 (length (begun_views old)) ≡ false = grind (arith, nat_tests, there) in
+    rw test (ap (λ os. Ok (fs, os)) (sym (stack_pushed old new o e)))
+
+-- the outermost that is begun
+passes_under : (os : List Open) (o : Begun) (under : List Begun) → passes (stacked os (o ∷ under)) ≡ passes (o ∷ under)
+passes_under [] o under = refl
+passes_under (x ∷ os) o under = passes_under os (open_view x) (o ∷ under)
+
+pub outermost : (os : List Open) → outermost_passes os ≡ passes (begun_views os)
+outermost [] = refl
+outermost (o ∷ os) = sym (passes_under os (open_view o) [])
+
+-- what was begun last
+last_begun : (old new : List Open) (r : Option Open) (o : Open) → old ≡ new ++ option_to_list r → r ≡ Some o → begun_views old ≡ open_view o ∷ begun_views new
+last_begun old new r o e is = stack_pushed new old o (e ∙ ap (λ x. new ++ option_to_list x) is)
+
+pub ended_binder : (old new : List Open) (r : Option Open) (i : Ident) (p : Position) (fs : FormTrees) → old ≡ new ++ option_to_list r → r ≡ Some (V.Binder i) → ended p fs (begun_views old) ≡ no M.BoundPattern p
+ended_binder old new r i p fs e is = ap (ended p fs) (last_begun old new r (V.Binder i) e is)
+
+pub whole_binder : (file end : ℕ) (old new : List Open) (r : Option Open) (i : Ident) (fs : FormTrees) → old ≡ new ++ option_to_list r → r ≡ Some (V.Binder i) → whole file end fs (begun_views old) ≡ no M.BoundPattern (position i.1)
+whole_binder file end old new r i fs e is = ap (whole file end fs) (last_begun old new r (V.Binder i) e is)
+
+pub whole_group : (file end : ℕ) (old new : List Open) (r : Option Open) (v : Vec Form Global) (p : Pos) (fs : FormTrees) → old ≡ new ++ option_to_list r → r ≡ Some (V.Group v p)
+    → whole file end fs (begun_views old) ≡ Err (unclosed (position p), record { file = file; offset = end })
+whole_group file end old new r v p fs e is = ap (whole file end fs) (last_begun old new r (V.Group v p) e is)
+
+-- a form goes into the list that was begun last
+pub put_into : (old new after_it : List Open) (parts more : Vec Form Global) (pos : Pos) (f : Form) (fs : FormTrees) → old ≡ new ++ V.Group parts pos ∷ [] → more.items ≡ parts.items ++ f ∷ [] → after_it ≡ new ++ V.Group more pos ∷ []
+    → put (form_view f) fs (begun_views old) ≡ (fs, begun_views after_it)
+put_into old new after_it parts more pos f fs o m n =
+    ap (put (form_view f) fs) (stack_pushed new old (V.Group parts pos) o)
+    ∙ ap (λ gs. (fs, a_group gs (position pos) ∷ begun_views new)) (sym (forms_pushed parts.items more.items f m))
+    ∙ ap (λ os. (fs, os)) (sym (stack_pushed new after_it (V.Group more pos) n))
+
+-- the list that was begun last ends
+pub closed : (old new : List Open) (parts : Vec Form Global) (pos end : Pos) (fs : FormTrees) → old ≡ new ++ V.Group parts pos ∷ []
+    → Ok (put (form_view (Group parts pos end)) fs (begun_views new)) ≡ ended (position end) fs (begun_views old)
+closed old new parts pos end fs o =
+    ap (λ gs. Ok (put (a_list gs (position pos) (position end)) fs (begun_views new))) (row_hidden parts)
+    ∙ sym (ap (ended (position end) fs) (stack_pushed new old (V.Group parts pos) o))
+
+pub ruleset stack_parts = (stack_pushed, too_deep, not_deep)
+
+pub ruleset end_parts = (ended_binder, whole_binder, whole_group)

@@ -1,0 +1,77 @@
+-- A text in chunks: what begins in the first column of a line, outside of block comments, begins a chunk.
+use Rattle.std.specs.Prelude.{◌≡◌, ℕ, ◌+◌, ◌-◌, Bool, false, not, ◌&&◌, ◌||◌, nat_le, List, [], ◌∷◌, ◌++◌, length, if◌then◌else◌, ◌==◌}
+use Rattle.std.specs.Char.{encode_utf8, is_whitespace}
+use Rattle.text_reader.specs.declared.chunks.Place.{Place}
+use Rattle.text_reader.specs.declared.chunks.Place.TheVariants.{LineBegin, Within, Opened, Line, Block, Lost}
+
+-- whether a character at a place begins a chunk: any but white space, the end of a list, and a comment to the line's end
+abbrev pub begins_chunk : Place → ℕ → Bool
+begins_chunk LineBegin c = not (is_whitespace c || c == 41 || c == 59)
+begins_chunk Within c = false
+begins_chunk Opened c = false
+begins_chunk Line c = false
+begins_chunk (Block depth last) c = false
+begins_chunk Lost c = false
+
+-- the place behind a character outside of comments
+abbrev pub moved_between : ℕ → Place
+moved_between c = if c == 10 then LineBegin else if c == 40 then Opened else if c == 59 then Line else Within
+
+-- the place behind a character of a block comment. A character that began or ended a comment does neither again
+abbrev pub moved_in_block : (depth last c : ℕ) → Place
+moved_in_block depth last c =
+    if last == 40 && c == 59 then (if nat_le 1000 depth then Lost else Block (depth + 1) 32)
+    else if last == 59 && c == 41 then (if nat_le depth 1 then Within else Block (depth - 1) 32)
+    else Block depth c
+
+-- the place behind a character
+abbrev pub moved : Place → ℕ → Place
+moved LineBegin c = moved_between c
+moved Within c = moved_between c
+moved Opened c = if c == 59 then Block 1 32 else moved_between c
+moved Line c = if c == 10 then LineBegin else Line
+moved (Block depth last) c = moved_in_block depth last c
+moved Lost c = Lost
+
+-- a part of a text: the offset that it begins at, and its characters
+pub record Part : Type 0 where
+  pub at : ℕ
+  pub text : List ℕ
+
+abbrev pub empty_at : ℕ → Part
+empty_at offset = record { at = offset; text = [] }
+
+abbrev pub longer : Part → ℕ → Part
+longer p c = record { at = p.at; text = p.text ++ c ∷ [] }
+
+-- a character goes into the chunk before it, or into the empty one behind that
+abbrev pub next_parts : (Part → List Part) → Place → (empty last : Part) → ℕ → List Part
+next_parts others place empty last c =
+    if begins_chunk place c then last ∷ others (longer empty c) else others (longer last c)
+
+-- the chunks of a text from an offset on, behind a chunk that may go on
+abbrev pub chunks_from : Place → Part → ℕ → List ℕ → List Part
+chunks_from place last offset [] = last ∷ []
+chunks_from place last offset (c ∷ cs) =
+    next_parts (λ p. chunks_from (moved place c) p (offset + length (encode_utf8 c)) cs) place (empty_at offset) last c
+
+-- the chunks of a text that stands at an offset; the first is what stands before the second
+abbrev pub chunks_at : ℕ → List ℕ → List Part
+chunks_at offset text = chunks_from Within (empty_at offset) offset text
+
+abbrev pub chunks_of : List ℕ → List Part
+chunks_of text = chunks_at 0 text
+
+-- the place behind characters
+abbrev pub behind_all : Place → List ℕ → Place
+behind_all place [] = place
+behind_all place (c ∷ cs) = behind_all (moved place c) cs
+
+-- whether a text ends with a line break outside of block comments
+abbrev pub EndsLine : List ℕ → Type 0
+EndsLine text = behind_all Within text ≡ LineBegin
+
+-- whether a text begins with a character that begins a chunk in the first column
+abbrev pub begins : List ℕ → Bool
+begins [] = false
+begins (c ∷ cs) = begins_chunk LineBegin c

@@ -1,0 +1,164 @@
+-- The token of a number that is written.
+use Rattle.std.proofs.Common.{◌≡◌, ℕ, zero, suc, ◌+◌, ◌-◌, ◌*◌, ◌<◌, refl, sym, ap, ◌∙◌, List, [], ◌∷◌, length, arith}
+use Rattle.std.specs.Prelude.{ℤ, pos, negsuc, ◌^◌, Bool, true, false, ◌&&◌, ◌==◌, nat_lt, nat_le, Ok, slice_index}
+use Rattle.std.specs.List.{list_all}
+use Rattle.std.specs.Int.{w128}
+use Rattle.std.specs.Char.{digit_value, is_ascii_digit}
+use Rattle.std.specs.Fmt.{decimal, signed_decimal}
+use Rattle.std.specs.Str.{IsAscii}
+use Rattle.std.specs.Str.Parse.{AllDigits, digits_value_after, digits_value}
+use Rattle.std.proofs.lemmas.Bool.Decides.{nat_tests}
+use Rattle.std.proofs.lemmas.Int.{to_z_pos}
+use Rattle.std.proofs.lemmas.Fmt.{decimal_is_IsNumeral_wide, IsAscii-decimal_wide}
+use Rattle.std.proofs.lemmas.Str.Parse.{digit_from_value}
+use Rattle.model.specs.lists.Syntax.{Position}
+use Rattle.text_reader.specs.Pieces.{is_in_word}
+use Rattle.text_reader.specs.Numbers.{ends_in_digit, are_digits, digits_after, has_mark, radix_of, sized, unsigned_number, number_of}
+use Rattle.text_reader.specs.Lexemes.{number, begins_number, word_token}
+use Rattle.text_writer.specs.Spellable.{is_signed_128, is_some_text}
+
+-- ---- digits
+
+in_word_from_48 : (d : ℕ) → d < 10 → is_in_word (48 + d) ≡ true
+in_word_from_48 zero h = refl
+in_word_from_48 (suc zero) h = refl
+in_word_from_48 (suc (suc zero)) h = refl
+in_word_from_48 (suc (suc (suc zero))) h = refl
+in_word_from_48 (suc (suc (suc (suc zero)))) h = refl
+in_word_from_48 (suc (suc (suc (suc (suc zero))))) h = refl
+in_word_from_48 (suc (suc (suc (suc (suc (suc zero)))))) h = refl
+in_word_from_48 (suc (suc (suc (suc (suc (suc (suc zero))))))) h = refl
+in_word_from_48 (suc (suc (suc (suc (suc (suc (suc (suc zero)))))))) h = refl
+in_word_from_48 (suc (suc (suc (suc (suc (suc (suc (suc (suc zero))))))))) h = refl
+in_word_from_48 (suc (suc (suc (suc (suc (suc (suc (suc (suc (suc d)))))))))) h = absurd (omega (arith, h))
+
+digit_in_word : (c : ℕ) → digit_value c < 10 → is_in_word c ≡ true
+digit_in_word c h =
+    let range = digit_from_value c h in
+    let same : 48 + (c - 48) ≡ c = omega (arith, range.0) in
+    ap is_in_word (sym same) ∙ in_word_from_48 (c - 48) (omega (arith, range.0, range.1))
+
+digit_no_underscore : (c : ℕ) → digit_value c < 10 → (c == 95) ≡ false
+digit_no_underscore c h = let range = digit_from_value c h in grind (arith, nat_tests, range.1)
+
+digit_no_dash : (c : ℕ) → digit_value c < 10 → (c == 45) ≡ false
+digit_no_dash c h = let range = digit_from_value c h in grind (arith, nat_tests, range.0)
+
+digit_is_digit : (c : ℕ) → digit_value c < 10 → is_ascii_digit c ≡ true
+digit_is_digit c h = let range = digit_from_value c h in grind (arith, nat_tests, range.0, range.1)
+
+no_mark : (c m : ℕ) → digit_value c < 10 → 57 < m → (c == m) ≡ false
+no_mark c m h past = let range = digit_from_value c h in grind (arith, nat_tests, range.1, past)
+
+nothing_mark : (m : ℕ) → 57 < m → (0 == m) ≡ false
+nothing_mark m past = grind (arith, nat_tests, past)
+
+digit_test : (c : ℕ) → digit_value c < 10 → nat_lt (digit_value c) 10 ≡ true
+digit_test c h = grind (arith, nat_tests, h)
+
+digits_in_word : (ds : List ℕ) → AllDigits 10 ds → list_all is_in_word ds ≡ true
+digits_in_word [] h = refl
+digits_in_word (c ∷ cs) h = rw (digit_in_word c h.0, digits_in_word cs h.1) refl
+
+-- ---- how digits are read
+
+and_false : (a b : Bool) → b ≡ false → (a && b) ≡ false
+and_false true b e = e
+and_false false b e = refl
+
+digits_end : (last : Bool) (ds : List ℕ) → AllDigits 10 ds → last ≡ true → ends_in_digit 10 last ds ≡ true
+digits_end last [] h e = e
+digits_end last (c ∷ cs) h e = rw (digit_no_underscore c h.0, digit_test c h.0) (digits_end true cs h.1 refl)
+
+digits_are : (c : ℕ) (cs : List ℕ) → AllDigits 10 (c ∷ cs) → are_digits 10 (c ∷ cs) ≡ true
+digits_are c cs h = rw (digit_no_underscore c h.0, digit_test c h.0) (digits_end true cs h.1 refl)
+
+digits_same : (n : ℕ) (ds : List ℕ) → AllDigits 10 ds → digits_after 10 n ds ≡ digits_value_after 10 n ds
+digits_same n [] h = refl
+digits_same n (c ∷ cs) h = rw (digit_no_underscore c h.0) (digits_same (n * 10 + digit_value c) cs h.1)
+
+second_no_mark : (c : ℕ) (cs : List ℕ) (m : ℕ) → AllDigits 10 (c ∷ cs) → 57 < m → has_mark m (c ∷ cs) ≡ false
+second_no_mark c [] m h past = and_false (c == 48) (0 == m) (nothing_mark m past)
+second_no_mark c (d ∷ ds) m h past = and_false (c == 48) (d == m) (no_mark d m h.1.0 past)
+
+decimal_radix : (c : ℕ) (cs : List ℕ) → AllDigits 10 (c ∷ cs) → radix_of (c ∷ cs) ≡ (10, c ∷ cs)
+decimal_radix c cs h =
+    rw (second_no_mark c cs 120 h (omega arith), second_no_mark c cs 111 h (omega arith), second_no_mark c cs 98 h (omega arith)) refl
+
+digits_number : (is_negative : Bool) (ds : List ℕ) → 0 < length ds → AllDigits 10 ds → unsigned_number is_negative (radix_of ds) ≡ sized is_negative (digits_value 10 ds)
+digits_number is_negative [] some h = absurd (omega (arith, some))
+digits_number is_negative (c ∷ cs) some h =
+    ap (unsigned_number is_negative) (decimal_radix c cs h) ∙ rw (digits_are c cs h, digits_same 0 (c ∷ cs) h) refl
+
+-- ---- a number below 2^127, and one above -2^127
+
+pos_small : (n : ℕ) → is_signed_128 (pos n) ≡ true → n < 2 ^ 127
+unfolding is_signed_128
+pos_small n h = grind (arith, nat_tests, h)
+
+neg_small : (n : ℕ) → is_signed_128 (negsuc n) ≡ true → n < 2 ^ 127
+unfolding is_signed_128
+neg_small n h = grind (arith, nat_tests, h)
+
+pos_sized : (n : ℕ) → n < 2 ^ 127 → sized false n ≡ Ok (pos n)
+pos_sized n h =
+    let fits : nat_lt n (2 ^ 128) ≡ true = grind (arith, nat_tests, h) in
+    rw (fits, to_z_pos w128 n h) refl
+
+neg_sized : (n : ℕ) → n < 2 ^ 127 → sized true (suc n) ≡ Ok (negsuc n)
+neg_sized n h =
+    let fits : nat_le (suc n) (2 ^ 127) ≡ true = grind (arith, nat_tests, h) in
+    rw fits refl
+
+first_no_dash : (ds : List ℕ) → 0 < length ds → AllDigits 10 ds → (slice_index ds 0 == 45) ≡ false
+first_no_dash [] some h = absurd (omega (arith, some))
+first_no_dash (c ∷ cs) some h = digit_no_dash c h.0
+
+first_digit : (ds : List ℕ) → 0 < length ds → AllDigits 10 ds → is_ascii_digit (slice_index ds 0) ≡ true
+first_digit [] some h = absurd (omega (arith, some))
+first_digit (c ∷ cs) some h = digit_is_digit c h.0
+
+number_read : (z : ℤ) → is_signed_128 z ≡ true → number_of (signed_decimal z) ≡ Ok z
+unfolding number_of
+number_read (pos n) h =
+    let k = pos_small n h in
+    let ds = decimal_is_IsNumeral_wide n (omega (arith, k)) in
+    rw (first_no_dash (decimal n) ds.0.0 ds.0.1, digits_number false (decimal n) ds.0.0 ds.0.1, ds.1) (pos_sized n k)
+number_read (negsuc n) h =
+    let k = neg_small n h in
+    let ds = decimal_is_IsNumeral_wide (suc n) (omega (arith, k)) in
+    rw (digits_number true (decimal (suc n)) ds.0.0 ds.0.1, ds.1) (neg_sized n k)
+
+pub begins_as_number : (z : ℤ) → is_signed_128 z ≡ true → begins_number (signed_decimal z) ≡ true
+begins_as_number (pos n) h =
+    let k = pos_small n h in
+    let ds = decimal_is_IsNumeral_wide n (omega (arith, k)) in
+    rw (first_no_dash (decimal n) ds.0.0 ds.0.1) (first_digit (decimal n) ds.0.0 ds.0.1)
+begins_as_number (negsuc n) h =
+    let k = neg_small n h in
+    let ds = decimal_is_IsNumeral_wide (suc n) (omega (arith, k)) in
+    first_digit (decimal (suc n)) ds.0.0 ds.0.1
+
+pub number_token : (z : ℤ) (at : Position) → is_signed_128 z ≡ true → word_token (record { text = signed_decimal z; at = at }) ≡ Ok (number z at)
+unfolding word_token
+number_token z at h = rw (begins_as_number z h, number_read z h) refl
+
+-- ---- its characters
+
+pub number_ascii : (z : ℤ) → is_signed_128 z ≡ true → IsAscii (signed_decimal z)
+number_ascii (pos n) h i = IsAscii-decimal_wide n (omega (arith, pos_small n h)) i
+number_ascii (negsuc n) h zero = omega arith
+number_ascii (negsuc n) h (suc i) = IsAscii-decimal_wide (suc n) (omega (arith, neg_small n h)) i
+
+pub number_characters : (z : ℤ) → is_signed_128 z ≡ true → list_all is_in_word (signed_decimal z) ≡ true
+number_characters (pos n) h = digits_in_word (decimal n) (decimal_is_IsNumeral_wide n (omega (arith, pos_small n h))).0.1
+number_characters (negsuc n) h = digits_in_word (decimal (suc n)) (decimal_is_IsNumeral_wide (suc n) (omega (arith, neg_small n h))).0.1
+
+some_text : (ds : List ℕ) → 0 < length ds → is_some_text ds ≡ true
+some_text [] h = absurd (omega (arith, h))
+some_text (c ∷ cs) h = refl
+
+-- its first character is no sign of anything else
+pub number_some : (z : ℤ) → is_signed_128 z ≡ true → is_some_text (signed_decimal z) ≡ true
+number_some (pos n) h = some_text (decimal n) (decimal_is_IsNumeral_wide n (omega (arith, pos_small n h))).0.0
+number_some (negsuc n) h = refl

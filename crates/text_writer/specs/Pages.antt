@@ -1,0 +1,165 @@
+-- Plans laid out: where lines begin, and the pieces with their white space.
+use Rattle.std.specs.Prelude.{ℕ, ◌+◌, Bool, true, false, ◌&&◌, List, [], ◌∷◌, ◌++◌, drop, replicate, Option, Some, None, if◌then◌else◌, ◌==◌, codes}
+use Rattle.std.specs.List.{flat_map}
+use Rattle.std.specs.Str.{bytes_eq, encode_utf8_all}
+use Rattle.text_reader.specs.PassedOver.{passes_over}
+use Rattle.text_reader.specs.Pieces.{Piece, space, line, block, left, right, bind, name, sign, endless, alone, spelling}
+use Rattle.text_writer.specs.declared.gaps.Gap.{Gap}
+use Rattle.text_writer.specs.declared.gaps.Gap.TheVariants.{Spaces, Breaks}
+use Rattle.text_writer.specs.declared.gaps.Last.{Last}
+use Rattle.text_writer.specs.declared.gaps.Last.TheVariants as L
+use Rattle.text_writer.specs.declared.lists.Kind.{Kind}
+use Rattle.text_writer.specs.declared.lists.Kind.TheVariants as K
+use Rattle.text_writer.specs.declared.lists.Head.{Head}
+use Rattle.text_writer.specs.declared.lists.OpenList.{OpenList}
+use Rattle.text_writer.specs.declared.lists.Place.{Place}
+use Rattle.text_writer.specs.Plans.{Planned, plan, is_marked, first_last, last_of}
+
+-- ---- places
+
+-- the place behind a character, and behind characters
+abbrev pub past : Place → ℕ → Place
+past at c = if c == 10 then record { line = at.line + 1; column = 0 } else record { line = at.line; column = at.column + 1 }
+
+abbrev pub behind : Place → List ℕ → Place
+behind at [] = at
+behind at (c ∷ cs) = behind (past at c) cs
+
+-- ---- the lists that are open at a place, the innermost first
+
+-- where a line in a list begins, by its head, the row of that and its second part: under the second part if that stands in the line of the first
+-- word, else one column in; in a `let` two columns in, so that its definitions, where they begin a line, stand no deeper than
+-- what follows them; in a definition that is passed over four
+abbrev pub column_in : (column : ℕ) → Kind → (row : ℕ) → Option Place → ℕ
+column_in column K.PassedOver row second = column + 4
+column_in column K.Let row second = column + 2
+column_in column K.Word row None = column + 1
+column_in column K.Word row (Some part) = if part.line == row then part.column else column + 1
+column_in column K.Other row second = column + 1
+
+abbrev pub inner_column : (column : ℕ) → Option Head → Option Place → ℕ
+inner_column column None second = column + 1
+inner_column column (Some head) second = column_in column head.kind head.line second
+
+abbrev pub is_right : Piece → Bool
+is_right (space c) = false
+is_right (line cs) = false
+is_right (block cs) = false
+is_right left = false
+is_right right = true
+is_right bind = false
+is_right (name cs) = false
+is_right (sign cs) = false
+is_right (endless cs) = false
+is_right alone = false
+
+-- the column where a line begins with a piece: a list's end stands under its beginning
+abbrev pub list_indent : OpenList → Piece → ℕ
+list_indent o p = if is_right p then o.column else inner_column o.column o.head o.second
+
+abbrev pub indent : List OpenList → Piece → ℕ
+indent [] p = 0
+indent (o ∷ os) p = list_indent o p
+
+-- what a list's first part says of its lines
+abbrev pub kind_of_word : (outermost : Bool) → List ℕ → Kind
+kind_of_word outermost w = if bytes_eq w (codes "let") then K.Let else if outermost && passes_over w then K.PassedOver else K.Word
+
+abbrev pub kind_of : (outermost : Bool) → Piece → Kind
+kind_of outermost (space c) = K.Other
+kind_of outermost (line cs) = K.Other
+kind_of outermost (block cs) = K.Other
+kind_of outermost left = K.Other
+kind_of outermost right = K.Other
+kind_of outermost bind = K.Other
+kind_of outermost (name cs) = kind_of_word outermost (encode_utf8_all cs)
+kind_of outermost (sign cs) = K.Word
+kind_of outermost (endless cs) = K.Other
+kind_of outermost alone = K.Word
+
+-- a list with one more part, of which the first two are noted
+abbrev pub with_part : (column : ℕ) → Option Head → Option Place → Kind → Place → OpenList
+with_part column None second kind at = record { column = column; head = Some (record { kind = kind; line = at.line }); second = second }
+with_part column (Some head) None kind at = record { column = column; head = Some head; second = Some at }
+with_part column (Some head) (Some part) kind at = record { column = column; head = Some head; second = Some part }
+
+abbrev pub noted : Piece → Place → List OpenList → List OpenList
+noted p at [] = []
+noted p at (o ∷ []) = with_part o.column o.head o.second (kind_of true p) at ∷ []
+noted p at (o ∷ q ∷ os) = with_part o.column o.head o.second (kind_of false p) at ∷ q ∷ os
+
+-- a part of the innermost list: what `@` binds is none of its own
+abbrev pub counted : Last → Piece → Place → List OpenList → List OpenList
+counted L.Nothing p at os = noted p at os
+counted L.Mark p at os = noted p at os
+counted L.Open p at os = noted p at os
+counted L.Bind p at os = os
+counted L.Line p at os = noted p at os
+counted L.Other p at os = noted p at os
+
+-- the lists that are open behind a piece that begins at a place
+abbrev pub listed : Last → Piece → Place → List OpenList → List OpenList
+listed last (space c) at os = os
+listed last (line cs) at os = os
+listed last (block cs) at os = os
+listed last left at os = record { column = at.column; head = None; second = None } ∷ counted last left at os
+listed last right at os = drop 1 os
+listed last bind at os = os
+listed last (name cs) at os = counted last (name cs) at os
+listed last (sign cs) at os = counted last (sign cs) at os
+listed last (endless cs) at os = os
+listed last alone at os = counted last alone at os
+
+-- ---- pieces with their white space
+
+-- how far a text is laid out: what was written last, the place behind it, and the lists that are open there
+pub record Layout : Type 0 where
+  pub last : Last
+  pub at : Place
+  pub lists : List OpenList
+
+-- the white space of a gap, where a line begins at a column
+abbrev pub white : (column : ℕ) → Gap → List Piece
+white column (Spaces n) = replicate n (space 32)
+white column (Breaks n) = replicate n (space 10) ++ replicate column (space 32)
+
+abbrev pub behind_gap : (column : ℕ) → Gap → Place → Place
+behind_gap column (Spaces n) at = record { line = at.line; column = at.column + n }
+behind_gap column (Breaks n) at = record { line = at.line + n; column = column }
+
+-- a piece with its white space
+abbrev pub written : Layout → Planned → List Piece
+written so_far q = white (indent so_far.lists q.piece) q.gap ++ q.piece ∷ []
+
+abbrev pub behind_piece : Last → Piece → Place → List OpenList → Layout
+behind_piece last p at os = record { last = last_of p; at = behind at (spelling p); lists = listed last p at os }
+
+abbrev pub layout_behind : Layout → Planned → Layout
+layout_behind so_far q = behind_piece so_far.last q.piece (behind_gap (indent so_far.lists q.piece) q.gap so_far.at) so_far.lists
+
+abbrev pub laid_from : Layout → List Planned → List Piece
+laid_from so_far [] = []
+laid_from so_far (q ∷ qs) = written so_far q ++ laid_from (layout_behind so_far q) qs
+
+-- a text ends with one line break, unless it is empty
+abbrev pub ending : List Planned → List Piece
+ending [] = []
+ending (q ∷ qs) = space 10 ∷ []
+
+abbrev pub mark : (marked : Bool) → List Piece
+mark marked = if marked then space 65279 ∷ [] else []
+
+abbrev pub first_layout : (marked : Bool) → Layout
+first_layout marked = record { last = first_last marked; at = record { line = 0; column = 0 }; lists = [] }
+
+-- a plan laid out, behind a byte order mark if there is one
+abbrev pub laid_plan : (marked : Bool) → List Planned → List Piece
+laid_plan marked qs = mark marked ++ (laid_from (first_layout marked) qs ++ ending qs)
+
+-- the pieces of a text that is laid out: a byte order mark stays, and the others get the white space of their plan
+abbrev pub laid : List Piece → List Piece
+laid ps = laid_plan (is_marked ps) (plan ps)
+
+-- the text of pieces
+abbrev pub text_of : List Piece → List ℕ
+text_of ps = flat_map spelling ps

@@ -1,0 +1,222 @@
+//! The lists that are open where a part is written, and where lines in them begin.
+
+ghost use Rattle.std.specs.Prelude.{◌≡◌, ◌+◌, [], ◌∷◌, drop, IfOk, None};
+ghost use Rattle.text_writer.specs.ListViews.{lists_view};
+ghost use Rattle.text_writer.specs.Pages.{counted, indent, inner_column, kind_of, kind_of_word, list_indent, listed, noted, with_part};
+ghost use Rattle.text_writer.specs.PartViews.{part_view};
+
+use crate::gaps::Last;
+use crate::parts::Part;
+use std::alloc::{AllocError, Global};
+use text_reader::heads::is_passed_over;
+
+/// A place in a text.
+#[derive(Clone, Copy)]
+pub struct Place {
+    /// How many lines are ended before it.
+    pub line: usize,
+    /// How many characters stand before it in its line.
+    pub column: usize,
+}
+
+// What a list's first part says of its lines.
+#[derive(Clone, Copy)]
+enum Kind {
+    // Lines begin under the second part, if it stands in the line of the first word.
+    Word,
+    // Lines are two columns in.
+    Let,
+    // Lines are four columns in: a definition that is passed over.
+    PassedOver,
+    // Lines are one column in: the first part is no word.
+    Other,
+}
+
+// A list's first part.
+#[derive(Clone, Copy)]
+struct Head {
+    kind: Kind,
+    line: usize,
+}
+
+// A list that is open.
+#[derive(Clone, Copy)]
+struct OpenList {
+    // the column of its parenthesis
+    column: usize,
+    head: Option<Head>,
+    // where its second part begins
+    second: Option<Place>,
+}
+
+/// The lists that are open, the innermost last.
+#[derive(Drop)]
+pub struct Lists {
+    open: Vec<OpenList>,
+}
+
+impl Lists {
+    /// No list.
+    pub fn new(alloc: Global) -> Lists
+        ensures { lists_view result ≡ [] }
+    {
+        Lists {
+            open: Vec::new(alloc),
+        }
+    }
+
+    /// The column where a line begins whose first part is this.
+    ///
+    /// # Errors
+    ///
+    /// Where no number is so great.
+    pub fn indent(&self, part: &Part) -> Result<usize, AllocError>
+        ensures { IfOk result (λ column. column ≡ indent (lists_view self.now) (part_view part.now)) }
+    {
+        match self.open.last() {
+            None => Ok(0),
+            Some(list) => list.indent(part),
+        }
+    }
+
+    /// Notes a part that begins at this place, by what stands before it.
+    ///
+    /// # Errors
+    ///
+    /// Where memory is refused.
+    pub fn read(&mut self, last: Last, part: &Part, at: Place) -> Result<(), AllocError>
+        ensures { IfOk result (λ _. lists_view self.new ≡ listed last (part_view part.now) at (lists_view self.old)) }
+    {
+        match part {
+            Part::Open => {
+                self.count(last, part, at)?;
+                self.begin(at.column)
+            }
+            Part::Close => {
+                self.end();
+                Ok(())
+            }
+            Part::Name(_) | Part::Sign(_) | Part::Alone => self.count(last, part, at),
+            Part::Bind | Part::Line(_) | Part::Block(_) | Part::Endless(_) => Ok(()),
+        }
+    }
+
+    // Begins a list whose parenthesis stands at this column.
+    fn begin(&mut self, column: usize) -> Result<(), AllocError>
+        ensures { IfOk result (λ _. lists_view self.new ≡ record { column = column; head = None; second = None } ∷ lists_view self.old) }
+    {
+        self.open.push(OpenList {
+            column,
+            head: None,
+            second: None,
+        })?;
+        Ok(())
+    }
+
+    // Ends the innermost list.
+    fn end(&mut self)
+        ensures { lists_view self.new ≡ drop 1 (lists_view self.old) }
+    {
+        self.open.pop();
+    }
+
+    // Notes a part of the innermost list. What `@` binds is none of its own.
+    fn count(&mut self, last: Last, part: &Part, at: Place) -> Result<(), AllocError>
+        ensures { IfOk result (λ _. lists_view self.new ≡ counted last (part_view part.now) at (lists_view self.old)) }
+    {
+        match last {
+            Last::Bind => Ok(()),
+            _ => self.note(part, at),
+        }
+    }
+
+    // Notes a part of the innermost list.
+    fn note(&mut self, part: &Part, at: Place) -> Result<(), AllocError>
+        ensures { IfOk result (λ _. lists_view self.new ≡ noted (part_view part.now) at (lists_view self.old)) }
+    {
+        let Some(list) = self.open.pop() else {
+            return Ok(());
+        };
+        let is_outermost = self.open.is_empty();
+        self.open.push(list.with_part(is_outermost, part, at))?;
+        Ok(())
+    }
+}
+
+impl OpenList {
+    // The column where a line begins whose first part is this.
+    fn indent(&self, part: &Part) -> Result<usize, AllocError>
+        ensures { IfOk result (λ column. column ≡ list_indent self.now (part_view part.now)) }
+    {
+        match part {
+            Part::Close => Ok(self.column),
+            _ => self.inner_column(),
+        }
+    }
+
+    // The column where a line in the list begins.
+    fn inner_column(&self) -> Result<usize, AllocError>
+        ensures { IfOk result (λ column. column ≡ inner_column self.now.column self.now.head self.now.second) }
+    {
+        let Some(head) = self.head else {
+            return sum(self.column, 1);
+        };
+        match (head.kind, self.second) {
+            (Kind::PassedOver, _) => sum(self.column, 4),
+            (Kind::Let, _) => sum(self.column, 2),
+            (Kind::Word, Some(second)) if second.line == head.line => Ok(second.column),
+            _ => sum(self.column, 1),
+        }
+    }
+
+    // The list with one more part, of which the first two are noted.
+    fn with_part(self, is_outermost: bool, part: &Part, at: Place) -> OpenList
+        ensures { result ≡ with_part self.column self.head self.second (kind_of is_outermost (part_view part.now)) at }
+    {
+        match (self.head, self.second) {
+            (None, _) => OpenList {
+                head: Some(Head {
+                    kind: kind_of(is_outermost, part),
+                    line: at.line,
+                }),
+                ..self
+            },
+            (Some(_), None) => OpenList {
+                second: Some(at),
+                ..self
+            },
+            (Some(_), Some(_)) => self,
+        }
+    }
+}
+
+// What a list's first part says of its lines.
+fn kind_of(is_outermost: bool, part: &Part) -> Kind
+    ensures { result ≡ kind_of is_outermost (part_view part.now) }
+{
+    match part {
+        Part::Name(name) => kind_of_word(is_outermost, name),
+        Part::Sign(_) | Part::Alone => Kind::Word,
+        _ => Kind::Other,
+    }
+}
+
+// What a list's first word says of its lines.
+fn kind_of_word(is_outermost: bool, word: &str) -> Kind
+    ensures { result ≡ kind_of_word is_outermost word.now }
+{
+    if word == "let" {
+        Kind::Let
+    } else if is_outermost && is_passed_over(word) {
+        Kind::PassedOver
+    } else {
+        Kind::Word
+    }
+}
+
+// The sum of two numbers. No text is so long that there is none.
+pub fn sum(a: usize, b: usize) -> Result<usize, AllocError>
+    ensures { IfOk result (λ n. n ≡ a + b) }
+{
+    a.checked_add(b).ok_or(AllocError)
+}
