@@ -4,14 +4,14 @@ use crate::words::Request;
 use cranelift_isle::lower::Lowered;
 use cranelift_isle::syntax::{Def, Files};
 use report_queries::premises::is_multi;
+use report_traces::answers_file::{ReadAnswers, read_answers};
+use report_traces::calls::{ReadCall, answer_to_call, read_call};
+use report_traces::faults::{Fault, fault_of_call};
+use report_traces::outcomes::outcome_text;
+use report_traces::replies::Replies;
+use report_traces::runs::Runs;
+use report_traces::why::{Asking, why};
 use run_terms::values::value_clones;
-use run_traces::answers_file::{ReadAnswers, read_answers};
-use run_traces::calls::{ReadCall, answer_to_call, read_call};
-use run_traces::faults::{Fault, fault_of_call};
-use run_traces::outcomes::outcome_text;
-use run_traces::replies::Replies;
-use run_traces::runs::Runs;
-use run_traces::why::{Asking, why};
 use std::alloc::{AllocError, Global};
 
 /// What is told of a call, without the end of the last line.

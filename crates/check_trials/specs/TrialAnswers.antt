@@ -6,7 +6,7 @@ use Rattle.cranelift_isle.specs.Ranges.{reduced}
 use Rattle.cranelift_isle.specs.Tables.{TermEntry, TypeEntry}
 use Rattle.cranelift_isle.specs.Values.{Value, truth, atom, of_variant, of_struct, Values, no_value, value_and}
 use Rattle.cranelift_isle.specs.Meaning.{Content, one, parts, nothing, just, many, no_content, content_and, TotalMeaning}
-use Rattle.run_traces.specs.Echoes.{as_written, constant_number, impure_echo, extracted_echo, pure_echo}
+use Rattle.report_traces.specs.Echoes.{as_written, constant_number, impure_echo, extracted_echo, pure_echo}
 
 -- a value is withheld
 abbrev pub is_withheld : Value → Bool

@@ -11,9 +11,9 @@ ghost use Rattle.check_trials.specs.TrialAnswers.{answer_given, answers_of, cons
 
 use core_typed::checks::literal_number;
 use cranelift_isle::sema::{Sym, Term, TermId, TypeEnv, TypeId};
+use report_traces::echo::{Echo, constant_number};
 use run_terms::externs::Externs;
 use run_terms::values::{Content, Value};
-use run_traces::echo::{Echo, constant_number};
 use std::alloc::{AllocError, Global};
 
 /// The number that is withheld: what may give nothing, or is multi, gives nothing in its place.

@@ -5,7 +5,7 @@ use crate::rust_names::{labels, push_number, push_sym, push_type};
 use core_typed::checks::literal_number;
 use cranelift_isle::lower::Lowered;
 use cranelift_isle::sema::{Fields, Sym, Type, TypeEnv, TypeId, Variant};
-use run_traces::echo::constant_number;
+use report_traces::echo::constant_number;
 use std::alloc::{AllocError, Global};
 
 /// Adds the items that generated code takes from outside, with how many results a call gives at most.

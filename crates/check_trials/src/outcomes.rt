@@ -7,11 +7,11 @@ use crate::trial::Trial;
 use crate::value_texts::push_composed;
 use cranelift_isle::lower::LoweredTerm;
 use report_queries::premises::is_multi;
+use report_traces::outcomes::outcome_text;
 use run_terms::choose::choose;
 use run_terms::run::run;
 use run_terms::state::{Ending, Outcome};
 use run_terms::values::Value;
-use run_traces::outcomes::outcome_text;
 use std::alloc::{AllocError, Global};
 
 /// A line for each call of each term: the call, and its outcome.

@@ -4,8 +4,8 @@ use crate::rust_names::{labels, push_sym, push_type};
 use cranelift_isle::lower::Lowered;
 use cranelift_isle::sema::{BuiltinType, Fields, IntType, Sym, Type, TypeEnv, TypeId, Variant};
 use report_queries::names::{full_variant_name, sym_name, type_name};
+use report_traces::echo::constant_number;
 use run_terms::values::Value;
-use run_traces::echo::constant_number;
 use std::alloc::{AllocError, Global};
 
 /// Adds a function for each type that tells a value of it.

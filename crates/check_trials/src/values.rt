@@ -6,8 +6,8 @@ use core_typed::checks::literal_number;
 use cranelift_isle::lower::Lowered;
 use cranelift_isle::sema::{BuiltinType, IntType, Sym, Type, TypeId, Variant};
 use cranelift_isle::trie_again::{Binding, Constraint, Rule, RuleSet};
+use report_traces::echo::constant_number;
 use run_terms::values::Value;
-use run_traces::echo::constant_number;
 use std::alloc::{AllocError, Global};
 
 // How many composed values nest at most.

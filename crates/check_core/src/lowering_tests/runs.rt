@@ -4,10 +4,10 @@ use cranelift_isle::sema::{TypeEnv, TypeId};
 use cranelift_isle::serialize::{Block, ControlFlow, EvalStep};
 use cranelift_isle::syntax::Pos;
 use cranelift_isle::trie_again::{Binding, BindingId, RuleSet, TupleIndex};
+use report_traces::echo::Echo;
 use run_terms::run::run;
 use run_terms::state::Ending;
 use run_terms::values::{Content, Value};
-use run_traces::echo::Echo;
 use std::alloc::{AllocError, Global};
 use std::process::Abort;
 

@@ -12,9 +12,9 @@ use Rattle.cranelift_isle.specs.ElaboratedLists.{program_of}
 use Rattle.model.proofs.Elements.{some_is, none_some}
 use Rattle.laws_trees.specs.TotalLaws.{matched_by, called_by}
 use Rattle.laws_trees.proofs.total.Total.{runs_by_functions_as_chosen_lem}
-use Rattle.run_traces.specs.Echoes.{constant_number, named_value, echoes}
-use Rattle.run_traces.specs.EchoLaws.{AreConstantTypesOf, WritesNoConstant, EchoesKeepConstantsApart, EchoesChooseAsSource}
-use Rattle.run_traces.proofs.EchoesFit.{echoes_are_well_typed_lem}
+use Rattle.report_traces.specs.Echoes.{constant_number, named_value, echoes}
+use Rattle.report_traces.specs.EchoLaws.{AreConstantTypesOf, WritesNoConstant, EchoesKeepConstantsApart, EchoesChooseAsSource}
+use Rattle.report_traces.proofs.EchoesFit.{echoes_are_well_typed_lem}
 
 same_place : (k : ℤ) (m n : ℕ) → k +ℤ pos m ≡ k +ℤ pos n → m ≡ n
 same_place k m n e = omega (arith, ints, e)

@@ -4,8 +4,8 @@ use Rattle.model.specs.rules.Values.{Value, of_struct, value_eq}
 use Rattle.model.specs.rules.Meaning.{Content, nothing, TotalMeaning}
 use Rattle.run_terms.specs.ValueViews.{content_view, value_view}
 use Rattle.run_terms.specs.declared.values.Content as C
-use Rattle.run_traces.specs.Echoes.{as_written, named_value}
-use Rattle.run_traces.specs.declared.known.Known as K
+use Rattle.report_traces.specs.Echoes.{as_written, named_value}
+use Rattle.report_traces.specs.declared.known.Known as K
 
 -- the first answer to a call
 abbrev pub known_in : List K.Known → ℕ → Value → Option Content

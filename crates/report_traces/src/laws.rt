@@ -1,6 +1,6 @@
 //! Laws of echoes. A function here has no code: its clause is a law, and its proof stands in `proofs/`.
 
-ghost use Rattle.run_traces.specs.EchoLaws.{EchoesAreWellTyped, EchoesChooseAsSource, EchoesKeepConstantsApart};
+ghost use Rattle.report_traces.specs.EchoLaws.{EchoesAreWellTyped, EchoesChooseAsSource, EchoesKeepConstantsApart};
 
 /// Where what rules call can be echoed, echoes are well typed.
 pub fn echoes_are_well_typed()

@@ -6,7 +6,7 @@ ghost use Rattle.cranelift_isle.specs.TreeViews.{tree_view};
 ghost use Rattle.cranelift_isle.specs.TermViews.{term_views};
 ghost use Rattle.cranelift_isle.specs.Envs.{constant_at};
 ghost use Rattle.run_terms.specs.RunViews.{outcome_view, stage_of};
-ghost use Rattle.run_traces.specs.Echoes.{echoes};
+ghost use Rattle.report_traces.specs.Echoes.{echoes};
 
 use crate::echo::Echo;
 use crate::outcomes::outcome_text;

@@ -17,7 +17,7 @@ use Rattle.cranelift_isle.specs.ElaboratedLists.{TypesRead, IsElaborated, progra
 use Rattle.cranelift_isle.specs.Headline.{RunsAsChosen}
 use Rattle.laws_sites.specs.RuleUses.{Use, a_term, a_constant}
 use Rattle.laws_trees.specs.TotalLaws.{IsWellTyped, ChoosesUnder, can_be_matched, can_be_called, matched_by, called_by}
-use Rattle.run_traces.specs.Echoes.{constant_number, echoes}
+use Rattle.report_traces.specs.Echoes.{constant_number, echoes}
 
 -- a value of a type can be given: the first argument, or an atom where there is none
 abbrev pub CanGiveFirst : Program → ℕ → List ℕ → Type 0

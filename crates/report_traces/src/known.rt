@@ -6,7 +6,7 @@ ghost use Rattle.std.specs.Bool.{◌==◌};
 ghost use Rattle.cranelift_isle.specs.Envs.{constant_at};
 ghost use Rattle.model.specs.rules.Values.{of_struct, value_eq};
 ghost use Rattle.run_terms.specs.ValueViews.{content_view, value_view, value_views};
-ghost use Rattle.run_traces.specs.KnownAnswers.{answered, known_in, or_nothing};
+ghost use Rattle.report_traces.specs.KnownAnswers.{answered, known_in, or_nothing};
 
 use crate::echo::named_value;
 use cranelift_isle::sema::{Sym, TermId, TypeEnv, TypeId};

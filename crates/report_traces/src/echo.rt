@@ -7,7 +7,7 @@ ghost use Rattle.cranelift_isle.specs.Program.{always_answers, kind_of};
 ghost use Rattle.cranelift_isle.specs.TermViews.{extractor_view, flags_view, term_view, term_views};
 ghost use Rattle.cranelift_isle.specs.Envs.{constant_at};
 ghost use Rattle.run_terms.specs.ValueViews.{content_view, value_view, value_views};
-ghost use Rattle.run_traces.specs.Echoes.{constant_number, impure_echo, echoes, extracted_by, first_or_zero, for_each_type, given_by, in_form, pure_echo, named_value, outputs_of};
+ghost use Rattle.report_traces.specs.Echoes.{constant_number, impure_echo, echoes, extracted_by, first_or_zero, for_each_type, given_by, in_form, pure_echo, named_value, outputs_of};
 
 use cranelift_isle::sema::{
     ExtractorKind, Sym, Term, TermFlags, TermId, TermKind, TypeEnv, TypeId,

@@ -1,7 +1,7 @@
 use Rattle.std.proofs.Common.{rules}
 use Rattle.run_terms.specs.ValueViews.{value_view}
-use Rattle.run_traces.proofs.EchoSteps.{each_more, each_all}
-use Rattle.run_traces.proofs.echo.for_each_type.Goals as goal
+use Rattle.report_traces.proofs.EchoSteps.{each_more, each_all}
+use Rattle.report_traces.proofs.echo.for_each_type.Goals as goal
 
 pub loop-preserved : goal.loop-preserved
 loop-preserved c =

@@ -7,7 +7,7 @@ use Rattle.core_types.specs.declared.ids.TypeId.{TypeId}
 use Rattle.run_terms.specs.declared.values.Value.{Value}
 use Rattle.run_terms.specs.ValueViews.{value_view, value_views}
 use Rattle.run_terms.proofs.ValueSteps.{before, before-push, before-none}
-use Rattle.run_traces.specs.Echoes.{for_each_type}
+use Rattle.report_traces.specs.Echoes.{for_each_type}
 
 -- a value for each of these types
 abbrev pub each : List TypeId → Values.Value → Values

@@ -9,8 +9,8 @@ use Rattle.cranelift_isle.specs.Program.{Program, Kind, a_variant, a_struct, a_c
 use Rattle.cranelift_isle.specs.Serves.{fits_one, fits_answer, fits_extractor, fits_constructor, term_args, term_results}
 use Rattle.laws_trees.specs.TotalLaws.{can_be_matched, can_be_called}
 use Rattle.laws_trees.proofs.Shapes.{literals_are_atoms}
-use Rattle.run_traces.specs.Echoes.{constant_number, named_value, in_form, for_each_type, outputs_of, extracted_by, extracted_echo, given_by, first_or_zero, pure_echo, impure_echo}
-use Rattle.run_traces.specs.EchoLaws.{CanGiveFirst, EchoesAreWellTyped}
+use Rattle.report_traces.specs.Echoes.{constant_number, named_value, in_form, for_each_type, outputs_of, extracted_by, extracted_echo, given_by, first_or_zero, pure_echo, impure_echo}
+use Rattle.report_traces.specs.EchoLaws.{CanGiveFirst, EchoesAreWellTyped}
 
 -- a number makes an atom of each type with atoms
 atom_fits : (types : List TypeEntry) (ty : ℕ) (z : ℤ) → has_atoms (slice_get types ty) ≡ true → well_typed types ty (atom ty z) ≡ true

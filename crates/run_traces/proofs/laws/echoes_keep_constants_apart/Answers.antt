@@ -1,5 +1,0 @@
-use Rattle.run_traces.proofs.EchoesApart.{echoes_keep_constants_apart_lem}
-use Rattle.run_traces.proofs.laws.echoes_keep_constants_apart.Goals as goal
-
-pub returns : goal.returns
-returns c = echoes_keep_constants_apart_lem
