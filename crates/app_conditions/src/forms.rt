@@ -6,8 +6,8 @@ use report_json::writer::Json;
 use std::alloc::{AllocError, Global};
 use std::slice;
 use text_reader::syntax::VerificationForm;
-use text_writer::print;
-use text_writer::specs_writing_faults::PrintFault;
+use text_writer::spec_faults::PrintFault;
+use text_writer::verification::print;
 
 /// Adds each of these at the key `specs`, in order: what it is, its place, and its text.
 pub(crate) fn push_forms(

@@ -24,12 +24,11 @@ ghost use Rattle.laws_code.specs.Samples.{ShownRunsAreJudged};
 ghost use Rattle.laws_code.specs.ShownLaws.{ShownCodeRunsAsCode};
 ghost use Rattle.laws_code.specs.TextRuns.{EachTermHasItsText, TextOfAcceptedSaysItsSource};
 
-use crate::{code_chooses_as_source, code_of_accepted_is_writable, text_of_accepted_is_read_back};
 use laws_trees::{best_trees_bind_before_use, best_trees_keep_the_headline};
 use model_code::{
     fitting_code_moves_once, flat_keeps_writable, moves_keep_writable, passes_by_types_fit,
     printed_code_is_scoped, printed_code_runs, text_is_read_back, with_moves_is_made_well,
-    with_moves_says_same, with_moves_says_same,
+    with_moves_says_same,
 };
 
 /// The code of the tree of each term that was lowered means what its source rules do: in a term that isn't multi the outcome of

@@ -43,11 +43,6 @@ ghost use Rattle.laws_trees.specs.PatternConstants.{ConstantsAreOfPatterns, Head
 ghost use Rattle.laws_trees.specs.SetsServed.{LoweredSetsMeanTheirRules};
 ghost use Rattle.laws_trees.specs.Uses.{BytesAreToldApart};
 
-use crate::{
-    built_rules_are_told_apart, built_sets_match_by_demands, built_sets_mean_their_rules,
-    results_are_held, rules_without_multi_go_over_no_calls, served_multi_sets_serve,
-    served_sets_serve_tests, taken_rules_give_their_outcome,
-};
 use laws_sites::{
     built_demands_are_whole, built_sets_are_collected, built_sets_are_tested,
     built_sets_are_well_built, built_sets_can_be_served, multi_terms_have_one_priority,

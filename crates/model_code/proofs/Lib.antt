@@ -33,3 +33,4 @@ pub mod Saving
 pub mod TreeScopes
 pub mod TypeSamples
 pub mod Written
+mod CodeTextSamples

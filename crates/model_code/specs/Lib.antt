@@ -30,3 +30,4 @@ pub mod Tokens
 pub mod TreeCode
 pub mod TypeSamples
 pub mod Written
+pub mod CodeTextSamples

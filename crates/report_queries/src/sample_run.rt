@@ -4,8 +4,8 @@ ghost use Rattle.std.specs.Prelude.{◌≡◌, ◌≢◌, ◌≤◌, false, is_s
 ghost use Rattle.report_queries.specs.Samples.{names_sample};
 
 use crate::answers::{end, write_answer};
+use crate::answers_texts::{Asked, answer_to_text};
 use crate::samples::sample_text;
-use crate::texts::{Asked, answer_to_text};
 use std::alloc::Global;
 use std::io::Write;
 

@@ -3,8 +3,6 @@
 //! and the types that definitions declare; and whether all their names are told apart.
 #![tactic(auto)]
 
-pub use crate::names;
-
 pub mod beside;
 pub mod claims;
 pub mod context;

@@ -1,12 +1,10 @@
-//! A reader of ISLE text: definitions as text become the syntax trees of `isle_base`.
+//! A reader of ISLE text: definitions as text become the syntax trees of `core_syntax`.
 //!
 //! The text is read in three steps: characters to tokens, tokens to forms (words, numbers, and lists in parentheses), and forms
 //! to definitions. A position is the file's number and the offset of a byte.
-//! What ISLE texts say for a verifier, as trees: specs of terms, models of types, forms of signatures, attributes, states and
-//! macros. `specs/` has their grammar.
-//! What ISLE texts say for a verifier: specs of terms, models of types, forms of signatures, attributes, states and macros.
 //!
-//! `isle_reader` passes over the lists that say it. Here they are read as trees of their own, from the same text.
+//! What a text says for a verifier (specs of terms, models of types, forms of signatures, attributes, states and macros) `read` passes
+//! over. `verification` reads it as trees of its own, from the same text. `specs/` has their grammar.
 #![tactic(auto)]
 
 ghost use Rattle.std.specs.Prelude.{length, IfOk, List, MatchResult, Ok, map};
@@ -19,11 +17,7 @@ ghost use Rattle.text_reader.specs.Faults.{FaultIsWithin};
 ghost use Rattle.text_reader.specs.SpecViews.{numbered_view};
 ghost use Rattle.text_reader.specs.Verifying.{verification_in};
 
-use crate::errors::ReadFault;
-use crate::forms::forms;
-use crate::source::Source;
 use crate::syntax::VerificationForm;
-use crate::tokens::tokens;
 use core_syntax::syntax::Def;
 use errors::ReadFault;
 use reading::verifications;
@@ -33,7 +27,6 @@ use std::alloc::Global;
 pub mod chunks;
 mod definitions;
 pub mod errors;
-mod expressions;
 mod expressions;
 pub mod forms;
 pub mod heads;
@@ -49,8 +42,9 @@ pub mod recovery;
 mod rules;
 mod signatures;
 pub mod source;
+mod spec_expressions;
+mod spec_terms;
 pub mod syntax;
-mod terms;
 mod terms;
 pub mod tokens;
 mod types;
@@ -108,7 +102,7 @@ pub fn verification(
         file,
         len: text.len(),
     };
-    let tokens = tokens(at, text)?;
-    let forms = forms(at, tokens)?;
+    let tokens = tokens::tokens(at, text)?;
+    let forms = forms::forms(at, tokens)?;
     verifications(at, &forms)
 }

@@ -10,11 +10,11 @@ ghost use Rattle.text_reader.specs.SpecGrammar.{bits_model_in, bits_model_of, la
 ghost use Rattle.text_reader.specs.SpecViews.{model_type_view, model_value_view, model_view, variant_value_view};
 
 use crate::errors::{Mistake, ReadFault, fault};
-use crate::expressions::{is_empty, last_expression};
 use crate::forms::Form;
 use crate::parts::{Parts, headed, list, next_name, no_more};
 use crate::pieces::last;
 use crate::source::Source;
+use crate::spec_expressions::{is_empty, last_expression};
 use crate::syntax::{Model, ModelType, ModelValue, VariantValue};
 use core_syntax::syntax::{Ident, Pos};
 

@@ -14,8 +14,8 @@ use crate::models::model;
 use crate::parts::headed;
 use crate::signatures::{attributes, form_of_signatures, instantiation, macro_definition, state};
 use crate::source::Source;
+use crate::spec_terms::spec;
 use crate::syntax::VerificationForm;
-use crate::terms::spec;
 use std::alloc::AllocError;
 
 /// Those of some forms that are for a verifier, each with its number among them all.

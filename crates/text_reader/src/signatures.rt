@@ -10,12 +10,12 @@ ghost use Rattle.text_reader.specs.SpecGrammar.{attr_kind_of, attr_kinds_of, att
 ghost use Rattle.text_reader.specs.SpecViews.{attr_kind_view, attr_view, instantiation_view, macro_view, signature_view, signatures_view, state_view};
 
 use crate::errors::{Mistake, ReadFault, fault};
-use crate::expressions::last_expression;
 use crate::forms::Form;
 use crate::models::{last_model, model_types};
 use crate::parts::{Parts, headed, list, next, next_if, next_name, no_more};
 use crate::pieces::{last, name_use, section};
 use crate::source::Source;
+use crate::spec_expressions::last_expression;
 use crate::syntax;
 use crate::syntax::{Attr, AttrKind, Instantiation, Macro, Signature, State};
 use core_syntax::syntax::{Ident, Pos};

@@ -19,3 +19,4 @@ pub mod Spellable
 pub mod SpellableTrees
 pub mod Texts
 pub mod Woven
+pub mod SpecFaults

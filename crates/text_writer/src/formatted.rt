@@ -1,4 +1,5 @@
 //! A rule file in the usual layout.
+#![tactic(auto, using(crate::proofs::Texts::texts))]
 
 ghost use Rattle.std.specs.Prelude.{◌≡◌, IfOk, List, string_bytes};
 ghost use Rattle.std.specs.Str.{chars};
@@ -9,8 +10,8 @@ ghost use Rattle.text_writer.specs.Layouts.{layout_in};
 ghost use Rattle.text_writer.specs.Pages.{laid, text_of};
 
 use crate::gaps::is_marked;
-use crate::laws::layout_keeps_tokens;
 use crate::layout::laid_out;
+use crate::layout_laws::layout_keeps_tokens;
 use crate::parts::parts_of;
 use std::alloc::{AllocError, Global};
 use text_reader::errors::ReadFault;

@@ -1,4 +1,5 @@
 //! Parts are written with the white space that they get.
+#![tactic(auto, using(crate::proofs::Texts::texts))]
 
 ghost use Rattle.std.specs.Prelude.{◌≡◌, [], ◌∷◌, ◌++◌, IfOk, if◌then◌else◌, replicate, string_bytes};
 ghost use Rattle.std.specs.Str.{chars};

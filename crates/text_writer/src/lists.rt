@@ -1,4 +1,5 @@
 //! The lists that are open where a part is written, and where lines in them begin.
+#![tactic(auto, using(crate::proofs::Texts::texts))]
 
 ghost use Rattle.std.specs.Prelude.{◌≡◌, ◌+◌, [], ◌∷◌, drop, IfOk, None};
 ghost use Rattle.text_writer.specs.ListViews.{lists_view};

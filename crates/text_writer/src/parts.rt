@@ -1,4 +1,5 @@
 //! What a text is made of, besides white space.
+#![tactic(auto, using(crate::proofs::Texts::texts))]
 
 ghost use Rattle.std.specs.Prelude.{◌≡◌, ◌+◌, ◌++◌, ◌∷◌, [], List, IfOk, string_bytes};
 ghost use Rattle.std.specs.Str.{chars};

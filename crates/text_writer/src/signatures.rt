@@ -7,8 +7,8 @@ ghost use Rattle.text_reader.specs.SpecViews.{attr_kind_view, attr_view, instant
 ghost use Rattle.text_writer.specs.Forms.{word_form};
 ghost use Rattle.text_writer.specs.Texts.{spaced, written};
 
-use crate::expressions::push_type;
 use crate::pieces::push_word;
+use crate::spec_expressions::push_type;
 use core_syntax::syntax::Ident;
 use std::alloc::AllocError;
 use text_reader::syntax::{Attr, AttrKind, Form, Instantiation, ModelType, Signature};

@@ -8,8 +8,8 @@ ghost use Rattle.text_reader.specs.SpecTrees.{a_form, an_instantiation};
 ghost use Rattle.text_reader.specs.SpecViews.{attr_kind_view, attr_view, exprs_view, instantiation_view, macro_view, model_type_view, model_value_view, model_view, modifies_view, signature_view, signatures_view, spec_expr_view, spec_view, state_view, variant_value_view, verification_view};
 ghost use Rattle.text_writer.specs.SpellableTrees.{are_signatures_spellable, attr_is_spellable, attr_kind_is_spellable, can_be_spelled, first_unspelled, is_no_value_or_spellable, macro_is_spellable, model_is_spellable, model_value_is_spellable, modifies_is_spellable, part_is_spellable, place_of_tree, signature_is_spellable, signature_type_is_spellable, signatures_are_spellable, spec_is_spellable, state_is_spellable, variant_value_is_spellable};
 
+use crate::spec_words::{are_any_words, is_any_word, is_no_name_or_any_word};
 use crate::spellable_expressions::{expr_is_spellable, exprs_are_spellable, type_is_spellable};
-use crate::words::{are_any_words, is_any_word, is_no_name_or_any_word};
 use core_syntax::syntax::{Ident, Pos};
 use text_reader::syntax::{
     Attr, AttrKind, Form, Instantiation, Macro, Model, ModelType, ModelValue, Modifies, Signature,

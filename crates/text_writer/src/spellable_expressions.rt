@@ -7,10 +7,10 @@ ghost use Rattle.text_reader.specs.SpecGrammar.{has_cases};
 ghost use Rattle.text_reader.specs.SpecViews.{model_type_view, spec_expr_view, spec_expr_views};
 ghost use Rattle.text_writer.specs.SpellableTrees.{are_any_words, is_operator, model_type_is_spellable, pair_is_spellable, pairs_are_spellable, spec_expr_is_spellable, spec_exprs_are_spellable};
 
-use crate::words::{
-    are_any_words, bits_are_spellable, has_cases, is_any_word, is_operator, is_signed_128,
-    is_spec_variable,
+use crate::spec_words::{
+    are_any_words, bits_are_spellable, has_cases, is_any_word, is_operator, is_spec_variable,
 };
+use crate::words::is_signed_128;
 use core_syntax::syntax::Ident;
 use text_reader::syntax::{ModelType, SpecExpr};
 

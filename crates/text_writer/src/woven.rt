@@ -3,15 +3,15 @@
 ghost use Rattle.std.specs.Prelude.{◌≡◌, IfErr, IfOk, map, Ok, OnOk, string_bytes};
 ghost use Rattle.core_syntax.specs.SyntaxViews.{definition_view, definition_views, position};
 ghost use Rattle.text_reader.specs.SpecViews.{numbered_view, verification_view};
-ghost use Rattle.text_writer.specs.SpecsWritingFaults.{IsTrouble};
+ghost use Rattle.text_writer.specs.SpecFaults.{IsTrouble};
 ghost use Rattle.text_writer.specs.Saying.{Says};
 ghost use Rattle.text_writer.specs.Woven.{added, defined_item, item_at, left_behind, said_item, tree_item, woven};
 ghost use Rattle.text_writer.specs.ReadsBack.{ReadsBack};
 
 use crate::definitions::{can_be_spelled as definition_can_be_spelled, push_definition};
-use crate::faults::PrintFault;
-use crate::push_verification;
+use crate::spec_faults::PrintFault;
 use crate::spellable::{can_be_spelled, place};
+use crate::verification::push_verification;
 use core_syntax::syntax::{Def, Pos};
 use std::alloc::Global;
 use text_reader::syntax::VerificationForm;

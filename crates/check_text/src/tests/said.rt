@@ -5,8 +5,8 @@ use std::process::Abort;
 use std::test::Fail;
 use text_reader::syntax::{Model, ModelValue, SpecExpr, VerificationForm};
 use text_reader::{read, verification};
-use text_writer::specs_writing_faults::PrintFault;
-use text_writer::{print, print_all};
+use text_writer::spec_faults::PrintFault;
+use text_writer::verification::{print, print_all};
 
 // The forms of a text for a verifier.
 fn forms_of(rt: &impl Abort, alloc: Global, text: &str) -> Result<Vec<VerificationForm>, Fail> {

@@ -20,9 +20,9 @@ ghost use Rattle.core_syntax.specs.Positions.{NotesAt, expr_positions, iflet_pos
 
 use crate::term_env::TermEnv;
 use core_syntax::syntax::{Def, Error, Expr, Ident, IfLet, Pos, Rule};
+use core_typed as typed;
 use core_typed::reports::report_unmade;
 use core_types::{TermId, TypeEnv, TypeId, VarId};
-use isle_typed as typed;
 use std::alloc::AllocError;
 
 impl TermEnv {

@@ -1,5 +1,0 @@
-use Rattle.text_writer.proofs.ItemsReadBack.{trees_say}
-use Rattle.text_writer.proofs.specs_writing_laws.texts_read_back.Goals as goal
-
-pub returns : goal.returns
-returns c = trees_say

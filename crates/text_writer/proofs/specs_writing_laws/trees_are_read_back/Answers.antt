@@ -1,5 +1,0 @@
-use Rattle.text_writer.proofs.TreesRead.{tree_read}
-use Rattle.text_writer.proofs.specs_writing_laws.trees_are_read_back.Goals as goal
-
-pub returns : goal.returns
-returns c = tree_read
