@@ -6,7 +6,6 @@ mod Parted
 mod Patterns
 mod ReadTexts
 mod ReadsBack
-mod Samples
 mod Statements
 mod Tests
 mod TextSamples

@@ -170,7 +170,7 @@ pub fn text_shows_code()
 {}
 
 /// Samples have the text that a person writes for them, and are read back; near ones aren't.
-#[tactic(auto, using(crate::proofs::Samples::samples_are_written_lem))]
+#[tactic(auto, using(crate::proofs::CodeTextSamples::samples_are_written_lem))]
 pub fn samples_are_written()
     ensures { SamplesAreWritten }
 {}
