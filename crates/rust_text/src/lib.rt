@@ -16,7 +16,7 @@ ghost use Rattle.laws_code.specs.CodeChoices.{MeansItsSource};
 ghost use Rattle.laws_code.specs.TypedTrees.{ConstrainsByTypes, IsWellMade};
 ghost use Rattle.rust_code.specs.CodeViews.{block_view};
 ghost use Rattle.rust_text.specs.LoweredCode.{IsItsCode, OfLowered};
-ghost use Rattle.rust_text.specs.PrintedTexts.{PrintedTextsAreReadBack};
+ghost use Rattle.rust_text.specs.PrintedTexts.{EachTermHasItsPrintedText, PrintedTextsAreReadBack};
 ghost use Rattle.rust_text.specs.WholeNames.{NamesAreClosed, NamesAreWhole};
 
 use cranelift_isle::lower::{Lowered, LoweredTerm};
@@ -105,5 +105,13 @@ pub fn printed_texts_are_read_back()
     ensures { PrintedTextsAreReadBack }
 {
     text_of_accepted_is_read_back();
+    names_are_whole();
+}
+
+/// And each term with rules has code that means what its source rules do, and such a text, which is read as code that does so.
+pub fn each_term_has_its_printed_text()
+    ensures { EachTermHasItsPrintedText }
+{
+    each_term_has_its_text();
     names_are_whole();
 }
