@@ -1,10 +1,5 @@
-//! What the code of a tree of accepted definitions means: what their source rules mean.
-//!
-//! A function here has no code, or calls the laws that its proof rests on: its clause is a law.
-//! The text of the code of accepted definitions: it can be written, and is read back.
-//!
-//! A function here has no code, or calls the laws that its proof rests on: its clause is a law.
-//! What the text of code shows does what the code does, so the text of accepted definitions does what their source rules mean.
+//! What the code of a tree of accepted definitions means: what their source rules mean. Its text can be written, and is read back;
+//! and what this text shows does what the code does.
 //!
 //! A function here has no code, or calls the laws that its proof rests on: its clause is a law.
 #![tactic(auto)]

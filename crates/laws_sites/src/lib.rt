@@ -1,12 +1,9 @@
-//! Laws of the visit of a typed rule: what it demands and makes, and which limit it meets first; and that a visitor
-//! which follows the visitor of sites step by step follows it through whole rules, faults included.
-//! This last law speaks of all visitors, so no clause can state it: `VisitsFollow` (`specs/Followers`) is proved by the lemma
-//! `visits_follow_lem` (`proofs/FollowedRules`).
+//! Laws of sites. What the visit of a typed rule demands and makes, and which limit it meets first; a visitor that follows the
+//! visitor of sites step by step follows it through whole rules, faults included. And the closure of demands: unreachable rules,
+//! overlap, shadow and what is reported of them; how sets are built, rule by rule, and what built sets are.
 //!
-//! A function here has no code, or calls the laws that its proof rests on: its clause is a law, and its proof stands in
-//! `proofs/`.
-//! Laws of the closure of demands: unreachable rules, overlap, shadow and what is reported of them; and how sets are built,
-//! rule by rule, and what built sets are.
+//! The law on visitors speaks of all of them, so no clause can state it: `VisitsFollow` (`specs/Followers`) is proved by the lemma
+//! `visits_follow_lem` (`proofs/FollowedRules`).
 //!
 //! A function here has no code, or calls the laws that its proof rests on: its clause is a law, and its proof stands in
 //! `proofs/`.

@@ -1,9 +1,8 @@
-//! Laws of conditions: where what is asked of a solver holds of each rule, what a term answers is as its spec says.
+//! Laws of conditions: where what is asked of a solver holds of each rule, what a term answers is as its spec says. So it is in
+//! whole programs: terms with rules that call one another.
 //!
-//! A function here has no code: its clause is a law, and its proof stands in `proofs/`.
-//! Laws of whole programs: terms with rules that call one another.
-//!
-//! A function here has no code, or calls the laws that its proof rests on: its clause is a law.
+//! A function here has no code, or calls the laws that its proof rests on: its clause is a law, and its proof stands in
+//! `proofs/`.
 #![tactic(auto)]
 
 ghost use Rattle.laws_specs.specs.CollectLaws.{BagsAreAsSaid, CollectsAsSaid, LoweredTermsCollectAsSaid};

@@ -1,12 +1,6 @@
-//! Laws of runs: the run of a sound tree is a choice by priority, or collects the bag of a multi term; picks and bags.
-//!
-//! A function here has an empty body: its clause is a law, and its proof stands in `proofs/`.
-//! Laws of matching: rules match by what they demand, so built sets mean their rules, under every meaning that serves them.
-//!
-//! A function here has no code, or calls the laws that its proof rests on: its clause is a law, and its proof stands in
-//! `proofs/`.
-//! Laws of best trees: at each place the greatest test is made, for exactly the rules that it covers. And what follows for those
-//! who use what `lower` promises.
+//! Laws of runs, matching and trees. The run of a sound tree is a choice by priority, or collects the bag of a multi term. Rules
+//! match by what they demand, so built sets mean their rules, under every meaning that serves them. In best trees the greatest test
+//! is made at each place, for exactly the rules that it covers. And what follows for those who use what `lower` promises.
 //!
 //! A function here has no code, or calls the laws that its proof rests on: its clause is a law, and its proof stands in
 //! `proofs/`.

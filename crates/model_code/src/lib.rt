@@ -1,7 +1,4 @@
-//! Code as data, what it does, and the code of a tree.
-//!
-//! A function here has no code: its clause is a law.
-//! The text of generated code: its tokens, their layout, and a reader that gives the code back.
+//! Code as data, what it does, and the code of a tree. Its text: tokens, their layout, and a reader that gives the code back.
 //!
 //! A function here has no code: its clause is a law.
 #![tactic(auto)]

@@ -1,7 +1,6 @@
-//! What is behind a type error, for a person: the names that may be meant, the other places that it speaks of, and which errors
-//! say no more than another one.
-//! The report of a text that can't be read.
-//! What a person asks about rules: why they are refused, what a rule demands and when it is taken, and how large trees are.
+//! Errors, explained. What is behind a type error: the names that may be meant, the other places that it speaks of, and which errors
+//! say no more than another one. What is wrong with a text that can't be read. Why rules are refused, what a rule demands and when it
+//! is taken, and how large trees are.
 #![tactic(auto)]
 
 ghost use Rattle.std.specs.Prelude.{◌≡◌, ◌++◌, ◌∷◌, [], IfOk, List, OnOk};

@@ -1,7 +1,5 @@
-//! Questions of what `lower` answers: names by id, the rule behind a return, what stands in place, texts, the sites of a
-//! rule's variables, and a walk over a tree.
-//!
-//! And what is answered to ISLE text: trees, or what is wrong, as text; and what programs do with their words.
+//! Questions about what `lower` gives: names by id, the rule behind a return, what is bound in place, texts, the sites of a rule's
+//! variables, and a walk over a tree. And what programs answer to ISLE text and to their words: trees, or what is wrong, as text.
 #![tactic(auto)]
 
 pub mod answers;

@@ -1,7 +1,6 @@
-//! Calls of terms, written as ISLE text: they are read, run on the terms' trees by the rule of echoes, and their outcomes
-//! told in words.
-//! Calls that are run by answers from a file: the answers, the tests that are made, the rule that is taken, and why another
-//! rule isn't.
+//! Calls of terms, as ISLE text. They are read, run on the trees of their terms, and their outcomes told in words; calls of what is
+//! outside are echoed, or answered from a file. A trace has the tests that are made, the rule that is taken, and why another one
+//! isn't.
 #![tactic(auto)]
 
 pub mod answers_file;

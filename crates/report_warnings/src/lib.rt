@@ -1,5 +1,4 @@
-//! Warnings: what is likely not meant, in definitions that are accepted.
-//! What changed between two versions of definitions.
+//! Warnings: what is likely not meant, in definitions that are accepted. And what changed between two versions of definitions.
 #![tactic(auto)]
 
 mod calls;

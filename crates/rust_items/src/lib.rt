@@ -1,6 +1,5 @@
-//! Names as Rust has them: how they are written, which the code takes for itself, and whether things are told apart by them.
 //! The items of generated Rust code but for the functions of terms: the trait of what comes from outside, the traits beside it,
-//! and the types that definitions declare; and whether all their names are told apart.
+//! and the types that definitions declare; how names are written, and whether all of them are told apart.
 #![tactic(auto)]
 
 pub mod beside;

@@ -1,13 +1,8 @@
-//! What is written of names and texts is read by itself.
+//! The Rust code of lowered programs. The functions of terms are printed from code as data (`rust_code`), and from nothing else: code
+//! becomes pieces (tokens, white space, comments, lines for the log), which are exactly those that `model_code` says, and pieces
+//! become text. What the functions do is what the source rules mean, what is printed is read back, and each name is read by itself.
 //!
-//! A function here has no code: its clause is a law.
-//! The functions of terms with rules as data, and what they do: what the source rules mean.
-//! The text of generated functions as pieces: tokens, white space, comments, lines for the log; and how pieces are written.
-//! What is printed of accepted definitions is read back.
-//!
-//! A function here has no code, or calls the laws that its proof rests on: its clause is a law.
-//! The Rust code of lowered programs. The functions of terms are printed from code as data (`isle_code`), and from nothing else:
-//! code becomes pieces, which are exactly those that `code_text` says, and pieces become text.
+//! A function without code, or that calls the laws that its proof rests on, is a law: its clause is what it says.
 #![tactic(auto)]
 
 ghost use Rattle.rust_text.specs.ClosedNames.{WrittenNamesAreClosed};
@@ -21,7 +16,8 @@ ghost use Rattle.rust_text.specs.WholeNames.{NamesAreClosed, NamesAreWhole};
 
 use cranelift_isle::lower::{Lowered, LoweredTerm};
 use laws_code::{
-    code_chooses_as_source, code_of_accepted_is_well_made, text_of_accepted_is_read_back,
+    code_chooses_as_source, code_of_accepted_is_well_made, each_term_has_its_text,
+    text_of_accepted_is_read_back,
 };
 use model_code::with_moves_says_same;
 use rust_code::code::CodeBlock;

@@ -1,5 +1,5 @@
-//! Questions about rules for a solver: whether each rule gives what the specs of its term and of the terms that it calls say.
-//! What a solver wrote when it was asked: `unsat`, or `sat` and the values of formulas.
+//! Questions about rules for a solver: whether each rule gives what the specs of its term and of the terms that it calls say. And
+//! what a solver wrote when it was asked: `unsat`, or `sat` and the values of formulas.
 #![tactic(auto)]
 
 mod above;

@@ -1,6 +1,6 @@
-//! What is said for a verifier, by the terms, types and constants that it is said of.
-//! What specs say of values, as formulas. `builder` holds the values and formulas of one condition; the other modules say what
-//! operators and expressions come to, and what is known of parts of values.
+//! What a text says for a verifier, by the terms, types and constants that it says it of; and what that is of values, as formulas.
+//! `builder` holds the values and formulas of one condition; the other modules say what operators and expressions come to, and what is
+//! known of parts of values.
 #![tactic(auto)]
 
 mod applying;
