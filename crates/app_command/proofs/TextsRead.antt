@@ -8,19 +8,19 @@ use Rattle.cranelift_isle.specs.Syntax.{Definition}
 use Rattle.text_reader.specs.Definitions.{Spells, reading}
 use Rattle.text_reader.specs.Lexemes.{Wrong}
 use Rattle.text_reader.specs.declared.errors.TextError.{TextError}
-use Rattle.text_reader.specs.Within.{AreWithin, DefinitionIsWithin}
+use Rattle.text_reader.specs.Within.{DefinitionsAreWithin, DefinitionIsWithin}
 use Rattle.app_command.specs.Readings.{error_view, mistake_in, mistake_of_text, mistakes_of_texts, AreOfText, AreOfTexts, LiesInSome, StandsIn, StandsInSome}
 
 -- definitions that lie in one text lie in some
 pub lie_in_some : (texts : List (List ℕ)) (number : ℕ) (text : List ℕ) (added : List Definition)
-    → slice_get texts number ≡ Some text → AreWithin number (length text) added → All (LiesInSome texts) added
+    → slice_get texts number ≡ Some text → DefinitionsAreWithin number (length text) added → All (LiesInSome texts) added
 lie_in_some texts number text added at within =
     All-weaker (DefinitionIsWithin number (length text)) (LiesInSome texts) (λ d h. (number, text, at, h)) added within
 
 -- and those before them too
 pub all_lie_in_some : (texts : List (List ℕ)) (number : ℕ) (text : List ℕ) (before after added : List Definition)
     → slice_get texts number ≡ Some text → after ≡ before ++ added → All (LiesInSome texts) before
-    → AreWithin number (length text) added → All (LiesInSome texts) after
+    → DefinitionsAreWithin number (length text) added → All (LiesInSome texts) after
 all_lie_in_some texts number text before after added at e old within =
     subst (All (LiesInSome texts)) (sym e) (All-append (LiesInSome texts) before added old (lie_in_some texts number text added at within))
 

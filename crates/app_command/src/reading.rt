@@ -3,7 +3,7 @@
 ghost use Rattle.std.specs.Prelude.{◌≡◌, ◌++◌, ℕ, All, Bool, [], List, length, map, string_bytes, IfOk, OnOk};
 ghost use Rattle.cranelift_isle.specs.SyntaxViews.{definition_views};
 ghost use Rattle.cranelift_isle.specs.Syntax.{Definition};
-ghost use Rattle.text_reader.specs.Within.{AreWithin};
+ghost use Rattle.text_reader.specs.Within.{DefinitionsAreWithin};
 ghost use Rattle.text_reader.specs.Definitions.{Spells, reading};
 ghost use Rattle.text_reader.specs.declared.errors.TextError.{TextError};
 ghost use Rattle.app_command.specs.Readings.{has_no_definitions, error_view, mistake_in, mistakes_of_texts, AreOfTexts, IsReadingOf, StandsIn};
@@ -69,7 +69,7 @@ fn read_text(
 ) -> Result<(), AllocError>
     // the definitions that are added lie in the text, and are what it spells if no mistake is added
     ensures read { OnOk result ((added : List Definition)
-        × (definition_views defs.new.items ≡ definition_views defs.old.items ++ added) × AreWithin number (length text.now) added
+        × (definition_views defs.new.items ≡ definition_views defs.old.items ++ added) × DefinitionsAreWithin number (length text.now) added
         × (mistakes.new.items ≡ [] → (mistakes.old.items ≡ []) × Spells number text.now added)) }
     // the mistake that is added is the text's, and none is if the text has none
     ensures exact { OnOk result ((added : List TextError) × (mistakes.new.items ≡ mistakes.old.items ++ added)

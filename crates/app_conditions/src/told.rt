@@ -2,7 +2,7 @@
 
 ghost use Rattle.std.specs.Prelude.{◌≡◌, IfOk, codes, true};
 ghost use Rattle.std.specs.Str.{trim_start};
-ghost use Rattle.spec_questions.specs.Replies.{Begins};
+ghost use Rattle.spec_questions.specs.Replies.{BeginsText};
 
 use cranelift_isle::lower::Lowered;
 use cranelift_isle::sema::{RuleId, TermId};
@@ -50,7 +50,7 @@ pub(crate) struct Teller<'a> {
 impl<'a> Teller<'a> {
     /// What a solver said of a question, in the words of its rule.
     pub(crate) fn told(self, question: &Question, answer: &str) -> Result<Told, AllocError>
-        ensures right { IfOk result (λ told. told.is_right ≡ true → Begins (codes "unsat") (trim_start answer.now)) }
+        ensures right { IfOk result (λ told. told.is_right ≡ true → BeginsText (codes "unsat") (trim_start answer.now)) }
     {
         let reply = reply_in(self.alloc, answer, question.values.len())?;
         let mut line = String::from_str(self.alloc, verdict(&reply))?;

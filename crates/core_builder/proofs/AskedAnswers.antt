@@ -15,7 +15,7 @@ use Rattle.model.proofs.SitesMade.{in_has, has_in}
 use Rattle.laws_sites.proofs.Closing.{found_constraint}
 use Rattle.laws_sites.specs.Followers.{AsksNothingElse}
 use Rattle.core_rule_sets.specs.Closings.{AreDemandsOf}
-use Rattle.core_builder.specs.VisitedSites.{AreAnswered, AreUnwrapped, built_sites, GoesTo, StandsAt}
+use Rattle.core_builder.specs.VisitedSites.{AreAnswered, AreUnwrapped, built_sites, GoesTo, BuilderStandsAt}
 use Rattle.core_builder.specs.declared.ruleset_builder.RuleSetBuilder.{RuleSetBuilder}
 use Rattle.core_builder.proofs.BuilderFields.{goes_further}
 use Rattle.core_builder.proofs.BuilderSteps.{either_of, of_both, firsts_same, conflicts_push}
@@ -122,7 +122,7 @@ module _ (before : List SiteTerm) (b : RuleSetBuilder) (v : Visit) (us ws : List
       let others = with_constraints [] (v.demands.constraints ++ presents ws) in
       h.asked_made u there.0 (contains_from_in others (u, there.0) (found_constraint others u there.0 also))
 
-  answering_too : StandsAt before b (answering ws v) → StandsAt before b (answering us v)
+  answering_too : BuilderStandsAt before b (answering ws v) → BuilderStandsAt before b (answering us v)
   answering_too h = record {
     table = h.table;
     due = h.due;
@@ -148,14 +148,14 @@ module _ (before : List SiteTerm) (b : RuleSetBuilder) (v : Visit) (us ws : List
     few = h.few;
   }
 
-  stands_same : StandsAt before b (asking_all ws v) → StandsAt before b (asking_all us v)
-  stands_same h = subst (StandsAt before b) (sym (asks_all us v)) (answering_too (subst (StandsAt before b) (asks_all ws v) h))
+  stands_same : BuilderStandsAt before b (asking_all ws v) → BuilderStandsAt before b (asking_all us v)
+  stands_same h = subst (BuilderStandsAt before b) (sym (asks_all us v)) (answering_too (subst (BuilderStandsAt before b) (asks_all ws v) h))
 
 -- and notes the sites whose calls were asked
 abbrev pub with_answered : RuleSetBuilder → Members ℕ → RuleSetBuilder
 with_answered b walked = record b { answered = walked }
 
-pub stands_with : (before : List SiteTerm) (b : RuleSetBuilder) (v : Visit) (walked : Members ℕ) → StandsAt before b v → AreAnswered (built_sites b) v walked → StandsAt before (with_answered b walked) v
+pub stands_with : (before : List SiteTerm) (b : RuleSetBuilder) (v : Visit) (walked : Members ℕ) → BuilderStandsAt before b v → AreAnswered (built_sites b) v walked → BuilderStandsAt before (with_answered b walked) v
 stands_with before b v walked h a = record {
   table = h.table;
   due = h.due;
@@ -170,7 +170,7 @@ stands_with before b v walked h a = record {
   few = h.few;
 }
 
-module _ (before : List SiteTerm) (old mid : RuleSetBuilder) (v : Visit) (s : ℕ) (none walked : Members ℕ) (calls : List ℕ) (h : StandsAt before old v) (nothing_else : AsksNothingElse v (unfold_site (built_sites old) s))
+module _ (before : List SiteTerm) (old mid : RuleSetBuilder) (v : Visit) (s : ℕ) (none walked : Members ℕ) (calls : List ℕ) (h : BuilderStandsAt before old v) (nothing_else : AsksNothingElse v (unfold_site (built_sites old) s))
     (a : AreUnwrapped (built_sites old) s old.answered walked calls) (g : GoesTo before (with_answered old none) mid (asking_all (map (unfold_site (built_sites old)) calls) v)) where
   abbrev f : ℕ → SiteTerm
   f = unfold_site (built_sites old)
@@ -218,7 +218,7 @@ asking_push (s ∷ ss) u v = asking_push ss u (asking s is_present v)
 
 pub one_more_answer : (before : List SiteTerm) (old now new : RuleSetBuilder) (v : Visit) (xs : List ℕ) (i x : ℕ) → i < length xs → x ≡ get_or xs i x → All (λ n. n < length (built_sites old)) xs
     → GoesTo before old now (asking_all (map (unfold_site (built_sites old)) (take i xs)) v)
-    → ((w : Visit) → StandsAt before now w → x < length (built_sites now) → GoesTo before now new (asking (unfold_site (built_sites now) x) is_present w))
+    → ((w : Visit) → BuilderStandsAt before now w → x < length (built_sites now) → GoesTo before now new (asking (unfold_site (built_sites now) x) is_present w))
     → GoesTo before old new (asking_all (map (unfold_site (built_sites old)) (take (i + 1) xs)) v)
 one_more_answer before old now new v xs i x l is below g next =
     let f = unfold_site (built_sites old) in

@@ -11,7 +11,7 @@ use Rattle.model.specs.lists.Tables.{Flags}
 use Rattle.model.specs.sites.Sites.{SiteTerm, SiteTerms, constructor_call, each_term, pick_of, some_part, unfold_site}
 use Rattle.model.specs.visits.Demands.{Visit, Valued, valued, call_result, call_sites, calling, iterating, making, visit_call, where_multi, value_made as value_made_of}
 use Rattle.core_syntax.specs.declared.visit_fault.VisitFault.{VisitFault}
-use Rattle.core_builder.specs.VisitedSites.{EndsBefore, GoesTo, HaveSites, IsNextCall, IsSiteOf, StandsAt, MakesSite, MakesValue, ValuesTo, GivesValue, built_sites, call_number, input_ids, input_terms, value_sites}
+use Rattle.core_builder.specs.VisitedSites.{EndsBefore, GoesTo, HaveSites, IsNextCall, IsSiteOf, BuilderStandsAt, MakesSite, MakesValue, ValuesTo, GivesValue, built_sites, call_number, input_ids, input_terms, value_sites}
 use Rattle.core_builder.specs.declared.ruleset_builder.RuleSetBuilder.{RuleSetBuilder}
 use Rattle.core_builder.proofs.CallNumbers.{result_number}
 use Rattle.core_builder.proofs.BuilderFields.{making_twice, goes_further, site_stays, ends_later}
@@ -64,7 +64,7 @@ called_makes : (pure : Bool) (u : SiteTerm) (w : Visit) → (if pure then w else
 called_makes true u w = refl
 called_makes false u w = refl
 
-module _ (before : List SiteTerm) (old : RuleSetBuilder) (v : Visit) (flags : Flags) (pure : Bool) (is : flags.pure ≡ pure) (t : ℕ) (args : SiteTerms) (i : ℕ) (h : StandsAt before old v)
+module _ (before : List SiteTerm) (old : RuleSetBuilder) (v : Visit) (flags : Flags) (pure : Bool) (is : flags.pure ≡ pure) (t : ℕ) (args : SiteTerms) (i : ℕ) (h : BuilderStandsAt before old v)
     (own : i ≡ (if pure then 0 else suc (length old.impure.items))) where
   abbrev Call : SiteTerm
   Call = constructor_call t args i
@@ -95,14 +95,14 @@ module _ (before : List SiteTerm) (old : RuleSetBuilder) (v : Visit) (flags : Fl
 
   module _ (a : RuleSetBuilder) (s : ℕ) (m : MakesSite before old a v Call s) where
     pub making_ends : (b : RuleSetBuilder) (e : VisitFault)
-        → ((w : Visit) → StandsAt before a w → s < length (built_sites a) → EndsBefore before b (making (value_sites flags (unfold_site (built_sites a) s)) w) e)
+        → ((w : Visit) → BuilderStandsAt before a w → s < length (built_sites a) → EndsBefore before b (making (value_sites flags (unfold_site (built_sites a) s)) w) e)
         → EndsBefore before b (visit_call flags t args v).visit e
     making_ends b e full = value_ends b e (subst (λ u. EndsBefore before b (making (value_sites flags u) Begun) e) m.site.number (full Begun m.goes.stands m.site.within))
 
     -- the whole call
-    pub call_valued : (b c d : RuleSetBuilder) (n : ℕ) → ((w : Visit) → StandsAt before a w → s < length (built_sites a) → MakesValue before a b flags (unfold_site (built_sites a) s) w n)
-        → ((w : Visit) → StandsAt before b w → s < length (built_sites b) → GoesTo before b c (where_multi flags (unfold_site (built_sites b) s) w))
-        → ((w : Visit) → StandsAt before c w → n < length (built_sites c) → (pure ≡ false → IsNextCall c w n) → GoesTo before c d (if pure then w else calling (unfold_site (built_sites c) n) w))
+    pub call_valued : (b c d : RuleSetBuilder) (n : ℕ) → ((w : Visit) → BuilderStandsAt before a w → s < length (built_sites a) → MakesValue before a b flags (unfold_site (built_sites a) s) w n)
+        → ((w : Visit) → BuilderStandsAt before b w → s < length (built_sites b) → GoesTo before b c (where_multi flags (unfold_site (built_sites b) s) w))
+        → ((w : Visit) → BuilderStandsAt before c w → n < length (built_sites c) → (pure ≡ false → IsNextCall c w n) → GoesTo before c d (if pure then w else calling (unfold_site (built_sites c) n) w))
         → ValuesTo before old d (visit_call flags t args v) n
     call_valued b c d n make over call =
         let w : MakesValue before a b flags Call Begun n = subst (λ u. MakesValue before a b flags u Begun n) m.site.number (make Begun m.goes.stands m.site.within) in
@@ -126,7 +126,7 @@ ids_typed (x ∷ xs) = ap (λ l. x.0 ∷ l) (ids_typed xs)
 
 -- a value is made of those that are handed over
 pub gives_made : (old new : RuleSetBuilder) (r : Result ℕ VisitFault) (whole : SiteTerms → SiteTerm) (ids : List ℕ) (xs : List (ℕ × TypeId)) → ids ≡ map (λ x. x.0) xs → HaveSites old (typed_inputs xs)
-    → (((a : ℕ) → Contains ids a → a < length (built_sites old)) → (before : List SiteTerm) (v : Visit) → StandsAt before old v
+    → (((a : ℕ) → Contains ids a → a < length (built_sites old)) → (before : List SiteTerm) (v : Visit) → BuilderStandsAt before old v
     → IfOk r (MakesSite before old new v (whole (each_term (unfold_site (built_sites old)) ids))) × IfErr r (EndsBefore before new (making (whole (each_term (unfold_site (built_sites old)) ids) ∷ []) v)))
     → GivesValue old new r (value_made_of (whole (input_terms old (typed_inputs xs))))
 gives_made old new r whole ids xs same known makes =

@@ -17,7 +17,7 @@ use Rattle.core_syntax.specs.declared.syntax.Limit.TheVariants as Limits
 use Rattle.core_syntax.specs.declared.visit_fault.VisitFault.{VisitFault}
 use Rattle.model.proofs.Members.{in_alone}
 use Rattle.core_rule_sets.specs.SiteTables.{AreFirst, HasSources, IsTable}
-use Rattle.core_builder.specs.VisitedSites.{built_sites, part_of, part_site, IsSiteOf, AreSitesOf, StandsAt, GoesTo, MakesSite, MakesAll, OpensTo, EndsBefore, EndsOpening, AnswersTo, answer_of, answered}
+use Rattle.core_builder.specs.VisitedSites.{built_sites, part_of, part_site, IsSiteOf, AreSitesOf, BuilderStandsAt, GoesTo, MakesSite, MakesAll, OpensTo, EndsBefore, EndsOpening, AnswersTo, answer_of, answered}
 use Rattle.core_builder.specs.declared.builder_patterns.Parts.{Parts}
 use Rattle.core_builder.specs.declared.builder_patterns.Parts.TheVariants as AllParts
 use Rattle.core_builder.specs.declared.ruleset_builder.RuleSetBuilder.{RuleSetBuilder}
@@ -33,7 +33,7 @@ pub making_none : (v : Visit) → making [] v ≡ v
 making_none v = λ i. record v { demands = record v.demands { made = append-nil v.demands.made i } }
 
 -- 2. states that follow one another
-pub goes_nowhere : (before : List SiteTerm) (b : RuleSetBuilder) (v : Visit) → StandsAt before b v → GoesTo before b b v
+pub goes_nowhere : (before : List SiteTerm) (b : RuleSetBuilder) (v : Visit) → BuilderStandsAt before b v → GoesTo before b b v
 goes_nowhere before b v h = record { stands = h; kept = λ s l. refl; longer = omega arith }
 
 pub goes_further : (before : List SiteTerm) (old now new : RuleSetBuilder) (v w : Visit) → GoesTo before old now v → GoesTo before now new w → GoesTo before old new w
@@ -54,7 +54,7 @@ pub site_stays : (before : List SiteTerm) (old new : RuleSetBuilder) (v : Visit)
 site_stays before old new v u n g k = let l = k.within in let m = g.longer in record { within = omega (arith, l, m); number = g.kept n l ∙ k.number }
 
 -- 3. sites made so far
-pub none_made : (before : List SiteTerm) (b : RuleSetBuilder) (v : Visit) → StandsAt before b v → MakesAll before b b v [] []
+pub none_made : (before : List SiteTerm) (b : RuleSetBuilder) (v : Visit) → BuilderStandsAt before b v → MakesAll before b b v [] []
 none_made before b v h = record {
   goes = subst (GoesTo before b b) (sym (making_none v)) (goes_nowhere before b v h);
   sites = record { within = All-nil (λ n. n < length (built_sites b)); numbers = refl };
@@ -153,7 +153,7 @@ module _ (before : List SiteTerm) (old now : RuleSetBuilder) (v : Visit) (parts 
 -- so many are counted and made, and then it is asked to have them
 pub fields_open : (before : List SiteTerm) (old mid new : RuleSetBuilder) (v : Visit) (c : Constraint) (count s : ℕ) (ids : List ℕ) → s < length (built_sites old)
     → MakesAll before old mid (counting (fields_matched count) v) (field_terms c (unfold_site (built_sites old) s)) ids
-    → ((w : Visit) → StandsAt before mid w → s < length (built_sites mid) → GoesTo before mid new (asking (unfold_site (built_sites mid) s) c w))
+    → ((w : Visit) → BuilderStandsAt before mid w → s < length (built_sites mid) → GoesTo before mid new (asking (unfold_site (built_sites mid) s) c w))
     → OpensTo before old new (fields_opened c count (unfold_site (built_sites old) s) v) ids
 fields_open before old mid new v c count s ids l m ask =
     let u = unfold_site (built_sites old) s in
@@ -171,14 +171,14 @@ module _ (before : List SiteTerm) (b : RuleSetBuilder) (v : Visit) (u : SiteTerm
   abbrev Counted : ℕ → Visit
   Counted n = counting (outputs_taken n) v
 
-  pub no_outputs : (args : TypedPatterns) → pattern_count args ≡ 0 → StandsAt before b (Counted (pattern_count args)) → OpensTo before b b (outputs_opened u args v) []
+  pub no_outputs : (args : TypedPatterns) → pattern_count args ≡ 0 → BuilderStandsAt before b (Counted (pattern_count args)) → OpensTo before b b (outputs_opened u args v) []
   no_outputs no_typed_pattern e h = record {
     goes = subst (GoesTo before b b) (sym (making_none (Counted 0))) (goes_nowhere before b (Counted 0) h);
     inputs = record { within = All-nil (λ n. n < length (built_sites b)); numbers = refl };
   }
   no_outputs (typed_pattern_and q qs) e h = absurd (omega (arith, e))
 
-  pub one_output : (args : TypedPatterns) (s : ℕ) → pattern_count args ≡ 1 → StandsAt before b (Counted (pattern_count args)) → IsSiteOf b u s → OpensTo before b b (outputs_opened u args v) (s ∷ [])
+  pub one_output : (args : TypedPatterns) (s : ℕ) → pattern_count args ≡ 1 → BuilderStandsAt before b (Counted (pattern_count args)) → IsSiteOf b u s → OpensTo before b b (outputs_opened u args v) (s ∷ [])
   one_output no_typed_pattern s e h site = absurd (omega (arith, e))
   one_output (typed_pattern_and q no_typed_pattern) s e h site = record {
     goes = subst (GoesTo before b b) (sym (making_none (Counted 1))) (goes_nowhere before b (Counted 1) h);
@@ -215,7 +215,7 @@ module _ (before : List SiteTerm) (old new : RuleSetBuilder) (v : Visit) (u : Si
 -- 8. answers of a call
 pub many_answered : (before : List SiteTerm) (old mid new : RuleSetBuilder) (v : Visit) (s n : ℕ) (u : SiteTerm) → s < length (built_sites old) → u ≡ unfold_site (built_sites old) s
     → MakesSite before old mid v (pick_of u) n
-    → ((w : Visit) → StandsAt before mid w → s < length (built_sites mid) → GoesTo before mid new (iterating (unfold_site (built_sites mid) s) w))
+    → ((w : Visit) → BuilderStandsAt before mid w → s < length (built_sites mid) → GoesTo before mid new (iterating (unfold_site (built_sites mid) s) w))
     → GoesTo before old new (iterating u (making (pick_of u ∷ []) v)) × IsSiteOf new (pick_of u) n
 many_answered before old mid new v s n u l is m next =
     let w = making (pick_of u ∷ []) v in
@@ -227,7 +227,7 @@ many_answered before old mid new v s n u l is m next =
 
 pub some_answered : (before : List SiteTerm) (old mid new : RuleSetBuilder) (v : Visit) (s n : ℕ) (u : SiteTerm) → s < length (built_sites old) → u ≡ unfold_site (built_sites old) s
     → MakesSite before old mid v (some_part u) n
-    → ((w : Visit) → StandsAt before mid w → s < length (built_sites mid) → GoesTo before mid new (asking (unfold_site (built_sites mid) s) is_present w))
+    → ((w : Visit) → BuilderStandsAt before mid w → s < length (built_sites mid) → GoesTo before mid new (asking (unfold_site (built_sites mid) s) is_present w))
     → GoesTo before old new (asking u is_present (making (some_part u ∷ []) v)) × IsSiteOf new (some_part u) n
 some_answered before old mid new v s n u l is m next =
     let w = making (some_part u ∷ []) v in
@@ -291,19 +291,19 @@ module _ (before : List SiteTerm) (v : Visit) (flags : Flags) (multi infallible 
 
   module _ (old mid : RuleSetBuilder) (s : ℕ) (m : MakesSite before old mid v call s) where
     pub answer_ends : (args : TypedPatterns) (count : ℕ) (b : RuleSetBuilder) (e : VisitFault)
-        → ((w : Visit) → StandsAt before mid w → s < length (built_sites mid) → EndsBefore before b (answered multi infallible (unfold_site (built_sites mid) s) w) e) → EndsCall b count args e
+        → ((w : Visit) → BuilderStandsAt before mid w → s < length (built_sites mid) → EndsBefore before b (answered multi infallible (unfold_site (built_sites mid) s) w) e) → EndsCall b count args e
     answer_ends args count b e full =
         let h = subst (λ u. EndsBefore before b (answered multi infallible u Call) e) m.site.number (full Call m.goes.stands m.site.within) in
         opening_ends before b (Wanted args).visit Answered Limits.Outputs most_outputs count e
         (ends_later before b Answered (Wanted args).visit (part_sites (answer_of multi infallible call) args) e (ap (λ (q : Opened). q.visit.demands.made) (sym (call_same args))) h) h
 
     -- the call is made and has answered, and its outputs follow
-    module _ (now : RuleSetBuilder) (n : ℕ) (next : (w : Visit) → StandsAt before mid w → s < length (built_sites mid) → AnswersTo before mid now multi infallible (unfold_site (built_sites mid) s) w n)
+    module _ (now : RuleSetBuilder) (n : ℕ) (next : (w : Visit) → BuilderStandsAt before mid w → s < length (built_sites mid) → AnswersTo before mid now multi infallible (unfold_site (built_sites mid) s) w n)
         (new : RuleSetBuilder) (r : Result (Vec ℕ) VisitFault) (args : TypedPatterns) (count : ℕ) where
       answers : AnswersTo before mid now multi infallible call Call n
       answers = subst (λ u. AnswersTo before mid now multi infallible u Call n) m.site.number (next Call m.goes.stands m.site.within)
 
-      pub call_opens : (StandsAt before now Answered → n < length (built_sites now) → IfOk r (λ ids. (count ≤ most_outputs) × OpensTo before now new (outputs_opened (unfold_site (built_sites now) n) args Answered) ids.items))
+      pub call_opens : (BuilderStandsAt before now Answered → n < length (built_sites now) → IfOk r (λ ids. (count ≤ most_outputs) × OpensTo before now new (outputs_opened (unfold_site (built_sites now) n) args Answered) ids.items))
           → IfOk r (λ ids. (count ≤ most_outputs) × OpensTo before old new (Wanted args) ids.items)
       call_opens opened =
           weaker_ok (λ ids. (count ≤ most_outputs) × OpensTo before now new (outputs_opened (unfold_site (built_sites now) n) args Answered) ids.items)
@@ -319,7 +319,7 @@ module _ (before : List SiteTerm) (v : Visit) (flags : Flags) (multi infallible 
                 inputs = o.inputs;
               })
 
-      pub outputs_end : (StandsAt before now Answered → n < length (built_sites now)
+      pub outputs_end : (BuilderStandsAt before now Answered → n < length (built_sites now)
           → IfErr r (EndsOpening before new (outputs_opened (unfold_site (built_sites now) n) args Answered).visit Limits.Outputs most_outputs count Answered)) → IfErr r (EndsCall new count args)
       outputs_end full =
           IfErr-weaker r (EndsOpening before new (outputs_opened (unfold_site (built_sites now) n) args Answered).visit Limits.Outputs most_outputs count Answered) (EndsCall new count args)

@@ -22,14 +22,14 @@ use Rattle.core_builder.specs.contracts.builder_patterns.RuleSetBuilderPatternVi
 use Rattle.core_builder.specs.contracts.builder_exprs.RuleSetBuilderExprVisitor.TheImpl as Exprs
 use Rattle.core_builder.specs.contracts.builder_rules.RuleSetBuilderRuleVisitor.TheImpl as Rules
 use Rattle.core_builder.specs.declared.ruleset_builder.RuleSetBuilder.{RuleSetBuilder}
-use Rattle.core_builder.specs.VisitedSites.{AreSitesOf, EndsBefore, EndsOpening, EndsVisit, GoesTo, HaveSites, IsSiteOf, OpensTo, StandsAt, ValuesTo, answered, built_sites, input_terms}
+use Rattle.core_builder.specs.VisitedSites.{AreSitesOf, EndsBefore, EndsOpening, EndsVisit, GoesTo, HaveSites, IsSiteOf, OpensTo, BuilderStandsAt, ValuesTo, answered, built_sites, input_terms}
 use Rattle.core_builder.proofs.BuilderFields.{site_stays}
 use Rattle.core_builder.proofs.BuilderSteps.{bound_stands}
 use Rattle.core_builder.proofs.EndedSteps.{argument_ends, ends_further, ends_visit, fields_end, outputs_end}
 
 -- 1. how it stands to visits of sites, after these sites of the term's rules before
 abbrev pub follower : List SiteTerm → Follower VisitFault RuleSetBuilder ℕ
-follower before = record { Stands = StandsAt before; Names = IsSiteOf; Ends = EndsVisit before }
+follower before = record { Stands = BuilderStandsAt before; Names = IsSiteOf; Ends = EndsVisit before }
 
 module _ (before : List SiteTerm) (s t : RuleSetBuilder) where
   goes : (v : Visit) → GoesTo before s t v → Goes (follower before) s t v
@@ -136,12 +136,12 @@ module _ (before : List SiteTerm) where
         outputs s w u n term (length tys) infallible multi r t h site (step before w flags (any_parts (length tys)) h site.within refl (any_count (length tys)));
   }
     where
-      asked : (s : RuleSetBuilder) (w : Visit) (u : SiteTerm) (n : ℕ) (c : Constraint) (r : Result (Unit {0}) VisitFault) (t : RuleSetBuilder) → StandsAt before s w → IsSiteOf s u n
+      asked : (s : RuleSetBuilder) (w : Visit) (u : SiteTerm) (n : ℕ) (c : Constraint) (r : Result (Unit {0}) VisitFault) (t : RuleSetBuilder) → BuilderStandsAt before s w → IsSiteOf s u n
           → MatchResult r (λ k. GoesTo before s t (asking (unfold_site (built_sites s) n) c w)) (EndsBefore before t (asking (unfold_site (built_sites s) n) c w)) → GoesOn (follower before) s r t (asking u c w)
       asked s w u n c r t h site q =
           goes_on before s t r (asking u c w) h.few (subst (λ x. MatchResult r (λ k. GoesTo before s t (asking x c w)) (EndsBefore before t (asking x c w))) site.number q)
 
-      fields : (s : RuleSetBuilder) (w : Visit) (u : SiteTerm) (n : ℕ) (c : Constraint) (count : ℕ) (r : Result (List ℕ) VisitFault) (t : RuleSetBuilder) → StandsAt before s w → IsSiteOf s u n
+      fields : (s : RuleSetBuilder) (w : Visit) (u : SiteTerm) (n : ℕ) (c : Constraint) (count : ℕ) (r : Result (List ℕ) VisitFault) (t : RuleSetBuilder) → BuilderStandsAt before s w → IsSiteOf s u n
           → MatchResult r (λ ids. (count ≤ most_fields) × OpensTo before s t (fields_opened c count (unfold_site (built_sites s) n) w) ids)
           (EndsOpening before t (fields_opened c count (unfold_site (built_sites s) n) w).visit Limits.Fields most_fields count w) → GivesParts (follower before) s r t (fields_opened c count u w)
       fields s w u n c count r t h site q =
@@ -150,7 +150,7 @@ module _ (before : List SiteTerm) where
           (EndsVisit before t (fields_opened c count u w).visit) r (λ e k. fields_end before t w c count u e h.few k)
           (subst (λ x. MatchResult r (λ ids. (count ≤ most_fields) × OpensTo before s t (fields_opened c count x w) ids) (EndsOpening before t (fields_opened c count x w).visit Limits.Fields most_fields count w)) site.number q))
 
-      outputs : (s : RuleSetBuilder) (w : Visit) (u : SiteTerm) (n term count : ℕ) (infallible multi : Bool) (r : Result (List ℕ) VisitFault) (t : RuleSetBuilder) → StandsAt before s w → IsSiteOf s u n
+      outputs : (s : RuleSetBuilder) (w : Visit) (u : SiteTerm) (n term count : ℕ) (infallible multi : Bool) (r : Result (List ℕ) VisitFault) (t : RuleSetBuilder) → BuilderStandsAt before s w → IsSiteOf s u n
           → MatchResult r (λ ids. (count ≤ most_outputs) × OpensTo before s t (extractor_opened term count infallible multi (unfold_site (built_sites s) n) w) ids)
           (EndsOpening before t (extractor_opened term count infallible multi (unfold_site (built_sites s) n) w).visit Limits.Outputs most_outputs count (answered_call multi infallible (extractor_call term (unfold_site (built_sites s) n)) w))
           → GivesParts (follower before) s r t (extractor_opened term count infallible multi u w)
@@ -194,13 +194,13 @@ module _ (before : List SiteTerm) where
     leave_expr = λ l s t step. step;
   }
     where
-      taken : (s : RuleSetBuilder) (w : Visit) (i : ℕ) (r : Result ℕ VisitFault) (t : RuleSetBuilder) → StandsAt before s w
+      taken : (s : RuleSetBuilder) (w : Visit) (i : ℕ) (r : Result ℕ VisitFault) (t : RuleSetBuilder) → BuilderStandsAt before s w
           → MatchResult r (λ n. (i < most_arguments) × ValuesTo before s t (valued (argument i) (taking_argument i w)) n) (EndsOpening before t (taking_argument i w) Limits.Arguments most_arguments (suc i) w)
           → Gives (follower before) s r t (valued (argument i) (taking_argument i w))
       taken s w i (Ok n) t h q = (goes before s t (taking_argument i w) q.1.goes, q.1.site)
       taken s w i (Err e) t h q = argument_ends before t w i e h.few q
 
-      matched : (s : RuleSetBuilder) (w : Visit) (u : SiteTerm) (n : ℕ) (r : Result ℕ VisitFault) (t : RuleSetBuilder) → StandsAt before s w → IsSiteOf s u n
+      matched : (s : RuleSetBuilder) (w : Visit) (u : SiteTerm) (n : ℕ) (r : Result ℕ VisitFault) (t : RuleSetBuilder) → BuilderStandsAt before s w → IsSiteOf s u n
           → (let v = asking_all (unwraps (unfold_site (built_sites s) n)) w in MatchResult r (λ m. (m ≡ n) × GoesTo before s t v) (EndsBefore before t v))
           → Gives (follower before) s r t (valued u (asking_all (unwraps u) w))
       matched s w u n (Ok m) t h site q =

@@ -23,7 +23,7 @@ use Rattle.core_rule_sets.specs.SiteDemands.{constraint_held, are_equated, first
 use Rattle.core_rule_sets.specs.SiteTables.{AreFirst, ForWantOfRoom, HasNoRoom, HasSources, IsTable, StandsFor, table_sites}
 use Rattle.core_rule_sets.specs.SiteViews.{constraint_view}
 use Rattle.core_rule_sets.specs.Closings.{AreDemandsOf, KeepsDue}
-use Rattle.core_builder.specs.VisitedSites.{AreAnswered, AreCallsNumbered, AsksUnwrapped, IsNextCall, built_sites, conflict_beside, conflict_view, StandsAt, GoesTo, MakesSite, EndsBefore}
+use Rattle.core_builder.specs.VisitedSites.{AreAnswered, AreCallsNumbered, AsksUnwrapped, IsNextCall, built_sites, conflict_beside, conflict_view, BuilderStandsAt, GoesTo, MakesSite, EndsBefore}
 use Rattle.core_syntax.specs.declared.visit_fault.VisitFault.{VisitFault}
 use Rattle.core_rule_sets.specs.declared.trie_again.Constraint as C
 use Rattle.core_rule_sets.specs.declared.demanded.Demanded.{Demanded}
@@ -117,7 +117,7 @@ module _ (before : List SiteTerm) (v : Visit) where
       ]
 
   -- the constraint of a site is the first that the visit asked
-  held_first : (b : RuleSetBuilder) → StandsAt before b v → (s : ℕ) → s < length (built_sites b)
+  held_first : (b : RuleSetBuilder) → BuilderStandsAt before b v → (s : ℕ) → s < length (built_sites b)
       → constraint_held b.demanded s ≡ constraint_of v.demands.constraints (unfold_site (built_sites b) s)
   held_first b h s l = h.demands.asked s l ∙ firsts_same v.demands.constraints [] (unfold_site (built_sites b) s)
 
@@ -125,7 +125,7 @@ module _ (before : List SiteTerm) (v : Visit) where
 abbrev pub with_table : RuleSetBuilder → SiteTable → RuleSetBuilder
 with_table b t = record b { table = t }
 
-module _ (before : List SiteTerm) (b : RuleSetBuilder) (t : SiteTable) (v : Visit) (s : Site) (n : ℕ) (h : StandsAt before b v) (table : IsTable t)
+module _ (before : List SiteTerm) (b : RuleSetBuilder) (t : SiteTable) (v : Visit) (s : Site) (n : ℕ) (h : BuilderStandsAt before b v) (table : IsTable t)
     (longer : length (built_sites b) ≤ length (table_sites t))
     (stand : (terms : List SiteTerm) → IsDistinct terms → StandFor (built_sites b) terms → StandsFor (built_sites b) (table_sites t) terms s n) where
   abbrev u : SiteTerm
@@ -161,7 +161,7 @@ module _ (before : List SiteTerm) (b : RuleSetBuilder) (t : SiteTable) (v : Visi
   }
 
 -- there is no room for it
-pub site_ends : (before : List SiteTerm) (b : RuleSetBuilder) (t : SiteTable) (v : Visit) (s : Site) (e : VisitFault) → StandsAt before b v → HasSources (built_sites b) s
+pub site_ends : (before : List SiteTerm) (b : RuleSetBuilder) (t : SiteTable) (v : Visit) (s : Site) (e : VisitFault) → BuilderStandsAt before b v → HasSources (built_sites b) s
     → HasNoRoom (built_sites b) (table_sites t) s e → ForWantOfRoom (IsTable t) e → EndsBefore before (with_table b t) (making (layer (unfold_site (built_sites b)) s ∷ []) v) e
 site_ends before b t v s e h below none table =
     let us = layer (unfold_site (built_sites b)) s ∷ [] in
@@ -175,7 +175,7 @@ site_ends before b t v s e h below none table =
 abbrev pub with_demanded : RuleSetBuilder → Demanded → Vec (C.Constraint × C.Constraint) → RuleSetBuilder
 with_demanded b e w = record b { demanded = e; conflicts = w }
 
-module _ (before : List SiteTerm) (b : RuleSetBuilder) (v : Visit) (h : StandsAt before b v) where
+module _ (before : List SiteTerm) (b : RuleSetBuilder) (v : Visit) (h : BuilderStandsAt before b v) where
   abbrev sites : List Site
   sites = built_sites b
 
@@ -307,7 +307,7 @@ ok_both P Q (Ok x) p q = (p, q)
 ok_both P Q (Err e) p q = tt
 
 -- 6. a variable is bound
-pub bound_stands : (before : List SiteTerm) (b : RuleSetBuilder) (v : Visit) (x : ℕ) (u : SiteTerm) → StandsAt before b v → StandsAt before b (binding x u v)
+pub bound_stands : (before : List SiteTerm) (b : RuleSetBuilder) (v : Visit) (x : ℕ) (u : SiteTerm) → BuilderStandsAt before b v → BuilderStandsAt before b (binding x u v)
 bound_stands before b v x u h = record {
   table = h.table;
   due = h.due;
@@ -336,7 +336,7 @@ argument_passes i l = cond-true (nat_lt i most_arguments) None (Some arguments_l
 pub one_more_count : (cs : List (Count × ℕ)) (c : Count) (n : ℕ) → first_passed cs ≡ None → first_passed (cs ++ (c, n) ∷ []) ≡ passed_or_later (passed_by c) n None
 one_more_count cs c n none = passed_after cs ((c, n) ∷ []) none
 
-pub counted_stands : (before : List SiteTerm) (b : RuleSetBuilder) (v : Visit) (c : Count) → StandsAt before b v → passed_by c ≡ None → StandsAt before b (counting c v)
+pub counted_stands : (before : List SiteTerm) (b : RuleSetBuilder) (v : Visit) (c : Count) → BuilderStandsAt before b v → passed_by c ≡ None → BuilderStandsAt before b (counting c v)
 counted_stands before b v c h none = record {
   table = h.table;
   due = h.due;
@@ -356,7 +356,7 @@ pub nothing_answered : (sites : List Site) (v : Visit) (none : Members ℕ) → 
 nothing_answered sites v none e s t = absurd (false≢true (sym (e s) ∙ t))
 
 pub nothing_visited : (before : List SiteTerm) (b : RuleSetBuilder) → IsTable b.table → KeepsDue b.demanded → IsDistinct before → StandFor (built_sites b) before → ((s : ℕ) → constraint_held b.demanded s ≡ None)
-    → ((p q : ℕ) → are_equated b.demanded p q ≡ false) → b.conflicts.items ≡ [] → ((x : ℕ) → contains ◌==◌ b.iterators x ≡ false) → b.impure.items ≡ [] → ((x : ℕ) → contains ◌==◌ b.answered x ≡ false) → StandsAt before b visit_start
+    → ((p q : ℕ) → are_equated b.demanded p q ≡ false) → b.conflicts.items ≡ [] → ((x : ℕ) → contains ◌==◌ b.iterators x ≡ false) → b.impure.items ≡ [] → ((x : ℕ) → contains ◌==◌ b.answered x ≡ false) → BuilderStandsAt before b visit_start
 nothing_visited before b table due once stand asked equal no_conflict no_iterator no_call no_answer = record {
   table = table;
   due = due;

@@ -9,7 +9,7 @@ use Rattle.model.specs.visits.Demands.{Visit, call_result}
 use Rattle.model.specs.sites.Closure.{before_closing}
 use Rattle.model.proofs.DistinctCounts.{no_more_distinct}
 use Rattle.model.proofs.Elements.{In, in_slice, none_some, some_is}
-use Rattle.core_builder.specs.VisitedSites.{AreCallsNumbered, StandsAt, built_sites, call_number}
+use Rattle.core_builder.specs.VisitedSites.{AreCallsNumbered, BuilderStandsAt, built_sites, call_number}
 use Rattle.core_builder.specs.declared.ruleset_builder.RuleSetBuilder.{RuleSetBuilder}
 
 -- before any call
@@ -41,7 +41,7 @@ each_among f made n all [] w u i = absurd i
 each_among f made n all (s ∷ ss) w u (inl e) = subst (In made) e (all s (All-head (λ t. t < n) s ss w))
 each_among f made n all (s ∷ ss) w u (inr i) = each_among f made n all ss (All-tail (λ t. t < n) s ss w) u i
 
-module _ (before : List SiteTerm) (b : RuleSetBuilder) (v : Visit) (h : StandsAt before b v) where
+module _ (before : List SiteTerm) (b : RuleSetBuilder) (v : Visit) (h : BuilderStandsAt before b v) where
   pub calls_met : length v.demands.impure ≡ v.impure_calls
   calls_met = ap length (sym h.impure.numbers) ∙ length-map b.impure.items (unfold_site (built_sites b)) ∙ h.calls
 

@@ -19,7 +19,7 @@ use Rattle.core_builder.specs.contracts.builder_patterns.RuleSetBuilderPatternVi
 use Rattle.core_builder.specs.contracts.builder_exprs.RuleSetBuilderExprVisitor.TheImpl as Exprs
 use Rattle.core_builder.specs.contracts.builder_rules.RuleSetBuilderRuleVisitor.TheImpl as Rules
 use Rattle.core_builder.specs.declared.ruleset_builder.RuleSetBuilder.{RuleSetBuilder}
-use Rattle.core_builder.specs.VisitedSites.{EndsAtLimit, EndsBefore, EndsVisit, StandsAt, ValuesTo, built_sites}
+use Rattle.core_builder.specs.VisitedSites.{EndsAtLimit, EndsBefore, EndsVisit, BuilderStandsAt, ValuesTo, built_sites}
 use Rattle.core_builder.proofs.BuilderFields.{goes_further}
 use Rattle.core_builder.proofs.BuilderFollows.{builder_follows, follower, went}
 use Rattle.core_builder.proofs.EndedRules.{visit_ends}
@@ -32,7 +32,7 @@ finish_continues true a = continues_making (some_made a.site ∷ []) a.visit a.v
 
 module _ (p : Program) (before : List SiteTerm) (r : TypedRule) where
   -- the builder's visit
-  pub rule_seen : (s t : RuleSetBuilder) {terms : List TermEntry} → p.terms ≡ terms → is_formed_rule p r ≡ true → StandsAt before s visit_start
+  pub rule_seen : (s t : RuleSetBuilder) {terms : List TermEntry} → p.terms ≡ terms → is_formed_rule p r ≡ true → BuilderStandsAt before s visit_start
       → (a : Result ℕ VisitFault) → RuleRun no_memory (rule_steps Rules.ghosts) (pattern_steps Patterns.ghosts) (expr_steps Exprs.ghosts) terms r s a t → Gives (follower before) s a t (value_of_rule p r)
   rule_seen s t same formed h a run =
       visits_follow_lem VisitFault RuleSetBuilder ℕ (follower before) no_memory (rule_steps Rules.ghosts) (pattern_steps Patterns.ghosts) (expr_steps Exprs.ghosts) (builder_follows before) p r s a t formed h
@@ -46,7 +46,7 @@ module _ (p : Program) (before : List SiteTerm) (r : TypedRule) where
   -- its result, in a partial term one that is there
   module _ (old mid new : RuleSetBuilder) (value : ℕ) where
     pub rule_finished : (partial : Bool) (result : Result ℕ VisitFault) → partial ≡ is_partial p r.root_term → Gives (follower before) old (Ok value) mid (value_of_rule p r)
-        → ((w : Visit) → StandsAt before mid w → value < length (built_sites mid) → IfOk result (ValuesTo before mid new (finished partial (valued (unfold_site (built_sites mid) value) w))))
+        → ((w : Visit) → BuilderStandsAt before mid w → value < length (built_sites mid) → IfOk result (ValuesTo before mid new (finished partial (valued (unfold_site (built_sites mid) value) w))))
         → IfOk result (ValuesTo before old new (visit_rule p r))
     rule_finished partial (Err e) is v finish = tt
     rule_finished partial (Ok n) is v finish =
@@ -55,7 +55,7 @@ module _ (p : Program) (before : List SiteTerm) (r : TypedRule) where
         record { goes = goes_further before old mid new a.visit (visit_rule p r).visit (went before old mid a.visit v.0) made.goes; site = made.site }
 
     pub rule_full : (partial : Bool) (result : Result ℕ VisitFault) → partial ≡ is_partial p r.root_term → Gives (follower before) old (Ok value) mid (value_of_rule p r)
-        → ((w : Visit) → StandsAt before mid w → value < length (built_sites mid) → IfErr result (EndsBefore before new (finished partial (valued (unfold_site (built_sites mid) value) w)).visit))
+        → ((w : Visit) → BuilderStandsAt before mid w → value < length (built_sites mid) → IfErr result (EndsBefore before new (finished partial (valued (unfold_site (built_sites mid) value) w)).visit))
         → IfErr result (EndsAtLimit p before r new)
     rule_full partial (Ok n) is v finish = tt
     rule_full partial (Err e) is v finish =

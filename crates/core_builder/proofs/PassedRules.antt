@@ -25,7 +25,7 @@ use Rattle.core_rule_sets.specs.Closings.{GoOn}
 use Rattle.core_rule_sets.specs.SiteTables.{AreFirst, IsTable}
 use Rattle.core_rule_sets.specs.SiteViews.{member_sites}
 use Rattle.core_builder.specs.AddedRules.{IsListed}
-use Rattle.core_builder.specs.VisitedSites.{IsSiteOf, MeetsLimit, StandsAt, built_sites}
+use Rattle.core_builder.specs.VisitedSites.{IsSiteOf, MeetsLimit, BuilderStandsAt, built_sites}
 use Rattle.core_builder.specs.declared.ruleset_builder.RuleSetBuilder.{RuleSetBuilder}
 use Rattle.core_builder.proofs.EndedRules.{too_many}
 use Rattle.core_builder.proofs.GrownSites.{StayFirst, stays_closed, stays_in_front, table_grown}
@@ -55,7 +55,7 @@ module _ (p : Program) (before : List SiteTerm) (r : TypedRule) (rules : List Se
       limit_met limit (table_grown old b.table whole (sites_after_rule p before r) m.sites.table stand m.sites.stand stay) m.first m.sites.stand refl
 
   -- 2. the rule can't be reached
-  module _ (b : RuleSetBuilder) (h : StandsAt before b (visit_rule p r).visit) where
+  module _ (b : RuleSetBuilder) (h : BuilderStandsAt before b (visit_rule p r).visit) where
     no_limit : (wanted : List SiteTerm) → sites_wanted p before r ≡ wanted → (sites : List Site) → length sites ≤ most_sites → StandFor sites wanted → first_limit p before r ≡ None
     no_limit wanted e sites few stand =
         (limits_are_met_lem p before r).none h.few (subst (λ ts. length ts ≤ most_sites) (sym e) (let n = stand.count in omega (arith, n, few)))

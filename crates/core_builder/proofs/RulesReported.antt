@@ -28,7 +28,7 @@ use Rattle.core_rule_sets.specs.SiteViews.{set_rule_views}
 use Rattle.core_rule_sets.specs.Verdicts.{AreVisited}
 use Rattle.core_rule_sets.specs.declared.trie_again.Constraint.{Constraint}
 use Rattle.core_builder.specs.AddedRules.{AddsListed, ReportsLimit, SetGoesOn, report_views, set_so_far, unreachable_each}
-use Rattle.core_builder.specs.VisitedSites.{EndsAtLimit, IsSiteOf, MeetsLimit, StandsAt, built_sites, conflict_view}
+use Rattle.core_builder.specs.VisitedSites.{EndsAtLimit, IsSiteOf, MeetsLimit, BuilderStandsAt, built_sites, conflict_view}
 use Rattle.core_builder.specs.declared.ruleset_builder.RuleSetBuilder.{RuleSetBuilder}
 use Rattle.core_builder.specs.declared.term_sets.TermSet.{TermSet}
 use Rattle.core_builder.proofs.GrownSites.{StayFirst}
@@ -69,7 +69,7 @@ module _ (p : Program) (before : List SiteTerm) (r : TypedRule) (b : RuleSetBuil
       }
 
 -- the closing ends at the limit on sites
-pub closing_ends : (p : Program) (before : List SiteTerm) (r : TypedRule) (rules : List SetRule) (b after : RuleSetBuilder) (h : StandsAt before b (visit_rule p r).visit) (reachable : is_unreachable (demands_of p r) ≡ false)
+pub closing_ends : (p : Program) (before : List SiteTerm) (r : TypedRule) (rules : List SetRule) (b after : RuleSetBuilder) (h : BuilderStandsAt before b (visit_rule p r).visit) (reachable : is_unreachable (demands_of p r) ≡ false)
     → (fault : VisitFault) → ForWantOfRoom (IsTable after.table) fault → EndsFull (built_sites after) (closing most_closing_steps (before_closing before (demands_of p r))) fault → EndsAtLimit p before r after fault
 closing_ends p before r rules b after h reachable (Faults.Memory e) t f = tt
 closing_ends p before r rules b after h reachable (Faults.Limit Limits.Sites) t f = closing_full_met p before r rules b h reachable after t f
@@ -89,7 +89,7 @@ others order d =
 reported_first : (order : List SiteTerm) (d : Demands) (us : List Unreachability) → conflicts_met [] d.constraints ≡ us → reported order d ≡ first_filled us (others order d)
 reported_first order d us e = ap (λ l. first_filled l (others order d)) e
 
-module _ (p : Program) (before : List SiteTerm) (r : TypedRule) (s : TermSet) (h : StandsAt before s.builder (visit_rule p r).visit) (errors more : List Error) (pos : Pos) (at : position pos ≡ r.at) where
+module _ (p : Program) (before : List SiteTerm) (r : TypedRule) (s : TermSet) (h : BuilderStandsAt before s.builder (visit_rule p r).visit) (errors more : List Error) (pos : Pos) (at : position pos ≡ r.at) where
   -- what is reported is one error each
   goes_on_unreachable : {X : Type 0} (f : X → Unreachability) (x : X) (xs : List X) → reported (with_sites before (demands_of p r).made) (demands_of p r) ≡ map f (x ∷ xs)
       → error_views more ≡ error_views errors ++ unreachable_each (x ∷ xs) pos → SetGoesOn p before r s s errors more
@@ -110,13 +110,13 @@ module _ (p : Program) (before : List SiteTerm) (r : TypedRule) (s : TermSet) (h
   goes_on_refused u e rep = goes_on_unreachable (λ w. w) u [] e rep
 
 -- a visit that met no conflict, as the verdict takes it
-pub visited_fields : (p : Program) (before : List SiteTerm) (r : TypedRule) (b : RuleSetBuilder) → StandsAt before b (visit_rule p r).visit → b.conflicts.items ≡ [] → AreVisited (built_sites b) before (demands_of p r) b.demanded
+pub visited_fields : (p : Program) (before : List SiteTerm) (r : TypedRule) (b : RuleSetBuilder) → BuilderStandsAt before b (visit_rule p r).visit → b.conflicts.items ≡ [] → AreVisited (built_sites b) before (demands_of p r) b.demanded
 visited_fields p before r b h e =
     let f = fields_are_given_lem p r in
     record { held = h.demands; agreed = sym h.conflicts ∙ ap (map conflict_view) e; given = f.given; made = f.made }
 
 -- 4. the rule is added
-module _ (p : Program) (before : List SiteTerm) (r : TypedRule) (old : TermSet) (h : StandsAt before old.builder (visit_rule p r).visit) (reachable : is_unreachable (demands_of p r) ≡ false)
+module _ (p : Program) (before : List SiteTerm) (r : TypedRule) (old : TermSet) (h : BuilderStandsAt before old.builder (visit_rule p r).visit) (reachable : is_unreachable (demands_of p r) ≡ false)
     (after : RuleSetBuilder) (table : IsTable after.table) (go : GoOn (built_sites old.builder) (built_sites after) after.demanded (closing most_closing_steps (before_closing before (demands_of p r))))
     (same_iterators : after.iterators ≡ old.builder.iterators) (same_impure : after.impure ≡ old.builder.impure) where
   pub goes_on_added : (from : Rule) (value : ℕ) (mid new : TermSet) (errors : List Error) → rule_view from ≡ r → IsSiteOf old.builder (visit_rule p r).site value → mid.rules ≡ old.rules → new.builder.table ≡ after.table

@@ -23,7 +23,7 @@ use Rattle.core_typed.specs.RuleViews.{rule_view}
 use Rattle.core_typed.specs.declared.rules.Rule.{Rule}
 use Rattle.core_rule_sets.specs.SiteTables.{IsTable}
 use Rattle.core_rule_sets.specs.SiteViews.{member_sites, set_rule_views}
-use Rattle.core_builder.specs.VisitedSites.{IsSiteOf, StandsAt, built_sites}
+use Rattle.core_builder.specs.VisitedSites.{IsSiteOf, BuilderStandsAt, built_sites}
 use Rattle.core_builder.specs.declared.ruleset_builder.RuleSetBuilder.{RuleSetBuilder}
 use Rattle.core_builder.specs.declared.term_sets.TermSet.{TermSet}
 
@@ -73,7 +73,7 @@ pub record AddsListed (b : RuleSetBuilder) (k : Closed) (from : Rule) (value : â
 
 -- the visit of a rule is done: nothing that it counted passes a limit, and the site of its result has this number
 pub record WasVisited (p : Program) (before : List SiteTerm) (r : TypedRule) (b : RuleSetBuilder) (value : â„•) : Type 0 where
-  pub stands : StandsAt before b (visit_rule p r).visit
+  pub stands : BuilderStandsAt before b (visit_rule p r).visit
   pub site : IsSiteOf b (visit_rule p r).site value
 
 -- errors, and one more, of the limit that a visit met

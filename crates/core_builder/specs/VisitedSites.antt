@@ -77,7 +77,7 @@ IsNextCall b v s = call_number (unfold_site (built_sites b) s) ≡ suc v.impure_
 -- before or in the visit, the demands that the visit has met, the conflicts among them in their order, the calls that the
 -- rule goes over, its impure calls in order, as many as were met, each with its own number, and sites whose unwrapped
 -- calls are asked to answer; and nothing that was counted so far passes a limit
-pub record StandsAt (before : List SiteTerm) (b : RuleSetBuilder) (v : Visit) : Type 0 where
+pub record BuilderStandsAt (before : List SiteTerm) (b : RuleSetBuilder) (v : Visit) : Type 0 where
   pub table : IsTable b.table
   pub due : KeepsDue b.demanded
   pub demands : AreDemandsOf (built_sites b) b.demanded (before_closing before v.demands)
@@ -92,7 +92,7 @@ pub record StandsAt (before : List SiteTerm) (b : RuleSetBuilder) (v : Visit) : 
 
 -- a builder has gone on to stand where a visit does, and the sites that it had stand for what they did
 pub record GoesTo (before : List SiteTerm) (old new : RuleSetBuilder) (v : Visit) : Type 0 where
-  pub stands : StandsAt before new v
+  pub stands : BuilderStandsAt before new v
   pub kept : (s : ℕ) → s < length (built_sites old) → unfold_site (built_sites new) s ≡ unfold_site (built_sites old) s
   pub longer : length (built_sites old) ≤ length (built_sites new)
 
@@ -174,7 +174,7 @@ pub record OpensTo (before : List SiteTerm) (old new : RuleSetBuilder) (o : Open
 
 -- a builder ended on its way to where a visit stands, or by a limit once it stood there
 abbrev pub EndsBy : List SiteTerm → RuleSetBuilder → Limit → Visit → VisitFault → Type 0
-EndsBy before b l v e = EndsBefore before b v e ⊎ ((e ≡ Faults.Limit l) × StandsAt before b v)
+EndsBy before b l v e = EndsBefore before b v e ⊎ ((e ≡ Faults.Limit l) × BuilderStandsAt before b v)
 
 -- a builder that was to open so many parts ended: on its way to where the one visit stands, if there are no more than there
 -- may be; and else by the limit on their number, at the latest where the other stands
@@ -201,7 +201,7 @@ pub record AnswersTo (before : List SiteTerm) (old new : RuleSetBuilder) (multi 
 -- each visit at which it stands
 abbrev pub Follows : RuleSetBuilder → RuleSetBuilder → Result (Unit {0}) VisitFault → (Visit → Visit) → Type 0
 Follows old new r next =
-    (before : List SiteTerm) (v : Visit) → StandsAt before old v → MatchResult r (λ _. GoesTo before old new (next v)) (EndsBefore before new (next v))
+    (before : List SiteTerm) (v : Visit) → BuilderStandsAt before old v → MatchResult r (λ _. GoesTo before old new (next v)) (EndsBefore before new (next v))
 
 -- what it does with a call that asks something of a site
 abbrev pub Asks : Sites.Constraint → RuleSetBuilder → ℕ → Result (Unit {0}) VisitFault → RuleSetBuilder → Type 0
@@ -216,14 +216,14 @@ AsksEqual old a b r new =
 -- and with a call that opens the fields which a constraint gives a site, so many
 abbrev pub OpensFields : Sites.Constraint → ℕ → RuleSetBuilder → ℕ → Result (List ℕ) VisitFault → RuleSetBuilder → Type 0
 OpensFields c count old s r new =
-    (before : List SiteTerm) (v : Visit) → StandsAt before old v → s < length (built_sites old)
+    (before : List SiteTerm) (v : Visit) → BuilderStandsAt before old v → s < length (built_sites old)
     → MatchResult r (λ ids. (count ≤ most_fields) × OpensTo before old new (fields_opened c count (unfold_site (built_sites old) s) v) ids)
     (EndsOpening before new (fields_opened c count (unfold_site (built_sites old) s) v).visit Limits.Fields most_fields count v)
 
 -- and with a call that opens the outputs of an extractor, so many
 abbrev pub OpensExtractor : ℕ → ℕ → Bool → Bool → RuleSetBuilder → ℕ → Result (List ℕ) VisitFault → RuleSetBuilder → Type 0
 OpensExtractor term count infallible multi old s r new =
-    (before : List SiteTerm) (v : Visit) (flags : Flags) (args : TypedPatterns) → StandsAt before old v → s < length (built_sites old)
+    (before : List SiteTerm) (v : Visit) (flags : Flags) (args : TypedPatterns) → BuilderStandsAt before old v → s < length (built_sites old)
     → flags.multi ≡ multi → pattern_count args ≡ count
     → let call = extractor_call term (unfold_site (built_sites old) s) in
     MatchResult r (λ ids. (count ≤ most_outputs) × OpensTo before old new (open_call flags infallible call args v) ids)
@@ -248,7 +248,7 @@ pub record ValuesTo (before : List SiteTerm) (old new : RuleSetBuilder) (w : Val
 -- which it stands, with the value's number
 abbrev pub GivesValue : RuleSetBuilder → RuleSetBuilder → Result ℕ VisitFault → (Visit → Valued) → Type 0
 GivesValue old new r next =
-    (before : List SiteTerm) (v : Visit) → StandsAt before old v → MatchResult r (ValuesTo before old new (next v)) (EndsBefore before new (next v).visit)
+    (before : List SiteTerm) (v : Visit) → BuilderStandsAt before old v → MatchResult r (ValuesTo before old new (next v)) (EndsBefore before new (next v).visit)
 
 -- values that are handed over, each with a type, by their numbers
 abbrev pub input_ids : List (ℕ × ℕ) → List ℕ
@@ -270,7 +270,7 @@ Constructs term pure infallible multi old inputs r new =
 -- and with an argument, which is counted before it is made, since its number has to fit
 abbrev pub MakesArgument : ℕ → RuleSetBuilder → Result ℕ VisitFault → RuleSetBuilder → Type 0
 MakesArgument i old r new =
-    (before : List SiteTerm) (v : Visit) → StandsAt before old v
+    (before : List SiteTerm) (v : Visit) → BuilderStandsAt before old v
     → MatchResult r (λ n. (i < most_arguments) × ValuesTo before old new (valued (argument i) (taking_argument i v)) n)
     (EndsOpening before new (taking_argument i v) Limits.Arguments most_arguments (suc i) v)
 
@@ -304,5 +304,5 @@ pub record AreUnwrapped (sites : List Site) (s : ℕ) (before after : Members �
 -- and with a value that a pattern is for: each call that it unwraps is asked to answer
 abbrev pub AsksAnswers : RuleSetBuilder → ℕ → Result ℕ VisitFault → RuleSetBuilder → Type 0
 AsksAnswers old s r new =
-    (before : List SiteTerm) (v : Visit) → StandsAt before old v → s < length (built_sites old) → AsksNothingElse v (unfold_site (built_sites old) s)
+    (before : List SiteTerm) (v : Visit) → BuilderStandsAt before old v → s < length (built_sites old) → AsksNothingElse v (unfold_site (built_sites old) s)
     → let w = asking_all (unwraps (unfold_site (built_sites old) s)) v in MatchResult r (λ n. (n ≡ s) × GoesTo before old new w) (EndsBefore before new w)

@@ -4,7 +4,7 @@ ghost use Rattle.model.specs.lists.Tables.{Flags};
 ghost use Rattle.model.specs.sites.Sites.{SiteTerm, bool_term, each_term, int_term, prim_term, struct_made, unfold_site, variant_made};
 ghost use Rattle.model.specs.visits.Demands.{Visit, calling, finished, making, valued, visit_call, where_multi, value_made};
 ghost use Rattle.core_typed.specs.VisitAnswers.{typed_inputs};
-ghost use Rattle.core_builder.specs.VisitedSites.{HaveSites, Constructs, EndsBefore, GivesValue, GoesTo, IsNextCall, MakesValue, StandsAt, ValuesTo, built_sites, input_terms, value_sites};
+ghost use Rattle.core_builder.specs.VisitedSites.{HaveSites, Constructs, EndsBefore, GivesValue, GoesTo, IsNextCall, MakesValue, BuilderStandsAt, ValuesTo, built_sites, input_terms, value_sites};
 
 use crate::ruleset_builder::RuleSetBuilder;
 use core_rule_sets::trie_again::{Binding, BindingId};
@@ -18,7 +18,7 @@ impl RuleSetBuilder {
     // sites of its own, and there are 65,536 sites at most.
     #[tactic(auto, using(crate::proofs::CallNumbers::calls_fit))]
     pub(crate) fn instance(&self, pure: bool) -> u32
-        ensures number { (before : List SiteTerm) (v : Visit) → StandsAt before self.now v → result ≡ (if pure then 0 else suc (length self.now.impure.items)) }
+        ensures number { (before : List SiteTerm) (v : Visit) → BuilderStandsAt before self.now v → result ≡ (if pure then 0 else suc (length self.now.impure.items)) }
     {
         if pure {
             return 0;
@@ -34,10 +34,10 @@ impl RuleSetBuilder {
         infallible: bool,
         multi: bool,
     ) -> Result<BindingId, VisitFault>
-        ensures made { (before : List SiteTerm) (v : Visit) (flags : Flags) → StandsAt before self.old v
+        ensures made { (before : List SiteTerm) (v : Visit) (flags : Flags) → BuilderStandsAt before self.old v
             → call < length (built_sites self.old) → flags.partial ≡ not infallible → flags.multi ≡ multi
             → IfOk result (MakesValue before self.old self.new flags (unfold_site (built_sites self.old) call) v) }
-        ensures full { (before : List SiteTerm) (v : Visit) (flags : Flags) → StandsAt before self.old v
+        ensures full { (before : List SiteTerm) (v : Visit) (flags : Flags) → BuilderStandsAt before self.old v
             → call < length (built_sites self.old) → flags.partial ≡ not infallible → flags.multi ≡ multi
             → IfErr result (EndsBefore before self.new (making (value_sites flags (unfold_site (built_sites self.old) call)) v)) }
     {
@@ -53,7 +53,7 @@ impl RuleSetBuilder {
     // The rule goes over a multi call.
     pub(crate) fn go_over(&mut self, call: BindingId, multi: bool) -> Result<(), AllocError>
         ensures gone_over { (before : List SiteTerm) (v : Visit) (flags : Flags)
-            → StandsAt before self.old v → call < length (built_sites self.old) → flags.multi ≡ multi
+            → BuilderStandsAt before self.old v → call < length (built_sites self.old) → flags.multi ≡ multi
             → OnOk result (GoesTo before self.old self.new (where_multi flags (unfold_site (built_sites self.old) call) v)) }
     {
         if multi {
@@ -64,7 +64,7 @@ impl RuleSetBuilder {
 
     // The rule makes an impure call, whose last site this is.
     pub(crate) fn note_call(&mut self, site: BindingId, pure: bool) -> Result<(), AllocError>
-        ensures called { (before : List SiteTerm) (v : Visit) → StandsAt before self.old v
+        ensures called { (before : List SiteTerm) (v : Visit) → BuilderStandsAt before self.old v
             → site < length (built_sites self.old) → (pure ≡ false → IsNextCall self.old v site)
             → OnOk result (GoesTo before self.old self.new (if pure then v else calling (unfold_site (built_sites self.old) site) v)) }
     {
@@ -80,9 +80,9 @@ impl RuleSetBuilder {
         value: BindingId,
         partial: bool,
     ) -> Result<BindingId, VisitFault>
-        ensures finished { (before : List SiteTerm) (v : Visit) → StandsAt before self.old v → value < length (built_sites self.old)
+        ensures finished { (before : List SiteTerm) (v : Visit) → BuilderStandsAt before self.old v → value < length (built_sites self.old)
             → IfOk result (ValuesTo before self.old self.new (finished partial (valued (unfold_site (built_sites self.old) value) v))) }
-        ensures full { (before : List SiteTerm) (v : Visit) → StandsAt before self.old v → value < length (built_sites self.old)
+        ensures full { (before : List SiteTerm) (v : Visit) → BuilderStandsAt before self.old v → value < length (built_sites self.old)
             → IfErr result (EndsBefore before self.new (finished partial (valued (unfold_site (built_sites self.old) value) v)).visit) }
     {
         if partial {
@@ -102,11 +102,11 @@ impl RuleSetBuilder {
         multi: bool,
     ) -> Result<BindingId, VisitFault>
         ensures constructed { (before : List SiteTerm) (v : Visit) (flags : Flags)
-            → StandsAt before self.old v → All (λ n. n < length (built_sites self.old)) parameters.items
+            → BuilderStandsAt before self.old v → All (λ n. n < length (built_sites self.old)) parameters.items
             → flags.pure ≡ pure → flags.partial ≡ not infallible → flags.multi ≡ multi
             → IfOk result (ValuesTo before self.old self.new (visit_call flags term.0 (each_term (unfold_site (built_sites self.old)) parameters.items) v)) }
         ensures full { (before : List SiteTerm) (v : Visit) (flags : Flags)
-            → StandsAt before self.old v → All (λ n. n < length (built_sites self.old)) parameters.items
+            → BuilderStandsAt before self.old v → All (λ n. n < length (built_sites self.old)) parameters.items
             → flags.pure ≡ pure → flags.partial ≡ not infallible → flags.multi ≡ multi
             → IfErr result (EndsBefore before self.new (visit_call flags term.0 (each_term (unfold_site (built_sites self.old)) parameters.items) v).visit) }
     {

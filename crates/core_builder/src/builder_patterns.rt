@@ -7,7 +7,7 @@ ghost use Rattle.model.specs.sites.Sites.{SiteTerm, extractor_call, is_bool, is_
 ghost use Rattle.model.specs.visits.Demands.{Visit, making, open_call, outputs_opened, pattern_count, fields_opened};
 ghost use Rattle.model.specs.sites.Limits.{most_fields, most_outputs};
 ghost use Rattle.core_rule_sets.specs.SiteViews.{site_view};
-ghost use Rattle.core_builder.specs.VisitedSites.{AnswersTo, Asks, EndsBefore, EndsOpening, AsksEqual, MakesAll, OpensExtractor, OpensFields, OpensTo, StandsAt, answered, built_sites, part_of, part_site};
+ghost use Rattle.core_builder.specs.VisitedSites.{AnswersTo, Asks, EndsBefore, EndsOpening, AsksEqual, MakesAll, OpensExtractor, OpensFields, OpensTo, BuilderStandsAt, answered, built_sites, part_of, part_site};
 
 use crate::ruleset_builder::RuleSetBuilder;
 use core_rule_sets::trie_again::{Binding, BindingId, Constraint, TupleIndex};
@@ -52,10 +52,10 @@ impl RuleSetBuilder {
         parts: Parts,
         count: TupleIndex,
     ) -> Result<Vec<BindingId>, VisitFault>
-        ensures made { (before : List SiteTerm) (v : Visit) → StandsAt before self.old v → source < length (built_sites self.old)
+        ensures made { (before : List SiteTerm) (v : Visit) → BuilderStandsAt before self.old v → source < length (built_sites self.old)
             → IfOk result (λ ids. MakesAll before self.old self.new v
             (fields_from (part_of parts (unfold_site (built_sites self.old) source)) 0 count) ids.items) }
-        ensures full { (before : List SiteTerm) (v : Visit) → StandsAt before self.old v → source < length (built_sites self.old)
+        ensures full { (before : List SiteTerm) (v : Visit) → BuilderStandsAt before self.old v → source < length (built_sites self.old)
             → IfErr result (EndsBefore before self.new (making (fields_from (part_of parts (unfold_site (built_sites self.old) source)) 0 count) v)) }
         ensures count { IfOk result (λ ids. vec_len ids ≡ count) }
     {
@@ -77,10 +77,10 @@ impl RuleSetBuilder {
         variant: VariantId,
         count: usize,
     ) -> Result<Vec<BindingId>, VisitFault>
-        ensures opened { (before : List SiteTerm) (v : Visit) → StandsAt before self.old v → input < length (built_sites self.old)
+        ensures opened { (before : List SiteTerm) (v : Visit) → BuilderStandsAt before self.old v → input < length (built_sites self.old)
             → IfOk result (λ ids. (count ≤ most_fields)
             × OpensTo before self.old self.new (fields_opened (is_variant ty.0 variant.0 count) count (unfold_site (built_sites self.old) input) v) ids.items) }
-        ensures full { (before : List SiteTerm) (v : Visit) → StandsAt before self.old v → input < length (built_sites self.old)
+        ensures full { (before : List SiteTerm) (v : Visit) → BuilderStandsAt before self.old v → input < length (built_sites self.old)
             → IfErr result (EndsOpening before self.new
             (fields_opened (is_variant ty.0 variant.0 count) count (unfold_site (built_sites self.old) input) v).visit Limits.Fields most_fields count v) }
         ensures count { IfOk result (λ ids. vec_len ids ≡ count) }
@@ -107,10 +107,10 @@ impl RuleSetBuilder {
         ty: TypeId,
         count: usize,
     ) -> Result<Vec<BindingId>, VisitFault>
-        ensures opened { (before : List SiteTerm) (v : Visit) → StandsAt before self.old v → input < length (built_sites self.old)
+        ensures opened { (before : List SiteTerm) (v : Visit) → BuilderStandsAt before self.old v → input < length (built_sites self.old)
             → IfOk result (λ ids. (count ≤ most_fields)
             × OpensTo before self.old self.new (fields_opened (is_struct ty.0 count) count (unfold_site (built_sites self.old) input) v) ids.items) }
-        ensures full { (before : List SiteTerm) (v : Visit) → StandsAt before self.old v → input < length (built_sites self.old)
+        ensures full { (before : List SiteTerm) (v : Visit) → BuilderStandsAt before self.old v → input < length (built_sites self.old)
             → IfErr result (EndsOpening before self.new
             (fields_opened (is_struct ty.0 count) count (unfold_site (built_sites self.old) input) v).visit Limits.Fields most_fields count v) }
         ensures count { IfOk result (λ ids. vec_len ids ≡ count) }
@@ -126,11 +126,11 @@ impl RuleSetBuilder {
     // The outputs of a call: one is the site itself, several are its parts, none has no site.
     fn open_outputs(&mut self, site: BindingId, count: usize) -> Result<Vec<BindingId>, VisitFault>
         ensures opened { (before : List SiteTerm) (v : Visit) (args : TypedPatterns)
-            → StandsAt before self.old v → site < length (built_sites self.old) → pattern_count args ≡ count
+            → BuilderStandsAt before self.old v → site < length (built_sites self.old) → pattern_count args ≡ count
             → IfOk result (λ ids. (count ≤ most_outputs)
             × OpensTo before self.old self.new (outputs_opened (unfold_site (built_sites self.old) site) args v) ids.items) }
         ensures full { (before : List SiteTerm) (v : Visit) (args : TypedPatterns)
-            → StandsAt before self.old v → site < length (built_sites self.old) → pattern_count args ≡ count
+            → BuilderStandsAt before self.old v → site < length (built_sites self.old) → pattern_count args ≡ count
             → IfErr result (EndsOpening before self.new
             (outputs_opened (unfold_site (built_sites self.old) site) args v).visit Limits.Outputs most_outputs count v) }
         ensures count { IfOk result (λ ids. vec_len ids ≡ count) }
@@ -154,9 +154,9 @@ impl RuleSetBuilder {
         infallible: bool,
         multi: bool,
     ) -> Result<BindingId, VisitFault>
-        ensures opened { (before : List SiteTerm) (v : Visit) → StandsAt before self.old v → call < length (built_sites self.old)
+        ensures opened { (before : List SiteTerm) (v : Visit) → BuilderStandsAt before self.old v → call < length (built_sites self.old)
             → IfOk result (AnswersTo before self.old self.new multi infallible (unfold_site (built_sites self.old) call) v) }
-        ensures full { (before : List SiteTerm) (v : Visit) → StandsAt before self.old v → call < length (built_sites self.old)
+        ensures full { (before : List SiteTerm) (v : Visit) → BuilderStandsAt before self.old v → call < length (built_sites self.old)
             → IfErr result (EndsBefore before self.new (answered multi infallible (unfold_site (built_sites self.old) call) v)) }
     {
         if multi {
@@ -182,13 +182,13 @@ impl RuleSetBuilder {
         multi: bool,
     ) -> Result<Vec<BindingId>, VisitFault>
         ensures opened { (before : List SiteTerm) (v : Visit) (flags : Flags) (args : TypedPatterns)
-            → StandsAt before self.old v → input < length (built_sites self.old)
+            → BuilderStandsAt before self.old v → input < length (built_sites self.old)
             → flags.multi ≡ multi → pattern_count args ≡ count
             → IfOk result (λ ids. (count ≤ most_outputs)
             × OpensTo before self.old self.new
             (open_call flags infallible (extractor_call term.0 (unfold_site (built_sites self.old) input)) args v) ids.items) }
         ensures full { (before : List SiteTerm) (v : Visit) (flags : Flags) (args : TypedPatterns)
-            → StandsAt before self.old v → input < length (built_sites self.old)
+            → BuilderStandsAt before self.old v → input < length (built_sites self.old)
             → flags.multi ≡ multi → pattern_count args ≡ count
             → IfErr result (EndsOpening before self.new
             (open_call flags infallible (extractor_call term.0 (unfold_site (built_sites self.old) input)) args v).visit

@@ -12,7 +12,7 @@ ghost use Rattle.model.specs.sites.Limits.{most_arguments};
 ghost use Rattle.laws_sites.specs.Followers.{AsksNothingElse};
 ghost use Rattle.core_typed.specs.RuleViews.{rule_view};
 ghost use Rattle.core_rule_sets.specs.SiteTables.{IsTable};
-ghost use Rattle.core_builder.specs.VisitedSites.{AsksAnswers, EndsAtLimit, EndsOpening, GoesTo, AreUnwrapped, MakesArgument, StandsAt, ValuesTo, built_sites, unwrapped_at, with_keys};
+ghost use Rattle.core_builder.specs.VisitedSites.{AsksAnswers, EndsAtLimit, EndsOpening, GoesTo, AreUnwrapped, MakesArgument, BuilderStandsAt, ValuesTo, built_sites, unwrapped_at, with_keys};
 
 use crate::ruleset_builder::RuleSetBuilder;
 use core_rule_sets::trie_again::{Binding, BindingId, Constraint, TupleIndex};
@@ -40,10 +40,10 @@ impl RuleSetBuilder {
     ) -> Result<BindingId, VisitFault>
         requires visitable { IsTrue (is_visitable_rule (E.term_entries termenv.now) (rule_view rule.now)) }
         ensures visited { (p : Program) (before : List SiteTerm) → p.terms ≡ E.term_entries termenv.now
-            → is_formed_rule p (rule_view rule.now) ≡ true → StandsAt before self.old visit_start
+            → is_formed_rule p (rule_view rule.now) ≡ true → BuilderStandsAt before self.old visit_start
             → IfOk result (ValuesTo before self.old self.new (visit_rule p (rule_view rule.now))) }
         ensures limit { (p : Program) (before : List SiteTerm) → p.terms ≡ E.term_entries termenv.now
-            → is_formed_rule p (rule_view rule.now) ≡ true → StandsAt before self.old visit_start
+            → is_formed_rule p (rule_view rule.now) ≡ true → BuilderStandsAt before self.old visit_start
             → IfErr result (EndsAtLimit p before (rule_view rule.now) self.new) }
     {
         let value = rule.visit(self.alloc, self, termenv)?;
@@ -52,9 +52,9 @@ impl RuleSetBuilder {
     }
 
     fn make_argument(&mut self, index: usize) -> Result<BindingId, VisitFault>
-        ensures made { (before : List SiteTerm) (v : Visit) → StandsAt before self.old v
+        ensures made { (before : List SiteTerm) (v : Visit) → BuilderStandsAt before self.old v
             → IfOk result (λ n. (index < most_arguments) × ValuesTo before self.old self.new (valued (argument index) (taking_argument index v)) n) }
-        ensures full { (before : List SiteTerm) (v : Visit) → StandsAt before self.old v
+        ensures full { (before : List SiteTerm) (v : Visit) → BuilderStandsAt before self.old v
             → IfErr result (EndsOpening before self.new (taking_argument index v) Limits.Arguments most_arguments (suc index) v) }
     {
         let Ok(index) = TupleIndex::try_from(index) else {
@@ -115,7 +115,7 @@ impl RuleSetBuilder {
 
     // Asks each call that a site unwraps to answer. A rule walks each site once, however many if-lets stand on it.
     fn ask_unwrapped(&mut self, site: BindingId) -> Result<(), AllocError>
-        ensures { (before : List SiteTerm) (v : Visit) → StandsAt before self.old v
+        ensures { (before : List SiteTerm) (v : Visit) → BuilderStandsAt before self.old v
             → site < length (built_sites self.old) → AsksNothingElse v (unfold_site (built_sites self.old) site)
             → OnOk result (GoesTo before self.old self.new (asking_all (unwraps (unfold_site (built_sites self.old) site)) v)) }
     {
@@ -128,7 +128,7 @@ impl RuleSetBuilder {
     }
 
     fn ask_answers(&mut self, calls: &[BindingId]) -> Result<(), AllocError>
-        ensures { (before : List SiteTerm) (v : Visit) → StandsAt before self.old v → All (λ n. n < length (built_sites self.old)) calls.now
+        ensures { (before : List SiteTerm) (v : Visit) → BuilderStandsAt before self.old v → All (λ n. n < length (built_sites self.old)) calls.now
             → OnOk result (GoesTo before self.old self.new (asking_all (map (unfold_site (built_sites self.old)) calls.now) v)) }
     {
         for call in calls {

@@ -8,7 +8,7 @@ ghost use Rattle.core_rule_sets.specs.SiteTables.{ForWantOfRoom, HasSources, IsT
 ghost use Rattle.model.specs.sites.Closure.{before_closing, closing, most_closing_steps};
 ghost use Rattle.core_rule_sets.specs.Closings.{EndsFull, GoOn};
 ghost use Rattle.core_rule_sets.specs.SiteViews.{constraint_view, site_view, site_views};
-ghost use Rattle.core_builder.specs.VisitedSites.{EndsBefore, GoesTo, IsNextCall, MakesSite, StandsAt, built_sites, conflict_beside, conflict_view};
+ghost use Rattle.core_builder.specs.VisitedSites.{EndsBefore, GoesTo, IsNextCall, MakesSite, BuilderStandsAt, built_sites, conflict_beside, conflict_view};
 
 use core_rule_sets::demanded::Demanded;
 use core_rule_sets::site_table::SiteTable;
@@ -51,7 +51,7 @@ impl Drop for RuleSetBuilder {
 impl RuleSetBuilder {
     /// Before the first rule of a term: no sites, and nothing demanded.
     pub fn new(alloc: Global) -> RuleSetBuilder
-        ensures { StandsAt [] result visit_start }
+        ensures { BuilderStandsAt [] result visit_start }
     {
         RuleSetBuilder {
             alloc,
@@ -67,7 +67,7 @@ impl RuleSetBuilder {
     /// Goes on to the next rule of the term: the sites stay, and nothing is demanded yet.
     pub fn start_rule(&mut self)
         ensures started { (before : List SiteTerm) → IsTable self.old.table → IsDistinct before
-            → StandFor (built_sites self.old) before → StandsAt before self.new visit_start }
+            → StandFor (built_sites self.old) before → BuilderStandsAt before self.new visit_start }
         ensures kept { built_sites self.new ≡ built_sites self.old }
     {
         self.demanded.clear(self.alloc);
@@ -95,11 +95,11 @@ impl RuleSetBuilder {
 
     // Closes the demands of the rule, once it is visited.
     pub(crate) fn close(&mut self) -> Result<(), VisitFault>
-        requires { (before : List SiteTerm) × (v : Visit) × StandsAt before self.old v }
-        ensures closed { (before : List SiteTerm) (v : Visit) → StandsAt before self.old v
+        requires { (before : List SiteTerm) × (v : Visit) × BuilderStandsAt before self.old v }
+        ensures closed { (before : List SiteTerm) (v : Visit) → BuilderStandsAt before self.old v
             → OnOk result (IsTable self.new.table
             × GoOn (built_sites self.old) (built_sites self.new) self.new.demanded (closing most_closing_steps (before_closing before v.demands))) }
-        ensures full { (before : List SiteTerm) (v : Visit) → StandsAt before self.old v
+        ensures full { (before : List SiteTerm) (v : Visit) → BuilderStandsAt before self.old v
             → IfErr result (EndsFull (built_sites self.new) (closing most_closing_steps (before_closing before v.demands))) }
         ensures kept { IfErr result (ForWantOfRoom (IsTable self.new.table)) }
         ensures calls { (self.new.iterators ≡ self.old.iterators) × (self.new.impure ≡ self.old.impure) }
@@ -109,9 +109,9 @@ impl RuleSetBuilder {
 
     // The site of a binding, a new one where it has none.
     pub(crate) fn make(&mut self, binding: Binding) -> Result<BindingId, VisitFault>
-        ensures made { (before : List SiteTerm) (v : Visit) → StandsAt before self.old v → HasSources (built_sites self.old) (site_view binding)
+        ensures made { (before : List SiteTerm) (v : Visit) → BuilderStandsAt before self.old v → HasSources (built_sites self.old) (site_view binding)
             → IfOk result (MakesSite before self.old self.new v (layer (unfold_site (built_sites self.old)) (site_view binding))) }
-        ensures full { (before : List SiteTerm) (v : Visit) → StandsAt before self.old v → HasSources (built_sites self.old) (site_view binding)
+        ensures full { (before : List SiteTerm) (v : Visit) → BuilderStandsAt before self.old v → HasSources (built_sites self.old) (site_view binding)
             → IfErr result (EndsBefore before self.new (making (layer (unfold_site (built_sites self.old)) (site_view binding) ∷ []) v)) }
     {
         self.table.add(binding)
@@ -119,7 +119,7 @@ impl RuleSetBuilder {
 
     // Asks something of a site.
     pub(crate) fn ask(&mut self, site: BindingId, constraint: &Constraint) -> Result<(), AllocError>
-        ensures asked { (before : List SiteTerm) (v : Visit) → StandsAt before self.old v → site < length (built_sites self.old)
+        ensures asked { (before : List SiteTerm) (v : Visit) → BuilderStandsAt before self.old v → site < length (built_sites self.old)
             → OnOk result (GoesTo before self.old self.new (asking (unfold_site (built_sites self.old) site) (constraint_view constraint.now) v)) }
     {
         let first = self.demanded.ask(site, *constraint)?;
@@ -128,7 +128,7 @@ impl RuleSetBuilder {
 
     // Two sites must be equal.
     pub(crate) fn equate(&mut self, first: BindingId, second: BindingId) -> Result<(), AllocError>
-        ensures equated { (before : List SiteTerm) (v : Visit) → StandsAt before self.old v
+        ensures equated { (before : List SiteTerm) (v : Visit) → BuilderStandsAt before self.old v
             → first < length (built_sites self.old) → second < length (built_sites self.old)
             → OnOk result (GoesTo before self.old self.new
             (equating (unfold_site (built_sites self.old) first) (unfold_site (built_sites self.old) second) v)) }
@@ -138,7 +138,7 @@ impl RuleSetBuilder {
 
     // The rule goes over the answers of a call.
     pub(crate) fn iterate(&mut self, call: BindingId) -> Result<(), AllocError>
-        ensures gone_over { (before : List SiteTerm) (v : Visit) → StandsAt before self.old v → call < length (built_sites self.old)
+        ensures gone_over { (before : List SiteTerm) (v : Visit) → BuilderStandsAt before self.old v → call < length (built_sites self.old)
             → OnOk result (GoesTo before self.old self.new (iterating (unfold_site (built_sites self.old) call) v)) }
     {
         self.iterators.insert(call)?;
@@ -147,7 +147,7 @@ impl RuleSetBuilder {
 
     // The rule makes an impure call, whose last site this is.
     pub(crate) fn call(&mut self, site: BindingId) -> Result<(), AllocError>
-        ensures called { (before : List SiteTerm) (v : Visit) → StandsAt before self.old v → site < length (built_sites self.old) → IsNextCall self.old v site
+        ensures called { (before : List SiteTerm) (v : Visit) → BuilderStandsAt before self.old v → site < length (built_sites self.old) → IsNextCall self.old v site
             → OnOk result (GoesTo before self.old self.new (calling (unfold_site (built_sites self.old) site) v)) }
     {
         self.impure.push(site)?;

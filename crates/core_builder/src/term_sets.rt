@@ -11,7 +11,7 @@ ghost use Rattle.core_typed.specs.RuleViews.{rule_view};
 ghost use Rattle.core_rule_sets.specs.Closings.{AreDemandsOf};
 ghost use Rattle.core_rule_sets.specs.SiteViews.{set_rule_view, set_view};
 ghost use Rattle.core_builder.specs.AddedRules.{AddsListed, HasTable, SetGoesOn, IsListed, MayAddRule, ReportsLimit, WasVisited, set_so_far};
-ghost use Rattle.core_builder.specs.VisitedSites.{StandsAt, built_sites};
+ghost use Rattle.core_builder.specs.VisitedSites.{BuilderStandsAt, built_sites};
 
 use crate::refusals::{report_conflicts, report_limit, report_unreachable};
 use crate::ruleset_builder::RuleSetBuilder;
@@ -93,7 +93,7 @@ impl TermSet {
         value: BindingId,
         errors: &mut Vec<Error>,
     ) -> Result<(), AllocError>
-        requires visited { (before : List SiteTerm) × (v : Visit) × StandsAt before self.old.builder v }
+        requires visited { (before : List SiteTerm) × (v : Visit) × BuilderStandsAt before self.old.builder v }
         ensures goes { (p : Program) (before : List SiteTerm) → WasVisited p before (rule_view rule.now) self.old.builder value
             → OnOk result (SetGoesOn p before (rule_view rule.now) self.old self.new errors.old.items errors.new.items) }
         ensures single { OnOk result (All HasSingleSpans errors.old.items → All HasSingleSpans errors.new.items) }
@@ -115,7 +115,7 @@ impl TermSet {
         value: BindingId,
         errors: &mut Vec<Error>,
     ) -> Result<(), AllocError>
-        requires visited { (before : List SiteTerm) × (v : Visit) × StandsAt before self.old.builder v }
+        requires visited { (before : List SiteTerm) × (v : Visit) × BuilderStandsAt before self.old.builder v }
         ensures goes { (p : Program) (before : List SiteTerm) → WasVisited p before (rule_view rule.now) self.old.builder value
             → is_unreachable (demands_of p (rule_view rule.now)) ≡ false
             → OnOk result (SetGoesOn p before (rule_view rule.now) self.old self.new errors.old.items errors.new.items) }

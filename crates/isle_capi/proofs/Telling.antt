@@ -14,7 +14,7 @@ use Rattle.isle_capi.specs.declared.options.Task.{Task}
 use Rattle.isle_capi.specs.declared.options.Task.TheVariants as A
 use Rattle.isle_capi.specs.declared.output.Sizes.{Sizes}
 use Rattle.isle_capi.specs.declared.statuses.TheConstants.{DONE, ERRORS, NO_CODE}
-use Rattle.isle_capi.specs.Told.{command_task, status_of, text_of, HandsOver, IsCommandAnswer, IsRequestOf, IsSaidTo, IsTextOf, IsToldOf, Says}
+use Rattle.isle_capi.specs.Told.{command_task, status_of, text_of, HandsOver, IsCommandAnswer, IsRequestOf, IsSaidTo, IsTextOf, IsToldOf, StatusSays}
 
 -- an answer of the command to a request for a call
 pub command_answer : (asked : Asked) (reading : Reading) (request : Request) (answer : Result Answer AllocError)
@@ -61,7 +61,7 @@ one_if_errors s most e =
 
 -- so the status of an answer of the command says what a status says
 pub says_of_command : (asked : Asked) (reading : Reading) (answer : Answer)
-    → IsCommandAnswer asked reading answer → Says asked reading (status_of answer)
+    → IsCommandAnswer asked reading answer → StatusSays asked reading (status_of answer)
 says_of_command asked reading answer h =
     record {
       done = λ e. subst (λ x. IsAcceptedReading x reading) h.asks.expand (h.says.done (none_if_done answer.status e));
@@ -73,12 +73,12 @@ says_of_command asked reading answer h =
     }
 
 -- what comes of Rust code that is made
-pub says_done : (asked : Asked) (reading : Reading) → IsAcceptedReading asked.expand reading → Says asked reading DONE
+pub says_done : (asked : Asked) (reading : Reading) → IsAcceptedReading asked.expand reading → StatusSays asked reading DONE
 says_done asked reading accepted =
     record { done = λ _. accepted; errors = λ e _. omega (arith, e); no_code = λ e. absurd (omega (arith, e)) }
 
 -- and of names that would be one
-pub says_no_code : (asked : Asked) (reading : Reading) → asked.task ≡ A.Code → IsAcceptedReading asked.expand reading → Says asked reading NO_CODE
+pub says_no_code : (asked : Asked) (reading : Reading) → asked.task ≡ A.Code → IsAcceptedReading asked.expand reading → StatusSays asked reading NO_CODE
 says_no_code asked reading code accepted =
     record { done = λ _. accepted; errors = λ e _. omega (arith, e); no_code = λ _. (accepted, code) }
 

@@ -65,28 +65,28 @@ abbrev pub text_of : Answer → List ℕ
 text_of answer = first_text (string_bytes answer.out) (string_bytes answer.err)
 
 -- a status and a text are those of an answer of the command
-abbrev pub IsSaid : Asked → Reading → (status : ℕ) → (text : List ℕ) → Type 0
-IsSaid asked reading status text =
+abbrev pub IsToldByCommand : Asked → Reading → (status : ℕ) → (text : List ℕ) → Type 0
+IsToldByCommand asked reading status text =
     (answer : Answer) × IsCommandAnswer asked reading answer × (status ≡ status_of answer) × (text ≡ text_of answer)
 
 -- what a status that comes with a text says of what was read: DONE that all texts were read and their definitions are accepted,
 -- ERRORS that not all were read, or that they aren't, NO_CODE that they are and that their code was wanted
-pub record Says (asked : Asked) (reading : Reading) (status : ℕ) : Type 0 where
+pub record StatusSays (asked : Asked) (reading : Reading) (status : ℕ) : Type 0 where
   pub done : status ≡ DONE → IsAcceptedReading asked.expand reading
   pub errors : status ≡ ERRORS → IsAcceptedReading asked.expand reading → ⊥
   pub no_code : status ≡ NO_CODE → IsAcceptedReading asked.expand reading × (asked.task ≡ A.Code)
 
 -- the text that comes with a status
 abbrev pub IsTextOf : Task → Asked → Reading → (status : ℕ) → (text : List ℕ) → Type 0
-IsTextOf A.Trees asked reading status text = IsSaid asked reading status text
-IsTextOf A.Check asked reading status text = IsSaid asked reading status text
+IsTextOf A.Trees asked reading status text = IsToldByCommand asked reading status text
+IsTextOf A.Check asked reading status text = IsToldByCommand asked reading status text
 IsTextOf A.Code asked reading status text =
-    ((IsAcceptedReading asked.expand reading → ⊥) × IsSaid asked reading status text)
+    ((IsAcceptedReading asked.expand reading → ⊥) × IsToldByCommand asked reading status text)
     ⊎ (((status ≡ DONE) × (text ≢ [])) ⊎ ((status ≡ NO_CODE) × IsNamesLine text))
 
 -- a status and a text are made of what was read
 abbrev pub IsMadeOfReading : Asked → Reading → (status : ℕ) → (text : List ℕ) → Type 0
-IsMadeOfReading asked reading status text = Says asked reading status × IsTextOf asked.task asked reading status text
+IsMadeOfReading asked reading status text = StatusSays asked reading status × IsTextOf asked.task asked reading status text
 
 -- a text is handed over with its status: it is written whole, or nothing is where the buffer is too small
 pub record HandsOver (out out' : List ℕ) (sizes : Sizes) (status : ℕ) (text : List ℕ) (result : ℕ) : Type 0 where

@@ -20,7 +20,7 @@ use Rattle.laws_trees.proofs.taken.Fits.{IsField}
 use Rattle.laws_trees.proofs.taken.BuiltSites.{sites_stand}
 use Rattle.laws_trees.proofs.total.Shaped.{Uses, Shaped, shaped_extractor, shaped_pure, shaped_impure, HasShape}
 use Rattle.laws_trees.proofs.total.ShapedSites.{AreShaped, rule_shaped}
-use Rattle.model_code.specs.Code.{Place, Use, Expr, truth_written, read, extraction, call, variant_of, struct_of, some_of, Block, no_statement, statement, Statement, bind, bind_some, no_way, match_on, if_equal, for_each_of, give, labelled, unless_let, unless_equal, CodeArms, no_code_arm, code_arm}
+use Rattle.model_code.specs.Code.{Place, PlaceUse, Expr, truth_written, read, extraction, call, variant_of, struct_of, some_of, Block, no_statement, statement, Statement, bind, bind_some, no_way, match_on, if_equal, for_each_of, give, labelled, unless_let, unless_equal, CodeArms, no_code_arm, code_arm}
 use Rattle.model_code.specs.TreeCode.{Passes, bind_code, binds_code, loop_code, tree_code, check_code, arms_code}
 use Rattle.model_code.specs.Flat.{within, flat, flat_at, flat_arms, leaving, leaving_last, leaving_match}
 use Rattle.model_code.specs.Modes.{Types, passes_of}
@@ -82,7 +82,7 @@ module _ (p : Notation) (is_impure : ℕ → Bool) where
       leaving_last_calls (unless_let u pattern fields) n h = refl
       leaving_last_calls (unless_equal a b) n h = refl
 
-      leaving_match_calls : (u : Use) (arms : CodeArms) (n : ℕ) → arms_call_as p is_impure arms ≡ true → calls_as p is_impure (leaving_match u arms deep n) ≡ true
+      leaving_match_calls : (u : PlaceUse) (arms : CodeArms) (n : ℕ) → arms_call_as p is_impure arms ≡ true → calls_as p is_impure (leaving_match u arms deep n) ≡ true
       leaving_match_calls u no_code_arm n h = refl
       leaving_match_calls u (code_arm pattern fields body no_code_arm) n h = leaving_calls body n (and_parts (calls_as p is_impure body) true h).0
       leaving_match_calls u (code_arm pattern fields body (code_arm p2 f2 b2 rest)) n h =

@@ -11,18 +11,18 @@ use Rattle.model_code.specs.Code.{Expr, truth_written, read, extraction, call, v
 use Rattle.model_code.specs.CodeRuns.{held, held_value, held_values, Flow, goes_on, leaves, returns, fails, sticks, then_flow, in_braces, in_label, flow_of_bound, with_bindings, where_met, on_content, where_equal, each_flow, on_answers, outcome_of, code_run}
 use Rattle.model_code.specs.CodeLaws.{IsBeginning}
 use Rattle.model_code.specs.Written.{shown_code}
-use Rattle.laws_code.specs.ShownRuns.{Around, ShownWorld, world_of_shown, answered, called, bind_shown, run_shown, run_shown_at, run_shown_arms, shown_run}
+use Rattle.laws_code.specs.ShownRuns.{ShownExterns, ShownWorld, world_of_shown, answered, called, bind_shown, run_shown, run_shown_at, run_shown_arms, shown_run}
 use Rattle.laws_code.specs.ShownLaws.{by_number, SaysWhatIsAround, ShownCodeRunsAsCode}
 use Rattle.laws_code.specs.Meanings.{answer_behind, world_around, ShownCodeRunsUnderItsMeaning}
 use Rattle.laws_code.proofs.Growing.{calls_in, Grows, self, over, then_grows, braces_grow, braces_calls, label_grows, calls_of, now_calls, unwrapped_calls, expr_calls, bound_grows, content_grows, met_grows, equal_grows, each_grows, answers_grow, give_grows}
 
 -- 1. calls grow
-answered_calls : (impure : Bool) (a : Around) (env : Env) (calls : List Call) (v : ℕ) (c : Call) → IsBeginning calls (calls_of (answered impure a env calls v c))
+answered_calls : (impure : Bool) (a : ShownExterns) (env : Env) (calls : List Call) (v : ℕ) (c : Call) → IsBeginning calls (calls_of (answered impure a env calls v c))
 answered_calls false a env calls v c = now_calls env calls v (a.pures c.term c.args)
 answered_calls true a env calls v c =
     let made : List Call = calls ++ c ∷ [] in over calls made (calls_of (now_bound env made v (a.impures calls c))) (c ∷ [], refl) (now_calls env made v (a.impures calls c))
 
-called_calls : (a : Around) (env : Env) (calls : List Call) (v f : ℕ) (o : Option Values) → IsBeginning calls (calls_of (called a env calls v f o))
+called_calls : (a : ShownExterns) (env : Env) (calls : List Call) (v f : ℕ) (o : Option Values) → IsBeginning calls (calls_of (called a env calls v f o))
 called_calls a env calls v f None = self calls
 called_calls a env calls v f (Some vs) = answered_calls (a.is_impure f) a env calls v (record { term = f; args = vs })
 
@@ -198,7 +198,7 @@ at_place : (xs : List Call) (y : Call) (ys : List Call) → slice_get (xs ++ y �
 at_place [] y ys = refl
 at_place (x ∷ xs) y ys = at_place xs y ys
 
-by_place : (a : Around) (before after : List Call) (c : Call) → answer_behind a (before ++ c ∷ after) (length before) ≡ a.impures before c
+by_place : (a : ShownExterns) (before after : List Call) (c : Call) → answer_behind a (before ++ c ∷ after) (length before) ≡ a.impures before c
 by_place a before after c =
     (λ i. then_option (at_place before c after i) (a.impures (take (length before) (before ++ c ∷ after)))) ∙ (λ i. a.impures (take_at before (c ∷ after) (length before) refl i) c)
 
@@ -217,7 +217,7 @@ shown_code_runs_under_its_meaning_lem law p code w sites most wr ca kind unstuck
     let agree : (before after : List Call) (c : Call) → all ≡ before ++ c ∷ after → others before c ≡ w.around.impures before c = λ before after c e.
     ap (λ l. answer_behind w.around l (length before)) e ∙ by_place w.around before after c in
     let here : IsBeginning (calls_in (run_shown shown w most [] at_start)) all = ([], calls_made (run_shown shown w most [] at_start) ∙ sym (append-nil (calls_in (run_shown shown w most [] at_start)))) in
-    let around : Around = record w.around { impures = others } in
+    let around : ShownExterns = record w.around { impures = others } in
     let world : World = world_around p sites w all in
     let says : SaysWhatIsAround p world.meaning around (code_run code world most).calls = record {
       truths = λ b ty. refl;

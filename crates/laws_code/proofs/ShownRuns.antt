@@ -10,7 +10,7 @@ use Rattle.model.specs.sites.Sites.{Constraint, is_variant, is_struct, is_bool, 
 use Rattle.model.specs.trees.Run.{World, Env, bound_to, as_value, from_value, Bound, all_bound, unwrap_failed, no_content_there, now_bound, constructed, Trace, value_fields, where_constant, content_fields, bind_fields, at_start}
 use Rattle.model.specs.trees.Run.{unwrapped as taken_out}
 use Rattle.model.proofs.ValuesEqual.{eq_means, eq_same}
-use Rattle.model_code.specs.Code.{Place, variable, parameter, part_of, int_written, name_written, variant_written, struct_written, Pass, as_it_is, lent, cloned, seen_through, Use, Expr, truth_written, read, extraction, call, variant_of, struct_of, some_of, Block, no_statement, statement, Statement, bind, bind_some, no_way, match_on, if_equal, for_each_of, give, labelled, unless_let, unless_equal, CodeArms, no_code_arm, code_arm}
+use Rattle.model_code.specs.Code.{Place, variable, parameter, part_of, int_written, name_written, variant_written, struct_written, Pass, as_it_is, lent, cloned, seen_through, PlaceUse, Expr, truth_written, read, extraction, call, variant_of, struct_of, some_of, Block, no_statement, statement, Statement, bind, bind_some, no_way, match_on, if_equal, for_each_of, give, labelled, unless_let, unless_equal, CodeArms, no_code_arm, code_arm}
 use Rattle.model_code.specs.CodeRuns.{held, held_value, held_values, bind_expr, Flow, goes_on, leaves, returns, fails, sticks, then_flow, in_braces, in_label, flow_of_bound, is_full, with_result, give_content, with_bindings, where_met, on_content, where_equal, each_flow, on_answers, run_block, run_statement, run_code_arms, outcome_of, code_run}
 use Rattle.model_code.specs.CodeLaws.{IsBeginning}
 use Rattle.model_code.specs.Tokens.{variant_owner, struct_owner}
@@ -20,7 +20,7 @@ use Rattle.model_code.specs.Shown.{shown_place, shown_use, shown_uses, shown_mad
 use Rattle.model_code.specs.Written.{is_bare, unwrapped, written, written_at, written_arms}
 use Rattle.model_code.specs.ReadsBack.{takes, expr_writable, pattern_writable, match_writable, writable, writable_at, writable_arms}
 use Rattle.model_code.proofs.Written.{written_writable}
-use Rattle.laws_code.specs.ShownRuns.{Around, ShownWorld, world_of_shown, answered, called, bind_shown, run_shown, run_shown_at, run_shown_arms}
+use Rattle.laws_code.specs.ShownRuns.{ShownExterns, ShownWorld, world_of_shown, answered, called, bind_shown, run_shown, run_shown_at, run_shown_arms}
 use Rattle.laws_code.specs.ShownLaws.{impure_call, expr_calls_as, calls_as, calls_as_at, arms_call_as, by_number, outcome_by_number, SaysWhatIsAround, shown_world, ShownCodeRunsAsCode}
 use Rattle.laws_code.proofs.Growing.{calls_in, Grows, over, each_grows, block_grows}
 use Rattle.laws_code.proofs.WrittenRuns.{ends_there, written_runs}
@@ -77,7 +77,7 @@ turned u v = by (value_eq u v) (value_eq v u) refl refl
     by true false e h = sym (sym h ∙ ap (value_eq v) (eq_means u v e) ∙ eq_same v)
     by false true e h = sym e ∙ ap (value_eq u) (eq_means v u h) ∙ eq_same u
 
-module _ (p : Notation) (w : World) (around : Around) (most : Option ℕ) (kind : w.multi ≡ not (result_ends p)) (all : List Call) (says : SaysWhatIsAround p w.meaning around all) where
+module _ (p : Notation) (w : World) (around : ShownExterns) (most : Option ℕ) (kind : w.multi ≡ not (result_ends p)) (all : List Call) (says : SaysWhatIsAround p w.meaning around all) where
   abbrev sw : ShownWorld
   sw = shown_world around w
 
@@ -203,10 +203,10 @@ module _ (p : Notation) (w : World) (around : Around) (most : Option ℕ) (kind 
   held_shown env (variant_written ty variant) = refl
   held_shown env (struct_written ty) = refl
 
-  value_shown : (env : Env) (u : Use) → held_value ws env (shown_use p u) ≡ held_value w env u
+  value_shown : (env : Env) (u : PlaceUse) → held_value ws env (shown_use p u) ≡ held_value w env u
   value_shown env u = ap (λ o. then_option o as_value) (held_shown env u.place)
 
-  values_shown : (env : Env) (us : List Use) → held_values ws env (shown_uses p us) ≡ held_values w env us
+  values_shown : (env : Env) (us : List PlaceUse) → held_values ws env (shown_uses p us) ≡ held_values w env us
   values_shown env [] = refl
   values_shown env (u ∷ us) = λ i. then_option (value_shown env u i) (λ v. then_option (values_shown env us i) (λ vs. Some (value_and v vs)))
 
@@ -272,14 +272,14 @@ module _ (p : Notation) (w : World) (around : Around) (most : Option ℕ) (kind 
   now_shown : (env : Env) (t : Trace) (v : ℕ) (o o' : Option Content) → o' ≡ o → now_bound env (map (by_number p) t.calls) v o' ≡ numbered_bound (now_bound env t.calls v o)
   now_shown env t v o o' e = ap (now_bound env (map (by_number p) t.calls) v) e ∙ now_numbered env t.calls v o
 
-  variant_shown : (env : Env) (t : Trace) (v ty variant : ℕ) (shape : Shape) (us : List Use) → takes shape (length us) ≡ true
+  variant_shown : (env : Env) (t : Trace) (v ty variant : ℕ) (shape : Shape) (us : List PlaceUse) → takes shape (length us) ≡ true
       → bind_shown sw env (map (by_number p) t.calls) v (shown_made (variant_owner ty variant) shape (shown_uses p us)) ≡ numbered_bound (now_bound env t.calls v (then_option (held_values w env us) (λ vs. Some (one (of_variant ty variant vs)))))
   variant_shown env t v ty variant no_fields [] h = refl
   variant_shown env t v ty variant no_fields (u ∷ us) h = absurd (let e = eqb-true (length (u ∷ us)) 0 h in omega (arith, e))
   variant_shown env t v ty variant (named_fields n) us h = now_shown env t v _ _ (ap (λ o. then_option o (λ vs. Some (one (of_variant ty variant vs)))) (values_shown env us))
   variant_shown env t v ty variant (unnamed_fields n) us h = now_shown env t v _ _ (ap (λ o. then_option o (λ vs. Some (one (of_variant ty variant vs)))) (values_shown env us))
 
-  struct_shown : (env : Env) (t : Trace) (v ty : ℕ) (shape : Shape) (us : List Use) → takes shape (length us) ≡ true
+  struct_shown : (env : Env) (t : Trace) (v ty : ℕ) (shape : Shape) (us : List PlaceUse) → takes shape (length us) ≡ true
       → bind_shown sw env (map (by_number p) t.calls) v (shown_made (struct_owner ty) shape (shown_uses p us)) ≡ numbered_bound (now_bound env t.calls v (then_option (held_values w env us) (λ vs. Some (one (of_struct ty vs)))))
   struct_shown env t v ty no_fields [] h = refl
   struct_shown env t v ty no_fields (u ∷ us) h = absurd (let e = eqb-true (length (u ∷ us)) 0 h in omega (arith, e))
@@ -338,10 +338,10 @@ module _ (p : Notation) (w : World) (around : Around) (most : Option ℕ) (kind 
   fields_met is_present x = refl
 
   -- 7. a comparison that is shown as a match
-  abbrev IsTest : Env → Use → Place → (Use × Constraint) → Type 0
+  abbrev IsTest : Env → PlaceUse → Place → (PlaceUse × Constraint) → Type 0
   IsTest env a place test = (test.0.place ≡ a.place) × ((v : Value) → content_fields ws.meaning test.1 (one v) ≡ where_constant (then_option (held ws env place) as_value) v)
 
-  named_is : (env : Env) (composed : Bool) (place : Place) (pass : Pass) (name : ℕ) (test : Use × Constraint) → named_test composed pass (record { place = place; pass = pass }) name ≡ Some test
+  named_is : (env : Env) (composed : Bool) (place : Place) (pass : Pass) (name : ℕ) (test : PlaceUse × Constraint) → named_test composed pass (record { place = place; pass = pass }) name ≡ Some test
       → IsTest env (record { place = place; pass = pass }) (name_written name) test
   named_is env false place pass name test e =
       subst (IsTest env (record { place = place; pass = pass }) (name_written name)) (same_Some (record { place = place; pass = pass }, is_prim name) test e) (refl, λ v. ap (λ o. where_constant o v) (sym (value_back (constant_value ws.meaning name))))
@@ -351,7 +351,7 @@ module _ (p : Notation) (w : World) (around : Around) (most : Option ℕ) (kind 
   named_is env true place lent name test e = absurd (none-some test e)
   named_is env true place cloned name test e = absurd (none-some test e)
 
-  test_is : (env : Env) (a : Use) (place : Place) (pass : Pass) (test : Use × Constraint) → test_at p a place pass ≡ Some test → IsTest env a place test
+  test_is : (env : Env) (a : PlaceUse) (place : Place) (pass : Pass) (test : PlaceUse × Constraint) → test_at p a place pass ≡ Some test → IsTest env a place test
   test_is env a (int_written z ending) as_it_is test e =
       subst (IsTest env a (int_written z ending)) (same_Some (a, is_int z ending) test e) (refl, λ v. ap (λ o. where_constant o v) (sym (value_back (literal_value ws.meaning (int_literal z ending)))))
   test_is env a (name_written name) as_it_is test e = named_is env (p.is_constant_composed name) a.place a.pass name test e
@@ -383,14 +383,14 @@ module _ (p : Notation) (w : World) (around : Around) (most : Option ℕ) (kind 
   compared (Some (just c)) y env t k go body other other' m fine f g = absurd (true≢false fine.1)
   compared (Some (many cs)) y env t k go body other other' m fine f g = absurd (true≢false fine.1)
 
-  tested : (test : Use × Constraint) (a b : Use) (env : Env) (t : Trace) (go : Env → Flow) (body other other' : Flow) → IsTest env (shown_use p a) (shown_place p b.place) test
+  tested : (test : PlaceUse × Constraint) (a b : PlaceUse) (env : Env) (t : Trace) (go : Env → Flow) (body other other' : Flow) → IsTest env (shown_use p a) (shown_place p b.place) test
       → Fine (where_equal (held_value w env a) (held_value w env b) t body other) → (Fine body → go env ≡ numbered_flow body) → (Fine other → other' ≡ numbered_flow other)
       → on_content (held ws env test.0.place) (numbered t) (λ c. where_met (content_fields ws.meaning test.1 c) [] env (numbered t) go other') ≡ numbered_flow (where_equal (held_value w env a) (held_value w env b) t body other)
   tested test a b env t go body other other' is fine f g =
       ap (λ o. on_content o (numbered t) (λ c. where_met (content_fields ws.meaning test.1 c) [] env (numbered t) go other')) (ap (held ws env) is.0 ∙ held_shown env a.place)
       ∙ compared (held w env a.place) (held_value w env b) env t test.1 go body other other' (λ v. is.1 v ∙ ap (λ o. where_constant o v) (value_shown env b)) fine f g
 
-  if_equal_shown : (o : Option (Use × Constraint)) (a b : Use) (body : Block) (env : Env) (t : Trace) → test_at p (shown_use p a) (shown_place p b.place) b.pass ≡ o
+  if_equal_shown : (o : Option (PlaceUse × Constraint)) (a b : PlaceUse) (body : Block) (env : Env) (t : Trace) → test_at p (shown_use p a) (shown_place p b.place) b.pass ≡ o
       → Fine (where_equal (held_value w env a) (held_value w env b) t (run_block body w most env t) (goes_on env t)) → (Fine (run_block body w most env t) → run_shown (shown p body) sw most env (numbered t) ≡ numbered_flow (run_block body w most env t))
       → run_shown_at (equal_or_match o (shown_use p a) (shown_use p b) (shown p body)) sw most env (numbered t) ≡ numbered_flow (run_statement (if_equal a b body) w most env t)
   if_equal_shown None a b body env t e fine f =
@@ -401,7 +401,7 @@ module _ (p : Notation) (w : World) (around : Around) (most : Option ℕ) (kind 
       ap (in_braces env) (tested test a b env t (λ env'. run_shown (shown p body) sw most env' (numbered t)) (run_block body w most env t) (goes_on env t) (goes_on env (numbered t)) (test_is env (shown_use p a) (shown_place p b.place) b.pass test e) fine f (λ k. refl))
       ∙ braces_numbered env (where_equal (held_value w env a) (held_value w env b) t (run_block body w most env t) (goes_on env t))
 
-  unless_equal_shown : (o : Option (Use × Constraint)) (a b : Use) (env : Env) (t : Trace) → test_at p (shown_use p a) (shown_place p b.place) b.pass ≡ o
+  unless_equal_shown : (o : Option (PlaceUse × Constraint)) (a b : PlaceUse) (env : Env) (t : Trace) → test_at p (shown_use p a) (shown_place p b.place) b.pass ≡ o
       → Fine (where_equal (held_value w env a) (held_value w env b) t (goes_on env t) (leaves t)) → run_shown_at (unless_either o (shown_use p a) (shown_use p b)) sw most env (numbered t) ≡ numbered_flow (run_statement (unless_equal a b) w most env t)
   unless_equal_shown None a b env t e fine =
       (λ i. where_equal (value_shown env a i) (value_shown env b i) (numbered t) (goes_on env (numbered t)) (leaves (numbered t)))
@@ -460,7 +460,7 @@ module _ (p : Notation) (w : World) (around : Around) (most : Option ℕ) (kind 
         ∙ met_shown (content_fields w.meaning pattern c) fields env t (λ env'. goes_on env' t) (λ env'. goes_on env' (numbered t)) (leaves t) (leaves (numbered t)) k (λ env' l. refl) (λ l. refl))
     statement_shown (unless_equal a b) label env t wr ca fine = unless_equal_shown (test_at p (shown_use p a) (shown_place p b.place) b.pass) a b env t refl fine
 
-    arms_shown : (arms : CodeArms) (u : Use) (label : Bool) (c : Content) (env : Env) (t : Trace) → writable_arms p label u arms ≡ true → arms_call_as p around.is_impure arms ≡ true → Fine (run_code_arms arms w most c env t)
+    arms_shown : (arms : CodeArms) (u : PlaceUse) (label : Bool) (c : Content) (env : Env) (t : Trace) → writable_arms p label u arms ≡ true → arms_call_as p around.is_impure arms ≡ true → Fine (run_code_arms arms w most c env t)
         → run_shown_arms (shown_arms p arms) sw most c env (numbered t) ≡ numbered_flow (run_code_arms arms w most c env t)
     arms_shown no_code_arm u label c env t wr ca fine = refl
     arms_shown (code_arm pattern fields body rest) u label c env t wr ca fine =

@@ -23,7 +23,7 @@ use Rattle.laws_trees.proofs.taken.Forms.{Form, IsOfForm, term_count}
 use Rattle.laws_trees.proofs.taken.BuiltSites.{sites_stand}
 use Rattle.model_code.specs.Code.{Block, statement, Statement}
 use Rattle.model_code.specs.TreeCode.{Passes, to_field, to_match, use_at, fields_of as fields_used, bind_code, binds_code, loop_code, tree_code, check_code, arms_code}
-use Rattle.model_code.specs.Notation.{Notation, Kind}
+use Rattle.model_code.specs.Notation.{Notation, ReturnForm}
 use Rattle.model_code.specs.Pieces.{result_ends, is_end, unless_end}
 use Rattle.model_code.specs.ProgramNotation.{notation_of}
 use Rattle.model_code.specs.ReadsBack.{is_looked_at, pattern_writable, match_writable, writable, writable_at, writable_arms}
@@ -44,7 +44,7 @@ sources_counted : (f : ℕ → SiteTerm) (ss : List ℕ) → term_count (each_te
 sources_counted f [] = refl
 sources_counted f (s ∷ ss) = ap suc (sources_counted f ss)
 
-module _ (b : BuiltSet) (h : IsWellTypedProgram b.program) (passes : Passes) (looks : LooksAtMatched passes) (k : Kind) (is_logged : Bool) where
+module _ (b : BuiltSet) (h : IsWellTypedProgram b.program) (passes : Passes) (looks : LooksAtMatched passes) (k : ReturnForm) (is_logged : Bool) where
   abbrev p : Program
   p = b.program
 

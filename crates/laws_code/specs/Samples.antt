@@ -14,9 +14,9 @@ use Rattle.model_code.specs.ProgramNotation.{notation_of}
 use Rattle.model_code.specs.Notation.{gives_one}
 use Rattle.model_code.specs.CodeTextSamples.{notation, names}
 use Rattle.model_code.specs.Spelling.{Names, spelled}
-use Rattle.model_code.specs.ReadTexts.{IsReadAs}
+use Rattle.model_code.specs.ReadTexts.{IsReadAsCode}
 use Rattle.model_code.specs.Written.{shown_code, function_body}
-use Rattle.laws_code.specs.ShownRuns.{Around, ShownWorld, shown_run}
+use Rattle.laws_code.specs.ShownRuns.{ShownExterns, ShownWorld, shown_run}
 use Rattle.laws_code.specs.ShownLaws.{calls_as}
 use Rattle.laws_code.specs.CalledAlike.{AreCalledAlike}
 
@@ -28,7 +28,7 @@ abbrev pub said_of : List Call → Call → Option Content
 said_of [] c = Some (one (number (pos 7)))
 said_of before c = Some (one (number (pos 8)))
 
-abbrev pub around : (impure : Bool) → Around
+abbrev pub around : (impure : Bool) → ShownExterns
 around impure = record {
   literals = λ l. None;
   constants = λ name. None;
@@ -102,5 +102,5 @@ pub record ShownRunsAreJudged : Type 0 where
   pub alike_there : AreCalledAlike program (notation_of program gives_one false) (λ f. true)
   pub unlike_there : (is_impure : ℕ → Bool) → AreCalledAlike mixed (notation_of mixed gives_one false) is_impure → ⊥
   -- one text, two readings
-  pub constant_read : IsReadAs colliding (notation gives_one) read_text (reads (name_written 0))
-  pub variant_read : IsReadAs colliding (notation gives_one) read_text (reads (variant_written 4 0))
+  pub constant_read : IsReadAsCode colliding (notation gives_one) read_text (reads (name_written 0))
+  pub variant_read : IsReadAsCode colliding (notation gives_one) read_text (reads (variant_written 4 0))

@@ -10,7 +10,7 @@ use Rattle.model_code.specs.Notation.{Notation, extractor_of, constructor_of}
 use Rattle.model_code.specs.Pieces.{result_ends}
 use Rattle.model_code.specs.Written.{shown_code}
 use Rattle.model_code.specs.ReadsBack.{writable}
-use Rattle.laws_code.specs.ShownRuns.{Around, ShownWorld, shown_run}
+use Rattle.laws_code.specs.ShownRuns.{ShownExterns, ShownWorld, shown_run}
 
 -- 1. each call is an impure one exactly if its function is impure
 abbrev pub impure_call : ℕ → Bool → Bool
@@ -48,7 +48,7 @@ outcome_by_number p o = record { calls = map (by_number p) o.calls; results = o.
 
 -- a meaning says what is said around the text: of what is written out, whatever its type; of constants; of pure calls; and, under
 -- the number of each impure call that a run makes, what is answered to it behind those before it
-pub record SaysWhatIsAround (p : Notation) (m : Meaning) (around : Around) (calls : List Call) : Type 0 where
+pub record SaysWhatIsAround (p : Notation) (m : Meaning) (around : ShownExterns) (calls : List Call) : Type 0 where
   pub truths : (b : Bool) (ty : ℕ) → literal_value m (bool_literal b ty) ≡ around.literals (bool_literal b 0)
   pub integers : (z : ℤ) (ty : ℕ) → literal_value m (int_literal z ty) ≡ around.literals (int_literal z (p.ending ty))
   pub constants : (name : ℕ) → constant_value m name ≡ around.constants name
@@ -56,14 +56,14 @@ pub record SaysWhatIsAround (p : Notation) (m : Meaning) (around : Around) (call
   pub pures : (t : ℕ) (vs : Values) → around.is_impure (p.function (constructor_of t)) ≡ false → pure_answer m t vs ≡ around.pures (p.function (constructor_of t)) vs
   pub impures : (before after : List Call) (c : Call) → calls ≡ before ++ c ∷ after → impure_answer m c.term (length before) ≡ around.impures (map (by_number p) before) (by_number p c)
 
-abbrev pub shown_world : Around → World → ShownWorld
+abbrev pub shown_world : ShownExterns → World → ShownWorld
 shown_world around w = record { around = around; args = w.args; multi = w.multi }
 
 -- code that can be written, and runs without getting stuck, does what is shown of it: the same results and ending, and the same impure
 -- calls, by the numbers of their functions
 abbrev pub ShownCodeRunsAsCode : Type 0
 ShownCodeRunsAsCode =
-    (p : Notation) (code : Block) (w : World) (around : Around) (most : Option ℕ)
+    (p : Notation) (code : Block) (w : World) (around : ShownExterns) (most : Option ℕ)
     → writable p false code ≡ true → calls_as p around.is_impure code ≡ true → w.multi ≡ not (result_ends p)
     → SaysWhatIsAround p w.meaning around (code_run code w most).calls → (code_run code w most).ending ≢ stuck
     → shown_run (shown_code p code) (shown_world around w) most ≡ outcome_by_number p (code_run code w most)

@@ -11,7 +11,7 @@ use Rattle.model_code.specs.CodeRuns.{held, held_value, held_values, bind_expr, 
 -- an integer at what stands behind its digits; those of named constants; and the answer of each function, by its number and its
 -- arguments, of an impure one by the calls of impure ones that were made before. The text doesn't show which ones are impure. All may
 -- say nothing
-pub record Around : Type 0 where
+pub record ShownExterns : Type 0 where
   pub literals : Literal → Option Value
   pub constants : ℕ → Option Value
   pub is_impure : ℕ → Bool
@@ -20,7 +20,7 @@ pub record Around : Type 0 where
 
 -- with the arguments, and whether the function puts its results into a list
 pub record ShownWorld : Type 0 where
-  pub around : Around
+  pub around : ShownExterns
   pub args : List Value
   pub multi : Bool
 
@@ -34,11 +34,11 @@ world_of_shown w = record {
 }
 
 -- a function is called: an impure one is noted
-abbrev pub answered : Bool → Around → Env → List Call → ℕ → Call → Bound
+abbrev pub answered : Bool → ShownExterns → Env → List Call → ℕ → Call → Bound
 answered false a env calls v c = now_bound env calls v (a.pures c.term c.args)
 answered true a env calls v c = now_bound env (calls ++ c ∷ []) v (a.impures calls c)
 
-abbrev pub called : Around → Env → List Call → (v f : ℕ) → Option Values → Bound
+abbrev pub called : ShownExterns → Env → List Call → (v f : ℕ) → Option Values → Bound
 called a env calls v f None = no_content_there calls
 called a env calls v f (Some vs) = answered (a.is_impure f) a env calls v (record { term = f; args = vs })
 

@@ -11,17 +11,17 @@ use Rattle.model.specs.trees.Collects.{Collects, HasCollectedResults}
 use Rattle.model.specs.claims.Environments.{TypeEnvironment, TermEnvironment}
 use Rattle.model.specs.claims.Layers.{own_program, LoweredTerm, LoweringAnswers}
 use Rattle.model_code.specs.Code.{Block}
-use Rattle.model_code.specs.Notation.{Notation, Kind, gives_one, gives_option, gives_many}
+use Rattle.model_code.specs.Notation.{Notation, ReturnForm, gives_one, gives_option, gives_many}
 use Rattle.model_code.specs.ProgramNotation.{notation_of}
 use Rattle.model_code.specs.Pieces.{ends_function}
 use Rattle.model_code.specs.Written.{function_body}
 use Rattle.model_code.specs.Spelling.{Names, spelled}
 use Rattle.model_code.specs.Lexing.{AreWhole}
-use Rattle.model_code.specs.ReadTexts.{IsReadAs}
+use Rattle.model_code.specs.ReadTexts.{IsReadAsCode}
 use Rattle.laws_code.specs.AcceptedCode.{OfBestTrees}
 use Rattle.laws_code.specs.CodeChoices.{OnServed, CollectsUpTo, MeansItsSource}
 use Rattle.laws_code.specs.TypedTrees.{code_by_types}
-use Rattle.laws_code.specs.ShownRuns.{Around, shown_run}
+use Rattle.laws_code.specs.ShownRuns.{ShownExterns, shown_run}
 use Rattle.laws_code.specs.ShownLaws.{outcome_by_number, SaysWhatIsAround}
 use Rattle.laws_code.specs.CalledAlike.{AreCalledAlike}
 
@@ -30,7 +30,7 @@ use Rattle.laws_code.specs.CalledAlike.{AreCalledAlike}
 -- functions answer
 abbrev pub ShownRunsAsChosen : Program → ℕ → Notation → Block → Type 0
 ShownRunsAsChosen p t n shown =
-    is_multi p t ≡ false → (around : Around) → AreCalledAlike p n around.is_impure
+    is_multi p t ≡ false → (around : ShownExterns) → AreCalledAlike p n around.is_impure
     → OnServed p t (λ m args. SaysWhatIsAround n m around (choice p m (rules_of p t) args).calls
     → shown_run shown (record { around = around; args = args; multi = false }) None ≡ outcome_by_number n (choice p m (rules_of p t) args))
 
@@ -38,7 +38,7 @@ ShownRunsAsChosen p t n shown =
 -- results, and with a bound a part of it up to there
 abbrev pub ShownCollectsTheBag : Program → ℕ → Notation → Block → Type 0
 ShownCollectsTheBag p t n shown =
-    is_multi p t ≡ true → All (HasCollectedResults p) (rules_of p t) → (around : Around) → AreCalledAlike p n around.is_impure
+    is_multi p t ≡ true → All (HasCollectedResults p) (rules_of p t) → (around : ShownExterns) → AreCalledAlike p n around.is_impure
     → OnServed p t (λ m args. SaysWhatIsAround n m around []
     → Collects (shown_run shown (record { around = around; args = args; multi = true }) None) (bag p m (rules_of p t) args)
     × ((k : ℕ) → CollectsUpTo (suc k) (shown_run shown (record { around = around; args = args; multi = true }) (Some (suc k))) (bag p m (rules_of p t) args)))
@@ -46,24 +46,24 @@ ShownCollectsTheBag p t n shown =
 -- a text is read as code that does so
 pub record SaysItsSource (names : Names) (n : Notation) (p : Program) (t : ℕ) (text : List ℕ) : Type 0 where
   pub shown : Block
-  pub read : IsReadAs names n text shown
+  pub read : IsReadAsCode names n text shown
   pub chooses : ShownRunsAsChosen p t n shown
   pub collects : ShownCollectsTheBag p t n shown
 
 -- what the function of a term gives, by the flags that its signature asks
-abbrev pub kind_of_giving : Giving → Kind
+abbrev pub kind_of_giving : Giving → ReturnForm
 kind_of_giving S.gives_one = gives_one
 kind_of_giving S.gives_one_or_none = gives_option
 kind_of_giving S.gives_any_number = gives_many
 
-abbrev pub kind_given : Program → ℕ → Kind
+abbrev pub kind_given : Program → ℕ → ReturnForm
 kind_given p t = kind_of_giving (constructor_gives (flags_of (kind p t)))
 
 -- the text of a term of accepted definitions does, where names are read by themselves, and results end the function exactly if the
 -- term isn't multi
 abbrev pub TextOfAcceptedSaysItsSource : Type 0
 TextOfAcceptedSaysItsSource =
-    OfBestTrees (λ p l. (names : Names) → AreWhole names → (kind : Kind) (is_logged : Bool) → is_multi p l.term ≡ not (ends_function kind) → (deep : ℕ → Bool) (d : ℕ)
+    OfBestTrees (λ p l. (names : Names) → AreWhole names → (kind : ReturnForm) (is_logged : Bool) → is_multi p l.term ≡ not (ends_function kind) → (deep : ℕ → Bool) (d : ℕ)
     → SaysItsSource names (notation_of p kind is_logged) p l.term (spelled names (function_body (notation_of p kind is_logged) (code_by_types p l deep d))))
 
 -- the code of a term with rules, and the text of the code by what the term's function gives

@@ -8,7 +8,7 @@ use Rattle.model_code.specs.TreeCode.{Passes, tree_code}
 use Rattle.model_code.specs.Modes.{passes_of}
 use Rattle.model_code.specs.Samples.{somewhere, sites, tree}
 use Rattle.model_code.specs.SiteTypes.{types_of}
-use Rattle.model_code.specs.Notation.{Kind, gives_one, gives_option, gives_many}
+use Rattle.model_code.specs.Notation.{ReturnForm, gives_one, gives_option, gives_many}
 use Rattle.model_code.specs.ProgramNotation.{notation_of}
 use Rattle.model_code.specs.ReadsBack.{writable}
 use Rattle.laws_code.specs.TypedSamples.{with_constants}
@@ -20,7 +20,7 @@ by_types = passes_of (types_of with_constants (1 ∷ []) sites) false sites
 abbrev pub all_by : Pass → Passes
 all_by pass s taker = pass
 
-abbrev pub is_written : Kind → Tree → List Site → Passes → Bool
+abbrev pub is_written : ReturnForm → Tree → List Site → Passes → Bool
 is_written kind t ss passes = writable (notation_of with_constants kind false) false (tree_code t ss passes)
 
 -- a test of the argument with fields, and what is given then

@@ -17,7 +17,7 @@ use Rattle.model.specs.sites.Sites.{SiteSet, argument_site, constructor_site, ma
 use Rattle.model.specs.trees.Trees.{Tree, no_step}
 use Rattle.laws_examples.specs.MeaningForms.{alone, given, v, no_entries}
 use Rattle.laws_examples.specs.SetForms.{a_rule, returning}
-use Rattle.laws_examples.specs.Stages.{Sample, Ends}
+use Rattle.laws_examples.specs.Stages.{Sample, HasOutcome}
 use Rattle.laws_examples.specs.TypedForms.{bind_any, e_list, own, rules_and_names, typed, typed_var, u8}
 use Rattle.laws_examples.specs.Written.{call, constructor_by, decl, enum_of_one, field, numbers, of_f, rule_to, var, variable}
 
@@ -68,7 +68,7 @@ im_of_one = record { term = 1; args = alone (pos 1) } ∷ []
 
 -- where pp answers so, choice and run end so on 1
 abbrev pub EffectsEnds : Content → Outcome → Type 0
-EffectsEnds answer o = Ends effects_sample (effects_meaning answer) (given (pos 1)) o
+EffectsEnds answer o = HasOutcome effects_sample (effects_meaning answer) (given (pos 1)) o
 
 -- Some of the variant
 abbrev pub pair_of : ℤ → ℤ → Content

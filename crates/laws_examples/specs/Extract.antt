@@ -20,7 +20,7 @@ use Rattle.model.specs.trees.SetRuns.{IsTestedSet, ServesTests}
 use Rattle.model.specs.trees.Trees.{Check, Tree, arm, match_at, no_step, step}
 use Rattle.laws_examples.specs.MeaningForms.{given, just_number, literal, mute, v, of_literals}
 use Rattle.laws_examples.specs.SetForms.{a_rule, byte, is_byte, one_arm, returning}
-use Rattle.laws_examples.specs.Stages.{Sample, Ends}
+use Rattle.laws_examples.specs.Stages.{Sample, HasOutcome}
 use Rattle.laws_examples.specs.TypedForms.{bind_any, q_list, rules_and_names, typed, typed_var, u8}
 use Rattle.laws_examples.specs.Written.{extractor_by, f_of_bytes, int, number, numbers, of_f, rule_first, rule_to, term, var, variable}
 
@@ -105,7 +105,7 @@ extract_world answer = world_of extract_program 1 extract_set.sites (extract_mea
 
 -- choice and run end so where the call answers this
 abbrev pub ExtractEnds : Content → Outcome → Type 0
-ExtractEnds answer o = Ends extract_sample (extract_meaning answer) (given (pos 7)) o
+ExtractEnds answer o = HasOutcome extract_sample (extract_meaning answer) (given (pos 7)) o
 
 -- the rules go over no calls, and a world in which the call has an answer serves their tests, whatever the answer
 abbrev pub ExtractIsServed : Type 0

@@ -106,8 +106,8 @@ calls_meaning = finite (record {
 })
 
 -- the bag of a rule alone on an argument
-abbrev pub Gives : TypedRule → ℤ → List ℤ → Type 0
-Gives r z results = bag calls_program calls_meaning (r ∷ []) (given z) ≡ each results
+abbrev pub GivesResults : TypedRule → ℤ → List ℤ → Type 0
+GivesResults r z results = bag calls_program calls_meaning (r ∷ []) (given z) ≡ each results
 
 -- on 1 the meaning has what pure_twice asks, though pr has no answer on two different answers of m: the two calls of m are
 -- one, of which each pick takes one answer
@@ -147,4 +147,4 @@ unused_gate_world = record { sites = unused_gate_set.sites; args = given (pos 1)
 
 -- the bag of the typed rule, and that of the set, have a 7 for each answer
 abbrev pub UnusedGateGives : Type 0
-UnusedGateGives = Gives unused_gate (pos 1) (pos 7 ∷ pos 7 ∷ []) × (set_bag unused_gate_set unused_gate_world ≡ each (pos 7 ∷ pos 7 ∷ []))
+UnusedGateGives = GivesResults unused_gate (pos 1) (pos 7 ∷ pos 7 ∷ []) × (set_bag unused_gate_set unused_gate_world ≡ each (pos 7 ∷ pos 7 ∷ []))

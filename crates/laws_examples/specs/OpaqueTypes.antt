@@ -36,7 +36,7 @@ use Rattle.model.specs.sites.Sites.{Constraint, SiteSet, argument_site, construc
 use Rattle.model.specs.trees.Trees.{Tree, arm, match_at, no_step, step}
 use Rattle.laws_examples.specs.MeaningForms.{alone, answers, given, literal, mute, no_entries, of_literals, v}
 use Rattle.laws_examples.specs.SetForms.{a_rule, byte, one_arm, returning}
-use Rattle.laws_examples.specs.Stages.{Ends, Sample}
+use Rattle.laws_examples.specs.Stages.{HasOutcome, Sample}
 use Rattle.laws_examples.specs.TypedForms.{bind_any, builtins, e_list, own, rules_and_names, typed, typed_var, u8, variant_entry}
 use Rattle.laws_examples.specs.Written.{any, at, call, constant, constructor_by, declared, enum, f_of_bytes, name, number, of_f, rule_first, rule_to, term, var, variable, variant}
 
@@ -166,8 +166,8 @@ OpenIsServed = IsServedOn of_a × ((z : ℤ) → IsServedOn (o z))
 
 -- on the variant the rule for it gives 1; a value of none falls through to the other rule
 pub record OpenEnds : Type 0 where
-  pub of_the_variant : Ends open_sample open_meaning (of_a ∷ []) (answers (pos 1))
-  pub of_no_variant : (z : ℤ) → Ends open_sample open_meaning (o z ∷ []) (answers (pos 2))
+  pub of_the_variant : HasOutcome open_sample open_meaning (of_a ∷ []) (answers (pos 1))
+  pub of_no_variant : (z : ℤ) → HasOutcome open_sample open_meaning (o z ∷ []) (answers (pos 2))
 
 -- 3. constants of an extern enum without variants
 abbrev pub named_defs : List Definition
@@ -215,9 +215,9 @@ NamedIsServed =
 
 -- a constant is equal to itself alone
 pub record NamedEnds : Type 0 where
-  pub of_k : Ends named_sample named_meaning (o (pos 10) ∷ []) (answers (pos 1))
-  pub of_l : Ends named_sample named_meaning (o (pos 11) ∷ []) (answers (pos 2))
-  pub of_another : Ends named_sample named_meaning (o (pos 12) ∷ []) (answers (pos 3))
+  pub of_k : HasOutcome named_sample named_meaning (o (pos 10) ∷ []) (answers (pos 1))
+  pub of_l : HasOutcome named_sample named_meaning (o (pos 11) ∷ []) (answers (pos 2))
+  pub of_another : HasOutcome named_sample named_meaning (o (pos 12) ∷ []) (answers (pos 3))
 
 -- 4. enums that are declared here
 abbrev pub with_enum : Bool → List VariantEntry → List TypeEntry

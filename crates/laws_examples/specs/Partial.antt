@@ -17,7 +17,7 @@ use Rattle.model.specs.sites.Sites.{SiteSet, argument_site, constructor_site, ma
 use Rattle.model.specs.trees.Trees.{Tree, match_at, no_step, step}
 use Rattle.laws_examples.specs.MeaningForms.{alone, given, literal, mute, of_literals}
 use Rattle.laws_examples.specs.SetForms.{a_rule, byte, is_byte, one_arm, returning}
-use Rattle.laws_examples.specs.Stages.{Sample, Ends}
+use Rattle.laws_examples.specs.Stages.{Sample, HasOutcome}
 use Rattle.laws_examples.specs.TypedForms.{e_list, rules_and_names, typed, u8}
 use Rattle.laws_examples.specs.Written.{any, call, constructor_by, int, number, numbers, of_f, rule_first, rule_to}
 
@@ -67,7 +67,7 @@ g_of_one = record { term = 0; args = alone (pos 1) } ∷ []
 
 -- where the first impure call answers so, choice and run end so on an argument
 abbrev pub PartialEnds : Content → ℤ → Outcome → Type 0
-PartialEnds answer z o = Ends partial_sample (partial_meaning answer) (given z) o
+PartialEnds answer z o = HasOutcome partial_sample (partial_meaning answer) (given z) o
 
 -- the meaning has what the rules ask on 1, and tells their constants apart
 abbrev pub PartialIsServed : Type 0

@@ -91,8 +91,8 @@ pub record Sample : Type 0 where
   pub near_trees : List Tree
 
 -- by a meaning, on these arguments, the choice of a sample's rules and the run of its tree end so
-abbrev pub Ends : Sample → Meaning → List Value → Outcome → Type 0
-Ends s m args o =
+abbrev pub HasOutcome : Sample → Meaning → List Value → Outcome → Type 0
+HasOutcome s m args o =
     (choice (own_program s.defs s.rules) m s.rules.rules args ≡ o)
     × (run s.tree (world_of (own_program s.defs s.rules) s.term s.set.sites m args) ≡ o)
 

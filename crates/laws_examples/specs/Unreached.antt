@@ -17,7 +17,7 @@ use Rattle.model.specs.sites.Sites.{SiteSet, SiteTerm, argument_site, constructo
 use Rattle.model.specs.trees.Trees.{Tree, no_step}
 use Rattle.laws_examples.specs.MeaningForms.{alone, given, no_entries}
 use Rattle.laws_examples.specs.SetForms.{a0, a_rule, one_source, returning}
-use Rattle.laws_examples.specs.Stages.{Sample, Ends}
+use Rattle.laws_examples.specs.Stages.{Sample, HasOutcome}
 use Rattle.laws_examples.specs.TypedForms.{bind_any, e_list, make_let_one, rules_and_names, typed, u8, variables}
 use Rattle.laws_examples.specs.Written.{call, constructor_by, let_one, numbers, of_f, rule_to, var, variable}
 
@@ -72,7 +72,7 @@ one_im_of_one = record { term = 0; args = alone (pos 1) } ∷ []
 
 -- where the first call answers nothing, choice and run end so on 1
 abbrev pub UnreachedEnds : Outcome → Type 0
-UnreachedEnds o = Ends unreached_sample (first_answers nothing) (given (pos 1)) o
+UnreachedEnds o = HasOutcome unreached_sample (first_answers nothing) (given (pos 1)) o
 
 -- the argument of the second call has a value and the meaning lacks an answer to it; yet, where the first call answers
 -- nothing, the meaning has what the rule asks, and tells constants apart

@@ -14,7 +14,7 @@ use Rattle.model.specs.sites.Sites.{SiteSet}
 use Rattle.model.specs.trees.Trees.{Tree, no_step}
 use Rattle.laws_examples.specs.MeaningForms.{given}
 use Rattle.laws_examples.specs.SetForms.{a_rule, returning}
-use Rattle.laws_examples.specs.Stages.{Sample, Ends}
+use Rattle.laws_examples.specs.Stages.{Sample, HasOutcome}
 use Rattle.laws_examples.specs.TypedForms.{e_list, make_let_one, typed_iflet, u8}
 use Rattle.laws_examples.specs.UsedCalls.{ending_with, pp_answers, used_rule, used_rules, used_set, used_tree}
 
@@ -40,4 +40,4 @@ unused_sample = record { defs = unused_defs; rules = unused_rules; term = 1; mul
 
 -- where pp answers so, choice and run end so on 1
 abbrev pub UnusedEnds : Content → Outcome → Type 0
-UnusedEnds answer o = Ends unused_sample (pp_answers answer) (given (pos 1)) o
+UnusedEnds answer o = HasOutcome unused_sample (pp_answers answer) (given (pos 1)) o

@@ -14,7 +14,7 @@ use Rattle.model.specs.sites.Sites.{SiteSet, argument_site, constructor_site, is
 use Rattle.model.specs.trees.Trees.{Tree, match_at, no_step, step}
 use Rattle.laws_examples.specs.MeaningForms.{alone, given, literal, of_literals}
 use Rattle.laws_examples.specs.SetForms.{a_rule, byte, one_arm, returning}
-use Rattle.laws_examples.specs.Stages.{Sample, Ends}
+use Rattle.laws_examples.specs.Stages.{Sample, HasOutcome}
 use Rattle.laws_examples.specs.TypedForms.{bind_any, e_list, make_let_one, rules_and_names, typed, typed_iflet, typed_var, u8}
 use Rattle.laws_examples.specs.Written.{any, call, constructor_by, f_of_bytes, let_one, number, numbers, of_f, rule_if, var, variable}
 
@@ -58,7 +58,7 @@ used_sample = record { defs = used_defs; rules = used_rules; term = 1; multi = f
 
 -- where pp answers so, choice and run end so on 1
 abbrev pub UsedEnds : Content → Outcome → Type 0
-UsedEnds answer o = Ends used_sample (pp_answers answer) (given (pos 1)) o
+UsedEnds answer o = HasOutcome used_sample (pp_answers answer) (given (pos 1)) o
 
 -- the call isn't bound; its answer is bound before it; the arm's field is bound again; the call is bound twice in one scope
 abbrev pub NearTreesDoNotBind : Type 0

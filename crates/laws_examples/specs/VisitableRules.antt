@@ -14,22 +14,22 @@ abbrev pub of_other_type : TypedRule
 of_other_type = with_sides (bind_any u8 0 ∷ match_any u8 ∷ []) (make_var 2 0)
 
 -- whether a rule of f can be visited, and whether it hangs together
-abbrev pub Passes : TypedRule → Bool → Bool → Type 0
-Passes r visitable formed = (is_visitable_rule f_of_two.terms r ≡ visitable) × (is_formed_rule f_of_two r ≡ formed)
+abbrev pub PassesChecks : TypedRule → Bool → Bool → Type 0
+PassesChecks r visitable formed = (is_visitable_rule f_of_two.terms r ≡ visitable) × (is_formed_rule f_of_two r ≡ formed)
 
 -- types aren't asked for, and an `@` binds before its subpattern
 abbrev pub RulesAreVisitable : Type 0
 RulesAreVisitable =
-    Passes first_of_two true true
-    × Passes of_other_type true false
-    × Passes (with_sides (match_bind u8 0 (match_var u8 0) ∷ match_any u8 ∷ []) (make_var u8 0)) true false
+    PassesChecks first_of_two true true
+    × PassesChecks of_other_type true false
+    × PassesChecks (with_sides (match_bind u8 0 (match_var u8 0) ∷ match_any u8 ∷ []) (make_var u8 0)) true false
 
 -- a variable that is used before it is bound, that patterns bind twice, or that nothing binds; a pattern for one of two
 -- arguments; a term without an extractor in a pattern
 abbrev pub OthersAreNotVisitable : Type 0
 OthersAreNotVisitable =
-    Passes (with_sides (match_var u8 0 ∷ bind_any u8 0 ∷ []) (make_int u8 (pos 1))) false false
-    × Passes (with_sides (bind_any u8 0 ∷ bind_any u8 0 ∷ []) (make_int u8 (pos 1))) false false
-    × Passes (with_sides (match_any u8 ∷ match_any u8 ∷ []) (make_var u8 0)) false false
-    × Passes (with_sides (match_any u8 ∷ []) (make_int u8 (pos 1))) false false
-    × Passes (with_sides (match_term u8 0 (q_list (match_any u8 ∷ match_any u8 ∷ [])) ∷ match_any u8 ∷ []) (make_int u8 (pos 1))) false false
+    PassesChecks (with_sides (match_var u8 0 ∷ bind_any u8 0 ∷ []) (make_int u8 (pos 1))) false false
+    × PassesChecks (with_sides (bind_any u8 0 ∷ bind_any u8 0 ∷ []) (make_int u8 (pos 1))) false false
+    × PassesChecks (with_sides (match_any u8 ∷ match_any u8 ∷ []) (make_var u8 0)) false false
+    × PassesChecks (with_sides (match_any u8 ∷ []) (make_int u8 (pos 1))) false false
+    × PassesChecks (with_sides (match_term u8 0 (q_list (match_any u8 ∷ match_any u8 ∷ [])) ∷ match_any u8 ∷ []) (make_int u8 (pos 1))) false false

@@ -32,7 +32,7 @@ ghost use Rattle.laws_examples.specs.LeftoverSites.{LeftOverCollects, LeftOverIs
 ghost use Rattle.laws_examples.specs.LookUps.{ConvertersAreLookedUp, FallSpeaksOfNames, FlagIsKept, NearEnvironments};
 ghost use Rattle.laws_examples.specs.MeaningForms.{DoesNotServe, alone, answers, blank, ends_with, given, just_number, v};
 ghost use Rattle.laws_examples.specs.Multi.{LoopsMayBindAgain, MultiCollects, MultiGives, MultiIsCollected, MultiIsNot, MultiIsServed, MultiIsTaken, MultiResultsAreHeld, MultiSetCollects, MultiTakenGives, MultiTreeCollects, multi_mute, multi_program, multi_sample};
-ghost use Rattle.laws_examples.specs.MultiCalls.{DemandsGatesThough, Gives, LeavesACallUnused, OneCallIsServed, UnusedGateGives, call_in_call, calls_program, extracted_twice, impure_twice, pure_twice, unused_condition, unused_let, used_condition};
+ghost use Rattle.laws_examples.specs.MultiCalls.{DemandsGatesThough, GivesResults, LeavesACallUnused, OneCallIsServed, UnusedGateGives, call_in_call, calls_program, extracted_twice, impure_twice, pure_twice, unused_condition, unused_let, used_condition};
 ghost use Rattle.laws_examples.specs.NamedConstants.{ConstantsAreServed};
 ghost use Rattle.laws_examples.specs.NearRefusals.{NoOverlapOfAcceptedRules, OnlyPassedLimitsAreNamed, TermsAreRefused};
 ghost use Rattle.laws_examples.specs.TwoLiterals.{OneOrTwoHoldsOnce, OneOrTwoIsServed, one_or_two_sample};
@@ -44,7 +44,7 @@ ghost use Rattle.laws_examples.specs.Prio.{prio_sample};
 ghost use Rattle.laws_examples.specs.ReportedOnce.{MultiGoesOverMultiCalls, OverlapIsListedOnce, ShadowIsReportedOnce};
 ghost use Rattle.laws_examples.specs.RulesPassed.{LeftOverGoesOn, ReportsAreNotDropped, WideRuleIsPassed};
 ghost use Rattle.laws_examples.specs.Shared.{SharedGives, SharedIsStuck};
-ghost use Rattle.laws_examples.specs.Stages.{Ends, HasStages, IsBuiltOf, IsJudged, OneIsBest};
+ghost use Rattle.laws_examples.specs.Stages.{HasOutcome, HasStages, IsBuiltOf, IsJudged, OneIsBest};
 ghost use Rattle.laws_examples.specs.UntestedRules.{surplus_sample};
 ghost use Rattle.laws_examples.specs.Ties.{ties_sample};
 ghost use Rattle.laws_examples.specs.ShadowedRules.{MasksMatchToo, ShadowIsServed, ShadowIsTold};
@@ -309,7 +309,7 @@ pub fn extern_enums()
     ensures opaque_served { OpaqueIsServed }
     ensures opaque_taken { OpaqueIsTaken }
     ensures opaque_chosen { OpaqueIsChosen }
-    ensures opaque_ends { Ends opaque_sample opaque_meaning (given (pos 3)) nine_after_both }
+    ensures opaque_ends { HasOutcome opaque_sample opaque_meaning (given (pos 3)) nine_after_both }
     ensures open_stages { HasStages open_sample }
     ensures open_served { OpenIsServed }
     ensures open_ends { OpenEnds }
@@ -335,10 +335,10 @@ pub fn left_over_sample()
 /// A call that a rule makes twice on the same sites is one call, and so with an extractor; two impure calls are two. A
 /// call on another call's answer has a list for each of them.
 pub fn multi_calls()
-    ensures pure { Gives pure_twice (pos 1) (pos 44 ∷ pos 55 ∷ []) }
-    ensures extractors { Gives extracted_twice (pos 1) (pos 44 ∷ pos 55 ∷ []) }
-    ensures impure { Gives impure_twice (pos 1) (pos 46 ∷ pos 47 ∷ pos 56 ∷ pos 57 ∷ []) }
-    ensures nested { Gives call_in_call (pos 1) (pos 6 ∷ pos 7 ∷ pos 8 ∷ []) }
+    ensures pure { GivesResults pure_twice (pos 1) (pos 44 ∷ pos 55 ∷ []) }
+    ensures extractors { GivesResults extracted_twice (pos 1) (pos 44 ∷ pos 55 ∷ []) }
+    ensures impure { GivesResults impure_twice (pos 1) (pos 46 ∷ pos 47 ∷ pos 56 ∷ pos 57 ∷ []) }
+    ensures nested { GivesResults call_in_call (pos 1) (pos 6 ∷ pos 7 ∷ pos 8 ∷ []) }
 {}
 
 /// Of a call that a rule makes twice each pick takes one answer: a meaning serves the rule that answers no two different ones.
@@ -351,9 +351,9 @@ pub fn one_call_is_served()
 /// every gate. Where an argument of a condition's call has no value, the rule has no pick, and no result.
 #[tactic(auto, using(crate::proofs::MultiCalls::demands_gates_though, crate::proofs::MultiCalls::unused_condition_leaves_a_call))]
 pub fn unused_calls()
-    ensures count { Gives unused_let (pos 1) (pos 1 ∷ pos 1 ∷ []) }
-    ensures without_lists { Gives used_condition (pos 2) [] }
-    ensures with_lists { Gives used_condition (pos 1) (pos 8 ∷ []) }
+    ensures count { GivesResults unused_let (pos 1) (pos 1 ∷ pos 1 ∷ []) }
+    ensures without_lists { GivesResults used_condition (pos 2) [] }
+    ensures with_lists { GivesResults used_condition (pos 1) (pos 8 ∷ []) }
     ensures leaves_none { LeavesNoCallUnused calls_program used_condition }
     ensures leaves_one { LeavesACallUnused unused_condition }
     ensures gates { DemandsGatesThough }

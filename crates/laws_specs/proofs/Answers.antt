@@ -36,7 +36,7 @@ use Rattle.laws_trees.proofs.NoMulti.{rules_without_multi_go_over_no_calls_lem}
 use Rattle.laws_typing.specs.WellTypedPrograms.{IsWellTypedProgram}
 use Rattle.laws_specs.specs.Words.{Denoted, a_truth, variant_of, struct_of, DenotedList}
 use Rattle.laws_specs.specs.Specs.{Specs, IsRequired, IsProvided}
-use Rattle.laws_specs.specs.Conditions.{Told, told, told_parts, told_just, IsPartHeld, IsHeldAs, is_of_parts, result_as, call_of, IsMetAs, IsAnsweredAsSaid, IsTypedAs, condition, IsAssumed, AreMade, IsShown, IsAbove, is_told_apart, IsNoneAbove}
+use Rattle.laws_specs.specs.Conditions.{ToldContent, told, told_parts, told_just, IsPartHeld, IsHeldAs, is_of_parts, result_as, call_of, IsMetAs, IsAnsweredAsSaid, IsTypedAs, condition, IsAssumed, AreMade, IsShown, IsAbove, is_told_apart, IsNoneAbove}
 use Rattle.laws_specs.specs.Meets.{Atoms, stands_for, stand_for, content_as, is_number, AreNumbers, AnswersAsSaid}
 use Rattle.laws_specs.specs.ConditionLaws.{IsCalled, ChoosesAsSaid, ComputesAsSaid, ChoosesAsSaidByPriority, ComputesAsSaidByPriority, LoweredTermsComputeAsSaid}
 use Rattle.laws_specs.proofs.Valuations.{Called, told_of, told_there, values_there, value_there, argument_back, part_back, each_told, content, values, sites_as, args_as, told_site, told_values}
@@ -127,7 +127,7 @@ module _ (k : Called) (t : ℕ) (x : Taken k t) where
         answered = subst (λ s. IsAnsweredAsSaid k.specs (sites_as k) s s) (sym (call_same u ∙ n.call))
             (constructed k n.term (suc (length a.0)) n.args
             (λ vs c q answer. own_constructed k n.term (stand_for k.atoms vs) c (λ b j. k.meets.impures (length a.0) (record { term = n.term; args = vs }) c b (at_place a.0 (a.1 ++ after) u whole n.term (suc (length a.0)) n.args vs (λ y j. gave y (subst (λ l. In l y) (sym a.2) (within a.0 (u ∷ a.1) y j))) n.call q) answer j)));
-        typed = subst (λ s. (h : Told) → sites_as k s ≡ Some h → IsTypedAs k.program k.specs s h) (sym (call_same u ∙ n.call))
+        typed = subst (λ s. (h : ToldContent) → sites_as k s ≡ Some h → IsTypedAs k.program k.specs s h) (sym (call_same u ∙ n.call))
             (call_typed k n.term (suc (length a.0)) n.args (λ vs c q answer. x.served n.term (length a.0) n.args vs c (subst (In made) n.call n.listed) earlier q answer));
       }
     where
@@ -316,7 +316,7 @@ module _ (p : Program) (specs : Specs) (t : ℕ) (d : Atoms) (m : Meaning) (args
     from_truth (of_variant u j vs) b e = absurd (cc)
     from_truth (of_struct u vs) b e = absurd (cc)
 
-    from_just : (x : Content) (h : Told) → content_as d x ≡ told_just h → (y : Content) × (x ≡ just y) × (content_as d y ≡ h)
+    from_just : (x : Content) (h : ToldContent) → content_as d x ≡ told_just h → (y : Content) × (x ≡ just y) × (content_as d y ≡ h)
     from_just (just y) h e = (y, refl, inside e)
       where
         inside : told_just (content_as d y) ≡ told_just h → content_as d y ≡ h
@@ -340,13 +340,13 @@ module _ (p : Program) (specs : Specs) (t : ℕ) (d : Atoms) (m : Meaning) (args
     at s = site_content m args [] s
 
     -- a site with this content stands for this
-    stands : (s : SiteTerm) (c : Content) (h : Told) → at s ≡ Some c → content_as d c ≡ h → sites_as k s ≡ Some h
+    stands : (s : SiteTerm) (c : Content) (h : ToldContent) → at s ≡ Some c → content_as d c ≡ h → sites_as k s ≡ Some h
     stands s c h e q = told_site k s c e ∙ ap Some q
 
     field_got : (ty variant i : ℕ) (vs : Values) (c : Content) → from_value (slice_get (listed vs) i) ≡ Some c → field_of_variant variant i (of_variant ty variant vs) ≡ Some c
     field_got ty variant i vs c e = cond-true (variant == variant) (from_value (slice_get (listed vs) i)) None (number_same variant) ∙ e
 
-    pub there : (s : SiteTerm) (h : Told) → is_of_parts s ≡ true → IsHeldAs specs (args_as k) (sites_as k) s h → sites_as k s ≡ Some h
+    pub there : (s : SiteTerm) (h : ToldContent) → is_of_parts s ≡ true → IsHeldAs specs (args_as k) (sites_as k) s h → sites_as k s ≡ Some h
     there (argument i) h g a =
         let v = argument_back d args i a.part a.there in stands (argument i) (one v.0) h (ap from_value v.1) (ap told v.2 ∙ sym a.held)
     there (variant_made ty variant ss) h g a =

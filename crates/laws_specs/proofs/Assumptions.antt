@@ -18,7 +18,7 @@ use Rattle.model.proofs.Options.{then_some}
 use Rattle.laws_trees.proofs.Shapes.{HasForm, has_form}
 use Rattle.laws_specs.specs.Words.{Denoted, DenotedList, no_denoted, denoted_and}
 use Rattle.laws_specs.specs.Specs.{IsRequired}
-use Rattle.laws_specs.specs.Conditions.{Told, told, told_parts, told_nothing, told_just, told_many, told_outputs, answered_as, as_denoted, result_as, is_of_type, are_of_entries, IsTypedAs, IsMetAs, IsExtractedAsSaid, IsConstructedAsSaid, IsAnsweredAsSaid, is_impure_call, condition, IsAssumed}
+use Rattle.laws_specs.specs.Conditions.{ToldContent, told, told_parts, told_nothing, told_just, told_many, told_outputs, answered_as, as_denoted, result_as, is_of_type, are_of_entries, IsTypedAs, IsMetAs, IsExtractedAsSaid, IsConstructedAsSaid, IsAnsweredAsSaid, is_impure_call, condition, IsAssumed}
 use Rattle.laws_specs.specs.Meets.{Atoms, stands_for, stand_for, content_as, answers_in}
 use Rattle.laws_specs.proofs.PlainOutcomes.{Served}
 use Rattle.laws_specs.proofs.Valuations.{Called, content, values, sites_as, args_as, each_told, told_site, told_there, told_same, is_value, values_there, value_held, value_there, site_held, site_formed, value_typed, values_typed}
@@ -71,7 +71,7 @@ module _ (k : Called) where
   pick_there (Some nothing) s c e = absurd (none_some c e)
   pick_there (Some (just a)) s c e = absurd (none_some c e)
 
-  moved : (t : ℕ) (xs ys : DenotedList) (h g : Told) → xs ≡ ys → h ≡ g → IsConstructedAsSaid k.specs t xs h → IsConstructedAsSaid k.specs t ys g
+  moved : (t : ℕ) (xs ys : DenotedList) (h g : ToldContent) → xs ≡ ys → h ≡ g → IsConstructedAsSaid k.specs t xs h → IsConstructedAsSaid k.specs t ys g
   moved t xs ys h g e q f = subst (λ zs. IsConstructedAsSaid k.specs t zs g) e (subst (IsConstructedAsSaid k.specs t xs) q f)
 
   -- a constructor's call is as said where the answers that it may have are
@@ -177,14 +177,14 @@ module _ (k : Called) where
   extractor_typed t (a_struct ty) x xs f e = absurd (false≢true f)
   extractor_typed t unknown x xs f e = absurd (false≢true f)
 
-  as_output : (h : Told) (x : Denoted) → as_denoted h ≡ Some x → told_outputs h ≡ Some (denoted_and x no_denoted)
+  as_output : (h : ToldContent) (x : Denoted) → as_denoted h ≡ Some x → told_outputs h ≡ Some (denoted_and x no_denoted)
   as_output (told y) x e = ap (λ z. Some (denoted_and z no_denoted)) (some_is y x e)
   as_output (told_parts ys) x e = absurd (none_some x e)
   as_output told_nothing x e = absurd (none_some x e)
   as_output (told_just h) x e = absurd (none_some x e)
   as_output told_many x e = absurd (none_some x e)
 
-  result_output : (h : Told) (x : Denoted) → result_as h ≡ Some x → answered_as h ≡ Some (denoted_and x no_denoted)
+  result_output : (h : ToldContent) (x : Denoted) → result_as h ≡ Some x → answered_as h ≡ Some (denoted_and x no_denoted)
   result_output (told_just h) x e = as_output h x e
   result_output (told y) x e = as_output (told y) x e
   result_output (told_parts ys) x e = absurd (none_some x e)
@@ -200,28 +200,28 @@ module _ (k : Called) where
 
   -- of a constructor's call, where its answer fits
   pub call_typed : (t n : ℕ) (ss : SiteTerms) → ((vs : Values) (c : Content) → values k ss ≡ Some vs → call_answer k.meaning t n vs ≡ Some c → fits_constructor k.program t (kind k.program t) c ≡ true)
-      → (h : Told) → sites_as k (constructor_call t ss n) ≡ Some h → IsTypedAs k.program k.specs (constructor_call t ss n) h
+      → (h : ToldContent) → sites_as k (constructor_call t ss n) ≡ Some h → IsTypedAs k.program k.specs (constructor_call t ss n) h
   call_typed t n ss fits h e x q =
       let b = told_there d (content k (constructor_call t ss n)) h e in
       let a = then_some (values k ss) (call_answer k.meaning t n) b.0 b.1 in
       constructor_typed t (kind k.program t) b.0 x (fits a.0 b.0 a.1 a.2) (ap result_as b.2 ∙ q)
 
   extraction_typed : (t : ℕ) (s : SiteTerm) → ((v : Value) (c : Content) → content k s ≡ Some (one v) → extractor_answer k.meaning t v ≡ Some c → fits_extractor k.program t (kind k.program t) c ≡ true)
-      → (h : Told) → sites_as k (extractor_call t s) ≡ Some h → IsTypedAs k.program k.specs (extractor_call t s) h
+      → (h : ToldContent) → sites_as k (extractor_call t s) ≡ Some h → IsTypedAs k.program k.specs (extractor_call t s) h
   extraction_typed t s fits h e xs q =
       let b = told_there d (content k (extractor_call t s)) h e in
       let a = then_some (then_option (content k s) as_value) (extractor_answer k.meaning t) b.0 b.1 in
       extractor_typed t (kind k.program t) b.0 xs (fits a.0 b.0 (is_value (content k s) a.0 a.1) a.2) (ap answered_as b.2 ∙ q)
 
   -- a named constant is of its type, and has no answers to pick
-  constant_typed : (ds : Demands) → Served k.program k.meaning k.args k.pick ds.made → (name : ℕ) (h : Told) → In ds.made (prim_term name) → sites_as k (prim_term name) ≡ Some h → IsTypedAs k.program k.specs (prim_term name) h
+  constant_typed : (ds : Demands) → Served k.program k.meaning k.args k.pick ds.made → (name : ℕ) (h : ToldContent) → In ds.made (prim_term name) → sites_as k (prim_term name) ≡ Some h → IsTypedAs k.program k.specs (prim_term name) h
   constant_typed ds a name h i q ty x e w =
       let b = told_there d (content k (prim_term name)) h q in
       let v = value_held d (constant_value k.meaning name) b.0 b.1 in
       let same : x ≡ stands_for d v.0 = told_same x (stands_for d v.0) (sym w ∙ sym b.2 ∙ v.2) in
       subst (λ y. is_of_type k.program.types k.specs ty y ≡ true) (sym same) (value_typed k ty v.0 (subst (λ o. typed_as k.program o v.0 ≡ true) e (a.prims name v.0 i v.1)))
 
-  no_pick : (name : ℕ) (h : Told) → sites_as k (pick_of (prim_term name)) ≡ Some h → ⊥
+  no_pick : (name : ℕ) (h : ToldContent) → sites_as k (pick_of (prim_term name)) ≡ Some h → ⊥
   no_pick name h q =
       let b = told_there d (content k (pick_of (prim_term name))) h q in
       let c = pick_there (content k (prim_term name)) (prim_term name) b.0 b.1 in
@@ -231,7 +231,7 @@ module _ (k : Called) where
       not_many : (x : Denoted) → told_many ≡ told x → ⊥
       not_many x e = cc
 
-  site_typed : (ds : Demands) → Served k.program k.meaning k.args k.pick ds.made → (s : SiteTerm) (h : Told) → In ds.made s → is_impure_call s ≡ false → sites_as k s ≡ Some h → IsTypedAs k.program k.specs s h
+  site_typed : (ds : Demands) → Served k.program k.meaning k.args k.pick ds.made → (s : SiteTerm) (h : ToldContent) → In ds.made s → is_impure_call s ≡ false → sites_as k s ≡ Some h → IsTypedAs k.program k.specs s h
   site_typed ds a (bool_term b ty) h i e q = tt
   site_typed ds a (int_term z ty) h i e q = tt
   site_typed ds a (prim_term name) h i e q = constant_typed ds a name h i q
@@ -274,7 +274,7 @@ module _ (k : Called) where
   constructor_picks_typed t unknown cs c x f i e = absurd (false≢true f)
 
   call_picks_typed : (t : ℕ) (ss : SiteTerms) → ((vs : Values) (c : Content) → values k ss ≡ Some vs → call_answer k.meaning t 0 vs ≡ Some c → fits_constructor k.program t (kind k.program t) c ≡ true)
-      → (h : Told) → sites_as k (pick_of (constructor_call t ss 0)) ≡ Some h → IsTypedAs k.program k.specs (constructor_call t ss 0) h
+      → (h : ToldContent) → sites_as k (pick_of (constructor_call t ss 0)) ≡ Some h → IsTypedAs k.program k.specs (constructor_call t ss 0) h
   call_picks_typed t ss fits h e x q =
       let b = told_there d (content k (pick_of (constructor_call t ss 0))) h e in
       let c = pick_there (content k (constructor_call t ss 0)) (constructor_call t ss 0) b.0 b.1 in
@@ -282,14 +282,14 @@ module _ (k : Called) where
       constructor_picks_typed t (kind k.program t) c.0 b.0 x (fits a.0 (many c.0) a.1 a.2) c.2 (ap result_as b.2 ∙ q)
 
   extraction_picks_typed : (t : ℕ) (s : SiteTerm) → ((v : Value) (c : Content) → content k s ≡ Some (one v) → extractor_answer k.meaning t v ≡ Some c → fits_extractor k.program t (kind k.program t) c ≡ true)
-      → (h : Told) → sites_as k (pick_of (extractor_call t s)) ≡ Some h → IsTypedAs k.program k.specs (extractor_call t s) h
+      → (h : ToldContent) → sites_as k (pick_of (extractor_call t s)) ≡ Some h → IsTypedAs k.program k.specs (extractor_call t s) h
   extraction_picks_typed t s fits h e xs q =
       let b = told_there d (content k (pick_of (extractor_call t s))) h e in
       let c = pick_there (content k (extractor_call t s)) (extractor_call t s) b.0 b.1 in
       let a = then_some (then_option (content k s) as_value) (extractor_answer k.meaning t) (many c.0) c.1 in
       extractor_picks_typed t (kind k.program t) c.0 b.0 xs (fits a.0 (many c.0) (is_value (content k s) a.0 a.1) a.2) c.2 (ap answered_as b.2 ∙ q)
 
-  picks_typed : (ds : Demands) → Served k.program k.meaning k.args k.pick ds.made → (s : SiteTerm) (h : Told) → In ds.made s → is_impure_call s ≡ false → sites_as k (pick_of s) ≡ Some h → IsTypedAs k.program k.specs s h
+  picks_typed : (ds : Demands) → Served k.program k.meaning k.args k.pick ds.made → (s : SiteTerm) (h : ToldContent) → In ds.made s → is_impure_call s ≡ false → sites_as k (pick_of s) ≡ Some h → IsTypedAs k.program k.specs s h
   picks_typed ds a (bool_term b ty) h i e q = tt
   picks_typed ds a (int_term z ty) h i e q = tt
   picks_typed ds a (prim_term name) h i e q = absurd (no_pick name h q)

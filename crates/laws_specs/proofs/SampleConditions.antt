@@ -13,18 +13,18 @@ use Rattle.model.proofs.Options.{then_some}
 use Rattle.model.proofs.SameSites.{term_means}
 use Rattle.laws_specs.specs.Words.{Denoted, a_truth, a_word, DenotedList, no_denoted, denoted_and, equals}
 use Rattle.laws_specs.specs.Specs.{SpecExpr, its_argument, its_result, the_same, operation, Specs, IsSaid, IsRequired, IsProvided, no_unknown}
-use Rattle.laws_specs.specs.Conditions.{Told, told, as_denoted, result_as, call_of, is_of_type, are_of_entries, is_impure_call, IsAnsweredAsSaid, IsTypedAs, Valuation, denoted_at, denoted_at_each, is_told_formed, IsHeldAs, IsAssumed, AreMade, condition}
+use Rattle.laws_specs.specs.Conditions.{ToldContent, told, as_denoted, result_as, call_of, is_of_type, are_of_entries, is_impure_call, IsAnsweredAsSaid, IsTypedAs, Valuation, denoted_at, denoted_at_each, is_told_formed, IsHeldAs, IsAssumed, AreMade, condition}
 use Rattle.laws_specs.specs.Samples.{of_two, two, byte, is_sum, x, adding, noting, rule_of, program_with, specs_with, doubled, below_itself, IsRight, SumsAreRight, CallsAreRequired}
 
 -- 1. valuations that are listed
-abbrev pub listed_as : List (SiteTerm × Told) → Valuation
+abbrev pub listed_as : List (SiteTerm × ToldContent) → Valuation
 listed_as entries s = look (λ k. site_term_eq k s) entries
 
-abbrev pub EachHeld : (SiteTerm → Told → Type 0) → List (SiteTerm × Told) → Type 0
+abbrev pub EachHeld : (SiteTerm → ToldContent → Type 0) → List (SiteTerm × ToldContent) → Type 0
 EachHeld P [] = Unit {0}
 EachHeld P (e ∷ entries) = P e.0 e.1 × EachHeld P entries
 
-pub each_held : (P : SiteTerm → Told → Type 0) (entries : List (SiteTerm × Told)) → EachHeld P entries → (s : SiteTerm) (h : Told) → listed_as entries s ≡ Some h → P s h
+pub each_held : (P : SiteTerm → ToldContent → Type 0) (entries : List (SiteTerm × ToldContent)) → EachHeld P entries → (s : SiteTerm) (h : ToldContent) → listed_as entries s ≡ Some h → P s h
 each_held P [] a s h e = absurd (none_some h e)
 each_held P (y ∷ entries) a s h e =
     elim (cases_Bool (site_term_eq y.0 s)) [
@@ -35,7 +35,7 @@ each_held P (y ∷ entries) a s h e =
     ]
 
 -- where no answer of a multi call is listed
-pub no_picks : (specs : Specs) (f : Valuation) → ((s : SiteTerm) (h : Told) → f (pick_of s) ≡ Some h → ⊥) → (s : SiteTerm) → IsAnsweredAsSaid specs f s (pick_of s)
+pub no_picks : (specs : Specs) (f : Valuation) → ((s : SiteTerm) (h : ToldContent) → f (pick_of s) ≡ Some h → ⊥) → (s : SiteTerm) → IsAnsweredAsSaid specs f s (pick_of s)
 no_picks specs f n (extractor_call t s) = λ y h e there. absurd (n (extractor_call t s) h there)
 no_picks specs f n (constructor_call t ss i) = λ xs h e there. absurd (n (constructor_call t ss i) h there)
 no_picks specs f n (bool_term b ty) = tt
@@ -60,7 +60,7 @@ pub just_one : {X : Type 0} (P : X → Type 0) (y : X) → P y → All P (y ∷ 
 just_one P y h = All-cons P y [] h (All-nil P)
 
 -- 3. (add x x)
-pub told_is : (o : Option Told) (a : Denoted) → then_option o as_denoted ≡ Some a → o ≡ Some (told a)
+pub told_is : (o : Option ToldContent) (a : Denoted) → then_option o as_denoted ≡ Some a → o ≡ Some (told a)
 told_is None a e = absurd (none_some a e)
 told_is (Some (told y)) a e = ap (λ z. Some (told z)) (some_is y a e)
 told_is (Some _) a e = absurd (none_some a e)
@@ -89,7 +89,7 @@ abbrev Assumed : TypedExpr → Specs → DenotedList → Valuation → Type 0
 Assumed rhs specs args f = IsAssumed (program_with rhs) specs (condition (program_with rhs) (rule_of rhs)) args f
 
 -- the sum of the argument with itself is what is provided
-sum_provided : (b : Denoted) (f : Valuation) → Assumed (adding x x) sum_specs (denoted_and b no_denoted) f → (h : Told) (y : Denoted) → f sum_call ≡ Some h → result_as h ≡ Some y
+sum_provided : (b : Denoted) (f : Valuation) → Assumed (adding x x) sum_specs (denoted_and b no_denoted) f → (h : ToldContent) (y : Denoted) → f sum_call ≡ Some h → result_as h ≡ Some y
     → IsProvided sum_specs 0 (denoted_and b no_denoted) y
 sum_provided b f a h y e q =
     let c = a.held sum_call h e in
@@ -112,16 +112,16 @@ sum_right (denoted_and b (denoted_and c rest)) f a = absurd (false≢true (and_p
 abbrev pub one_argument : DenotedList
 one_argument = denoted_and (byte 1) no_denoted
 
-abbrev argument_alone : List (SiteTerm × Told)
+abbrev argument_alone : List (SiteTerm × ToldContent)
 argument_alone = (argument 0, told (byte 1)) ∷ []
 
 abbrev pub alone : Valuation
 alone = listed_as argument_alone
 
-pub alone_held : (specs : Specs) (s : SiteTerm) (h : Told) → alone s ≡ Some h → IsHeldAs specs one_argument alone s h
+pub alone_held : (specs : Specs) (s : SiteTerm) (h : ToldContent) → alone s ≡ Some h → IsHeldAs specs one_argument alone s h
 alone_held specs = each_held (IsHeldAs specs one_argument alone) argument_alone (record { part = byte 1; there = refl; held = refl }, tt)
 
-pub alone_formed : (s : SiteTerm) (h : Told) → alone s ≡ Some h → is_told_formed h ≡ true
+pub alone_formed : (s : SiteTerm) (h : ToldContent) → alone s ≡ Some h → is_told_formed h ≡ true
 alone_formed = each_held (λ s h. is_told_formed h ≡ true) argument_alone (refl, tt)
 
 pub truths_same : (a b : Bool) → Some (a_truth a) ≡ Some (a_truth b) → a ≡ b
@@ -165,7 +165,7 @@ width_wrong right = none_some (a_truth true) (argument_provided another_width ri
 abbrev failing : Specs
 failing = specs_with (doubled ∷ []) (below_itself ∷ []) []
 
-abbrev with_call : List (SiteTerm × Told)
+abbrev with_call : List (SiteTerm × ToldContent)
 with_call = (argument 0, told (byte 1)) ∷ ((sum_call, told (byte 7)) ∷ [])
 
 abbrev called : Valuation
@@ -174,7 +174,7 @@ called = listed_as with_call
 never_below : (xs : DenotedList) → Some (two (byte 1) (byte 1)) ≡ Some xs → IsRequired failing 1 xs → ⊥
 never_below xs e r = false≢true (truths_same false true (only_one (IsSaid no_unknown (two (byte 1) (byte 1)) None) below_itself (subst (IsRequired failing 1) (sym (some_is (two (byte 1) (byte 1)) xs e)) r)))
 
-call_typed : (h : Told) → Some (told (byte 7)) ≡ Some h → IsTypedAs (program_with (adding x x)) failing sum_call h
+call_typed : (h : ToldContent) → Some (told (byte 7)) ≡ Some h → IsTypedAs (program_with (adding x x)) failing sum_call h
 call_typed h e = subst (IsTypedAs (program_with (adding x x)) failing sum_call) (some_is (told (byte 7)) h e) (λ y q. subst (λ z. are_of_entries (program_with (adding x x)) failing (1 ∷ []) (denoted_and z no_denoted) ≡ true) (some_is (byte 7) y q) refl)
 
 call_assumed : Assumed (adding x x) failing one_argument called

@@ -22,7 +22,7 @@ use Rattle.laws_typing.specs.WellTypedPrograms.{IsWellTypedRule}
 use Rattle.laws_specs.specs.Words.{Denoted, no_denoted, denoted_and}
 use Rattle.laws_specs.specs.WordOperators.{word_of}
 use Rattle.laws_specs.specs.Specs.{IsSaid, IsProvided, no_unknown}
-use Rattle.laws_specs.specs.Conditions.{Told, told, told_many, result_as, Valuation, denoted_at, denoted_at_each, is_of_type, IsConstructedAsSaid, IsAnsweredAsSaid, IsTypedAs, condition, IsAssumed, IsValid}
+use Rattle.laws_specs.specs.Conditions.{ToldContent, told, told_many, result_as, Valuation, denoted_at, denoted_at_each, is_of_type, IsConstructedAsSaid, IsAnsweredAsSaid, IsTypedAs, condition, IsAssumed, IsValid}
 use Rattle.laws_specs.specs.Meets.{stand_for, content_as, answers_in, IsDenotation, MeetsSpecs}
 use Rattle.laws_specs.specs.Samples.{byte, x, a_term, rule_of, doubled}
 use Rattle.laws_specs.specs.SampleCalls.{bytes_as, a_byte, hundred}
@@ -40,7 +40,7 @@ like_call = constructor_call 1 like_args 0
 abbrev made_sites : List SiteTerm
 made_sites = argument 0 ∷ (like_call ∷ (pick_of like_call ∷ []))
 
-like_provided : (b : Denoted) (f : Valuation) → IsAssumed (lists_with liking) list_specs (condition (lists_with liking) (rule_of liking)) (denoted_and b no_denoted) f → (h : Told) (y : Denoted) → f (pick_of like_call) ≡ Some h → result_as h ≡ Some y
+like_provided : (b : Denoted) (f : Valuation) → IsAssumed (lists_with liking) list_specs (condition (lists_with liking) (rule_of liking)) (denoted_and b no_denoted) f → (h : ToldContent) (y : Denoted) → f (pick_of like_call) ≡ Some h → result_as h ≡ Some y
     → IsProvided list_specs 0 (denoted_and b no_denoted) y
 like_provided b f a h y e q =
     let c = a.held like_call told_many (a.held (pick_of like_call) h e) in

@@ -8,7 +8,7 @@ use Rattle.model.specs.rules.Program.{rules_of}
 use Rattle.model.proofs.Elements.{In, in_from_contains, contains_from_in, some_is, none_some}
 use Rattle.laws_specs.specs.Words.{Denoted, a_truth, an_integer, a_word, variant_of, struct_of, DenotedList, no_denoted, denoted_and}
 use Rattle.laws_specs.specs.Specs.{IsSaid, no_unknown}
-use Rattle.laws_specs.specs.Conditions.{Told, told, result_as, Valuation, is_told_formed, is_of_type, IsPartHeld, IsHeldAs, IsAnsweredAsSaid, IsTypedAs, condition, IsAssumed, IsAbove, IsNoneAbove, IsValid, IsValidBelow}
+use Rattle.laws_specs.specs.Conditions.{ToldContent, told, result_as, Valuation, is_told_formed, is_of_type, IsPartHeld, IsHeldAs, IsAnsweredAsSaid, IsTypedAs, condition, IsAssumed, IsAbove, IsNoneAbove, IsValid, IsValidBelow}
 use Rattle.laws_specs.specs.Samples.{byte}
 use Rattle.laws_specs.specs.SamplePriorities.{for_a, for_others, codes, letter, its_code, code_specs, PrioritiesCount}
 use Rattle.laws_specs.proofs.SampleConditions.{no_picks, listed_as, each_held, only_one, just_one, truths_same, none_first, none_made}
@@ -17,7 +17,7 @@ use Rattle.laws_specs.proofs.SampleConditions.{no_picks, listed_as, each_held, o
 abbrev argument_a : DenotedList
 argument_a = denoted_and (letter 0) no_denoted
 
-abbrev wrong_sites : List (SiteTerm × Told)
+abbrev wrong_sites : List (SiteTerm × ToldContent)
 wrong_sites = (argument 0, told (letter 0)) ∷ ((int_term (pos 20) 1, told (byte 20)) ∷ [])
 
 abbrev wrong : Valuation
@@ -65,7 +65,7 @@ letter_is (an_integer z) h = absurd (false≢true h)
 letter_is (a_word w n) h = absurd (false≢true h)
 
 -- what a literal gives
-pub given_is : (n : ℕ) (h : Told) (y : Denoted) → ((x : Denoted) → Some (byte n) ≡ Some x → h ≡ told x) → result_as h ≡ Some y → byte n ≡ y
+pub given_is : (n : ℕ) (h : ToldContent) (y : Denoted) → ((x : Denoted) → Some (byte n) ≡ Some x → h ≡ told x) → result_as h ≡ Some y → byte n ≡ y
 given_is n h y f e = some_is (byte n) y (sym (ap result_as (f (byte n) refl)) ∙ e)
 
 -- 3. the lower rule below the other one

@@ -18,7 +18,7 @@ use Rattle.model.proofs.ValuesEqual.{eq_all_means}
 use Rattle.laws_specs.specs.Samples.{x, adding, rule_of}
 use Rattle.laws_specs.specs.SampleCalls.{a_byte, as_written}
 use Rattle.laws_specs.proofs.PlainOutcomes.{made_asked}
-use Rattle.laws_specs.specs.WholeRuns.{by_rules, IsPureCall, a_result, WholeRun}
+use Rattle.laws_specs.specs.WholeRuns.{by_rules, IsPureAnswer, a_result, WholeRun}
 use Rattle.laws_specs.specs.SampleRuns.{noted_rule, noting_program, hundreds, adds_and_notes, call_of, RunsAreWhole}
 
 -- 1. a meaning serves rules that ask for their first argument and for calls that it answers
@@ -123,10 +123,10 @@ abbrev twice_meaning : Meaning
 twice_meaning = from_outside adds_and_notes.pures (λ t n. None)
 
 -- whatever a whole run nests, `add` is outside
-added : (N : Call → List Call → Content → List Call → Type 0) (t : ℕ) (vs : Values) (a : Content) → adds_and_notes.pures t vs ≡ Some a → IsPureCall N noting_program adds_and_notes t vs a
+added : (N : Call → List Call → Content → List Call → Type 0) (t : ℕ) (vs : Values) (a : Content) → adds_and_notes.pures t vs ≡ Some a → IsPureAnswer N noting_program adds_and_notes t vs a
 added N t vs a e =
     elim (cases_Bool ((1 == t) && values_eq hundreds vs)) [
-      | inl b ↦ subst (λ n. IsPureCall N noting_program adds_and_notes n vs a) (eqb-true 1 t (and_parts (1 == t) (values_eq hundreds vs) b).0) (by_one b)
+      | inl b ↦ subst (λ n. IsPureAnswer N noting_program adds_and_notes n vs a) (eqb-true 1 t (and_parts (1 == t) (values_eq hundreds vs) b).0) (by_one b)
       | inr f ↦ absurd (none_some a (sym (cond-false ((1 == t) && values_eq hundreds vs) (Some (one (a_byte 200))) None f) ∙ e))
     ]
   where
@@ -163,15 +163,15 @@ noted_meaning =
     from_outside (λ t vs. if (0 == t) && values_eq (value_and (a_byte 100) no_value) vs then Some (one (a_byte 200)) else None)
     (λ t n. if (2 == t) && (0 == n) then Some (one (a_byte 7)) else None)
 
-doubled_within : (t : ℕ) (vs : Values) (a : Content) → noted_meaning.pures t vs ≡ Some a → IsPureCall (WholeRun (by_rules noting_program) noting_program adds_and_notes 1) noting_program adds_and_notes t vs a
+doubled_within : (t : ℕ) (vs : Values) (a : Content) → noted_meaning.pures t vs ≡ Some a → IsPureAnswer (WholeRun (by_rules noting_program) noting_program adds_and_notes 1) noting_program adds_and_notes t vs a
 doubled_within t vs a e =
     elim (cases_Bool ((0 == t) && values_eq (value_and (a_byte 100) no_value) vs)) [
       | inl b ↦
           let h = and_parts (0 == t) (values_eq (value_and (a_byte 100) no_value) vs) b in
           let is : one (a_byte 200) ≡ a = some_is (one (a_byte 200)) a (sym (cond-true ((0 == t) && values_eq (value_and (a_byte 100) no_value) vs) (Some (one (a_byte 200))) None b) ∙ e) in
-          subst (λ n. IsPureCall (WholeRun (by_rules noting_program) noting_program adds_and_notes 1) noting_program adds_and_notes n vs a) (eqb-true 0 t h.0)
-          (subst (λ ws. IsPureCall (WholeRun (by_rules noting_program) noting_program adds_and_notes 1) noting_program adds_and_notes 0 ws a) (eq_all_means (value_and (a_byte 100) no_value) vs h.1)
-          (subst (IsPureCall (WholeRun (by_rules noting_program) noting_program adds_and_notes 1) noting_program adds_and_notes 0 (value_and (a_byte 100) no_value)) is twice_run))
+          subst (λ n. IsPureAnswer (WholeRun (by_rules noting_program) noting_program adds_and_notes 1) noting_program adds_and_notes n vs a) (eqb-true 0 t h.0)
+          (subst (λ ws. IsPureAnswer (WholeRun (by_rules noting_program) noting_program adds_and_notes 1) noting_program adds_and_notes 0 ws a) (eq_all_means (value_and (a_byte 100) no_value) vs h.1)
+          (subst (IsPureAnswer (WholeRun (by_rules noting_program) noting_program adds_and_notes 1) noting_program adds_and_notes 0 (value_and (a_byte 100) no_value)) is twice_run))
       | inr f ↦ absurd (none_some a (sym (cond-false ((0 == t) && values_eq (value_and (a_byte 100) no_value) vs) (Some (one (a_byte 200))) None f) ∙ e))
     ]
 

@@ -6,7 +6,7 @@ use Rattle.model.specs.sites.Sites.{SiteTerm, argument, constructor_call, some_p
 use Rattle.model.proofs.Elements.{in_from_contains, some_is, none_some}
 use Rattle.laws_specs.specs.Words.{Denoted, no_denoted, denoted_and}
 use Rattle.laws_specs.specs.Specs.{IsSaid, no_unknown}
-use Rattle.laws_specs.specs.Conditions.{Told, told, told_nothing, result_as, Valuation, is_told_formed, IsHeldAs, IsAnsweredAsSaid, IsTypedAs, condition, IsAssumed}
+use Rattle.laws_specs.specs.Conditions.{ToldContent, told, told_nothing, result_as, Valuation, is_told_formed, IsHeldAs, IsAnsweredAsSaid, IsTypedAs, condition, IsAssumed}
 use Rattle.laws_specs.specs.Samples.{byte, doubled}
 use Rattle.laws_specs.specs.SampleUnwraps.{unused_rule, maybes, maybe_specs, UnusedCallsShowNothing}
 use Rattle.laws_specs.proofs.SampleConditions.{no_picks, listed_as, each_held, only_one, truths_same, none_made, one_argument}
@@ -14,13 +14,13 @@ use Rattle.laws_specs.proofs.SampleConditions.{no_picks, listed_as, each_held, o
 abbrev maybe_call : SiteTerm
 maybe_call = constructor_call 3 (site_term_and (argument 0) no_site_term) 0
 
-abbrev sites : List (SiteTerm × Told)
+abbrev sites : List (SiteTerm × ToldContent)
 sites = (argument 0, told (byte 1)) ∷ ((maybe_call, told_nothing) ∷ [])
 
 abbrev f : Valuation
 f = listed_as sites
 
-no_result : (h : Told) (y : Denoted) → Some told_nothing ≡ Some h → result_as h ≡ Some y → ⊥
+no_result : (h : ToldContent) (y : Denoted) → Some told_nothing ≡ Some h → result_as h ≡ Some y → ⊥
 no_result h y e q = none_some y (ap result_as (some_is told_nothing h e) ∙ q)
 
 unused_assumed : IsAssumed maybes maybe_specs (condition maybes unused_rule) one_argument f

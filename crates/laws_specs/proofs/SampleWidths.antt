@@ -8,7 +8,7 @@ use Rattle.model.proofs.Elements.{in_from_contains, or_split, some_is, none_some
 use Rattle.laws_specs.specs.Words.{Denoted, a_truth, an_integer, a_word, variant_of, struct_of, DenotedList, no_denoted, denoted_and}
 use Rattle.laws_specs.specs.WordOperators.{word_of}
 use Rattle.laws_specs.specs.Specs.{Sort, words_among, is_of_sort, sort_of, integer_in, literal_of, IsSaid, no_unknown}
-use Rattle.laws_specs.specs.Conditions.{Told, told, result_as, is_told_formed, is_of_type, IsPartHeld, IsHeldAs, IsAnsweredAsSaid, IsTypedAs, Valuation, IsAssumed, condition}
+use Rattle.laws_specs.specs.Conditions.{ToldContent, told, result_as, is_told_formed, is_of_type, IsPartHeld, IsHeldAs, IsAnsweredAsSaid, IsTypedAs, Valuation, IsAssumed, condition}
 use Rattle.laws_specs.specs.Meets.{IsDenotation}
 use Rattle.laws_specs.specs.Samples.{x, rule_of, program_with}
 use Rattle.laws_specs.specs.SampleCalls.{bytes_as}
@@ -48,7 +48,7 @@ a_wide_one = a_word 16 1
 abbrev wide_argument : DenotedList
 wide_argument = denoted_and a_wide_one no_denoted
 
-abbrev wide_sites : List (SiteTerm × Told)
+abbrev wide_sites : List (SiteTerm × ToldContent)
 wide_sites = (argument 0, told a_wide_one) ∷ []
 
 abbrev wide : Valuation

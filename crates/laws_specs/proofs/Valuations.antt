@@ -15,7 +15,7 @@ use Rattle.model.proofs.Options.{then_some}
 use Rattle.laws_trees.proofs.picks.HeldContents.{is_just}
 use Rattle.laws_specs.specs.Words.{Denoted, a_truth, an_integer, a_word, variant_of, struct_of, DenotedList, denoted_and, denoted_list, is_plain, is_formed, are_formed}
 use Rattle.laws_specs.specs.Specs.{Sort, Specs, sort_of}
-use Rattle.laws_specs.specs.Conditions.{Told, told, told_many, is_told_formed, as_denoted, denoted_at_each, IsPartHeld, IsHeldAs, is_modelled_as, is_atom_as, is_of_atoms, is_of_type, are_of_types}
+use Rattle.laws_specs.specs.Conditions.{ToldContent, told, told_many, is_told_formed, as_denoted, denoted_at_each, IsPartHeld, IsHeldAs, is_modelled_as, is_atom_as, is_of_atoms, is_of_type, are_of_types}
 use Rattle.laws_specs.specs.Meets.{Atoms, stands_for, stand_for, content_as, IsDenotation, MeetsSpecs}
 
 -- 1. optional contents
@@ -27,7 +27,7 @@ is_value (Some nothing) v e = absurd (none_some v e)
 is_value (Some (just c)) v e = absurd (none_some v e)
 is_value (Some (many cs)) v e = absurd (none_some v e)
 
-abbrev pub told_of : Atoms → Option Content → Option Told
+abbrev pub told_of : Atoms → Option Content → Option ToldContent
 told_of d o = then_option o (λ c. Some (content_as d c))
 
 abbrev pub denoted_of : Atoms → Option Value → Option Denoted
@@ -54,7 +54,7 @@ pub told_same : (x y : Denoted) → told x ≡ told y → x ≡ y
 told_same x y e = cc
 
 -- what a site that stands for something holds
-pub told_there : (d : Atoms) (o : Option Content) (h : Told) → told_of d o ≡ Some h → (c : Content) × (o ≡ Some c) × (content_as d c ≡ h)
+pub told_there : (d : Atoms) (o : Option Content) (h : ToldContent) → told_of d o ≡ Some h → (c : Content) × (o ≡ Some c) × (content_as d c ≡ h)
 told_there d o h e = let a = then_some o (λ c. Some (content_as d c)) h e in (a.0, a.1, some_is (content_as d a.0) h a.2)
 
 pub values_there : (d : Atoms) (o : Option Values) (xs : DenotedList) → all_denoted_of d o ≡ Some xs → (vs : Values) × (o ≡ Some vs) × (stand_for d vs ≡ xs)
@@ -107,7 +107,7 @@ argument_back d [] i x e = absurd (none_some x e)
 argument_back d (w ∷ args) zero x e = (w, refl, some_is (stands_for d w) x e)
 argument_back d (w ∷ args) (suc i) x e = argument_back d args i x e
 
-pub part_back : (d : Atoms) (vs : Values) (i : ℕ) (h : Told) → IsPartHeld (stand_for d vs) i h → (v : Value) × (from_value (slice_get (listed vs) i) ≡ Some (one v)) × (told (stands_for d v) ≡ h)
+pub part_back : (d : Atoms) (vs : Values) (i : ℕ) (h : ToldContent) → IsPartHeld (stand_for d vs) i h → (v : Value) × (from_value (slice_get (listed vs) i) ≡ Some (one v)) × (told (stands_for d v) ≡ h)
 part_back d vs i h a = let b = field_back d vs i a.part a.there in (b.0, ap from_value b.1, ap told b.2 ∙ sym a.held)
 
 -- 2. fields, parts and picks
@@ -168,7 +168,7 @@ module _ (k : Called) where
   abbrev pub values : SiteTerms → Option Values
   values ss = site_values k.meaning k.args k.pick ss
 
-  abbrev pub sites_as : SiteTerm → Option Told
+  abbrev pub sites_as : SiteTerm → Option ToldContent
   sites_as s = told_of k.atoms (content s)
 
   abbrev pub args_as : DenotedList
@@ -222,7 +222,7 @@ module _ (k : Called) where
       (stand_for d b.0, told_site s a.0 a.1 ∙ ap (λ x. Some (content_as d x)) b.1, part_held d b.0 i c b.2)
   content_held no_site c e = none_some c e
 
-  pub site_held : (s : SiteTerm) (h : Told) → sites_as s ≡ Some h → IsHeldAs k.specs args_as sites_as s h
+  pub site_held : (s : SiteTerm) (h : ToldContent) → sites_as s ≡ Some h → IsHeldAs k.specs args_as sites_as s h
   site_held s h e = let a = told_there d (content s) h e in subst (IsHeldAs k.specs args_as sites_as s) a.2 (content_held s a.0 a.1)
 
   -- 4. words lie below 2 to their width
@@ -244,7 +244,7 @@ module _ (k : Called) where
   content_formed (just c) = content_formed c
   content_formed (many cs) = refl
 
-  pub site_formed : (s : SiteTerm) (h : Told) → sites_as s ≡ Some h → is_told_formed h ≡ true
+  pub site_formed : (s : SiteTerm) (h : ToldContent) → sites_as s ≡ Some h → is_told_formed h ≡ true
   site_formed s h e = let a = told_there d (content s) h e in subst (λ x. is_told_formed x ≡ true) a.2 (content_formed a.0)
 
   -- 5. values of a type stand for what its values may stand for

@@ -13,14 +13,14 @@ use Rattle.laws_specs.specs.Words.{Denoted, a_truth, variant_of, struct_of, Deno
 use Rattle.laws_specs.specs.Specs.{Sort, truths, is_of_sort, Specs, sort_of, constant_of, literal_of, IsRequired, IsProvided, AreUnknownsSorted}
 
 -- what a content stands for; the answers of a multi call are told at the sites that pick them
-pub data Told : Type 0 where
-  told : (x : Denoted) → Told
-  told_parts : (xs : DenotedList) → Told
-  told_nothing : Told
-  told_just : (h : Told) → Told
-  told_many : Told
+pub data ToldContent : Type 0 where
+  told : (x : Denoted) → ToldContent
+  told_parts : (xs : DenotedList) → ToldContent
+  told_nothing : ToldContent
+  told_just : (h : ToldContent) → ToldContent
+  told_many : ToldContent
 
-abbrev pub is_told_formed : Told → Bool
+abbrev pub is_told_formed : ToldContent → Bool
 is_told_formed (told x) = is_formed x
 is_told_formed (told_parts xs) = are_formed xs
 is_told_formed told_nothing = true
@@ -28,27 +28,27 @@ is_told_formed (told_just h) = is_told_formed h
 is_told_formed told_many = true
 
 -- the outputs of an extractor that answers
-abbrev pub told_outputs : Told → Option DenotedList
+abbrev pub told_outputs : ToldContent → Option DenotedList
 told_outputs (told x) = Some (denoted_and x no_denoted)
 told_outputs (told_parts xs) = Some xs
 told_outputs _ = None
 
-abbrev pub answered_as : Told → Option DenotedList
+abbrev pub answered_as : ToldContent → Option DenotedList
 answered_as (told_just h) = told_outputs h
 answered_as h = told_outputs h
 
 -- the one result of a constructor that answers
-abbrev pub as_denoted : Told → Option Denoted
+abbrev pub as_denoted : ToldContent → Option Denoted
 as_denoted (told x) = Some x
 as_denoted _ = None
 
-abbrev pub result_as : Told → Option Denoted
+abbrev pub result_as : ToldContent → Option Denoted
 result_as (told_just h) = as_denoted h
 result_as h = as_denoted h
 
 -- what sites stand for, where they hold something
 abbrev pub Valuation : Type 0
-Valuation = SiteTerm → Option Told
+Valuation = SiteTerm → Option ToldContent
 
 abbrev pub denoted_at : Valuation → SiteTerm → Option Denoted
 denoted_at f s = then_option (f s) as_denoted
@@ -58,13 +58,13 @@ denoted_at_each f no_site_term = Some no_denoted
 denoted_at_each f (site_term_and s rest) = then_option (denoted_at f s) (λ x. then_option (denoted_at_each f rest) (λ xs. Some (denoted_and x xs)))
 
 -- one field of a variant or a struct, or one part of an answer
-pub record IsPartHeld (xs : DenotedList) (i : ℕ) (h : Told) : Type 0 where
+pub record IsPartHeld (xs : DenotedList) (i : ℕ) (h : ToldContent) : Type 0 where
   pub part : Denoted
   pub there : slice_get (denoted_list xs) i ≡ Some part
   pub held : h ≡ told part
 
 -- what a site stands for, by its parts
-abbrev pub IsHeldAs : Specs → DenotedList → Valuation → SiteTerm → Told → Type 0
+abbrev pub IsHeldAs : Specs → DenotedList → Valuation → SiteTerm → ToldContent → Type 0
 IsHeldAs specs args f (bool_term b ty) h = h ≡ told (a_truth b)
 IsHeldAs specs args f (int_term z ty) h = (x : Denoted) → literal_of specs z ty ≡ Some x → h ≡ told x
 IsHeldAs specs args f (prim_term name) h = (x : Denoted) → constant_of specs name ≡ Some x → h ≡ told x
@@ -76,7 +76,7 @@ IsHeldAs specs args f (variant_made ty variant ss) h = (xs : DenotedList) × (de
 IsHeldAs specs args f (variant_field s variant i) h = (ty : ℕ) × (xs : DenotedList) × (f s ≡ Some (told (variant_of ty variant xs))) × IsPartHeld xs i h
 IsHeldAs specs args f (struct_made ty ss) h = (xs : DenotedList) × (denoted_at_each f ss ≡ Some xs) × (h ≡ told (struct_of ty xs))
 IsHeldAs specs args f (struct_field s i) h = (ty : ℕ) × (xs : DenotedList) × (f s ≡ Some (told (struct_of ty xs))) × IsPartHeld xs i h
-IsHeldAs specs args f (some_made s) h = (g : Told) × (f s ≡ Some g) × (h ≡ told_just g)
+IsHeldAs specs args f (some_made s) h = (g : ToldContent) × (f s ≡ Some g) × (h ≡ told_just g)
 IsHeldAs specs args f (some_part s) h = f s ≡ Some (told_just h)
 IsHeldAs specs args f (tuple_part s i) h = (xs : DenotedList) × (f s ≡ Some (told_parts xs)) × IsPartHeld xs i h
 IsHeldAs specs args f no_site h = ⊥
@@ -88,21 +88,21 @@ IsMetAs specs f s (is_struct ty fields) = (xs : DenotedList) × (f s ≡ Some (t
 IsMetAs specs f s (is_bool b ty) = f s ≡ Some (told (a_truth b))
 IsMetAs specs f s (is_int z ty) = (x : Denoted) → literal_of specs z ty ≡ Some x → f s ≡ Some (told x)
 IsMetAs specs f s (is_prim name) = (x : Denoted) → constant_of specs name ≡ Some x → f s ≡ Some (told x)
-IsMetAs specs f s is_present = (h : Told) × (f s ≡ Some (told_just h))
+IsMetAs specs f s is_present = (h : ToldContent) × (f s ≡ Some (told_just h))
 
 -- an extractor that answers: what it looks at is its spec's result, and its outputs are the arguments
-abbrev pub IsExtractedAsSaid : Specs → ℕ → Denoted → Told → Type 0
+abbrev pub IsExtractedAsSaid : Specs → ℕ → Denoted → ToldContent → Type 0
 IsExtractedAsSaid specs t x h = (xs : DenotedList) → answered_as h ≡ Some xs → IsRequired specs t xs × IsProvided specs t xs x
 
 -- a constructor that answers, called where its require holds
-abbrev pub IsConstructedAsSaid : Specs → ℕ → DenotedList → Told → Type 0
+abbrev pub IsConstructedAsSaid : Specs → ℕ → DenotedList → ToldContent → Type 0
 IsConstructedAsSaid specs t xs h = IsRequired specs t xs → (x : Denoted) → result_as h ≡ Some x → IsProvided specs t xs x
 
 -- what a site holds that answers a call is as the call's spec says: the call's own site, or the one that picks an answer of a
 -- multi call
 abbrev pub IsAnsweredAsSaid : Specs → Valuation → SiteTerm → SiteTerm → Type 0
-IsAnsweredAsSaid specs f (extractor_call t s) u = (x : Denoted) (h : Told) → f s ≡ Some (told x) → f u ≡ Some h → IsExtractedAsSaid specs t x h
-IsAnsweredAsSaid specs f (constructor_call t ss n) u = (xs : DenotedList) (h : Told) → denoted_at_each f ss ≡ Some xs → f u ≡ Some h → IsConstructedAsSaid specs t xs h
+IsAnsweredAsSaid specs f (extractor_call t s) u = (x : Denoted) (h : ToldContent) → f s ≡ Some (told x) → f u ≡ Some h → IsExtractedAsSaid specs t x h
+IsAnsweredAsSaid specs f (constructor_call t ss n) u = (xs : DenotedList) (h : ToldContent) → denoted_at_each f ss ≡ Some xs → f u ≡ Some h → IsConstructedAsSaid specs t xs h
 IsAnsweredAsSaid specs f _ u = Unit {0}
 
 -- an impure call has a number, from 1
@@ -143,7 +143,7 @@ abbrev mutual
 abbrev pub are_of_entries : Program → Specs → List ℕ → DenotedList → Bool
 are_of_entries p specs tys xs = are_of_types p.types specs (Some tys) xs
 
-abbrev pub IsTypedAs : Program → Specs → SiteTerm → Told → Type 0
+abbrev pub IsTypedAs : Program → Specs → SiteTerm → ToldContent → Type 0
 IsTypedAs p specs (extractor_call t s) h = (xs : DenotedList) → answered_as h ≡ Some xs → IsTrue (are_of_entries p specs (term_args (slice_get p.terms t)) xs)
 IsTypedAs p specs (constructor_call t ss n) h = (x : Denoted) → result_as h ≡ Some x → IsTrue (are_of_entries p specs (term_results (slice_get p.terms t)) (denoted_and x no_denoted))
 IsTypedAs p specs (prim_term name) h = (ty : ℕ) (x : Denoted) → constant_type p name ≡ Some ty → h ≡ told x → IsTrue (is_of_type p.types specs ty x)
@@ -176,28 +176,28 @@ pub record IsAssumed (p : Program) (specs : Specs) (c : Condition) (args : Denot
   pub arguments : IsTrue (are_of_types p.types specs (Some (arg_types p c.term)) args)
   pub required : IsRequired specs c.term args
   pub unknowns : AreUnknownsSorted specs
-  pub held : (s : SiteTerm) (h : Told) → f s ≡ Some h → IsHeldAs specs args f s h
-  pub formed : (s : SiteTerm) (h : Told) → f s ≡ Some h → IsTrue (is_told_formed h)
+  pub held : (s : SiteTerm) (h : ToldContent) → f s ≡ Some h → IsHeldAs specs args f s h
+  pub formed : (s : SiteTerm) (h : ToldContent) → f s ≡ Some h → IsTrue (is_told_formed h)
   pub constraints : (s : SiteTerm) (k : Constraint) → Contains c.constraints (s, k) → IsMetAs specs f s k
   pub equalities : (a b : SiteTerm) → Contains c.equalities (a, b) → (x : Denoted) × (f a ≡ Some (told x)) × (f b ≡ Some (told x))
   pub calls : (s : SiteTerm) → Contains c.made s → is_impure_call s ≡ false → IsAnsweredAsSaid specs f s s
-  pub typed : (s : SiteTerm) (h : Told) → Contains c.made s → is_impure_call s ≡ false → f s ≡ Some h → IsTypedAs p specs s h
+  pub typed : (s : SiteTerm) (h : ToldContent) → Contains c.made s → is_impure_call s ≡ false → f s ≡ Some h → IsTypedAs p specs s h
   pub picks : (s : SiteTerm) → Contains c.made s → is_impure_call s ≡ false → IsAnsweredAsSaid specs f s (pick_of s)
-  pub typed_picks : (s : SiteTerm) (h : Told) → Contains c.made s → is_impure_call s ≡ false → f (pick_of s) ≡ Some h → IsTypedAs p specs s h
+  pub typed_picks : (s : SiteTerm) (h : ToldContent) → Contains c.made s → is_impure_call s ≡ false → f (pick_of s) ≡ Some h → IsTypedAs p specs s h
 
 -- an impure call was made: it gave something, of its types and by its spec
-pub record IsMade (p : Program) (specs : Specs) (f : Valuation) (u : SiteTerm) : Type 0 where
+pub record IsCallMade (p : Program) (specs : Specs) (f : Valuation) (u : SiteTerm) : Type 0 where
   pub gave : IsTrue (is_some (f u))
   pub answered : IsAnsweredAsSaid specs f (call_of u) (call_of u)
-  pub typed : (h : Told) → f (call_of u) ≡ Some h → IsTypedAs p specs (call_of u) h
+  pub typed : (h : ToldContent) → f (call_of u) ≡ Some h → IsTypedAs p specs (call_of u) h
 
 abbrev pub AreMade : Program → Specs → Valuation → List SiteTerm → Type 0
-AreMade p specs f us = (u : SiteTerm) → Contains us u → IsMade p specs f u
+AreMade p specs f us = (u : SiteTerm) → Contains us u → IsCallMade p specs f u
 
 -- the goals: after all impure calls the result is what the term's spec provides, each unwrap of it being there; and where those
 -- before it were made, an impure call meets its require
 pub record IsShown (p : Program) (specs : Specs) (c : Condition) (args : DenotedList) (f : Valuation) : Type 0 where
-  pub provides : (h : Told) (x : Denoted) → AreMade p specs f c.impure → f c.result ≡ Some h → result_as h ≡ Some x → IsProvided specs c.term args x
+  pub provides : (h : ToldContent) (x : Denoted) → AreMade p specs f c.impure → f c.result ≡ Some h → result_as h ≡ Some x → IsProvided specs c.term args x
   pub requires : (before after : List SiteTerm) (u : SiteTerm) (t n : ℕ) (ss : SiteTerms) (xs : DenotedList) → c.impure ≡ before ++ u ∷ after → AreMade p specs f before
       → call_of u ≡ constructor_call t ss n → denoted_at_each f ss ≡ Some xs → IsRequired specs t xs
 
@@ -234,7 +234,7 @@ is_of_parts _ = false
 -- says what it says of what sites stand for; of numbers, constants and equalities nothing makes it true; and of each rule above
 -- one is false. Sites that no part of the rule speaks of are there too: arguments, fields, parts
 pub record IsNoneAbove (p : Program) (specs : Specs) (r : TypedRule) (args : DenotedList) (f : Valuation) : Type 0 where
-  pub there : (s : SiteTerm) (h : Told) → is_of_parts s ≡ true → IsHeldAs specs args f s h → f s ≡ Some h
+  pub there : (s : SiteTerm) (h : ToldContent) → is_of_parts s ≡ true → IsHeldAs specs args f s h → f s ≡ Some h
   pub constraint : SiteTerm → Constraint → Bool
   pub equality : SiteTerm → SiteTerm → Bool
   pub own : (s : SiteTerm) (k : Constraint) → Contains (demands_of p r).constraints (s, k) → constraint s k ≡ true

@@ -8,7 +8,7 @@ use Rattle.model.specs.rules.RightSide.{result_content}
 use Rattle.model.specs.sites.Serves.{is_own_type, is_type_with_parts}
 use Rattle.laws_specs.specs.Words.{Denoted, a_truth, an_integer, a_word, variant_of, struct_of, DenotedList, no_denoted, denoted_and, is_plain, is_formed}
 use Rattle.laws_specs.specs.Specs.{Sort, is_of_sort, Specs, sort_of, constant_of, literal_of, IsRequired, IsProvided, AreUnknownsSorted}
-use Rattle.laws_specs.specs.Conditions.{Told, told, told_parts, told_nothing, told_just, told_many, IsExtractedAsSaid, IsConstructedAsSaid}
+use Rattle.laws_specs.specs.Conditions.{ToldContent, told, told_parts, told_nothing, told_just, told_many, IsExtractedAsSaid, IsConstructedAsSaid}
 
 -- what the atoms of types stand for: all else is fixed by it
 abbrev pub Atoms : Type 0
@@ -25,7 +25,7 @@ abbrev mutual
   stand_for d no_value = no_denoted
   stand_for d (value_and v rest) = denoted_and (stands_for d v) (stand_for d rest)
 
-abbrev pub content_as : Atoms → Content → Told
+abbrev pub content_as : Atoms → Content → ToldContent
 content_as d (one v) = told (stands_for d v)
 content_as d (parts vs) = told_parts (stand_for d vs)
 content_as d nothing = told_nothing

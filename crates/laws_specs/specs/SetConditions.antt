@@ -16,7 +16,7 @@ use Rattle.model.specs.trees.SetRuns.{tested_sites}
 use Rattle.model.specs.claims.Layers.{own_program, IsAccepted, AreLowered, LoweredTerm, IsLoweredTerm}
 use Rattle.laws_specs.specs.Words.{Denoted, DenotedList}
 use Rattle.laws_specs.specs.Specs.{Specs}
-use Rattle.laws_specs.specs.Conditions.{Told, told, Valuation, IsHeldAs, IsMetAs, is_told_apart, is_of_parts, Condition, condition, IsAssumed, IsShown, IsValid}
+use Rattle.laws_specs.specs.Conditions.{ToldContent, told, Valuation, IsHeldAs, IsMetAs, is_told_apart, is_of_parts, Condition, condition, IsAssumed, IsShown, IsValid}
 use Rattle.laws_specs.specs.Meets.{Atoms, IsDenotation, AreNumbers, AnswersAsSaid}
 use Rattle.laws_specs.specs.ConditionLaws.{AreValid, IsCalled}
 use Rattle.laws_specs.specs.WholeRuns.{Functions}
@@ -64,7 +64,7 @@ IsAboveInSet set r q = Contains set.rules q × (r.prio <ℤ q.prio)
 -- no rule of the set with greater priority matches, by truths for what rules of the set ask, as IsNoneAbove has it for source rules. It
 -- excludes more: where a source rule demands a number of one site, and that another site is equal, its set's rule asks it of both
 pub record IsNoneAboveInSet (specs : Specs) (t : ℕ) (set : SiteSet) (r : SetRule) (args : DenotedList) (f : Valuation) : Type 0 where
-  pub there : (s : SiteTerm) (h : Told) → is_of_parts s ≡ true → IsHeldAs specs args f s h → f s ≡ Some h
+  pub there : (s : SiteTerm) (h : ToldContent) → is_of_parts s ≡ true → IsHeldAs specs args f s h → f s ≡ Some h
   pub constraint : SiteTerm → Constraint → Bool
   pub equality : SiteTerm → SiteTerm → Bool
   pub own : (s : SiteTerm) (k : Constraint) → Contains (set_condition t set r).constraints (s, k) → constraint s k ≡ true

@@ -55,8 +55,8 @@ module _ (Nested : Call → List Call → Content → List Call → Type 0) (p :
       (c : Content) × (between : List Call) × (impure_answer m call.term n ≡ Some c) × IsMadeCall call before c between × AreMadeCalls m (suc n) rest between after
 
   -- a pure call: whatever was called before it, it makes no call outside
-  abbrev pub IsPureCall : ℕ → Values → Content → Type 0
-  IsPureCall t vs c = Either (has_rules p t) ((before : List Call) → Nested (record { term = t; args = vs }) before c before) (o.pures t vs ≡ Some c)
+  abbrev pub IsPureAnswer : ℕ → Values → Content → Type 0
+  IsPureAnswer t vs c = Either (has_rules p t) ((before : List Call) → Nested (record { term = t; args = vs }) before c before) (o.pures t vs ≡ Some c)
 
   -- the function of a term is called, under a meaning that says of constants and extractors what is said outside, and of pure calls
   -- what they come to; it has an answer to each call that the term's rules ask, and tells constants apart
@@ -67,7 +67,7 @@ module _ (Nested : Call → List Call → Content → List Call → Type 0) (p :
     pub literals : (l : Literal) → meaning.literals l ≡ o.literals l
     pub constants : (name : ℕ) → meaning.constants name ≡ o.constants name
     pub extractors : (t : ℕ) (v : Value) → meaning.extractors t v ≡ o.extractors t v
-    pub pures : (t : ℕ) (vs : Values) (a : Content) → meaning.pures t vs ≡ Some a → IsPureCall t vs a
+    pub pures : (t : ℕ) (vs : Values) (a : Content) → meaning.pures t vs ≡ Some a → IsPureAnswer t vs a
     pub typed : IsTrue (args_well_typed p.types (arg_types p call.term) (listed call.args))
     pub serves : Serves p meaning (listed call.args) (rules_of p call.term)
     pub apart : TellsConstantsApart p meaning (rules_of p call.term)

@@ -1,7 +1,7 @@
 -- Closed texts are read by themselves.
 use Rattle.std.proofs.Common.{◌≡◌, ◌&&◌, ◌++◌, ◌==◌, ◌∷◌, [], ℕ, Bool, true, false, not, List, if◌then◌else◌, refl, ap, ◌∙◌, sym, subst, eqb-true}
 use Rattle.std.proofs.lemmas.Bool.{and_parts, and_from, false≢true, not-true}
-use Rattle.model_code.specs.Lexing.{is_letter, is_white, State, between, in_word, in_quotes, behind_backslash, quotes_or_mark, slash_or_other, white_or_other, letter_or_other, begun, word_goes_on, escapes, lexed_from, lexed, starts_apart, IsWhole}
+use Rattle.model_code.specs.Lexing.{is_letter, is_white, State, between, in_word, in_quotes, behind_backslash, quotes_or_mark, slash_or_other, white_or_other, letter_or_other, begun, word_goes_on, escapes, lexed_from, lexed, starts_apart, IsWholeText}
 use Rattle.model_code.specs.Closed.{is_closed, quotes_close, escape_closes, stays_quoted, escape_stays, in_quotation, all_letters, is_plain_mark, all_plain, ClosedTexts, ClosedNamesAreWhole}
 use Rattle.model_code.proofs.Lexing.{word_ends}
 
@@ -75,7 +75,7 @@ module _ (rest : List ℕ) (apart : starts_apart rest ≡ true) where
     escape_read [] q h = absurd (false≢true h)
     escape_read (c ∷ cs) q h = quotes_read cs (q ++ (c ∷ [])) h
 
-pub closed_whole : (text : List ℕ) → is_closed text ≡ true → IsWhole text
+pub closed_whole : (text : List ℕ) → is_closed text ≡ true → IsWholeText text
 closed_whole text h rest r = between_read rest r text h
 
 -- 2. one behind another

@@ -2,7 +2,7 @@
 use Rattle.std.proofs.Common.{◌≡◌, ◌&&◌, [], ℕ, suc, Bool, true, false, List, refl, ap, ◌∙◌, sym}
 use Rattle.std.proofs.lemmas.Bool.{and_parts, and_from, false≢true}
 use Rattle.model.specs.trees.Places.{is_in}
-use Rattle.model_code.specs.Code.{Use, Block, no_statement, statement, Statement, bind, bind_some, no_way, match_on, if_equal, for_each_of, give, labelled, unless_let, unless_equal, CodeArms, no_code_arm, code_arm}
+use Rattle.model_code.specs.Code.{PlaceUse, Block, no_statement, statement, Statement, bind, bind_some, no_way, match_on, if_equal, for_each_of, give, labelled, unless_let, unless_equal, CodeArms, no_code_arm, code_arm}
 use Rattle.model_code.specs.Flat.{unlabelled, unlabelled_at, unlabelled_arms, within, flat, flat_at, flat_arms, leaving, leaving_last, leaving_match}
 use Rattle.model_code.specs.Scopes.{unless_ended}
 use Rattle.model_code.specs.Moves.{other, fresh_after, block_takes, statement_takes, arms_take, FlatKeepsMoves}
@@ -85,7 +85,7 @@ module _ (taken : ℕ → Bool) where
       leaving_takes_last (unless_let x pattern fields) n fresh u h = absurd (false≢true u)
       leaving_takes_last (unless_equal a b) n fresh u h = absurd (false≢true u)
 
-      leaving_takes_match : (x : Use) (arms : CodeArms) (n : ℕ) (fresh : List ℕ) → unlabelled_arms arms ≡ true → (other taken x.place && arms_take taken arms) ≡ true → block_takes taken fresh (leaving_match x arms deep n) ≡ true
+      leaving_takes_match : (x : PlaceUse) (arms : CodeArms) (n : ℕ) (fresh : List ℕ) → unlabelled_arms arms ≡ true → (other taken x.place && arms_take taken arms) ≡ true → block_takes taken fresh (leaving_match x arms deep n) ≡ true
       leaving_takes_match x no_code_arm n fresh u h = and_from _ _ h refl
       leaving_takes_match x (code_arm pattern fields body no_code_arm) n fresh u h =
           let hs = and_parts (other taken x.place) (block_takes taken [] body && true) h in

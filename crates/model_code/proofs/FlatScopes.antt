@@ -2,7 +2,7 @@
 use Rattle.std.proofs.Common.{◌≡◌, ◌&&◌, ◌++◌, ◌∷◌, ℕ, suc, Bool, true, false, List, refl, ap, ◌∙◌, sym}
 use Rattle.std.proofs.lemmas.Bool.{and_parts, and_from, false≢true}
 use Rattle.model.specs.trees.Places.{is_in, field_sites}
-use Rattle.model_code.specs.Code.{Use, Block, no_statement, statement, Statement, bind, bind_some, no_way, match_on, if_equal, for_each_of, give, labelled, unless_let, unless_equal, CodeArms, no_code_arm, code_arm}
+use Rattle.model_code.specs.Code.{PlaceUse, Block, no_statement, statement, Statement, bind, bind_some, no_way, match_on, if_equal, for_each_of, give, labelled, unless_let, unless_equal, CodeArms, no_code_arm, code_arm}
 use Rattle.model_code.specs.Flat.{unlabelled, unlabelled_at, unlabelled_arms, within, flat, flat_at, flat_arms, leaving, leaving_last, leaving_match}
 use Rattle.model_code.specs.Scopes.{knows, scope_after, unless_ended, block_scoped, statement_scoped, arms_scoped, FlatKeepsScopes}
 
@@ -91,7 +91,7 @@ module _ (deep : ℕ → Bool) (l : Bool) where
     leaving_scoped_last (unless_let x pattern fields) n scope u h = absurd (false≢true u)
     leaving_scoped_last (unless_equal a b) n scope u h = absurd (false≢true u)
 
-    leaving_scoped_match : (x : Use) (arms : CodeArms) (n : ℕ) (scope : List ℕ) → unlabelled_arms arms ≡ true → statement_scoped l scope (match_on x arms) ≡ true → block_scoped true scope (leaving_match x arms deep n) ≡ true
+    leaving_scoped_match : (x : PlaceUse) (arms : CodeArms) (n : ℕ) (scope : List ℕ) → unlabelled_arms arms ≡ true → statement_scoped l scope (match_on x arms) ≡ true → block_scoped true scope (leaving_match x arms deep n) ≡ true
     leaving_scoped_match x no_code_arm n scope u h = and_from _ _ h refl
     leaving_scoped_match x (code_arm pattern fields body no_code_arm) n scope u h =
         let hs = and_parts (knows scope x.place) (block_scoped l (field_sites fields ++ scope) body && true) h in

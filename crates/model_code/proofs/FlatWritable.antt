@@ -1,7 +1,7 @@
 -- Code with labels can be written where the code without can.
 use Rattle.std.proofs.Common.{◌≡◌, ◌&&◌, ℕ, suc, Bool, true, false, refl, sym}
 use Rattle.std.proofs.lemmas.Bool.{and_parts, and_from, or_parts, false≢true}
-use Rattle.model_code.specs.Code.{Use, Block, no_statement, statement, Statement, bind, bind_some, no_way, match_on, if_equal, for_each_of, give, labelled, unless_let, unless_equal, CodeArms, no_code_arm, code_arm}
+use Rattle.model_code.specs.Code.{PlaceUse, Block, no_statement, statement, Statement, bind, bind_some, no_way, match_on, if_equal, for_each_of, give, labelled, unless_let, unless_equal, CodeArms, no_code_arm, code_arm}
 use Rattle.model_code.specs.Flat.{unlabelled, unlabelled_at, unlabelled_arms, within, flat, flat_at, flat_arms, leaving, leaving_last, leaving_match}
 use Rattle.model_code.specs.Notation.{Notation}
 use Rattle.model_code.specs.Pieces.{is_left, leaves_at, leaves_arms, result_ends, is_end, unless_end}
@@ -35,7 +35,7 @@ module _ (p : Notation) where
     without_label_at no_way l h = refl
     without_label_at (give place u) l h = refl
 
-    without_label_arms : (arms : CodeArms) (u : Use) → leaves_arms (result_ends p) arms ≡ false → writable_arms p true u arms ≡ true → writable_arms p false u arms ≡ true
+    without_label_arms : (arms : CodeArms) (u : PlaceUse) → leaves_arms (result_ends p) arms ≡ false → writable_arms p true u arms ≡ true → writable_arms p false u arms ≡ true
     without_label_arms no_code_arm u l h = refl
     without_label_arms (code_arm pattern fields body rest) u l h =
         let ls = or_parts (is_left (result_ends p) body) (leaves_arms (result_ends p) rest) l in
@@ -91,7 +91,7 @@ module _ (p : Notation) where
       flat_back_at (unless_let x pattern fields) n label u h = absurd (false≢true u)
       flat_back_at (unless_equal a b) n label u h = absurd (false≢true u)
 
-      flat_back_arms : (arms : CodeArms) (n : ℕ) (label : Bool) (x : Use) → unlabelled_arms arms ≡ true → writable_arms p false x arms ≡ true → writable_arms p label x (flat_arms arms deep n) ≡ true
+      flat_back_arms : (arms : CodeArms) (n : ℕ) (label : Bool) (x : PlaceUse) → unlabelled_arms arms ≡ true → writable_arms p false x arms ≡ true → writable_arms p label x (flat_arms arms deep n) ≡ true
       flat_back_arms no_code_arm n label x u h = refl
       flat_back_arms (code_arm pattern fields body rest) n label x u h =
           let us = and_parts (unlabelled body) (unlabelled_arms rest) u in
@@ -123,7 +123,7 @@ module _ (p : Notation) where
       leaving_last_back (unless_let x pattern fields) n u h = absurd (false≢true u)
       leaving_last_back (unless_equal a b) n u h = absurd (false≢true u)
 
-      leaving_match_back : (x : Use) (arms : CodeArms) (n : ℕ) → unlabelled_arms arms ≡ true → writable_arms p false x arms ≡ true → writable p true (leaving_match x arms deep n) ≡ true
+      leaving_match_back : (x : PlaceUse) (arms : CodeArms) (n : ℕ) → unlabelled_arms arms ≡ true → writable_arms p false x arms ≡ true → writable p true (leaving_match x arms deep n) ≡ true
       leaving_match_back x no_code_arm n u h = refl
       leaving_match_back x (code_arm pattern fields body no_code_arm) n u h =
           let hs = and_parts (pattern_writable p pattern fields && match_writable p x pattern) (writable p false body && true) h in

@@ -4,7 +4,7 @@ use Rattle.std.proofs.lemmas.Bool.{false≢true}
 use Rattle.model.specs.rules.Values.{Value, value_eq}
 use Rattle.model.specs.rules.Meaning.{Content, one, parts, nothing, just, many, contents}
 use Rattle.model.specs.trees.Run.{World, Env, bound_to, Bound, all_bound, unwrap_failed, no_content_there, unwrapped, Trace, content_fields, bind_fields}
-use Rattle.model_code.specs.Code.{Use, Block, no_statement, statement, Statement, bind, bind_some, no_way, match_on, if_equal, for_each_of, give, labelled, unless_let, unless_equal, CodeArms, no_code_arm, code_arm}
+use Rattle.model_code.specs.Code.{PlaceUse, Block, no_statement, statement, Statement, bind, bind_some, no_way, match_on, if_equal, for_each_of, give, labelled, unless_let, unless_equal, CodeArms, no_code_arm, code_arm}
 use Rattle.model_code.specs.CodeRuns.{held, held_value, bind_expr, Flow, goes_on, leaves, returns, fails, sticks, then_flow, in_braces, in_label, flow_of_bound, is_full, with_result, give_content, with_bindings, where_met, on_content, where_equal, each_flow, on_answers, run_block, run_statement, run_code_arms}
 use Rattle.model_code.specs.Flat.{unlabelled, unlabelled_at, unlabelled_arms, within, flat, flat_at, flat_arms, leaving, leaving_last, leaving_match, FlatRunsSame}
 use Rattle.model_code.proofs.Opening.{past_braces, alone, past_then, met_opens, content_opens, equal_opens}
@@ -221,7 +221,7 @@ module _ (w : World) (most : Option ℕ) where
       leaving_last_same (unless_let u pattern fields) h n e env t = absurd (false≢true h)
       leaving_last_same (unless_equal a b) h n e env t = absurd (false≢true h)
 
-      leaving_match_same : (u : Use) (arms : CodeArms) → unlabelled_arms arms ≡ true → (n : ℕ) (e env : Env) (t : Trace)
+      leaving_match_same : (u : PlaceUse) (arms : CodeArms) → unlabelled_arms arms ≡ true → (n : ℕ) (e env : Env) (t : Trace)
           → in_label e (run_block (leaving_match u arms deep n) w most env t) ≡ in_label e (run_statement (match_on u arms) w most env t)
       leaving_match_same u no_code_arm h n e env t = ap (in_label e) (alone (run_statement (match_on u no_code_arm) w most env t))
       leaving_match_same u (code_arm pattern fields body no_code_arm) h n e env t =

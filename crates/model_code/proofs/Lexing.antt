@@ -6,11 +6,11 @@ use Rattle.std.proofs.lemmas.Bool.{and_parts, and_from, false≢true, not-true, 
 use Rattle.std.proofs.lemmas.List.{append_assoc, append-nil}
 use Rattle.std.proofs.lemmas.List.Elements.{All-nil, All-cons, All-head, All-tail, All-append}
 use Rattle.model_code.specs.Tokens.{Word, let_word, mut_word, ref_word, if_word, else_word, match_word, while_word, return_word, break_word, some_word, none_word, true_word, false_word, ctx_word, returns_word, extend_word, len_word, most_word, clone_word, iter_word, next_word, unreachable_word, opening, closing, opening_brace, closing_brace, comma, colon, semicolon, dot, two_dots, underscore, arrow, equals, equal_to, unlike, at_least, ampersand, star, Token, word, variable_name, parameter_name, part_name, number, constant_name, owner_name, field_name, function_name, list_name, label_name, no_match}
-use Rattle.model_code.specs.Pieces.{Piece, token, space, set_in, line_end, rule_comment, log_line}
+use Rattle.model_code.specs.Pieces.{CodePiece, token, space, set_in, line_end, rule_comment, log_line}
 use Rattle.model_code.specs.Written.{function_body}
 use Rattle.model_code.specs.Spelling.{Names, word_text, token_text, spelled, deepest}
 use Rattle.model_code.specs.Parted.{is_lettered, begins_word, ends_word, parted}
-use Rattle.model_code.specs.Lexing.{is_letter, State, in_word, in_comment, letter_or_other, begun, word_goes_on, comment_ends, lexed_from, lexed, starts_apart, IsWhole, AreWhole, pieces_lexed, TextHasTokens}
+use Rattle.model_code.specs.Lexing.{is_letter, State, in_word, in_comment, letter_or_other, begun, word_goes_on, comment_ends, lexed_from, lexed, starts_apart, IsWholeText, AreWhole, pieces_lexed, TextHasTokens}
 use Rattle.model_code.specs.Closed.{all_letters}
 use Rattle.model_code.proofs.Parted.{apart, tokens_are_parted_lem}
 
@@ -39,7 +39,7 @@ word_read c ds rest h r =
     begun_by_letter c (lexed_from (ds ++ rest)) hs.0 ∙ (letters_go_on ds (c ∷ []) rest hs.1 ∙ word_ends (c ∷ ds) rest r)
 
 -- letters are read by themselves
-pub letters_whole : (ds : List ℕ) → all_letters ds ≡ true → IsWhole ds
+pub letters_whole : (ds : List ℕ) → all_letters ds ≡ true → IsWholeText ds
 letters_whole [] h rest r = refl
 letters_whole (c ∷ ds) h rest r = word_read c ds rest h r ∙ ap (λ xs. xs ++ lexed rest) (sym (ap lexed (sym (append-nil (c ∷ ds))) ∙ word_read c ds [] h refl))
 
@@ -86,7 +86,7 @@ hexadecimal_letters n = more_digits 16 (λ m. omega arith) 64 n [] refl
 abbrev IsToken : (mark : Bool) → List ℕ → Type 0
 IsToken ends text = (rest : List ℕ) → (ends ≡ true → starts_apart rest ≡ true) → lexed (text ++ rest) ≡ lexed text ++ lexed rest
 
-whole_token : (text : List ℕ) → IsWhole text → IsToken true text
+whole_token : (text : List ℕ) → IsWholeText text → IsToken true text
 whole_token text h rest r = h rest (r refl)
 
 word_token : (w : Word) → IsToken (is_lettered w) (word_text w)
@@ -131,7 +131,7 @@ word_token ampersand rest r = refl
 word_token star rest r = refl
 
 -- a mark before what is read by itself
-marked : (c : ℕ) (text : List ℕ) → ((rest : List ℕ) → lexed (c ∷ rest) ≡ (c ∷ []) ∷ lexed rest) → IsWhole text → IsWhole (c ∷ text)
+marked : (c : ℕ) (text : List ℕ) → ((rest : List ℕ) → lexed (c ∷ rest) ≡ (c ∷ []) ∷ lexed rest) → IsWholeText text → IsWholeText (c ∷ text)
 marked c text m h rest r = m (text ++ rest) ∙ (ap (λ xs. (c ∷ []) ∷ xs) (h rest r) ∙ ap (λ xs. xs ++ lexed rest) (sym (m text)))
 
 pub letters_before : (x y : List ℕ) → all_letters x ≡ true → all_letters y ≡ true → all_letters (x ++ y) ≡ true
@@ -201,7 +201,7 @@ module _ (names : Names) (whole : AreWhole names) where
   token_apart (variable_name v) rest h = absurd (false≢true (sym h))
   token_apart t rest h = absurd (false≢true (sym h))
 
-  text_apart : (ps : List Piece) → parted true ps ≡ true → starts_apart (spelled names ps) ≡ true
+  text_apart : (ps : List CodePiece) → parted true ps ≡ true → starts_apart (spelled names ps) ≡ true
   text_apart [] h = refl
   text_apart (token t ∷ rest) h = token_apart t (spelled names rest) (not-true (begins_word t) (and_parts (not (begins_word t)) (parted (ends_word t) rest) h).0)
   text_apart (space ∷ rest) h = refl
@@ -210,12 +210,12 @@ module _ (names : Names) (whole : AreWhole names) where
   text_apart (rule_comment at ∷ rest) h = refl
   text_apart (log_line at ∷ rest) h = absurd (false≢true h)
 
-  behind_token : (ends : Bool) (rest : List Piece) → parted ends rest ≡ true → (ends ≡ true → starts_apart (spelled names rest) ≡ true) × (parted false rest ≡ true)
+  behind_token : (ends : Bool) (rest : List CodePiece) → parted ends rest ≡ true → (ends ≡ true → starts_apart (spelled names rest) ≡ true) × (parted false rest ≡ true)
   behind_token true rest h = (λ e. text_apart rest h, apart rest h)
   behind_token false rest h = (λ e. absurd (false≢true e), h)
 
   -- 6. all of it
-  pieces_read : (ps : List Piece) → parted false ps ≡ true → lexed (spelled names ps) ≡ pieces_lexed names ps
+  pieces_read : (ps : List CodePiece) → parted false ps ≡ true → lexed (spelled names ps) ≡ pieces_lexed names ps
   pieces_read [] h = refl
   pieces_read (token t ∷ rest) h =
       let next = behind_token (ends_word t) rest h in

@@ -3,10 +3,10 @@ use Rattle.std.proofs.Common.{◌≡◌, ◌&&◌, ◌||◌, ◌∷◌, [], ℕ,
 use Rattle.std.proofs.lemmas.Bool.{and_parts, and_from, false≢true}
 use Rattle.model.specs.sites.Sites.{Site, bool_site, int_site, prim_site, argument_site, extractor_site, constructor_site, iterator_site, make_variant_site, match_variant_site, make_struct_site, extract_struct_site, make_some_site, match_some_site, match_tuple_site, Constraint, is_variant, is_struct, is_bool, is_int, is_prim, is_present}
 use Rattle.model.specs.trees.Trees.{Tree, no_step, step, Check, match_at, equal_at, loop_at, return_at, Arms, no_arm, arm}
-use Rattle.model_code.specs.Code.{Place, variable, parameter, Use, Block, no_statement, statement, Statement, bind, bind_some, no_way, match_on, if_equal, for_each_of, give, labelled, unless_let, unless_equal, CodeArms, no_code_arm, code_arm}
+use Rattle.model_code.specs.Code.{Place, variable, parameter, PlaceUse, Block, no_statement, statement, Statement, bind, bind_some, no_way, match_on, if_equal, for_each_of, give, labelled, unless_let, unless_equal, CodeArms, no_code_arm, code_arm}
 use Rattle.model_code.specs.TreeCode.{Passes, use_at, arguments_from, fields_of, bind_code, binds_code, loop_code, tree_code, check_code, arms_code, to_field, to_match}
 use Rattle.model_code.specs.Flat.{unlabelled, unlabelled_at, unlabelled_arms, within, flat, flat_at, flat_arms, leaving, leaving_last, leaving_match}
-use Rattle.model_code.specs.Modes.{Mode, a_value, a_reference, Types, mode_at, is_new, is_value, is_owned, Given, gives_value, gives_reference, given_by, given, fits_value, fits_parameter, fits_result, fits_equal, fits_pattern, fits_inside, fits_field, fits_fields, fits_parameters, fit_values, block_fits, statement_fits, arms_fit, lend, keep_or_clone, hand_back, look_at, place_in, passes_of, copy_is_value, is_typed_at, takes_what_is, argument_typed, arguments_typed, fields_typed, inside_typed, site_typed, binds_typed, pattern_typed, field_typed, brought_typed, tree_typed, check_typed, arms_typed, FlatKeepsModes, PassesByTypesFit}
+use Rattle.model_code.specs.Modes.{BindingMode, a_value, a_reference, Types, mode_at, is_new, is_value, is_owned, Given, gives_value, gives_reference, given_by, given, fits_value, fits_parameter, fits_result, fits_equal, fits_pattern, fits_inside, fits_field, fits_fields, fits_parameters, fit_values, block_fits, statement_fits, arms_fit, lend, keep_or_clone, hand_back, look_at, place_in, passes_of, copy_is_value, is_typed_at, takes_what_is, argument_typed, arguments_typed, fields_typed, inside_typed, site_typed, binds_typed, pattern_typed, field_typed, brought_typed, tree_typed, check_typed, arms_typed, FlatKeepsModes, PassesByTypesFit}
 use Rattle.model_code.proofs.PrintedCode.{tree_unlabelled}
 
 -- 1. labels
@@ -73,7 +73,7 @@ module _ (types : Types) (multi away : Bool) where
       leaving_fits_last (unless_let x pattern fields) n u h = absurd (false≢true u)
       leaving_fits_last (unless_equal a b) n u h = absurd (false≢true u)
 
-      leaving_fits_match : (x : Use) (arms : CodeArms) (n : ℕ) → unlabelled_arms arms ≡ true → arms_fit types multi away (given types x) arms ≡ true → block_fits types multi away (leaving_match x arms deep n) ≡ true
+      leaving_fits_match : (x : PlaceUse) (arms : CodeArms) (n : ℕ) → unlabelled_arms arms ≡ true → arms_fit types multi away (given types x) arms ≡ true → block_fits types multi away (leaving_match x arms deep n) ≡ true
       leaving_fits_match x no_code_arm n u h = refl
       leaving_fits_match x (code_arm pattern fields body no_code_arm) n u h =
           let hs = and_parts (fits_pattern pattern (given types x) && fits_fields types pattern (given types x) fields) (block_fits types multi away body && true) h in
@@ -96,7 +96,7 @@ pub flat_keeps_modes_lem : FlatKeepsModes
 flat_keeps_modes_lem types multi away b deep n u h = flat_fits types multi away deep b n u h
 
 -- 2. each way to hand on gives what is wanted: by mode, whether it is Copy, and whether it is made on the spot
-lent_fits : (m : Mode) (copy new owned takes : Bool) → copy_is_value m copy ≡ true → takes_what_is takes copy ≡ true → fits_parameter takes (given_by m (new || copy) owned (lend m copy)) ≡ true
+lent_fits : (m : BindingMode) (copy new owned takes : Bool) → copy_is_value m copy ≡ true → takes_what_is takes copy ≡ true → fits_parameter takes (given_by m (new || copy) owned (lend m copy)) ≡ true
 lent_fits a_reference true new owned takes h k = absurd (false≢true h)
 lent_fits a_reference false new owned true h k = refl
 lent_fits a_reference false new owned false h k = absurd (false≢true k)
@@ -106,7 +106,7 @@ lent_fits a_value true false owned false h k = refl
 lent_fits a_value false new owned true h k = refl
 lent_fits a_value false new owned false h k = absurd (false≢true k)
 
-kept_fits : (m : Mode) (copy new owned : Bool) → copy_is_value m copy ≡ true → (new ≡ true → is_value m ≡ true) → fits_value false (given_by m (new || copy) owned (keep_or_clone (new || copy))) ≡ true
+kept_fits : (m : BindingMode) (copy new owned : Bool) → copy_is_value m copy ≡ true → (new ≡ true → is_value m ≡ true) → fits_value false (given_by m (new || copy) owned (keep_or_clone (new || copy))) ≡ true
 kept_fits a_reference true new owned h k = absurd (false≢true h)
 kept_fits a_reference false true owned h k = absurd (false≢true (k refl))
 kept_fits a_reference false false owned h k = refl
@@ -115,7 +115,7 @@ kept_fits a_value true false owned h k = refl
 kept_fits a_value false true owned h k = refl
 kept_fits a_value false false owned h k = refl
 
-back_fits : (m : Mode) (copy new owned multi : Bool) → copy_is_value m copy ≡ true → (new ≡ true → is_value m ≡ true) → fits_result multi false (given_by m (new || copy) owned (hand_back m (new || copy) owned multi)) ≡ true
+back_fits : (m : BindingMode) (copy new owned multi : Bool) → copy_is_value m copy ≡ true → (new ≡ true → is_value m ≡ true) → fits_result multi false (given_by m (new || copy) owned (hand_back m (new || copy) owned multi)) ≡ true
 back_fits a_reference true new owned multi h k = absurd (false≢true h)
 back_fits a_reference false true owned multi h k = absurd (false≢true (k refl))
 back_fits a_reference false false owned multi h k = refl
@@ -126,7 +126,7 @@ back_fits a_value false false true true h k = refl
 back_fits a_value false false true false h k = refl
 back_fits a_value false false false multi h k = refl
 
-seen_fits : (m q : Mode) (keep owned keep' owned' : Bool) → fits_equal (given_by m keep owned (look_at m q)) (given_by q keep' owned' (look_at q m)) ≡ true
+seen_fits : (m q : BindingMode) (keep owned keep' owned' : Bool) → fits_equal (given_by m keep owned (look_at m q)) (given_by q keep' owned' (look_at q m)) ≡ true
 seen_fits a_reference a_reference keep owned keep' owned' = refl
 seen_fits a_reference a_value keep owned true owned' = refl
 seen_fits a_reference a_value keep owned false true = refl
@@ -154,7 +154,7 @@ abbrev matched : Bool → Given
 matched true = gives_value
 matched false = gives_reference
 
-matched_is : (m : Mode) (copy new owned : Bool) → copy_is_value m copy ≡ true → matched copy ≡ given_by m (new || copy) owned (lend m copy)
+matched_is : (m : BindingMode) (copy new owned : Bool) → copy_is_value m copy ≡ true → matched copy ≡ given_by m (new || copy) owned (lend m copy)
 matched_is a_reference true new owned h = absurd (false≢true h)
 matched_is a_reference false new owned h = refl
 matched_is a_value true true owned h = refl

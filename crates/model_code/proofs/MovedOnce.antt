@@ -3,7 +3,7 @@ use Rattle.std.proofs.Common.{◌≡◌, ◌&&◌, ◌||◌, ◌++◌, ◌∷◌
 use Rattle.std.proofs.lemmas.Bool.{and_parts, and_from, cases_Bool, false≢true, not-true, true≢false}
 use Rattle.model.specs.sites.Sites.{Constraint, is_variant, is_struct, is_bool, is_int, is_prim, is_present}
 use Rattle.model.specs.trees.Places.{is_in, field_sites}
-use Rattle.model_code.specs.Code.{Place, variable, parameter, part_of, int_written, name_written, variant_written, struct_written, Use, Expr, truth_written, read, extraction, call, variant_of, struct_of, some_of, Block, no_statement, statement, Statement, bind, bind_some, no_way, match_on, if_equal, for_each_of, give, labelled, unless_let, unless_equal, CodeArms, no_code_arm, code_arm}
+use Rattle.model_code.specs.Code.{Place, variable, parameter, part_of, int_written, name_written, variant_written, struct_written, PlaceUse, Expr, truth_written, read, extraction, call, variant_of, struct_of, some_of, Block, no_statement, statement, Statement, bind, bind_some, no_way, match_on, if_equal, for_each_of, give, labelled, unless_let, unless_equal, CodeArms, no_code_arm, code_arm}
 use Rattle.model_code.specs.Scopes.{unless_ended}
 use Rattle.model_code.specs.Modes.{Types, Given, gives_reference, gives_value, gives_away, gives_sight, gives_nothing, given, is_value, fits_value, fits_parameter, fits_result, fits_equal, fits_pattern, fits_inside, fits_fields, fits_parameters, fit_values, expr_fits, block_fits, statement_fits, arms_fit}
 use Rattle.model_code.specs.Moves.{other, others, reads_other, fresh_after, block_takes, statement_takes, arms_take}
@@ -60,16 +60,16 @@ result_stays gives_sight h = refl
 result_stays gives_nothing h = refl
 
 module _ (types : Types) where
-  stays_well : (inside : List ℕ) (later : Place → Bool) (u : Use) → is_away (given types u) ≡ false → moves_well types inside later u ≡ true
+  stays_well : (inside : List ℕ) (later : Place → Bool) (u : PlaceUse) → is_away (given types u) ≡ false → moves_well types inside later u ≡ true
   stays_well inside later u h = ap (λ b. not b || may_move inside later u.place) h
 
-  parameters_well : (inside : List ℕ) (later : Place → Bool) (term i : ℕ) (before us : List Use) → fits_parameters types term i us ≡ true → all_move_well types inside later before us ≡ true
+  parameters_well : (inside : List ℕ) (later : Place → Bool) (term i : ℕ) (before us : List PlaceUse) → fits_parameters types term i us ≡ true → all_move_well types inside later before us ≡ true
   parameters_well inside later term i before [] h = refl
   parameters_well inside later term i before (u ∷ us) h =
       let hs = and_parts (fits_parameter (types.takes_reference term i) (given types u)) (fits_parameters types term (suc i) us) h in
       and_from _ _ (stays_well inside (beside before us later) u (parameter_stays (types.takes_reference term i) (given types u) hs.0)) (parameters_well inside later term (suc i) (u ∷ before) us hs.1)
 
-  values_well : (inside : List ℕ) (later : Place → Bool) (before us : List Use) → fit_values types false us ≡ true → all_move_well types inside later before us ≡ true
+  values_well : (inside : List ℕ) (later : Place → Bool) (before us : List PlaceUse) → fit_values types false us ≡ true → all_move_well types inside later before us ≡ true
   values_well inside later before [] h = refl
   values_well inside later before (u ∷ us) h =
       let hs = and_parts (fits_value false (given types u)) (fit_values types false us) h in
@@ -98,7 +98,7 @@ module _ (taken : ℕ → Bool) (c : ℕ) (takes : taken c ≡ true) where
   untouched (variant_written ty variant) h = refl
   untouched (struct_written ty) h = refl
 
-  all_untouched : (us : List Use) → others taken us ≡ true → any_touch (variable c) us ≡ false
+  all_untouched : (us : List PlaceUse) → others taken us ≡ true → any_touch (variable c) us ≡ false
   all_untouched [] h = refl
   all_untouched (u ∷ us) h = let hs = and_parts (other taken u.place) (others taken us) h in or_false _ _ (untouched u.place hs.0) (all_untouched us hs.1)
 

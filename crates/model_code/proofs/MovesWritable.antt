@@ -2,7 +2,7 @@
 -- matched, and it ends no block.
 use Rattle.std.proofs.Common.{◌≡◌, ◌&&◌, ◌∷◌, ◌++◌, [], ℕ, suc, Bool, true, false, List, length, refl, ap, ◌∙◌}
 use Rattle.model.specs.trees.Places.{field_sites}
-use Rattle.model_code.specs.Code.{Place, Use, Expr, variant_of, struct_of, Block, no_statement, statement, Statement, bind, no_way, match_on, if_equal, for_each_of, give, labelled, CodeArms, no_code_arm, code_arm}
+use Rattle.model_code.specs.Code.{Place, PlaceUse, Expr, variant_of, struct_of, Block, no_statement, statement, Statement, bind, no_way, match_on, if_equal, for_each_of, give, labelled, CodeArms, no_code_arm, code_arm}
 use Rattle.model_code.specs.Modes.{Types}
 use Rattle.model_code.specs.MovedOnce.{unlooked, movable_after, behind, read_no_more}
 use Rattle.model_code.specs.Saving.{all_saved, saved_expr, saved, saved_at, saved_arms}
@@ -40,7 +40,7 @@ module _ (types : Types) (p : Notation) where
     arms_same (code_arm pattern fields body rest) ends inside later = either (left_same body ends (field_sites fields ++ inside) later) (arms_same rest ends inside later)
 
   -- 2. as many fields are made
-  as_many : (us before : List Use) (inside : List ℕ) (later : Place → Bool) → length (all_saved types inside later before us) ≡ length us
+  as_many : (us before : List PlaceUse) (inside : List ℕ) (later : Place → Bool) → length (all_saved types inside later before us) ≡ length us
   as_many [] before inside later = refl
   as_many (u ∷ us) before inside later = ap suc (as_many us (u ∷ before) inside later)
 
@@ -68,7 +68,7 @@ module _ (types : Types) (p : Notation) where
         ap (λ l. writable p l (saved types inside later body)) (left_same body (result_ends p) inside later) ∙ saved_writable body (is_left (result_ends p) body) inside later
     saved_writable_at s label inside later = refl
 
-    saved_writable_arms : (arms : CodeArms) (u : Use) (label : Bool) (inside : List ℕ) (later : Place → Bool) → writable_arms p label u (saved_arms types inside later arms) ≡ writable_arms p label u arms
+    saved_writable_arms : (arms : CodeArms) (u : PlaceUse) (label : Bool) (inside : List ℕ) (later : Place → Bool) → writable_arms p label u (saved_arms types inside later arms) ≡ writable_arms p label u arms
     saved_writable_arms no_code_arm u label inside later = refl
     saved_writable_arms (code_arm pattern fields body rest) u label inside later =
         ap (λ b. (pattern_writable p pattern fields && match_writable p u pattern) && b)

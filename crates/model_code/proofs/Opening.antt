@@ -3,7 +3,7 @@ use Rattle.std.proofs.Common.{◌≡◌, ℕ, Bool, true, false, if◌then◌els
 use Rattle.model.specs.rules.Values.{Value, value_eq}
 use Rattle.model.specs.rules.Meaning.{Content}
 use Rattle.model.specs.trees.Run.{World, Env, Trace, content_fields, bind_fields}
-use Rattle.model_code.specs.Code.{Use, Block, no_statement, statement, Statement, bind, bind_some, no_way, match_on, if_equal, for_each_of, give, labelled, unless_let, unless_equal, CodeArms, no_code_arm, code_arm}
+use Rattle.model_code.specs.Code.{PlaceUse, Block, no_statement, statement, Statement, bind, bind_some, no_way, match_on, if_equal, for_each_of, give, labelled, unless_let, unless_equal, CodeArms, no_code_arm, code_arm}
 use Rattle.model_code.specs.CodeRuns.{held, held_value, Flow, goes_on, leaves, returns, fails, sticks, then_flow, in_braces, in_label, with_bindings, where_met, on_content, where_equal, run_block, run_statement, run_code_arms}
 use Rattle.model_code.specs.Labels.{opened, opened_last, opened_match, OpenedRunsSame}
 
@@ -77,7 +77,7 @@ module _ (w : World) (most : Option ℕ) (e : Env) where
     last_opens (unless_let u pattern fields) env t = ap (in_label e) (alone (run_statement (unless_let u pattern fields) w most env t))
     last_opens (unless_equal a b) env t = ap (in_label e) (alone (run_statement (unless_equal a b) w most env t))
 
-    match_opens : (u : Use) (arms : CodeArms) (env : Env) (t : Trace) → in_label e (run_block (opened_match u arms) w most env t) ≡ in_label e (run_statement (match_on u arms) w most env t)
+    match_opens : (u : PlaceUse) (arms : CodeArms) (env : Env) (t : Trace) → in_label e (run_block (opened_match u arms) w most env t) ≡ in_label e (run_statement (match_on u arms) w most env t)
     match_opens u no_code_arm env t = ap (in_label e) (alone (run_statement (match_on u no_code_arm) w most env t))
     match_opens u (code_arm pattern fields body no_code_arm) env t =
         content_opens e (held w env u.place) t (λ c. where_met (content_fields w.meaning pattern c) fields env t (λ env'. goes_on env' t) (leaves t)) (λ c. run_code_arms (code_arm pattern fields body no_code_arm) w most c env t) (run_block (opened body) w most)

@@ -1,8 +1,8 @@
 -- Functions, and their texts, are read back.
 use Rattle.std.proofs.Common.{◌≡◌, ◌∷◌, [], suc, Bool, true, false, List, length, refl, ap, ◌∙◌}
 use Rattle.model_code.specs.Tokens.{closing_brace}
-use Rattle.model_code.specs.Notation.{Kind, gives_one, gives_option, gives_many}
-use Rattle.model_code.specs.Pieces.{Piece, line_end, tokens_of, put}
+use Rattle.model_code.specs.Notation.{ReturnForm, gives_one, gives_option, gives_many}
+use Rattle.model_code.specs.Pieces.{CodePiece, line_end, tokens_of, put}
 use Rattle.model_code.specs.Written.{no_margin, written, shown_code, has_end, end_before, function_body}
 use Rattle.model_code.specs.Reading.{only_if}
 use Rattle.model_code.specs.ReadsBack.{ends_block, is_function_end, up_to_end, FunctionIsRead}
@@ -12,11 +12,11 @@ use Rattle.model_code.proofs.Lengths.{size_within_all}
 use Rattle.model_code.proofs.Lexing.{text_has_tokens_lem}
 use Rattle.model_code.proofs.ReadsBack.{reads_back_lem}
 
-abbrev last_brace : List Piece
+abbrev last_brace : List CodePiece
 last_brace = put closing_brace (line_end ∷ [])
 
 -- what stands where a function's code has run through ends a block, and a function
-end_ends : (ended : Bool) (kind : Kind) → (ends_block (tokens_of (end_before ended kind last_brace)) ≡ true) × (is_function_end kind (tokens_of (end_before ended kind last_brace)) ≡ true)
+end_ends : (ended : Bool) (kind : ReturnForm) → (ends_block (tokens_of (end_before ended kind last_brace)) ≡ true) × (is_function_end kind (tokens_of (end_before ended kind last_brace)) ≡ true)
 end_ends true gives_one = (refl, refl)
 end_ends true gives_option = (refl, refl)
 end_ends true gives_many = (refl, refl)
@@ -26,7 +26,7 @@ end_ends false gives_many = (refl, refl)
 
 pub function_is_read_lem : FunctionIsRead
 function_is_read_lem p code w =
-    let rest : List Piece = end_before (has_end p code) p.kind last_brace in
+    let rest : List CodePiece = end_before (has_end p code) p.kind last_brace in
     let ends = end_ends (has_end p code) p.kind in
     ap (up_to_end p.kind) (reads_back_lem p (written p code) (suc (length (tokens_of (function_body p code)))) no_margin rest (size_within_all p (written p code) no_margin rest) (written_writable p code false w) ends.0)
     ∙ ap (λ b. only_if b (shown_code p code)) ends.1

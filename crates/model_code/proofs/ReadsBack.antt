@@ -2,9 +2,9 @@
 use Rattle.std.proofs.Common.{◌≡◌, ◌≤◌, ◌&&◌, [], ℕ, zero, suc, Bool, true, false, List, length, Some, is_some, refl, ap, ◌∙◌, sym, arith}
 use Rattle.std.proofs.lemmas.Bool.{and_parts, false≢true}
 use Rattle.std.proofs.lemmas.Option.{same_Some}
-use Rattle.model_code.specs.Code.{Use, Block, no_statement, statement, Statement, bind, bind_some, no_way, match_on, if_equal, for_each_of, give, labelled, unless_let, unless_equal, CodeArms, no_code_arm, code_arm}
+use Rattle.model_code.specs.Code.{PlaceUse, Block, no_statement, statement, Statement, bind, bind_some, no_way, match_on, if_equal, for_each_of, give, labelled, unless_let, unless_equal, CodeArms, no_code_arm, code_arm}
 use Rattle.model_code.specs.Notation.{Notation}
-use Rattle.model_code.specs.Pieces.{Piece, tokens_of, Margin, inside, label_at, in_braces_at, close_body, is_alone, match_end, is_left, result_ends, is_end, unless_end, block_before, statement_before, arms_before}
+use Rattle.model_code.specs.Pieces.{CodePiece, tokens_of, Margin, inside, label_at, in_braces_at, close_body, is_alone, match_end, is_left, result_ends, is_end, unless_end, block_before, statement_before, arms_before}
 use Rattle.model_code.specs.Shown.{shown_use, shown, shown_at, shown_arms}
 use Rattle.model_code.specs.Written.{no_margin, written, code_tokens, shown_code}
 use Rattle.model_code.specs.Reading.{then_read, where_read, read_arms, read_statement, read_block}
@@ -18,28 +18,28 @@ label_there true n = refl
 label_there false n = refl
 
 -- where a block ends
-ended_back : (p : Notation) (n : ℕ) (at : Margin) (rest : List Piece) → 1 ≤ n → ends_block (tokens_of rest) ≡ true → read_block p n at.label (tokens_of rest) ≡ Some (no_statement, tokens_of rest)
+ended_back : (p : Notation) (n : ℕ) (at : Margin) (rest : List CodePiece) → 1 ≤ n → ends_block (tokens_of rest) ≡ true → read_block p n at.label (tokens_of rest) ≡ Some (no_statement, tokens_of rest)
 ended_back p zero at rest h e = absurd (omega arith)
 ended_back p (suc n) at rest h e =
     ap (λ r. where_read r (λ s behind. then_read (read_block p n at.label behind) (λ later end. Some (statement s later, end))) (λ end. Some (no_statement, end)) (tokens_of rest)) (nothing_more p n (read_block p n) at.label (tokens_of rest) e)
 
-later_back : (ended : Bool) (p : Notation) (n : ℕ) (at : Margin) (later : Block) (rest : List Piece) → unless_end ended 1 (size p later) ≤ n → unless_end ended true (writable p (is_some at.label) later) ≡ true → ends_block (tokens_of rest) ≡ true
+later_back : (ended : Bool) (p : Notation) (n : ℕ) (at : Margin) (later : Block) (rest : List CodePiece) → unless_end ended 1 (size p later) ≤ n → unless_end ended true (writable p (is_some at.label) later) ≡ true → ends_block (tokens_of rest) ≡ true
     → (size p later ≤ n → writable p (is_some at.label) later ≡ true → BlockBack p n at later rest)
     → read_block p n at.label (tokens_of (unless_end ended rest (block_before p at later rest))) ≡ Some (unless_end ended no_statement (shown p later), tokens_of rest)
 later_back true p n at later rest h w e f = ended_back p n at rest h e
 later_back false p n at later rest h w e f = f h w
 
 mutual
-  block_back : (code : Block) (p : Notation) (n : ℕ) (at : Margin) (rest : List Piece) → size p code ≤ n → writable p (is_some at.label) code ≡ true → ends_block (tokens_of rest) ≡ true → BlockBack p n at code rest
+  block_back : (code : Block) (p : Notation) (n : ℕ) (at : Margin) (rest : List CodePiece) → size p code ≤ n → writable p (is_some at.label) code ≡ true → ends_block (tokens_of rest) ≡ true → BlockBack p n at code rest
   block_back no_statement p n at rest h w e = ended_back p n at rest h e
   block_back (statement s later) p zero at rest h w e = absurd (omega arith)
   block_back (statement s later) p (suc n) at rest h w e =
-      let behind : List Piece = unless_end (is_end (result_ends p) s) rest (block_before p at later rest) in
+      let behind : List CodePiece = unless_end (is_end (result_ends p) s) rest (block_before p at later rest) in
       let ws = and_parts (writable_at p (is_some at.label) s) (unless_end (is_end (result_ends p) s) true (writable p (is_some at.label) later)) w in
       ap (λ r. where_read r (λ x tokens. then_read (read_block p n at.label tokens) (λ xs end. Some (statement x xs, end))) (λ end. Some (no_statement, end)) (tokens_of (statement_before p at s behind))) (statement_back s p n at behind (omega arith) ws.0)
       ∙ ap (λ r. then_read r (λ xs end. Some (statement (shown_at p s) xs, end))) (later_back (is_end (result_ends p) s) p n at later rest (omega arith) ws.1 e (λ k v. block_back later p n at rest k v e))
 
-  statement_back : (s : Statement) (p : Notation) (n : ℕ) (at : Margin) (rest : List Piece) → size_at p s ≤ n → writable_at p (is_some at.label) s ≡ true
+  statement_back : (s : Statement) (p : Notation) (n : ℕ) (at : Margin) (rest : List CodePiece) → size_at p s ≤ n → writable_at p (is_some at.label) s ≡ true
       → read_statement p n (read_block p n) at.label (tokens_of (statement_before p at s rest)) ≡ Some (shown_at p s, tokens_of rest)
   statement_back (bind v e) p n at rest h w = bind_back p n at v e rest h w
   statement_back (bind_some v u) p n at rest h w = bind_some_back p n at v u rest
@@ -55,7 +55,7 @@ mutual
       unless_let_back p n at u pattern fields rest ws.0 vs.0 vs.1
   statement_back (unless_equal a b) p n at rest h w = unless_equal_back p n at a b rest w
 
-  alone_arm_back : (arms : CodeArms) (p : Notation) (n : ℕ) (at : Margin) (u : Use) (rest : List Piece) → size_of_arms p arms ≤ n → writable_arms p (is_some at.label) u arms ≡ true → is_alone arms ≡ true
+  alone_arm_back : (arms : CodeArms) (p : Notation) (n : ℕ) (at : Margin) (u : PlaceUse) (rest : List CodePiece) → size_of_arms p arms ≤ n → writable_arms p (is_some at.label) u arms ≡ true → is_alone arms ≡ true
       → read_statement p n (read_block p n) at.label (tokens_of (arms_before true p at u arms rest)) ≡ Some (match_on (shown_use p u) (shown_arms p arms), tokens_of rest)
   alone_arm_back no_code_arm p n at u rest h w a = absurd (false≢true a)
   alone_arm_back (code_arm pattern fields body no_code_arm) p n at u rest h w a =
@@ -64,13 +64,13 @@ mutual
       alone_back p n at u pattern fields body rest vs.0 vs.1 (block_back body p n (inside at) (close_body at rest) (omega arith) (and_parts (writable p (is_some at.label) body) true ws.1).0 refl)
   alone_arm_back (code_arm pattern fields body (code_arm c f b more)) p n at u rest h w a = absurd (false≢true a)
 
-  arms_back : (arms : CodeArms) (p : Notation) (n k : ℕ) (at : Margin) (u : Use) (rest : List Piece) → k ≤ n → size_of_arms p arms ≤ k → writable_arms p (is_some at.label) u arms ≡ true
+  arms_back : (arms : CodeArms) (p : Notation) (n k : ℕ) (at : Margin) (u : PlaceUse) (rest : List CodePiece) → k ≤ n → size_of_arms p arms ≤ k → writable_arms p (is_some at.label) u arms ≡ true
       → read_arms p (read_block p n) at.label (shown_use p u) k (tokens_of (arms_before false p (inside at) u arms (match_end false at rest))) ≡ Some (shown_arms p arms, tokens_of rest)
   arms_back no_code_arm p n zero at u rest l h w = absurd (omega arith)
   arms_back no_code_arm p n (suc k) at u rest l h w = refl
   arms_back (code_arm pattern fields body more) p n zero at u rest l h w = absurd (omega arith)
   arms_back (code_arm pattern fields body more) p n (suc k) at u rest l h w =
-      let behind : List Piece = arms_before false p (inside at) u more (match_end false at rest) in
+      let behind : List CodePiece = arms_before false p (inside at) u more (match_end false at rest) in
       let ws = and_parts (pattern_writable p pattern fields && match_writable p u pattern) (writable p (is_some at.label) body && writable_arms p (is_some at.label) u more) w in
       let vs = and_parts (pattern_writable p pattern fields) (match_writable p u pattern) ws.0 in
       let bs = and_parts (writable p (is_some at.label) body) (writable_arms p (is_some at.label) u more) ws.1 in

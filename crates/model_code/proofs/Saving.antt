@@ -7,10 +7,10 @@ use Rattle.model.specs.rules.Outcome.{Call, then_option}
 use Rattle.model.specs.trees.Places.{is_in, field_sites}
 use Rattle.model.specs.trees.Run.{World, Env, bound_to, now_bound, Trace, content_fields}
 use Rattle.model.proofs.Elements.{or_right}
-use Rattle.model_code.specs.Code.{Place, variable, Pass, as_it_is, lent, cloned, seen_through, Use, Expr, truth_written, read, extraction, call, variant_of, struct_of, some_of, Block, no_statement, statement, Statement, bind, bind_some, no_way, match_on, if_equal, for_each_of, give, labelled, unless_let, unless_equal, CodeArms, no_code_arm, code_arm}
+use Rattle.model_code.specs.Code.{Place, variable, Pass, as_it_is, lent, cloned, seen_through, PlaceUse, Expr, truth_written, read, extraction, call, variant_of, struct_of, some_of, Block, no_statement, statement, Statement, bind, bind_some, no_way, match_on, if_equal, for_each_of, give, labelled, unless_let, unless_equal, CodeArms, no_code_arm, code_arm}
 use Rattle.model_code.specs.CodeRuns.{held, held_value, held_values, bind_expr, goes_on, then_flow, in_braces, in_label, flow_of_bound, on_content, where_met, where_equal, on_answers, run_block, run_statement, run_code_arms}
 use Rattle.model_code.specs.Scopes.{knows, knows_all, reads_known, scope_after, unless_ended, block_scoped, statement_scoped, arms_scoped}
-use Rattle.model_code.specs.Modes.{Mode, a_value, a_reference, Types, mode_at, is_new, is_value, is_owned, Given, gives_reference, gives_value, gives_away, gives_sight, gives_nothing, given, given_by, fits_value, fits_result, fits_equal, fits_pattern, fits_fields, fit_values, expr_fits, block_fits, statement_fits, arms_fit}
+use Rattle.model_code.specs.Modes.{BindingMode, a_value, a_reference, Types, mode_at, is_new, is_value, is_owned, Given, gives_reference, gives_value, gives_away, gives_sight, gives_nothing, given, given_by, fits_value, fits_result, fits_equal, fits_pattern, fits_fields, fit_values, expr_fits, block_fits, statement_fits, arms_fit}
 use Rattle.model_code.specs.Moves.{other, others, reads_other, fresh_after, block_takes, statement_takes, arms_take}
 use Rattle.model_code.specs.MovedOnce.{touches, any_touch, expr_reads, is_of, read_behind, block_reads, statement_reads, arms_read, is_away, may_move, moves_well, beside, all_move_well, expr_moves, unlooked, movable_after, behind, around_loop, around_arms, read_no_more, block_moves, statement_moves, arms_move}
 use Rattle.model_code.specs.Saving.{may_save, saved_pass, saved_use, all_saved, saved_expr, saved, saved_at, saved_arms, WithMovesSaysSame, WithMovesIsMadeWell}
@@ -45,7 +45,7 @@ module _ (types : Types) where
 
   -- 2. the run
   module _ (w : World) (most : Option ℕ) where
-    values_run : (inside : List ℕ) (later : Place → Bool) (env : Env) (before us : List Use) → held_values w env (all_saved types inside later before us) ≡ held_values w env us
+    values_run : (inside : List ℕ) (later : Place → Bool) (env : Env) (before us : List PlaceUse) → held_values w env (all_saved types inside later before us) ≡ held_values w env us
     values_run inside later env before [] = refl
     values_run inside later env before (u ∷ us) = λ i. then_option (held_value w env u) (λ v. then_option (values_run inside later env (u ∷ before) us i) (λ vs. Some (value_and v vs)))
 
@@ -81,7 +81,7 @@ module _ (types : Types) where
           λ i. where_met (content_fields w.meaning pattern c) fields env t (λ env'. block_runs body (field_sites fields ++ inside) later env' t i) (arms_run rest inside later c env t i)
 
   -- 3. scopes
-  all_known : (scope inside : List ℕ) (later : Place → Bool) (before us : List Use) → knows_all scope (all_saved types inside later before us) ≡ knows_all scope us
+  all_known : (scope inside : List ℕ) (later : Place → Bool) (before us : List PlaceUse) → knows_all scope (all_saved types inside later before us) ≡ knows_all scope us
   all_known scope inside later before [] = refl
   all_known scope inside later before (u ∷ us) = ap (λ b. knows scope u.place && b) (all_known scope inside later (u ∷ before) us)
 
@@ -116,7 +116,7 @@ module _ (types : Types) where
 
   -- 4. what loops take
   module _ (taken : ℕ → Bool) where
-    all_others : (inside : List ℕ) (later : Place → Bool) (before us : List Use) → others taken (all_saved types inside later before us) ≡ others taken us
+    all_others : (inside : List ℕ) (later : Place → Bool) (before us : List PlaceUse) → others taken (all_saved types inside later before us) ≡ others taken us
     all_others inside later before [] = refl
     all_others inside later before (u ∷ us) = ap (λ b. other taken u.place && b) (all_others inside later (u ∷ before) us)
 
@@ -150,7 +150,7 @@ module _ (types : Types) where
 
   -- 5. what is read
   module _ (q : Place) where
-    all_touch_same : (inside : List ℕ) (later : Place → Bool) (before us : List Use) → any_touch q (all_saved types inside later before us) ≡ any_touch q us
+    all_touch_same : (inside : List ℕ) (later : Place → Bool) (before us : List PlaceUse) → any_touch q (all_saved types inside later before us) ≡ any_touch q us
     all_touch_same inside later before [] = refl
     all_touch_same inside later before (u ∷ us) = ap (λ b. touches q u.place || b) (all_touch_same inside later (u ∷ before) us)
 
@@ -179,7 +179,7 @@ module _ (types : Types) where
       arms_read_same (code_arm pattern fields body rest) inside later = λ i. (not (is_of (field_sites fields) q) && block_reads_same body (field_sites fields ++ inside) later i) || arms_read_same rest inside later i
 
   -- 6. moves stand
-  use_well : (inside : List ℕ) (later : Place → Bool) (u : Use) → moves_well types inside later u ≡ true → moves_well types inside later (saved_use types inside later u) ≡ true
+  use_well : (inside : List ℕ) (later : Place → Bool) (u : PlaceUse) → moves_well types inside later u ≡ true → moves_well types inside later (saved_use types inside later u) ≡ true
   use_well inside later u h = by (may_save types inside later u.place) refl u.pass h
     where
       by : (b : Bool) → may_save types inside later u.place ≡ b → (pass : Pass) → moves_well types inside later (record { place = u.place; pass = pass }) ≡ true
@@ -190,7 +190,7 @@ module _ (types : Types) where
       by true e seen_through k = k
       by false e pass k = k
 
-  all_well : (inside : List ℕ) (later : Place → Bool) (before us : List Use) (made : List Use) → ((q : Place) → any_touch q made ≡ any_touch q before) → all_move_well types inside later before us ≡ true
+  all_well : (inside : List ℕ) (later : Place → Bool) (before us : List PlaceUse) (made : List PlaceUse) → ((q : Place) → any_touch q made ≡ any_touch q before) → all_move_well types inside later before us ≡ true
       → all_move_well types inside later made (all_saved types inside later before us) ≡ true
   all_well inside later before [] made same h = refl
   all_well inside later before (u ∷ us) made same h =
@@ -210,7 +210,7 @@ module _ (types : Types) where
   expr_well inside later (some_of u) h = use_well inside later u h
 
   module _ (multi : Bool) where
-    given_well : (inside : List ℕ) (later : Place → Bool) (u : Use) (several : Bool) → (not several || moves_well types inside later u) ≡ true → (not several || moves_well types inside later (saved_use types inside later u)) ≡ true
+    given_well : (inside : List ℕ) (later : Place → Bool) (u : PlaceUse) (several : Bool) → (not several || moves_well types inside later u) ≡ true → (not several || moves_well types inside later (saved_use types inside later u)) ≡ true
     given_well inside later u true h = use_well inside later u h
     given_well inside later u false h = refl
 
@@ -277,10 +277,10 @@ module _ (types : Types) where
 
   -- what may be saved gives a value, or is given away
   module _ (Fits : Bool → Given → Bool) (either : (g : Given) → Fits false g ≡ true → Fits true g ≡ true) (kept : Fits true gives_value ≡ true) (away : Fits true gives_away ≡ true) where
-    saved_fits : (inside : List ℕ) (later : Place → Bool) (u : Use) → Fits false (given types u) ≡ true → Fits true (given types (saved_use types inside later u)) ≡ true
+    saved_fits : (inside : List ℕ) (later : Place → Bool) (u : PlaceUse) → Fits false (given types u) ≡ true → Fits true (given types (saved_use types inside later u)) ≡ true
     saved_fits inside later u h = by (mode_at types u.place) (is_new u.place || types.is_copy u.place) (is_owned types u.place) (may_move inside later u.place) u.pass (either (given types u) h)
       where
-        by : (m : Mode) (keep owned may : Bool) (pass : Pass) → Fits true (given_by m keep owned pass) ≡ true → Fits true (given_by m keep owned (saved_pass ((is_value m && owned) && may) pass)) ≡ true
+        by : (m : BindingMode) (keep owned may : Bool) (pass : Pass) → Fits true (given_by m keep owned pass) ≡ true → Fits true (given_by m keep owned (saved_pass ((is_value m && owned) && may) pass)) ≡ true
         by a_reference keep owned may pass k = k
         by a_value keep false may pass k = k
         by a_value keep true false pass k = k
@@ -290,10 +290,10 @@ module _ (types : Types) where
         by a_value true true true cloned k = kept
         by a_value false true true cloned k = away
 
-  kept_saved : (inside : List ℕ) (later : Place → Bool) (u : Use) → fits_value false (given types u) ≡ true → fits_value true (given types (saved_use types inside later u)) ≡ true
+  kept_saved : (inside : List ℕ) (later : Place → Bool) (u : PlaceUse) → fits_value false (given types u) ≡ true → fits_value true (given types (saved_use types inside later u)) ≡ true
   kept_saved = saved_fits fits_value kept_either refl refl
 
-  all_kept : (inside : List ℕ) (later : Place → Bool) (before us : List Use) → fit_values types false us ≡ true → fit_values types true (all_saved types inside later before us) ≡ true
+  all_kept : (inside : List ℕ) (later : Place → Bool) (before us : List PlaceUse) → fit_values types false us ≡ true → fit_values types true (all_saved types inside later before us) ≡ true
   all_kept inside later before [] h = refl
   all_kept inside later before (u ∷ us) h =
       let hs = and_parts (fits_value false (given types u)) (fit_values types false us) h in

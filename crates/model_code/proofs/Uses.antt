@@ -2,12 +2,12 @@
 use Rattle.std.proofs.Common.{◌≡◌, ◌&&◌, ◌==◌, ◌∷◌, [], ℕ, Bool, true, false, List, Some, None, refl, ap, ◌∙◌}
 use Rattle.std.proofs.lemmas.Bool.{and_parts, and_from, false≢true}
 use Rattle.model.proofs.SameSites.{number_same}
-use Rattle.model_code.specs.Code.{Place, variable, parameter, part_of, int_written, name_written, variant_written, struct_written, Pass, as_it_is, lent, cloned, seen_through, Use}
+use Rattle.model_code.specs.Code.{Place, variable, parameter, part_of, int_written, name_written, variant_written, struct_written, Pass, as_it_is, lent, cloned, seen_through, PlaceUse}
 use Rattle.model_code.specs.Tokens.{dot, colon, Owner, variant_owner, struct_owner, Token, word, part_name, field_name, variable_name}
 use Rattle.model_code.specs.Notation.{Notation}
-use Rattle.model_code.specs.Pieces.{Piece, tokens_of, place_before, passed_before, use_before, clone_call, put_all}
+use Rattle.model_code.specs.Pieces.{CodePiece, tokens_of, place_before, passed_before, use_before, clone_call, put_all}
 use Rattle.model_code.specs.Shown.{shown_place, shown_use}
-use Rattle.model_code.specs.Reading.{Reading, then_read, expect_all, expect_variable, expect_field, same_owner, of_variable, read_place, use_of, cloned_or_not, read_use}
+use Rattle.model_code.specs.Reading.{TokenReading, then_read, expect_all, expect_variable, expect_field, same_owner, of_variable, read_place, use_of, cloned_or_not, read_use}
 
 abbrev not_part : List Token → Bool
 not_part (part_name i ∷ rest) = false
@@ -31,7 +31,7 @@ no_clone [] h = refl
 no_clone (word dot ∷ rest) h = absurd (false≢true h)
 no_clone (_ ∷ rest) h = refl
 
-place_back : (p : Notation) (place : Place) (rest : List Piece) → not_part (tokens_of rest) ≡ true → read_place (tokens_of (place_before p place rest)) ≡ Some (shown_place p place, tokens_of rest)
+place_back : (p : Notation) (place : Place) (rest : List CodePiece) → not_part (tokens_of rest) ≡ true → read_place (tokens_of (place_before p place rest)) ≡ Some (shown_place p place, tokens_of rest)
 place_back p (variable v) rest h = variable_alone v (tokens_of rest) h
 place_back p (parameter i) rest h = refl
 place_back p (part_of v i) rest h = refl
@@ -40,15 +40,15 @@ place_back p (name_written name) rest h = refl
 place_back p (variant_written ty variant) rest h = refl
 place_back p (struct_written ty) rest h = refl
 
-abbrev or_cloned : Place → List Token → Reading Use
+abbrev or_cloned : Place → List Token → TokenReading PlaceUse
 or_cloned place rest = cloned_or_not place rest (expect_all clone_call rest)
 
 -- a place that nothing stands before
-bare : (p : Notation) (place : Place) (rest : List Piece) → read_use (tokens_of (place_before p place rest)) ≡ then_read (read_place (tokens_of (place_before p place rest))) or_cloned
+bare : (p : Notation) (place : Place) (rest : List CodePiece) → read_use (tokens_of (place_before p place rest)) ≡ then_read (read_place (tokens_of (place_before p place rest))) or_cloned
 bare p (variable v) rest = refl
 bare p _ rest = refl
 
-pass_back : (p : Notation) (place : Place) (pass : Pass) (rest : List Piece) → follows (tokens_of rest) ≡ true
+pass_back : (p : Notation) (place : Place) (pass : Pass) (rest : List CodePiece) → follows (tokens_of rest) ≡ true
     → read_use (tokens_of (passed_before p place pass rest)) ≡ Some (record { place = shown_place p place; pass = pass }, tokens_of rest)
 pass_back p place as_it_is rest h =
     let hs = and_parts (not_part (tokens_of rest)) (not_dot (tokens_of rest)) h in
@@ -57,7 +57,7 @@ pass_back p place lent rest h = ap (λ r. then_read r (use_of lent)) (place_back
 pass_back p place cloned rest h = bare p place (put_all clone_call rest) ∙ ap (λ r. then_read r or_cloned) (place_back p place (put_all clone_call rest) refl)
 pass_back p place seen_through rest h = ap (λ r. then_read r (use_of seen_through)) (place_back p place rest (and_parts (not_part (tokens_of rest)) (not_dot (tokens_of rest)) h).0)
 
-pub after_use : {B : Type 0} (p : Notation) (u : Use) (rest : List Piece) (go : Use → List Token → Reading B) → follows (tokens_of rest) ≡ true
+pub after_use : {B : Type 0} (p : Notation) (u : PlaceUse) (rest : List CodePiece) (go : PlaceUse → List Token → TokenReading B) → follows (tokens_of rest) ≡ true
     → then_read (read_use (tokens_of (use_before p u rest))) go ≡ go (shown_use p u) (tokens_of rest)
 after_use p u rest go h = ap (λ r. then_read r go) (pass_back p u.place u.pass rest h)
 

@@ -1,7 +1,7 @@
 -- The code that is written leaves the same labels, and can be written where the code can.
 use Rattle.std.proofs.Common.{◌≡◌, ◌&&◌, ◌||◌, Bool, true, false, not, refl, ap, ◌∙◌}
 use Rattle.std.proofs.lemmas.Bool.{and_parts, and_from, false≢true}
-use Rattle.model_code.specs.Code.{Use, Block, no_statement, statement, Statement, bind, bind_some, no_way, match_on, if_equal, for_each_of, give, labelled, unless_let, unless_equal, CodeArms, no_code_arm, code_arm}
+use Rattle.model_code.specs.Code.{PlaceUse, Block, no_statement, statement, Statement, bind, bind_some, no_way, match_on, if_equal, for_each_of, give, labelled, unless_let, unless_equal, CodeArms, no_code_arm, code_arm}
 use Rattle.model_code.specs.Notation.{Notation}
 use Rattle.model_code.specs.Pieces.{is_left, leaves_at, leaves_arms, result_ends, is_end, unless_end}
 use Rattle.model_code.specs.Written.{is_bare, unwrapped, written, written_at, written_arms}
@@ -36,7 +36,7 @@ module _ (p : Notation) where
     with_label_at no_way label h = refl
     with_label_at (give place u) label h = refl
 
-    with_label_arms : (arms : CodeArms) (u : Use) (label : Bool) → writable_arms p false u arms ≡ true → writable_arms p label u arms ≡ true
+    with_label_arms : (arms : CodeArms) (u : PlaceUse) (label : Bool) → writable_arms p false u arms ≡ true → writable_arms p label u arms ≡ true
     with_label_arms no_code_arm u label h = refl
     with_label_arms (code_arm pattern fields body rest) u label h =
         let hs = and_parts (pattern_writable p pattern fields && match_writable p u pattern) (writable p false body && writable_arms p false u rest) h in
@@ -135,7 +135,7 @@ module _ (p : Notation) where
     is_writable_at (unless_let u pattern fields) label h = h
     is_writable_at (unless_equal a b) label h = h
 
-    arms_writable : (arms : CodeArms) (u : Use) (label : Bool) → writable_arms p label u arms ≡ true → writable_arms p label u (written_arms p arms) ≡ true
+    arms_writable : (arms : CodeArms) (u : PlaceUse) (label : Bool) → writable_arms p label u arms ≡ true → writable_arms p label u (written_arms p arms) ≡ true
     arms_writable no_code_arm u label h = refl
     arms_writable (code_arm pattern fields body rest) u label h =
         let hs = and_parts (pattern_writable p pattern fields && match_writable p u pattern) (writable p label body && writable_arms p label u rest) h in

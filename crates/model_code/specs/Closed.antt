@@ -3,7 +3,7 @@ use Rattle.std.specs.Prelude.{◌≡◌, ◌≢◌, ◌&&◌, ◌==◌, ◌++◌
 use Rattle.model.specs.lists.Syntax.{Position}
 use Rattle.model_code.specs.Tokens.{Owner}
 use Rattle.model_code.specs.Spelling.{Names}
-use Rattle.model_code.specs.Lexing.{is_letter, IsWhole, AreWhole}
+use Rattle.model_code.specs.Lexing.{is_letter, IsWholeText, AreWhole}
 
 abbrev mutual
   pub is_closed : List ℕ → Bool
@@ -47,7 +47,7 @@ all_plain (c ∷ cs) = is_plain_mark c && all_plain cs
 
 -- which texts are closed
 pub record ClosedTexts : Type 0 where
-  pub whole : (text : List ℕ) → is_closed text ≡ true → IsWhole text
+  pub whole : (text : List ℕ) → is_closed text ≡ true → IsWholeText text
   pub together : (x y : List ℕ) → is_closed x ≡ true → is_closed y ≡ true → is_closed (x ++ y) ≡ true
   pub plain : (text : List ℕ) → all_plain text ≡ true → is_closed text ≡ true
   pub letters : (text : List ℕ) → all_letters text ≡ true → is_closed text ≡ true
@@ -55,7 +55,7 @@ pub record ClosedTexts : Type 0 where
   pub stay_together : (x y : List ℕ) → stays_quoted x ≡ true → stays_quoted y ≡ true → stays_quoted (x ++ y) ≡ true
 
 -- names that are closed, and places that stay on their line
-pub record AreClosed (names : Names) : Type 0 where
+pub record AreClosedNames (names : Names) : Type 0 where
   pub owner : (o : Owner) → is_closed (names.owner o) ≡ true
   pub field : (o : Owner) (i : ℕ) → is_closed (names.field o i) ≡ true
   pub function : (f : ℕ) → is_closed (names.function f) ≡ true
@@ -68,4 +68,4 @@ pub record AreClosed (names : Names) : Type 0 where
 
 -- they are read by themselves
 abbrev pub ClosedNamesAreWhole : Type 0
-ClosedNamesAreWhole = (names : Names) → AreClosed names → AreWhole names
+ClosedNamesAreWhole = (names : Names) → AreClosedNames names → AreWhole names

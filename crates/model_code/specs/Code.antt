@@ -21,19 +21,19 @@ pub data Pass : Type 0 where
   cloned : Pass
   seen_through : Pass
 
-pub record Use : Type 0 where
+pub record PlaceUse : Type 0 where
   pub place : Place
   pub pass : Pass
 
 -- what a variable is bound to
 pub data Expr : Type 0 where
   truth_written : (b : Bool) (ty : ℕ) → Expr
-  read : (u : Use) → Expr
-  extraction : (term : ℕ) (u : Use) → Expr
-  call : (term : ℕ) (us : List Use) (instance : ℕ) → Expr
-  variant_of : (ty variant : ℕ) (us : List Use) → Expr
-  struct_of : (ty : ℕ) (us : List Use) → Expr
-  some_of : (u : Use) → Expr
+  read : (u : PlaceUse) → Expr
+  extraction : (term : ℕ) (u : PlaceUse) → Expr
+  call : (term : ℕ) (us : List PlaceUse) (instance : ℕ) → Expr
+  variant_of : (ty variant : ℕ) (us : List PlaceUse) → Expr
+  struct_of : (ty : ℕ) (us : List PlaceUse) → Expr
+  some_of : (u : PlaceUse) → Expr
 
 mutual
   pub data Block : Type 0 where
@@ -44,21 +44,21 @@ mutual
     -- let v = e;
     bind : (v : ℕ) (e : Expr) → Statement
     -- let Some(v) = u else { the term fails };
-    bind_some : (v : ℕ) (u : Use) → Statement
+    bind_some : (v : ℕ) (u : PlaceUse) → Statement
     -- unreachable!();
     no_way : Statement
     -- if let P = u { .. }, or match u { P => { .. } .. _ => {} }
-    match_on : (u : Use) (arms : CodeArms) → Statement
+    match_on : (u : PlaceUse) (arms : CodeArms) → Statement
     -- if a == b { .. }
-    if_equal : (a b : Use) (body : Block) → Statement
+    if_equal : (a b : PlaceUse) (body : Block) → Statement
     -- let mut from = from.into_context_iter(); while let Some(v) = from.next(ctx) { .. }
     for_each_of : (v from : ℕ) (body : Block) → Statement
     -- return u;  or  returns.extend(Some(u)); and a return where the list is full
-    give : (at : Position) (u : Use) → Statement
+    give : (at : Position) (u : PlaceUse) → Statement
     -- 'a: { .. }, and break 'a where a pattern isn't met, or two values differ: what it binds lasts to the block's end
     labelled : (body : Block) → Statement
-    unless_let : (u : Use) (pattern : Constraint) (fields : List (Option ℕ)) → Statement
-    unless_equal : (a b : Use) → Statement
+    unless_let : (u : PlaceUse) (pattern : Constraint) (fields : List (Option ℕ)) → Statement
+    unless_equal : (a b : PlaceUse) → Statement
 
   pub data CodeArms : Type 0 where
     no_code_arm : CodeArms

@@ -5,7 +5,7 @@ use Rattle.model.specs.rules.Values.{Value, of_variant, of_struct, Values, no_va
 use Rattle.model.specs.rules.Meaning.{Content, one, just, many, contents, bool_literal, int_literal, literal_value, constant_value, extractor_answer}
 use Rattle.model.specs.rules.Outcome.{Call, ended, failed, ran_through, stuck, Outcome, then_option}
 use Rattle.model.specs.trees.Run.{World, Env, bound_to, as_value, from_value, part_at, Bound, all_bound, unwrap_failed, no_content_there, now_bound, unwrapped, constructed, Trace, with_calls, ending_at, content_fields, bind_fields, at_start}
-use Rattle.model_code.specs.Code.{Place, variable, parameter, part_of, int_written, name_written, variant_written, struct_written, Use, Expr, truth_written, read, extraction, call, variant_of, struct_of, some_of, Block, no_statement, statement, Statement, bind, bind_some, no_way, match_on, if_equal, for_each_of, give, labelled, unless_let, unless_equal, CodeArms, no_code_arm, code_arm}
+use Rattle.model_code.specs.Code.{Place, variable, parameter, part_of, int_written, name_written, variant_written, struct_written, PlaceUse, Expr, truth_written, read, extraction, call, variant_of, struct_of, some_of, Block, no_statement, statement, Statement, bind, bind_some, no_way, match_on, if_equal, for_each_of, give, labelled, unless_let, unless_equal, CodeArms, no_code_arm, code_arm}
 
 -- what is read there: how it is handed on makes no difference
 abbrev pub held : World → Env → Place → Option Content
@@ -17,10 +17,10 @@ held w env (name_written name) = from_value (constant_value w.meaning name)
 held w env (variant_written ty variant) = Some (one (of_variant ty variant no_value))
 held w env (struct_written ty) = Some (one (of_struct ty no_value))
 
-abbrev pub held_value : World → Env → Use → Option Value
+abbrev pub held_value : World → Env → PlaceUse → Option Value
 held_value w env u = then_option (held w env u.place) as_value
 
-abbrev pub held_values : World → Env → List Use → Option Values
+abbrev pub held_values : World → Env → List PlaceUse → Option Values
 held_values w env [] = Some no_value
 held_values w env (u ∷ rest) = then_option (held_value w env u) (λ v. then_option (held_values w env rest) (λ vs. Some (value_and v vs)))
 

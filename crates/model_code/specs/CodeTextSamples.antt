@@ -12,9 +12,9 @@ use Rattle.model.specs.sites.Sites.{is_variant, is_int, is_prim, is_present}
 use Rattle.model_code.specs.Code.{variable, int_written, cloned, seen_through, truth_written, call, Block, no_statement, statement, bind, bind_some, match_on, if_equal, for_each_of, give, labelled, unless_let, unless_equal, no_code_arm, code_arm}
 use Rattle.model_code.specs.Samples.{use_of, plain, arg0, is_b, somewhere, code, one_statement}
 use Rattle.model_code.specs.Tokens.{Word, let_word, ref_word, if_word, break_word, underscore, arrow, match_word, closing_brace, opening_brace, comma, colon, equals, equal_to, unlike, two_dots, ampersand, Owner, variant_owner, struct_owner, Token, word, variable_name, parameter_name, constant_name, owner_name, field_name, label_name}
-use Rattle.model_code.specs.Notation.{Notation, Kind, gives_one, gives_option, gives_many, Shape, no_fields, named_fields, unnamed_fields, Callee, extractor_of, constructor_of}
+use Rattle.model_code.specs.Notation.{Notation, ReturnForm, gives_one, gives_option, gives_many, Shape, no_fields, named_fields, unnamed_fields, Callee, extractor_of, constructor_of}
 use Rattle.model_code.specs.Written.{code_tokens, shown_code, function_body}
-use Rattle.model_code.specs.Reading.{Reading}
+use Rattle.model_code.specs.Reading.{TokenReading}
 use Rattle.model_code.specs.ReadsBack.{writable, read_code}
 use Rattle.model_code.specs.Spelling.{Names, spelled}
 
@@ -35,7 +35,7 @@ abbrev pub number_of : Callee → ℕ
 number_of (extractor_of term) = 9
 number_of (constructor_of term) = if term == 1 then 1 else 0
 
-abbrev pub notation : Kind → Notation
+abbrev pub notation : ReturnForm → Notation
 notation kind = record {
   kind = kind;
   is_logged = false;
@@ -77,7 +77,7 @@ names = record {
 abbrev pub below : List ℕ → List ℕ → List ℕ
 below line rest = line ++ (10 ∷ rest)
 
-abbrev pub text_of : Kind → Block → List ℕ
+abbrev pub text_of : ReturnForm → Block → List ℕ
 text_of kind code = spelled names (function_body (notation kind) code)
 
 -- the sample of code
@@ -166,7 +166,7 @@ leaving_text =
     (below (codes "}") []))))))))))))))
 
 -- what is read of tokens, in a function of each kind
-abbrev pub read_as : Kind → List Token → Reading Block
+abbrev pub read_as : ReturnForm → List Token → TokenReading Block
 read_as kind tokens = read_code (notation kind) tokens
 
 abbrev pub words : List Word → List Token → List Token
@@ -185,7 +185,7 @@ pattern_ending ends = words (if_word ∷ let_word ∷ ampersand ∷ []) (owner_n
 abbrev pub guard_with : ℕ → List Token
 guard_with n = word match_word ∷ variable_name 2 ∷ words (opening_brace ∷ underscore ∷ if_word ∷ []) (variable_name n ∷ word equal_to ∷ constant_name 0 ∷ words (arrow ∷ opening_brace ∷ closing_brace ∷ underscore ∷ arrow ∷ opening_brace ∷ closing_brace ∷ closing_brace ∷ []) [])
 
-abbrev pub wholly : Reading Block → Bool
+abbrev pub wholly : TokenReading Block → Bool
 wholly (Some (b, [])) = true
 wholly r = false
 

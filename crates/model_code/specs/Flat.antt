@@ -1,7 +1,7 @@
 -- Code whose long chains of tests don't nest: past some depths the body of a test gets a label, and tests at its end leave it.
 use Rattle.std.specs.Prelude.{◌≡◌, ◌&&◌, ℕ, suc, Bool, true, false, Option}
 use Rattle.model.specs.trees.Run.{World, Env, Trace}
-use Rattle.model_code.specs.Code.{Use, Block, no_statement, statement, Statement, match_on, if_equal, for_each_of, labelled, unless_let, unless_equal, CodeArms, no_code_arm, code_arm}
+use Rattle.model_code.specs.Code.{PlaceUse, Block, no_statement, statement, Statement, match_on, if_equal, for_each_of, labelled, unless_let, unless_equal, CodeArms, no_code_arm, code_arm}
 use Rattle.model_code.specs.CodeRuns.{run_block}
 
 -- no label, and no test that leaves one
@@ -55,7 +55,7 @@ abbrev mutual
   leaving_last (for_each_of v from body) deep n = statement (for_each_of v from (within (deep n) (leaving body deep (suc n)) (flat body deep (suc n)))) no_statement
   leaving_last s deep n = statement s no_statement
 
-  pub leaving_match : Use → CodeArms → (ℕ → Bool) → ℕ → Block
+  pub leaving_match : PlaceUse → CodeArms → (ℕ → Bool) → ℕ → Block
   leaving_match u no_code_arm deep n = statement (match_on u no_code_arm) no_statement
   leaving_match u (code_arm pattern fields body no_code_arm) deep n = statement (unless_let u pattern fields) (leaving body deep n)
   leaving_match u (code_arm pattern fields body (code_arm p2 f2 b2 rest)) deep n =

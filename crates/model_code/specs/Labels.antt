@@ -1,7 +1,7 @@
 -- Tests at the end of a block, with a label around it in place of braces behind each.
 use Rattle.std.specs.Prelude.{◌≡◌, ℕ, Option}
 use Rattle.model.specs.trees.Run.{World, Env, Trace}
-use Rattle.model_code.specs.Code.{Use, Block, no_statement, statement, Statement, match_on, if_equal, labelled, unless_let, unless_equal, CodeArms, no_code_arm, code_arm}
+use Rattle.model_code.specs.Code.{PlaceUse, Block, no_statement, statement, Statement, match_on, if_equal, labelled, unless_let, unless_equal, CodeArms, no_code_arm, code_arm}
 use Rattle.model_code.specs.CodeRuns.{run_statement}
 
 -- a block whose last statement is a test with one outcome: the block is left where it isn't met, and what followed inside
@@ -17,7 +17,7 @@ abbrev mutual
   opened_last (if_equal a b body) = statement (unless_equal a b) (opened body)
   opened_last s = statement s no_statement
 
-  pub opened_match : Use → CodeArms → Block
+  pub opened_match : PlaceUse → CodeArms → Block
   opened_match u no_code_arm = statement (match_on u no_code_arm) no_statement
   opened_match u (code_arm pattern fields body no_code_arm) = statement (unless_let u pattern fields) (opened body)
   opened_match u (code_arm pattern fields body (code_arm p2 f2 b2 rest)) = statement (match_on u (code_arm pattern fields body (code_arm p2 f2 b2 rest))) no_statement

@@ -6,7 +6,7 @@ use Rattle.model.specs.lists.Syntax.{Position}
 use Rattle.model_code.specs.Code.{Block}
 use Rattle.model_code.specs.Tokens.{Owner}
 use Rattle.model_code.specs.Notation.{Notation}
-use Rattle.model_code.specs.Pieces.{Piece, token, log_line}
+use Rattle.model_code.specs.Pieces.{CodePiece, token, log_line}
 use Rattle.model_code.specs.Written.{function_body}
 use Rattle.model_code.specs.Spelling.{Names, token_text, spelled}
 
@@ -97,28 +97,28 @@ abbrev pub starts_apart : List ℕ → Bool
 starts_apart [] = true
 starts_apart (c ∷ cs) = not (is_letter c)
 
-abbrev pub IsWhole : List ℕ → Type 0
-IsWhole text = (rest : List ℕ) → starts_apart rest ≡ true → lexed (text ++ rest) ≡ lexed text ++ lexed rest
+abbrev pub IsWholeText : List ℕ → Type 0
+IsWholeText text = (rest : List ℕ) → starts_apart rest ≡ true → lexed (text ++ rest) ≡ lexed text ++ lexed rest
 
 -- names that are read by themselves, and places that stay on their line
 pub record AreWhole (names : Names) : Type 0 where
-  pub owner : (o : Owner) → IsWhole (names.owner o)
-  pub field : (o : Owner) (i : ℕ) → IsWhole (names.field o i)
-  pub function : (f : ℕ) → IsWhole (names.function f)
-  pub list : (l : Option ℕ) → IsWhole (names.list l)
-  pub constant : (name : ℕ) → IsWhole (names.constant name)
-  pub number : (z : ℤ) (ending : ℕ) → IsWhole (names.number z ending)
-  pub panic : IsWhole names.panic
-  pub log : (at : Position) → IsWhole (names.log at)
+  pub owner : (o : Owner) → IsWholeText (names.owner o)
+  pub field : (o : Owner) (i : ℕ) → IsWholeText (names.field o i)
+  pub function : (f : ℕ) → IsWholeText (names.function f)
+  pub list : (l : Option ℕ) → IsWholeText (names.list l)
+  pub constant : (name : ℕ) → IsWholeText (names.constant name)
+  pub number : (z : ℤ) (ending : ℕ) → IsWholeText (names.number z ending)
+  pub panic : IsWholeText names.panic
+  pub log : (at : Position) → IsWholeText (names.log at)
   pub place : (at : Position) → All (λ c. c ≢ 10) (names.place at)
 
 -- the words and marks of each token, and of what tells the log a rule: white space and comments have none
-abbrev pub piece_lexed : Names → Piece → List (List ℕ)
+abbrev pub piece_lexed : Names → CodePiece → List (List ℕ)
 piece_lexed names (token t) = lexed (token_text names t)
 piece_lexed names (log_line at) = lexed (names.log at)
 piece_lexed names piece = []
 
-abbrev pub pieces_lexed : Names → List Piece → List (List ℕ)
+abbrev pub pieces_lexed : Names → List CodePiece → List (List ℕ)
 pieces_lexed names [] = []
 pieces_lexed names (piece ∷ rest) = piece_lexed names piece ++ pieces_lexed names rest
 

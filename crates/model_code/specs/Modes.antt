@@ -4,25 +4,25 @@
 use Rattle.std.specs.Prelude.{[], ◌≡◌, ◌&&◌, ◌||◌, ◌∷◌, ℕ, suc, Bool, true, false, not, List, Option, Some, None, slice_get, Contains}
 use Rattle.model.specs.sites.Sites.{Site, bool_site, extractor_site, constructor_site, iterator_site, make_variant_site, make_struct_site, make_some_site, match_some_site, match_variant_site, extract_struct_site, Constraint, is_variant, is_struct, is_prim, is_present, SetRule, SiteSet}
 use Rattle.model.specs.trees.Trees.{Tree, no_step, step, Check, match_at, equal_at, loop_at, return_at, Arms, no_arm, arm}
-use Rattle.model_code.specs.Code.{Place, variable, parameter, part_of, Pass, as_it_is, lent, cloned, seen_through, Use, Expr, truth_written, read, extraction, call, variant_of, struct_of, some_of, Block, no_statement, statement, Statement, bind, bind_some, no_way, match_on, if_equal, for_each_of, give, labelled, unless_let, unless_equal, CodeArms, no_code_arm, code_arm}
+use Rattle.model_code.specs.Code.{Place, variable, parameter, part_of, Pass, as_it_is, lent, cloned, seen_through, PlaceUse, Expr, truth_written, read, extraction, call, variant_of, struct_of, some_of, Block, no_statement, statement, Statement, bind, bind_some, no_way, match_on, if_equal, for_each_of, give, labelled, unless_let, unless_equal, CodeArms, no_code_arm, code_arm}
 use Rattle.model_code.specs.TreeCode.{Taker, to_extractor, to_parameter, to_field, to_some, to_match, to_compare, to_result, Passes, place_of, tree_code}
 use Rattle.model_code.specs.Flat.{unlabelled, flat}
 
-pub data Mode : Type 0 where
-  a_value : Mode
-  a_reference : Mode
+pub data BindingMode : Type 0 where
+  a_value : BindingMode
+  a_reference : BindingMode
 
 -- what types say: whether a variable and a parameter is a reference, whether what stands at a place is Copy, and whether a
 -- term's extractor, and its constructor at a parameter, take it by reference
 pub record Types : Type 0 where
-  pub variables : ℕ → Mode
-  pub parameters : ℕ → Mode
+  pub variables : ℕ → BindingMode
+  pub parameters : ℕ → BindingMode
   pub is_copy : Place → Bool
   pub extracts_reference : (term : ℕ) → Bool
   pub takes_reference : (term i : ℕ) → Bool
 
 -- a part of a tuple is a place of its own, also behind a reference
-abbrev pub mode_at : Types → Place → Mode
+abbrev pub mode_at : Types → Place → BindingMode
 mode_at types (variable v) = types.variables v
 mode_at types (parameter i) = types.parameters i
 mode_at types place = a_value
@@ -34,7 +34,7 @@ is_new (parameter i) = false
 is_new (part_of v i) = false
 is_new place = true
 
-abbrev pub is_value : Mode → Bool
+abbrev pub is_value : BindingMode → Bool
 is_value a_value = true
 is_value a_reference = false
 
@@ -70,11 +70,11 @@ given_of_value keep owned lent = gives_reference
 given_of_value keep owned cloned = gives_value
 given_of_value keep owned seen_through = gives_nothing
 
-abbrev pub given_by : Mode → (keep owned : Bool) → Pass → Given
+abbrev pub given_by : BindingMode → (keep owned : Bool) → Pass → Given
 given_by a_reference keep owned pass = given_of_reference pass
 given_by a_value keep owned pass = given_of_value keep owned pass
 
-abbrev pub given : Types → Use → Given
+abbrev pub given : Types → PlaceUse → Given
 given types u = given_by (mode_at types u.place) (is_new u.place || types.is_copy u.place) (is_owned types u.place) u.pass
 
 -- what is wanted
@@ -129,11 +129,11 @@ fits_fields types pattern g [] = true
 fits_fields types pattern g (None ∷ rest) = fits_fields types pattern g rest
 fits_fields types pattern g (Some v ∷ rest) = fits_field types pattern g v && fits_fields types pattern g rest
 
-abbrev pub fits_parameters : Types → (term i : ℕ) → List Use → Bool
+abbrev pub fits_parameters : Types → (term i : ℕ) → List PlaceUse → Bool
 fits_parameters types term i [] = true
 fits_parameters types term i (u ∷ us) = fits_parameter (types.takes_reference term i) (given types u) && fits_parameters types term (suc i) us
 
-abbrev pub fit_values : Types → Bool → List Use → Bool
+abbrev pub fit_values : Types → Bool → List PlaceUse → Bool
 fit_values types away [] = true
 fit_values types away (u ∷ us) = fits_value away (given types u) && fit_values types away us
 
@@ -169,7 +169,7 @@ abbrev mutual
   arms_fit types multi away g (code_arm pattern fields body rest) = (fits_pattern pattern g && fits_fields types pattern g fields) && (block_fits types multi away body && arms_fit types multi away g rest)
 
 -- how sites are handed on, by types
-abbrev pub lend : Mode → (copy : Bool) → Pass
+abbrev pub lend : BindingMode → (copy : Bool) → Pass
 lend a_reference copy = as_it_is
 lend a_value true = as_it_is
 lend a_value false = lent
@@ -178,12 +178,12 @@ abbrev pub keep_or_clone : Bool → Pass
 keep_or_clone true = as_it_is
 keep_or_clone false = cloned
 
-abbrev pub hand_back : Mode → (keep owned multi : Bool) → Pass
+abbrev pub hand_back : BindingMode → (keep owned multi : Bool) → Pass
 hand_back mode true owned multi = as_it_is
 hand_back a_value false true false = as_it_is
 hand_back _ _ _ _ = cloned
 
-abbrev pub look_at : (mode other : Mode) → Pass
+abbrev pub look_at : (mode other : BindingMode) → Pass
 look_at a_reference a_value = seen_through
 look_at _ _ = as_it_is
 
@@ -205,7 +205,7 @@ passes_of types multi sites s taker = pass_at types multi (place_in sites) (plac
 -- a tree is typed: what is Copy is no reference; a call's argument is taken by reference where it isn't Copy; what is made, and
 -- the elements of a loop, are values; what is matched as a variant or a struct isn't Copy, what is compared with a literal
 -- is; fields that aren't Copy are references, and so is what is in an option that isn't
-abbrev pub copy_is_value : Mode → (copy : Bool) → Bool
+abbrev pub copy_is_value : BindingMode → (copy : Bool) → Bool
 copy_is_value a_reference copy = not copy
 copy_is_value a_value copy = true
 

@@ -1,6 +1,6 @@
 -- Code that moves a value once, near code that doesn't, and what moves in place of clones leave.
 use Rattle.std.specs.Prelude.{◌≡◌, ◌∷◌, [], Bool, true, false, Some, None}
-use Rattle.model_code.specs.Code.{variable, parameter, part_of, Pass, as_it_is, lent, cloned, Use, Block, no_statement, statement, bind, bind_some, variant_of, call, match_on, if_equal, for_each_of, give, labelled, unless_let, no_code_arm, code_arm}
+use Rattle.model_code.specs.Code.{variable, parameter, part_of, Pass, as_it_is, lent, cloned, PlaceUse, Block, no_statement, statement, bind, bind_some, variant_of, call, match_on, if_equal, for_each_of, give, labelled, unless_let, no_code_arm, code_arm}
 use Rattle.model_code.specs.Modes.{a_value, Types, block_fits}
 use Rattle.model_code.specs.MovedOnce.{touches, block_moves, read_no_more}
 use Rattle.model_code.specs.Saving.{with_moves}
@@ -35,7 +35,7 @@ abbrev pub inside_v7 : Block → Block
 inside_v7 rest = statement (bind 7 (call 2 (arg0 ∷ []) 0)) (statement (bind_some 2 (use_of (variable 7) lent)) rest)
 
 -- let v4 = E::B { e: u, x: v1 };
-abbrev pub keep : Use → Block → Block
+abbrev pub keep : PlaceUse → Block → Block
 keep u rest = statement (bind 4 (variant_of 1 1 (u ∷ (plain 1 ∷ [])))) rest
 
 -- let &E::A { x: v1 } = &v3 else { break };

@@ -3,7 +3,7 @@
 use Rattle.std.specs.Prelude.{[], ◌≡◌, ◌&&◌, ◌||◌, ◌++◌, ◌∷◌, ℕ, Bool, true, false, not, if◌then◌else◌, List}
 use Rattle.std.specs.Bool.{◌==◌}
 use Rattle.model.specs.trees.Places.{is_in, field_sites}
-use Rattle.model_code.specs.Code.{Place, variable, parameter, part_of, Use, Expr, truth_written, read, extraction, call, variant_of, struct_of, some_of, Block, no_statement, statement, Statement, bind, bind_some, no_way, match_on, if_equal, for_each_of, give, labelled, unless_let, unless_equal, CodeArms, no_code_arm, code_arm}
+use Rattle.model_code.specs.Code.{Place, variable, parameter, part_of, PlaceUse, Expr, truth_written, read, extraction, call, variant_of, struct_of, some_of, Block, no_statement, statement, Statement, bind, bind_some, no_way, match_on, if_equal, for_each_of, give, labelled, unless_let, unless_equal, CodeArms, no_code_arm, code_arm}
 use Rattle.model_code.specs.Scopes.{unless_ended}
 use Rattle.model_code.specs.Modes.{Types, Given, gives_away, given, block_fits}
 use Rattle.model_code.specs.Moves.{block_takes}
@@ -17,7 +17,7 @@ touches (part_of v i) (part_of w j) = (v == w) && (i == j)
 touches (parameter i) (parameter j) = i == j
 touches place other = false
 
-abbrev pub any_touch : Place → List Use → Bool
+abbrev pub any_touch : Place → List PlaceUse → Bool
 any_touch q [] = false
 any_touch q (u ∷ us) = touches q u.place || any_touch q us
 
@@ -73,14 +73,14 @@ is_away g = false
 abbrev pub may_move : List ℕ → (Place → Bool) → Place → Bool
 may_move inside later place = is_of inside place && not (later place)
 
-abbrev pub moves_well : Types → List ℕ → (Place → Bool) → Use → Bool
+abbrev pub moves_well : Types → List ℕ → (Place → Bool) → PlaceUse → Bool
 moves_well types inside later u = not (is_away (given types u)) || may_move inside later u.place
 
 -- of several that are handed on together, no other one reads it
-abbrev pub beside : List Use → List Use → (Place → Bool) → Place → Bool
+abbrev pub beside : List PlaceUse → List PlaceUse → (Place → Bool) → Place → Bool
 beside before behind later q = (any_touch q before || any_touch q behind) || later q
 
-abbrev pub all_move_well : Types → List ℕ → (Place → Bool) → List Use → List Use → Bool
+abbrev pub all_move_well : Types → List ℕ → (Place → Bool) → List PlaceUse → List PlaceUse → Bool
 all_move_well types inside later before [] = true
 all_move_well types inside later before (u ∷ us) = moves_well types inside (beside before us later) u && all_move_well types inside later (u ∷ before) us
 

@@ -5,7 +5,7 @@ use Rattle.std.specs.Bool.{◌==◌}
 use Rattle.std.specs.List.{list_any}
 use Rattle.model.specs.sites.Sites.{Site, iterator_site}
 use Rattle.model.specs.trees.Places.{is_in}
-use Rattle.model_code.specs.Code.{Place, variable, part_of, Use, Expr, truth_written, read, extraction, call, variant_of, struct_of, some_of, Block, no_statement, statement, Statement, bind, bind_some, no_way, match_on, if_equal, for_each_of, give, labelled, unless_let, unless_equal, CodeArms, no_code_arm, code_arm}
+use Rattle.model_code.specs.Code.{Place, variable, part_of, PlaceUse, Expr, truth_written, read, extraction, call, variant_of, struct_of, some_of, Block, no_statement, statement, Statement, bind, bind_some, no_way, match_on, if_equal, for_each_of, give, labelled, unless_let, unless_equal, CodeArms, no_code_arm, code_arm}
 use Rattle.model_code.specs.Flat.{unlabelled, flat}
 use Rattle.model_code.specs.Scopes.{unless_ended}
 
@@ -15,7 +15,7 @@ other taken (variable v) = not (taken v)
 other taken (part_of v i) = not (taken v)
 other taken place = true
 
-abbrev pub others : (ℕ → Bool) → List Use → Bool
+abbrev pub others : (ℕ → Bool) → List PlaceUse → Bool
 others taken [] = true
 others taken (u ∷ us) = other taken u.place && others taken us
 

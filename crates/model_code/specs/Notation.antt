@@ -3,8 +3,8 @@ use Rattle.std.specs.Prelude.{ℕ, Bool, Option}
 use Rattle.model_code.specs.Tokens.{Owner}
 
 -- a value, a value or nothing, or a list of values
-pub data Kind : Type 0 where
-  gives_one gives_option gives_many : Kind
+pub data ReturnForm : Type 0 where
+  gives_one gives_option gives_many : ReturnForm
 
 -- how fields are written: not at all, with names, or in order
 pub data Shape : Type 0 where
@@ -18,7 +18,7 @@ pub data Callee : Type 0 where
   constructor_of : (term : ℕ) → Callee
 
 pub record Notation : Type 0 where
-  pub kind : Kind
+  pub kind : ReturnForm
   -- whether the log is told which rule is taken
   pub is_logged : Bool
   pub shape : Owner → Shape

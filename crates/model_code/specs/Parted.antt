@@ -4,7 +4,7 @@ use Rattle.std.specs.Prelude.{◌≡◌, ◌&&◌, Bool, true, false, not, List,
 use Rattle.model_code.specs.Code.{Block}
 use Rattle.model_code.specs.Tokens.{Word, let_word, mut_word, ref_word, if_word, else_word, match_word, while_word, return_word, break_word, some_word, none_word, true_word, false_word, ctx_word, returns_word, extend_word, len_word, most_word, clone_word, iter_word, next_word, unreachable_word, underscore, Token, word, part_name, label_name}
 use Rattle.model_code.specs.Notation.{Notation}
-use Rattle.model_code.specs.Pieces.{Piece, token, space, set_in, line_end, rule_comment, log_line}
+use Rattle.model_code.specs.Pieces.{CodePiece, token, space, set_in, line_end, rule_comment, log_line}
 use Rattle.model_code.specs.Written.{function_body}
 
 abbrev pub is_lettered : Word → Bool
@@ -45,7 +45,7 @@ ends_word (word w) = is_lettered w
 ends_word t = true
 
 -- behind a word, or not
-abbrev pub parted : Bool → List Piece → Bool
+abbrev pub parted : Bool → List CodePiece → Bool
 parted behind [] = true
 parted behind (token t ∷ rest) = not (behind && begins_word t) && parted (ends_word t) rest
 parted behind (space ∷ rest) = parted false rest

@@ -7,7 +7,7 @@ use Rattle.model.specs.rules.Values.{field_types}
 use Rattle.model.specs.sites.Serves.{term_args, term_results, constant_type}
 use Rattle.model_code.specs.SiteTypes.{one_type, is_one_composed}
 use Rattle.model_code.specs.Tokens.{Owner, variant_owner, struct_owner}
-use Rattle.model_code.specs.Notation.{Notation, Kind, Shape, no_fields, named_fields, unnamed_fields, Callee, extractor_of, constructor_of}
+use Rattle.model_code.specs.Notation.{Notation, ReturnForm, Shape, no_fields, named_fields, unnamed_fields, Callee, extractor_of, constructor_of}
 use Rattle.model_code.specs.Alike.{term_of}
 
 abbrev pub fields_of_variant : Option VariantEntry → FieldEntries
@@ -85,7 +85,7 @@ abbrev pub ending_in : Option TypeEntry → ℕ → ℕ
 ending_in (Some (builtin_type place)) ty = ty
 ending_in _ ty = 0
 
-abbrev pub notation_of : Program → Kind → (is_logged : Bool) → Notation
+abbrev pub notation_of : Program → ReturnForm → (is_logged : Bool) → Notation
 notation_of p kind is_logged = record {
   kind = kind;
   is_logged = is_logged;

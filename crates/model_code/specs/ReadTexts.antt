@@ -3,7 +3,7 @@ use Rattle.std.specs.Prelude.{◌≡◌, ◌++◌, [], ◌∷◌, ℕ, true, fal
 use Rattle.model_code.specs.Code.{Block}
 use Rattle.model_code.specs.Tokens.{Token}
 use Rattle.model_code.specs.Notation.{Notation}
-use Rattle.model_code.specs.Pieces.{Piece, tokens_of}
+use Rattle.model_code.specs.Pieces.{CodePiece, tokens_of}
 use Rattle.model_code.specs.Written.{shown_code, function_body}
 use Rattle.model_code.specs.Spelling.{Names, token_text, spelled}
 use Rattle.model_code.specs.Lexing.{lexed, AreWhole, pieces_lexed}
@@ -11,15 +11,15 @@ use Rattle.model_code.specs.ReadsBack.{writable, read_function}
 
 -- a text of pieces: it has the words and marks of their tokens, and no other but those of what tells the log a rule, and a reader
 -- gets this code of the tokens
-pub record IsReadAs (names : Names) (p : Notation) (text : List ℕ) (code : Block) : Type 0 where
-  pub pieces : List Piece
+pub record IsReadAsCode (names : Names) (p : Notation) (text : List ℕ) (code : Block) : Type 0 where
+  pub pieces : List CodePiece
   pub of_pieces : text ≡ spelled names pieces
   pub words : lexed text ≡ pieces_lexed names pieces
   pub read : read_function p (tokens_of pieces) ≡ Some code
 
 -- the text of a function is read as what it shows of the function's code
 abbrev pub TextIsReadBack : Type 0
-TextIsReadBack = (names : Names) (p : Notation) (code : Block) → AreWhole names → writable p false code ≡ true → IsReadAs names p (spelled names (function_body p code)) (shown_code p code)
+TextIsReadBack = (names : Names) (p : Notation) (code : Block) → AreWhole names → writable p false code ≡ true → IsReadAsCode names p (spelled names (function_body p code)) (shown_code p code)
 
 -- the words and marks of tokens
 abbrev pub words_of : Names → List Token → List (List ℕ)

@@ -1,16 +1,16 @@
 -- What is written is read back, so code that isn't shown alike has different tokens.
 use Rattle.std.specs.Prelude.{◌≡◌, ◌≤◌, ◌+◌, ◌&&◌, ◌||◌, ◌==◌, ℕ, suc, Bool, true, false, not, List, [], ◌∷◌, length, Option, Some, None, is_some}
 use Rattle.model.specs.sites.Sites.{Constraint, is_variant, is_struct, is_prim, is_present}
-use Rattle.model_code.specs.Code.{Pass, as_it_is, lent, Use, Expr, extraction, call, variant_of, struct_of, Block, no_statement, statement, Statement, bind, match_on, if_equal, for_each_of, labelled, unless_let, unless_equal, CodeArms, no_code_arm, code_arm}
+use Rattle.model_code.specs.Code.{Pass, as_it_is, lent, PlaceUse, Expr, extraction, call, variant_of, struct_of, Block, no_statement, statement, Statement, bind, match_on, if_equal, for_each_of, labelled, unless_let, unless_equal, CodeArms, no_code_arm, code_arm}
 use Rattle.model_code.specs.Flat.{unlabelled, flat}
 use Rattle.model_code.specs.Modes.{Types}
 use Rattle.model_code.specs.Saving.{with_moves}
 use Rattle.model_code.specs.Tokens.{variant_owner, struct_owner, Token, word, closing_brace, none_word, no_match}
-use Rattle.model_code.specs.Notation.{Notation, Kind, gives_one, gives_option, Shape, no_fields, named_fields, unnamed_fields}
-use Rattle.model_code.specs.Pieces.{Piece, tokens_of, Margin, is_left, result_ends, is_end, unless_end, block_before}
+use Rattle.model_code.specs.Notation.{Notation, ReturnForm, gives_one, gives_option, Shape, no_fields, named_fields, unnamed_fields}
+use Rattle.model_code.specs.Pieces.{CodePiece, tokens_of, Margin, is_left, result_ends, is_end, unless_end, block_before}
 use Rattle.model_code.specs.Shown.{shown}
 use Rattle.model_code.specs.Written.{code_tokens, shown_code, function_body}
-use Rattle.model_code.specs.Reading.{Reading, only_if, read_block}
+use Rattle.model_code.specs.Reading.{TokenReading, only_if, read_block}
 
 -- 1. code that can be written: what is made, and each pattern, has as many fields as its type has; constants have none; and where a
 -- test leaves a label, there is one around
@@ -36,7 +36,7 @@ is_looked_at lent = true
 is_looked_at _ = false
 
 -- what is matched with a constant of an enum's or a struct's type is a reference
-abbrev pub match_writable : Notation → Use → Constraint → Bool
+abbrev pub match_writable : Notation → PlaceUse → Constraint → Bool
 match_writable p u (is_prim name) = not (p.is_constant_composed name) || is_looked_at u.pass
 match_writable p u c = true
 
@@ -55,7 +55,7 @@ abbrev mutual
   writable_at p label (unless_equal a b) = label
   writable_at p label s = true
 
-  pub writable_arms : Notation → (label : Bool) → Use → CodeArms → Bool
+  pub writable_arms : Notation → (label : Bool) → PlaceUse → CodeArms → Bool
   writable_arms p label u no_code_arm = true
   writable_arms p label u (code_arm pattern fields body rest) = (pattern_writable p pattern fields && match_writable p u pattern) && (writable p label body && writable_arms p label u rest)
 
@@ -93,11 +93,11 @@ ends_block _ = false
 -- 3. a block is read back, up to what follows it
 abbrev pub ReadsBack : Type 0
 ReadsBack =
-    (p : Notation) (code : Block) (n : ℕ) (at : Margin) (rest : List Piece) → size p code ≤ n → writable p (is_some at.label) code ≡ true → ends_block (tokens_of rest) ≡ true
+    (p : Notation) (code : Block) (n : ℕ) (at : Margin) (rest : List CodePiece) → size p code ≤ n → writable p (is_some at.label) code ≡ true → ends_block (tokens_of rest) ≡ true
     → read_block p n at.label (tokens_of (block_before p at code rest)) ≡ Some (shown p code, tokens_of rest)
 
 -- the tokens of a function's code, without what follows where it has run through
-abbrev pub read_code : Notation → List Token → Reading Block
+abbrev pub read_code : Notation → List Token → TokenReading Block
 read_code p tokens = read_block p (suc (length tokens)) None tokens
 
 -- they are read back
@@ -105,13 +105,13 @@ abbrev pub CodeIsRead : Type 0
 CodeIsRead = (p : Notation) (code : Block) → writable p false code ≡ true → read_code p (code_tokens p code) ≡ Some (shown_code p code, [])
 
 -- a function from behind its first line on: its code, what stands where that has run through, and the brace
-abbrev pub is_function_end : Kind → List Token → Bool
+abbrev pub is_function_end : ReturnForm → List Token → Bool
 is_function_end kind (word closing_brace ∷ []) = true
 is_function_end gives_one (no_match ∷ (word closing_brace ∷ [])) = true
 is_function_end gives_option (word none_word ∷ (word closing_brace ∷ [])) = true
 is_function_end kind _ = false
 
-abbrev pub up_to_end : Kind → Reading Block → Option Block
+abbrev pub up_to_end : ReturnForm → TokenReading Block → Option Block
 up_to_end kind (Some r) = only_if (is_function_end kind r.1) r.0
 up_to_end kind None = None
 

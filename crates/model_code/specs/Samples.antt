@@ -9,11 +9,11 @@ use Rattle.std.specs.Bool.{◌==◌}
 use Rattle.model.specs.lists.Syntax.{Position}
 use Rattle.model.specs.sites.Sites.{Site, argument_site, match_variant_site, constructor_site, make_variant_site, Constraint, is_variant, is_int}
 use Rattle.model.specs.trees.Trees.{Tree, no_step, step, match_at, return_at, no_arm, arm}
-use Rattle.model_code.specs.Code.{Place, variable, parameter, part_of, Pass, as_it_is, lent, cloned, seen_through, Use, call, variant_of, Block, no_statement, statement, Statement, bind, bind_some, match_on, if_equal, for_each_of, give, labelled, unless_let, unless_equal, no_code_arm, code_arm}
+use Rattle.model_code.specs.Code.{Place, variable, parameter, part_of, Pass, as_it_is, lent, cloned, seen_through, PlaceUse, call, variant_of, Block, no_statement, statement, Statement, bind, bind_some, match_on, if_equal, for_each_of, give, labelled, unless_let, unless_equal, no_code_arm, code_arm}
 use Rattle.model_code.specs.TreeCode.{tree_code}
 use Rattle.model_code.specs.Scopes.{block_scoped}
 use Rattle.model_code.specs.Moves.{block_takes}
-use Rattle.model_code.specs.Modes.{Mode, a_value, a_reference, Types, block_fits, passes_of, tree_typed}
+use Rattle.model_code.specs.Modes.{BindingMode, a_value, a_reference, Types, block_fits, passes_of, tree_typed}
 
 abbrev pub somewhere : Position
 somewhere = record { file = 0; offset = 0 }
@@ -28,7 +28,7 @@ abbrev pub tree : Tree
 tree = step [] (match_at 0 (arm is_a (Some 1 ∷ []) (step (2 ∷ (3 ∷ [])) (return_at somewhere 3) no_step) no_arm)) no_step
 
 -- v1 is a number, v2 what `pick` answers, v3 what is made
-abbrev pub modes : ℕ → Mode
+abbrev pub modes : ℕ → BindingMode
 modes v = if v == 2 then a_reference else a_value
 
 abbrev pub only_v1 : Place → Bool
@@ -38,17 +38,17 @@ only_v1 place = false
 abbrev pub types : Types
 types = record { variables = modes; parameters = λ i. a_reference; is_copy = only_v1; extracts_reference = λ term. true; takes_reference = λ term i. true }
 
-abbrev pub use_of : Place → Pass → Use
+abbrev pub use_of : Place → Pass → PlaceUse
 use_of place pass = record { place = place; pass = pass }
 
-abbrev pub plain : ℕ → Use
+abbrev pub plain : ℕ → PlaceUse
 plain v = use_of (variable v) as_it_is
 
-abbrev pub arg0 : Use
+abbrev pub arg0 : PlaceUse
 arg0 = use_of (parameter 0) as_it_is
 
 -- in the arm: the call on this, the field handed on so, and what follows
-abbrev pub in_arm : Use → Pass → Block → Block
+abbrev pub in_arm : PlaceUse → Pass → Block → Block
 in_arm argument pass rest = statement (bind 2 (call 0 (argument ∷ []) 1)) (statement (bind 3 (variant_of 1 1 (use_of (variable 2) pass ∷ (plain 1 ∷ [])))) rest)
 
 -- match arg0 { &E::A { x: v1 } => { let v2 = &C::pick(ctx, arg0); let v3 = E::B { e: v2.clone(), x: v1 }; return v3; } _ => {} }
@@ -78,11 +78,11 @@ v1_taken v = v == 1
 abbrev pub is_b : Constraint
 is_b = is_variant 1 1 2
 
-abbrev pub lent_v3 : Use
+abbrev pub lent_v3 : PlaceUse
 lent_v3 = use_of (variable 3) lent
 
 -- match u { P { .. } => {} _ => {} }
-abbrev pub against : Use → Constraint → List (Option ℕ) → Block
+abbrev pub against : PlaceUse → Constraint → List (Option ℕ) → Block
 against u pattern fields = statement (match_on u (code_arm pattern fields no_statement no_code_arm)) no_statement
 
 abbrev pub fits_alone : Block → Bool

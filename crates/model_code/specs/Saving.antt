@@ -2,7 +2,7 @@
 use Rattle.std.specs.Prelude.{[], ◌≡◌, ◌&&◌, ◌++◌, ◌∷◌, ℕ, Bool, true, false, List, Option}
 use Rattle.model.specs.trees.Run.{World, Env, Trace}
 use Rattle.model.specs.trees.Places.{field_sites}
-use Rattle.model_code.specs.Code.{Place, Pass, as_it_is, cloned, Use, Expr, variant_of, struct_of, some_of, Block, no_statement, statement, Statement, bind, match_on, if_equal, for_each_of, give, labelled, CodeArms, no_code_arm, code_arm}
+use Rattle.model_code.specs.Code.{Place, Pass, as_it_is, cloned, PlaceUse, Expr, variant_of, struct_of, some_of, Block, no_statement, statement, Statement, bind, match_on, if_equal, for_each_of, give, labelled, CodeArms, no_code_arm, code_arm}
 use Rattle.model_code.specs.CodeRuns.{run_block}
 use Rattle.model_code.specs.Scopes.{block_scoped}
 use Rattle.model_code.specs.Modes.{Types, mode_at, is_value, is_owned, block_fits}
@@ -18,10 +18,10 @@ saved_pass false pass = pass
 saved_pass true cloned = as_it_is
 saved_pass true pass = pass
 
-abbrev pub saved_use : Types → List ℕ → (Place → Bool) → Use → Use
+abbrev pub saved_use : Types → List ℕ → (Place → Bool) → PlaceUse → PlaceUse
 saved_use types inside later u = record { place = u.place; pass = saved_pass (may_save types inside later u.place) u.pass }
 
-abbrev pub all_saved : Types → List ℕ → (Place → Bool) → List Use → List Use → List Use
+abbrev pub all_saved : Types → List ℕ → (Place → Bool) → List PlaceUse → List PlaceUse → List PlaceUse
 all_saved types inside later before [] = []
 all_saved types inside later before (u ∷ us) = saved_use types inside (beside before us later) u ∷ all_saved types inside later (u ∷ before) us
 

@@ -6,7 +6,7 @@ use Rattle.model.specs.trees.Trees.{Tree}
 use Rattle.model.specs.trees.Best.{IsBestTree}
 use Rattle.model.specs.trees.Places.{is_in, is_in_place, field_sites}
 use Rattle.model.specs.claims.Layers.{BindsBeforeUse}
-use Rattle.model_code.specs.Code.{Place, variable, part_of, Use, Expr, truth_written, read, extraction, call, variant_of, struct_of, some_of, Block, no_statement, statement, Statement, bind, bind_some, no_way, match_on, if_equal, for_each_of, give, labelled, unless_let, unless_equal, CodeArms, no_code_arm, code_arm}
+use Rattle.model_code.specs.Code.{Place, variable, part_of, PlaceUse, Expr, truth_written, read, extraction, call, variant_of, struct_of, some_of, Block, no_statement, statement, Statement, bind, bind_some, no_way, match_on, if_equal, for_each_of, give, labelled, unless_let, unless_equal, CodeArms, no_code_arm, code_arm}
 use Rattle.model_code.specs.TreeCode.{Passes, tree_code}
 use Rattle.model_code.specs.Flat.{unlabelled, flat}
 
@@ -16,7 +16,7 @@ knows scope (variable v) = is_in v scope
 knows scope (part_of v i) = is_in v scope
 knows scope place = true
 
-abbrev pub knows_all : List ℕ → List Use → Bool
+abbrev pub knows_all : List ℕ → List PlaceUse → Bool
 knows_all scope [] = true
 knows_all scope (u ∷ us) = knows scope u.place && knows_all scope us
 

@@ -6,7 +6,7 @@
 use Rattle.std.specs.Prelude.{ℕ, Bool, true, false, List, [], ◌∷◌, Option, Some, None}
 use Rattle.model.specs.lists.Syntax.{Position}
 use Rattle.model.specs.sites.Sites.{Constraint, is_bool, is_int, is_prim}
-use Rattle.model_code.specs.Code.{Place, int_written, name_written, variant_written, struct_written, Pass, as_it_is, seen_through, Use, Expr, truth_written, read, extraction, call, variant_of, struct_of, some_of, Block, no_statement, statement, Statement, bind, bind_some, no_way, match_on, if_equal, for_each_of, give, labelled, unless_let, unless_equal, CodeArms, no_code_arm, code_arm}
+use Rattle.model_code.specs.Code.{Place, int_written, name_written, variant_written, struct_written, Pass, as_it_is, seen_through, PlaceUse, Expr, truth_written, read, extraction, call, variant_of, struct_of, some_of, Block, no_statement, statement, Statement, bind, bind_some, no_way, match_on, if_equal, for_each_of, give, labelled, unless_let, unless_equal, CodeArms, no_code_arm, code_arm}
 use Rattle.model_code.specs.Tokens.{Owner, variant_owner, struct_owner}
 use Rattle.model_code.specs.Notation.{Notation, Shape, no_fields, extractor_of, constructor_of}
 use Rattle.model_code.specs.Pieces.{result_ends, is_end, unless_end}
@@ -18,14 +18,14 @@ abbrev pub shown_place : Notation → Place → Place
 shown_place p (int_written z ty) = int_written z (p.ending ty)
 shown_place p place = place
 
-abbrev pub shown_use : Notation → Use → Use
+abbrev pub shown_use : Notation → PlaceUse → PlaceUse
 shown_use p u = record { place = shown_place p u.place; pass = u.pass }
 
-abbrev pub shown_uses : Notation → List Use → List Use
+abbrev pub shown_uses : Notation → List PlaceUse → List PlaceUse
 shown_uses p [] = []
 shown_uses p (u ∷ us) = shown_use p u ∷ shown_uses p us
 
-abbrev pub made_of : Owner → List Use → Expr
+abbrev pub made_of : Owner → List PlaceUse → Expr
 made_of (variant_owner ty variant) us = variant_of ty variant us
 made_of (struct_owner ty) us = struct_of ty us
 
@@ -33,7 +33,7 @@ abbrev pub written_place : Owner → Place
 written_place (variant_owner ty variant) = variant_written ty variant
 written_place (struct_owner ty) = struct_written ty
 
-abbrev pub shown_made : Owner → Shape → List Use → Expr
+abbrev pub shown_made : Owner → Shape → List PlaceUse → Expr
 shown_made o no_fields us = read (record { place = written_place o; pass = as_it_is })
 shown_made o _ us = made_of o us
 
@@ -53,21 +53,21 @@ shown_constraint p c = c
 
 -- a comparison of shown uses as a match, where the second is a constant: with what, and of what; a constant of an enum's or a
 -- struct's type is compared with what a reference refers to
-abbrev pub named_test : (composed : Bool) → Pass → Use → ℕ → Option (Use × Constraint)
+abbrev pub named_test : (composed : Bool) → Pass → PlaceUse → ℕ → Option (PlaceUse × Constraint)
 named_test false pass a name = Some (a, is_prim name)
 named_test true seen_through a name = Some (record { place = a.place; pass = as_it_is }, is_prim name)
 named_test true _ a name = None
 
-abbrev pub test_at : Notation → Use → Place → Pass → Option (Use × Constraint)
+abbrev pub test_at : Notation → PlaceUse → Place → Pass → Option (PlaceUse × Constraint)
 test_at p a (int_written z ending) as_it_is = Some (a, is_int z ending)
 test_at p a (name_written name) as_it_is = named_test (p.is_constant_composed name) a.pass a name
 test_at p a _ _ = None
 
-abbrev pub equal_or_match : Option (Use × Constraint) → (a b : Use) → Block → Statement
+abbrev pub equal_or_match : Option (PlaceUse × Constraint) → (a b : PlaceUse) → Block → Statement
 equal_or_match None a b body = if_equal a b body
 equal_or_match (Some test) a b body = match_on test.0 (code_arm test.1 [] body no_code_arm)
 
-abbrev pub unless_either : Option (Use × Constraint) → (a b : Use) → Statement
+abbrev pub unless_either : Option (PlaceUse × Constraint) → (a b : PlaceUse) → Statement
 unless_either None a b = unless_equal a b
 unless_either (Some test) a b = unless_let test.0 test.1 []
 

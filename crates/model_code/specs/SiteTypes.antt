@@ -6,7 +6,7 @@ use Rattle.model.specs.rules.Values.{is_composed_type, variant_types, struct_typ
 use Rattle.model.specs.sites.Serves.{term_args, term_results, constant_type}
 use Rattle.model.specs.sites.Sites.{Site, SiteTerm, bool_term, int_term, prim_term, argument, extractor_call, constructor_call, pick_of, variant_made, variant_field, struct_made, struct_field, some_made, some_part, tuple_part, no_site, unfold_site}
 use Rattle.model_code.specs.Code.{Place, variable, parameter, part_of, int_written, name_written, variant_written, struct_written}
-use Rattle.model_code.specs.Modes.{Mode, a_value, a_reference, Types}
+use Rattle.model_code.specs.Modes.{BindingMode, a_value, a_reference, Types}
 
 abbrev pub one_type : Option ℕ → List ℕ
 one_type None = []
@@ -63,7 +63,7 @@ is_held_by_reference p args (struct_field s i) = is_one_composed p (types_at p a
 is_held_by_reference p args (some_part s) = not (are_copied p (types_at p args s))
 is_held_by_reference p args s = false
 
-abbrev pub mode_of : Bool → Mode
+abbrev pub mode_of : Bool → BindingMode
 mode_of true = a_reference
 mode_of false = a_value
 

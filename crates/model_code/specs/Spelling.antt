@@ -2,7 +2,7 @@
 use Rattle.std.specs.Prelude.{ℕ, ◌*◌, ℤ, min, Option, List, [], ◌∷◌, ◌++◌, replicate, codes, decimal}
 use Rattle.model.specs.lists.Syntax.{Position}
 use Rattle.model_code.specs.Tokens.{Word, let_word, mut_word, ref_word, if_word, else_word, match_word, while_word, return_word, break_word, some_word, none_word, true_word, false_word, ctx_word, returns_word, extend_word, len_word, most_word, clone_word, iter_word, next_word, unreachable_word, opening, closing, opening_brace, closing_brace, comma, colon, semicolon, dot, two_dots, underscore, arrow, equals, equal_to, unlike, at_least, ampersand, star, Owner, Token, word, variable_name, parameter_name, part_name, number, constant_name, owner_name, field_name, function_name, list_name, label_name, no_match}
-use Rattle.model_code.specs.Pieces.{Piece, token, space, set_in, line_end, rule_comment, log_line}
+use Rattle.model_code.specs.Pieces.{CodePiece, token, space, set_in, line_end, rule_comment, log_line}
 
 -- how names are written, numbers with what stands behind their digits, the panic where no rule matched, and the place of a rule
 pub record Names : Type 0 where
@@ -75,7 +75,7 @@ token_text names no_match = names.panic
 abbrev pub deepest : ℕ
 deepest = 13
 
-abbrev pub piece_text : Names → Piece → List ℕ
+abbrev pub piece_text : Names → CodePiece → List ℕ
 piece_text names (token t) = token_text names t
 piece_text names space = codes " "
 piece_text names (set_in depth) = replicate (4 * min depth deepest) 32
@@ -83,6 +83,6 @@ piece_text names line_end = 10 ∷ []
 piece_text names (rule_comment at) = codes "// Rule at " ++ names.place at ++ codes "."
 piece_text names (log_line at) = names.log at
 
-abbrev pub spelled : Names → List Piece → List ℕ
+abbrev pub spelled : Names → List CodePiece → List ℕ
 spelled names [] = []
 spelled names (piece ∷ rest) = piece_text names piece ++ spelled names rest

@@ -8,7 +8,7 @@ use Rattle.model_code.specs.Notation.{gives_one, gives_option, gives_many}
 use Rattle.model_code.specs.Pieces.{tokens_of}
 use Rattle.model_code.specs.Written.{code_tokens, shown_code, function_body}
 use Rattle.model_code.specs.Spelling.{Names, spelled}
-use Rattle.model_code.specs.Lexing.{lexed, IsWhole, pieces_lexed}
+use Rattle.model_code.specs.Lexing.{lexed, IsWholeText, pieces_lexed}
 use Rattle.model_code.specs.ReadsBack.{writable, read_function}
 use Rattle.model_code.specs.Closed.{is_closed, stays_quoted, in_quotation}
 use Rattle.model_code.specs.CodeTextSamples.{notation, names, below, text_of, many, leaving, read_as, words, wholly, called}
@@ -70,8 +70,8 @@ pub record TextsAreJudged : Type 0 where
   pub slash_open : is_closed (codes "a/b") ≡ false
   pub escape_open : stays_quoted bare_text ≡ false
   -- they aren't read by themselves
-  pub quote_not_whole : IsWhole (34 ∷ []) → ⊥
-  pub slash_not_whole : IsWhole (47 ∷ []) → ⊥
+  pub quote_not_whole : IsWholeText (34 ∷ []) → ⊥
+  pub slash_not_whole : IsWholeText (47 ∷ []) → ⊥
   -- with such a name the text of a function hasn't the words and marks of its pieces
   pub words_there : as_many_words names (called 0 0) ≡ true
   pub words_lost : as_many_words quoting (called 0 0) ≡ false

@@ -2,7 +2,7 @@
 use Rattle.std.specs.Prelude.{ℕ, suc, List, [], ◌∷◌, map, Option, Some, slice_get}
 use Rattle.model.specs.sites.Sites.{Site, bool_site, int_site, prim_site, argument_site, extractor_site, constructor_site, iterator_site, make_variant_site, make_struct_site, make_some_site, match_some_site, match_tuple_site}
 use Rattle.model.specs.trees.Trees.{Tree, no_step, step, Check, match_at, equal_at, loop_at, return_at, Arms, no_arm, arm}
-use Rattle.model_code.specs.Code.{Place, variable, parameter, part_of, int_written, name_written, variant_written, struct_written, Pass, Use, truth_written, extraction, call, variant_of, struct_of, some_of, Block, no_statement, statement, Statement, bind, bind_some, no_way, match_on, if_equal, for_each_of, give, CodeArms, no_code_arm, code_arm}
+use Rattle.model_code.specs.Code.{Place, variable, parameter, part_of, int_written, name_written, variant_written, struct_written, Pass, PlaceUse, truth_written, extraction, call, variant_of, struct_of, some_of, Block, no_statement, statement, Statement, bind, bind_some, no_way, match_on, if_equal, for_each_of, give, CodeArms, no_code_arm, code_arm}
 
 -- what a site is handed on to
 pub data Taker : Type 0 where
@@ -29,15 +29,15 @@ place_of (Some (make_variant_site ty variant [])) s = variant_written ty variant
 place_of (Some (make_struct_site ty [])) s = struct_written ty
 place_of _ s = variable s
 
-abbrev pub use_at : List Site → Passes → Taker → ℕ → Use
+abbrev pub use_at : List Site → Passes → Taker → ℕ → PlaceUse
 use_at sites p taker s = record { place = place_of (slice_get sites s) s; pass = p s taker }
 
 -- one parameter after the other
-abbrev pub arguments_from : List Site → Passes → ℕ → ℕ → List ℕ → List Use
+abbrev pub arguments_from : List Site → Passes → ℕ → ℕ → List ℕ → List PlaceUse
 arguments_from sites p term i [] = []
 arguments_from sites p term i (s ∷ rest) = use_at sites p (to_parameter term i) s ∷ arguments_from sites p term (suc i) rest
 
-abbrev pub fields_of : List Site → Passes → List ℕ → List Use
+abbrev pub fields_of : List Site → Passes → List ℕ → List PlaceUse
 fields_of sites p ss = map (use_at sites p to_field) ss
 
 -- the statement that binds a site which isn't written in place

@@ -2,8 +2,8 @@
 use Rattle.std.specs.Prelude.{◌||◌, Bool, true, false, not, List, [], ◌∷◌, None}
 use Rattle.model_code.specs.Code.{Block, no_statement, statement, Statement, match_on, if_equal, for_each_of, labelled, CodeArms, no_code_arm, code_arm}
 use Rattle.model_code.specs.Tokens.{Token, closing_brace, none_word, no_match}
-use Rattle.model_code.specs.Notation.{Notation, Kind, gives_one, gives_option, gives_many}
-use Rattle.model_code.specs.Pieces.{Piece, token, set_in, line_end, tokens_of, Margin, put, is_left, result_ends, is_end, block_before}
+use Rattle.model_code.specs.Notation.{Notation, ReturnForm, gives_one, gives_option, gives_many}
+use Rattle.model_code.specs.Pieces.{CodePiece, token, set_in, line_end, tokens_of, Margin, put, is_left, result_ends, is_end, block_before}
 use Rattle.model_code.specs.Shown.{shown}
 
 abbrev pub is_bare : Notation → Block → Bool
@@ -46,15 +46,15 @@ abbrev pub has_end : Notation → Block → Bool
 has_end p no_statement = false
 has_end p (statement s later) = is_end (result_ends p) s || has_end p later
 
-abbrev pub function_end : Kind → List Piece → List Piece
+abbrev pub function_end : ReturnForm → List CodePiece → List CodePiece
 function_end gives_one rest = set_in 1 ∷ token no_match ∷ line_end ∷ rest
 function_end gives_option rest = set_in 1 ∷ put none_word (line_end ∷ rest)
 function_end gives_many rest = rest
 
-abbrev pub end_before : Bool → Kind → List Piece → List Piece
+abbrev pub end_before : Bool → ReturnForm → List CodePiece → List CodePiece
 end_before true kind rest = rest
 end_before false kind rest = function_end kind rest
 
 -- a function from behind its first line on
-abbrev pub function_body : Notation → Block → List Piece
+abbrev pub function_body : Notation → Block → List CodePiece
 function_body p code = block_before p no_margin (written p code) (end_before (has_end p code) p.kind (put closing_brace (line_end ∷ [])))

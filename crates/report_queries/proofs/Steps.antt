@@ -7,23 +7,23 @@ use Rattle.cranelift_isle.specs.SiteViews.{constraint_view}
 use Rattle.core_serialize.proofs.TreeLaws.{arm_seen}
 use Rattle.core_serialize.specs.declared.serialize.MatchArm.{MatchArm, MatchArm', out-MatchArm, roll-out-MatchArm}
 use Rattle.cranelift_isle.specs.TreeViews.{tree_view, arm_view, arms_view}
-use Rattle.report_queries.specs.Walks.{Passed, met, Place, steps_from, steps_of_arms}
+use Rattle.report_queries.specs.Walks.{Passed, met, PlacedStep, steps_from, steps_of_arms}
 
 -- an arm before others
 arm_before : (path : List Passed) (source : ℕ) (a : MatchArm) (rest : Arms)
     → steps_of_arms path source (arm_view a rest) ≡ steps_of_arms path source (arm_view a no_arm) ++ steps_of_arms path source rest
 unfolding arm_view
 arm_before path source (MatchArm' c fields body) rest =
-    ap (λ (l : List Place). l ++ steps_of_arms path source rest) (sym (append-nil (steps_from (path ++ met source (constraint_view c) ∷ []) (tree_view body))))
+    ap (λ (l : List PlacedStep). l ++ steps_of_arms path source rest) (sym (append-nil (steps_from (path ++ met source (constraint_view c) ∷ []) (tree_view body))))
 
-pub arm_more : (path : List Passed) (source : ℕ) (xs : List MatchArm) (i : ℕ) (x : MatchArm) (before after whole : List Place) → i < length xs → x ≡ get_or xs i x
+pub arm_more : (path : List Passed) (source : ℕ) (xs : List MatchArm) (i : ℕ) (x : MatchArm) (before after whole : List PlacedStep) → i < length xs → x ≡ get_or xs i x
     → after ≡ before ++ steps_of_arms path source (arm_view x no_arm)
     → before ++ steps_of_arms path source (arms_view (drop i xs)) ≡ whole → after ++ steps_of_arms path source (arms_view (drop (i + 1) xs)) ≡ whole
 arm_more path source xs i x before after whole h at a inv =
     let rest = arms_view (drop (i + 1) xs) in
-    ap (λ (l : List Place). l ++ steps_of_arms path source rest) a
+    ap (λ (l : List PlacedStep). l ++ steps_of_arms path source rest) a
     ∙ append_assoc before (steps_of_arms path source (arm_view x no_arm)) (steps_of_arms path source rest)
-    ∙ ap (λ (l : List Place). before ++ l)
+    ∙ ap (λ (l : List PlacedStep). before ++ l)
     (sym (arm_before path source x rest) ∙ ap (λ (y : MatchArm). steps_of_arms path source (arm_view y rest)) at ∙ sym (at_drop_more (λ (l : List MatchArm). steps_of_arms path source (arms_view l)) xs i x h))
     ∙ inv
 
@@ -36,5 +36,5 @@ arm_alone path source a =
     ∙ append-nil (steps_from (path ++ met source (constraint_view (out-MatchArm a).constraint) ∷ []) (tree_view (out-MatchArm a).body))
 
 -- what was added is the same under another name
-pub added_so : {A E : Type 0} (r : Result A E) (now held xs ys : List Place) → xs ≡ ys → OnOk r (now ≡ held ++ xs) → OnOk r (now ≡ held ++ ys)
-added_so r now held xs ys e h = subst (λ (l : List Place). OnOk r (now ≡ held ++ l)) e h
+pub added_so : {A E : Type 0} (r : Result A E) (now held xs ys : List PlacedStep) → xs ≡ ys → OnOk r (now ≡ held ++ xs) → OnOk r (now ≡ held ++ ys)
+added_so r now held xs ys e h = subst (λ (l : List PlacedStep). OnOk r (now ≡ held ++ l)) e h

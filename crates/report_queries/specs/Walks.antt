@@ -17,31 +17,31 @@ pub data Passed : Type 0 where
 
 -- a step where it stands: the tests on the way to it, outermost first, the sites that it binds, and its test or end with all
 -- that is inside it
-pub record Place : Type 0 where
+pub record PlacedStep : Type 0 where
   pub path : List Passed
   pub binds : List ℕ
   pub check : Check
 
 -- each step once: a step, then those inside it, arm by arm, then the next one
 abbrev mutual
-  pub steps_from : List Passed → Tree → List Place
+  pub steps_from : List Passed → Tree → List PlacedStep
   steps_from path no_step = []
   steps_from path (step binds check rest) =
       record { path = path; binds = binds; check = check } ∷ (steps_inside path check ++ steps_from path rest)
 
-  pub steps_inside : List Passed → Check → List Place
+  pub steps_inside : List Passed → Check → List PlacedStep
   steps_inside path (match_at source arms) = steps_of_arms path source arms
   steps_inside path (equal_at a b body) = steps_from (path ++ equal a b ∷ []) body
   steps_inside path (loop_at result body) = steps_from (path ++ one_of result ∷ []) body
   steps_inside path (return_at at result) = []
 
-  pub steps_of_arms : List Passed → ℕ → Arms → List Place
+  pub steps_of_arms : List Passed → ℕ → Arms → List PlacedStep
   steps_of_arms path source no_arm = []
   steps_of_arms path source (arm constraint fields body rest) =
       steps_from (path ++ met source constraint ∷ []) body ++ steps_of_arms path source rest
 
 -- the steps of a whole tree
-abbrev pub steps_from_root : Tree → List Place
+abbrev pub steps_from_root : Tree → List PlacedStep
 steps_from_root tree = steps_from [] tree
 
 abbrev pub turn_view : Turn → Passed
@@ -52,11 +52,11 @@ turn_view (T.Loop result) = one_of result
 abbrev pub turn_views : List Turn → List Passed
 turn_views ts = map turn_view ts
 
-abbrev pub step_place : List Turn → EvalStep → Place
+abbrev pub step_place : List Turn → EvalStep → PlacedStep
 step_place path s = record { path = turn_views path; binds = s.bind_order.items; check = check_view s.check }
 
-abbrev pub visit_view : Visit → Place
+abbrev pub visit_view : Visit → PlacedStep
 visit_view v = step_place v.path.items v.step.now
 
-abbrev pub visit_views : List Visit → List Place
+abbrev pub visit_views : List Visit → List PlacedStep
 visit_views vs = map visit_view vs

@@ -16,10 +16,10 @@ slice_behind xs number i e =
     take_all (length xs - (number + 1)) (drop (number + 1) xs) (omega (arith, l)) ∙ ap (λ k. drop (k + 1) xs) e
 
 module _ (types : Types) (movable : List ℕ) (later : M.Place → Bool) where
-  abbrev pub uses_left : List Use → List Use → List M.Use
+  abbrev pub uses_left : List Use → List Use → List M.PlaceUse
   uses_left out us = use_views out ++ all_saved types movable later (use_views out) (use_views us)
 
-  pub uses_more : (out new uses rest : List Use) (u made : Use) (i : ℕ) (whole : List M.Use) → i < length uses → u ≡ get_or uses i u → rest ≡ drop (i + 1) uses → new ≡ out ++ made ∷ []
+  pub uses_more : (out new uses rest : List Use) (u made : Use) (i : ℕ) (whole : List M.PlaceUse) → i < length uses → u ≡ get_or uses i u → rest ≡ drop (i + 1) uses → new ≡ out ++ made ∷ []
       → use_view made ≡ saved_use types movable (beside (use_views out) (use_views rest) later) (use_view u) → uses_left out (drop i uses) ≡ whole → uses_left new (drop (i + 1) uses) ≡ whole
   uses_more out new uses rest u made i whole h at r is m inv =
       let tail = use_views (drop (i + 1) uses) in

@@ -4,7 +4,7 @@ use Rattle.std.proofs.Math.Bool.{or_comm}
 use Rattle.std.proofs.lemmas.Bool.{cases_Bool, cond-true, cond-false, eqb-true}
 use Rattle.std.proofs.lemmas.List.Folds.{list_any-append}
 use Rattle.model.specs.trees.Places.{is_in}
-use Rattle.model_code.specs.Code.{Place, Use}
+use Rattle.model_code.specs.Code.{Place, PlaceUse}
 use Rattle.model_code.specs.Modes.{Types}
 use Rattle.model_code.specs.MovedOnce.{any_touch, beside, touches, without}
 use Rattle.model_code.specs.Saving.{all_saved, saved_use}
@@ -16,18 +16,18 @@ or_swap true true c = refl
 or_swap true false c = refl
 or_swap false b c = refl
 
-any_touch_pushed : (q : Place) (us : List Use) (u m : Use) → m.place ≡ u.place → any_touch q (us ++ m ∷ []) ≡ any_touch q (u ∷ us)
+any_touch_pushed : (q : Place) (us : List PlaceUse) (u m : PlaceUse) → m.place ≡ u.place → any_touch q (us ++ m ∷ []) ≡ any_touch q (u ∷ us)
 any_touch_pushed q [] u m e = ap (λ p. touches q p || false) e
 any_touch_pushed q (v ∷ us) u m e = ap (λ b. touches q v.place || b) (any_touch_pushed q us u m e) ∙ or_swap (touches q v.place) (touches q u.place) (any_touch q us)
 
 module _ (types : Types) (inside : List ℕ) (later : Place → Bool) where
   -- those before are asked for their places alone
-  all_saved_same : (a b us : List Use) → ((q : Place) → any_touch q a ≡ any_touch q b) → all_saved types inside later a us ≡ all_saved types inside later b us
+  all_saved_same : (a b us : List PlaceUse) → ((q : Place) → any_touch q a ≡ any_touch q b) → all_saved types inside later a us ≡ all_saved types inside later b us
   all_saved_same a b [] e = refl
   all_saved_same a b (u ∷ us) e =
       λ i. saved_use types inside (λ q. (e q i || any_touch q us) || later q) u ∷ all_saved_same (u ∷ a) (u ∷ b) us (λ q. ap (λ x. touches q u.place || x) (e q)) i
 
-  pub all_saved_more : (out us : List Use) (u m : Use) → m ≡ saved_use types inside (beside out us later) u
+  pub all_saved_more : (out us : List PlaceUse) (u m : PlaceUse) → m ≡ saved_use types inside (beside out us later) u
       → (out ++ m ∷ []) ++ all_saved types inside later (out ++ m ∷ []) us ≡ out ++ all_saved types inside later out (u ∷ us)
   all_saved_more out us u m e =
       append_assoc out (m ∷ []) (all_saved types inside later (out ++ m ∷ []) us)

@@ -9,7 +9,7 @@ use Rattle.model.specs.sites.Sites.{Site, bool_site, int_site, prim_site, argume
 use Rattle.model_code.specs.Code.{variable}
 use Rattle.model_code.specs.Flat.{flat}
 use Rattle.model_code.specs.TreeCode.{place_of, tree_code}
-use Rattle.model_code.specs.Modes.{Mode, a_value, mode_at, passes_of}
+use Rattle.model_code.specs.Modes.{BindingMode, a_value, mode_at, passes_of}
 use Rattle.model_code.specs.SiteTypes.{are_copied, is_copied_at, is_held_by_reference, mode_of, types_at, types_of}
 use Rattle.core_rule_sets.specs.declared.trie_again.Binding.{Binding}
 use Rattle.core_rule_sets.specs.declared.trie_again.Binding.TheVariants as B
@@ -24,7 +24,7 @@ use Rattle.rust_code.specs.Labels.{is_deep}
 use Rattle.rust_code.proofs.HeldPasses.{passes_same}
 
 module _ (p : Program) (args : List ℕ) (sites : List Site) where
-  abbrev held_as : ℕ → Option Site → Mode
+  abbrev held_as : ℕ → Option Site → BindingMode
   held_as s o = mode_of (is_held_by_reference p args (layer_at (unfolded s sites) o))
 
   bound_as : (s : ℕ) (o : Option Site) → slice_get sites s ≡ o → mode_at (types_of p args sites) (variable s) ≡ held_as s o

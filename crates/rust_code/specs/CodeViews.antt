@@ -31,10 +31,10 @@ pass_view W.Lent = M.lent
 pass_view W.Cloned = M.cloned
 pass_view W.SeenThrough = M.seen_through
 
-abbrev pub use_view : Use → M.Use
+abbrev pub use_view : Use → M.PlaceUse
 use_view u = record { place = place_view u.place; pass = pass_view u.pass }
 
-abbrev pub use_views : List Use → List M.Use
+abbrev pub use_views : List Use → List M.PlaceUse
 use_views us = map use_view us
 
 abbrev pub expr_view : Expr → M.Expr

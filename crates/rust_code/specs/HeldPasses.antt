@@ -3,11 +3,11 @@ use Rattle.std.specs.Prelude.{◌≡◌, ◌||◌, ℕ, Bool, true, List}
 use Rattle.model.specs.sites.Sites.{Site}
 use Rattle.model_code.specs.Code.{Place, part_of, Pass}
 use Rattle.model_code.specs.TreeCode.{Taker, to_extractor, to_parameter, to_field, to_some, to_match, to_compare, to_result, Passes}
-use Rattle.model_code.specs.Modes.{Mode, Types, mode_at, is_new, is_value, lend, keep_or_clone, hand_back, look_at, place_in}
+use Rattle.model_code.specs.Modes.{BindingMode, Types, mode_at, is_new, is_value, lend, keep_or_clone, hand_back, look_at, place_in}
 
 -- whether a site is held by reference, and whether it is copied
 pub record Hold : Type 0 where
-  pub mode : Mode
+  pub mode : BindingMode
   pub copied : Bool
 
 -- a part of a tuple is owned where the tuple is

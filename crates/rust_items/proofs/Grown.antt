@@ -7,7 +7,7 @@ use Rattle.std.proofs.lemmas.List.{append_assoc, append-nil, map-append, take_al
 use Rattle.std.proofs.lemmas.List.FromFn.{map-range_with_len_more}
 use Rattle.rust_items.specs.declared.claims.Claim as C
 use Rattle.rust_items.specs.declared.claims.Kind as K
-use Rattle.rust_items.specs.Claims.{Claim, Kind}
+use Rattle.rust_items.specs.Claims.{Claim, Namespace}
 use Rattle.rust_items.specs.ClaimViews.{claim_view, claim_views, kind_view, kind_views}
 use Rattle.rust_items.specs.OwnNames.{is_own_type, is_own_value}
 use Rattle.rust_items.specs.NamedPrograms.{NamedProgram, claim, constant_claim, constants_kind, functions_kind, functions_of, kind_as, kinds, kinds_inside, no_own, term_claim, terms_kind, type_claim, types_kind}
@@ -53,11 +53,11 @@ pushed_claim old new x written owner e w o =
     ap claim_views e ∙ map-append claim_view old (x ∷ []) ∙ ap (λ y. claim_views old ++ claim y (string_bytes x.owner) ∷ []) w ∙ ap (λ y. claim_views old ++ claim written y ∷ []) o
 
 -- a kind more
-pub pushed_kind : (old new : List K.Kind) (x : K.Kind) (kind : Kind) → new ≡ old ++ x ∷ [] → kind_view x ≡ kind → kind_views new ≡ kind_views old ++ kind ∷ []
+pub pushed_kind : (old new : List K.Kind) (x : K.Kind) (kind : Namespace) → new ≡ old ++ x ∷ [] → kind_view x ≡ kind → kind_views new ≡ kind_views old ++ kind ∷ []
 pushed_kind old new x kind e k = ap kind_views e ∙ map-append kind_view old (x ∷ []) ∙ ap (λ y. kind_views old ++ y ∷ []) k
 
 -- the kinds of a program, one after another
-module _ (p : NamedProgram) (k0 k1 k2 k3 k4 k5 inside : List Kind) (ts fs cs rs : List Claim) where
+module _ (p : NamedProgram) (k0 k1 k2 k3 k4 k5 inside : List Namespace) (ts fs cs rs : List Claim) where
   pub all_kinds : ts ≡ flat_map (type_claim p.names) p.types → inside ≡ flat_map (kinds_inside p.names) p.types
       → fs ≡ flat_map (functions_of p.names) p.terms → cs ≡ map (constant_claim p.names) p.constants → rs ≡ flat_map (term_claim p.names p.terms) p.with_rules
       → k0 ≡ []

@@ -5,7 +5,7 @@ use Rattle.std.specs.Map.{update}
 use Rattle.std.specs.Str.{bytes_eq}
 use Rattle.model.proofs.Bytes.{same_bytes, same_self, differ}
 use Rattle.model.proofs.Positions.{get_front, get_middle, get_push_cases}
-use Rattle.rust_items.specs.Claims.{Claim, AreApart, IsFirstClash}
+use Rattle.rust_items.specs.Claims.{Claim, AreWrittenApart, IsFirstClash}
 
 -- the look-up gives the thing that has a name
 pub record IsHeld (done : List Claim) (look : List ℕ → Option (List ℕ)) : Type 0 where
@@ -45,7 +45,7 @@ module _ (done : List Claim) (look new : List ℕ → Option (List ℕ)) (c : Cl
   pub held_more : IsHeld (done ++ c ∷ []) new
   held_more = record { found = found_more; from = from_more }
 
-pub apart_held : (done : List Claim) (look : List ℕ → Option (List ℕ)) → IsHeld done look → AreApart done
+pub apart_held : (done : List Claim) (look : List ℕ → Option (List ℕ)) → IsHeld done look → AreWrittenApart done
 apart_held done look h = record { apart = λ i j a b p q e. let f = h.found i a p in let g = h.found j b q in let l = ap look e in cc }
 
 pub first_clash : (claims done after : List Claim) (look : List ℕ → Option (List ℕ)) (c : Claim) (o : List ℕ) → claims ≡ done ++ c ∷ after → IsHeld done look → look c.written ≡ Some o → o ≢ c.owner → IsFirstClash claims (record { written = c.written; owner = o }) c

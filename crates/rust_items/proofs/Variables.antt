@@ -11,7 +11,7 @@ use Rattle.std.specs.Str.{IsCharBoundary}
 use Rattle.std.specs.Str.Pattern.{FindsTextPrefix, LacksTextAt, StripsPrefix}
 use Rattle.std.proofs.lemmas.Str.Pattern.{starts_text}
 use Rattle.std.proofs.lemmas.Str.Parse.{IsNumeralModel, numerals_by_fold}
-use Rattle.model_code.specs.PrintedNames.{Name, of_variable, of_parameter, number_in, printed_name}
+use Rattle.model_code.specs.PrintedNames.{PrintedName, of_variable, of_parameter, number_in, printed_name}
 use Rattle.rust_items.specs.NameLaws.{VariablesArePlain, is_plain}
 use Rattle.rust_items.specs.OwnNames.{is_number, is_numbered, is_variable}
 use Rattle.rust_items.specs.RustNames.{is_among, is_identifier, is_word, part, path_keywords, raw_keywords}
@@ -65,7 +65,7 @@ plain_parameter ds h =
     let P : List ℕ → Type 0 = λ xs. is_plain (97 ∷ (114 ∷ (103 ∷ xs))) ≡ true in
     subst P (sym h.parts) (rw (all_words (h.first ∷ h.more) h.digits) refl)
 
-plain : (v : Name) → number_in v < 2 ^ 64 → is_plain (printed_name v) ≡ true
+plain : (v : PrintedName) → number_in v < 2 ^ 64 → is_plain (printed_name v) ≡ true
 plain (of_variable v) h = plain_variable (decimal v) (decimal_digits v h)
 plain (of_parameter i) h = plain_parameter (decimal i) (decimal_digits i h)
 
@@ -86,14 +86,14 @@ told_parameter ds h =
     let P : List ℕ → Type 0 = λ xs. is_variable (97 ∷ (114 ∷ (103 ∷ xs))) ≡ true in
     subst P (sym h.parts) (sym (digits_all (h.first ∷ h.more)) ∙ h.digits)
 
-told : (v : Name) → number_in v < 2 ^ 64 → is_variable (printed_name v) ≡ true
+told : (v : PrintedName) → number_in v < 2 ^ 64 → is_variable (printed_name v) ≡ true
 told (of_variable v) h = told_variable (decimal v) (decimal_digits v h)
 told (of_parameter i) h = told_parameter (decimal i) (decimal_digits i h)
 
 abbrev first_letter : List ℕ → ℕ
 first_letter xs = get_or xs 0 0
 
-no_function : (v : Name) (name : List ℕ) → printed_name v ≢ codes "constructor_" ++ part name
+no_function : (v : PrintedName) (name : List ℕ) → printed_name v ≢ codes "constructor_" ++ part name
 no_function (of_variable v) name e = (let d : 118 ≡ 99 = ap first_letter e in omega (arith, d))
 no_function (of_parameter i) name e = (let d : 97 ≡ 99 = ap first_letter e in omega (arith, d))
 

@@ -5,7 +5,7 @@ use Rattle.rust_items.specs.declared.claims.Claim as C
 use Rattle.rust_items.specs.declared.claims.Kind as K
 use Rattle.rust_items.specs.declared.claims.Own.{Own}
 use Rattle.rust_items.specs.declared.claims.Own.TheVariants.{Nothing, Values, Types}
-use Rattle.rust_items.specs.Claims.{Claim, Kind}
+use Rattle.rust_items.specs.Claims.{Claim, Namespace}
 use Rattle.rust_items.specs.OwnNames.{is_own_type, is_own_value}
 
 abbrev pub claim_view : C.Claim → Claim
@@ -19,10 +19,10 @@ is_own Nothing name = false
 is_own Values name = is_own_value name
 is_own Types name = is_own_type name
 
-abbrev pub kind_view : K.Kind → Kind
+abbrev pub kind_view : K.Kind → Namespace
 kind_view k = record { what = k.what.now; one = k.one.now; own = is_own k.own; claims = claim_views k.claims.items }
 
-abbrev pub kind_views : List K.Kind → List Kind
+abbrev pub kind_views : List K.Kind → List Namespace
 kind_views ks = map kind_view ks
 
 -- what has a name so far

@@ -1,6 +1,6 @@
 -- What written names are like.
 use Rattle.std.specs.Prelude.{◌≡◌, ◌≢◌, ◌⊎◌, ◌<◌, ◌^◌, ℕ, Bool, true, false, ◌&&◌, List, ◌++◌, IsUtf8, codes, not}
-use Rattle.model_code.specs.PrintedNames.{Name, number_in, printed_name}
+use Rattle.model_code.specs.PrintedNames.{PrintedName, number_in, printed_name}
 use Rattle.rust_items.specs.OwnNames.{is_variable}
 use Rattle.rust_items.specs.RustNames.{is_among, is_identifier, part, path_keywords, raw_keywords, spelled}
 
@@ -23,6 +23,6 @@ pub record IdentifiersStayApart : Type 0 where
 
 -- variables and parameters are identifiers, no keywords, told by the test, and never the functions of terms
 pub record VariablesArePlain : Type 0 where
-  pub plain : (v : Name) → number_in v < 2 ^ 64 → is_plain (printed_name v) ≡ true
-  pub told : (v : Name) → number_in v < 2 ^ 64 → is_variable (printed_name v) ≡ true
-  pub no_function : (v : Name) (name : List ℕ) → printed_name v ≢ codes "constructor_" ++ part name
+  pub plain : (v : PrintedName) → number_in v < 2 ^ 64 → is_plain (printed_name v) ≡ true
+  pub told : (v : PrintedName) → number_in v < 2 ^ 64 → is_variable (printed_name v) ≡ true
+  pub no_function : (v : PrintedName) (name : List ℕ) → printed_name v ≢ codes "constructor_" ++ part name

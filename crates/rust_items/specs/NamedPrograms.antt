@@ -3,7 +3,7 @@ use Rattle.std.specs.Prelude.{ℕ, Bool, false, List, [], ◌∷◌, ◌++◌, O
 use Rattle.std.specs.List.{flat_map}
 use Rattle.model.specs.lists.Signatures.{text_of}
 use Rattle.cranelift_isle.specs.Tables.{FieldEntry, FieldEntries, unit_entries, struct_entries, tuple_entries, VariantEntry, TypeEntry, builtin_type, primitive_type, enum_type, struct_type, ConstructorEntry, internal_constructor, external_constructor, ExtractorEntry, internal_extractor, external_extractor, TermKindEntry, variant_term, struct_term, declared_term, TermEntry}
-use Rattle.rust_items.specs.Claims.{Claim, Kind}
+use Rattle.rust_items.specs.Claims.{Claim, Namespace}
 use Rattle.rust_items.specs.OwnNames.{is_own_type, is_own_value}
 use Rattle.rust_items.specs.RustNames.{part, spelled, spelled_path, spelled_constant}
 
@@ -44,24 +44,24 @@ field_claims names (tuple_entries fields) = []
 abbrev pub variant_claim : List (List ℕ) → VariantEntry → Claim
 variant_claim names v = identified names v.name
 
-abbrev pub kind_as : List ℕ → List ℕ → (List ℕ → Bool) → List Claim → Kind
+abbrev pub kind_as : List ℕ → List ℕ → (List ℕ → Bool) → List Claim → Namespace
 kind_as what one own claims = record { what = what; one = one; own = own; claims = claims }
 
 -- no names are the code's own there
 abbrev pub no_own : List ℕ → Bool
 no_own name = false
 
-abbrev pub field_kind : List (List ℕ) → FieldEntries → Kind
+abbrev pub field_kind : List (List ℕ) → FieldEntries → Namespace
 field_kind names fields = kind_as (codes "the fields") (codes "field") no_own (field_claims names fields)
 
-abbrev pub variant_kind : List (List ℕ) → List VariantEntry → Kind
+abbrev pub variant_kind : List (List ℕ) → List VariantEntry → Namespace
 variant_kind names variants = kind_as (codes "the variants") (codes "variant") no_own (map (variant_claim names) variants)
 
-abbrev pub variant_fields : List (List ℕ) → VariantEntry → Kind
+abbrev pub variant_fields : List (List ℕ) → VariantEntry → Namespace
 variant_fields names v = field_kind names v.fields
 
 -- the variants of an enum, and the fields of each variant; the fields of a struct
-abbrev pub kinds_inside : List (List ℕ) → TypeEntry → List Kind
+abbrev pub kinds_inside : List (List ℕ) → TypeEntry → List Namespace
 kinds_inside names (builtin_type place) = []
 kinds_inside names (primitive_type id name at) = []
 kinds_inside names (enum_type name id is_extern is_nodebug variants at) = variant_kind names variants ∷ map (variant_fields names) variants
@@ -100,18 +100,18 @@ constructors_of names (Some t) = constructor_named names t.name ∷ []
 abbrev pub term_claim : List (List ℕ) → List TermEntry → ℕ → List Claim
 term_claim names terms id = constructors_of names (slice_get terms id)
 
-abbrev pub types_kind : NamedProgram → Kind
+abbrev pub types_kind : NamedProgram → Namespace
 types_kind p = kind_as (codes "the types") (codes "type") is_own_type (flat_map (type_claim p.names) p.types)
 
-abbrev pub functions_kind : NamedProgram → Kind
+abbrev pub functions_kind : NamedProgram → Namespace
 functions_kind p = kind_as (codes "the functions") (codes "function") no_own (flat_map (functions_of p.names) p.terms)
 
-abbrev pub constants_kind : NamedProgram → Kind
+abbrev pub constants_kind : NamedProgram → Namespace
 constants_kind p = kind_as (codes "the constants") (codes "constant") is_own_value (map (constant_claim p.names) p.constants)
 
-abbrev pub terms_kind : NamedProgram → Kind
+abbrev pub terms_kind : NamedProgram → Namespace
 terms_kind p = kind_as (codes "the terms") (codes "term") no_own (flat_map (term_claim p.names p.terms) p.with_rules)
 
 -- all kinds
-abbrev pub kinds : NamedProgram → List Kind
+abbrev pub kinds : NamedProgram → List Namespace
 kinds p = types_kind p ∷ (flat_map (kinds_inside p.names) p.types ++ functions_kind p ∷ (constants_kind p ∷ (terms_kind p ∷ [])))

@@ -2,7 +2,7 @@
 
 ghost use Rattle.std.specs.Prelude.{◌≡◌, ◌≢◌, ◌⊎◌, ℕ, List, None, Some, All, IfErr, IfOk, OnOk, find, if◌then◌else◌, option_map, string_bytes};
 ghost use Rattle.std.specs.Str.{bytes_eq};
-ghost use Rattle.rust_items.specs.Claims.{AreApart, Claim as Thing, IsFirstClash, IsWellNamed, TellsClash, TellsFirst, TellsTaken, clash_text, first_taken, taken_text};
+ghost use Rattle.rust_items.specs.Claims.{AreWrittenApart, Claim as Thing, IsFirstClash, IsWellNamed, TellsClash, TellsFirst, TellsTaken, clash_text, first_taken, taken_text};
 ghost use Rattle.rust_items.specs.ClaimViews.{claim_view, claim_views, is_own, kind_view, kind_views, owner_in};
 ghost use Rattle.rust_items.specs.Faults.{TellsOf};
 
@@ -130,7 +130,7 @@ fn taken_text(alloc: Global, one: &str, owner: &str) -> Result<String, AllocErro
 
 // Looks for two things that would have one name.
 fn check_apart(alloc: Global, what: &str, claims: &[Claim]) -> Result<(), CodeError>
-    ensures apart { OnOk result (AreApart (claim_views claims.now)) }
+    ensures apart { OnOk result (AreWrittenApart (claim_views claims.now)) }
     ensures clash { IfErr result (λ e. TellsOf e (λ text. (earlier later : Thing) × IsFirstClash (claim_views claims.now) earlier later × (text ≡ clash_text what.now earlier.owner later.owner later.written))) }
 {
     let mut owners = HashMap::new(alloc);

@@ -7,7 +7,7 @@ use Rattle.model.specs.lists.Tables.{TermEntry}
 use Rattle.model_code.specs.Alike.{term_of}
 use Rattle.model_code.specs.Notation.{Callee, extractor_of, constructor_of}
 use Rattle.model_code.specs.ProgramNotation.{callees, callees_from, function_number, is_same_function, list_of, outside_of, outside_of_entry, same_names}
-use Rattle.rust_text.specs.ProgramNames.{Setting, program_in, function_text, function_written, function_or_none, list_text, list_written, list_or_none, list_at}
+use Rattle.rust_text.specs.ProgramNames.{NameSetting, program_in, function_text, function_written, function_or_none, list_text, list_written, list_or_none, list_at}
 
 -- the first that passes, or none does
 module _ {X : Type 0} (q : X → Bool) where
@@ -58,7 +58,7 @@ same_list names None (Some n) t e = absurd (cc)
 same_list names None None t e = refl
 
 -- one that isn't listed has no term
-module _ (s : Setting) (f : Callee) (no : (i : ℕ) (g : Callee) → slice_get (callees (program_in s)) i ≡ Some g → is_same_function (program_in s) f g ≡ false) where
+module _ (s : NameSetting) (f : Callee) (no : (i : ℕ) (g : Callee) → slice_get (callees (program_in s)) i ≡ Some g → is_same_function (program_in s) f g ≡ false) where
   unlisted : (e : TermEntry) → slice_get s.terms (term_of f) ≡ Some e → ⊥
   unlisted e h =
       let z : term_of f ≡ 0 + term_of f = omega arith in
@@ -75,7 +75,7 @@ module _ (s : Setting) (f : Callee) (no : (i : ℕ) (g : Callee) → slice_get (
   not_outside None name h e = absurd (cc)
   not_outside (Some x) name h e = unlisted x h
 
-module _ (s : Setting) (f : Callee) where
+module _ (s : NameSetting) (f : Callee) where
   by_first : First (is_same_function (program_in s) f) (callees (program_in s)) → function_or_none s (slice_get (callees (program_in s)) (function_number (program_in s) f)) ≡ function_written s f
   by_first (inl w) = ap (function_or_none s) w.1 ∙ sym (same_text s.names s.terms (outside_of (program_in s) f) (outside_of (program_in s) w.0) (term_of f) (term_of w.0) w.2)
   by_first (inr w) = ap (function_or_none s) w.0 ∙ bare s f w.1 (slice_get s.terms (term_of f)) refl

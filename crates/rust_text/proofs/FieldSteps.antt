@@ -3,13 +3,13 @@ use Rattle.std.proofs.Common.{◌≡◌, ◌≤◌, ◌∷◌, ◌||◌, ℕ, Bo
 use Rattle.std.proofs.lemmas.List.{drop_all}
 use Rattle.model_code.specs.Tokens.{Owner, closing, closing_brace}
 use Rattle.model_code.specs.Notation.{Notation}
-use Rattle.model_code.specs.Pieces.{Piece, space, put, named_values, unnamed_values, named_bindings, unnamed_bindings, fields_end}
+use Rattle.model_code.specs.Pieces.{CodePiece, space, put, named_values, unnamed_values, named_bindings, unnamed_bindings, fields_end}
 use Rattle.rust_code.specs.declared.code.Use.{Use}
 use Rattle.rust_code.specs.CodeViews.{use_views}
 use Rattle.rust_text.specs.Fields.{named_field}
 
 -- a field of a pattern before the others
-pub named_more : (p : Notation) (o : Owner) (i : ℕ) (bound lacking : Bool) (field : Option ℕ) (fields : List (Option ℕ)) (rest : List Piece)
+pub named_more : (p : Notation) (o : Owner) (i : ℕ) (bound lacking : Bool) (field : Option ℕ) (fields : List (Option ℕ)) (rest : List CodePiece)
     → named_bindings p o i bound lacking (field ∷ fields) rest
     ≡ named_field p o i bound field (named_bindings p o (suc i) (is_some field || bound) (is_none field || lacking) fields rest)
 named_more p o i bound lacking None fields rest = refl
@@ -18,7 +18,7 @@ named_more p o i bound lacking (Some v) fields rest = refl
 pub ruleset field_steps = (named_more)
 
 -- behind the last one
-module _ (p : Notation) (o : Owner) (i : ℕ) (rest : List Piece) where
+module _ (p : Notation) (o : Owner) (i : ℕ) (rest : List CodePiece) where
   pub named_values_done : (values : List Use) → length values ≤ i → named_values p o i (use_views (drop i values)) rest ≡ space ∷ put closing_brace rest
   named_values_done values h = rw (drop_all i values h) refl
 

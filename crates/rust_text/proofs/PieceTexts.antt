@@ -4,7 +4,7 @@ use Rattle.std.specs.Prelude.{Result, Ok, Err, OnOk, is_ok}
 use Rattle.std.proofs.lemmas.List.{append_assoc, append-nil, at_drop_more, at_drop_all}
 use Rattle.model.specs.rules.Program.{Program}
 use Rattle.model_code.specs.Notation as N
-use Rattle.model_code.specs.Notation.{Notation, Kind}
+use Rattle.model_code.specs.Notation.{Notation, ReturnForm}
 use Rattle.model_code.specs.Pieces as P
 use Rattle.model_code.specs.Tokens as M
 use Rattle.model_code.specs.ProgramNotation.{ending_in, function_number, list_of, notation_of, outside_of}
@@ -13,7 +13,7 @@ use Rattle.rust_text.specs.declared.tokens.Token.{Token}
 use Rattle.rust_text.specs.declared.tokens.Token.TheVariants as T
 use Rattle.rust_text.specs.declared.tokens.Piece.{Piece}
 use Rattle.rust_text.specs.declared.tokens.Piece.TheVariants as S
-use Rattle.rust_text.specs.ProgramNames.{Setting, IsProgramOf, program_in, notation_in}
+use Rattle.rust_text.specs.ProgramNames.{NameSetting, IsProgramOf, program_in, notation_in}
 use Rattle.rust_text.specs.TokenViews.{callee_view, token_view, piece_view, piece_views}
 
 -- a text that a call that succeeds adds to
@@ -21,7 +21,7 @@ pub on_ok_text : {T E : Type 0} (r : Result T E) (new longer old : List ℕ) →
 on_ok_text (Ok x) new longer old e = e
 on_ok_text (Err x) new longer old e = tt
 
-module _ (s : Setting) (p : Program) (kind : Kind) (is_logged : Bool) (of : IsProgramOf s p) where
+module _ (s : NameSetting) (p : Program) (kind : ReturnForm) (is_logged : Bool) (of : IsProgramOf s p) where
   same_function : (f : N.Callee) → function_number p f ≡ function_number (program_in s) f
   same_function f = ap (λ ts. function_number (record { types = s.types; constants = []; terms = ts; rules = [] }) f) of.terms
 

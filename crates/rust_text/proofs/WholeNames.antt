@@ -24,7 +24,7 @@ use Rattle.rust_items.specs.RustNames.{part, quoted, spelled, spelled_path}
 use Rattle.rust_text.proofs.ClosedNames.{encoded_pass, other_number, written_names_are_closed_lem as written}
 use Rattle.rust_items.specs.FilePlaces.{Beginning, Sources, on_line_char, on_line_bytes, on_line, file_written, file_or_unknown, line_number, place_written}
 use Rattle.rust_items.specs.WrittenTypes.{type_written}
-use Rattle.rust_text.specs.ProgramNames.{Setting, program_in, variant_in, variant_written, owner_written, one_field_written, field_written, term_part, function_text, function_or_none, list_text, list_or_none, list_at, digits_written, integer_written, int_at, told, names_of}
+use Rattle.rust_text.specs.ProgramNames.{NameSetting, program_in, variant_in, variant_written, owner_written, one_field_written, field_written, term_part, function_text, function_or_none, list_text, list_or_none, list_at, digits_written, integer_written, int_at, told, names_of}
 use Rattle.rust_text.specs.WholeNames.{NamesAreClosed, NamesAreWhole}
 
 -- 1. texts that stay on their line
@@ -115,7 +115,7 @@ variant_closed : (names : List (List ℕ)) (o : Option VariantEntry) → is_clos
 variant_closed names None = refl
 variant_closed names (Some v) = written.name (text_of names v.name)
 
-owner_closed : (s : Setting) (o : Owner) → is_closed (owner_written s o) ≡ true
+owner_closed : (s : NameSetting) (o : Owner) → is_closed (owner_written s o) ≡ true
 owner_closed s (variant_owner ty variant) =
     let enum : List ℕ = type_written s.names (slice_get s.types ty) in
     closed_together (enum ++ codes "::") (variant_written s.names (variant_in (slice_get s.types ty) variant)) (closed_together enum (codes "::") (type_closed s.names (slice_get s.types ty)) refl)
@@ -139,7 +139,7 @@ function_closed : (names : List (List ℕ)) (o : Option ℕ) (entry : Option Ter
 function_closed names (Some name) entry = closed_together (codes "C::") (spelled (text_of names name)) refl (written.name (text_of names name))
 function_closed names None entry = closed_together (codes "constructor_") (term_part names entry) refl (term_closed names entry)
 
-known_closed : (s : Setting) (o : Option Callee) → is_closed (function_or_none s o) ≡ true
+known_closed : (s : NameSetting) (o : Option Callee) → is_closed (function_or_none s o) ≡ true
 known_closed s None = refl
 known_closed s (Some f) = function_closed s.names (outside_of (program_in s) f) (slice_get s.terms (term_of f))
 
@@ -148,11 +148,11 @@ list_closed names None = refl
 list_closed names (Some name) =
     closed_together (codes "C::" ++ part (text_of names name)) (codes "_returns::default()") (closed_together (codes "C::") (part (text_of names name)) refl (part_closed (text_of names name))) refl
 
-list_known : (s : Setting) (o : Option Callee) → is_closed (list_or_none s o) ≡ true
+list_known : (s : NameSetting) (o : Option Callee) → is_closed (list_or_none s o) ≡ true
 list_known s None = refl
 list_known s (Some f) = list_closed s.names (outside_of (program_in s) f)
 
-list_at_closed : (s : Setting) (o : Option ℕ) → is_closed (list_at s o) ≡ true
+list_at_closed : (s : NameSetting) (o : Option ℕ) → is_closed (list_at s o) ≡ true
 list_at_closed s None = list_closed s.names None
 list_at_closed s (Some n) = list_known s (slice_get (callees (program_in s)) n)
 

@@ -18,7 +18,7 @@ use Rattle.rust_items.specs.WrittenTypes.{type_written}
 
 -- what names are written by: the texts of names, types and terms by their numbers, files, and the term whose function it is: the
 -- number of its name, and where it is declared
-pub record Setting : Type 0 where
+pub record NameSetting : Type 0 where
   pub names : List (List ℕ)
   pub types : List TypeEntry
   pub terms : List TermEntry
@@ -27,11 +27,11 @@ pub record Setting : Type 0 where
   pub term_at : Position
 
 -- the program of these types and terms
-abbrev pub program_in : Setting → Program
+abbrev pub program_in : NameSetting → Program
 program_in s = record { types = s.types; constants = []; terms = s.terms; rules = [] }
 
 -- a program of these types and terms, whatever else it has
-pub record IsProgramOf (s : Setting) (p : Program) : Type 0 where
+pub record IsProgramOf (s : NameSetting) (p : Program) : Type 0 where
   pub types : p.types ≡ s.types
   pub terms : p.terms ≡ s.terms
 
@@ -44,7 +44,7 @@ abbrev pub variant_written : List (List ℕ) → Option VariantEntry → List �
 variant_written names None = []
 variant_written names (Some v) = spelled (text_of names v.name)
 
-abbrev pub owner_written : Setting → Owner → List ℕ
+abbrev pub owner_written : NameSetting → Owner → List ℕ
 owner_written s (variant_owner ty variant) = type_written s.names (slice_get s.types ty) ++ codes "::" ++ variant_written s.names (variant_in (slice_get s.types ty) variant)
 owner_written s (struct_owner ty) = type_written s.names (slice_get s.types ty)
 
@@ -70,7 +70,7 @@ abbrev pub function_text : List (List ℕ) → Option ℕ → Option TermEntry �
 function_text names (Some name) entry = codes "C::" ++ spelled (text_of names name)
 function_text names None entry = codes "constructor_" ++ term_part names entry
 
-abbrev pub function_written : Setting → Callee → List ℕ
+abbrev pub function_written : NameSetting → Callee → List ℕ
 function_written s f = function_text s.names (outside_of (program_in s) f) (slice_get s.terms (term_of f))
 
 -- the list for the answers of a function
@@ -78,19 +78,19 @@ abbrev pub list_text : List (List ℕ) → Option ℕ → List ℕ
 list_text names (Some name) = codes "C::" ++ part (text_of names name) ++ codes "_returns::default()"
 list_text names None = codes "ContextIterWrapper::<ConstructorVec<_>, _>::default()"
 
-abbrev pub list_written : Setting → Callee → List ℕ
+abbrev pub list_written : NameSetting → Callee → List ℕ
 list_written s f = list_text s.names (outside_of (program_in s) f)
 
 -- by number: a function's number is that of the first of the program that is the same
-abbrev pub function_or_none : Setting → Option Callee → List ℕ
+abbrev pub function_or_none : NameSetting → Option Callee → List ℕ
 function_or_none s (Some f) = function_written s f
 function_or_none s None = codes "constructor_"
 
-abbrev pub list_or_none : Setting → Option Callee → List ℕ
+abbrev pub list_or_none : NameSetting → Option Callee → List ℕ
 list_or_none s (Some f) = list_written s f
 list_or_none s None = []
 
-abbrev pub list_at : Setting → Option ℕ → List ℕ
+abbrev pub list_at : NameSetting → Option ℕ → List ℕ
 list_at s (Some n) = list_or_none s (slice_get (callees (program_in s)) n)
 list_at s None = list_text s.names None
 
@@ -110,24 +110,24 @@ int_place_in (Some (builtin_type (suc k))) = Some (suc k)
 int_place_in entry = None
 
 -- by the number of a type, where 0 is `bool` and stands for none
-abbrev pub int_at : Setting → ℕ → Option ℕ
+abbrev pub int_at : NameSetting → ℕ → Option ℕ
 int_at s zero = None
 int_at s (suc ty) = int_place_in (slice_get s.types (suc ty))
 
-abbrev pub number_written : Setting → ℤ → ℕ → List ℕ
+abbrev pub number_written : NameSetting → ℤ → ℕ → List ℕ
 number_written s z ty = integer_written z (int_at s ty)
 
 -- 4. macros that are told the term's name and a place
 abbrev pub told : (macro message name place : List ℕ) → List ℕ
 told macro message name place = macro ++ codes "!(" ++ quoted message ++ codes ", " ++ quoted name ++ codes ", " ++ quoted place ++ codes ")"
 
-abbrev pub panic_written : Setting → List ℕ
+abbrev pub panic_written : NameSetting → List ℕ
 panic_written s = told (codes "unreachable") (codes "no rule matched for term {} at {}; should it be partial?") (text_of s.names s.term_name) (place_written s.sources s.term_at)
 
-abbrev pub log_written : Setting → Position → List ℕ
+abbrev pub log_written : NameSetting → Position → List ℕ
 log_written s at = told (codes "log::debug") (codes "ISLE: {} by the rule at {}") (text_of s.names s.term_name) (place_written s.sources at) ++ codes ";"
 
-abbrev pub names_of : Setting → Names
+abbrev pub names_of : NameSetting → Names
 names_of s = record {
   owner = owner_written s;
   field = λ o i. field_written s.names (fields_of (program_in s) o) i;
@@ -141,5 +141,5 @@ names_of s = record {
 }
 
 -- a notation of these types and terms
-abbrev pub notation_in : Setting → Notation
+abbrev pub notation_in : NameSetting → Notation
 notation_in s = notation_of (program_in s) gives_one false

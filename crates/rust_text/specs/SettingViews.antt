@@ -9,9 +9,9 @@ use Rattle.core_types.specs.TypeViews.{type_views}
 use Rattle.core_terms.specs.TermViews.{term_views}
 use Rattle.rust_items.specs.LineViews.{lines_view}
 use Rattle.rust_text.specs.declared.names.Names.{Names}
-use Rattle.rust_text.specs.ProgramNames.{Setting}
+use Rattle.rust_text.specs.ProgramNames.{NameSetting}
 
-abbrev pub setting_of : Names → Setting
+abbrev pub setting_of : Names → NameSetting
 setting_of n = record {
   names = names_of n.program.tyenv.now;
   types = type_views n.program.tyenv.now.types.items;

@@ -5,10 +5,10 @@ use Rattle.core_types.specs.TypeViews.{type_views}
 use Rattle.core_terms.specs.declared.term.Term.{Term}
 use Rattle.core_terms.specs.TermViews.{term_views}
 use Rattle.rust_items.specs.LineViews.{lines_view}
-use Rattle.rust_text.specs.ProgramNames.{Setting}
+use Rattle.rust_text.specs.ProgramNames.{NameSetting}
 use Rattle.rust_text.specs.declared.notation.Writer.{Writer}
 
-abbrev pub setting_by : Writer → Term → Setting
+abbrev pub setting_by : Writer → Term → NameSetting
 setting_by w t = record {
   names = names_of w.program.tyenv.now;
   types = type_views w.program.tyenv.now.types.items;

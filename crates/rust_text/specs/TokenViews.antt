@@ -79,7 +79,7 @@ token_view p (T.List f) = M.list_name (p.list (callee_view f))
 token_view p (T.Label n) = M.label_name n
 token_view p T.NoMatch = M.no_match
 
-abbrev pub piece_view : Notation → Piece → P.Piece
+abbrev pub piece_view : Notation → Piece → P.CodePiece
 piece_view p (S.Token t) = P.token (token_view p t)
 piece_view p S.Space = P.space
 piece_view p (S.SetIn depth) = P.set_in depth
@@ -87,5 +87,5 @@ piece_view p S.LineEnd = P.line_end
 piece_view p (S.RuleComment pos) = P.rule_comment (position pos)
 piece_view p (S.LogLine pos) = P.log_line (position pos)
 
-abbrev pub piece_views : Notation → List Piece → List P.Piece
+abbrev pub piece_views : Notation → List Piece → List P.CodePiece
 piece_views p pieces = map (piece_view p) pieces

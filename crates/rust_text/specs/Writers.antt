@@ -4,7 +4,7 @@ use Rattle.model.specs.rules.Program.{Program}
 use Rattle.model.specs.rules.Typed.{TypedRule}
 use Rattle.model.specs.sites.Serves.{constant_type}
 use Rattle.model_code.specs.Notation as N
-use Rattle.model_code.specs.Notation.{Notation, Kind, gives_one, gives_option, gives_many}
+use Rattle.model_code.specs.Notation.{Notation, ReturnForm, gives_one, gives_option, gives_many}
 use Rattle.model_code.specs.ProgramNotation.{notation_of}
 use Rattle.core_types.specs.Envs.{constant_at}
 use Rattle.core_types.specs.TypeViews.{type_views}
@@ -15,7 +15,7 @@ use Rattle.rust_text.specs.declared.notation.Shape.{Shape}
 use Rattle.rust_text.specs.declared.notation.Shape.TheVariants as S
 use Rattle.rust_text.specs.declared.notation.Writer.{Writer}
 
-abbrev pub gives_view : ReturnKind → Kind
+abbrev pub gives_view : ReturnKind → ReturnForm
 gives_view R.Plain = gives_one
 gives_view R.Option = gives_option
 gives_view R.Iterator = gives_many

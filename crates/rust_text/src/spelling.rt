@@ -1,7 +1,7 @@
 //! Pieces as text.
 
 ghost use Rattle.std.specs.Prelude.{◌≡◌, ◌++◌, ◌*◌, Bool, OnOk, codes, decimal, min, replicate, string_bytes};
-ghost use Rattle.model_code.specs.Notation.{Kind};
+ghost use Rattle.model_code.specs.Notation.{ReturnForm};
 ghost use Rattle.model_code.specs.ProgramNotation.{notation_of};
 ghost use Rattle.model_code.specs.Spelling.{deepest, piece_text, spelled, token_text, word_text};
 ghost use Rattle.core_syntax.specs.SyntaxViews.{position};
@@ -21,7 +21,7 @@ const DEEPEST: usize = 13;
 
 /// Adds pieces. The text is spelled by the names of the program, whatever program of these types and terms numbers the functions.
 pub fn push_pieces(out: &mut String, names: Names<'_>, pieces: &[Piece]) -> Result<(), AllocError>
-    ensures { (p : Meant) (kind : Kind) (is_logged : Bool) → IsProgramOf (setting_of names.entry) p → OnOk result (string_bytes out.new
+    ensures { (p : Meant) (kind : ReturnForm) (is_logged : Bool) → IsProgramOf (setting_of names.entry) p → OnOk result (string_bytes out.new
         ≡ string_bytes out.old ++ spelled (names_of (setting_of names.entry)) (piece_views (notation_of p kind is_logged) pieces.now)) }
 {
     push_all(out, names, pieces)

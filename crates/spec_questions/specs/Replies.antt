@@ -4,13 +4,13 @@ use Rattle.spec_questions.specs.declared.replies.Reply.{Reply}
 use Rattle.spec_questions.specs.declared.replies.Reply.TheVariants as R
 
 -- a text begins with these bytes
-abbrev pub Begins : List ℕ → List ℕ → Type 0
-Begins word text = (rest : List ℕ) × (text ≡ word ++ rest)
+abbrev pub BeginsText : List ℕ → List ℕ → Type 0
+BeginsText word text = (rest : List ℕ) × (text ≡ word ++ rest)
 
 -- an answer is what a text begins with
 abbrev pub IsSaidIn : List ℕ → Reply → Type 0
-IsSaidIn text R.Unsat = Begins (codes "unsat") text
-IsSaidIn text (R.Sat values) = Begins (codes "sat") text
+IsSaidIn text R.Unsat = BeginsText (codes "unsat") text
+IsSaidIn text (R.Sat values) = BeginsText (codes "sat") text
 IsSaidIn text (R.Other said) = ⊤
 
 -- so many formulas have a value each, if any has

@@ -2,7 +2,7 @@
 
 ghost use Rattle.std.specs.Prelude.{IfOk, IsSome, codes};
 ghost use Rattle.std.specs.Str.{trim_start};
-ghost use Rattle.spec_questions.specs.Replies.{Begins, HasValues, IsSaidIn};
+ghost use Rattle.spec_questions.specs.Replies.{BeginsText, HasValues, IsSaidIn};
 
 use crate::tokens::{Token, tokens_of};
 use crate::values::{list_in, values_in};
@@ -77,7 +77,7 @@ fn other_reply(alloc: Global, said: &str, count: usize) -> Result<Reply, AllocEr
 
 // The values of formulas that a solver gives behind `sat`.
 fn values_where_sat(alloc: Global, said: &str) -> Result<Option<Vec<String>>, AllocError>
-    ensures { IfOk result (λ found. IsSome found → Begins (codes "sat") said.now) }
+    ensures { IfOk result (λ found. IsSome found → BeginsText (codes "sat") said.now) }
 {
     match said.strip_prefix("sat") {
         Some(behind) => values_in(alloc, &tokens_of(alloc, behind)?),

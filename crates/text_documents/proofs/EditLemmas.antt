@@ -4,14 +4,14 @@ use Rattle.std.specs.Str.{all_scalars}
 use Rattle.std.proofs.lemmas.Bool.{and_parts}
 use Rattle.std.proofs.lemmas.Str.{encodes-append, encodes-chars, scalars-chars, IsCharBoundary-at_seam}
 use Rattle.text_documents.specs.declared.places.Place.{Place}
-use Rattle.text_documents.specs.Places.{IsCut, IsOffsetOf, IsRange, IsEdit, replaced}
+use Rattle.text_documents.specs.Places.{IsCutAt, IsOffsetOf, IsRange, IsEdit, replaced}
 use Rattle.text_documents.proofs.OffsetLemmas.{offset_one}
 
 scalars_back : (front back : List ℕ) → all_scalars (front ++ back) ≡ true → all_scalars back ≡ true
 scalars_back [] back h = h
 scalars_back (c ∷ cs) back h = scalars_back cs back (and_parts _ _ h).1
 
-cut_boundary : (bytes front back : List ℕ) (offset : ℕ) → IsUtf8 bytes → IsCut (chars bytes) offset front back → IsCharBoundary bytes offset
+cut_boundary : (bytes front back : List ℕ) (offset : ℕ) → IsUtf8 bytes → IsCutAt (chars bytes) offset front back → IsCharBoundary bytes offset
 cut_boundary bytes front back offset u cut =
     let e : bytes ≡ encode_utf8_all front ++ encode_utf8_all back = sym (encodes-chars bytes u) ∙ ap encode_utf8_all cut.parts ∙ encodes-append front back in
     let s : all_scalars back ≡ true = scalars_back front back (ap all_scalars (sym cut.parts) ∙ scalars-chars bytes u) in

@@ -3,7 +3,7 @@ use Rattle.std.proofs.Common.{◌≡◌, ℕ, ◌+◌, ◌-◌, ◌<◌, ◌≤�
 use Rattle.std.proofs.lemmas.List.{append_cancel_right}
 use Rattle.text_documents.specs.declared.places.Place.{Place}
 use Rattle.text_documents.specs.Lines.{AreLines, EndsInLine, is_at_end}
-use Rattle.text_documents.specs.Places.{size, units_of, IsBetween, IsPast, IsCut, IsPlaceAt, IsPastAt, IsOffsetOf, LacksLine, IsInPair}
+use Rattle.text_documents.specs.Places.{size, units_of, IsBetween, IsPast, IsCutAt, IsPlaceAt, IsPastAt, IsOffsetOf, LacksLine, IsInPair}
 use Rattle.text_documents.specs.Walks.{after_lines, after_units, back_at}
 use Rattle.text_documents.proofs.SizeLemmas.{size-append, size-chars, cut_bytes}
 use Rattle.text_documents.proofs.LineLemmas.{after_lines_is, after_lines_none, LinesFound, lines_found}
@@ -117,7 +117,7 @@ outside text place offset n h = no_offset text place offset (none_back text plac
 found_at : (place : Place) (text back : List ℕ) (offset : ℕ) → offset + size back ≡ size text → IsThere place text back → IsOffsetOf text place offset
 found_at place text back offset e t = sides t.2
   where
-    cut : IsCut text offset t.0 back
+    cut : IsCutAt text offset t.0 back
     cut = record { parts = t.1; bytes = omega (arith, e, ap size t.1, size-append t.0 back) }
 
     sides : IsBetween place t.0 back ⊎ IsPast place t.0 back → IsOffsetOf text place offset

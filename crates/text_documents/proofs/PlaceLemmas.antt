@@ -4,7 +4,7 @@ use Rattle.std.proofs.lemmas.Bool.{cases_Bool}
 use Rattle.std.proofs.lemmas.List.Sums.{sum_by_push}
 use Rattle.text_documents.specs.declared.places.Place.{Place}
 use Rattle.text_documents.specs.Lines.{End, feed, return_feed, return, ending, is_break, IsUnbroken, begins_with_feed, MayFollow, AreLines}
-use Rattle.text_documents.specs.Places.{units, units_of, size, IsBetween, IsCut, IsPlaceAt, IsOffsetOf, IsInEnd}
+use Rattle.text_documents.specs.Places.{units, units_of, size, IsBetween, IsCutAt, IsPlaceAt, IsOffsetOf, IsInEnd}
 use Rattle.text_documents.specs.Walks.{place_past, place_after}
 use Rattle.text_documents.proofs.SizeLemmas.{width, width_pos, size_more, size-append}
 use Rattle.text_documents.proofs.LineLemmas.{no_break, unbroken_first, unbroken_rest, unbroken_cons, IsUnbroken-append, regrouped, AreLines-more}
@@ -189,7 +189,7 @@ has_place front back = (goes front).0 [] back (at 0 0) (at_start (front ++ back)
 
 -- ---- where a place is found, the text is cut
 abbrev HasCut : List ℕ → ℕ → Type 0
-HasCut text offset = (front : List ℕ) × (back : List ℕ) × IsCut text offset front back
+HasCut text offset = (front : List ℕ) × (back : List ℕ) × IsCutAt text offset front back
 
 any : (o : Option Place) (A : Type 0) → A → IfSome o (λ _. A)
 any None A a = tt
@@ -225,7 +225,7 @@ place_cut (c ∷ cs) p r left = elim (cases_Bool (left == 0)) [
 abbrev pub place_of : List ℕ → ℕ → Option Place
 place_of text offset = place_after (at 0 0) false offset text
 
-cut_place : (text front back : List ℕ) (offset : ℕ) (o : Option Place) → IsCut text offset front back → place_after (at 0 0) false (size front) (front ++ back) ≡ o → place_of text offset ≡ o
+cut_place : (text front back : List ℕ) (offset : ℕ) (o : Option Place) → IsCutAt text offset front back → place_after (at 0 0) false (size front) (front ++ back) ≡ o → place_of text offset ≡ o
 cut_place text front back offset o cut e = ap₂ (λ t n. place_after (at 0 0) false n t) cut.parts (sym cut.bytes) ∙ e
 
 pub place_only : (text : List ℕ) (offset : ℕ) (p : Place) → IsPlaceAt text offset p → place_of text offset ≡ Some p
@@ -235,14 +235,14 @@ place_only text offset p h = cut_place text h.front h.back offset (Some p) h.cut
 pub place_one : (text : List ℕ) (offset : ℕ) (p q : Place) → IsPlaceAt text offset p → IsPlaceAt text offset q → p ≡ q
 place_one text offset p q h k = ap (λ o. unwrap_or o p) (sym (place_only text offset p h) ∙ place_only text offset q k)
 
-in_end_none : (text front back : List ℕ) (offset : ℕ) → IsCut text offset front back → IsInEnd front back → place_of text offset ≡ None
+in_end_none : (text front back : List ℕ) (offset : ℕ) → IsCutAt text offset front back → IsInEnd front back → place_of text offset ≡ None
 in_end_none text front back offset cut h = cut_place text front back offset None cut (in_end_place front back h)
 
 -- no place is between \r and \n
 pub end_no_place : (p : Place) (front back : List ℕ) → IsInEnd front back → IsBetween p front back → ⊥
 end_no_place p front back h b = let e = sym (in_end_place front back h) ∙ between_place p front back b in cc
 
-pub each_cut : (text front back : List ℕ) (offset : ℕ) → IsCut text offset front back → IsInEnd front back ⊎ ((p : Place) × IsPlaceAt text offset p)
+pub each_cut : (text front back : List ℕ) (offset : ℕ) → IsCutAt text offset front back → IsInEnd front back ⊎ ((p : Place) × IsPlaceAt text offset p)
 each_cut text front back offset cut = elim (has_place front back) [
   | inl h ↦ inl h
   | inr h ↦ inr (h.0, record { front = front; back = back; cut = cut; between = h.1 })
@@ -263,7 +263,7 @@ place_found text offset p e =
     impossible : (p : Place) → (let none : Option Place = None in none ≡ Some p) → ⊥
     impossible p h = cc
 
-pub place_none : (text : List ℕ) (offset : ℕ) → place_of text offset ≡ None → (front back : List ℕ) → IsCut text offset front back → IsInEnd front back
+pub place_none : (text : List ℕ) (offset : ℕ) → place_of text offset ≡ None → (front back : List ℕ) → IsCutAt text offset front back → IsInEnd front back
 place_none text offset e front back cut = elim (each_cut text front back offset cut) [
   | inl h ↦ h
   | inr h ↦ (let no = sym e ∙ place_only text offset h.0 h.1 in absurd (impossible h.0 no))
@@ -277,7 +277,7 @@ pub place_clause : (text : List ℕ) (offset : ℕ) (o : Option Place) → o ≡
 place_clause text offset None e = tt
 place_clause text offset (Some p) e = place_found text offset p (sym e)
 
-pub none_clause : (text : List ℕ) (offset : ℕ) (o : Option Place) → o ≡ place_of text offset → IfNone o ((front back : List ℕ) → IsCut text offset front back → IsInEnd front back)
+pub none_clause : (text : List ℕ) (offset : ℕ) (o : Option Place) → o ≡ place_of text offset → IfNone o ((front back : List ℕ) → IsCutAt text offset front back → IsInEnd front back)
 none_clause text offset None e = place_none text offset (sym e)
 none_clause text offset (Some p) e = tt
 

@@ -1,7 +1,7 @@
 -- How many bytes characters have.
 use Rattle.std.proofs.Common.{◌≡◌, ℕ, ◌+◌, ◌≤◌, List, ◌∷◌, ◌++◌, length, sym, ap, ◌∙◌, subst, arith, length-append, chars, encode_utf8, encode_utf8_all, IsUtf8}
 use Rattle.std.proofs.lemmas.Str.{encodes-append, encodes-chars, length-encode, len_utf8_bounds}
-use Rattle.text_documents.specs.Places.{size, IsCut}
+use Rattle.text_documents.specs.Places.{size, IsCutAt}
 
 abbrev pub width : ℕ → ℕ
 width c = length (encode_utf8 c)
@@ -19,5 +19,5 @@ pub size-chars : (bytes : List ℕ) → IsUtf8 bytes → size (chars bytes) ≡ 
 size-chars bytes u = ap length (encodes-chars bytes u)
 
 -- a front's bytes and its back's are the text's
-pub cut_bytes : (text front back : List ℕ) (offset : ℕ) → IsCut text offset front back → offset + size back ≡ size text
+pub cut_bytes : (text front back : List ℕ) (offset : ℕ) → IsCutAt text offset front back → offset + size back ≡ size text
 cut_bytes text front back offset c = omega (arith, ap size c.parts, size-append front back, c.bytes)

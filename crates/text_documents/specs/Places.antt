@@ -30,7 +30,7 @@ pub record IsPast (place : Place) (front back : List ℕ) : Type 0 where
   pub character : units_of begun < place.character
 
 -- a text is cut at a byte into these two parts
-pub record IsCut (text : List ℕ) (offset : ℕ) (front back : List ℕ) : Type 0 where
+pub record IsCutAt (text : List ℕ) (offset : ℕ) (front back : List ℕ) : Type 0 where
   pub parts : text ≡ front ++ back
   pub bytes : size front ≡ offset
 
@@ -38,14 +38,14 @@ pub record IsCut (text : List ℕ) (offset : ℕ) (front back : List ℕ) : Type
 pub record IsPlaceAt (text : List ℕ) (offset : ℕ) (place : Place) : Type 0 where
   pub front : List ℕ
   pub back : List ℕ
-  pub cut : IsCut text offset front back
+  pub cut : IsCutAt text offset front back
   pub between : IsBetween place front back
 
 -- the place is past the end of a line that ends at a byte of the text
 pub record IsPastAt (text : List ℕ) (offset : ℕ) (place : Place) : Type 0 where
   pub front : List ℕ
   pub back : List ℕ
-  pub cut : IsCut text offset front back
+  pub cut : IsCutAt text offset front back
   pub past : IsPast place front back
 
 -- the offset of a place: that of its line's end where it is past it (LSP 3.17: it "defaults back to the line length")

@@ -2,7 +2,7 @@
 
 ghost use Rattle.std.specs.Prelude.{◌≡◌, ℕ, List, IfOk, OnErr, false, true, string_bytes};
 ghost use Rattle.text_documents.specs.Changes.{AreEdits};
-ghost use Rattle.text_documents.specs.Contents.{Contents, contents};
+ghost use Rattle.text_documents.specs.Contents.{DocumentContents, contents};
 
 use crate::changes::{Change, changed};
 use std::alloc::{AllocError, Global};
@@ -16,7 +16,7 @@ pub struct Document {
 }
 
 impl Model for Document {
-    ghost Value = { Contents };
+    ghost Value = { DocumentContents };
 
     ghost view = { λ d. contents d.version (string_bytes d.text) };
 }

@@ -6,7 +6,7 @@ ghost use Rattle.std.specs.Str.{chars};
 ghost use Rattle.text_documents.specs.declared.changes.Change.{Change};
 ghost use Rattle.text_documents.specs.declared.places.Place.{Place};
 ghost use Rattle.text_documents.specs.Changes.{AreEdits};
-ghost use Rattle.text_documents.specs.Places.{IsBetween, IsCut, IsEdit, IsInEnd, IsInPair, IsOffsetOf, IsPastAt, IsPlaceAt, LacksLine, units};
+ghost use Rattle.text_documents.specs.Places.{IsBetween, IsCutAt, IsEdit, IsInEnd, IsInPair, IsOffsetOf, IsPastAt, IsPlaceAt, LacksLine, units};
 
 use crate::places::{Place, offset_at, place_at};
 
@@ -22,7 +22,7 @@ pub fn offsets_have_one_place()
 
 /// Wherever a text is cut there is a place, but between `\r` and `\n`.
 pub fn cuts_have_places()
-    ensures { (text front back : List ℕ) (offset : ℕ) → IsCut text offset front back
+    ensures { (text front back : List ℕ) (offset : ℕ) → IsCutAt text offset front back
         → IsInEnd front back ⊎ ((p : Place) × IsPlaceAt text offset p) }
 {}
 

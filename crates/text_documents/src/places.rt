@@ -3,7 +3,7 @@
 ghost use Rattle.std.specs.Prelude.{◌≡◌, ◌+◌, ◌<◌, ◌≤◌, ◌⊎◌, ◌&&◌, ◌==◌, ℕ, List, IfNone, IfSome, option_map, if◌then◌else◌};
 ghost use Rattle.std.specs.Str.{chars, IsUtf8};
 ghost use Rattle.text_documents.specs.declared.places.Place.{Place};
-ghost use Rattle.text_documents.specs.Places.{IsCut, IsInEnd, IsInPair, IsOffsetOf, IsPlaceAt, LacksLine, units};
+ghost use Rattle.text_documents.specs.Places.{IsCutAt, IsInEnd, IsInPair, IsOffsetOf, IsPlaceAt, LacksLine, units};
 ghost use Rattle.text_documents.specs.Walks.{back_at, place_after, place_past};
 
 use crate::lines::{after_lines, after_units};
@@ -45,7 +45,7 @@ pub fn offset_at(text: &str, place: Place) -> Option<usize>
 pub fn place_at(text: &str, offset: usize) -> Option<Place>
     ensures place { IfSome result (IsPlaceAt (chars text.now) offset) }
     ensures only { (p : Place) → IsPlaceAt (chars text.now) offset p → result ≡ Some p }
-    ensures none { IfNone result ((front back : List ℕ) → IsCut (chars text.now) offset front back → IsInEnd front back) }
+    ensures none { IfNone result ((front back : List ℕ) → IsCutAt (chars text.now) offset front back → IsInEnd front back) }
 {
     let start = Walk {
         place: Place {

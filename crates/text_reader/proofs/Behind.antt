@@ -8,7 +8,7 @@ use Rattle.text_reader.specs.Pieces.{Piece, space, line, block, left, right, bin
 use Rattle.text_reader.specs.Lexing.{Tokens, added, tokens_after}
 use Rattle.text_reader.specs.FormTrees.{FormTree, a_word, a_number, a_constant, a_binding, a_list, FormTrees, no_form, form_and}
 use Rattle.text_reader.specs.Grammar.{no}
-use Rattle.text_reader.specs.Forming.{Begun, a_group, a_binder, Reading, behind, put, passes, formed, forms_from, forms_of}
+use Rattle.text_reader.specs.Forming.{Begun, a_group, a_binder, FormsSoFar, behind, put, passes, formed, forms_from, forms_of}
 use Rattle.text_reader.specs.Definitions.{definition_of, definitions_of}
 use Rattle.text_reader.proofs.Dividing.{at}
 use Rattle.text_reader.proofs.Mistakes.{both_give}
@@ -70,7 +70,7 @@ behind_together : (gs fs : FormTrees) (f : FormTree) → behind (together gs fs)
 behind_together no_form fs f = refl
 behind_together (form_and g gs) fs f = ap (form_and g) (behind_together gs fs f)
 
-abbrev under : FormTrees → Reading → Reading
+abbrev under : FormTrees → FormsSoFar → FormsSoFar
 under gs s = (together gs s.0, s.1)
 
 put_behind : (f : FormTree) (gs fs : FormTrees) (os : List Begun) → put f (together gs fs) os ≡ under gs (put f fs os)
@@ -78,20 +78,20 @@ put_behind f gs fs [] = ap (λ x. (x, [])) (behind_together gs fs f)
 put_behind f gs fs (a_binder n ∷ os) = put_behind (a_binding n f) gs fs os
 put_behind f gs fs (a_group hs p ∷ os) = refl
 
-whole_put : (f : FormTree) (gs fs : FormTrees) (os : List Begun) (s : Reading) → Given (put f fs os) ≡ Ok s → Given (put f (together gs fs) os) ≡ Ok (under gs s)
+whole_put : (f : FormTree) (gs fs : FormTrees) (os : List Begun) (s : FormsSoFar) → Given (put f fs os) ≡ Ok s → Given (put f (together gs fs) os) ≡ Ok (under gs s)
 whole_put f gs fs os s e = ap Ok (put_behind f gs fs os) ∙ ap (λ x. Ok (under gs x)) (same _ s e)
 
-started_behind : (b : Bool) (o : Begun) (p : Position) (gs fs : FormTrees) (os : List Begun) (s : Reading)
-    → (if b then no {A = Reading} M.Depth p else Ok (fs, o ∷ os)) ≡ Ok s → (if b then no {A = Reading} M.Depth p else Ok (together gs fs, o ∷ os)) ≡ Ok (under gs s)
+started_behind : (b : Bool) (o : Begun) (p : Position) (gs fs : FormTrees) (os : List Begun) (s : FormsSoFar)
+    → (if b then no {A = FormsSoFar} M.Depth p else Ok (fs, o ∷ os)) ≡ Ok s → (if b then no {A = FormsSoFar} M.Depth p else Ok (together gs fs, o ∷ os)) ≡ Ok (under gs s)
 started_behind true o p gs fs os s e = absurd (cc e)
 started_behind false o p gs fs os s e = ap (λ x. Ok (under gs x)) (same _ s e)
 
-dashed_behind : (b : Bool) (n : Name) (gs fs : FormTrees) (os : List Begun) (s : Reading)
-    → (if b then Ok (put (a_word n) fs os) else no {A = Reading} M.Digits n.at) ≡ Ok s → (if b then Ok (put (a_word n) (together gs fs) os) else no {A = Reading} M.Digits n.at) ≡ Ok (under gs s)
+dashed_behind : (b : Bool) (n : Name) (gs fs : FormTrees) (os : List Begun) (s : FormsSoFar)
+    → (if b then Ok (put (a_word n) fs os) else no {A = FormsSoFar} M.Digits n.at) ≡ Ok s → (if b then Ok (put (a_word n) (together gs fs) os) else no {A = FormsSoFar} M.Digits n.at) ≡ Ok (under gs s)
 dashed_behind true n gs fs os s e = whole_put (a_word n) gs fs os s e
 dashed_behind false n gs fs os s e = absurd (cc e)
 
-formed_behind : (t : Lexeme) (gs fs : FormTrees) (os : List Begun) (s : Reading) → formed t fs os ≡ Ok s → formed t (together gs fs) os ≡ Ok (under gs s)
+formed_behind : (t : Lexeme) (gs fs : FormTrees) (os : List Begun) (s : FormsSoFar) → formed t fs os ≡ Ok s → formed t (together gs fs) os ≡ Ok (under gs s)
 formed_behind (begin_list p) gs fs os s e = started_behind (nat_le 1000 (length os)) (a_group no_form p) p gs fs os s e
 formed_behind (end_list p) gs fs [] s e = absurd (cc e)
 formed_behind (end_list p) gs fs (a_binder n ∷ os) s e = absurd (cc e)
@@ -107,7 +107,7 @@ forms_behind file end [] gs fs [] hs e = ap (λ x. Ok (together gs x)) (same fs 
 forms_behind file end [] gs fs (a_group js p ∷ os) hs e = absurd (cc e)
 forms_behind file end [] gs fs (a_binder n ∷ os) hs e = absurd (cc e)
 forms_behind file end (t ∷ ts) gs fs os hs e =
-    let next = λ (s : Reading). forms_from file end ts s.0 s.1 in
+    let next = λ (s : FormsSoFar). forms_from file end ts s.0 s.1 in
     let h = both_give (formed t fs os) next hs e in
     ap (λ r. r >>= next) (formed_behind t gs fs os h.0 h.1) ∙ forms_behind file end ts gs h.0.0 h.0.1 hs h.2
 

@@ -10,21 +10,21 @@ use Rattle.text_reader.specs.Lexing.{tokens_after}
 use Rattle.text_reader.specs.Pieces.{Piece, space, line, block, left, right, name, AreIn, after_comment, pieces_of}
 use Rattle.text_reader.specs.Forming.{forms_of}
 use Rattle.text_reader.specs.Definitions.{definitions_of}
-use Rattle.text_reader.specs.Examples.{Defines, SkippedAreRead, IntegersAreRead, NamesAreRead, ConstantsAreRead, PrimitivesAreRead, EnumerationsAreRead, StructuresAreRead, DeclarationsAreRead, RulesAreRead, ExtractorsAreRead, ExternalConstructorsAreRead, ExternalExtractorsAreRead, ExternalConstantsAreRead, ConversionsAreRead, OthersAreRead, VariantsAreRead, FieldsAreRead, PatternsAreRead, StatementsAreRead, ExpressionsAreRead}
+use Rattle.text_reader.specs.Examples.{IsTextOfDefinition, SkippedAreRead, IntegersAreRead, NamesAreRead, ConstantsAreRead, PrimitivesAreRead, EnumerationsAreRead, StructuresAreRead, DeclarationsAreRead, RulesAreRead, ExtractorsAreRead, ExternalConstructorsAreRead, ExternalExtractorsAreRead, ExternalConstantsAreRead, ConversionsAreRead, OthersAreRead, VariantTextsAreRead, FieldTextsAreRead, PatternsAreRead, StatementsAreRead, ExpressionsAreRead}
 use Rattle.text_reader.proofs.Spelled.{tokens_given}
 
 -- what is read of these characters
 abbrev read_as : List ℕ → List ℕ → Result (List Definition) Wrong
 read_as text cs = (tokens_after 0 0 (pieces_of cs) [] >>= forms_of 0 (length text)) >>= definitions_of
 
-defines : (text cs : List ℕ) (d : Definition) → scalars cs ≡ true → encodes cs ≡ text → read_as text cs ≡ Ok (d ∷ []) → Defines text d
+defines : (text cs : List ℕ) (d : Definition) → scalars cs ≡ true → encodes cs ≡ text → read_as text cs ≡ Ok (d ∷ []) → IsTextOfDefinition text d
 defines text cs d plain is e = ap (read_as text) (ap chars (sym is) ∙ chars-encodes cs plain) ∙ e
 
 -- the same by pieces that the text has
 abbrev read_by : List ℕ → List Piece → Result (List Definition) Wrong
 read_by text ps = (tokens_after 0 0 ps [] >>= forms_of 0 (length text)) >>= definitions_of
 
-defines_by : (text cs : List ℕ) (ps : List Piece) (d : Definition) → scalars cs ≡ true → encodes cs ≡ text → AreIn 0 cs ps → read_by text ps ≡ Ok (d ∷ []) → Defines text d
+defines_by : (text cs : List ℕ) (ps : List Piece) (d : Definition) → scalars cs ≡ true → encodes cs ≡ text → AreIn 0 cs ps → read_by text ps ≡ Ok (d ∷ []) → IsTextOfDefinition text d
 defines_by text cs ps d plain is are e =
     ap (λ r. (r >>= forms_of 0 (length text)) >>= definitions_of)
     (tokens_given 0 text ps (subst (λ x. AreIn 0 x ps) (sym (ap chars (sym is) ∙ chars-encodes cs plain)) are)) ∙ e
@@ -145,11 +145,11 @@ pub others_are_read : OthersAreRead
 unfolding lib.Utf8.encode word_token number_of
 others_are_read = defines _ (codes "(spec (f x) -> (bvadd x 1))") _ refl refl refl
 
-pub variants_are_read : VariantsAreRead
+pub variants_are_read : VariantTextsAreRead
 unfolding lib.Utf8.encode word_token number_of
 variants_are_read = defines _ (codes "(type E (enum A (B u8)))") _ refl refl refl
 
-pub fields_are_read : FieldsAreRead
+pub fields_are_read : FieldTextsAreRead
 unfolding lib.Utf8.encode word_token number_of
 fields_are_read = defines _ (codes "(type E (enum (P (a u8) (b u16)) (Q u8 u16) (R)))") _ refl refl refl
 

@@ -8,7 +8,7 @@ use Rattle.text_reader.specs.Lexemes.{Lexeme, begin_list, end_list, word, dash, 
 use Rattle.text_reader.specs.FormTrees.{FormTree, a_word, a_number, a_constant, a_binding, a_list, FormTrees, no_form, form_and, spelled, all_spelled, depth, all_depth}
 use Rattle.text_reader.specs.PassedOver.{is_passed_over, is_dashed, has_dash, have_dash, dashes_are_passed_over}
 use Rattle.text_reader.specs.PassedOver.{mark, AreMarked}
-use Rattle.text_reader.specs.Forming.{Begun, a_group, a_binder, Reading, behind, put, passes, started, dashed, formed, whole, forms_from, forms_of}
+use Rattle.text_reader.specs.Forming.{Begun, a_group, a_binder, FormsSoFar, behind, put, passes, started, dashed, formed, whole, forms_from, forms_of}
 
 next : {A B : Type 0} (r : Result A Wrong) (f : A → Result B Wrong) (Q : A → Type 0) (R : B → Type 0) → IfOk r Q → ((x : A) → Q x → IfOk (f x) R) → IfOk (r >>= f) R
 next (Ok x) f Q R q go = go x q
@@ -34,16 +34,16 @@ put_spelled f fs [] after = behind_spelled fs f after
 put_spelled f fs (a_binder n ∷ os) after = put_spelled (a_binding n f) fs os after
 put_spelled f fs (a_group gs p ∷ os) after = ap (λ ts. all_spelled fs (opened os (begin_list p ∷ ts))) (behind_spelled gs f after)
 
-abbrev Spells : FormTrees → List Begun → Lexeme → Reading → Type 0
+abbrev Spells : FormTrees → List Begun → Lexeme → FormsSoFar → Type 0
 Spells fs os t s = (after : List Lexeme) → all_spelled s.0 (opened s.1 after) ≡ all_spelled fs (opened os (erased t ∷ after))
 
-started_if : (P : Reading → Type 0) (o : Begun) (p : Position) (fs : FormTrees) (os : List Begun) → ((nat_le 1000 (length os) ≡ false) → P (fs, o ∷ os)) → IfOk (started o p fs os) P
+started_if : (P : FormsSoFar → Type 0) (o : Begun) (p : Position) (fs : FormTrees) (os : List Begun) → ((nat_le 1000 (length os) ≡ false) → P (fs, o ∷ os)) → IfOk (started o p fs os) P
 started_if P o p fs os h = elim (cases_Bool (nat_le 1000 (length os))) [
   | inl deep ↦ rw deep tt
   | inr room ↦ rw room (h room)
 ]
 
-dashed_if : (P : Reading → Type 0) (n : Name) (fs : FormTrees) (os : List Begun) → (passes os ≡ true → P (put (a_word n) fs os)) → IfOk (dashed n fs os) P
+dashed_if : (P : FormsSoFar → Type 0) (n : Name) (fs : FormTrees) (os : List Begun) → (passes os ≡ true → P (put (a_word n) fs os)) → IfOk (dashed n fs os) P
 dashed_if P n fs os h = elim (cases_Bool (passes os)) [
   | inl over ↦ rw over (h over)
   | inr not_over ↦ rw not_over tt
@@ -85,7 +85,7 @@ abbrev AreShallow : List Begun → Type 0
 AreShallow [] = ⊤
 AreShallow (o ∷ os) = (begun_depth o + suc (length os) ≤ 1000) × AreShallow os
 
-abbrev IsShallow : Reading → Type 0
+abbrev IsShallow : FormsSoFar → Type 0
 IsShallow s = (all_depth s.0 ≤ 1000) × AreShallow s.1
 
 greatest : (a b n : ℕ) → a ≤ n → b ≤ n → max a b ≤ n
@@ -151,7 +151,7 @@ AreClean (a_binder n ∷ os) = AreClean os
 abbrev AreFine : List Begun → Type 0
 AreFine os = (passes os ≡ true) ⊎ AreClean os
 
-abbrev IsFine : Reading → Type 0
+abbrev IsFine : FormsSoFar → Type 0
 IsFine s = (dashes_are_passed_over s.0 ≡ true) × AreFine s.1
 
 behind_dashes : (fs : FormTrees) (f : FormTree) → dashes_are_passed_over fs ≡ true → (not (has_dash f) || is_passed_over f) ≡ true → dashes_are_passed_over (behind fs f) ≡ true

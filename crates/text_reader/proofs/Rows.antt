@@ -21,7 +21,7 @@ use Rattle.text_reader.specs.declared.forms.Form.{Form, Group, Row_of-Form, end_
 use Rattle.text_reader.specs.declared.forms.Form.TheBlock.{hidden-the_row-Form-0, items_hidden-the_row-Form-0}
 use Rattle.text_reader.specs.Forms.{FormIsWithin, RowIsWithin, FormsAreWithin, IdentsAreWithin, PosIsWithin}
 use Rattle.text_reader.specs.Lets.{LetIsWithin}
-use Rattle.text_reader.specs.Within.{NameIsWithin, PatternIsWithin, PatternsAreWithin, ExprIsWithin, ExprsAreWithin, LetsAreWithin, FieldIsWithin, TupleFieldIsWithin, VariantIsWithin, IfLetIsWithin, DefinitionIsWithin, AreWithin}
+use Rattle.text_reader.specs.Within.{NameIsWithin, PatternIsWithin, PatternsAreWithin, ExprIsWithin, ExprsAreWithin, LetsAreWithin, FieldIsWithin, TupleFieldIsWithin, VariantIsWithin, IfLetIsWithin, DefinitionIsWithin, DefinitionsAreWithin}
 
 -- the forms of a list
 all-from_row : (file size : ℕ) {m : _} (r : Row_of-Form m) → RowIsWithin file size r → All (FormIsWithin file size) (items-the_row-Form m r)
@@ -90,7 +90,7 @@ names-viewed file size is h = All-map (NameIsWithin file size) name_view is h
 pub iflets-viewed : (file size : ℕ) (ls : List IfLet) → All (λ l. IfLetIsWithin file size (iflet_view l)) ls → All (IfLetIsWithin file size) (map iflet_view ls)
 iflets-viewed file size ls h = All-map (IfLetIsWithin file size) iflet_view ls h
 
-pub definitions-viewed : (file size : ℕ) (ds : List Def) → All (λ d. DefinitionIsWithin file size (definition_view d)) ds → AreWithin file size (definition_views ds)
+pub definitions-viewed : (file size : ℕ) (ds : List Def) → All (λ d. DefinitionIsWithin file size (definition_view d)) ds → DefinitionsAreWithin file size (definition_views ds)
 definitions-viewed file size ds h = All-map (DefinitionIsWithin file size) definition_view ds h
 
 pub ruleset form_parts = (forms-from_row, row-from_forms)

@@ -13,8 +13,8 @@ pub data Begun : Type 0 where
   a_binder : (name : Name) → Begun
 
 -- the forms that are whole, and what is begun, the innermost first
-abbrev pub Reading : Type 0
-Reading = FormTrees × List Begun
+abbrev pub FormsSoFar : Type 0
+FormsSoFar = FormTrees × List Begun
 
 -- forms, and one more
 abbrev pub behind : FormTrees → FormTree → FormTrees
@@ -22,7 +22,7 @@ behind no_form f = form_and f no_form
 behind (form_and g gs) f = form_and g (behind gs f)
 
 -- one more whole form
-abbrev pub put : FormTree → FormTrees → List Begun → Reading
+abbrev pub put : FormTree → FormTrees → List Begun → FormsSoFar
 put f fs [] = (behind fs f, [])
 put f fs (a_binder n ∷ os) = put (a_binding n f) fs os
 put f fs (a_group gs p ∷ os) = (fs, a_group (behind gs f) p ∷ os)
@@ -38,20 +38,20 @@ passes (o ∷ []) = passes_begun o
 passes (o ∷ q ∷ os) = passes (q ∷ os)
 
 -- one more form is begun, at a place
-abbrev pub started : Begun → Position → FormTrees → List Begun → Result Reading Wrong
+abbrev pub started : Begun → Position → FormTrees → List Begun → Result FormsSoFar Wrong
 started o p fs os = if nat_le 1000 (length os) then no M.Depth p else Ok (fs, o ∷ os)
 
 -- a list ends
-abbrev pub ended : Position → FormTrees → List Begun → Result Reading Wrong
+abbrev pub ended : Position → FormTrees → List Begun → Result FormsSoFar Wrong
 ended e fs [] = no M.ListBegin e
 ended e fs (a_binder n ∷ os) = no M.BoundPattern e
 ended e fs (a_group gs p ∷ os) = Ok (put (a_list gs p e) fs os)
 
-abbrev pub dashed : Name → FormTrees → List Begun → Result Reading Wrong
+abbrev pub dashed : Name → FormTrees → List Begun → Result FormsSoFar Wrong
 dashed n fs os = if passes os then Ok (put (a_word n) fs os) else no M.Digits n.at
 
 -- one more token
-abbrev pub formed : Lexeme → FormTrees → List Begun → Result Reading Wrong
+abbrev pub formed : Lexeme → FormTrees → List Begun → Result FormsSoFar Wrong
 formed (begin_list p) fs os = started (a_group no_form p) p fs os
 formed (end_list p) fs os = ended p fs os
 formed (word n) fs os = Ok (put (a_word n) fs os)

@@ -7,13 +7,13 @@ use Rattle.text_reader.specs.declared.forms.Form as F
 use Rattle.text_reader.specs.declared.forms.Form.{Form, Row_of-Form, end_of-Form, more_of-Form}
 use Rattle.text_reader.specs.declared.forms.Open as O
 use Rattle.text_reader.specs.declared.forms.Open.TheVariants as V
-use Rattle.text_reader.specs.Within.{IsWithin, NameIsWithin}
+use Rattle.text_reader.specs.Within.{PositionIsWithin, NameIsWithin}
 
 abbrev pub IdentIsWithin : (file size : ℕ) → Ident → Type 0
 IdentIsWithin file size i = NameIsWithin file size (name_view i)
 
 abbrev pub PosIsWithin : (file size : ℕ) → Pos → Type 0
-PosIsWithin file size p = IsWithin file size (position p)
+PosIsWithin file size p = PositionIsWithin file size (position p)
 
 abbrev mutual
   pub FormIsWithin : (file size : ℕ) → Form → Type 0

@@ -5,7 +5,7 @@ ghost use Rattle.std.specs.Prelude.{Err, MatchResult, string_bytes};
 ghost use Rattle.core_syntax.specs.SyntaxViews.{definition_view, definition_views, position};
 ghost use Rattle.text_reader.specs.Faults.{FaultIsWithin};
 ghost use Rattle.text_reader.specs.Forms.{FormIsWithin, FormsAreWithin, IdentIsWithin};
-ghost use Rattle.text_reader.specs.Within.{AreWithin, DefinitionIsWithin};
+ghost use Rattle.text_reader.specs.Within.{DefinitionsAreWithin, DefinitionIsWithin};
 ghost use Rattle.text_reader.specs.FormViews.{all_view, form_view};
 ghost use Rattle.text_reader.specs.Definitions.{definition_of, definitions_of};
 ghost use Rattle.text_reader.specs.Lexemes.{unknown};
@@ -25,7 +25,7 @@ use core_syntax::syntax::{Def, Ident};
 pub fn definitions(at: Source, forms: &[Form]) -> Result<Vec<Def>, ReadFault>
     requires { FormsAreWithin at.file at.len forms.now }
     ensures read { Gives (λ ds. definition_views ds.items) result (definitions_of (all_view forms.now)) }
-    ensures within { MatchResult result (λ ds. AreWithin at.file at.len (definition_views ds.items)) (FaultIsWithin at.file at.len) }
+    ensures within { MatchResult result (λ ds. DefinitionsAreWithin at.file at.len (definition_views ds.items)) (FaultIsWithin at.file at.len) }
 {
     let mut defs = Vec::new(at.alloc);
     for form in forms {

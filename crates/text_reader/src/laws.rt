@@ -6,7 +6,7 @@ ghost use Rattle.model.specs.lists.Syntax.{Definition, Position};
 ghost use Rattle.text_reader.specs.declared.errors.Mistake.TheVariants.{CommentEnd};
 ghost use Rattle.text_reader.specs.Chunks.{EndsLine, begins, chunks_at};
 ghost use Rattle.text_reader.specs.Definitions.{IsOfDefinitions, IsOfLists, IsOfTokens, Spells, forms_in, reading, tokens_in};
-ghost use Rattle.text_reader.specs.Examples.{SkippedAreRead, IntegersAreRead, NamesAreRead, ConstantsAreRead, PrimitivesAreRead, EnumerationsAreRead, StructuresAreRead, DeclarationsAreRead, RulesAreRead, ExtractorsAreRead, ExternalConstructorsAreRead, ExternalExtractorsAreRead, ExternalConstantsAreRead, ConversionsAreRead, OthersAreRead, VariantsAreRead, FieldsAreRead, PatternsAreRead, StatementsAreRead, ExpressionsAreRead};
+ghost use Rattle.text_reader.specs.Examples.{SkippedAreRead, IntegersAreRead, NamesAreRead, ConstantsAreRead, PrimitivesAreRead, EnumerationsAreRead, StructuresAreRead, DeclarationsAreRead, RulesAreRead, ExtractorsAreRead, ExternalConstructorsAreRead, ExternalExtractorsAreRead, ExternalConstantsAreRead, ConversionsAreRead, OthersAreRead, VariantTextsAreRead, FieldTextsAreRead, PatternsAreRead, StatementsAreRead, ExpressionsAreRead};
 ghost use Rattle.text_reader.specs.FormTrees.{FormTrees, all_spelled};
 ghost use Rattle.text_reader.specs.Lexemes.{Wrong, expected, unclosed};
 ghost use Rattle.text_reader.specs.Lexing.{Tokens, between, reached, run, tokens_after};
@@ -97,8 +97,8 @@ pub fn rows_of_the_grammar()
     ensures external_constants { ExternalConstantsAreRead }
     ensures conversions { ConversionsAreRead }
     ensures others { OthersAreRead }
-    ensures variants { VariantsAreRead }
-    ensures fields { FieldsAreRead }
+    ensures variants { VariantTextsAreRead }
+    ensures fields { FieldTextsAreRead }
     ensures patterns { PatternsAreRead }
     ensures statements { StatementsAreRead }
     ensures expressions { ExpressionsAreRead }

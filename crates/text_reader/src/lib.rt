@@ -12,7 +12,7 @@ ghost use Rattle.model.specs.lists.Syntax.{Definition};
 ghost use Rattle.text_reader.specs.Views.{Gives};
 ghost use Rattle.core_syntax.specs.SyntaxViews.{definition_views};
 ghost use Rattle.text_reader.specs.Definitions.{Spells, reading};
-ghost use Rattle.text_reader.specs.Within.{AreWithin};
+ghost use Rattle.text_reader.specs.Within.{DefinitionsAreWithin};
 ghost use Rattle.text_reader.specs.Faults.{FaultIsWithin};
 ghost use Rattle.text_reader.specs.SpecViews.{numbered_view};
 ghost use Rattle.text_reader.specs.Verifying.{verification_in};
@@ -67,7 +67,7 @@ pub fn read(alloc: Global, file: usize, text: &str) -> Result<Vec<Def>, ReadFaul
     ensures found { IfOk result (λ ds. Spells file text.now (definition_views ds.items)) }
     ensures only { (ds : List Definition) → Spells file text.now ds → Gives (λ es. definition_views es.items) result (Ok ds) }
     ensures within { MatchResult result
-        (λ ds. AreWithin file (length text.now) (definition_views ds.items))
+        (λ ds. DefinitionsAreWithin file (length text.now) (definition_views ds.items))
         (FaultIsWithin file (length text.now)) }
 {
     let at = Source {

@@ -10,7 +10,7 @@ use Rattle.text_reader.specs.FormTrees.{FormTree, FormTrees, form_and}
 use Rattle.text_reader.specs.PassedOver.{is_passed_over}
 use Rattle.text_reader.specs.Definitions.{definition_of}
 use Rattle.text_writer.specs.Forms.{form_of}
-use Rattle.text_writer.specs.ReadsBack.{ReadsBack}
+use Rattle.text_writer.specs.ReadsBack.{ReadsBackAs}
 use Rattle.text_writer.specs.Texts.{written}
 use Rattle.text_writer.specs.Placeless.{placeless_definition}
 use Rattle.text_writer.specs.Spellable as D
@@ -26,7 +26,7 @@ use Rattle.text_writer.specs.PlacelessTrees.{placeless_tree}
 use Rattle.text_writer.specs.SpecForms.{verification_form, printed}
 use Rattle.text_writer.specs.SpellableTrees as T
 use Rattle.text_writer.specs.Items.{Item, a_definition, a_tree, definition_in, trees_from, item_form, item_can_be_spelled, printed_items}
-use Rattle.text_writer.specs.Saying.{numbered_from, placeless_numbered, Says}
+use Rattle.text_writer.specs.Saying.{numbered_from, placeless_numbered, ReadsBackVerification}
 use Rattle.text_writer.proofs.TreesRead.{tree_read}
 use Rattle.text_writer.proofs.BareTrees.{verification_bare}
 use Rattle.text_writer.proofs.TwiceTrees.{tree_twice}
@@ -125,8 +125,8 @@ module _ (file : ℕ) where
 
 -- ---- whole texts
 
-items_say : (is : List Item) → list_all item_can_be_spelled is ≡ true → Says (lines (map item_form is)) (trees_from 0 is)
-unfolding Says
+items_say : (is : List Item) → list_all item_can_be_spelled is ≡ true → ReadsBackVerification (lines (map item_form is)) (trees_from 0 is)
+unfolding ReadsBackVerification
 items_say is h file =
     let said = items_said file is 0 0 h in (
       said.0,
@@ -134,8 +134,8 @@ items_say is h file =
       said.2,
     )
 
-lines_are_defined : (is : List Item) → list_all item_can_be_spelled is ≡ true → ReadsBack (lines (map item_form is)) (map definition_in is)
-unfolding ReadsBack
+lines_are_defined : (is : List Item) → list_all item_can_be_spelled is ≡ true → ReadsBackAs (lines (map item_form is)) (map definition_in is)
+unfolding ReadsBackAs
 lines_are_defined is h file =
     let found = all_spelled_back item_form definition_in item_can_be_spelled item_read item_stands is h file in
     (found.0, found.1, found.2 ∙ sym (map-map placeless_definition definition_in is))
@@ -144,10 +144,10 @@ printed_lines : (is : List Item) → printed_items is ≡ lines (map item_form i
 printed_lines [] = refl
 printed_lines (i ∷ is) = ap (λ t. written (item_form i) ++ 10 ∷ t) (printed_lines is)
 
-pub items_read_back : (is : List Item) → list_all item_can_be_spelled is ≡ true → ReadsBack (printed_items is) (map definition_in is) × Says (printed_items is) (trees_from 0 is)
+pub items_read_back : (is : List Item) → list_all item_can_be_spelled is ≡ true → ReadsBackAs (printed_items is) (map definition_in is) × ReadsBackVerification (printed_items is) (trees_from 0 is)
 items_read_back is h = (
-  subst (λ t. ReadsBack t (map definition_in is)) (sym (printed_lines is)) (lines_are_defined is h),
-  subst (λ t. Says t (trees_from 0 is)) (sym (printed_lines is)) (items_say is h),
+  subst (λ t. ReadsBackAs t (map definition_in is)) (sym (printed_lines is)) (lines_are_defined is h),
+  subst (λ t. ReadsBackVerification t (trees_from 0 is)) (sym (printed_lines is)) (items_say is h),
 )
 
 -- ---- trees alone
@@ -166,10 +166,10 @@ trees_numbered : (n : ℕ) (vs : List VerificationTree) → trees_from n (map a_
 trees_numbered n [] = refl
 trees_numbered n (v ∷ vs) = ap (λ xs. (n, v) ∷ xs) (trees_numbered (suc n) vs)
 
-pub trees_say : (vs : List VerificationTree) → list_all T.can_be_spelled vs ≡ true → Says (printed vs) (numbered_from 0 vs)
+pub trees_say : (vs : List VerificationTree) → list_all T.can_be_spelled vs ≡ true → ReadsBackVerification (printed vs) (numbered_from 0 vs)
 trees_say vs h =
-    subst (λ t. Says t (numbered_from 0 vs)) (sym (only_trees vs))
-    (subst (λ xs. Says (lines (map item_form (map a_tree vs))) xs) (trees_numbered 0 vs) (items_say (map a_tree vs) (trees_spelled vs h)))
+    subst (λ t. ReadsBackVerification t (numbered_from 0 vs)) (sym (only_trees vs))
+    (subst (λ xs. ReadsBackVerification (lines (map item_form (map a_tree vs))) xs) (trees_numbered 0 vs) (items_say (map a_tree vs) (trees_spelled vs h)))
 
 -- where none is the first that can't be spelled, all can be
 all_spellable : (vs : List VerificationTree) → T.first_unspelled vs ≡ None → list_all T.can_be_spelled vs ≡ true
@@ -179,5 +179,5 @@ all_spellable (v ∷ vs) e = elim (cases_Bool (T.can_be_spelled v)) [
   | inr bad ↦ absurd (cc (sym (ap (λ b. if b then T.first_unspelled vs else Some (T.place_of_tree v)) bad) ∙ e))
 ]
 
-pub printed_says : (text : List ℕ) (vs : List VerificationTree) → T.first_unspelled vs ≡ None → text ≡ printed vs → Says text (numbered_from 0 vs)
-printed_says text vs none is = subst (λ t. Says t (numbered_from 0 vs)) (sym is) (trees_say vs (all_spellable vs none))
+pub printed_says : (text : List ℕ) (vs : List VerificationTree) → T.first_unspelled vs ≡ None → text ≡ printed vs → ReadsBackVerification text (numbered_from 0 vs)
+printed_says text vs none is = subst (λ t. ReadsBackVerification t (numbered_from 0 vs)) (sym is) (trees_say vs (all_spellable vs none))

@@ -14,7 +14,7 @@ use Rattle.text_writer.specs.Placeless.{placeless_definition}
 use Rattle.text_writer.specs.Forms.{form_of}
 use Rattle.text_writer.specs.Texts.{written, printed}
 use Rattle.text_writer.specs.Spellable.{can_be_spelled, first_unspelled}
-use Rattle.text_writer.specs.ReadsBack.{ReadsBack}
+use Rattle.text_writer.specs.ReadsBack.{ReadsBackAs}
 use Rattle.text_writer.proofs.Parts.{both}
 use Rattle.text_writer.proofs.FormsRead.{definition_read}
 use Rattle.text_writer.proofs.Bare.{bared, definition_bare}
@@ -96,8 +96,8 @@ printed_lines : (ds : List Definition) → printed ds ≡ lines (map form_of ds)
 printed_lines [] = refl
 printed_lines (d ∷ ds) = ap (λ t. written (form_of d) ++ 10 ∷ t) (printed_lines ds)
 
-pub reads_back : (ds : List Definition) → list_all can_be_spelled ds ≡ true → ReadsBack (printed ds) ds
-unfolding ReadsBack
+pub reads_back : (ds : List Definition) → list_all can_be_spelled ds ≡ true → ReadsBackAs (printed ds) ds
+unfolding ReadsBackAs
 reads_back ds h file =
     subst (λ t. (es : List Definition) × Spells file t es × (map placeless_definition es ≡ map placeless_definition ds)) (sym (printed_lines ds))
     (all_spelled_back form_of (λ d. d) can_be_spelled definition_read definition_stands ds h file)
@@ -110,5 +110,5 @@ all_spellable (d ∷ ds) e = elim (cases_Bool (can_be_spelled d)) [
   | inr bad ↦ absurd (cc (sym (ap (λ b. if b then first_unspelled ds else Some (definition_place d)) bad) ∙ e))
 ]
 
-pub printed_reads_back : (text : List ℕ) (ds : List Definition) → first_unspelled ds ≡ None → text ≡ printed ds → ReadsBack text ds
-printed_reads_back text ds none is = subst (λ t. ReadsBack t ds) (sym is) (reads_back ds (all_spellable ds none))
+pub printed_reads_back : (text : List ℕ) (ds : List Definition) → first_unspelled ds ≡ None → text ≡ printed ds → ReadsBackAs text ds
+printed_reads_back text ds none is = subst (λ t. ReadsBackAs t ds) (sym is) (reads_back ds (all_spellable ds none))

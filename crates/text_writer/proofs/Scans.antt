@@ -10,7 +10,7 @@ use Rattle.std.proofs.lemmas.Str.{length-encode, len_utf8_bounds}
 use Rattle.text_reader.specs.declared.errors.Mistake.{Mistake}
 use Rattle.text_reader.specs.Pieces.{Piece, space, line, block, left, right, bind, name, sign, endless, alone, spelling, size, is_in_word, is_space, begins_word, begins_with, after_comment, ends_word, ends_line, Stands, AreIn}
 use Rattle.text_writer.specs.Placing.{Placing, all_placed, placed, with_piece, nothing_placed}
-use Rattle.text_writer.specs.Scanning.{Mode, start, between, in_name, in_sign, in_line, in_block, in_endless, begun, in_comment, finished, step, run, folded, sign_piece}
+use Rattle.text_writer.specs.Scanning.{ScanMode, start, between, in_name, in_sign, in_line, in_block, in_endless, begun, in_comment, finished, step, run, folded, sign_piece}
 
 one_more : (c : ℕ) (cs more : List ℕ) → c ∷ cs ≡ more ++ cs → c ∷ [] ≡ more
 one_more c cs [] e = absurd (omega (arith, ap length e))
@@ -18,17 +18,17 @@ one_more c cs (x ∷ []) e = cc e
 one_more c cs (x ∷ y ∷ more) e = absurd (omega (arith, ap length e, length-append more cs))
 
 -- one character, and the end
-pub run_char : {A : Type 0} (add : Piece → A → A) (m : Mode × A) (c : ℕ) (cs : List ℕ) → run add m (c ∷ cs) ≡ run add (step add m.0 m.1 c) cs
+pub run_char : {A : Type 0} (add : Piece → A → A) (m : ScanMode × A) (c : ℕ) (cs : List ℕ) → run add m (c ∷ cs) ≡ run add (step add m.0 m.1 c) cs
 unfolding run
 run_char add m c cs = refl
 
-pub run_end : {A : Type 0} (add : Piece → A → A) (m : Mode × A) → run add m [] ≡ finished add m.0 m.1
+pub run_end : {A : Type 0} (add : Piece → A → A) (m : ScanMode × A) → run add m [] ≡ finished add m.0 m.1
 unfolding run
 run_end add m = refl
 
 module _ {A : Type 0} (add : Piece → A → A) where
   -- one character, by what it gives
-  stepped : (m n : Mode × A) (c : ℕ) (cs : List ℕ) (r : A) → step add m.0 m.1 c ≡ n → run add n cs ≡ r → run add m (c ∷ cs) ≡ r
+  stepped : (m n : ScanMode × A) (c : ℕ) (cs : List ℕ) (r : A) → step add m.0 m.1 c ≡ n → run add n cs ≡ r → run add m (c ∷ cs) ≡ r
   stepped m n c cs r e h = run_char add m c cs ∙ ap (λ x. run add x cs) e ∙ h
 
   name_step : (cs : List ℕ) (a : A) (c : ℕ) → is_in_word c ≡ true → step add (in_name cs) a c ≡ (in_name (cs ++ c ∷ []), a)

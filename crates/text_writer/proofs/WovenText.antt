@@ -6,13 +6,13 @@ use Rattle.std.specs.List.{list_all}
 use Rattle.std.proofs.lemmas.Bool.{cases_Bool, eqb-true}
 use Rattle.model.specs.lists.Syntax.{Position, Definition, type_definition, declaration, extractor_definition, converter_definition, rule_definition, extern_definition, other_definition}
 use Rattle.core_syntax.specs.SyntaxViews.{definition_place}
-use Rattle.text_writer.specs.ReadsBack.{ReadsBack}
+use Rattle.text_writer.specs.ReadsBack.{ReadsBackAs}
 use Rattle.text_writer.specs.Spellable as D
 use Rattle.text_writer.specs.Texts.{written}
 use Rattle.text_reader.specs.SpecTrees.{VerificationTree}
 use Rattle.text_writer.specs.SpellableTrees as T
 use Rattle.text_writer.specs.Items.{Item, a_definition, a_tree, definition_in, trees_from, item_form, item_can_be_spelled, printed_items}
-use Rattle.text_writer.specs.Saying.{Says}
+use Rattle.text_writer.specs.Saying.{ReadsBackVerification}
 use Rattle.text_writer.specs.declared.faults.PrintFault.{PrintFault}
 use Rattle.text_writer.specs.Woven.{Trouble, unspelled, unmatched, Trees, said_item, defined_item, item_at, left_by, left_behind, before, item_before, woven}
 use Rattle.text_writer.proofs.ItemsReadBack.{items_read_back}
@@ -103,18 +103,18 @@ woven_items n (d ∷ ds) vs text e =
     pair : {x y : Definition} {xs ys : List Definition} → x ≡ y → xs ≡ ys → x ∷ xs ≡ y ∷ ys
     pair e f = rw (e, f) refl
 
-woven_reads_back : (ds : List Definition) (vs : Trees) (text : List ℕ) → woven 0 ds vs ≡ Ok text → ReadsBack text ds × Says text vs
+woven_reads_back : (ds : List Definition) (vs : Trees) (text : List ℕ) → woven 0 ds vs ≡ Ok text → ReadsBackAs text ds × ReadsBackVerification text vs
 woven_reads_back ds vs text e =
     let is = woven_items 0 ds vs text e in
     let back = items_read_back is.items is.spelled in (
-      subst (λ t. ReadsBack t ds) is.printed (subst (λ l. ReadsBack (printed_items is.items) l) is.definitions back.0),
-      subst (λ t. Says t vs) is.printed (subst (λ l. Says (printed_items is.items) l) is.trees back.1),
+      subst (λ t. ReadsBackAs t ds) is.printed (subst (λ l. ReadsBackAs (printed_items is.items) l) is.definitions back.0),
+      subst (λ t. ReadsBackVerification t vs) is.printed (subst (λ l. ReadsBackVerification (printed_items is.items) l) is.trees back.1),
     )
 
-pub defined_if_ok : (ds : List Definition) (vs : Trees) (r : Result (String Global) PrintFault) → IfOk r (λ s. woven 0 ds vs ≡ Ok (string_bytes s)) → IfOk r (λ s. ReadsBack (string_bytes s) ds)
+pub defined_if_ok : (ds : List Definition) (vs : Trees) (r : Result (String Global) PrintFault) → IfOk r (λ s. woven 0 ds vs ≡ Ok (string_bytes s)) → IfOk r (λ s. ReadsBackAs (string_bytes s) ds)
 defined_if_ok ds vs (Ok s) h = (woven_reads_back ds vs (string_bytes s) h).0
 defined_if_ok ds vs (Err e) h = tt
 
-pub said_if_ok : (ds : List Definition) (vs : Trees) (r : Result (String Global) PrintFault) → IfOk r (λ s. woven 0 ds vs ≡ Ok (string_bytes s)) → IfOk r (λ s. Says (string_bytes s) vs)
+pub said_if_ok : (ds : List Definition) (vs : Trees) (r : Result (String Global) PrintFault) → IfOk r (λ s. woven 0 ds vs ≡ Ok (string_bytes s)) → IfOk r (λ s. ReadsBackVerification (string_bytes s) vs)
 said_if_ok ds vs (Ok s) h = (woven_reads_back ds vs (string_bytes s) h).1
 said_if_ok ds vs (Err e) h = tt

@@ -6,6 +6,6 @@ use Rattle.text_writer.specs.declared.faults.PrintFault.{PrintFault}
 use Rattle.text_writer.specs.declared.faults.PrintFault.TheVariants.{Memory, Unspellable}
 
 -- that memory was refused, or where the first definition stands that can't be spelled
-abbrev pub Tells : PrintFault → Option (Option Position) → Type 0
-Tells (Memory e) first = ⊤
-Tells (Unspellable p) first = first ≡ Some (option_map position p)
+abbrev pub TellsUnspellable : PrintFault → Option (Option Position) → Type 0
+TellsUnspellable (Memory e) first = ⊤
+TellsUnspellable (Unspellable p) first = first ≡ Some (option_map position p)

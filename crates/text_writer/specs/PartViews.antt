@@ -9,7 +9,7 @@ use Rattle.text_writer.specs.declared.parts.Scan.{Scan}
 use Rattle.text_writer.specs.declared.parts.State.{State}
 use Rattle.text_writer.specs.declared.parts.State.TheVariants as S
 use Rattle.text_writer.specs.Placing.{Placed, Placing}
-use Rattle.text_writer.specs.Scanning.{Mode, start, between, opened, in_name, in_sign, in_line, in_block, in_endless}
+use Rattle.text_writer.specs.Scanning.{ScanMode, start, between, opened, in_name, in_sign, in_line, in_block, in_endless}
 
 abbrev pub part_view : Part → Piece
 part_view P.Open = left
@@ -28,7 +28,7 @@ placed_view p = record { piece = part_view p.part; breaks = p.breaks; spaces = p
 abbrev pub placed_views : List PlacedPart → List Placed
 placed_views ps = map placed_view ps
 
-abbrev pub mode_view : State → Mode
+abbrev pub mode_view : State → ScanMode
 mode_view S.Start = start
 mode_view S.Between = between
 mode_view S.Opened = opened

@@ -13,5 +13,5 @@ abbrev pub placeless_numbered : ℕ × VerificationTree → ℕ × VerificationT
 placeless_numbered v = (v.0, placeless_tree v.1)
 
 -- in any file the text says this for a verifier, but for its places
-unfoldable pub Says : (text : List ℕ) → List (ℕ × VerificationTree) → Type 0
-Says text vs = (file : ℕ) → (said : List (ℕ × VerificationTree)) × (verification_in file text ≡ Ok said) × (map placeless_numbered said ≡ map placeless_numbered vs)
+unfoldable pub ReadsBackVerification : (text : List ℕ) → List (ℕ × VerificationTree) → Type 0
+ReadsBackVerification text vs = (file : ℕ) → (said : List (ℕ × VerificationTree)) × (verification_in file text ≡ Ok said) × (map placeless_numbered said ≡ map placeless_numbered vs)

@@ -4,16 +4,16 @@ use Rattle.std.specs.Char.{is_whitespace}
 use Rattle.text_reader.specs.Pieces.{Piece, space, line, block, left, right, bind, name, sign, endless, alone, is_in_word}
 
 -- what the last characters were the beginning of, with those of them that the piece will have
-pub data Mode : Type 0 where
-  start : Mode
-  between : Mode
-  opened : Mode
-  in_name : List ℕ → Mode
-  in_sign : List ℕ → Mode
-  in_line : List ℕ → Mode
+pub data ScanMode : Type 0 where
+  start : ScanMode
+  between : ScanMode
+  opened : ScanMode
+  in_name : List ℕ → ScanMode
+  in_sign : List ℕ → ScanMode
+  in_line : List ℕ → ScanMode
   -- how many comments are open, and the last character
-  in_block : List ℕ → (depth last : ℕ) → Mode
-  in_endless : List ℕ → Mode
+  in_block : List ℕ → (depth last : ℕ) → ScanMode
+  in_endless : List ℕ → ScanMode
 
 -- the piece that the sign of a constant and these characters are
 abbrev pub sign_piece : List ℕ → Piece
@@ -21,12 +21,12 @@ sign_piece [] = alone
 sign_piece (c ∷ cs) = sign (c ∷ cs)
 
 -- between pieces, with what is made so far
-abbrev pub resting : {A : Type 0} → A → Mode × A
+abbrev pub resting : {A : Type 0} → A → ScanMode × A
 resting a = (between, a)
 
 module _ {A : Type 0} (add : Piece → A → A) where
   -- a character between pieces
-  unfoldable pub begun : A → ℕ → Mode × A
+  unfoldable pub begun : A → ℕ → ScanMode × A
   begun a c =
       if c == 40 then (opened, a)
       else if c == 59 then (in_line [], a)
@@ -37,14 +37,14 @@ module _ {A : Type 0} (add : Piece → A → A) where
       else (in_name (c ∷ []), a)
 
   -- a character of a block comment, which it is part of already
-  unfoldable pub in_comment : List ℕ → (depth last : ℕ) → A → ℕ → Mode × A
+  unfoldable pub in_comment : List ℕ → (depth last : ℕ) → A → ℕ → ScanMode × A
   in_comment cs depth last a c =
       if last == 40 && c == 59 then (if nat_le 1000 depth then (in_endless cs, a) else (in_block cs (depth + 1) 32, a))
       else if last == 59 && c == 41 then (if nat_le depth 1 then (between, add (block cs) a) else (in_block cs (depth - 1) 32, a))
       else (in_block cs depth c, a)
 
   -- what ends here
-  abbrev pub finished : Mode → A → A
+  abbrev pub finished : ScanMode → A → A
   finished start a = a
   finished between a = a
   finished opened a = add left a
@@ -55,7 +55,7 @@ module _ {A : Type 0} (add : Piece → A → A) where
   finished (in_endless cs) a = add (endless cs) a
 
   -- one more character
-  abbrev pub step : Mode → A → ℕ → Mode × A
+  abbrev pub step : ScanMode → A → ℕ → ScanMode × A
   step start a c = if c == 65279 then (between, add (space c) a) else begun a c
   step between a c = begun a c
   step opened a c = if c == 59 then (in_block [] 1 32, a) else begun (add left a) c
@@ -66,7 +66,7 @@ module _ {A : Type 0} (add : Piece → A → A) where
   step (in_endless cs) a c = (in_endless (cs ++ c ∷ []), a)
 
   -- what is made of a text from here on
-  unfoldable pub run : Mode × A → List ℕ → A
+  unfoldable pub run : ScanMode × A → List ℕ → A
   run m [] = finished m.0 m.1
   run m (c ∷ cs) = run (step m.0 m.1 c) cs
 

@@ -7,10 +7,10 @@ use Rattle.text_writer.specs.declared.faults.PrintFault.TheVariants.{Memory, Uns
 use Rattle.text_writer.specs.Woven.{Trouble, unspelled, unmatched}
 
 -- that memory was refused, or where the first tree stands that can't be spelled
-abbrev pub Tells : PrintFault → Option Position → Type 0
-Tells (Memory e) first = ⊤
-Tells (Unspellable p) first = first ≡ Some (position p)
-Tells (Unmatched n) first = ⊥
+abbrev pub TellsUnspellableSpec : PrintFault → Option Position → Type 0
+TellsUnspellableSpec (Memory e) first = ⊤
+TellsUnspellableSpec (Unspellable p) first = first ≡ Some (position p)
+TellsUnspellableSpec (Unmatched n) first = ⊥
 
 -- that memory was refused, or this trouble
 abbrev pub IsTrouble : {A : Type 0} → PrintFault → Result A Trouble → Type 0

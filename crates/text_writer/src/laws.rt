@@ -6,7 +6,7 @@ ghost use Rattle.model.specs.lists.Syntax.{Definition};
 ghost use Rattle.text_reader.specs.Definitions.{definition_of};
 ghost use Rattle.text_writer.specs.Forms.{form_of};
 ghost use Rattle.text_writer.specs.Placeless.{placeless_definition};
-ghost use Rattle.text_writer.specs.ReadsBack.{ReadsBack};
+ghost use Rattle.text_writer.specs.ReadsBack.{ReadsBackAs};
 ghost use Rattle.text_writer.specs.Spellable.{can_be_spelled};
 ghost use Rattle.text_writer.specs.Texts.{printed};
 
@@ -17,5 +17,5 @@ pub fn forms_are_read_back()
 
 /// The text of definitions that can be spelled is read as these definitions, but for places.
 pub fn texts_read_back()
-    ensures { (ds : List Definition) → list_all can_be_spelled ds ≡ true → ReadsBack (printed ds) ds }
+    ensures { (ds : List Definition) → list_all can_be_spelled ds ≡ true → ReadsBackAs (printed ds) ds }
 {}

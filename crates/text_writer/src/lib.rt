@@ -10,8 +10,8 @@
 
 ghost use Rattle.std.specs.Prelude.{◌≡◌, IfErr, IfOk, None, string_bytes};
 ghost use Rattle.core_syntax.specs.SyntaxViews.{definition_views};
-ghost use Rattle.text_writer.specs.Faults.{Tells};
-ghost use Rattle.text_writer.specs.ReadsBack.{ReadsBack};
+ghost use Rattle.text_writer.specs.Faults.{TellsUnspellable};
+ghost use Rattle.text_writer.specs.ReadsBack.{ReadsBackAs};
 ghost use Rattle.text_writer.specs.Spellable.{first_unspelled};
 ghost use Rattle.text_writer.specs.Texts.{printed, written};
 
@@ -58,9 +58,9 @@ pub fn print(alloc: Global, defs: &[Def]) -> Result<String, PrintFault>
     ensures spelled { IfOk result (λ s. first_unspelled (definition_views defs.now) ≡ None) }
     ensures text { IfOk result (λ s. string_bytes s ≡ printed (definition_views defs.now)) }
     // It is read as these definitions, but for places.
-    ensures read_back { IfOk result (λ s. ReadsBack (string_bytes s) (definition_views defs.now)) }
+    ensures read_back { IfOk result (λ s. ReadsBackAs (string_bytes s) (definition_views defs.now)) }
     // An error but for memory tells of the first definition that can't be spelled.
-    ensures first { IfErr result (λ e. Tells e (first_unspelled (definition_views defs.now))) }
+    ensures first { IfErr result (λ e. TellsUnspellable e (first_unspelled (definition_views defs.now))) }
 {
     match first_unspelled(defs) {
         Some(place) => Err(PrintFault::Unspellable(place)),

@@ -7,10 +7,10 @@ ghost use Rattle.text_reader.specs.Verifying.{verification_of};
 ghost use Rattle.text_writer.specs.Items.{Item, definition_in, item_can_be_spelled, printed_items, trees_from};
 ghost use Rattle.text_writer.specs.PlacelessTrees.{placeless_tree};
 ghost use Rattle.text_writer.specs.Sample.{sample, sample_text};
-ghost use Rattle.text_writer.specs.Saying.{Says, numbered_from};
+ghost use Rattle.text_writer.specs.Saying.{ReadsBackVerification, numbered_from};
 ghost use Rattle.text_writer.specs.SpecForms.{printed, verification_form};
 ghost use Rattle.text_writer.specs.SpellableTrees.{can_be_spelled};
-ghost use Rattle.text_writer.specs.ReadsBack.{ReadsBack};
+ghost use Rattle.text_writer.specs.ReadsBack.{ReadsBackAs};
 
 /// The form of a tree that can be spelled is read as this tree, but for places.
 pub fn trees_are_read_back()
@@ -19,14 +19,14 @@ pub fn trees_are_read_back()
 
 /// The text of trees that can be spelled says these trees, but for places, and numbers them from 0.
 pub fn texts_read_back()
-    ensures { (vs : List VerificationTree) → list_all can_be_spelled vs ≡ true → Says (printed vs) (numbered_from 0 vs) }
+    ensures { (vs : List VerificationTree) → list_all can_be_spelled vs ≡ true → ReadsBackVerification (printed vs) (numbered_from 0 vs) }
 {}
 
 /// The text of definitions and trees that can be spelled is read as these, but for places: by a reader of definitions, which passes
 /// over the trees, and by a reader for a verifier, which passes over the definitions.
 pub fn items_read_back()
     ensures { (is : List Item) → list_all item_can_be_spelled is ≡ true
-        → ReadsBack (printed_items is) (map definition_in is) × Says (printed_items is) (trees_from 0 is) }
+        → ReadsBackAs (printed_items is) (map definition_in is) × ReadsBackVerification (printed_items is) (trees_from 0 is) }
 {}
 
 /// A spec and a model are printed as a text has them.

@@ -6,8 +6,8 @@
 
 ghost use Rattle.std.specs.Prelude.{◌≡◌, ◌++◌, IfErr, IfOk, None, OnOk, map, string_bytes};
 ghost use Rattle.text_reader.specs.SpecViews.{verification_view};
-ghost use Rattle.text_writer.specs.SpecFaults.{Tells};
-ghost use Rattle.text_writer.specs.Saying.{Says, numbered_from};
+ghost use Rattle.text_writer.specs.SpecFaults.{TellsUnspellableSpec};
+ghost use Rattle.text_writer.specs.Saying.{ReadsBackVerification, numbered_from};
 ghost use Rattle.text_writer.specs.SpecForms.{printed, verification_form};
 ghost use Rattle.text_writer.specs.SpellableTrees.{first_unspelled};
 ghost use Rattle.text_writer.specs.Texts.{written};
@@ -31,9 +31,9 @@ pub fn print(alloc: Global, forms: &[VerificationForm]) -> Result<String, PrintF
     ensures spelled { IfOk result (λ s. first_unspelled (map verification_view forms.now) ≡ None) }
     ensures text { IfOk result (λ s. string_bytes s ≡ printed (map verification_view forms.now)) }
     // It says these trees, but for places: the first form is number 0.
-    ensures read_back { IfOk result (λ s. Says (string_bytes s) (numbered_from 0 (map verification_view forms.now))) }
+    ensures read_back { IfOk result (λ s. ReadsBackVerification (string_bytes s) (numbered_from 0 (map verification_view forms.now))) }
     // An error but for memory tells of the first tree that can't be spelled.
-    ensures first { IfErr result (λ e. Tells e (first_unspelled (map verification_view forms.now))) }
+    ensures first { IfErr result (λ e. TellsUnspellableSpec e (first_unspelled (map verification_view forms.now))) }
 {
     match first_unspelled(forms) {
         Some(place) => Err(PrintFault::Unspellable(place)),

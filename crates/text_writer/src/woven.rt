@@ -4,9 +4,9 @@ ghost use Rattle.std.specs.Prelude.{◌≡◌, IfErr, IfOk, map, Ok, OnOk, strin
 ghost use Rattle.core_syntax.specs.SyntaxViews.{definition_view, definition_views, position};
 ghost use Rattle.text_reader.specs.SpecViews.{numbered_view, verification_view};
 ghost use Rattle.text_writer.specs.SpecFaults.{IsTrouble};
-ghost use Rattle.text_writer.specs.Saying.{Says};
+ghost use Rattle.text_writer.specs.Saying.{ReadsBackVerification};
 ghost use Rattle.text_writer.specs.Woven.{added, defined_item, item_at, left_behind, said_item, tree_item, woven};
-ghost use Rattle.text_writer.specs.ReadsBack.{ReadsBack};
+ghost use Rattle.text_writer.specs.ReadsBack.{ReadsBackAs};
 
 use crate::definitions::{can_be_spelled as definition_can_be_spelled, push_definition};
 use crate::spec_faults::PrintFault;
@@ -30,8 +30,8 @@ pub fn print_all(
 ) -> Result<String, PrintFault>
     ensures text { IfOk result (λ s. woven 0 (definition_views defs.now) (map numbered_view forms.now) ≡ Ok (string_bytes s)) }
     // A reader of definitions reads these, and one for a verifier these trees, but for places.
-    ensures defined { IfOk result (λ s. ReadsBack (string_bytes s) (definition_views defs.now)) }
-    ensures said { IfOk result (λ s. Says (string_bytes s) (map numbered_view forms.now)) }
+    ensures defined { IfOk result (λ s. ReadsBackAs (string_bytes s) (definition_views defs.now)) }
+    ensures said { IfOk result (λ s. ReadsBackVerification (string_bytes s) (map numbered_view forms.now)) }
     ensures trouble { IfErr result (λ e. IsTrouble e (woven 0 (definition_views defs.now) (map numbered_view forms.now))) }
 {
     woven_text(alloc, defs, forms)

@@ -15,7 +15,7 @@ use Rattle.laws_sites.proofs.built.WellBuiltSets.{in_from_all}
 use Rattle.laws_trees.specs.WholeDemands.{AsksWhatFollows}
 use Rattle.laws_specs.specs.Words.{Denoted, DenotedList}
 use Rattle.laws_specs.specs.Specs.{Specs, IsRequired, IsProvided}
-use Rattle.laws_specs.specs.Conditions.{Told, told, Valuation, IsMetAs, are_of_types, IsAnsweredAsSaid, IsTypedAs, is_impure_call, call_of, Condition, condition, IsAssumed, AreMade, IsShown, IsValid}
+use Rattle.laws_specs.specs.Conditions.{ToldContent, told, Valuation, IsMetAs, are_of_types, IsAnsweredAsSaid, IsTypedAs, is_impure_call, call_of, Condition, condition, IsAssumed, AreMade, IsShown, IsValid}
 use Rattle.laws_specs.specs.SetConditions.{pairs_of, set_condition, IsNoneAboveInSet, IsValidBelowInSet}
 use Rattle.laws_specs.proofs.sets.CompletedSites.{completed, stays, each_more, completed_held, completed_formed, calls_stay, picks_stay, nothing_completed}
 use Rattle.laws_specs.proofs.sets.CallsMade.{CallsAre, IsMadeBy, AreMadeBelow, rule_makes_calls}
@@ -73,7 +73,7 @@ module _ (p : Program) (specs : Specs) (c : Condition) (args : DenotedList) (f :
   pub pick_answered : (s : SiteTerm) → CallsAre Made s → is_impure_call s ≡ false → IsAnsweredAsSaid specs g s (pick_of s)
   pick_answered s h e = picks_stay specs args f a.held s (picked s h e)
 
-  pub call_typed : (s : SiteTerm) (h : Told) → CallsAre Made s → is_impure_call s ≡ false → g s ≡ Some h → IsTypedAs p specs s h
+  pub call_typed : (s : SiteTerm) (h : ToldContent) → CallsAre Made s → is_impure_call s ≡ false → g s ≡ Some h → IsTypedAs p specs s h
   call_typed (extractor_call t u) h m e q = a.typed (extractor_call t u) h (there (extractor_call t u) m.0) e q
   call_typed (constructor_call t ss n) h m e q = a.typed (constructor_call t ss n) h (there (constructor_call t ss n) m.0) e q
   call_typed (bool_term b ty) h m e q = tt
@@ -90,7 +90,7 @@ module _ (p : Program) (specs : Specs) (c : Condition) (args : DenotedList) (f :
   call_typed (tuple_part s i) h m e q = tt
   call_typed no_site h m e q = tt
 
-  pub pick_typed : (s : SiteTerm) (h : Told) → CallsAre Made s → is_impure_call s ≡ false → g (pick_of s) ≡ Some h → IsTypedAs p specs s h
+  pub pick_typed : (s : SiteTerm) (h : ToldContent) → CallsAre Made s → is_impure_call s ≡ false → g (pick_of s) ≡ Some h → IsTypedAs p specs s h
   pick_typed (extractor_call t u) h m e q = a.typed_picks (extractor_call t u) h (there (extractor_call t u) m.0) e q
   pick_typed (constructor_call t ss n) h m e q = a.typed_picks (constructor_call t ss n) h (there (constructor_call t ss n) m.0) e q
   pick_typed (bool_term b ty) h m e q = tt
@@ -108,7 +108,7 @@ module _ (p : Program) (specs : Specs) (c : Condition) (args : DenotedList) (f :
   pick_typed no_site h m e q = tt
 
   -- 2. an impure call that was made was made under the completed valuation too
-  still_typed : (s : SiteTerm) → ((h : Told) → f s ≡ Some h → IsTypedAs p specs s h) → (h : Told) → g s ≡ Some h → IsTypedAs p specs s h
+  still_typed : (s : SiteTerm) → ((h : ToldContent) → f s ≡ Some h → IsTypedAs p specs s h) → (h : ToldContent) → g s ≡ Some h → IsTypedAs p specs s h
   still_typed (extractor_call t u) k h e = k h e
   still_typed (constructor_call t ss n) k h e = k h e
   still_typed (bool_term b ty) k h e = tt
@@ -128,7 +128,7 @@ module _ (p : Program) (specs : Specs) (c : Condition) (args : DenotedList) (f :
   still_there : (u : SiteTerm) → is_some (f u) ≡ true → is_some (g u) ≡ true
   still_there u e = by (f u) refl e
     where
-      by : (o : Option Told) → f u ≡ o → is_some o ≡ true → is_some (g u) ≡ true
+      by : (o : Option ToldContent) → f u ≡ o → is_some o ≡ true → is_some (g u) ≡ true
       by (Some h) q e' = ap is_some (stays specs args f a.held u h q)
       by None q e' = absurd (cc)
 

@@ -9,18 +9,18 @@ use Rattle.model.proofs.Elements.{some_is, none_some}
 use Rattle.model.proofs.Options.{then_some}
 use Rattle.laws_specs.specs.Words.{Denoted, a_truth, an_integer, a_word, variant_of, struct_of, DenotedList, no_denoted, denoted_and, denoted_list, is_formed, are_formed}
 use Rattle.laws_specs.specs.Specs.{Specs}
-use Rattle.laws_specs.specs.Conditions.{Told, told, told_parts, told_nothing, told_just, told_many, Valuation, as_denoted, denoted_at, denoted_at_each, is_of_parts, IsPartHeld, IsHeldAs, IsMetAs, is_told_formed, IsAnsweredAsSaid}
+use Rattle.laws_specs.specs.Conditions.{ToldContent, told, told_parts, told_nothing, told_just, told_many, Valuation, as_denoted, denoted_at, denoted_at_each, is_of_parts, IsPartHeld, IsHeldAs, IsMetAs, is_told_formed, IsAnsweredAsSaid}
 
 -- 1. fields
-abbrev pub part_told : Option Denoted → Option Told
+abbrev pub part_told : Option Denoted → Option ToldContent
 part_told None = None
 part_told (Some x) = Some (told x)
 
-abbrev pub variant_part : ℕ → ℕ → Option Told → Option Told
+abbrev pub variant_part : ℕ → ℕ → Option ToldContent → Option ToldContent
 variant_part variant i (Some (told (variant_of ty v xs))) = if v == variant then part_told (slice_get (denoted_list xs) i) else None
 variant_part variant i _ = None
 
-abbrev pub struct_part : ℕ → Option Told → Option Told
+abbrev pub struct_part : ℕ → Option ToldContent → Option ToldContent
 struct_part i (Some (told (struct_of ty xs))) = part_told (slice_get (denoted_list xs) i)
 struct_part i _ = None
 
@@ -29,20 +29,20 @@ completed f (variant_field s variant i) = variant_part variant i (completed f s)
 completed f (struct_field s i) = struct_part i (completed f s)
 completed f s = f s
 
-part_from : (o : Option Denoted) (h : Told) → part_told o ≡ Some h → (x : Denoted) × (o ≡ Some x) × (h ≡ told x)
+part_from : (o : Option Denoted) (h : ToldContent) → part_told o ≡ Some h → (x : Denoted) × (o ≡ Some x) × (h ≡ told x)
 part_from None h e = absurd (none_some h e)
 part_from (Some x) h e = (x, refl, sym (some_is (told x) h e))
 
-part_held : (xs : DenotedList) (i : ℕ) (h : Told) → part_told (slice_get (denoted_list xs) i) ≡ Some h → IsPartHeld xs i h
+part_held : (xs : DenotedList) (i : ℕ) (h : ToldContent) → part_told (slice_get (denoted_list xs) i) ≡ Some h → IsPartHeld xs i h
 part_held xs i h e = let a = part_from (slice_get (denoted_list xs) i) h e in record { part = a.0; there = a.1; held = a.2 }
 
-part_there : (xs : DenotedList) (i : ℕ) (h : Told) → IsPartHeld xs i h → part_told (slice_get (denoted_list xs) i) ≡ Some h
+part_there : (xs : DenotedList) (i : ℕ) (h : ToldContent) → IsPartHeld xs i h → part_told (slice_get (denoted_list xs) i) ≡ Some h
 part_there xs i h a = ap part_told a.there ∙ ap Some (sym a.held)
 
 pub variant_there : (ty variant : ℕ) (xs : DenotedList) (i : ℕ) → variant_part variant i (Some (told (variant_of ty variant xs))) ≡ part_told (slice_get (denoted_list xs) i)
 variant_there ty variant xs i = cond-true (variant == variant) (part_told (slice_get (denoted_list xs) i)) None (eq-eqb variant variant refl)
 
-variant_back : (variant i : ℕ) (o : Option Told) (h : Told) → variant_part variant i o ≡ Some h → (ty : ℕ) × (xs : DenotedList) × (o ≡ Some (told (variant_of ty variant xs))) × IsPartHeld xs i h
+variant_back : (variant i : ℕ) (o : Option ToldContent) (h : ToldContent) → variant_part variant i o ≡ Some h → (ty : ℕ) × (xs : DenotedList) × (o ≡ Some (told (variant_of ty variant xs))) × IsPartHeld xs i h
 variant_back variant i (Some (told (variant_of ty v xs))) h e = by (v == variant) refl e
   where
     by : (b : Bool) → (v == variant) ≡ b → cond b (part_told (slice_get (denoted_list xs) i)) None ≡ Some h
@@ -59,7 +59,7 @@ variant_back variant i (Some told_nothing) h e = absurd (none_some h e)
 variant_back variant i (Some (told_just g)) h e = absurd (none_some h e)
 variant_back variant i (Some told_many) h e = absurd (none_some h e)
 
-struct_back : (i : ℕ) (o : Option Told) (h : Told) → struct_part i o ≡ Some h → (ty : ℕ) × (xs : DenotedList) × (o ≡ Some (told (struct_of ty xs))) × IsPartHeld xs i h
+struct_back : (i : ℕ) (o : Option ToldContent) (h : ToldContent) → struct_part i o ≡ Some h → (ty : ℕ) × (xs : DenotedList) × (o ≡ Some (told (struct_of ty xs))) × IsPartHeld xs i h
 struct_back i (Some (told (struct_of ty xs))) h e = (ty, xs, refl, part_held xs i h e)
 struct_back i None h e = absurd (none_some h e)
 struct_back i (Some (told (a_truth b))) h e = absurd (none_some h e)
@@ -72,7 +72,7 @@ struct_back i (Some (told_just g)) h e = absurd (none_some h e)
 struct_back i (Some told_many) h e = absurd (none_some h e)
 
 -- 2. where more is there, what was there is as it was
-module _ (f g : Valuation) (more : (s : SiteTerm) (h : Told) → f s ≡ Some h → g s ≡ Some h) where
+module _ (f g : Valuation) (more : (s : SiteTerm) (h : ToldContent) → f s ≡ Some h → g s ≡ Some h) where
   denoted_more : (s : SiteTerm) (x : Denoted) → denoted_at f s ≡ Some x → denoted_at g s ≡ Some x
   denoted_more s x e = let a = then_some (f s) as_denoted x e in ap (λ o. then_option o as_denoted) (more s a.0 a.1) ∙ a.2
 
@@ -93,7 +93,7 @@ module _ (f g : Valuation) (more : (s : SiteTerm) (h : Told) → f s ≡ Some h 
   met_more specs s (is_prim name) h = λ x e. more s (told x) (h x e)
   met_more specs s is_present h = (h.0, more s (told_just h.0) h.1)
 
-  held_more : (specs : Specs) (args : DenotedList) (s : SiteTerm) (h : Told) → IsHeldAs specs args f s h → IsHeldAs specs args g s h
+  held_more : (specs : Specs) (args : DenotedList) (s : SiteTerm) (h : ToldContent) → IsHeldAs specs args f s h → IsHeldAs specs args g s h
   held_more specs args (bool_term b ty) h a = a
   held_more specs args (int_term z ty) h a = a
   held_more specs args (prim_term name) h a = a
@@ -116,9 +116,9 @@ part_formed no_denoted i x h e = absurd (none_some x e)
 part_formed (denoted_and y xs) zero x h e = ap is_formed (sym (some_is y x e)) ∙ (and_parts (is_formed y) (are_formed xs) h).0
 part_formed (denoted_and y xs) (suc i) x h e = part_formed xs i x (and_parts (is_formed y) (are_formed xs) h).1 e
 
-module _ (specs : Specs) (args : DenotedList) (f : Valuation) (held : (s : SiteTerm) (h : Told) → f s ≡ Some h → IsHeldAs specs args f s h) where
+module _ (specs : Specs) (args : DenotedList) (f : Valuation) (held : (s : SiteTerm) (h : ToldContent) → f s ≡ Some h → IsHeldAs specs args f s h) where
   -- what was there stays
-  pub stays : (s : SiteTerm) (h : Told) → f s ≡ Some h → completed f s ≡ Some h
+  pub stays : (s : SiteTerm) (h : ToldContent) → f s ≡ Some h → completed f s ≡ Some h
   stays (variant_field s variant i) h e =
       let a = held (variant_field s variant i) h e in
       ap (variant_part variant i) (stays s (told (variant_of a.0 variant a.1)) a.2) ∙ variant_there a.0 variant a.1 i ∙ part_there a.1 i h a.3
@@ -139,10 +139,10 @@ module _ (specs : Specs) (args : DenotedList) (f : Valuation) (held : (s : SiteT
   stays (tuple_part s i) h e = e
   stays no_site h e = e
 
-  kept : (s : SiteTerm) (h : Told) → f s ≡ Some h → IsHeldAs specs args (completed f) s h
+  kept : (s : SiteTerm) (h : ToldContent) → f s ≡ Some h → IsHeldAs specs args (completed f) s h
   kept s h e = held_more f (completed f) stays specs args s h (held s h e)
 
-  pub completed_held : (s : SiteTerm) (h : Told) → completed f s ≡ Some h → IsHeldAs specs args (completed f) s h
+  pub completed_held : (s : SiteTerm) (h : ToldContent) → completed f s ≡ Some h → IsHeldAs specs args (completed f) s h
   completed_held (variant_field s variant i) h e = variant_back variant i (completed f s) h e
   completed_held (struct_field s i) h e = struct_back i (completed f s) h e
   completed_held (bool_term b ty) h e = kept (bool_term b ty) h e
@@ -159,11 +159,11 @@ module _ (specs : Specs) (args : DenotedList) (f : Valuation) (held : (s : SiteT
   completed_held (tuple_part s i) h e = kept (tuple_part s i) h e
   completed_held no_site h e = kept no_site h e
 
-  module _ (formed : (s : SiteTerm) (h : Told) → f s ≡ Some h → IsTrue (is_told_formed h)) where
-    part_is_formed : (xs : DenotedList) (i : ℕ) (h : Told) → are_formed xs ≡ true → IsPartHeld xs i h → is_told_formed h ≡ true
+  module _ (formed : (s : SiteTerm) (h : ToldContent) → f s ≡ Some h → IsTrue (is_told_formed h)) where
+    part_is_formed : (xs : DenotedList) (i : ℕ) (h : ToldContent) → are_formed xs ≡ true → IsPartHeld xs i h → is_told_formed h ≡ true
     part_is_formed xs i h q a = ap is_told_formed a.held ∙ part_formed xs i a.part q a.there
 
-    pub completed_formed : (s : SiteTerm) (h : Told) → completed f s ≡ Some h → is_told_formed h ≡ true
+    pub completed_formed : (s : SiteTerm) (h : ToldContent) → completed f s ≡ Some h → is_told_formed h ≡ true
     completed_formed (variant_field s variant i) h e =
         let a = variant_back variant i (completed f s) h e in part_is_formed a.1 i h (completed_formed s (told (variant_of a.0 variant a.1)) a.2) a.3
     completed_formed (struct_field s i) h e =
@@ -232,12 +232,12 @@ module _ (specs : Specs) (args : DenotedList) (f : Valuation) (held : (s : SiteT
   picks_stay no_site said = tt
 
   -- 5. where parts are there that their sites have, nothing is added
-  same_option : (o u : Option Told) → ((h : Told) → o ≡ Some h → u ≡ Some h) → ((h : Told) → u ≡ Some h → o ≡ Some h) → o ≡ u
+  same_option : (o u : Option ToldContent) → ((h : ToldContent) → o ≡ Some h → u ≡ Some h) → ((h : ToldContent) → u ≡ Some h → o ≡ Some h) → o ≡ u
   same_option None None to from = refl
   same_option (Some h) u to from = sym (to h refl)
   same_option None (Some h) to from = from h refl
 
-  module _ (there : (s : SiteTerm) (h : Told) → is_of_parts s ≡ true → IsHeldAs specs args f s h → f s ≡ Some h) where
+  module _ (there : (s : SiteTerm) (h : ToldContent) → is_of_parts s ≡ true → IsHeldAs specs args f s h → f s ≡ Some h) where
     nothing_added : (s : SiteTerm) → completed f s ≡ f s
     nothing_added (variant_field s variant i) =
         same_option (completed f (variant_field s variant i)) (f (variant_field s variant i))

@@ -14,7 +14,7 @@ use Rattle.laws_sites.proofs.Patterns.{by_field}
 use Rattle.laws_sites.proofs.Rules.{formed_rules_demand_gates_lem}
 use Rattle.laws_specs.specs.Words.{Denoted, variant_of, struct_of, DenotedList, denoted_list}
 use Rattle.laws_specs.specs.Specs.{Specs}
-use Rattle.laws_specs.specs.Conditions.{Told, told, Valuation, IsMetAs, condition, IsAssumed}
+use Rattle.laws_specs.specs.Conditions.{ToldContent, told, Valuation, IsMetAs, condition, IsAssumed}
 use Rattle.laws_specs.proofs.sets.CompletedSites.{part_told, variant_part, struct_part, completed, variant_there, stays, met_more}
 use Rattle.laws_specs.proofs.sets.CallsMade.{CallsAre, IsMadeBy, AreMadeBelow, MakesCalls, rule_makes_calls, calls_pure}
 use Rattle.laws_specs.proofs.sets.ShapedSites.{Assuming, IsKnown, AreAsked, rule_asked, variant_fields_there, struct_fields_there}
@@ -109,7 +109,7 @@ module _ (p : Program) (r : TypedRule) (specs : Specs) (args : DenotedList) (f :
   asked : AreAsked k d
   asked = rule_asked k r typed.formed refl
 
-  more : (s : SiteTerm) (h : Told) → f s ≡ Some h → g s ≡ Some h
+  more : (s : SiteTerm) (h : ToldContent) → f s ≡ Some h → g s ≡ Some h
   more s h e = stays specs args f a.held s h e
 
   known : (s : SiteTerm) (c : Constraint) → Contains d.constraints (s, c) → CallsAre (IsKnown k) s

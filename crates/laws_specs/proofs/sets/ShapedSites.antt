@@ -22,12 +22,12 @@ use Rattle.laws_sites.proofs.WithTypes.{Facts, AtEachTyped, ValuesAtEach, IsGive
 use Rattle.laws_trees.proofs.Shapes.{literal_without_parts}
 use Rattle.laws_specs.specs.Words.{Denoted, a_truth, variant_of, struct_of, DenotedList, no_denoted, denoted_and, denoted_list}
 use Rattle.laws_specs.specs.Specs.{Specs}
-use Rattle.laws_specs.specs.Conditions.{Told, told, told_parts, told_nothing, told_just, told_many, Valuation, as_denoted, denoted_at, denoted_at_each, told_outputs, answered_as, IsPartHeld, are_of_entries, Condition, is_impure_call, IsAssumed}
+use Rattle.laws_specs.specs.Conditions.{ToldContent, told, told_parts, told_nothing, told_just, told_many, Valuation, as_denoted, denoted_at, denoted_at_each, told_outputs, answered_as, IsPartHeld, are_of_entries, Condition, is_impure_call, IsAssumed}
 use Rattle.laws_specs.proofs.Valuations.{told_same}
 use Rattle.laws_specs.proofs.sets.CallsMade.{CallsAre, AllCallsAre}
 use Rattle.laws_specs.proofs.sets.Shapes.{is_shaped, are_shaped, plain_shaped, of_type_shaped, of_types_shaped, variant_fields, struct_fields, field_shaped, as_many_fields}
 
-outputs_answered : (h : Told) (xs : DenotedList) → told_outputs h ≡ Some xs → answered_as h ≡ Some xs
+outputs_answered : (h : ToldContent) (xs : DenotedList) → told_outputs h ≡ Some xs → answered_as h ≡ Some xs
 outputs_answered (told x) xs e = e
 outputs_answered (told_parts ys) xs e = e
 outputs_answered told_nothing xs e = e
@@ -107,7 +107,7 @@ module _ (k : Assuming) where
 
   -- 2. outputs of a call
   abbrev GivesOutputs : SiteTerm → List ℕ → Type 0
-  GivesOutputs s tys = CallsAre IsKnown s → (h : Told) (xs : DenotedList) → f s ≡ Some h → told_outputs h ≡ Some xs → are_shaped p.types (Some tys) xs ≡ true
+  GivesOutputs s tys = CallsAre IsKnown s → (h : ToldContent) (xs : DenotedList) → f s ≡ Some h → told_outputs h ≡ Some xs → are_shaped p.types (Some tys) xs ≡ true
 
   extracted_outputs : (t : ℕ) (u : SiteTerm) → GivesOutputs (extractor_call t u) (term_args (slice_get p.terms t))
   extracted_outputs t u calls h xs e q =
@@ -182,7 +182,7 @@ module _ (k : Assuming) where
       subst (λ ys. are_shaped p.types (Some (ty ∷ tys)) ys ≡ true) (some_is (denoted_and b.0 c.0) xs c.2)
       (and_from (is_shaped p.types ty b.0) (are_shaped p.types (Some tys) c.0) (h.0 calls.0 b.0 (d.1 ∙ ap Some (is_told d.0 b.0 d.2))) (values_shaped ss tys c.0 h.1 calls.1 c.1))
     where
-      is_told : (g : Told) (x : Denoted) → as_denoted g ≡ Some x → g ≡ told x
+      is_told : (g : ToldContent) (x : Denoted) → as_denoted g ≡ Some x → g ≡ told x
       is_told (told y) x e = ap told (some_is y x e)
       is_told (told_parts ys) x e = absurd (cc)
       is_told told_nothing x e = absurd (cc)

@@ -1,7 +1,7 @@
 use Rattle.std.proofs.Common.{◌≡◌, ap, subst, sym, ◌∙◌, length, take, arith}
 use Rattle.std.specs.Prelude.{string_bytes}
 use Rattle.std.proofs.lemmas.List.{take_all}
-use Rattle.rust_items.specs.Claims.{AreApart}
+use Rattle.rust_items.specs.Claims.{AreWrittenApart}
 use Rattle.rust_items.specs.ClaimViews.{claim_view, claim_views, owner_in}
 use Rattle.rust_items.proofs.HeldNames.{IsHeld, held_more, apart_held, first_clash}
 use Rattle.rust_items.proofs.Turns.{taken_more, parted, err_is, tells_more}
@@ -28,4 +28,4 @@ loop-claim-preserved c =
 pub returns-clause-apart : goal.returns-clause-apart
 returns-clause-apart c =
     let xs = c.args.claims.now in
-    subst AreApart (ap claim_views (take_all c.loop-claim.claim-index xs (omega (arith, c.loop-claim-test.false)))) (apart_held _ _ c.loop-claim.invariant)
+    subst AreWrittenApart (ap claim_views (take_all c.loop-claim.claim-index xs (omega (arith, c.loop-claim-test.false)))) (apart_held _ _ c.loop-claim.invariant)

@@ -8,4 +8,4 @@ use Rattle.rust_text.proofs.added.add_words.Given as goal
 
 abbrev pub invariant-loop-word : goal.invariant-loop-word
 invariant-loop-word l =
-    (p : Notation) (rest : List P.Piece) → ahead p l.out.items (put_all (map word_view (drop l.word-index l.words)) rest) ≡ ahead p l.fn.out.items (put_all (map word_view l.words) rest)
+    (p : Notation) (rest : List P.CodePiece) → ahead p l.out.items (put_all (map word_view (drop l.word-index l.words)) rest) ≡ ahead p l.fn.out.items (put_all (map word_view l.words) rest)

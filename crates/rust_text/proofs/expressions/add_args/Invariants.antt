@@ -8,4 +8,4 @@ use Rattle.rust_text.proofs.expressions.add_args.Given as goal
 
 abbrev pub invariant-loop-used : goal.invariant-loop-used
 invariant-loop-used l =
-    (p : Notation) (rest : List P.Piece) → ahead p l.out.items (args_before p (use_views (drop l.used-index l.args)) rest) ≡ ahead p l.fn.out.items (args_before p (use_views l.args) rest)
+    (p : Notation) (rest : List P.CodePiece) → ahead p l.out.items (args_before p (use_views (drop l.used-index l.args)) rest) ≡ ahead p l.fn.out.items (args_before p (use_views l.args) rest)

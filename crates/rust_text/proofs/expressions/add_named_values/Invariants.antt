@@ -9,5 +9,5 @@ use Rattle.rust_text.proofs.expressions.add_named_values.Given as goal
 
 abbrev pub invariant-loop-index : goal.invariant-loop-index
 invariant-loop-index l =
-    (p : Notation) (rest : List P.Piece) → ahead p l.out.items (named_values p (owner_view l.owner) l.index (use_views (drop l.index l.values)) rest)
+    (p : Notation) (rest : List P.CodePiece) → ahead p l.out.items (named_values p (owner_view l.owner) l.index (use_views (drop l.index l.values)) rest)
     ≡ ahead p l.fn.out.items (named_values p (owner_view l.owner) 0 (use_views l.values) rest)

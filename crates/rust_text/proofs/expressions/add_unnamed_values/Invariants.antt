@@ -8,5 +8,5 @@ use Rattle.rust_text.proofs.expressions.add_unnamed_values.Given as goal
 
 abbrev pub invariant-loop-index : goal.invariant-loop-index
 invariant-loop-index l =
-    (p : Notation) (rest : List P.Piece) → ahead p l.out.items (unnamed_values p l.index (use_views (drop l.index l.values)) rest)
+    (p : Notation) (rest : List P.CodePiece) → ahead p l.out.items (unnamed_values p l.index (use_views (drop l.index l.values)) rest)
     ≡ ahead p l.fn.out.items (unnamed_values p 0 (use_views l.values) rest)

@@ -11,12 +11,12 @@ use Rattle.rust_text.proofs.notation.Writer.+code.Given as goal
 
 abbrev pub invariant-add_statements-loop-statement : goal.invariant-add_statements-loop-statement
 invariant-add_statements-loop-statement l =
-    (p : Notation) → IsNotationOf l.self p → (rest : List P.Piece)
+    (p : Notation) → IsNotationOf l.self p → (rest : List P.CodePiece)
     → ahead p l.out.items (P.block_before p (margin_view l.at) (written p (before (drop l.statement-index l.statements) no_statement)) rest)
     ≡ ahead p l.fn.out.items (P.block_before p (margin_view l.at) (written p (before l.statements no_statement)) rest)
 
 abbrev pub invariant-add_arms-loop-arm : goal.invariant-add_arms-loop-arm
 invariant-add_arms-loop-arm l =
-    (p : Notation) → IsNotationOf l.self p → (rest : List P.Piece)
+    (p : Notation) → IsNotationOf l.self p → (rest : List P.CodePiece)
     → ahead p l.out.items (P.arms_before l.is_alone p (margin_view l.at) (use_view l.value) (written_arms p (arms_before (drop l.arm-index l.arms) no_code_arm)) rest)
     ≡ ahead p l.fn.out.items (P.arms_before l.is_alone p (margin_view l.at) (use_view l.value) (written_arms p (arms_before l.arms no_code_arm)) rest)

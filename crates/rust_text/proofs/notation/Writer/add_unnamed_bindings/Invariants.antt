@@ -9,6 +9,6 @@ use Rattle.rust_text.proofs.notation.Writer.add_unnamed_bindings.Given as goal
 
 abbrev pub invariant-loop-index : goal.invariant-loop-index
 invariant-loop-index l =
-    (p : Notation) → IsNotationOf l.self p → (rest : List P.Piece)
+    (p : Notation) → IsNotationOf l.self p → (rest : List P.CodePiece)
     → ahead p l.out.items (unnamed_bindings p (owner_view l.owner) l.index (drop l.index l.fields) rest)
     ≡ ahead p l.fn.out.items (unnamed_bindings p (owner_view l.owner) 0 l.fields rest)
