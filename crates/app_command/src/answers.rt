@@ -25,10 +25,11 @@ use report_errors::diagnosis::reports_of;
 use report_errors::explanation::{explanation, with_rules};
 use report_errors::stats::stats;
 use report_json::documents::{
-    Document, document_of_reports, document_of_sizes, document_of_terms, document_of_warnings,
+    DocumentPurpose, document_of_reports, document_of_sizes, document_of_terms,
+    document_of_warnings,
 };
 use report_print::layout::push_reports;
-use report_print::print::{Names, print_bindings, print_block};
+use report_print::print::{TreeNames, print_bindings, print_block};
 use report_print::report::Report;
 use report_warnings::kinds::is_one_of;
 use report_warnings::lints::warnings;
@@ -153,12 +154,12 @@ pub(crate) fn refusal(
 }
 
 // What a JSON document is made for.
-fn document_for(task: Task) -> Document {
+fn document_for(task: Task) -> DocumentPurpose {
     match task {
-        Task::Lower => Document::Trees,
-        Task::Stats => Document::Sizes,
+        Task::Lower => DocumentPurpose::Trees,
+        Task::Stats => DocumentPurpose::Sizes,
         // the other tasks have no JSON
-        _ => Document::Check,
+        _ => DocumentPurpose::Check,
     }
 }
 
@@ -515,7 +516,7 @@ fn tree(
 ) -> Result<String, AllocError>
     ensures { IfOk result (λ text. 0 < string_len text) }
 {
-    let names = Names {
+    let names = TreeNames {
         syms: &lowered.tyenv.syms,
         types: &lowered.tyenv.types,
         terms: &lowered.termenv.terms,

@@ -6,7 +6,7 @@ use cranelift_isle::syntax::{Def, Files};
 use report_queries::premises::is_multi;
 use report_traces::answers_file::{ReadAnswers, read_answers};
 use report_traces::calls::{ReadCall, answer_to_call, read_call};
-use report_traces::faults::{Fault, fault_of_call};
+use report_traces::faults::{TraceFault, fault_of_call};
 use report_traces::outcomes::outcome_text;
 use report_traces::replies::Replies;
 use report_traces::runs::Runs;
@@ -24,11 +24,11 @@ pub(crate) enum Told {
 }
 
 // What is told, where memory isn't refused.
-fn told_of(alloc: Global, answer: Result<String, Fault>) -> Result<Told, AllocError> {
+fn told_of(alloc: Global, answer: Result<String, TraceFault>) -> Result<Told, AllocError> {
     match answer {
         Ok(text) => Ok(Told::Text(String::from_str(alloc, text.trim_end())?)),
-        Err(Fault::Text(why)) => Ok(Told::Wrong(why)),
-        Err(Fault::Memory) => Err(AllocError),
+        Err(TraceFault::Text(why)) => Ok(Told::Wrong(why)),
+        Err(TraceFault::Memory) => Err(AllocError),
     }
 }
 
@@ -60,7 +60,7 @@ fn reasons(
     files: &Files,
     defs: &[Def],
     lowered: &Lowered,
-) -> Result<String, Fault> {
+) -> Result<String, TraceFault> {
     let replies = replies_of(alloc, asked, files, lowered)?;
     let call = call_asked(alloc, asked, lowered)?;
     let asking = Asking {
@@ -80,7 +80,7 @@ fn outcome(
     asked: &Request<'_>,
     files: &Files,
     lowered: &Lowered,
-) -> Result<String, Fault> {
+) -> Result<String, TraceFault> {
     let text = call_text(alloc, &asked.call)?;
     if asked.answers.is_none() && !asked.trace {
         return echoed(alloc, lowered, &text);
@@ -102,7 +102,7 @@ fn outcome(
 }
 
 // The outcome of a call where all that it calls is answered as an echo.
-fn echoed(alloc: Global, lowered: &Lowered, text: &str) -> Result<String, Fault> {
+fn echoed(alloc: Global, lowered: &Lowered, text: &str) -> Result<String, TraceFault> {
     match answer_to_call(alloc, lowered, text) {
         Ok(outcome) => Ok(outcome),
         Err(why) => Err(fault_of_call(alloc, why)),
@@ -114,7 +114,7 @@ fn call_asked<'a>(
     alloc: Global,
     asked: &Request<'_>,
     lowered: &'a Lowered,
-) -> Result<ReadCall<'a>, Fault> {
+) -> Result<ReadCall<'a>, TraceFault> {
     let text = call_text(alloc, &asked.call)?;
     match read_call(alloc, lowered, &text) {
         Ok(call) => Ok(call),
@@ -128,14 +128,14 @@ fn replies_of(
     asked: &Request<'_>,
     files: &Files,
     lowered: &Lowered,
-) -> Result<Replies, Fault> {
+) -> Result<Replies, TraceFault> {
     if asked.answers.is_none() {
         return Ok(Replies::Echoes);
     }
     let number = files.texts.len().saturating_sub(1);
     match read_answers(alloc, lowered, files, (number, asked.expand))? {
         ReadAnswers::Lines(lines) => Ok(Replies::Lines(lines)),
-        ReadAnswers::Wrong(why) => Err(Fault::Text(why)),
+        ReadAnswers::Wrong(why) => Err(TraceFault::Text(why)),
     }
 }
 

@@ -7,7 +7,7 @@ use cranelift_isle::serialize::{Block, ControlFlow, EvalStep, MatchArm};
 use cranelift_isle::syntax::{Files, Pos};
 use cranelift_isle::trie_again::{BindingId, Rule};
 use report_errors::demands::{push_head, site_texts, text_at};
-use report_errors::names::Names;
+use report_errors::names::NameTables;
 use report_print::lines::{file_name, file_text, line_at};
 use std::alloc::{AllocError, Global};
 
@@ -23,7 +23,7 @@ pub(crate) fn graph_of(
 ) -> Result<String, AllocError>
     ensures { IfOk result (λ text. 0 < string_len text) }
 {
-    let names = Names {
+    let names = NameTables {
         tyenv: &lowered.tyenv,
         terms: &lowered.termenv.terms,
     };
@@ -43,7 +43,7 @@ pub(crate) fn graph_of(
 struct Drawing<'a> {
     alloc: Global,
     files: &'a Files,
-    names: Names<'a>,
+    names: NameTables<'a>,
     rules: &'a [Rule],
     texts: &'a [String],
 }

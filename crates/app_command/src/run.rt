@@ -9,7 +9,7 @@ use crate::answers::{Answer, answer_to};
 use crate::formatting::run_formatting;
 use crate::help::{HELP, VERSION};
 use crate::inputs::{Unread, read_files};
-use crate::words::{Asked, Request, Task, Unasked, asked_by};
+use crate::words::{Command, Request, Task, Unasked, asked_by};
 use cranelift_isle::syntax::Files;
 use report_queries::answers::{end, no_memory, write_text};
 use report_queries::sample_run::run_sample;
@@ -38,10 +38,10 @@ pub fn run<R: std::rt::Files + Env + AllocGlobal, I: Read + Drop, O: Write, E: W
 {
     let colors = terminal && !has_variable(rt, "NO_COLOR");
     match asked_by(rt.alloc(), words, colors) {
-        Ok(Asked::Help) => write_text(HELP, out, err),
-        Ok(Asked::Version) => write_text(VERSION, out, err),
-        Ok(Asked::Formatting(asked)) => run_formatting(rt, &asked, input, out, err),
-        Ok(Asked::Request(asked)) => run_request(rt, &asked, input, terminal, out, err),
+        Ok(Command::Help) => write_text(HELP, out, err),
+        Ok(Command::Version) => write_text(VERSION, out, err),
+        Ok(Command::Formatting(asked)) => run_formatting(rt, &asked, input, out, err),
+        Ok(Command::Request(asked)) => run_request(rt, &asked, input, terminal, out, err),
         Err(Unasked::Words(why)) => wrong_words(rt.alloc(), &why, err),
         Err(Unasked::Memory) => no_memory(err),
     }

@@ -189,7 +189,7 @@ impl<'a> Drop for Request<'a> {
 
 /// What words ask.
 #[derive(Drop)]
-pub enum Asked<'a> {
+pub enum Command<'a> {
     /// How the command is used.
     Help,
     /// Which program this is.
@@ -296,24 +296,24 @@ pub fn asked_by<'a>(
     alloc: Global,
     words: &'a [String],
     colors: bool,
-) -> Result<Asked<'a>, Unasked> {
+) -> Result<Command<'a>, Unasked> {
     match asked_of_program(words) {
         Some(asked) => Ok(asked),
         None => match words {
             [task, rest @ ..] if task.as_str() == "fmt" => {
-                Ok(Asked::Formatting(formatting_by(alloc, rest)?))
+                Ok(Command::Formatting(formatting_by(alloc, rest)?))
             }
-            _ => Ok(Asked::Request(request_by(Given { alloc, colors }, words)?)),
+            _ => Ok(Command::Request(request_by(Given { alloc, colors }, words)?)),
         },
     }
 }
 
 // What is asked of the program itself. The words behind `--` are a call's.
-fn asked_of_program<'a>(words: &[String]) -> Option<Asked<'a>> {
+fn asked_of_program<'a>(words: &[String]) -> Option<Command<'a>> {
     for word in words {
         match word.as_str() {
-            "--help" | "-h" => return Some(Asked::Help),
-            "--version" => return Some(Asked::Version),
+            "--help" | "-h" => return Some(Command::Help),
+            "--version" => return Some(Command::Version),
             "--" => return None,
             _ => {}
         }

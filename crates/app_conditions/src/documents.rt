@@ -7,7 +7,7 @@ use cranelift_isle::lower::Lowered;
 use cranelift_isle::sema::{RuleId, TermId};
 use cranelift_isle::syntax::{Files, Pos};
 use report_json::documents::{begun, ended};
-use report_json::places::Places;
+use report_json::places::LinePlaces;
 use report_json::writer::Json;
 use report_queries::names::{rule_name, term_name};
 use spec_questions::questions::{Question, Questions, Without};
@@ -24,7 +24,7 @@ pub(crate) fn document_of_questions(
 ) -> Result<String, AllocError>
     ensures { IfOk result (λ text. string_bytes text ≢ []) }
 {
-    let places = Places::new(alloc, files)?;
+    let places = LinePlaces::new(alloc, files)?;
     let writer = Writer {
         lowered,
         places: &places,
@@ -48,7 +48,7 @@ pub(crate) fn document_of_questions(
 #[derive(Clone, Copy)]
 struct Writer<'a> {
     lowered: &'a Lowered,
-    places: &'a Places<'a>,
+    places: &'a LinePlaces<'a>,
 }
 
 impl<'a> Writer<'a> {

@@ -1,19 +1,19 @@
 //! What a text says for a verifier, as JSON: docs/JSON.md says in which form.
 
 use cranelift_isle::syntax::Pos;
-use report_json::places::Places;
+use report_json::places::LinePlaces;
 use report_json::writer::Json;
 use std::alloc::{AllocError, Global};
 use std::slice;
 use text_reader::syntax::VerificationForm;
-use text_writer::spec_faults::PrintFault;
+use text_writer::spec_faults::SpecPrintFault;
 use text_writer::verification::print;
 
 /// Adds each of these at the key `specs`, in order: what it is, its place, and its text.
 pub(crate) fn push_forms(
     alloc: Global,
     json: &mut Json,
-    places: &Places<'_>,
+    places: &LinePlaces<'_>,
     forms: &[VerificationForm],
 ) -> Result<(), AllocError> {
     json.begin_at("specs", '[')?;
@@ -27,7 +27,7 @@ pub(crate) fn push_forms(
 fn push_form(
     alloc: Global,
     json: &mut Json,
-    places: &Places<'_>,
+    places: &LinePlaces<'_>,
     form: &VerificationForm,
 ) -> Result<(), AllocError> {
     let text = text_of(alloc, form)?;
@@ -45,8 +45,8 @@ fn push_form(
 fn text_of(alloc: Global, form: &VerificationForm) -> Result<Option<String>, AllocError> {
     match print(alloc, slice::from_ref(form)) {
         Ok(text) => Ok(Some(text)),
-        Err(PrintFault::Memory(error)) => Err(error),
-        Err(PrintFault::Unspellable(_) | PrintFault::Unmatched(_)) => Ok(None),
+        Err(SpecPrintFault::Memory(error)) => Err(error),
+        Err(SpecPrintFault::Unspellable(_) | SpecPrintFault::Unmatched(_)) => Ok(None),
     }
 }
 

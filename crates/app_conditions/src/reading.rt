@@ -1,6 +1,6 @@
 //! What files have to say: definitions, what is said for a verifier, or what is wrong with their texts.
 
-use crate::words::Conditions;
+use crate::words::ConditionsRequest;
 use app_command::inputs::{Unread, file_text, standard_text};
 use cranelift_isle::syntax::{Def, Files};
 use report_errors::syntax_report;
@@ -23,7 +23,7 @@ pub(crate) struct Texts {
 /// The names and texts of the files that are asked for, and what a solver said. `-` is `input`, by the name `<stdin>`.
 pub(crate) fn texts_of<R: std::rt::Files + AllocGlobal, I: Read + Drop>(
     rt: &R,
-    asked: &Conditions<'_>,
+    asked: &ConditionsRequest<'_>,
     input: I,
 ) -> Result<Texts, Unread> {
     let standard = standard_text(rt.alloc(), wants_standard(asked), input)?;
@@ -33,14 +33,14 @@ pub(crate) fn texts_of<R: std::rt::Files + AllocGlobal, I: Read + Drop>(
 }
 
 // Whether standard input is asked for.
-fn wants_standard(asked: &Conditions<'_>) -> bool {
+fn wants_standard(asked: &ConditionsRequest<'_>) -> bool {
     asked.answers == Some("-") || asked.files.iter().any(|name| *name == "-")
 }
 
 // What a solver said, where that is asked for.
 fn answer_of<R: std::rt::Files + AllocGlobal>(
     rt: &R,
-    asked: &Conditions<'_>,
+    asked: &ConditionsRequest<'_>,
     standard: &str,
 ) -> Result<Option<String>, Unread> {
     match asked.answers {
@@ -52,7 +52,7 @@ fn answer_of<R: std::rt::Files + AllocGlobal>(
 // The names and texts of the files that are asked for.
 fn files_of<R: std::rt::Files + AllocGlobal>(
     rt: &R,
-    asked: &Conditions<'_>,
+    asked: &ConditionsRequest<'_>,
     standard: &str,
 ) -> Result<Files, Unread> {
     let alloc = rt.alloc();

@@ -7,7 +7,7 @@ use crate::documents::document_of_questions;
 use crate::help::HELP;
 use crate::reading::{Said, Texts, said_in, texts_of};
 use crate::told::{Teller, Told, text_for_solver};
-use crate::words::{Conditions, ask_for_help, conditions_by};
+use crate::words::{ConditionsRequest, ask_for_help, conditions_by};
 use app_command::run::cannot_read;
 use app_command::words::Unasked;
 use cranelift_isle::lower::{Lowered, lower};
@@ -60,7 +60,7 @@ fn wrong_words<E: Write>(alloc: Global, why: &str, err: &mut E) -> u8
 // Writes the questions about the rules of files, or what an answer says of one.
 fn run_conditions<R: std::rt::Files + AllocGlobal, I: Read + Drop, O: Write, E: Write>(
     rt: &R,
-    asked: &Conditions<'_>,
+    asked: &ConditionsRequest<'_>,
     input: I,
     out: &mut O,
     err: &mut E,
@@ -88,7 +88,7 @@ enum Made {
 // Writes what comes of files.
 fn answer<O: Write, E: Write>(
     alloc: Global,
-    asked: &Conditions<'_>,
+    asked: &ConditionsRequest<'_>,
     texts: &Texts,
     out: &mut O,
     err: &mut E,
@@ -115,7 +115,11 @@ fn write_unshown<O: Write, E: Write>(text: &str, out: &mut O, err: &mut E) -> u8
 }
 
 // What comes of files.
-fn made_of(alloc: Global, asked: &Conditions<'_>, texts: &Texts) -> Result<Made, AllocError> {
+fn made_of(
+    alloc: Global,
+    asked: &ConditionsRequest<'_>,
+    texts: &Texts,
+) -> Result<Made, AllocError> {
     let files = &texts.files;
     let said = said_in(alloc, files)?;
     if !said.reports.is_empty() {
@@ -149,7 +153,7 @@ fn text_of(alloc: Global, files: &Files, reports: &[Report]) -> Result<String, A
 // What is made of accepted definitions, for the rules that are asked about.
 fn asked_of(
     alloc: Global,
-    asked: &Conditions<'_>,
+    asked: &ConditionsRequest<'_>,
     texts: &Texts,
     said: &Said,
     lowered: &Lowered,
@@ -198,7 +202,7 @@ fn places_called(
 // What is made of the questions that are wanted, or what is wrong with the specs.
 fn made_for(
     alloc: Global,
-    asked: &Conditions<'_>,
+    asked: &ConditionsRequest<'_>,
     texts: &Texts,
     forms: &[VerificationForm],
     lowered: &Lowered,
@@ -217,7 +221,7 @@ fn made_for(
 // What is made of questions: their document, or what is asked about a single one.
 fn made_with(
     alloc: Global,
-    asked: &Conditions<'_>,
+    asked: &ConditionsRequest<'_>,
     texts: &Texts,
     forms: &[VerificationForm],
     lowered: &Lowered,

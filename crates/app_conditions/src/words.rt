@@ -8,7 +8,7 @@ use std::alloc::{AllocError, Global};
 
 /// The form that questions are written in.
 #[derive(Clone, Copy, PartialEq, Eq)]
-pub enum Format {
+pub enum QuestionFormat {
     /// All that are asked about, as one JSON object: docs/JSON.md.
     Json,
     /// The only one that is asked about, as a text for a solver.
@@ -16,7 +16,7 @@ pub enum Format {
 }
 
 /// What `conditions` is asked.
-pub struct Conditions<'a> {
+pub struct ConditionsRequest<'a> {
     /// Where files are looked for whose names don't begin with `/`; the empty text for where the command runs.
     pub folder: &'a str,
     /// Whether rules are asked about where no rule of greater priority matches.
@@ -24,7 +24,7 @@ pub struct Conditions<'a> {
     /// What the rules are called that are asked about, as by `explain`; all where nothing is said.
     pub rule: Option<&'a str>,
     /// The form that questions are written in, where it is said.
-    pub format: Option<Format>,
+    pub format: Option<QuestionFormat>,
     /// The file with what a solver said of the only question that is asked about, or `-`; questions are written where there is
     /// none.
     pub answers: Option<&'a str>,
@@ -32,7 +32,7 @@ pub struct Conditions<'a> {
     pub files: Vec<&'a str>,
 }
 
-impl<'a> Drop for Conditions<'a> {
+impl<'a> Drop for ConditionsRequest<'a> {
     fn drop(self) {
         let Self {
             folder: _,
@@ -69,11 +69,14 @@ pub fn ask_for_help(words: &[String]) -> bool {
 /// # Errors
 ///
 /// What is wrong with the words, or that memory was refused.
-pub fn conditions_by<'a>(alloc: Global, words: &'a [String]) -> Result<Conditions<'a>, Unasked>
+pub fn conditions_by<'a>(
+    alloc: Global,
+    words: &'a [String],
+) -> Result<ConditionsRequest<'a>, Unasked>
     ensures files { IfOk result (λ asked. asked.files.items ≢ []) }
     ensures one { IfOk result (λ asked. IsOfOne asked → IsSome asked.rule) }
 {
-    let mut asked = Conditions {
+    let mut asked = ConditionsRequest {
         folder: "",
         above: false,
         rule: None,
@@ -100,15 +103,15 @@ fn wrong(why: Result<String, AllocError>) -> Unasked {
 }
 
 // The form of a word.
-fn format_of(alloc: Global, word: &str) -> Result<Format, Unasked> {
+fn format_of(alloc: Global, word: &str) -> Result<QuestionFormat, Unasked> {
     match word {
-        "json" => Ok(Format::Json),
-        "smt" => Ok(Format::Smt),
+        "json" => Ok(QuestionFormat::Json),
+        "smt" => Ok(QuestionFormat::Smt),
         _ => Err(wrong(format!(in alloc; "conditions has no format '{word}', but json and smt"))),
     }
 }
 
-impl<'a> Conditions<'a> {
+impl<'a> ConditionsRequest<'a> {
     // What is missing behind the last word, where something is.
     fn missing(&self, awaited: Awaited) -> Option<&'static str>
         ensures files { result ≡ None → self.now.files.items ≢ [] }
@@ -144,7 +147,7 @@ impl<'a> Conditions<'a> {
     pub fn is_of_one(&self) -> bool
         ensures { IsTrue result ↔ IsOfOne self.now }
     {
-        self.answers.is_some() || self.format == Some(Format::Smt)
+        self.answers.is_some() || self.format == Some(QuestionFormat::Smt)
     }
 
     // Reads a word, and answers what is awaited then.

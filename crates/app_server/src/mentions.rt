@@ -8,7 +8,7 @@ use std::alloc::{AllocError, Global};
 
 /// What a name stands for.
 #[derive(Clone, Copy, Debug, PartialEq, Eq)]
-pub enum Kind {
+pub enum MentionKind {
     Type,
     /// A term, or a variant or a struct that is used as one.
     Term,
@@ -26,7 +26,7 @@ pub struct Mention<'a> {
     /// The name.
     pub name: &'a Ident,
     /// What it stands for.
-    pub kind: Kind,
+    pub kind: MentionKind,
     /// Whether it is defined there.
     pub defines: bool,
     /// Of a variable the name where it is bound, of a variant that of its type; else the name itself.
@@ -76,7 +76,7 @@ impl<'a> Listing<'a> {
     }
 
     // Adds a name.
-    fn add(&mut self, name: &'a Ident, kind: Kind, defines: bool) -> Result<(), AllocError> {
+    fn add(&mut self, name: &'a Ident, kind: MentionKind, defines: bool) -> Result<(), AllocError> {
         self.add_of(name, kind, defines, name)
     }
 
@@ -84,7 +84,7 @@ impl<'a> Listing<'a> {
     fn add_of(
         &mut self,
         name: &'a Ident,
-        kind: Kind,
+        kind: MentionKind,
         defines: bool,
         home: &'a Ident,
     ) -> Result<(), AllocError> {
@@ -104,9 +104,9 @@ impl<'a> Listing<'a> {
             Def::Decl(decl) => self.add_declaration(decl),
             Def::Extractor(extractor) => self.add_extractor(extractor),
             Def::Converter(converter) => {
-                self.add(&converter.inner_ty, Kind::Type, false)?;
-                self.add(&converter.outer_ty, Kind::Type, false)?;
-                self.add(&converter.term, Kind::Term, false)
+                self.add(&converter.inner_ty, MentionKind::Type, false)?;
+                self.add(&converter.outer_ty, MentionKind::Type, false)?;
+                self.add(&converter.term, MentionKind::Term, false)
             }
             Def::Rule(rule) => self.add_rule(rule),
             Def::Extern(external) => self.add_external(external),
@@ -116,7 +116,7 @@ impl<'a> Listing<'a> {
 
     // Adds the names of a type's definition.
     fn add_type(&mut self, ty: &'a Type) -> Result<(), AllocError> {
-        self.add(&ty.name, Kind::Type, true)?;
+        self.add(&ty.name, MentionKind::Type, true)?;
         match &ty.ty {
             TypeValue::Primitive(..) => Ok(()),
             TypeValue::Enum(variants, _) => self.add_variants(&ty.name, variants),
@@ -127,7 +127,7 @@ impl<'a> Listing<'a> {
     // Adds the names of a type's variants.
     fn add_variants(&mut self, ty: &'a Ident, variants: &'a [Variant]) -> Result<(), AllocError> {
         for variant in variants {
-            self.add_of(&variant.name, Kind::Variant, true, ty)?;
+            self.add_of(&variant.name, MentionKind::Variant, true, ty)?;
             self.add_fields(&variant.fields)?;
         }
         Ok(())
@@ -139,14 +139,14 @@ impl<'a> Listing<'a> {
             Fields::Unit => Ok(()),
             Fields::Struct(fields) => {
                 for field in &fields.fields {
-                    self.add(&field.name, Kind::Field, true)?;
-                    self.add(&field.ty, Kind::Type, false)?;
+                    self.add(&field.name, MentionKind::Field, true)?;
+                    self.add(&field.ty, MentionKind::Type, false)?;
                 }
                 Ok(())
             }
             Fields::Tuple(fields) => {
                 for field in &fields.fields {
-                    self.add(&field.ty, Kind::Type, false)?;
+                    self.add(&field.ty, MentionKind::Type, false)?;
                 }
                 Ok(())
             }
@@ -155,16 +155,16 @@ impl<'a> Listing<'a> {
 
     // Adds the names of a declaration.
     fn add_declaration(&mut self, decl: &'a Decl) -> Result<(), AllocError> {
-        self.add(&decl.term, Kind::Term, true)?;
+        self.add(&decl.term, MentionKind::Term, true)?;
         for ty in &decl.arg_tys {
-            self.add(ty, Kind::Type, false)?;
+            self.add(ty, MentionKind::Type, false)?;
         }
-        self.add(&decl.ret_ty, Kind::Type, false)
+        self.add(&decl.ret_ty, MentionKind::Type, false)
     }
 
     // Adds the names of an extractor. Its arguments are variables of its template.
     fn add_extractor(&mut self, extractor: &'a Extractor) -> Result<(), AllocError> {
-        self.add(&extractor.term, Kind::Term, false)?;
+        self.add(&extractor.term, MentionKind::Term, false)?;
         for arg in &extractor.args {
             self.add_binding(arg)?;
         }
@@ -175,11 +175,11 @@ impl<'a> Listing<'a> {
     fn add_external(&mut self, external: &'a Extern) -> Result<(), AllocError> {
         match external {
             Extern::Constructor { term, .. } | Extern::Extractor { term, .. } => {
-                self.add(term, Kind::Term, false)
+                self.add(term, MentionKind::Term, false)
             }
             Extern::Const { name, ty, .. } => {
-                self.add(name, Kind::Constant, true)?;
-                self.add(ty, Kind::Type, false)
+                self.add(name, MentionKind::Constant, true)?;
+                self.add(ty, MentionKind::Type, false)
             }
         }
     }
@@ -187,7 +187,7 @@ impl<'a> Listing<'a> {
     // Adds the names of a rule.
     fn add_rule(&mut self, rule: &'a Rule) -> Result<(), AllocError> {
         if let Some(name) = &rule.name {
-            self.add(name, Kind::Rule, true)?;
+            self.add(name, MentionKind::Rule, true)?;
         }
         self.add_pattern(&rule.pattern)?;
         for iflet in &rule.iflets {
@@ -205,13 +205,13 @@ impl<'a> Listing<'a> {
     // Adds a variable that is bound there, whatever was bound before.
     fn add_binding(&mut self, name: &'a Ident) -> Result<(), AllocError> {
         self.scope.push(name)?;
-        self.add(name, Kind::Variable, true)
+        self.add(name, MentionKind::Variable, true)
     }
 
     // Adds a variable of a pattern: it is bound there, or was bound before.
     fn add_in_pattern(&mut self, name: &'a Ident) -> Result<(), AllocError> {
         match bound_in(&self.scope, name) {
-            Some(home) => self.add_of(name, Kind::Variable, false, home),
+            Some(home) => self.add_of(name, MentionKind::Variable, false, home),
             None => self.add_binding(name),
         }
     }
@@ -219,7 +219,7 @@ impl<'a> Listing<'a> {
     // Adds a variable of an expression.
     fn add_in_expr(&mut self, name: &'a Ident) -> Result<(), AllocError> {
         let home = bound_in(&self.scope, name).unwrap_or(name);
-        self.add_of(name, Kind::Variable, false, home)
+        self.add_of(name, MentionKind::Variable, false, home)
     }
 
     // Adds the names of a pattern.
@@ -231,9 +231,9 @@ impl<'a> Listing<'a> {
                 self.add_in_pattern(var)?;
                 self.add_pattern(subpat)
             }
-            Pattern::ConstPrim { val, .. } => self.add(val, Kind::Constant, false),
+            Pattern::ConstPrim { val, .. } => self.add(val, MentionKind::Constant, false),
             Pattern::Term { sym, args, .. } => {
-                self.add(sym, Kind::Term, false)?;
+                self.add(sym, MentionKind::Term, false)?;
                 self.add_patterns(args)
             }
             Pattern::And { subpats, .. } => self.add_patterns(subpats),
@@ -257,11 +257,11 @@ impl<'a> Listing<'a> {
     fn add_expr(&mut self, expr: &'a Expr) -> Result<(), AllocError> {
         match expr {
             Expr::Term { sym, args, .. } => {
-                self.add(sym, Kind::Term, false)?;
+                self.add(sym, MentionKind::Term, false)?;
                 self.add_exprs(args)
             }
             Expr::Var { name, .. } => self.add_in_expr(name),
-            Expr::ConstPrim { val, .. } => self.add(val, Kind::Constant, false),
+            Expr::ConstPrim { val, .. } => self.add(val, MentionKind::Constant, false),
             Expr::Let { defs, body, .. } => {
                 let count = self.scope.len();
                 self.add_lets(defs)?;
@@ -285,7 +285,7 @@ impl<'a> Listing<'a> {
     #[cycle(exprs)]
     fn add_lets(&mut self, defs: &'a [LetDef]) -> Result<(), AllocError> {
         for def in defs {
-            self.add(&def.ty, Kind::Type, false)?;
+            self.add(&def.ty, MentionKind::Type, false)?;
             self.add_expr(&def.val)?;
             self.add_binding(&def.var)?;
         }

@@ -4,7 +4,7 @@ use crate::refusals::Refusal;
 use serde_json::Value;
 use std::alloc::Global;
 use text_documents::changes::Change;
-use text_documents::places::Place;
+use text_documents::places::DocumentPosition;
 
 /// A message.
 #[derive(Clone, Copy)]
@@ -70,10 +70,10 @@ pub fn document_uri(params: &Value) -> Result<&str, Refusal> {
 }
 
 /// The place that a value is.
-pub fn place_of(value: &Value) -> Result<Place, Refusal> {
+pub fn place_of(value: &Value) -> Result<DocumentPosition, Refusal> {
     let line = count_of(member(value, "line")?)?;
     let character = count_of(member(value, "character")?)?;
-    Ok(Place { line, character })
+    Ok(DocumentPosition { line, character })
 }
 
 // The count that a value is.
@@ -88,7 +88,7 @@ fn count_of(value: &Value) -> Result<usize, Refusal> {
 }
 
 /// The two places that a range is.
-pub fn range_of(value: &Value) -> Result<(Place, Place), Refusal> {
+pub fn range_of(value: &Value) -> Result<(DocumentPosition, DocumentPosition), Refusal> {
     let begin = place_of(member(value, "start")?)?;
     let end = place_of(member(value, "end")?)?;
     Ok((begin, end))

@@ -5,17 +5,17 @@ use cranelift_isle::syntax::{Ident, Pos};
 use report_errors::extents::end_of_form;
 use serde_json::{Value, json};
 use std::alloc::{AllocError, Global};
-use text_documents::places::{Place, place_at};
+use text_documents::places::{DocumentPosition, place_at};
 
 // A place as a value.
-fn place_value(alloc: Global, place: Place) -> Result<Value, AllocError> {
+fn place_value(alloc: Global, place: DocumentPosition) -> Result<Value, AllocError> {
     json!(in alloc; {"line": place.line, "character": place.character})
 }
 
 // The place of an offset. Between `\r` and `\n` that is the end of the line, before both. Where it is no place, this is the beginning of
 // the text.
-fn place_near(text: &str, offset: usize) -> Place {
-    let begin = Place {
+fn place_near(text: &str, offset: usize) -> DocumentPosition {
+    let begin = DocumentPosition {
         line: 0,
         character: 0,
     };

@@ -2,7 +2,7 @@
 
 use crate::analysis::Analysis;
 use crate::edits::{Edit, changes_value};
-use crate::mentions::{Kind, Mention};
+use crate::mentions::{Mention, MentionKind};
 use crate::messages::text_of;
 use crate::ranges::{end_of_name, name_range};
 use crate::references::position_in;
@@ -62,7 +62,9 @@ fn renamed_mention<'a>(
     pos: Pos,
 ) -> Result<Mention<'a>, Refusal> {
     match mention_at(alloc, analysis, pos)? {
-        Some(mention) if matches!(mention.kind, Kind::Variable | Kind::Rule) => Ok(mention),
+        Some(mention) if matches!(mention.kind, MentionKind::Variable | MentionKind::Rule) => Ok(
+            mention,
+        ),
         _ => Err(Refusal::NotRenamed),
     }
 }
@@ -74,7 +76,7 @@ fn is_taken(
     mention: &Mention<'_>,
     name: &str,
 ) -> Result<bool, Refusal> {
-    if mention.kind == Kind::Rule {
+    if mention.kind == MentionKind::Rule {
         return Ok(has_rule(&analysis.defs, name));
     }
     match definition_around(&analysis.defs, mention.name.1) {

@@ -14,7 +14,7 @@ use crate::references::{definition_at, references_at};
 use crate::refusals::Refusal;
 use crate::renaming::{prepared_at, renamed_at};
 use crate::replies::{Unsent, send_answer, send_log, send_refusal};
-use crate::session::{Session, Stage};
+use crate::session::{ServerStage, Session};
 use crate::sources::sources_of;
 use serde_json::Value;
 use std::alloc::{AllocError, Global};
@@ -82,7 +82,7 @@ pub fn serve<R: std::rt::Files + AllocGlobal, I: Read + Drop, O: Write>(
             Err(_) => return UNWRITTEN,
         }
     }
-    if server.session.stage == Stage::Shut {
+    if server.session.stage == ServerStage::Shut {
         SHUT
     } else {
         CUT
@@ -120,7 +120,7 @@ impl Server {
             Frame::Memory => refused(out, NO_ID, Refusal::Memory)?,
             Frame::End => Going::End,
         };
-        if !waits && self.session.stage == Stage::Open {
+        if !waits && self.session.stage == ServerStage::Open {
             self.tell_changes(rt, out)?;
         }
         Ok(going)
@@ -194,7 +194,7 @@ impl Server {
         method: &str,
         params: Option<&Value>,
     ) -> Result<Going, Unwritten> {
-        if self.session.stage != Stage::Open {
+        if self.session.stage != ServerStage::Open {
             return Ok(Going::On);
         }
         if let Err(why) = self.note(method, params) {
@@ -247,15 +247,15 @@ impl Server {
         params: Option<&Value>,
     ) -> Result<Result<Value, Refusal>, Unwritten> {
         match (self.session.stage, method) {
-            (Stage::New, "initialize") => return Ok(self.initialize(params)),
-            (Stage::New, _) => return Ok(Err(Refusal::NotInitialized)),
-            (Stage::Shut, _) => return Ok(Err(Refusal::ShutDown)),
-            (Stage::Open, "initialize") => return Ok(Err(Refusal::InitializedTwice)),
-            (Stage::Open, "shutdown") => {
-                self.session.stage = Stage::Shut;
+            (ServerStage::New, "initialize") => return Ok(self.initialize(params)),
+            (ServerStage::New, _) => return Ok(Err(Refusal::NotInitialized)),
+            (ServerStage::Shut, _) => return Ok(Err(Refusal::ShutDown)),
+            (ServerStage::Open, "initialize") => return Ok(Err(Refusal::InitializedTwice)),
+            (ServerStage::Open, "shutdown") => {
+                self.session.stage = ServerStage::Shut;
                 return Ok(Ok(Value::Null));
             }
-            (Stage::Open, _) => {}
+            (ServerStage::Open, _) => {}
         }
         let Some(question) = question_of(method) else {
             return Ok(Err(Refusal::NoMethod));

@@ -12,7 +12,7 @@ use text_documents::documents::Document;
 
 /// Where server and client are.
 #[derive(Clone, Copy, PartialEq, Eq)]
-pub enum Stage {
+pub enum ServerStage {
     /// Before `initialize`.
     New,
     /// Between `initialize` and `shutdown`.
@@ -24,7 +24,7 @@ pub enum Stage {
 /// What the server knows of its client.
 pub struct Session {
     /// The stage.
-    pub stage: Stage,
+    pub stage: ServerStage,
     /// The client's folder.
     pub workspace: Workspace,
     /// The open documents.
@@ -48,7 +48,7 @@ impl Session {
     /// Nothing is known yet.
     pub fn new(alloc: Global) -> Session {
         Session {
-            stage: Stage::New,
+            stage: ServerStage::New,
             workspace: Workspace {
                 root: String::new(alloc),
                 named: Vec::new(alloc),
@@ -86,7 +86,7 @@ impl Session {
         };
         let answer = capabilities(alloc)?;
         self.workspace = workspace;
-        self.stage = Stage::Open;
+        self.stage = ServerStage::Open;
         Ok(answer)
     }
 

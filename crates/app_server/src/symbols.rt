@@ -1,7 +1,7 @@
 //! What a name at a place means, and which other names mean the same.
 
 use crate::analysis::Analysis;
-use crate::mentions::{Kind, Mention, mentions_in};
+use crate::mentions::{Mention, MentionKind, mentions_in};
 use cranelift_isle::syntax::{Def, Ident, Pos, Type};
 use report_errors::definitions::{declaration_of, definition_around, struct_of, variant_with_type};
 use std::alloc::{AllocError, Global};
@@ -31,16 +31,18 @@ impl<'a> Symbol<'a> {
     /// Whether a name means this.
     pub fn is_meant_by(self, mention: &Mention<'_>) -> bool {
         match self {
-            Symbol::Type(name) => mention.kind == Kind::Type && mention.text() == name,
+            Symbol::Type(name) => mention.kind == MentionKind::Type && mention.text() == name,
             Symbol::Struct(name) => {
-                matches!(mention.kind, Kind::Type | Kind::Term) && mention.text() == name
+                matches!(mention.kind, MentionKind::Type | MentionKind::Term)
+                    && mention.text() == name
             }
-            Symbol::Term(name) => mention.kind == Kind::Term && mention.text() == name,
+            Symbol::Term(name) => mention.kind == MentionKind::Term && mention.text() == name,
             Symbol::Variant(ty, name) => is_variant(mention, ty, name),
-            Symbol::Field(pos) => mention.kind == Kind::Field && mention.name.1 == pos,
-            Symbol::Rule(name) => mention.kind == Kind::Rule && mention.text() == name,
-            Symbol::Variable(pos) => mention.kind == Kind::Variable && mention.home.1 == pos,
-            Symbol::Constant(name) => mention.kind == Kind::Constant && mention.text() == name,
+            Symbol::Field(pos) => mention.kind == MentionKind::Field && mention.name.1 == pos,
+            Symbol::Rule(name) => mention.kind == MentionKind::Rule && mention.text() == name,
+            Symbol::Variable(pos) => mention.kind == MentionKind::Variable && mention.home.1 == pos,
+            Symbol::Constant(name) => mention.kind == MentionKind::Constant
+                && mention.text() == name,
         }
     }
 }
@@ -48,8 +50,8 @@ impl<'a> Symbol<'a> {
 // Whether a name means a variant.
 fn is_variant(mention: &Mention<'_>, ty: &str, name: &str) -> bool {
     match mention.kind {
-        Kind::Variant => mention.text() == name && mention.home.0.as_str() == ty,
-        Kind::Term => short_name(mention.text(), ty) == Some(name),
+        MentionKind::Variant => mention.text() == name && mention.home.0.as_str() == ty,
+        MentionKind::Term => short_name(mention.text(), ty) == Some(name),
         _ => false,
     }
 }
@@ -80,16 +82,16 @@ pub fn mention_at<'a>(
 pub fn symbol_of<'a>(defs: &'a [Def], mention: &Mention<'a>) -> Symbol<'a> {
     let name = mention.text();
     match mention.kind {
-        Kind::Type => match struct_of(defs, name) {
+        MentionKind::Type => match struct_of(defs, name) {
             Some(_) if declaration_of(defs, name).is_none() => Symbol::Struct(name),
             _ => Symbol::Type(name),
         },
-        Kind::Term => term_symbol(defs, name),
-        Kind::Variant => Symbol::Variant(mention.home.0.as_str(), name),
-        Kind::Field => Symbol::Field(mention.name.1),
-        Kind::Rule => Symbol::Rule(name),
-        Kind::Variable => Symbol::Variable(mention.home.1),
-        Kind::Constant => Symbol::Constant(name),
+        MentionKind::Term => term_symbol(defs, name),
+        MentionKind::Variant => Symbol::Variant(mention.home.0.as_str(), name),
+        MentionKind::Field => Symbol::Field(mention.name.1),
+        MentionKind::Rule => Symbol::Rule(name),
+        MentionKind::Variable => Symbol::Variable(mention.home.1),
+        MentionKind::Constant => Symbol::Constant(name),
     }
 }
 
@@ -150,7 +152,7 @@ fn push_names<'a>(
 /// Whether a definition has a variable of a name.
 pub fn has_variable(alloc: Global, def: &Def, name: &str) -> Result<bool, AllocError> {
     for mention in mentions_in(alloc, def)? {
-        if mention.kind == Kind::Variable && mention.text() == name {
+        if mention.kind == MentionKind::Variable && mention.text() == name {
             return Ok(true);
         }
     }

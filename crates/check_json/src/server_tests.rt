@@ -5,13 +5,13 @@ use std::test::Fail;
 use text_documents::changes::Change;
 use text_documents::documents::Document;
 use text_documents::edits::edited;
-use text_documents::places::{Place, offset_at, place_at};
+use text_documents::places::{DocumentPosition, offset_at, place_at};
 
 // A text with `\r\n`, a character of four bytes, a lone `\r`, and a line end at its end.
 const MIXED: &str = "a\r\n\u{1f600}b\rc\n";
 
-fn place((line, character): (usize, usize)) -> Place {
-    Place { line, character }
+fn place((line, character): (usize, usize)) -> DocumentPosition {
+    DocumentPosition { line, character }
 }
 
 #[test]

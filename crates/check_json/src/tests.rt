@@ -2,7 +2,7 @@
 mod forms;
 
 use app_command::answers::answer_to;
-use app_command::words::{Asked, asked_by};
+use app_command::words::{Command, asked_by};
 use cranelift_isle::syntax::Files;
 use forms::{check_document, check_sizes};
 use report_queries::samples::SAMPLES;
@@ -37,7 +37,7 @@ fn one_file(alloc: Global, text: &str) -> Result<Files, AllocError> {
 // What these words are answered to a text, read back. Nothing stands on standard error.
 fn document(rt: &impl Abort, alloc: Global, asked: &str, text: &str) -> Result<Value, Fail> {
     let words = words(alloc, asked)?;
-    let Ok(Asked::Request(request)) = asked_by(alloc, &words, false) else {
+    let Ok(Command::Request(request)) = asked_by(alloc, &words, false) else {
         return Err(Fail::from("wrong words"));
     };
     let files = one_file(alloc, text)?;

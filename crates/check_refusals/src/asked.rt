@@ -14,7 +14,7 @@ use std::collections::HashMap;
 
 /// What the calls are made on.
 #[derive(Drop)]
-pub struct Asked {
+pub struct Fixture {
     alloc: Global,
     set: StableSet<u32>,
     map: StableMap<u32, u32>,
@@ -28,9 +28,9 @@ pub struct Asked {
     site: RuleSet,
 }
 
-impl Asked {
+impl Fixture {
     /// What `ACCEPTED` gives, and containers of one, two and two numbers.
-    pub fn new(alloc: Global) -> Result<Asked, Fault> {
+    pub fn new(alloc: Global) -> Result<Fixture, Fault> {
         let defs = defs_of(alloc, ACCEPTED)?;
         let mut tyenv = TypeEnv::from_ast(alloc, &defs)?;
         let termenv = read_rules(alloc, &mut tyenv, &defs)?;
@@ -39,7 +39,7 @@ impl Asked {
         let map = StableMap::from(HashMap::from_array(alloc, [(7, 1), (8, 2)])?);
         let mut sets = DisjointSets::new(alloc);
         sets.merge(7, 8)?;
-        Ok(Asked {
+        Ok(Fixture {
             alloc,
             set,
             map,
@@ -80,7 +80,7 @@ const TRUE: Binding = Binding::ConstBool {
 };
 
 /// Containers are asked and made, and a number in no set is taken out.
-pub fn containers_answer(asked: &Asked) -> bool {
+pub fn containers_answer(asked: &Fixture) -> bool {
     let (set, map, sets) = (&asked.set, &asked.map, &asked.sets);
     let has = set.contains(&7) && !set.contains(&8) && set.len() == 1;
     let maps = map.get(&7) == Some(&1) && map.contains_key(&8) && map.len() == 2;
@@ -99,7 +99,7 @@ fn new_ones_answer(alloc: Global) -> bool {
 }
 
 /// Names are looked up, and types and terms asked.
-pub fn tables_answer(asked: &Asked) -> bool {
+pub fn tables_answer(asked: &Fixture) -> bool {
     let (tyenv, termenv) = (&asked.tyenv, &asked.termenv);
     let [ty, term, rule, nope] = &asked.names;
     let types = tyenv.intern(ty) == Some(Sym(13))
@@ -148,7 +148,7 @@ fn terms_answer(termenv: &TermEnv) -> bool {
 }
 
 /// Numbers become sites and parts, a site is found, and rules of sets are compared.
-pub fn sites_answer(asked: &Asked) -> bool {
+pub fn sites_answer(asked: &Fixture) -> bool {
     let (rule, other) = (Rule::new(asked.alloc), Rule::new(asked.alloc));
     let site = BindingId::from(0);
     let numbers = BindingId::try_from(65536usize).is_err()
@@ -163,7 +163,7 @@ pub fn sites_answer(asked: &Asked) -> bool {
 }
 
 /// Syntax trees say where they stand, and typed ones their types.
-pub fn trees_answer(asked: &Asked) -> bool {
+pub fn trees_answer(asked: &Fixture) -> bool {
     let rooted = asked.defs.iter().filter(|def| is_rooted(def)).count();
     let typed = asked
         .termenv

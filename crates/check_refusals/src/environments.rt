@@ -30,21 +30,21 @@ pub const REFUSED: &str = "(type T (enum (A (v u8)) (B))) (extern const $K u8)
 
 /// What reading rules comes to where memory is there.
 #[derive(Clone, Copy)]
-pub enum Wanted {
+pub enum ExpectedReading {
     /// So many terms, and so many rules.
     Rules(usize, usize),
     /// One error with this text.
     Error(&'static str),
 }
 
-impl Wanted {
+impl ExpectedReading {
     // Whether it came to this.
     fn is(self, answer: &Result<TermEnv, Fault>) -> bool {
         match (self, answer) {
-            (Wanted::Rules(terms, rules), Ok(env)) => {
+            (ExpectedReading::Rules(terms, rules), Ok(env)) => {
                 env.terms.len() == terms && env.rules.len() == rules
             }
-            (Wanted::Error(text), Err(Fault::Errors(errors))) => is_error(errors, text),
+            (ExpectedReading::Error(text), Err(Fault::Errors(errors))) => is_error(errors, text),
             _ => false,
         }
     }
@@ -60,13 +60,13 @@ fn is_error(errors: &[Error], text: &str) -> bool {
 
 /// Whether a type environment is as its copy after rules were read with it and memory was refused, and reading them again
 /// comes to what is wanted; or reading them came to that at once.
-pub fn rules_stay(alloc: Global, text: &str, wanted: Wanted) -> Result<bool, Fault> {
+pub fn rules_stay(alloc: Global, text: &str, wanted: ExpectedReading) -> Result<bool, Fault> {
     let defs = defs_of(alloc, text)?;
     stays_at_rules(alloc, &defs, wanted)
 }
 
 // The same of definitions.
-fn stays_at_rules(alloc: Global, defs: &[Def], wanted: Wanted) -> Result<bool, Fault> {
+fn stays_at_rules(alloc: Global, defs: &[Def], wanted: ExpectedReading) -> Result<bool, Fault> {
     let mut tyenv = TypeEnv::from_ast(alloc, defs)?;
     let copy = Copied::of(&tyenv)?;
     match read_rules(alloc, &mut tyenv, defs) {

@@ -12,8 +12,8 @@ mod containers;
 mod environments;
 mod visits;
 
-use asked::{Asked, containers_answer, sites_answer, tables_answer, trees_answer};
-use claims::{CLAIMS, Claim};
+use asked::{Fixture, containers_answer, sites_answer, tables_answer, trees_answer};
+use claims::{CLAIMS, RefusalClaim};
 use core_syntax::syntax::Fault;
 use std::alloc::Global;
 use std::io::Write;
@@ -33,15 +33,15 @@ fn main(rt: HostRuntime) -> ExitCode {
 }
 
 // What the calls that take no memory are made on, at the second try where the first one is refused.
-fn prepared(alloc: Global) -> Result<Asked, Fault> {
-    match Asked::new(alloc) {
+fn prepared(alloc: Global) -> Result<Fixture, Fault> {
+    match Fixture::new(alloc) {
         Ok(asked) => Ok(asked),
-        Err(_) => Asked::new(alloc),
+        Err(_) => Fixture::new(alloc),
     }
 }
 
 // Makes the calls that take no memory.
-fn answers<O: Write>(out: &mut O, asked: &Asked) -> bool {
+fn answers<O: Write>(out: &mut O, asked: &Fixture) -> bool {
     let begun = tell(out, "from here on no call takes memory\n", true);
     let containers = tell(out, "containers answer\n", containers_answer(asked));
     let tables = tell(

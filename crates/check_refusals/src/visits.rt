@@ -5,7 +5,7 @@ ghost use Rattle.model.specs.lists.Visitable.{is_visitable_rule};
 ghost use Rattle.core_terms.specs.TermViews.{term_views};
 ghost use Rattle.core_typed.specs.RuleViews.{rule_view};
 
-use check_support::recorder::{Call, Recorder};
+use check_support::recorder::{Recorder, VisitorCall};
 use core_rules::TermEnv;
 use core_syntax::stablemapset::StableMap;
 use core_syntax::syntax::Pos;
@@ -50,7 +50,7 @@ pub fn visits_begin(alloc: Global) -> Result<bool, AllocError> {
 }
 
 // Whether calls are a beginning of the eight.
-fn begin(alloc: Global, calls: &[Call]) -> Result<bool, AllocError> {
+fn begin(alloc: Global, calls: &[VisitorCall]) -> Result<bool, AllocError> {
     for (call, text) in calls.iter().zip(EIGHT) {
         if format!(in alloc; "{call:?}")?.as_str() != text {
             return Ok(false);

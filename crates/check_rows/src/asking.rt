@@ -9,9 +9,6 @@ use text_reader::errors::ReadFault;
 use text_reader::syntax::VerificationForm;
 use text_reader::{read, verification};
 
-/// What is asked about the rules of a text.
-pub type Asked = Questions;
-
 /// Why nothing is asked.
 #[derive(Drop)]
 pub enum Refused {
@@ -65,7 +62,7 @@ impl From<QuestionFault> for Refused {
 }
 
 /// What is asked about the rules of a text: where no rule of greater priority matches, if `above` says so.
-pub fn asked_about(alloc: Global, text: &str, above: bool) -> Result<Asked, Refused> {
+pub fn asked_about(alloc: Global, text: &str, above: bool) -> Result<Questions, Refused> {
     let defs = read(alloc, 0, text)?;
     let forms = forms_in(alloc, text)?;
     let lowered = lower(alloc, &defs, true)?;

@@ -5,7 +5,7 @@ use cranelift_isle::lower::{Lowered, lower};
 use cranelift_isle::syntax::{Def, Fault, Files};
 use report_print::errors::error_lines;
 use report_print::places::Places;
-use report_queries::answers::Answer;
+use report_queries::answers::TreesOrErrors;
 use report_queries::answers_texts::syntax_error_line;
 use rust_items::beside::BESIDE;
 use rust_text::code::{CodeError, CodegenOptions, Prefix, rust_code_with};
@@ -27,13 +27,13 @@ pub fn push_code(
 }
 
 // What is answered to files.
-fn answer_by(alloc: Global, words: &[String], files: &Files) -> Result<Answer, AllocError> {
+fn answer_by(alloc: Global, words: &[String], files: &Files) -> Result<TreesOrErrors, AllocError> {
     let mut defs = Vec::new(alloc);
     for (number, text) in files.texts.iter().enumerate() {
         match read(alloc, number, text) {
             Ok(mut read) => defs.append(&mut read)?,
             Err(ReadFault::Text(error)) => {
-                return Ok(Answer::Errors(syntax_error_line(alloc, text, &error)?));
+                return Ok(TreesOrErrors::Errors(syntax_error_line(alloc, text, &error)?));
             }
             Err(ReadFault::Memory(error)) => return Err(error),
         }
@@ -47,12 +47,12 @@ fn answer_to_defs(
     words: &[String],
     files: &Files,
     defs: &[Def],
-) -> Result<Answer, AllocError> {
+) -> Result<TreesOrErrors, AllocError> {
     match lower(alloc, defs, true) {
         Ok(lowered) => code_of(alloc, words, files, &lowered),
         Err(Fault::Errors(errors)) => {
             let lines = error_lines(alloc, &errors, Places::Files)?;
-            Ok(Answer::Errors(lines))
+            Ok(TreesOrErrors::Errors(lines))
         }
         Err(Fault::Memory(error)) => Err(error),
     }
@@ -64,13 +64,13 @@ fn code_of(
     words: &[String],
     files: &Files,
     lowered: &Lowered,
-) -> Result<Answer, AllocError> {
+) -> Result<TreesOrErrors, AllocError> {
     let options = options_by(alloc, words)?;
     match rust_code_with(alloc, lowered, files, &options) {
-        Ok(code) => Ok(Answer::Trees(shortened(alloc, &code)?)),
+        Ok(code) => Ok(TreesOrErrors::Trees(shortened(alloc, &code)?)),
         Err(CodeError::Names(why)) => {
             let line = format!(in alloc; "error[names]: {why}\n")?;
-            Ok(Answer::Errors(line))
+            Ok(TreesOrErrors::Errors(line))
         }
         Err(CodeError::Memory) => Err(AllocError),
     }

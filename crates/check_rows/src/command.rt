@@ -1,7 +1,7 @@
 //! Rows that ask the command `isle`.
 
 use app_command::answers::answer_to;
-use app_command::words::{Asked, Request, Unasked, asked_by};
+use app_command::words::{Command, Request, Unasked, asked_by};
 use cranelift_isle::syntax::Files;
 use std::alloc::{AllocError, Global};
 
@@ -14,10 +14,10 @@ pub fn push_command(
     out: &mut String,
 ) -> Result<(), AllocError> {
     match asked_by(alloc, words, false) {
-        Ok(Asked::Request(asked)) => push_answer(alloc, &asked, files, out),
-        Ok(Asked::Formatting(_)) => out.push_str("fmt\n"),
-        Ok(Asked::Help) => out.push_str("help\n"),
-        Ok(Asked::Version) => out.push_str("version\n"),
+        Ok(Command::Request(asked)) => push_answer(alloc, &asked, files, out),
+        Ok(Command::Formatting(_)) => out.push_str("fmt\n"),
+        Ok(Command::Help) => out.push_str("help\n"),
+        Ok(Command::Version) => out.push_str("version\n"),
         Err(Unasked::Words(why)) => write!(out, "status 2\n{why}\n"),
         Err(Unasked::Memory) => Err(AllocError),
     }

@@ -1,9 +1,9 @@
 //! What is asked of a solver about the rules of a row, by what its text says for a verifier, and what a solver's answer is read as.
 
-use crate::asking::{Asked, Refused, asked_about};
+use crate::asking::{Refused, asked_about};
 use crate::replies::push_reply;
 use spec_formulas::faults::SpecError;
-use spec_questions::questions::{Question, Without};
+use spec_questions::questions::{Question, Questions, Without};
 use std::alloc::{AllocError, Global};
 
 /// Adds what is asked about the rules of a text: the text of each question whether a rule is wrong, below a line with the first line
@@ -78,7 +78,7 @@ fn push_errors(text: &str, errors: &[SpecError], out: &mut String) -> Result<(),
 fn push_asked(
     words: &[String],
     text: &str,
-    asked: &Asked,
+    asked: &Questions,
     out: &mut String,
 ) -> Result<(), AllocError> {
     for question in &asked.questions {

@@ -4,7 +4,7 @@ use cranelift_isle::sema::{Rule, TermEnv, TypeEnv};
 use cranelift_isle::syntax::{Def, Fault};
 use report_print::errors::error_lines;
 use report_print::places::Places;
-use report_queries::answers::Answer;
+use report_queries::answers::TreesOrErrors;
 use report_queries::answers_texts::syntax_error_line;
 use std::alloc::{AllocError, Global};
 use text_reader::errors::ReadFault;
@@ -17,10 +17,12 @@ pub fn rules_of_text(
     text: &str,
     expand: bool,
     parts: bool,
-) -> Result<Answer, AllocError> {
+) -> Result<TreesOrErrors, AllocError> {
     match read(alloc, 0, text) {
         Ok(defs) => rules_of_defs(alloc, &defs, expand, parts),
-        Err(ReadFault::Text(error)) => Ok(Answer::Errors(syntax_error_line(alloc, text, &error)?)),
+        Err(ReadFault::Text(error)) => Ok(TreesOrErrors::Errors(syntax_error_line(
+            alloc, text, &error,
+        )?)),
         Err(ReadFault::Memory(error)) => Err(error),
     }
 }
@@ -31,12 +33,12 @@ fn rules_of_defs(
     defs: &[Def],
     expand: bool,
     parts: bool,
-) -> Result<Answer, AllocError> {
+) -> Result<TreesOrErrors, AllocError> {
     match text_of_rules(alloc, defs, expand, parts) {
-        Ok(text) => Ok(Answer::Trees(text)),
+        Ok(text) => Ok(TreesOrErrors::Trees(text)),
         Err(Fault::Errors(errors)) => {
             let lines = error_lines(alloc, &errors, Places::Definitions(defs))?;
-            Ok(Answer::Errors(lines))
+            Ok(TreesOrErrors::Errors(lines))
         }
         Err(Fault::Memory(error)) => Err(error),
     }

@@ -1,8 +1,8 @@
 //! Rows that ask for trees as `isle-tree` prints them, or for rules as they are read.
 
 use crate::rules::rules_of_text;
-use report_queries::answers::Answer;
-use report_queries::answers_texts::{Asked, answer_to_text};
+use report_queries::answers::TreesOrErrors;
+use report_queries::answers_texts::{TextOptions, answer_to_text};
 use std::alloc::{AllocError, Global};
 
 /// Adds what is answered to a row's text.
@@ -60,20 +60,20 @@ fn push_answer(
 }
 
 /// Adds an answer, below its status.
-pub fn push_told(answer: Answer, out: &mut String) -> Result<(), AllocError> {
+pub fn push_told(answer: TreesOrErrors, out: &mut String) -> Result<(), AllocError> {
     match answer {
-        Answer::Trees(text) => write!(out, "status 0\n{text}"),
-        Answer::Errors(text) => write!(out, "status 1\n{text}"),
+        TreesOrErrors::Trees(text) => write!(out, "status 0\n{text}"),
+        TreesOrErrors::Errors(text) => write!(out, "status 1\n{text}"),
     }
 }
 
 // What is answered to a text.
-fn answer_by(alloc: Global, words: &[String], text: &str) -> Result<Answer, AllocError> {
+fn answer_by(alloc: Global, words: &[String], text: &str) -> Result<TreesOrErrors, AllocError> {
     let expand = !has_word(words, "no-expand");
     if has_word(words, "rules") {
         rules_of_text(alloc, text, expand, has_word(words, "typed"))
     } else {
         let lines = has_word(words, "lines");
-        answer_to_text(alloc, text, Asked { expand, lines })
+        answer_to_text(alloc, text, TextOptions { expand, lines })
     }
 }

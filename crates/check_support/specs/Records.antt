@@ -2,8 +2,8 @@
 use Rattle.std.specs.Prelude.{◌≡◌, ◌⊎◌, ◌+◌, ◌<◌, ◌≤◌, ℕ, ℤ, Bool, List, [], ◌∷◌, ◌++◌, map, length, Result, MatchResult, alloc_error}
 use Rattle.core_syntax.specs.declared.visit_fault.VisitFault.{VisitFault}
 use Rattle.core_syntax.specs.declared.visit_fault.VisitFault.TheVariants.{Memory, Stopped}
-use Rattle.check_support.specs.declared.recorder.Call.{Call}
-use Rattle.check_support.specs.declared.recorder.Call.TheVariants.{AddArg, AddPattern, AddMatchEqual, AddMatchBool, AddMatchInt, AddMatchPrim, AddMatchVariant, AddExtractStruct, AddExtract, AddExpr, AddConstBool, AddConstInt, AddConstPrim, AddCreateVariant, AddCreateStruct, AddConstruct, ExprAsPattern, PatternAsExpr}
+use Rattle.check_support.specs.declared.recorder.VisitorCall.{VisitorCall}
+use Rattle.check_support.specs.declared.recorder.VisitorCall.TheVariants.{AddArg, AddPattern, AddMatchEqual, AddMatchBool, AddMatchInt, AddMatchPrim, AddMatchVariant, AddExtractStruct, AddExtract, AddExpr, AddConstBool, AddConstInt, AddConstPrim, AddCreateVariant, AddCreateStruct, AddConstruct, ExprAsPattern, PatternAsExpr}
 use Rattle.check_support.specs.declared.recorder.Recorder.{Recorder}
 
 -- a call of a visitor with its arguments, without where its lists lie in memory
@@ -27,7 +27,7 @@ pub data SeenCall : Type 0 where
   seen_expr_as_pattern : (expr : ℕ) → SeenCall
   seen_pattern_as_expr : (pattern : ℕ) → SeenCall
 
-abbrev pub noted_call : Call → SeenCall
+abbrev pub noted_call : VisitorCall → SeenCall
 noted_call (AddArg index ty) = seen_arg index ty
 noted_call AddPattern = seen_pattern
 noted_call (AddMatchEqual a b ty) = seen_match_equal a b ty

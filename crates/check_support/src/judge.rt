@@ -1,6 +1,7 @@
 //! Whether a tree is a best one of its rule set. All that is asked at a place is recomputed from what stands around it.
 use crate::places::{
-    Around, Place, Test, bind_order, cover, is_greater, open_tests, place_in, score_of, sources_of,
+    JudgedPlace, PossibleTest, StepAround, bind_order, cover, is_greater, open_tests, place_in,
+    score_of, sources_of,
 };
 use core_rule_sets::trie_again::{Binding, BindingId, Constraint, Rule, RuleSet};
 use core_serialize::serialize::{Block, ControlFlow, EvalStep, MatchArm};
@@ -9,7 +10,7 @@ use std::alloc::{AllocError, AllocFailed, Global};
 
 /// What is wrong with a tree.
 #[derive(Clone, Copy, Debug, PartialEq, Eq)]
-pub enum Fault {
+pub enum TreeFault {
     /// A return is that of no rule, a rule has no return, or several.
     Returns,
     /// More steps than all rules could take.
@@ -41,7 +42,7 @@ pub enum Fault {
 // Why the judge stops.
 #[derive(Drop)]
 enum Stop {
-    Fault(Fault),
+    Fault(TreeFault),
     Memory(AllocError),
 }
 
@@ -58,7 +59,7 @@ impl<T: Drop> From<AllocFailed<T>> for Stop {
 }
 
 /// The first fault of a tree, or None where it is a best tree of the set, whose rules all have different positions.
-pub fn judge(alloc: Global, set: &RuleSet, block: &Block) -> Result<Option<Fault>, AllocError> {
+pub fn judge(alloc: Global, set: &RuleSet, block: &Block) -> Result<Option<TreeFault>, AllocError> {
     match judge_tree(alloc, set, block) {
         Ok(()) => Ok(None),
         Err(Stop::Fault(fault)) => Ok(Some(fault)),
@@ -67,7 +68,7 @@ pub fn judge(alloc: Global, set: &RuleSet, block: &Block) -> Result<Option<Fault
 }
 
 // Stops with a fault, unless this holds.
-fn want(holds: bool, fault: Fault) -> Result<(), Stop> {
+fn want(holds: bool, fault: TreeFault) -> Result<(), Stop> {
     if holds {
         Ok(())
     } else {
@@ -78,8 +79,8 @@ fn want(holds: bool, fault: Fault) -> Result<(), Stop> {
 fn judge_tree(alloc: Global, set: &RuleSet, block: &Block) -> Result<(), Stop> {
     let rules = rules_of(alloc, set, block)?;
     let each = (0..set.rules.len()).all(|rule| rules.contains(&rule));
-    want(each && rules.len() == set.rules.len(), Fault::Returns)?;
-    want(steps_of(block) <= most_steps(set), Fault::Steps)?;
+    want(each && rules.len() == set.rules.len(), TreeFault::Returns)?;
+    want(steps_of(block) <= most_steps(set), TreeFault::Steps)?;
     judge_block(alloc, set, &[], block)
 }
 
@@ -171,13 +172,18 @@ fn push_rules_in(set: &RuleSet, check: &ControlFlow, rules: &mut Vec<usize>) -> 
 fn push_rule(rules: &mut Vec<usize>, rule: Option<usize>) -> Result<(), Stop> {
     match rule {
         Some(number) => Ok(rules.push(number)?),
-        None => Err(Stop::Fault(Fault::Returns)),
+        None => Err(Stop::Fault(TreeFault::Returns)),
     }
 }
 
 // Judges the steps of a block that these surround. The rules that are left there are those of its later steps.
 #[cycle(judge)]
-fn judge_block(alloc: Global, set: &RuleSet, around: &[Around], block: &Block) -> Result<(), Stop> {
+fn judge_block(
+    alloc: Global,
+    set: &RuleSet,
+    around: &[StepAround],
+    block: &Block,
+) -> Result<(), Stop> {
     let mut around = Vec::from_slice(alloc, around)?;
     let mut here = rules_of(alloc, set, block)?;
     let mut closing = false;
@@ -200,7 +206,7 @@ fn judge_block(alloc: Global, set: &RuleSet, around: &[Around], block: &Block) -
 fn judge_inside(
     alloc: Global,
     set: &RuleSet,
-    around: &[Around],
+    around: &[StepAround],
     check: &ControlFlow,
 ) -> Result<(), Stop> {
     match check {
@@ -261,14 +267,14 @@ fn push_impure(used: &mut Vec<BindingId>, set: &RuleSet, rule: usize) -> Result<
 fn judge_binds(
     alloc: Global,
     set: &RuleSet,
-    place: &Place,
+    place: &JudgedPlace,
     used: &[BindingId],
     step: &EvalStep,
 ) -> Result<(), Stop> {
     let wanted = bind_order(alloc, set, place, used)?;
     want(
         wanted.as_slice() == step.bind_order.as_slice(),
-        Fault::BindOrder,
+        TreeFault::BindOrder,
     )
 }
 
@@ -276,7 +282,7 @@ fn judge_binds(
 fn judge_choice(
     alloc: Global,
     set: &RuleSet,
-    place: &Place,
+    place: &JudgedPlace,
     closing: bool,
     held: &[usize],
     check: &ControlFlow,
@@ -289,9 +295,9 @@ fn judge_choice(
             judge_end(alloc, set, place)
         }
         _ => {
-            want(!closing, Fault::AfterReturn)?;
+            want(!closing, TreeFault::AfterReturn)?;
             let Some(test) = test_of(set, check) else {
-                return Err(Stop::Fault(Fault::Loop));
+                return Err(Stop::Fault(TreeFault::Loop));
             };
             judge_test(alloc, set, place, held, test)
         }
@@ -299,12 +305,12 @@ fn judge_choice(
 }
 
 // The test of a step, None for an end, or a loop over what is no iterator.
-fn test_of(set: &RuleSet, check: &ControlFlow) -> Option<Test> {
+fn test_of(set: &RuleSet, check: &ControlFlow) -> Option<PossibleTest> {
     match check {
-        ControlFlow::Match { source, .. } => Some(Test::Match(*source)),
-        ControlFlow::Equal { a, b, .. } => Some(Test::Equal(*a, *b)),
+        ControlFlow::Match { source, .. } => Some(PossibleTest::Match(*source)),
+        ControlFlow::Equal { a, b, .. } => Some(PossibleTest::Equal(*a, *b)),
         ControlFlow::Loop { result, .. } => match set.bindings.get(result.index()) {
-            Some(Binding::Iterator { source }) => Some(Test::Loop(*source)),
+            Some(Binding::Iterator { source }) => Some(PossibleTest::Loop(*source)),
             _ => None,
         },
         ControlFlow::Return { .. } => None,
@@ -315,27 +321,27 @@ fn test_of(set: &RuleSet, check: &ControlFlow) -> Option<Test> {
 fn judge_test(
     alloc: Global,
     set: &RuleSet,
-    place: &Place,
+    place: &JudgedPlace,
     held: &[usize],
-    test: Test,
+    test: PossibleTest,
 ) -> Result<(), Stop> {
     let own = score_of(alloc, set, place, test)?;
     let open = open_tests(alloc, place)?;
-    want(open.contains(&test), Fault::Open)?;
+    want(open.contains(&test), TreeFault::Open)?;
     for other in &open {
         let other = score_of(alloc, set, place, *other)?;
-        want(!is_greater(other, own), Fault::Greatest)?;
+        want(!is_greater(other, own), TreeFault::Greatest)?;
     }
     let covered = cover(alloc, set, place, test)?;
     let same = covered.len() == held.len() && covered.iter().all(|rule| held.contains(rule));
-    want(same && !held.is_empty(), Fault::Cover)
+    want(same && !held.is_empty(), TreeFault::Cover)
 }
 
 // No open test covers a rule, and the rules return in their order.
-fn judge_end(alloc: Global, set: &RuleSet, place: &Place) -> Result<(), Stop> {
+fn judge_end(alloc: Global, set: &RuleSet, place: &JudgedPlace) -> Result<(), Stop> {
     for test in &open_tests(alloc, place)? {
         let covered = cover(alloc, set, place, *test)?;
-        want(covered.is_empty(), Fault::End)?;
+        want(covered.is_empty(), TreeFault::End)?;
     }
     let mut before: Option<(i64, usize)> = None;
     for number in &place.here {
@@ -344,7 +350,7 @@ fn judge_end(alloc: Global, set: &RuleSet, place: &Place) -> Result<(), Stop> {
                 Some((prio, other)) => rule.prio < prio || rule.prio == prio && other < *number,
                 None => true,
             };
-            want(ordered, Fault::ReturnOrder)?;
+            want(ordered, TreeFault::ReturnOrder)?;
             before = Some((rule.prio, *number));
         }
     }
@@ -364,18 +370,18 @@ fn judge_arm(
             Some(before) => before < arm.constraint,
             None => true,
         },
-        Fault::ArmOrder,
+        TreeFault::ArmOrder,
     )?;
     let rules = rules_of(alloc, set, &arm.body)?;
     let asks = rules.iter().all(|rule| match set.rules.get(*rule) {
         Some(rule) => rule.get_constraint(source) == Some(arm.constraint),
         None => false,
     });
-    want(asks && !rules.is_empty(), Fault::ArmRules)?;
+    want(asks && !rules.is_empty(), TreeFault::ArmRules)?;
     let fields = fields_of(alloc, set, source, &arm.constraint)?;
     want(
         fields.as_slice() == arm.bindings.as_slice(),
-        Fault::ArmFields,
+        TreeFault::ArmFields,
     )
 }
 
@@ -435,21 +441,21 @@ fn is_field(binding: &Binding, of: BindingId, constraint: &Constraint, place: us
 fn push_used(
     alloc: Global,
     set: &RuleSet,
-    around: &mut Vec<Around>,
+    around: &mut Vec<StepAround>,
     check: &ControlFlow,
 ) -> Result<(), AllocError> {
     for site in &uses(alloc, set, check)? {
         match check {
             ControlFlow::Loop { .. } => push_each_used(around, sources_of(set, *site))?,
-            _ => around.push(Around::Used(*site))?,
+            _ => around.push(StepAround::Used(*site))?,
         }
     }
     Ok(())
 }
 
-fn push_each_used(around: &mut Vec<Around>, sites: &[BindingId]) -> Result<(), AllocError> {
+fn push_each_used(around: &mut Vec<StepAround>, sites: &[BindingId]) -> Result<(), AllocError> {
     for site in sites {
-        around.push(Around::Used(*site))?;
+        around.push(StepAround::Used(*site))?;
     }
     Ok(())
 }
@@ -457,16 +463,16 @@ fn push_each_used(around: &mut Vec<Around>, sites: &[BindingId]) -> Result<(), A
 // What stands around the body of an arm.
 fn in_arm(
     alloc: Global,
-    around: &[Around],
+    around: &[StepAround],
     source: BindingId,
     arm: &MatchArm,
-) -> Result<Vec<Around>, AllocError> {
+) -> Result<Vec<StepAround>, AllocError> {
     let mut inside = Vec::from_slice(alloc, around)?;
-    inside.push(Around::Taken(source))?;
-    inside.push(Around::Used(source))?;
+    inside.push(StepAround::Taken(source))?;
+    inside.push(StepAround::Used(source))?;
     for field in &arm.bindings {
         if let Some(site) = field {
-            inside.push(Around::Brought(*site))?;
+            inside.push(StepAround::Brought(*site))?;
         }
     }
     Ok(inside)
@@ -475,14 +481,14 @@ fn in_arm(
 // What stands around the body of an equality.
 fn in_equal(
     alloc: Global,
-    around: &[Around],
+    around: &[StepAround],
     a: BindingId,
     b: BindingId,
-) -> Result<Vec<Around>, AllocError> {
+) -> Result<Vec<StepAround>, AllocError> {
     let mut inside = Vec::from_slice(alloc, around)?;
-    inside.push(Around::Joined(a, b))?;
-    inside.push(Around::Used(a))?;
-    inside.push(Around::Used(b))?;
+    inside.push(StepAround::Joined(a, b))?;
+    inside.push(StepAround::Used(a))?;
+    inside.push(StepAround::Used(b))?;
     Ok(inside)
 }
 
@@ -490,13 +496,13 @@ fn in_equal(
 fn in_loop(
     alloc: Global,
     set: &RuleSet,
-    around: &[Around],
+    around: &[StepAround],
     pick: BindingId,
-) -> Result<Vec<Around>, AllocError> {
+) -> Result<Vec<StepAround>, AllocError> {
     let mut inside = Vec::from_slice(alloc, around)?;
-    inside.push(Around::Brought(pick))?;
+    inside.push(StepAround::Brought(pick))?;
     for source in sources_of(set, pick) {
-        inside.push(Around::Taken(*source))?;
+        inside.push(StepAround::Taken(*source))?;
         push_each_used(&mut inside, sources_of(set, *source))?;
     }
     Ok(inside)

@@ -8,7 +8,7 @@ use std::alloc::{AllocError, Global};
 
 /// What a list is of.
 #[derive(Clone, Copy)]
-pub enum Kind {
+pub enum ListKind {
     /// Types and constants.
     Types,
     /// Terms of all forms.
@@ -35,22 +35,22 @@ pub enum Kind {
     Calls,
 }
 
-impl Kind {
+impl ListKind {
     /// What such a list is of, in words.
     pub fn name(self) -> &'static str {
         match self {
-            Kind::Types => "types",
-            Kind::Terms => "terms",
-            Kind::Rules => "rules",
-            Kind::RulesOfOneTerm => "rules of one term",
-            Kind::Variables => "variables of one rule",
-            Kind::Forms => "rules, ten of each term",
-            Kind::FormsOfOneTerm => "rules of one term, of all forms",
-            Kind::Literals => "literals of one rule",
-            Kind::EqualSites => "equal sites of one rule",
-            Kind::DeepFields => "deep fields of one rule",
-            Kind::JoinedFields => "deep fields of one rule, joined by variables",
-            Kind::Calls => "sites of calls of one rule",
+            ListKind::Types => "types",
+            ListKind::Terms => "terms",
+            ListKind::Rules => "rules",
+            ListKind::RulesOfOneTerm => "rules of one term",
+            ListKind::Variables => "variables of one rule",
+            ListKind::Forms => "rules, ten of each term",
+            ListKind::FormsOfOneTerm => "rules of one term, of all forms",
+            ListKind::Literals => "literals of one rule",
+            ListKind::EqualSites => "equal sites of one rule",
+            ListKind::DeepFields => "deep fields of one rule",
+            ListKind::JoinedFields => "deep fields of one rule, joined by variables",
+            ListKind::Calls => "sites of calls of one rule",
         }
     }
 }
@@ -60,19 +60,19 @@ impl Kind {
 /// # Errors
 ///
 /// Where memory is refused.
-pub fn list(alloc: Global, kind: Kind, size: usize) -> Result<String, AllocError> {
+pub fn list(alloc: Global, kind: ListKind, size: usize) -> Result<String, AllocError> {
     match kind {
-        Kind::Types => types(alloc, size / 4),
-        Kind::Terms => terms(alloc, size / 10),
-        Kind::Rules => rules(alloc, size / 10),
-        Kind::RulesOfOneTerm => rules_of_one_term(alloc, size),
-        Kind::Variables => rule_of_variables(alloc, size / 2),
-        Kind::Forms => terms_with_forms(alloc, size / 10, 10),
-        Kind::FormsOfOneTerm => terms_with_forms(alloc, size.min(1), size),
-        Kind::Literals => rule_of_literals(alloc, size),
-        Kind::EqualSites => rule_of_equal_sites(alloc, size),
-        Kind::DeepFields => rule_of_deep_fields(alloc, size),
-        Kind::JoinedFields => rule_of_joined_fields(alloc, size),
-        Kind::Calls => rule_of_calls(alloc, size),
+        ListKind::Types => types(alloc, size / 4),
+        ListKind::Terms => terms(alloc, size / 10),
+        ListKind::Rules => rules(alloc, size / 10),
+        ListKind::RulesOfOneTerm => rules_of_one_term(alloc, size),
+        ListKind::Variables => rule_of_variables(alloc, size / 2),
+        ListKind::Forms => terms_with_forms(alloc, size / 10, 10),
+        ListKind::FormsOfOneTerm => terms_with_forms(alloc, size.min(1), size),
+        ListKind::Literals => rule_of_literals(alloc, size),
+        ListKind::EqualSites => rule_of_equal_sites(alloc, size),
+        ListKind::DeepFields => rule_of_deep_fields(alloc, size),
+        ListKind::JoinedFields => rule_of_joined_fields(alloc, size),
+        ListKind::Calls => rule_of_calls(alloc, size),
     }
 }

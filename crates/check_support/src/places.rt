@@ -5,7 +5,7 @@ use std::alloc::{AllocError, Global};
 
 // What a step around a place, or an earlier step of a block around it, did.
 #[derive(Clone, Copy)]
-pub enum Around {
+pub enum StepAround {
     // An arm or a loop goes on with this site's value.
     Taken(BindingId),
     // An arm or a loop brought the site.
@@ -18,7 +18,7 @@ pub enum Around {
 
 // What a step may test: the form of a site, that two sites are equal, each value that a call answered.
 #[derive(Clone, Copy, PartialEq, Eq)]
-pub enum Test {
+pub enum PossibleTest {
     Match(BindingId),
     Equal(BindingId, BindingId),
     Loop(BindingId),
@@ -26,7 +26,7 @@ pub enum Test {
 
 // A place: the rules that may still be taken, and the sites by what stands around.
 #[derive(Drop)]
-pub struct Place {
+pub struct JudgedPlace {
     pub here: Vec<usize>,
     pub available: Vec<BindingId>,
     pub emitted: Vec<BindingId>,
@@ -37,7 +37,7 @@ pub struct Place {
 
 // How good a test is at a place.
 #[derive(Clone, Copy)]
-pub struct Score {
+pub struct TestScore {
     pub covered: usize,
     pub emitted: bool,
     pub form: usize,
@@ -49,10 +49,10 @@ pub struct Score {
 pub fn place_in(
     alloc: Global,
     set: &RuleSet,
-    around: &[Around],
+    around: &[StepAround],
     here: &[usize],
-) -> Result<Place, AllocError> {
-    Ok(Place {
+) -> Result<JudgedPlace, AllocError> {
+    Ok(JudgedPlace {
         here: Vec::from_slice(alloc, here)?,
         available: available(alloc, set, around)?,
         emitted: emitted(alloc, set, around)?,
@@ -93,19 +93,19 @@ fn waits(set: &RuleSet, site: BindingId) -> bool {
     )
 }
 
-fn is_brought(around: &[Around], site: BindingId) -> bool {
-    around.iter().any(|fact| matches!(fact, Around::Brought(other) if *other == site))
+fn is_brought(around: &[StepAround], site: BindingId) -> bool {
+    around.iter().any(|fact| matches!(fact, StepAround::Brought(other) if *other == site))
 }
 
-fn is_used(around: &[Around], site: BindingId) -> bool {
-    around.iter().any(|fact| matches!(fact, Around::Used(other) if *other == site))
+fn is_used(around: &[StepAround], site: BindingId) -> bool {
+    around.iter().any(|fact| matches!(fact, StepAround::Used(other) if *other == site))
 }
 
 // The sites that were brought, and those that needn't be and whose sources are all available.
 fn available(
     alloc: Global,
     set: &RuleSet,
-    around: &[Around],
+    around: &[StepAround],
 ) -> Result<Vec<BindingId>, AllocError> {
     let mut found: Vec<BindingId> = Vec::new(alloc);
     for site in sites(alloc, set)? {
@@ -123,7 +123,11 @@ fn are_among(sites: &[BindingId], others: &[BindingId]) -> bool {
 }
 
 // The sites that were brought, and those that were used, their sources at any depth included.
-fn emitted(alloc: Global, set: &RuleSet, around: &[Around]) -> Result<Vec<BindingId>, AllocError> {
+fn emitted(
+    alloc: Global,
+    set: &RuleSet,
+    around: &[StepAround],
+) -> Result<Vec<BindingId>, AllocError> {
     let mut found = Vec::new(alloc);
     for site in sites(alloc, set)?.iter().copied().rev() {
         if is_used(around, site) || is_source(set, site, &found) {
@@ -145,13 +149,13 @@ fn is_source(set: &RuleSet, site: BindingId, of: &[BindingId]) -> bool {
 }
 
 // A number for each site: the same for sites that were found equal, and for no others.
-fn classes(alloc: Global, set: &RuleSet, around: &[Around]) -> Result<Vec<usize>, AllocError> {
+fn classes(alloc: Global, set: &RuleSet, around: &[StepAround]) -> Result<Vec<usize>, AllocError> {
     let mut numbers = Vec::new(alloc);
     for number in 0..set.bindings.len() {
         numbers.push(number)?;
     }
     for fact in around {
-        if let Around::Joined(a, b) = fact {
+        if let StepAround::Joined(a, b) = fact {
             rename(&mut numbers, *a, *b);
         }
     }
@@ -173,10 +177,10 @@ fn class_of(numbers: &[usize], site: BindingId) -> usize {
 }
 
 // The sources of the arms and loops around.
-fn taken(alloc: Global, around: &[Around]) -> Result<Vec<BindingId>, AllocError> {
+fn taken(alloc: Global, around: &[StepAround]) -> Result<Vec<BindingId>, AllocError> {
     let mut found = Vec::new(alloc);
     for fact in around {
-        if let Around::Taken(site) = fact {
+        if let StepAround::Taken(site) = fact {
             found.push(*site)?;
         }
     }
@@ -184,12 +188,12 @@ fn taken(alloc: Global, around: &[Around]) -> Result<Vec<BindingId>, AllocError>
 }
 
 // All tests that may be made at a place, whether a rule needs them or not.
-pub fn open_tests(alloc: Global, place: &Place) -> Result<Vec<Test>, AllocError> {
+pub fn open_tests(alloc: Global, place: &JudgedPlace) -> Result<Vec<PossibleTest>, AllocError> {
     let mut tests = Vec::new(alloc);
     for site in &place.available {
         if !place.taken.contains(site) {
-            tests.push(Test::Match(*site))?;
-            tests.push(Test::Loop(*site))?;
+            tests.push(PossibleTest::Match(*site))?;
+            tests.push(PossibleTest::Loop(*site))?;
         }
         push_pairs(&mut tests, place, *site)?;
     }
@@ -197,26 +201,30 @@ pub fn open_tests(alloc: Global, place: &Place) -> Result<Vec<Test>, AllocError>
 }
 
 // Adds the pairs of a site and a greater one that nothing around joins.
-fn push_pairs(tests: &mut Vec<Test>, place: &Place, site: BindingId) -> Result<(), AllocError> {
+fn push_pairs(
+    tests: &mut Vec<PossibleTest>,
+    place: &JudgedPlace,
+    site: BindingId,
+) -> Result<(), AllocError> {
     let class = class_of(&place.classes, site);
     for other in &place.available {
         if site < *other && class_of(&place.classes, *other) != class {
-            tests.push(Test::Equal(site, *other))?;
+            tests.push(PossibleTest::Equal(site, *other))?;
         }
     }
     Ok(())
 }
 
-fn needs(rule: &Rule, test: Test) -> bool {
+fn needs(rule: &Rule, test: PossibleTest) -> bool {
     match test {
-        Test::Match(site) => rule.get_constraint(site).is_some(),
-        Test::Equal(a, b) => rule.equals.in_same_set(a, b),
-        Test::Loop(site) => rule.iterators.contains(&site),
+        PossibleTest::Match(site) => rule.get_constraint(site).is_some(),
+        PossibleTest::Equal(a, b) => rule.equals.in_same_set(a, b),
+        PossibleTest::Loop(site) => rule.iterators.contains(&site),
     }
 }
 
 // Whether a rule needs the test, and each one here needs it too or has no higher priority.
-fn is_covered(set: &RuleSet, here: &[usize], test: Test, number: usize) -> bool {
+fn is_covered(set: &RuleSet, here: &[usize], test: PossibleTest, number: usize) -> bool {
     match set.rules.get(number) {
         Some(rule) => needs(rule, test)
             && here.iter().all(|other| is_no_bar(set, rule, test, *other)),
@@ -225,7 +233,7 @@ fn is_covered(set: &RuleSet, here: &[usize], test: Test, number: usize) -> bool 
 }
 
 // Whether a rule needs the test or has no higher priority than this one.
-fn is_no_bar(set: &RuleSet, rule: &Rule, test: Test, number: usize) -> bool {
+fn is_no_bar(set: &RuleSet, rule: &Rule, test: PossibleTest, number: usize) -> bool {
     match set.rules.get(number) {
         Some(other) => needs(other, test) || other.prio <= rule.prio,
         None => true,
@@ -236,8 +244,8 @@ fn is_no_bar(set: &RuleSet, rule: &Rule, test: Test, number: usize) -> bool {
 pub fn cover(
     alloc: Global,
     set: &RuleSet,
-    place: &Place,
-    test: Test,
+    place: &JudgedPlace,
+    test: PossibleTest,
 ) -> Result<Vec<usize>, AllocError> {
     let here = &place.here;
     here.iter()
@@ -250,16 +258,16 @@ pub fn cover(
 pub fn score_of(
     alloc: Global,
     set: &RuleSet,
-    place: &Place,
-    test: Test,
-) -> Result<Score, AllocError> {
+    place: &JudgedPlace,
+    test: PossibleTest,
+) -> Result<TestScore, AllocError> {
     let covered = cover(alloc, set, place, test)?.len();
     let (form, first, second) = match test {
-        Test::Match(site) => (0, site, site),
-        Test::Equal(a, b) => (1, a, b),
-        Test::Loop(site) => (2, site, site),
+        PossibleTest::Match(site) => (0, site, site),
+        PossibleTest::Equal(a, b) => (1, a, b),
+        PossibleTest::Loop(site) => (2, site, site),
     };
-    Ok(Score {
+    Ok(TestScore {
         covered,
         emitted: place.emitted.contains(&first) && place.emitted.contains(&second),
         form,
@@ -269,7 +277,7 @@ pub fn score_of(
 }
 
 // Whether a score is greater than another one.
-pub fn is_greater(some: Score, other: Score) -> bool {
+pub fn is_greater(some: TestScore, other: TestScore) -> bool {
     if some.covered != other.covered {
         return some.covered > other.covered;
     }
@@ -284,7 +292,7 @@ pub fn is_greater(some: Score, other: Score) -> bool {
 pub fn bind_order(
     alloc: Global,
     set: &RuleSet,
-    place: &Place,
+    place: &JudgedPlace,
     used: &[BindingId],
 ) -> Result<Vec<BindingId>, AllocError> {
     let orders = orders(alloc, set, place)?;
@@ -294,7 +302,11 @@ pub fn bind_order(
 }
 
 // For each site what is to be made for it, itself the last: nothing where it is emitted.
-fn orders(alloc: Global, set: &RuleSet, place: &Place) -> Result<Vec<Vec<BindingId>>, AllocError> {
+fn orders(
+    alloc: Global,
+    set: &RuleSet,
+    place: &JudgedPlace,
+) -> Result<Vec<Vec<BindingId>>, AllocError> {
     let mut orders: Vec<Vec<BindingId>> = Vec::new(alloc);
     for site in sites(alloc, set)? {
         let order = if place.emitted.contains(&site) {

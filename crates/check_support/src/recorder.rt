@@ -11,7 +11,7 @@ use std::alloc::{AllocError, Global};
 
 /// A call of a visitor: the function and its arguments. Types, terms, variants and names stand by their numbers.
 #[derive(Debug, Drop)]
-pub enum Call {
+pub enum VisitorCall {
     AddArg(usize, usize),
     AddPattern,
     AddMatchEqual(usize, usize, usize),
@@ -37,7 +37,7 @@ pub enum Call {
 pub struct Recorder {
     alloc: Global,
     /// The calls so far, in order.
-    pub calls: Vec<Call>,
+    pub calls: Vec<VisitorCall>,
     /// The id that is given next.
     next: usize,
     /// The number of the call, from 1, at which it wants to see no more.
@@ -79,7 +79,7 @@ impl Recorder {
         }
     }
 
-    fn note(&mut self, call: Call) -> Result<(), VisitFault>
+    fn note(&mut self, call: VisitorCall) -> Result<(), VisitFault>
         ensures { Records (noted_call call) 0 tt self.old result self.new }
     {
         self.calls.push(call)?;
@@ -91,7 +91,7 @@ impl Recorder {
     }
 
     // Notes a call that is answered by so many new ids. Ids run out as memory does.
-    fn give(&mut self, call: Call, count: usize) -> Result<Vec<usize>, VisitFault>
+    fn give(&mut self, call: VisitorCall, count: usize) -> Result<Vec<usize>, VisitFault>
         ensures noted { Records (noted_call call) count (range_with_len self.old.next count) self.old (listed result) self.new }
         ensures count { IfOk result (λ ids. vec_len ids ≡ count) }
     {
@@ -106,7 +106,7 @@ impl Recorder {
     }
 
     // Notes a call that is answered by one new id.
-    fn give_one(&mut self, call: Call) -> Result<usize, VisitFault>
+    fn give_one(&mut self, call: VisitorCall) -> Result<usize, VisitFault>
         ensures { Records (noted_call call) 1 self.old.next self.old result self.new }
     {
         let id = self.next;
@@ -137,7 +137,7 @@ impl PatternVisitor for Recorder {
     ghost extract_steps = { λ s input ty tys term infallible multi r t. Records (seen_extract input ty tys term infallible multi) (length tys) (range_with_len s.next (length tys)) s r t };
 
     fn add_match_equal(&mut self, a: usize, b: usize, ty: TypeId) -> Result<(), VisitFault> {
-        self.note(Call::AddMatchEqual(a, b, ty.0))
+        self.note(VisitorCall::AddMatchEqual(a, b, ty.0))
     }
 
     fn add_match_bool(
@@ -146,15 +146,15 @@ impl PatternVisitor for Recorder {
         ty: TypeId,
         bool_val: bool,
     ) -> Result<(), VisitFault> {
-        self.note(Call::AddMatchBool(input, ty.0, bool_val))
+        self.note(VisitorCall::AddMatchBool(input, ty.0, bool_val))
     }
 
     fn add_match_int(&mut self, input: usize, ty: TypeId, int_val: i128) -> Result<(), VisitFault> {
-        self.note(Call::AddMatchInt(input, ty.0, int_val))
+        self.note(VisitorCall::AddMatchInt(input, ty.0, int_val))
     }
 
     fn add_match_prim(&mut self, input: usize, ty: TypeId, val: Sym) -> Result<(), VisitFault> {
-        self.note(Call::AddMatchPrim(input, ty.0, val.0))
+        self.note(VisitorCall::AddMatchPrim(input, ty.0, val.0))
     }
 
     fn add_match_variant(
@@ -166,7 +166,7 @@ impl PatternVisitor for Recorder {
     ) -> Result<Vec<usize>, VisitFault> {
         let tys = numbers(self.alloc, arg_tys)?;
         self.give(
-            Call::AddMatchVariant(input, input_ty.0, tys, variant.0),
+            VisitorCall::AddMatchVariant(input, input_ty.0, tys, variant.0),
             arg_tys.len(),
         )
     }
@@ -179,7 +179,7 @@ impl PatternVisitor for Recorder {
     ) -> Result<Vec<usize>, VisitFault> {
         let tys = numbers(self.alloc, arg_tys)?;
         self.give(
-            Call::AddExtractStruct(input, input_ty.0, tys),
+            VisitorCall::AddExtractStruct(input, input_ty.0, tys),
             arg_tys.len(),
         )
     }
@@ -195,7 +195,7 @@ impl PatternVisitor for Recorder {
     ) -> Result<Vec<usize>, VisitFault> {
         let tys = numbers(self.alloc, &output_tys)?;
         self.give(
-            Call::AddExtract(input, input_ty.0, tys, term.0, infallible, multi),
+            VisitorCall::AddExtract(input, input_ty.0, tys, term.0, infallible, multi),
             output_tys.len(),
         )
     }
@@ -217,15 +217,15 @@ impl ExprVisitor for Recorder {
     ghost construct_steps = { λ s inputs ty term pure infallible multi recursive r t. Records (seen_construct inputs ty term pure infallible multi recursive) 1 s.next s r t };
 
     fn add_const_bool(&mut self, ty: TypeId, val: bool) -> Result<usize, VisitFault> {
-        self.give_one(Call::AddConstBool(ty.0, val))
+        self.give_one(VisitorCall::AddConstBool(ty.0, val))
     }
 
     fn add_const_int(&mut self, ty: TypeId, val: i128) -> Result<usize, VisitFault> {
-        self.give_one(Call::AddConstInt(ty.0, val))
+        self.give_one(VisitorCall::AddConstInt(ty.0, val))
     }
 
     fn add_const_prim(&mut self, ty: TypeId, val: Sym) -> Result<usize, VisitFault> {
-        self.give_one(Call::AddConstPrim(ty.0, val.0))
+        self.give_one(VisitorCall::AddConstPrim(ty.0, val.0))
     }
 
     fn add_create_variant(
@@ -237,7 +237,7 @@ impl ExprVisitor for Recorder {
         ensures { Records (seen_create_variant (typed_inputs inputs.items) ty.0 variant.0) 1 self.old.next self.old result self.new }
     {
         let inputs = numbered(self.alloc, &inputs)?;
-        self.give_one(Call::AddCreateVariant(inputs, ty.0, variant.0))
+        self.give_one(VisitorCall::AddCreateVariant(inputs, ty.0, variant.0))
     }
 
     fn add_create_struct(
@@ -248,7 +248,7 @@ impl ExprVisitor for Recorder {
         ensures { Records (seen_create_struct (typed_inputs inputs.items) ty.0) 1 self.old.next self.old result self.new }
     {
         let inputs = numbered(self.alloc, &inputs)?;
-        self.give_one(Call::AddCreateStruct(inputs, ty.0))
+        self.give_one(VisitorCall::AddCreateStruct(inputs, ty.0))
     }
 
     fn add_construct(
@@ -264,7 +264,7 @@ impl ExprVisitor for Recorder {
         ensures { Records (seen_construct (typed_inputs inputs.items) ty.0 term.0 pure infallible multi rec) 1 self.old.next self.old result self.new }
     {
         let inputs = numbered(self.alloc, &inputs)?;
-        self.give_one(Call::AddConstruct(inputs, ty.0, term.0, pure, infallible, multi, rec))
+        self.give_one(VisitorCall::AddConstruct(inputs, ty.0, term.0, pure, infallible, multi, rec))
     }
 }
 
@@ -295,14 +295,14 @@ impl RuleVisitor for Recorder {
     ghost leave_expr_steps = { λ l s t. t ≡ l };
 
     fn add_arg(&mut self, index: usize, ty: TypeId) -> Result<usize, VisitFault> {
-        self.give_one(Call::AddArg(index, ty.0))
+        self.give_one(VisitorCall::AddArg(index, ty.0))
     }
 
     fn with_pattern<T: Drop, B: Body<Self, Answer = T> + Drop>(
         &mut self,
         body: B,
     ) -> Result<T, VisitFault> {
-        if let Err(fault) = self.note(Call::AddPattern) {
+        if let Err(fault) = self.note(VisitorCall::AddPattern) {
             return Err(fault);
         }
         body.run(self)
@@ -312,7 +312,7 @@ impl RuleVisitor for Recorder {
         &mut self,
         body: B,
     ) -> Result<usize, VisitFault> {
-        if let Err(fault) = self.note(Call::AddExpr) {
+        if let Err(fault) = self.note(VisitorCall::AddExpr) {
             return Err(fault);
         }
         let visited = body.run(self)?;
@@ -320,12 +320,12 @@ impl RuleVisitor for Recorder {
     }
 
     fn expr_as_pattern(&mut self, expr: usize) -> Result<usize, VisitFault> {
-        self.note(Call::ExprAsPattern(expr))?;
+        self.note(VisitorCall::ExprAsPattern(expr))?;
         Ok(expr)
     }
 
     fn pattern_as_expr(&mut self, pattern: usize) -> Result<usize, VisitFault> {
-        self.note(Call::PatternAsExpr(pattern))?;
+        self.note(VisitorCall::PatternAsExpr(pattern))?;
         Ok(pattern)
     }
 }

@@ -12,7 +12,7 @@ use std::alloc::{AllocError, Global};
 
 /// What is done with a term.
 #[derive(Drop)]
-pub enum Called {
+pub enum TermCalls {
     /// It is called with each of these lists of arguments.
     With(Vec<Vec<Value>>),
     /// It isn't called, for this reason.
@@ -29,15 +29,15 @@ pub fn calls_of(
     trial: &Trial,
     seed: u64,
     count: usize,
-) -> Result<Called, AllocError> {
+) -> Result<TermCalls, AllocError> {
     let Some(entry) = trial.entry() else {
-        return Ok(Called::LeftOut("it has no rules"));
+        return Ok(TermCalls::LeftOut("it has no rules"));
     };
     if has_endless(alloc, &trial.lowered.tyenv)? {
-        return Ok(Called::LeftOut("a type holds values of its own"));
+        return Ok(TermCalls::LeftOut("a type holds values of its own"));
     }
     match why_left_out(&trial.lowered, entry) {
-        Some(why) => Ok(Called::LeftOut(why)),
+        Some(why) => Ok(TermCalls::LeftOut(why)),
         None => calls_with(alloc, trial, entry, seed, count),
     }
 }
@@ -49,17 +49,17 @@ fn calls_with(
     entry: &LoweredTerm,
     seed: u64,
     count: usize,
-) -> Result<Called, AllocError> {
+) -> Result<TermCalls, AllocError> {
     let makings = Makings::new(alloc, &trial.lowered, &entry.rules)?;
     let mut chance = Chance::new(seed.wrapping_add(trial.term.index() as u64));
     let mut calls = Vec::new(alloc);
     for _ in 0..count {
         match makings.values(alloc, &mut chance, argument_types(trial))? {
             Some(values) => calls.push(values)?,
-            None => return Ok(Called::LeftOut("an argument's type has no value")),
+            None => return Ok(TermCalls::LeftOut("an argument's type has no value")),
         }
     }
-    Ok(Called::With(calls))
+    Ok(TermCalls::With(calls))
 }
 
 // The types of a term's arguments.

@@ -19,15 +19,15 @@ impl<T> Default for Walk<T> {
     }
 }
 impl<T> given::rules::ContextIter for Walk<T> {
-    type Context = Echo;
+    type Context = CallNotes;
     type Output = T;
-    fn next(&mut self, ctx: &mut Echo) -> Option<T> {
+    fn next(&mut self, ctx: &mut CallNotes) -> Option<T> {
         self.looked_at += ctx.calls.len();
         self.left.pop_front()
     }
 }
 impl<T> given::rules::IntoContextIter for Walk<T> {
-    type Context = Echo;
+    type Context = CallNotes;
     type Output = T;
     type IntoIter = Self;
     fn into_context_iter(self) -> Self {
@@ -39,7 +39,7 @@ impl<T> given::rules::IntoContextIter for Walk<T> {
 /// Adds the functions that answer for what is external, each once.
 pub fn push_context(alloc: Global, out: &mut String, lowered: &Lowered) -> Result<(), AllocError> {
     out.push_str(WALK)?;
-    out.push_str("impl given::rules::Context for Echo {\n")?;
+    out.push_str("impl given::rules::Context for CallNotes {\n")?;
     let mut written = Vec::new(alloc);
     for term in &lowered.termenv.terms {
         if term.has_external_extractor() {

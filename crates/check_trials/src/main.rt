@@ -25,7 +25,7 @@ use std::alloc::{AllocError, Global};
 use std::io;
 use std::io::{Read, Write};
 use std::process::ExitCode;
-use words::{Asked, answer, asked_by, text_of};
+use words::{Job, answer, asked_by, text_of};
 
 fn main(rt: HostRuntime) -> ExitCode {
     let mut out = rt.stdout();
@@ -46,8 +46,8 @@ fn run<R: Read + Drop, O: Write, E: Write>(
     err: &mut E,
 ) -> u8 {
     match asked_by(words) {
-        Some(Asked::Text(wanted)) => write_answer(text_of(alloc, wanted), out, err),
-        Some(Asked::Trials(wanted)) => match io::read_to_string(alloc, input) {
+        Some(Job::Text(wanted)) => write_answer(text_of(alloc, wanted), out, err),
+        Some(Job::Trials(wanted)) => match io::read_to_string(alloc, input) {
             Ok(text) => write_answer(answer(alloc, &text, wanted), out, err),
             Err(error) => cannot_read(error.kind(), err),
         },

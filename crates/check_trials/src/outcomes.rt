@@ -2,7 +2,7 @@
 
 use crate::answers::Answers;
 use crate::bound::bound_of;
-use crate::calls::{Called, calls_of};
+use crate::calls::{TermCalls, calls_of};
 use crate::trial::Trial;
 use crate::value_texts::push_composed;
 use cranelift_isle::lower::LoweredTerm;
@@ -27,7 +27,7 @@ pub fn outcomes(
 ) -> Result<String, AllocError> {
     let mut out = String::new(alloc);
     for trial in trials {
-        if let Called::With(calls) = calls_of(alloc, trial, seed, count)? {
+        if let TermCalls::With(calls) = calls_of(alloc, trial, seed, count)? {
             push_outcomes(alloc, &mut out, trial, &calls, bound_of(trial, seed))?;
         }
     }

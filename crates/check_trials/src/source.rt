@@ -1,7 +1,7 @@
 //! A program in Rust that calls generated code, and tells what the calls come to.
 
 use crate::bound::bound_of;
-use crate::calls::{Called, calls_of};
+use crate::calls::{TermCalls, calls_of};
 use crate::context::push_context;
 use crate::given::push_given;
 use crate::rust_names::{is_composed, push_part, push_types, push_values};
@@ -21,7 +21,7 @@ const HEAD: &str =
 use std::panic::{AssertUnwindSafe, catch_unwind, set_hook};
 
 /// Notes impure calls.
-pub struct Echo {
+pub struct CallNotes {
     calls: Vec<String>,
 }
 
@@ -58,8 +58,8 @@ fn said(panic: Box<dyn std::any::Any + Send>) -> String {
 }
 
 /// Makes a call, and tells its outcome. A plain term panics where no rule matches.
-fn tell(call: String, plain: bool, run: &mut dyn FnMut(&mut Echo) -> String) {
-    let mut echo = Echo { calls: Vec::new() };
+fn tell(call: String, plain: bool, run: &mut dyn FnMut(&mut CallNotes) -> String) {
+    let mut echo = CallNotes { calls: Vec::new() };
     let mut line = match catch_unwind(AssertUnwindSafe(|| run(&mut echo))) {
         Ok(text) => text,
         Err(panic) => {
@@ -98,13 +98,13 @@ pub fn source(
     let mut runs = String::new(alloc);
     for (place, trial) in trials.iter().enumerate() {
         match calls_of(alloc, trial, seed, count)? {
-            Called::With(calls) => {
+            TermCalls::With(calls) => {
                 write!(out, "\nmod trial{place} {{\n")?;
                 push_trial(alloc, &mut out, trial, files, &calls, bound_of(trial, seed))?;
                 out.push_str("}\n")?;
                 write!(runs, "    trial{place}::run();\n")?;
             }
-            Called::LeftOut(why) => write!(out, "\n// left out: {}: {why}\n", trial.name())?,
+            TermCalls::LeftOut(why) => write!(out, "\n// left out: {}: {why}\n", trial.name())?,
         }
     }
     write!(
@@ -123,7 +123,7 @@ fn push_trial(
     calls: &[Vec<Value>],
     bound: Option<usize>,
 ) -> Result<(), CodeError> {
-    out.push_str("use super::{Echo, all, composed, tell};\npub mod given {\n")?;
+    out.push_str("use super::{CallNotes, all, composed, tell};\npub mod given {\n")?;
     push_given(alloc, out, &trial.lowered, bound)?;
     out.push_str("    pub mod rules {\n")?;
     out.push_str(&rust_code(alloc, &trial.lowered, files)?)?;

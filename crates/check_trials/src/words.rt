@@ -6,7 +6,7 @@ use crate::trial::{Trial, trials};
 use check_support::{one_term, two_terms};
 use cranelift_isle::lower::lower;
 use cranelift_isle::syntax::{Def, Error, Fault, Files};
-use report_queries::answers::Answer;
+use report_queries::answers::TreesOrErrors;
 use report_queries::answers_texts::syntax_error_line;
 use report_queries::samples::sample_text;
 use report_queries::texts::{Places, error_lines};
@@ -17,16 +17,16 @@ use text_reader::read;
 
 /// What is asked for.
 #[derive(Clone, Copy)]
-pub enum Asked<'a> {
+pub enum Job<'a> {
     /// Definitions.
-    Text(Wanted<'a>),
+    Text(WantedDefinitions<'a>),
     /// Trials of definitions.
     Trials(Trials),
 }
 
 /// Definitions that are wanted.
 #[derive(Clone, Copy)]
-pub enum Wanted<'a> {
+pub enum WantedDefinitions<'a> {
     /// The list of this number.
     List(u64),
     /// The sample of this name.
@@ -45,7 +45,7 @@ pub struct Trials {
 }
 
 /// What words ask for, or None where they ask for nothing.
-pub fn asked_by(words: &[String]) -> Option<Asked<'_>> {
+pub fn asked_by(words: &[String]) -> Option<Job<'_>> {
     match words {
         [first, second, third] => {
             if first.as_str() == "--outcomes" {
@@ -56,10 +56,10 @@ pub fn asked_by(words: &[String]) -> Option<Asked<'_>> {
         }
         [first, second] => match first.as_str() {
             "--list" => match second.parse::<u64>() {
-                Ok(seed) => Some(Asked::Text(Wanted::List(seed))),
+                Ok(seed) => Some(Job::Text(WantedDefinitions::List(seed))),
                 Err(_) => None,
             },
-            "--sample" => Some(Asked::Text(Wanted::Sample(second.as_str()))),
+            "--sample" => Some(Job::Text(WantedDefinitions::Sample(second.as_str()))),
             _ => trials_by(false, first, second),
         },
         _ => None,
@@ -67,9 +67,9 @@ pub fn asked_by(words: &[String]) -> Option<Asked<'_>> {
 }
 
 // Trials by two numbers.
-fn trials_by<'a>(outcomes: bool, seed: &str, count: &str) -> Option<Asked<'a>> {
+fn trials_by<'a>(outcomes: bool, seed: &str, count: &str) -> Option<Job<'a>> {
     match (seed.parse::<u64>(), count.parse::<usize>()) {
-        (Ok(seed), Ok(count)) => Some(Asked::Trials(Trials {
+        (Ok(seed), Ok(count)) => Some(Job::Trials(Trials {
             outcomes,
             seed,
             count,
@@ -83,12 +83,12 @@ fn trials_by<'a>(outcomes: bool, seed: &str, count: &str) -> Option<Asked<'a>> {
 /// # Errors
 ///
 /// Where memory is refused.
-pub fn text_of(alloc: Global, wanted: Wanted<'_>) -> Result<Answer, AllocError> {
+pub fn text_of(alloc: Global, wanted: WantedDefinitions<'_>) -> Result<TreesOrErrors, AllocError> {
     match wanted {
-        Wanted::List(seed) => Ok(Answer::Trees(list_of(alloc, seed)?)),
-        Wanted::Sample(name) => match sample_text(name) {
-            Some(text) => Ok(Answer::Trees(String::from_str(alloc, text)?)),
-            None => Ok(Answer::Errors(String::from_str(alloc, "no such sample\n")?)),
+        WantedDefinitions::List(seed) => Ok(TreesOrErrors::Trees(list_of(alloc, seed)?)),
+        WantedDefinitions::Sample(name) => match sample_text(name) {
+            Some(text) => Ok(TreesOrErrors::Trees(String::from_str(alloc, text)?)),
+            None => Ok(TreesOrErrors::Errors(String::from_str(alloc, "no such sample\n")?)),
         },
     }
 }
@@ -107,21 +107,23 @@ fn list_of(alloc: Global, seed: u64) -> Result<String, AllocError> {
 /// # Errors
 ///
 /// Where memory is refused.
-pub fn answer(alloc: Global, text: &str, wanted: Trials) -> Result<Answer, AllocError> {
+pub fn answer(alloc: Global, text: &str, wanted: Trials) -> Result<TreesOrErrors, AllocError> {
     match read(alloc, 0, text) {
         Ok(defs) => match answer_to_defs(alloc, text, &defs, wanted) {
             Ok(answer) => Ok(answer),
             Err(Fault::Errors(errors)) => wrong(alloc, text, &errors),
             Err(Fault::Memory(error)) => Err(error),
         },
-        Err(ReadFault::Text(error)) => Ok(Answer::Errors(syntax_error_line(alloc, text, &error)?)),
+        Err(ReadFault::Text(error)) => Ok(TreesOrErrors::Errors(syntax_error_line(
+            alloc, text, &error,
+        )?)),
         Err(ReadFault::Memory(error)) => Err(error),
     }
 }
 
-fn wrong(alloc: Global, text: &str, errors: &[Error]) -> Result<Answer, AllocError> {
+fn wrong(alloc: Global, text: &str, errors: &[Error]) -> Result<TreesOrErrors, AllocError> {
     let lines = error_lines(alloc, errors, Places::Lines(text))?;
-    Ok(Answer::Errors(lines))
+    Ok(TreesOrErrors::Errors(lines))
 }
 
 // Trials of definitions.
@@ -130,12 +132,12 @@ fn answer_to_defs(
     text: &str,
     defs: &[Def],
     wanted: Trials,
-) -> Result<Answer, Fault> {
+) -> Result<TreesOrErrors, Fault> {
     let whole = lower(alloc, defs, true)?;
     let trials = trials(alloc, defs, &whole)?;
     if wanted.outcomes {
         let told = outcomes(alloc, &trials, wanted.seed, wanted.count)?;
-        return Ok(Answer::Trees(told));
+        return Ok(TreesOrErrors::Trees(told));
     }
     Ok(program(alloc, text, &trials, wanted)?)
 }
@@ -145,11 +147,13 @@ fn program(
     text: &str,
     trials: &[Trial],
     wanted: Trials,
-) -> Result<Answer, AllocError> {
+) -> Result<TreesOrErrors, AllocError> {
     let files = file_of(alloc, text)?;
     match source(alloc, trials, &files, wanted.seed, wanted.count) {
-        Ok(source) => Ok(Answer::Trees(source)),
-        Err(CodeError::Names(why)) => { Ok(Answer::Errors(format!(in alloc; "no code: {why}\n")?)) }
+        Ok(source) => Ok(TreesOrErrors::Trees(source)),
+        Err(CodeError::Names(why)) => {
+            Ok(TreesOrErrors::Errors(format!(in alloc; "no code: {why}\n")?))
+        }
         Err(CodeError::Memory) => Err(AllocError),
     }
 }

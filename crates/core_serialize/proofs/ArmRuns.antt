@@ -18,7 +18,7 @@ use Rattle.laws_sites.proofs.overlaps.Overlaps.{bool_same}
 use Rattle.laws_trees.proofs.runs.Order.{before_chain, before_itself}
 use Rattle.laws_trees.proofs.Constraints.{that_exact}
 use Rattle.laws_trees.proofs.ConstraintsTotal.{before_total}
-use Rattle.core_serialize.specs.declared.arms.Asked.{Asked}
+use Rattle.core_serialize.specs.declared.arms.AskingRule.{AskingRule}
 use Rattle.core_serialize.specs.ArmOrder.{asked_at, asks, asks_some, asked_constraint, asks_that, asked_numbers, AreAsked, is_ahead, Ascend, AreTurns, AreInTurn, IsLeastAsked}
 use Rattle.core_serialize.proofs.Descents.{all_kept, none_kept}
 
@@ -26,10 +26,10 @@ use Rattle.core_serialize.proofs.Descents.{all_kept, none_kept}
 not_itself : (c : Constraint) → comes_before c c ≡ false
 not_itself c = false_from_ne_true (comes_before c c) (before_itself c)
 
-same_as : (c : Constraint) (a : Asked) → asks_that c a ≡ true → asked_constraint a ≡ c
+same_as : (c : Constraint) (a : AskingRule) → asks_that c a ≡ true → asked_constraint a ≡ c
 same_as c a h = same_Some (asked_constraint a) c ((that_exact (Some (asked_constraint a)) c).0 h)
 
-from_same : (c : Constraint) (a : Asked) → asked_constraint a ≡ c → asks_that c a ≡ true
+from_same : (c : Constraint) (a : AskingRule) → asked_constraint a ≡ c → asks_that c a ≡ true
 from_same c a e = (that_exact (Some (asked_constraint a)) c).1 (ap Some e)
 
 not_before_chain : (x y z : Constraint) → comes_before x y ≡ false → comes_before y z ≡ false → comes_before x z ≡ false
@@ -50,7 +50,7 @@ order = record {
 }
 
 -- those that tie with one ask the same
-ask_alike : (a b : Asked) → asks_that (asked_constraint a) b ≡ ties is_ahead a b
+ask_alike : (a b : AskingRule) → asks_that (asked_constraint a) b ≡ ties is_ahead a b
 ask_alike a b =
     bool_same (asks_that (asked_constraint a) b) (ties is_ahead a b)
     (λ h. let e = same_as (asked_constraint a) b h in
@@ -63,36 +63,36 @@ ask_alike a b =
     ])
 
 -- 2. lists that ascend
-ascends : (ys : List Asked) → ((i j : ℕ) (d : Asked) → i ≤ j → j < length ys → is_ahead (get_or ys j d) (get_or ys i d) ≡ false) → Ascend ys
+ascends : (ys : List AskingRule) → ((i j : ℕ) (d : AskingRule) → i ≤ j → j < length ys → is_ahead (get_or ys j d) (get_or ys i d) ≡ false) → Ascend ys
 ascends [] far = tt
 ascends (a ∷ ys) far = (
   λ b c. (let l = c.1 in subst (λ x. is_ahead x a ≡ false) c.2 (far 0 (suc c.0) b (omega arith) (omega arith))),
   ascends ys (λ i j d l m. far (suc i) (suc j) d (omega arith) (omega arith)),
 )
 
-ascend_drop : (k : ℕ) (xs : List Asked) → Ascend xs → Ascend (drop k xs)
+ascend_drop : (k : ℕ) (xs : List AskingRule) → Ascend xs → Ascend (drop k xs)
 ascend_drop zero xs h = h
 ascend_drop (suc k) [] h = tt
 ascend_drop (suc k) (a ∷ xs) h = ascend_drop k xs h.1
 
-in_drop : (k : ℕ) (xs : List Asked) (a : Asked) → Contains (drop k xs) a → Contains xs a
+in_drop : (k : ℕ) (xs : List AskingRule) (a : AskingRule) → Contains (drop k xs) a → Contains xs a
 in_drop zero xs a c = c
 in_drop (suc k) [] a c = c
 in_drop (suc k) (x ∷ xs) a c = in_tail x a xs (in_drop k xs a c)
 
 -- none asks what comes before c
-abbrev NoneBefore : Constraint → List Asked → Type 0
-NoneBefore c xs = (a : Asked) → Contains xs a → comes_before (asked_constraint a) c ≡ false
+abbrev NoneBefore : Constraint → List AskingRule → Type 0
+NoneBefore c xs = (a : AskingRule) → Contains xs a → comes_before (asked_constraint a) c ≡ false
 
-none_before_rest : (c : Constraint) (x : Asked) (xs : List Asked) → NoneBefore c (x ∷ xs) → NoneBefore c xs
+none_before_rest : (c : Constraint) (x : AskingRule) (xs : List AskingRule) → NoneBefore c (x ∷ xs) → NoneBefore c xs
 none_before_rest c x xs f a k = f a (in_tail x a xs k)
 
 module _ (c : Constraint) where
-  abbrev is_c : Asked → Bool
+  abbrev is_c : AskingRule → Bool
   is_c = asks_that c
 
   -- behind one that asks another constraint no one asks c
-  no_more : (b : Asked) (xs : List Asked) → is_c b ≡ false → comes_before (asked_constraint b) c ≡ false → ((a : Asked) → Contains xs a → is_ahead a b ≡ false) → (a : Asked) → Contains xs a → is_c a ≡ false
+  no_more : (b : AskingRule) (xs : List AskingRule) → is_c b ≡ false → comes_before (asked_constraint b) c ≡ false → ((a : AskingRule) → Contains xs a → is_ahead a b ≡ false) → (a : AskingRule) → Contains xs a → is_c a ≡ false
   no_more b xs f n later a k =
       false_from_ne_true (is_c a) (λ t.
       elim (before_total c (asked_constraint b) n) [
@@ -101,7 +101,7 @@ module _ (c : Constraint) where
       ])
 
   -- those that ask c stand at the head
-  run_first : (xs : List Asked) → Ascend xs → NoneBefore c xs → take_while is_c xs ≡ filter is_c xs
+  run_first : (xs : List AskingRule) → Ascend xs → NoneBefore c xs → take_while is_c xs ≡ filter is_c xs
   run_first [] up none = refl
   run_first (x ∷ xs) up none =
       take_while-cons is_c x xs
@@ -114,7 +114,7 @@ module _ (c : Constraint) where
             ∙ sym (cond-false (is_c x) (x ∷ filter is_c xs) (filter is_c xs) f ∙ none_kept is_c xs (no_more x xs f (none x (in_head x xs)) up.0))
       ]
 
-  run_rest : (xs : List Asked) → Ascend xs → NoneBefore c xs → drop (length (filter is_c xs)) xs ≡ filter (λ a. not (is_c a)) xs
+  run_rest : (xs : List AskingRule) → Ascend xs → NoneBefore c xs → drop (length (filter is_c xs)) xs ≡ filter (λ a. not (is_c a)) xs
   run_rest [] up none = refl
   run_rest (x ∷ xs) up none =
       elim (cases_Bool (is_c x)) [
@@ -126,11 +126,11 @@ module _ (c : Constraint) where
             ∙ sym (cond-true (not (is_c x)) (x ∷ others xs) (others xs) (ap not f) ∙ ap (λ l. x ∷ l) (all_kept (λ a. not (is_c a)) xs (λ a k. ap not (no a k))))
       ]
     where
-      others : List Asked → List Asked
+      others : List AskingRule → List AskingRule
       others ys = filter (λ a. not (is_c a)) ys
 
 -- 3. the rules that ask
-numbers_kept : (f : ℕ → Bool) (p : Asked → Bool) (xs : List Asked) → ((a : Asked) → Contains xs a → f a.number ≡ p a) → filter f (asked_numbers xs) ≡ asked_numbers (filter p xs)
+numbers_kept : (f : ℕ → Bool) (p : AskingRule → Bool) (xs : List AskingRule) → ((a : AskingRule) → Contains xs a → f a.number ≡ p a) → filter f (asked_numbers xs) ≡ asked_numbers (filter p xs)
 numbers_kept f p [] h = refl
 numbers_kept f p (a ∷ xs) h =
     let rest = numbers_kept f p xs (λ b c. h b (in_tail a b xs c)) in
@@ -151,10 +151,10 @@ kept_within p q (x ∷ xs) h =
     ]
 
 module _ (rules : List SetRule) (s : ℕ) where
-  asks_told : (c : Constraint) (xs : List Asked) → AreAsked rules s xs → filter (asks rules s c) (asked_numbers xs) ≡ asked_numbers (filter (asks_that c) xs)
+  asks_told : (c : Constraint) (xs : List AskingRule) → AreAsked rules s xs → filter (asks rules s c) (asked_numbers xs) ≡ asked_numbers (filter (asks_that c) xs)
   asks_told c xs each = numbers_kept (asks rules s c) (asks_that c) xs (λ a k. ap (λ o. is_that o c) (each a k))
 
-  others_told : (c : Constraint) (xs : List Asked) → AreAsked rules s xs → filter (λ i. not (asks rules s c i)) (asked_numbers xs) ≡ asked_numbers (filter (λ a. not (asks_that c a)) xs)
+  others_told : (c : Constraint) (xs : List AskingRule) → AreAsked rules s xs → filter (λ i. not (asks rules s c i)) (asked_numbers xs) ≡ asked_numbers (filter (λ a. not (asks_that c a)) xs)
   others_told c xs each = numbers_kept (λ i. not (asks rules s c i)) (λ a. not (asks_that c a)) xs (λ a k. ap (λ o. not (is_that o c)) (each a k))
 
   some_asked : (c : Constraint) (i : ℕ) → asks_some rules s i ≡ false → asks rules s c i ≡ false
@@ -165,7 +165,7 @@ module _ (rules : List SetRule) (s : ℕ) where
       of (Some d) e = absurd (false≢true (sym e))
 
   -- one rule more
-  pub asked_more : (here : List ℕ) (k : ℕ) (xs ys : List Asked) (a : Asked) → k < length here → a.number ≡ get_or here k 0 → asked_at rules s (get_or here k 0) ≡ Some (asked_constraint a) → ys ≡ xs ++ a ∷ []
+  pub asked_more : (here : List ℕ) (k : ℕ) (xs ys : List AskingRule) (a : AskingRule) → k < length here → a.number ≡ get_or here k 0 → asked_at rules s (get_or here k 0) ≡ Some (asked_constraint a) → ys ≡ xs ++ a ∷ []
       → AreAsked rules s xs → asked_numbers xs ≡ filter (asks_some rules s) (take k here) → AreAsked rules s ys × (asked_numbers ys ≡ filter (asks_some rules s) (take (k + 1) here))
   asked_more here k xs ys a l n e is each h = (
     subst (AreAsked rules s) (sym is) (λ b m. elim (Contains-append_cases xs (a ∷ []) b m) [
@@ -187,7 +187,7 @@ module _ (rules : List SetRule) (s : ℕ) where
       ∙ sym (filter_more (asks_some rules s) here k 0 l)
 
   -- a stable sort puts them in turn
-  pub in_turn : (here : List ℕ) (xs ys : List Asked) → AreAsked rules s xs → asked_numbers xs ≡ filter (asks_some rules s) here → IsPermutation xs ys → IsSortedBy is_ahead ys → IsStableBy is_ahead xs ys → AreInTurn rules s here ys
+  pub in_turn : (here : List ℕ) (xs ys : List AskingRule) → AreAsked rules s xs → asked_numbers xs ≡ filter (asks_some rules s) here → IsPermutation xs ys → IsSortedBy is_ahead ys → IsStableBy is_ahead xs ys → AreInTurn rules s here ys
   in_turn here xs ys each e moved sorted stable = record {
     told = record { each = each_sorted; ascend = ascends ys (sorted_far is_ahead order ys sorted) };
     same = subst (λ l. IsPermutation l (asked_numbers ys)) e (IsPermutation-map (λ a. a.number) xs ys moved);
@@ -202,14 +202,14 @@ module _ (rules : List SetRule) (s : ℕ) where
       each_sorted : AreAsked rules s ys
       each_sorted a k = each a (Contains-permutation ys xs a (IsPermutation-sym xs ys moved) k)
 
-      tied : (a : Asked) (zs : List Asked) → filter (asks_that (asked_constraint a)) zs ≡ filter (ties is_ahead a) zs
+      tied : (a : AskingRule) (zs : List AskingRule) → filter (asks_that (asked_constraint a)) zs ≡ filter (ties is_ahead a) zs
       tied a zs = filter_agree (asks_that (asked_constraint a)) (ties is_ahead a) (ask_alike a) zs
 
-  pub turns_behind : (k : ℕ) (xs : List Asked) → AreTurns rules s xs → AreTurns rules s (drop k xs)
+  pub turns_behind : (k : ℕ) (xs : List AskingRule) → AreTurns rules s xs → AreTurns rules s (drop k xs)
   turns_behind k xs t = record { each = λ a c. t.each a (in_drop k xs a c); ascend = ascend_drop k xs t.ascend }
 
   -- 4. the arm at the head
-  least_first : (a : Asked) (xs : List Asked) → AreTurns rules s (a ∷ xs) → IsLeastAsked rules s (asked_numbers (a ∷ xs)) (asked_constraint a)
+  least_first : (a : AskingRule) (xs : List AskingRule) → AreTurns rules s (a ∷ xs) → IsLeastAsked rules s (asked_numbers (a ∷ xs)) (asked_constraint a)
   least_first a xs t = (
     (a.number, in_head a.number (asked_numbers xs), t.each a (in_head a xs)),
     λ i d k e. (
@@ -218,21 +218,21 @@ module _ (rules : List SetRule) (s : ℕ) where
         subst (λ w. comes_before w (asked_constraint a) ≡ false) asked (none m.0 m.1)),
   )
     where
-      none : (b : Asked) → Contains (a ∷ xs) b → is_ahead b a ≡ false
+      none : (b : AskingRule) → Contains (a ∷ xs) b → is_ahead b a ≡ false
       none b k = elim (in_cases a b xs k) [
         | inl e ↦ subst (λ w. is_ahead w a ≡ false) e (not_itself (asked_constraint a))
         | inr m ↦ t.ascend.0 b m
       ]
 
-  pub least_of : (xs : List Asked) (a : Asked) → slice_get xs 0 ≡ Some a → AreTurns rules s xs → IsLeastAsked rules s (asked_numbers xs) (asked_constraint a)
+  pub least_of : (xs : List AskingRule) (a : AskingRule) → slice_get xs 0 ≡ Some a → AreTurns rules s xs → IsLeastAsked rules s (asked_numbers xs) (asked_constraint a)
   least_of [] a e t = absurd (none-some a e)
   least_of (x ∷ xs) a e t = subst (λ b. IsLeastAsked rules s (asked_numbers (x ∷ xs)) (asked_constraint b)) (same_Some x a e) (least_first x xs t)
 
-  module _ (c : Constraint) (xs : List Asked) (t : AreTurns rules s xs) (least : IsLeastAsked rules s (asked_numbers xs) c) where
+  module _ (c : Constraint) (xs : List AskingRule) (t : AreTurns rules s xs) (least : IsLeastAsked rules s (asked_numbers xs) c) where
     none_before : NoneBefore c xs
     none_before a k = least.1 a.number (asked_constraint a) (in_numbers xs a k) (t.each a k)
       where
-        in_numbers : (ys : List Asked) (b : Asked) → Contains ys b → Contains (asked_numbers ys) b.number
+        in_numbers : (ys : List AskingRule) (b : AskingRule) → Contains ys b → Contains (asked_numbers ys) b.number
         in_numbers ys b m = in_map (λ x. x.number) ys b m
 
     pub asking_first : (n : ℕ) → n ≡ prefix_len (asks_that c) xs → asked_numbers (take n xs) ≡ filter (asks rules s c) (asked_numbers xs)

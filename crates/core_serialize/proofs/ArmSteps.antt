@@ -21,7 +21,7 @@ use Rattle.core_serialize.specs.declared.arms.NextArm.{NextArm}
 use Rattle.core_serialize.specs.declared.serialize.MatchArm.{MatchArm}
 use Rattle.core_serialize.specs.AroundViews.{around_view, brings}
 use Rattle.core_serialize.specs.Changes.{IsAfterTest}
-use Rattle.core_serialize.specs.declared.arms.Asked.{Asked}
+use Rattle.core_serialize.specs.declared.arms.AskingRule.{AskingRule}
 use Rattle.core_serialize.specs.Growing.{IsBestFrom, AreBestArms, IsStepOf}
 use Rattle.core_serialize.specs.ArmOrder.{constraint_asked, asked_at, asks, asks_some, asked_constraint, asked_numbers, AreTurns, AreInTurn, IsNextArm}
 use Rattle.core_serialize.specs.TreeViews.{arm_view, arms_view}
@@ -49,15 +49,15 @@ module _ (rules : List SetRule) (s : ℕ) where
 -- 2. the arms so far
 -- the rules that are left stand in turn, those of one constraint in order, and each asks a constraint behind that of the
 -- last arm; and with what may follow, the arms so far are best wherever the match is made
-pub record ArmsGrow (set : SiteSet) (now : Places.Around) (s : ℕ) (here : List ℕ) (left : List Asked) (arms : List MatchArm) : Type 0 where
+pub record ArmsGrow (set : SiteSet) (now : Places.Around) (s : ℕ) (here : List ℕ) (left : List AskingRule) (arms : List MatchArm) : Type 0 where
   pub turns : AreTurns set.rules s left
-  pub ordered : (a : Asked) → descend set.rules (filter (asks set.rules s (asked_constraint a)) (asked_numbers left)) ≡ true
+  pub ordered : (a : AskingRule) → descend set.rules (filter (asks set.rules s (asked_constraint a)) (asked_numbers left)) ≡ true
   pub last : Option Constraint
   pub later : (i : ℕ) (c : Constraint) → Contains (asked_numbers left) i → asked_at set.rules s i ≡ Some c → IsAfter last c
   pub far : (ar : Places.Around) → IsAfterTest set ar (match_test s) now → (t : Arms) → AreBestArms set ar s last (asked_numbers left) t → AreBestArms set ar s None here (arms_before arms t)
 
 -- rules of one constraint that stand in order do so behind some
-ordered_behind : (rules : List SetRule) (p : ℕ → Bool) (k : ℕ) (xs : List Asked) → descend rules (filter p (asked_numbers xs)) ≡ true → descend rules (filter p (asked_numbers (drop k xs))) ≡ true
+ordered_behind : (rules : List SetRule) (p : ℕ → Bool) (k : ℕ) (xs : List AskingRule) → descend rules (filter p (asked_numbers xs)) ≡ true → descend rules (filter p (asked_numbers (drop k xs))) ≡ true
 ordered_behind rules p zero xs h = h
 ordered_behind rules p (suc k) [] h = refl
 ordered_behind rules p (suc k) (a ∷ xs) h = ordered_behind rules p k xs (of (p a.number) h)
@@ -78,7 +78,7 @@ module _ (set : SiteSet) (around : Around) (s : ℕ) (here : List ℕ) where
       of None n = n
       of (Some r) n = n
 
-  pub arms_start : (turns : List Asked) → descend set.rules here ≡ true → IsStepOf set now (match_test s) here → AreInTurn set.rules s here turns → ArmsGrow set now s here turns []
+  pub arms_start : (turns : List AskingRule) → descend set.rules here ≡ true → IsStepOf set now (match_test s) here → AreInTurn set.rules s here turns → ArmsGrow set now s here turns []
   arms_start turns o step t = record {
     turns = t.told;
     ordered = λ a. ap (descend set.rules) (t.kept a) ∙ descend_kept set.rules (asks set.rules s (asked_constraint a)) here o;
@@ -92,14 +92,14 @@ module _ (set : SiteSet) (around : Around) (s : ℕ) (here : List ℕ) where
     };
   }
 
-  module _ (left : List Asked) (next : NextArm) (h : IsNextArm set s (asked_numbers left) next) where
+  module _ (left : List AskingRule) (next : NextArm) (h : IsNextArm set s (asked_numbers left) next) where
     abbrev c : Constraint
     c = constraint_view next.constraint
 
     abbrev mine : ℕ → Bool
     mine = asks set.rules s c
 
-    abbrev rest_of : List Asked
+    abbrev rest_of : List AskingRule
     rest_of = drop (length next.asking.items) left
 
     pub some_asking : next.asking.items ≢ []
@@ -148,6 +148,6 @@ module _ (set : SiteSet) (around : Around) (s : ℕ) (here : List ℕ) where
         other i k = from_filter (λ i. not (mine i)) (asked_numbers left) i (subst (λ l. Contains l i) others k)
 
   -- where no rule is left, all arms are made
-  pub arms_whole : (left : List Asked) (arms : List MatchArm) → asked_numbers left ≡ [] → ArmsGrow set now s here left arms → (ar : Places.Around) → IsAfterTest set ar (match_test s) now → AreBestArms set ar s None here (arms_view arms)
+  pub arms_whole : (left : List AskingRule) (arms : List MatchArm) → asked_numbers left ≡ [] → ArmsGrow set now s here left arms → (ar : Places.Around) → IsAfterTest set ar (match_test s) now → AreBestArms set ar s None here (arms_view arms)
   arms_whole left arms none g ar after =
       subst (AreBestArms set ar s None here) (arms_end arms) (g.far ar after no_arm (subst (λ l. AreBestArms set ar s g.last l no_arm) (sym none) (no_arms set ar s g.last)))

@@ -6,7 +6,7 @@ use Rattle.model.specs.trees.Places.{constraint_at, fields_of}
 use Rattle.model.specs.trees.Sound.{comes_before}
 use Rattle.model.specs.trees.Judge.{is_that}
 use Rattle.core_rule_sets.specs.SiteViews.{constraint_view}
-use Rattle.core_serialize.specs.declared.arms.Asked.{Asked}
+use Rattle.core_serialize.specs.declared.arms.AskingRule.{AskingRule}
 use Rattle.core_serialize.specs.declared.arms.NextArm.{NextArm}
 
 -- what the rule, if there is one, asks of a site
@@ -26,40 +26,40 @@ abbrev pub asks_some : List SetRule → ℕ → ℕ → Bool
 asks_some rules s i = is_some (asked_at rules s i)
 
 -- what is asked
-abbrev pub asked_constraint : Asked → Constraint
+abbrev pub asked_constraint : AskingRule → Constraint
 asked_constraint a = constraint_view a.constraint
 
 -- whether one asks that
-abbrev pub asks_that : Constraint → Asked → Bool
+abbrev pub asks_that : Constraint → AskingRule → Bool
 asks_that c a = is_that (Some (asked_constraint a)) c
 
 -- the rules that ask
-abbrev pub asked_numbers : List Asked → List ℕ
+abbrev pub asked_numbers : List AskingRule → List ℕ
 asked_numbers turns = map (λ a. a.number) turns
 
 -- each is what its rule asks of the site
-abbrev pub AreAsked : List SetRule → ℕ → List Asked → Type 0
-AreAsked rules s turns = (a : Asked) → Contains turns a → asked_at rules s a.number ≡ Some (asked_constraint a)
+abbrev pub AreAsked : List SetRule → ℕ → List AskingRule → Type 0
+AreAsked rules s turns = (a : AskingRule) → Contains turns a → asked_at rules s a.number ≡ Some (asked_constraint a)
 
 -- whether one's constraint comes before another's
-abbrev pub is_ahead : Asked → Asked → Bool
+abbrev pub is_ahead : AskingRule → AskingRule → Bool
 is_ahead a b = comes_before (asked_constraint a) (asked_constraint b)
 
 -- no constraint comes before one that stands ahead of it
-abbrev pub Ascend : List Asked → Type 0
+abbrev pub Ascend : List AskingRule → Type 0
 Ascend [] = Unit {0}
-Ascend (a ∷ turns) = ((b : Asked) → Contains turns b → is_ahead b a ≡ false) × Ascend turns
+Ascend (a ∷ turns) = ((b : AskingRule) → Contains turns b → is_ahead b a ≡ false) × Ascend turns
 
 -- what some rules ask of a site, in the order of the arms
-pub record AreTurns (rules : List SetRule) (s : ℕ) (turns : List Asked) : Type 0 where
+pub record AreTurns (rules : List SetRule) (s : ℕ) (turns : List AskingRule) : Type 0 where
   pub each : AreAsked rules s turns
   pub ascend : Ascend turns
 
 -- what the rules here ask of a site, each once, those of one constraint in the order in which they stand here
-pub record AreInTurn (rules : List SetRule) (s : ℕ) (here : List ℕ) (turns : List Asked) : Type 0 where
+pub record AreInTurn (rules : List SetRule) (s : ℕ) (here : List ℕ) (turns : List AskingRule) : Type 0 where
   pub told : AreTurns rules s turns
   pub same : IsPermutation (filter (asks_some rules s) here) (asked_numbers turns)
-  pub kept : (a : Asked) → filter (asks rules s (asked_constraint a)) (asked_numbers turns) ≡ filter (asks rules s (asked_constraint a)) here
+  pub kept : (a : AskingRule) → filter (asks rules s (asked_constraint a)) (asked_numbers turns) ≡ filter (asks rules s (asked_constraint a)) here
 
 -- the least constraint that some of these rules ask of a site
 abbrev pub IsLeastAsked : List SetRule → ℕ → List ℕ → Constraint → Type 0

@@ -6,7 +6,7 @@ use Rattle.std.specs.Global.{Vec}
 use Rattle.model.specs.sites.Sites.{Site, iterator_site, match_variant_site, extract_struct_site, match_some_site, Constraint, is_variant, is_struct, is_present}
 use Rattle.model.specs.trees.Places.{is_variant_field, is_struct_field, is_part_of}
 use Rattle.model.specs.trees.Tests.{up_to}
-use Rattle.core_serialize.specs.declared.fields.Fields.{Fields}
+use Rattle.core_serialize.specs.declared.fields.FieldsBySource.{FieldsBySource}
 
 -- whether a site is field i of what a constraint on s brings
 abbrev pub is_field : ℕ → Constraint → ℕ → Site → Bool
@@ -63,9 +63,9 @@ list_at lists s = slice_index_or (map (λ v. v.items) lists) s []
 abbrev pub ListsOneMore : Site → ℕ → List (Vec ℕ) → List (Vec ℕ) → Type 0
 ListsOneMore b site old new = (s : ℕ) → list_at new s ≡ list_at old s ++ cond (is_brought_from s b) (site ∷ []) []
 
-abbrev pub listed_under : Fields → ℕ → List ℕ
+abbrev pub listed_under : FieldsBySource → ℕ → List ℕ
 listed_under fields s = list_at fields.by_source.items s
 
 -- under each site stand exactly those that only an arm or a loop of it brings, each once and ascending
-pub record AreFields (sites : List Site) (fields : Fields) : Type 0 where
+pub record AreFields (sites : List Site) (fields : FieldsBySource) : Type 0 where
   pub listed : (s : ℕ) → listed_under fields s ≡ brought_by sites s

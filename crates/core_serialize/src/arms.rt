@@ -17,7 +17,7 @@ use std::cmp::Ordering;
 
 /// A rule that asks something of the source of a match.
 #[derive(Clone, Copy, Debug)]
-pub struct Asked {
+pub struct AskingRule {
     /// The rule's number.
     pub number: usize,
     /// What it asks.
@@ -51,14 +51,14 @@ fn all_asked(
     set: &RuleSet,
     source: BindingId,
     here: &[usize],
-) -> Result<Vec<Asked>, AllocError>
+) -> Result<Vec<AskingRule>, AllocError>
     ensures each { IfOk result (λ v. Turns.AreAsked (set_view set.now).rules source v.items) }
     ensures numbers { IfOk result (λ v. asked_numbers v.items ≡ filter (Turns.asks_some (set_view set.now).rules source) here.now) }
 {
     let mut turns = Vec::with_capacity(alloc, here.len())?;
     for number in here {
         if let Some(constraint) = asked_at(set, source, *number) {
-            turns.push(Asked {
+            turns.push(AskingRule {
                 number: *number,
                 constraint,
             })?;
@@ -68,7 +68,7 @@ fn all_asked(
 }
 
 // How two constraints are ordered.
-fn by_constraint(a: &Asked, b: &Asked) -> Ordering
+fn by_constraint(a: &AskingRule, b: &AskingRule) -> Ordering
     ensures { is_lt result ≡ Turns.is_ahead a.now b.now }
 {
     a.constraint.cmp(&b.constraint)
@@ -81,7 +81,7 @@ pub fn asked_in_turn(
     set: &RuleSet,
     source: BindingId,
     here: &[usize],
-) -> Result<Vec<Asked>, AllocError>
+) -> Result<Vec<AskingRule>, AllocError>
     ensures { IfOk result (λ v. AreInTurn (set_view set.now).rules source here.now v.items) }
 {
     let mut turns = all_asked(alloc, set, source, here)?;
@@ -89,14 +89,14 @@ pub fn asked_in_turn(
     Ok(turns)
 }
 
-fn asks(asked: &Asked, constraint: &Constraint) -> bool
+fn asks(asked: &AskingRule, constraint: &Constraint) -> bool
     ensures { result ≡ asks_that (constraint_view constraint.now) asked.now }
 {
     asked.constraint == *constraint
 }
 
 // How many at the head of these ask that.
-fn run_len(turns: &[Asked], constraint: &Constraint) -> usize
+fn run_len(turns: &[AskingRule], constraint: &Constraint) -> usize
     ensures value { result ≡ prefix_len (asks_that (constraint_view constraint.now)) turns.now }
     ensures within { result ≤ length turns.now }
 {
@@ -107,7 +107,7 @@ fn run_len(turns: &[Asked], constraint: &Constraint) -> usize
 }
 
 // The rules of these.
-fn numbers_of(alloc: Global, turns: &[Asked]) -> Result<Vec<usize>, AllocError>
+fn numbers_of(alloc: Global, turns: &[AskingRule]) -> Result<Vec<usize>, AllocError>
     ensures { IfOk result (λ v. v.items ≡ asked_numbers turns.now) }
 {
     let mut rules = Vec::with_capacity(alloc, turns.len())?;
@@ -118,7 +118,7 @@ fn numbers_of(alloc: Global, turns: &[Asked]) -> Result<Vec<usize>, AllocError>
 }
 
 /// Those behind the first of these.
-pub fn behind(turns: &[Asked], count: usize) -> &[Asked]
+pub fn behind(turns: &[AskingRule], count: usize) -> &[AskingRule]
     ensures { result.now ≡ drop count turns.now }
 {
     match turns.get(count..) {
@@ -132,7 +132,7 @@ pub fn next_arm(
     alloc: Global,
     indexed: &IndexedSet<'_>,
     source: BindingId,
-    left: &[Asked],
+    left: &[AskingRule],
 ) -> Result<Option<NextArm>, AllocError>
     requires { AreTurns (set_in indexed.now).rules source left.now }
     ensures { IfOk result (λ o. IsNextArmOf (set_in indexed.now) source (asked_numbers left.now) o) }

@@ -19,12 +19,12 @@ use std::alloc::{AllocError, Global};
 /// The sites that only an arm or a loop brings, by their sources, so that the fields of one site are found without a look
 /// at all others.
 #[derive(Debug, Drop)]
-pub struct Fields {
+pub struct FieldsBySource {
     /// At the number of each site those that an arm or a loop of it brings, ascending.
     pub by_source: Vec<Vec<BindingId>>,
 }
 
-impl Fields {
+impl FieldsBySource {
     /// The sites that only an arm or a loop of this one brings, ascending.
     pub fn under(&self, source: BindingId) -> &[BindingId]
         ensures { result.now ≡ listed_under self.now source }
@@ -86,7 +86,7 @@ fn add_field(
 }
 
 /// The sites of a set that arms and loops bring, by their sources.
-pub fn fields_by_source(alloc: Global, set: &RuleSet) -> Result<Fields, AllocError>
+pub fn fields_by_source(alloc: Global, set: &RuleSet) -> Result<FieldsBySource, AllocError>
     requires few { length (set_view set.now).sites ≤ 65536 }
     requires sources { SourcesFirst (set_view set.now).sites }
     ensures { IfOk result (AreFields (set_view set.now).sites) }
@@ -95,7 +95,7 @@ pub fn fields_by_source(alloc: Global, set: &RuleSet) -> Result<Fields, AllocErr
     for s in 0..set.bindings.len() {
         add_field(&mut by_source, &set.bindings[s], site_at(s))?;
     }
-    Ok(Fields { by_source })
+    Ok(FieldsBySource { by_source })
 }
 
 // Whether a site is that field of a source, which is of that variant.

@@ -8,7 +8,7 @@ ghost use Rattle.core_serialize.specs.FieldTests.{AreFields};
 ghost use Rattle.core_serialize.specs.Growing.{CanGrow};
 
 use crate::around::Around;
-use crate::fields::Fields;
+use crate::fields::FieldsBySource;
 use core_rule_sets::trie_again::RuleSet;
 
 /// A set of which a tree can be grown, and its fields by their sources. All places of the tree share it.
@@ -17,7 +17,7 @@ pub struct IndexedSet<'a> {
     /// The rules and their sites.
     pub set: &'a RuleSet,
     /// The sites that arms and loops bring.
-    pub fields: &'a Fields,
+    pub fields: &'a FieldsBySource,
     pub ghost can_grow: { CanGrow (set_view set.now) },
     pub ghost are_fields: { AreFields (set_view set.now).sites fields.now },
 }

@@ -6,18 +6,18 @@ use Rattle.app_command.specs.declared.reading.Reading.{Reading}
 use Rattle.app_command.specs.declared.reading.Reading.TheVariants.{Defs, Unread}
 use Rattle.app_command.specs.declared.words.Request.{Request}
 use Rattle.app_command.specs.Readings.{has_no_definitions, is_comparison, mistake_of_text, mistakes_of_texts, none_without, AreOfText, AreOfTexts, IsReadingOf}
-use Rattle.isle_capi.specs.declared.options.Asked.{Asked}
-use Rattle.isle_capi.specs.declared.options.Task.{Task}
-use Rattle.isle_capi.specs.declared.options.Task.TheVariants as A
+use Rattle.isle_capi.specs.declared.options.CallRequest.{CallRequest}
+use Rattle.isle_capi.specs.declared.options.CallTask.{CallTask}
+use Rattle.isle_capi.specs.declared.options.CallTask.TheVariants as A
 use Rattle.isle_capi.specs.Told.{command_task, IsRequestOf}
 use Rattle.isle_capi.proofs.Telling.{none_is_not_some}
 
-no_comparison : (task : Task) → is_comparison (command_task task) ≡ false
+no_comparison : (task : CallTask) → is_comparison (command_task task) ≡ false
 no_comparison A.Trees = refl
 no_comparison A.Check = refl
 no_comparison A.Code = refl
 
-each_has : (asked : Asked) (request : Request) → IsRequestOf asked request → (number : ℕ) → has_no_definitions request number ≡ false
+each_has : (asked : CallRequest) (request : Request) → IsRequestOf asked request → (number : ℕ) → has_no_definitions request number ≡ false
 each_has asked request asks number =
     ap (λ b. (b || is_some request.answers) && (number + 1 == length request.files.items)) (ap is_comparison asks.task ∙ no_comparison asked.task)
     ∙ ap (λ b. b && (number + 1 == length request.files.items)) (none_is_not_some request.answers asks.answers)
@@ -40,7 +40,7 @@ same_reading v w same texts (Defs defs) is = (same_definitions v w same texts 0 
 same_reading v w same texts (Unread mistakes) is = (is.0, is.1 ∙ same_mistakes v w same texts 0, is.2)
 
 -- so they are read by the request for a call
-pub read_for_call : (asked : Asked) (request : Request) (texts : List (List ℕ)) (reading : Result Reading AllocError) → IsRequestOf asked request
+pub read_for_call : (asked : CallRequest) (request : Request) (texts : List (List ℕ)) (reading : Result Reading AllocError) → IsRequestOf asked request
     → IfOk reading (IsReadingOf (has_no_definitions request) texts) → IfOk reading (IsReadingOf none_without texts)
 read_for_call asked request texts (Ok reading) asks is = same_reading (has_no_definitions request) none_without (each_has asked request asks) texts reading is
 read_for_call asked request texts (Err e) asks is = tt

@@ -9,15 +9,15 @@ use Rattle.app_command.specs.Codes.{IsNamesLine}
 use Rattle.app_command.specs.Readings.{IsAcceptedReading}
 use Rattle.app_command.specs.Statuses.{may_fail, IsStatusOfReading}
 use Rattle.app_command.specs.TaskAnswers.{denies, has_one, IsAnswerToReading}
-use Rattle.isle_capi.specs.declared.options.Asked.{Asked}
-use Rattle.isle_capi.specs.declared.options.Task.{Task}
-use Rattle.isle_capi.specs.declared.options.Task.TheVariants as A
+use Rattle.isle_capi.specs.declared.options.CallRequest.{CallRequest}
+use Rattle.isle_capi.specs.declared.options.CallTask.{CallTask}
+use Rattle.isle_capi.specs.declared.options.CallTask.TheVariants as A
 use Rattle.isle_capi.specs.declared.output.Sizes.{Sizes}
 use Rattle.isle_capi.specs.declared.statuses.TheConstants.{DONE, ERRORS, NO_CODE}
 use Rattle.isle_capi.specs.Told.{command_task, status_of, text_of, HandsOver, IsCommandAnswer, IsRequestOf, IsSaidTo, IsTextOf, IsToldOf, StatusSays}
 
 -- an answer of the command to a request for a call
-pub command_answer : (asked : Asked) (reading : Reading) (request : Request) (answer : Result Answer AllocError)
+pub command_answer : (asked : CallRequest) (reading : Reading) (request : Request) (answer : Result Answer AllocError)
     → IsRequestOf asked request → IfOk answer (IsAnswerToReading request reading)
     → IfOk answer (λ a. IsStatusOfReading request reading a.status) → IfOk answer (IsCommandAnswer asked reading)
 command_answer asked reading request (Ok answer) asks answers says = record { request = request; asks = asks; answers = answers; says = says }
@@ -32,7 +32,7 @@ denies_none : (request : Request) → request.deny ≡ false → request.denied.
 denies_none request deny denied = ap (λ b. b || has_one request.denied.items) deny ∙ ap has_one denied
 
 -- a task of a call can't fail by itself
-cannot_fail : (task : Task) (request : Request) → request.task ≡ command_task task → denies request ≡ false → is_none request.terms ≡ true
+cannot_fail : (task : CallTask) (request : Request) → request.task ≡ command_task task → denies request ≡ false → is_none request.terms ≡ true
     → may_fail request.task request ≡ false
 cannot_fail A.Trees request e deny terms = subst (λ t. may_fail t request ≡ false) (sym e) (none_is_not_some request.terms terms)
 cannot_fail A.Check request e deny terms = subst (λ t. may_fail t request ≡ false) (sym e) deny
@@ -60,7 +60,7 @@ one_if_errors s most e =
     omega (arith, most, some)
 
 -- so the status of an answer of the command says what a status says
-pub says_of_command : (asked : Asked) (reading : Reading) (answer : Answer)
+pub says_of_command : (asked : CallRequest) (reading : Reading) (answer : Answer)
     → IsCommandAnswer asked reading answer → StatusSays asked reading (status_of answer)
 says_of_command asked reading answer h =
     record {
@@ -73,28 +73,28 @@ says_of_command asked reading answer h =
     }
 
 -- what comes of Rust code that is made
-pub says_done : (asked : Asked) (reading : Reading) → IsAcceptedReading asked.expand reading → StatusSays asked reading DONE
+pub says_done : (asked : CallRequest) (reading : Reading) → IsAcceptedReading asked.expand reading → StatusSays asked reading DONE
 says_done asked reading accepted =
     record { done = λ _. accepted; errors = λ e _. omega (arith, e); no_code = λ e. absurd (omega (arith, e)) }
 
 -- and of names that would be one
-pub says_no_code : (asked : Asked) (reading : Reading) → asked.task ≡ A.Code → IsAcceptedReading asked.expand reading → StatusSays asked reading NO_CODE
+pub says_no_code : (asked : CallRequest) (reading : Reading) → asked.task ≡ A.Code → IsAcceptedReading asked.expand reading → StatusSays asked reading NO_CODE
 says_no_code asked reading code accepted =
     record { done = λ _. accepted; errors = λ e _. omega (arith, e); no_code = λ _. (accepted, code) }
 
 -- the text of an answer of the command, where no Rust code is wanted
-text_of_said : (task : Task) (asked : Asked) (reading : Reading) (answer : Answer)
+text_of_said : (task : CallTask) (asked : CallRequest) (reading : Reading) (answer : Answer)
     → (task ≡ A.Code → ⊥) → IsCommandAnswer asked reading answer → IsTextOf task asked reading (status_of answer) (text_of answer)
 text_of_said A.Trees asked reading answer other h = (answer, h, refl, refl)
 text_of_said A.Check asked reading answer other h = (answer, h, refl, refl)
 text_of_said A.Code asked reading answer other h = absurd (other refl)
 
 -- trees are no code, nor are warnings
-pub is_no_code : (task : Task) → (task ≡ A.Trees) ⊎ (task ≡ A.Check) → task ≡ A.Code → ⊥
+pub is_no_code : (task : CallTask) → (task ≡ A.Trees) ⊎ (task ≡ A.Check) → task ≡ A.Code → ⊥
 is_no_code task (inl e) f = cc
 is_no_code task (inr e) f = cc
 
-module _ (asked : Asked) (reading : Reading) (out out' : List ℕ) (sizes : Sizes) (result : ℕ) where
+module _ (asked : CallRequest) (reading : Reading) (out out' : List ℕ) (sizes : Sizes) (result : ℕ) where
   -- what the command says is told
   pub told_of_said : (asked.task ≡ A.Code → ⊥) → IsSaidTo asked reading out out' sizes result → IsToldOf asked reading out out' sizes result
   told_of_said other (inl refused) = inl refused

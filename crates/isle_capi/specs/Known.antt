@@ -1,11 +1,11 @@
 -- Which numbers of options mean something.
 use Rattle.std.specs.Prelude.{ℕ, ◌≡◌, Bool, false, true, nat_lt, nat_eq, ◌&&◌, ◌||◌, not}
-use Rattle.isle_capi.specs.declared.options.Asked.{Asked}
-use Rattle.isle_capi.specs.declared.options.Format.{Format}
-use Rattle.isle_capi.specs.declared.options.Format.TheVariants as F
+use Rattle.isle_capi.specs.declared.options.CallRequest.{CallRequest}
+use Rattle.isle_capi.specs.declared.options.ReportFormat.{ReportFormat}
+use Rattle.isle_capi.specs.declared.options.ReportFormat.TheVariants as F
 use Rattle.isle_capi.specs.declared.options.Options.{Options}
-use Rattle.isle_capi.specs.declared.options.Task.{Task}
-use Rattle.isle_capi.specs.declared.options.Task.TheVariants as T
+use Rattle.isle_capi.specs.declared.options.CallTask.{CallTask}
+use Rattle.isle_capi.specs.declared.options.CallTask.TheVariants as T
 
 abbrev pub is_task : ℕ → Bool
 is_task n = nat_lt n 3
@@ -29,12 +29,12 @@ abbrev pub AreOptions : Options → Type 0
 AreOptions o = are_options o ≡ true
 
 -- the numbers of tasks, formats and truth values
-abbrev pub task_number : Task → ℕ
+abbrev pub task_number : CallTask → ℕ
 task_number T.Trees = 0
 task_number T.Check = 1
 task_number T.Code = 2
 
-abbrev pub format_number : Format → ℕ
+abbrev pub format_number : ReportFormat → ℕ
 format_number F.Text = 0
 format_number F.Line = 1
 format_number F.Colored = 2
@@ -45,7 +45,7 @@ truth_number false = 0
 truth_number true = 1
 
 -- options have the numbers of what is asked
-pub record IsAskedBy (options : Options) (asked : Asked) : Type 0 where
+pub record IsAskedBy (options : Options) (asked : CallRequest) : Type 0 where
   pub task : options.task ≡ task_number asked.task
   pub format : options.format ≡ format_number asked.format
   pub expand : options.expand ≡ truth_number asked.expand

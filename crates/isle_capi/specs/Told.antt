@@ -11,31 +11,31 @@ use Rattle.app_command.specs.Codes.{IsNamesLine}
 use Rattle.app_command.specs.Readings.{none_without, IsAcceptedReading, IsReadingOf}
 use Rattle.app_command.specs.Statuses.{IsStatusOfReading}
 use Rattle.app_command.specs.TaskAnswers.{IsAnswerToReading}
-use Rattle.isle_capi.specs.declared.options.Asked.{Asked}
-use Rattle.isle_capi.specs.declared.options.Format.{Format}
-use Rattle.isle_capi.specs.declared.options.Format.TheVariants as F
+use Rattle.isle_capi.specs.declared.options.CallRequest.{CallRequest}
+use Rattle.isle_capi.specs.declared.options.ReportFormat.{ReportFormat}
+use Rattle.isle_capi.specs.declared.options.ReportFormat.TheVariants as F
 use Rattle.isle_capi.specs.declared.options.Options.{Options}
-use Rattle.isle_capi.specs.declared.options.Task.{Task}
-use Rattle.isle_capi.specs.declared.options.Task.TheVariants as A
+use Rattle.isle_capi.specs.declared.options.CallTask.{CallTask}
+use Rattle.isle_capi.specs.declared.options.CallTask.TheVariants as A
 use Rattle.isle_capi.specs.declared.output.Sizes.{Sizes}
 use Rattle.isle_capi.specs.declared.statuses.TheConstants.{DONE, ERRORS, NO_CODE, NO_MEMORY, NO_ROOM}
 use Rattle.isle_capi.specs.Known.{IsAskedBy}
 
 -- what the command is asked for a task of a call: where Rust code is wanted, it says what is wrong
-abbrev pub command_task : Task → CommandTask.Task
+abbrev pub command_task : CallTask → CommandTask.Task
 command_task A.Trees = T.Lower
 command_task A.Check = T.Check
 command_task A.Code = T.Check
 
 -- and in which form
-abbrev pub command_format : Format → CommandFormat.Format
+abbrev pub command_format : ReportFormat → CommandFormat.Format
 command_format F.Text = C.Text
 command_format F.Line = C.Line
 command_format F.Colored = C.Text
 command_format F.Json = C.Json
 
 -- what the command is asked for a call: all terms, warnings count as no errors, and each text has definitions
-pub record IsRequestOf (asked : Asked) (request : Request) : Type 0 where
+pub record IsRequestOf (asked : CallRequest) (request : Request) : Type 0 where
   pub task : request.task ≡ command_task asked.task
   pub format : request.format ≡ command_format asked.format
   pub expand : request.expand ≡ asked.expand
@@ -45,7 +45,7 @@ pub record IsRequestOf (asked : Asked) (request : Request) : Type 0 where
   pub answers : is_none request.answers ≡ true
 
 -- what the command answers to what was read, for a call
-pub record IsCommandAnswer (asked : Asked) (reading : Reading) (answer : Answer) : Type 0 where
+pub record IsCommandAnswer (asked : CallRequest) (reading : Reading) (answer : Answer) : Type 0 where
   pub request : Request
   pub asks : IsRequestOf asked request
   pub answers : IsAnswerToReading request reading answer
@@ -65,19 +65,19 @@ abbrev pub text_of : Answer → List ℕ
 text_of answer = first_text (string_bytes answer.out) (string_bytes answer.err)
 
 -- a status and a text are those of an answer of the command
-abbrev pub IsToldByCommand : Asked → Reading → (status : ℕ) → (text : List ℕ) → Type 0
+abbrev pub IsToldByCommand : CallRequest → Reading → (status : ℕ) → (text : List ℕ) → Type 0
 IsToldByCommand asked reading status text =
     (answer : Answer) × IsCommandAnswer asked reading answer × (status ≡ status_of answer) × (text ≡ text_of answer)
 
 -- what a status that comes with a text says of what was read: DONE that all texts were read and their definitions are accepted,
 -- ERRORS that not all were read, or that they aren't, NO_CODE that they are and that their code was wanted
-pub record StatusSays (asked : Asked) (reading : Reading) (status : ℕ) : Type 0 where
+pub record StatusSays (asked : CallRequest) (reading : Reading) (status : ℕ) : Type 0 where
   pub done : status ≡ DONE → IsAcceptedReading asked.expand reading
   pub errors : status ≡ ERRORS → IsAcceptedReading asked.expand reading → ⊥
   pub no_code : status ≡ NO_CODE → IsAcceptedReading asked.expand reading × (asked.task ≡ A.Code)
 
 -- the text that comes with a status
-abbrev pub IsTextOf : Task → Asked → Reading → (status : ℕ) → (text : List ℕ) → Type 0
+abbrev pub IsTextOf : CallTask → CallRequest → Reading → (status : ℕ) → (text : List ℕ) → Type 0
 IsTextOf A.Trees asked reading status text = IsToldByCommand asked reading status text
 IsTextOf A.Check asked reading status text = IsToldByCommand asked reading status text
 IsTextOf A.Code asked reading status text =
@@ -85,7 +85,7 @@ IsTextOf A.Code asked reading status text =
     ⊎ (((status ≡ DONE) × (text ≢ [])) ⊎ ((status ≡ NO_CODE) × IsNamesLine text))
 
 -- a status and a text are made of what was read
-abbrev pub IsMadeOfReading : Asked → Reading → (status : ℕ) → (text : List ℕ) → Type 0
+abbrev pub IsMadeOfReading : CallRequest → Reading → (status : ℕ) → (text : List ℕ) → Type 0
 IsMadeOfReading asked reading status text = StatusSays asked reading status × IsTextOf asked.task asked reading status text
 
 -- a text is handed over with its status: it is written whole, or nothing is where the buffer is too small
@@ -96,23 +96,23 @@ pub record HandsOver (out out' : List ℕ) (sizes : Sizes) (status : ℕ) (text 
   pub short : length out < length text → result ≡ NO_ROOM
 
 -- what the command says of what was read is answered
-abbrev pub IsSaidTo : Asked → Reading → (out out' : List ℕ) → Sizes → ℕ → Type 0
+abbrev pub IsSaidTo : CallRequest → Reading → (out out' : List ℕ) → Sizes → ℕ → Type 0
 IsSaidTo asked reading out out' sizes result =
     (result ≡ NO_MEMORY)
     ⊎ ((answer : Answer) × IsCommandAnswer asked reading answer × HandsOver out out' sizes (status_of answer) (text_of answer) result)
 
 -- what was read is answered: memory was refused, or a text that is made of it is handed over
-abbrev pub IsToldOf : Asked → Reading → (out out' : List ℕ) → Sizes → ℕ → Type 0
+abbrev pub IsToldOf : CallRequest → Reading → (out out' : List ℕ) → Sizes → ℕ → Type 0
 IsToldOf asked reading out out' sizes result =
     (result ≡ NO_MEMORY)
     ⊎ ((status : ℕ) × (text : List ℕ) × IsMadeOfReading asked reading status text × HandsOver out out' sizes status text result)
 
 -- texts are answered as something that they are read as
-abbrev pub IsToldOfTexts : Asked → List (List ℕ) → (out out' : List ℕ) → Sizes → ℕ → Type 0
+abbrev pub IsToldOfTexts : CallRequest → List (List ℕ) → (out out' : List ℕ) → Sizes → ℕ → Type 0
 IsToldOfTexts asked texts out out' sizes result =
     (result ≡ NO_MEMORY) ⊎ ((reading : Reading) × IsReadingOf none_without texts reading × IsToldOf asked reading out out' sizes result)
 
 -- and a call, as its options ask
 abbrev pub IsToldByCall : Options → List (List ℕ) → (out out' : List ℕ) → Sizes → ℕ → Type 0
 IsToldByCall options texts out out' sizes result =
-    (asked : Asked) × IsAskedBy options asked × IsToldOfTexts asked texts out out' sizes result
+    (asked : CallRequest) × IsAskedBy options asked × IsToldOfTexts asked texts out out' sizes result

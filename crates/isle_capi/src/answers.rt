@@ -3,10 +3,10 @@
 ghost use Rattle.std.specs.Prelude.{◌≡◌, map, string_bytes, IfOk};
 ghost use Rattle.app_command.specs.Readings.{none_without, IsReadingOf};
 ghost use Rattle.isle_capi.specs.Calls.{HasText, IsAnswered, LeavesBehind};
-ghost use Rattle.isle_capi.specs.declared.options.Task.TheVariants.{Code};
+ghost use Rattle.isle_capi.specs.declared.options.CallTask.TheVariants.{Code};
 ghost use Rattle.isle_capi.specs.Told.{command_format, command_task, status_of, text_of, IsCommandAnswer, IsRequestOf, IsSaidTo, IsToldOf, IsToldOfTexts};
 
-use crate::options::{Asked, Format, Task};
+use crate::options::{CallRequest, CallTask, ReportFormat};
 use crate::output::{Sizes, hand_over};
 use crate::statuses::{DONE, ERRORS, NO_CODE, NO_MEMORY};
 use app_command::answers::{Answer, answer_to_reading};
@@ -20,7 +20,7 @@ use std::alloc::{AllocError, Global};
 use std::io::sink;
 
 // How Rust code is written.
-pub(crate) fn codegen_options(asked: Asked, prefixes: Vec<Prefix>) -> CodegenOptions
+pub(crate) fn codegen_options(asked: CallRequest, prefixes: Vec<Prefix>) -> CodegenOptions
     ensures attributes { result.exclude_global_allow_pragmas ≡ asked.exclude_global_allow_pragmas }
     ensures logging { result.emit_logging ≡ asked.emit_logging }
 {
@@ -34,7 +34,7 @@ pub(crate) fn codegen_options(asked: Asked, prefixes: Vec<Prefix>) -> CodegenOpt
 // Writes what is asked of these files, or what is wrong with them, and answers the status of it.
 pub(crate) fn told(
     alloc: Global,
-    asked: Asked,
+    asked: CallRequest,
     options: &CodegenOptions,
     files: &Files,
     out: &mut [u8],
@@ -53,7 +53,7 @@ pub(crate) fn told(
 // Writes what is asked of what was read.
 fn told_of(
     alloc: Global,
-    asked: Asked,
+    asked: CallRequest,
     options: &CodegenOptions,
     files: &Files,
     reading: &Reading,
@@ -65,15 +65,15 @@ fn told_of(
     ensures told { IsToldOf asked reading.now out.old out.new sizes.new result }
 {
     match asked.task {
-        Task::Code => coded(alloc, asked, options, files, reading, out, sizes),
-        Task::Trees | Task::Check => said(alloc, asked, files, reading, out, sizes),
+        CallTask::Code => coded(alloc, asked, options, files, reading, out, sizes),
+        CallTask::Trees | CallTask::Check => said(alloc, asked, files, reading, out, sizes),
     }
 }
 
 // Writes the Rust code of what was read, or what is wrong with it.
 fn coded(
     alloc: Global,
-    asked: Asked,
+    asked: CallRequest,
     options: &CodegenOptions,
     files: &Files,
     reading: &Reading,
@@ -97,7 +97,7 @@ fn coded(
 // Writes what the command says of what was read.
 fn said(
     alloc: Global,
-    asked: Asked,
+    asked: CallRequest,
     files: &Files,
     reading: &Reading,
     out: &mut [u8],
@@ -124,7 +124,7 @@ fn refused(sizes: &mut Sizes) -> u32
 }
 
 // What these files are read as. Nobody is told what is being done.
-fn read_silently(alloc: Global, asked: Asked, files: &Files) -> Result<Reading, AllocError>
+fn read_silently(alloc: Global, asked: CallRequest, files: &Files) -> Result<Reading, AllocError>
     ensures { IfOk result (IsReadingOf none_without (map string_bytes files.now.texts.items)) }
 {
     let request = request_of(alloc, asked);
@@ -136,7 +136,7 @@ fn read_silently(alloc: Global, asked: Asked, files: &Files) -> Result<Reading, 
 // What the command answers to what was read. It tells nobody what is being done.
 fn answer_of_command(
     alloc: Global,
-    asked: Asked,
+    asked: CallRequest,
     files: &Files,
     reading: &Reading,
 ) -> Result<Answer, AllocError>
@@ -149,7 +149,7 @@ fn answer_of_command(
 }
 
 // What is asked, as the command is asked it. Where Rust code is wanted, the command says what is wrong.
-fn request_of<'a>(alloc: Global, asked: Asked) -> Request<'a>
+fn request_of<'a>(alloc: Global, asked: CallRequest) -> Request<'a>
     ensures { IsRequestOf asked result }
 {
     Request {
@@ -160,7 +160,7 @@ fn request_of<'a>(alloc: Global, asked: Asked) -> Request<'a>
         allowed: Vec::new(alloc),
         all: false,
         format: format_of(asked.format),
-        colored: asked.format == Format::Colored,
+        colored: asked.format == ReportFormat::Colored,
         terms: None,
         folder: "",
         rule: "",
@@ -175,23 +175,23 @@ fn request_of<'a>(alloc: Global, asked: Asked) -> Request<'a>
 }
 
 // A task as the command has it.
-fn task_of(task: Task) -> words::Task
+fn task_of(task: CallTask) -> words::Task
     ensures { result ≡ command_task task }
 {
     match task {
-        Task::Trees => words::Task::Lower,
-        Task::Check | Task::Code => words::Task::Check,
+        CallTask::Trees => words::Task::Lower,
+        CallTask::Check | CallTask::Code => words::Task::Check,
     }
 }
 
 // A format as the command has it.
-fn format_of(format: Format) -> words::Format
+fn format_of(format: ReportFormat) -> words::Format
     ensures { result ≡ command_format format }
 {
     match format {
-        Format::Text | Format::Colored => words::Format::Text,
-        Format::Line => words::Format::Line,
-        Format::Json => words::Format::Json,
+        ReportFormat::Text | ReportFormat::Colored => words::Format::Text,
+        ReportFormat::Line => words::Format::Line,
+        ReportFormat::Json => words::Format::Json,
     }
 }
 

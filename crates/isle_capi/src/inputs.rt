@@ -3,7 +3,7 @@
 ghost use Rattle.std.specs.Prelude.{◌≡◌, ◌≤◌, ◌-◌, ◌↔◌, false, true, map, string_bytes, IfErr, IfOk, IsTrue, SomeIff};
 ghost use Rattle.std.specs.Str.{is_utf8};
 ghost use Rattle.isle_capi.specs.Calls.{are_texts, length_of, texts_in, total_length, AddUp, AreOther};
-ghost use Rattle.isle_capi.specs.declared.inputs.Unread.TheVariants.{Memory, Text};
+ghost use Rattle.isle_capi.specs.declared.inputs.UnreadInput.TheVariants.{Memory, Text};
 
 use cranelift_isle::syntax::Files;
 use std::alloc::{AllocError, AllocFailed, Global};
@@ -20,26 +20,26 @@ pub struct FileLengths {
 
 /// Why files can't be read.
 #[derive(Clone, Copy, PartialEq, Eq)]
-pub enum Unread {
+pub enum UnreadInput {
     /// Memory was refused.
     Memory,
     /// A name or a text isn't UTF-8.
     Text,
 }
 
-impl From<AllocError> for Unread {
+impl From<AllocError> for UnreadInput {
     ghost from_gives = { λ _ e. e ≡ Memory };
 
-    fn from(_: AllocError) -> Unread {
-        Unread::Memory
+    fn from(_: AllocError) -> UnreadInput {
+        UnreadInput::Memory
     }
 }
 
-impl<T: Drop> From<AllocFailed<T>> for Unread {
+impl<T: Drop> From<AllocFailed<T>> for UnreadInput {
     ghost from_gives = { λ _ e. e ≡ Memory };
 
-    fn from(_: AllocFailed<T>) -> Unread {
-        Unread::Memory
+    fn from(_: AllocFailed<T>) -> UnreadInput {
+        UnreadInput::Memory
     }
 }
 
@@ -70,8 +70,8 @@ fn rest_of(length: usize, file: &FileLengths) -> Option<usize>
 ///
 /// # Errors
 ///
-/// `Unread::Text` where a name or a text isn't UTF-8, `Unread::Memory` where memory is refused.
-pub fn files_of(alloc: Global, bytes: &[u8], lengths: &[FileLengths]) -> Result<Files, Unread>
+/// `UnreadInput::Text` where a name or a text isn't UTF-8, `UnreadInput::Memory` where memory is refused.
+pub fn files_of(alloc: Global, bytes: &[u8], lengths: &[FileLengths]) -> Result<Files, UnreadInput>
     requires { AddUp lengths.now bytes.now }
     ensures texts { IfOk result (λ _. are_texts lengths.now bytes.now ≡ true) }
     ensures same { IfOk result (λ files. map string_bytes files.texts.items ≡ texts_in lengths.now bytes.now) }
@@ -93,13 +93,13 @@ pub fn files_of(alloc: Global, bytes: &[u8], lengths: &[FileLengths]) -> Result<
 }
 
 // Bytes as text.
-fn string_of(alloc: Global, bytes: &[u8]) -> Result<String, Unread>
+fn string_of(alloc: Global, bytes: &[u8]) -> Result<String, UnreadInput>
     ensures text { IfOk result (λ _. is_utf8 bytes.now ≡ true) }
     ensures same { IfOk result (λ text. string_bytes text ≡ bytes.now) }
     ensures other { IfErr result (λ e. e ≡ Text → is_utf8 bytes.now ≡ false) }
 {
     match std::str::from_utf8(bytes) {
         Ok(text) => Ok(String::from_str(alloc, text)?),
-        Err(_) => Err(Unread::Text),
+        Err(_) => Err(UnreadInput::Text),
     }
 }

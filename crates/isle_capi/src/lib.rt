@@ -17,7 +17,7 @@ pub mod statuses;
 mod tests;
 
 use crate::answers::{codegen_options, told};
-use crate::inputs::{FileLengths, Unread, add_up, files_of};
+use crate::inputs::{FileLengths, UnreadInput, add_up, files_of};
 use crate::options::{Options, asked_by};
 use crate::output::Sizes;
 use crate::prefixes::prefixes_of;
@@ -81,7 +81,7 @@ pub extern "C" fn isle_capi_lower(
             Ok(None) => WRONG_PREFIX,
             Err(AllocError) => NO_MEMORY,
         },
-        Err(Unread::Memory) => NO_MEMORY,
-        Err(Unread::Text) => NOT_UTF8,
+        Err(UnreadInput::Memory) => NO_MEMORY,
+        Err(UnreadInput::Text) => NOT_UTF8,
     }
 }

@@ -22,7 +22,7 @@ pub struct Options {
 
 /// What is to be done.
 #[derive(Clone, Copy, PartialEq, Eq)]
-pub enum Task {
+pub enum CallTask {
     /// The trees of the terms.
     Trees,
     /// Nothing but what is likely not meant.
@@ -33,7 +33,7 @@ pub enum Task {
 
 /// How trees and reports are written.
 #[derive(Clone, Copy, PartialEq, Eq)]
-pub enum Format {
+pub enum ReportFormat {
     /// Reports with the lines that they speak of.
     Text,
     /// Each report in one line.
@@ -46,11 +46,11 @@ pub enum Format {
 
 /// What is wanted.
 #[derive(Clone, Copy)]
-pub struct Asked {
+pub struct CallRequest {
     /// What is to be done.
-    pub task: Task,
+    pub task: CallTask,
     /// How trees and reports are written.
-    pub format: Format,
+    pub format: ReportFormat,
     /// Whether uses of internal extractors are replaced by their templates.
     pub expand: bool,
     /// Whether Rust code begins without attributes of its file.
@@ -60,7 +60,7 @@ pub struct Asked {
 }
 
 /// What these options ask for, or None where a number means nothing or they don't go together.
-pub fn asked_by(options: &Options) -> Option<Asked>
+pub fn asked_by(options: &Options) -> Option<CallRequest>
     ensures known { is_some result ≡ are_options options.now }
     ensures asked { IfSome result (IsAskedBy options.now) }
 {
@@ -72,7 +72,7 @@ pub fn asked_by(options: &Options) -> Option<Asked>
     let expand = truth_of(options.expand)?;
     let exclude_global_allow_pragmas = truth_of(options.exclude_global_allow_pragmas)?;
     let emit_logging = truth_of(options.emit_logging)?;
-    Some(Asked {
+    Some(CallRequest {
         task,
         format,
         expand,
@@ -89,28 +89,28 @@ fn go_together(options: &Options) -> bool
 }
 
 // The task of a number.
-fn task_of(number: u32) -> Option<Task>
+fn task_of(number: u32) -> Option<CallTask>
     ensures known { is_some result ≡ is_task number }
     ensures number { IfSome result (λ x. number ≡ task_number x) }
 {
     match number {
-        0 => Some(Task::Trees),
-        1 => Some(Task::Check),
-        2 => Some(Task::Code),
+        0 => Some(CallTask::Trees),
+        1 => Some(CallTask::Check),
+        2 => Some(CallTask::Code),
         _ => None,
     }
 }
 
 // The format of a number.
-fn format_of(number: u32) -> Option<Format>
+fn format_of(number: u32) -> Option<ReportFormat>
     ensures known { is_some result ≡ is_format number }
     ensures number { IfSome result (λ x. number ≡ format_number x) }
 {
     match number {
-        0 => Some(Format::Text),
-        1 => Some(Format::Line),
-        2 => Some(Format::Colored),
-        3 => Some(Format::Json),
+        0 => Some(ReportFormat::Text),
+        1 => Some(ReportFormat::Line),
+        2 => Some(ReportFormat::Colored),
+        3 => Some(ReportFormat::Json),
         _ => None,
     }
 }

@@ -3,7 +3,7 @@
 ghost use Rattle.std.specs.Prelude.{◌≡◌, is_none, true, IfOk, IfSome};
 ghost use Rattle.isle_capi.specs.Calls.{ArePrefixes};
 
-use crate::inputs::{FileLengths, Unread, add_up, files_of};
+use crate::inputs::{FileLengths, UnreadInput, add_up, files_of};
 use cranelift_isle::syntax::Files;
 use rust_text::code::Prefix;
 use std::alloc::{AllocError, Global};
@@ -27,8 +27,8 @@ pub fn prefixes_of(
     }
     match files_of(alloc, bytes, lengths) {
         Ok(files) => Ok(Some(pairs_of(alloc, &files)?)),
-        Err(Unread::Text) => Ok(None),
-        Err(Unread::Memory) => Err(AllocError),
+        Err(UnreadInput::Text) => Ok(None),
+        Err(UnreadInput::Memory) => Err(AllocError),
     }
 }
 

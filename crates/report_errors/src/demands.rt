@@ -1,6 +1,6 @@
 //! Sites, and what values are, in words.
 
-use crate::names::Names;
+use crate::names::NameTables;
 use cranelift_isle::trie_again::{Binding, BindingId, Constraint};
 use std::alloc::{AllocError, Global};
 
@@ -10,7 +10,7 @@ const LONGEST: usize = 160;
 /// What each site stands for, in words, by the sites' numbers.
 pub fn site_texts(
     alloc: Global,
-    names: Names<'_>,
+    names: NameTables<'_>,
     bindings: &[Binding],
 ) -> Result<Vec<String>, AllocError> {
     let mut texts = Vec::new(alloc);
@@ -32,7 +32,7 @@ pub fn text_at(texts: &[String], site: BindingId) -> &str {
 // What a site stands for. These are the texts of the sites before it, and so of those that it is made of.
 fn site_text(
     alloc: Global,
-    names: Names<'_>,
+    names: NameTables<'_>,
     binding: &Binding,
     texts: &[String],
 ) -> Result<String, AllocError> {
@@ -47,7 +47,7 @@ fn site_text(
 /// Adds what a site stands for. These are the texts of the sites before it, and so of those that it is made of.
 pub(crate) fn push_site(
     out: &mut String,
-    names: Names<'_>,
+    names: NameTables<'_>,
     binding: &Binding,
     texts: &[String],
 ) -> Result<(), AllocError> {
@@ -118,7 +118,7 @@ fn push_bool(out: &mut String, val: bool) -> Result<(), AllocError> {
 /// Adds what a value is that meets a constraint: a literal, or the name of its variant or struct.
 pub fn push_head(
     out: &mut String,
-    names: Names<'_>,
+    names: NameTables<'_>,
     constraint: Constraint,
 ) -> Result<(), AllocError> {
     match constraint {

@@ -8,7 +8,7 @@ use crate::templates::{Templates, report_of_template};
 use crate::uses::add_uses;
 use cranelift_isle::syntax::{Def, Error, Limit, Pos, Span};
 use report_print::report::{Level, Report};
-use report_witness::forms::{Form, push_form};
+use report_witness::forms::{ValueForm, push_form};
 use report_witness::witness::{Conflict, conflict_in, left_side, witness};
 use std::alloc::{AllocError, Global};
 
@@ -233,7 +233,7 @@ pub(crate) fn add_form(
     alloc: Global,
     report: &mut Report,
     before: &str,
-    (form, pos): (Form<'_>, Pos),
+    (form, pos): (ValueForm<'_>, Pos),
 ) -> Result<(), AllocError> {
     let mut text = String::from_str(alloc, before)?;
     push_quoted(&mut text, form)?;
@@ -241,7 +241,7 @@ pub(crate) fn add_form(
 }
 
 // Adds a form as a quotation.
-fn push_quoted(out: &mut String, form: Form<'_>) -> Result<(), AllocError> {
+fn push_quoted(out: &mut String, form: ValueForm<'_>) -> Result<(), AllocError> {
     out.push('`')?;
     push_form(out, form)?;
     out.push('`')

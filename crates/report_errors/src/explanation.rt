@@ -2,7 +2,7 @@
 
 use crate::called::Called;
 use crate::lines::push_line;
-use crate::names::{Names, rule_at};
+use crate::names::{NameTables, rule_at};
 use crate::trees::push_returns;
 use crate::way_text::Sites;
 use crate::ways::Search;
@@ -54,7 +54,7 @@ fn push_rule(
     (term, rule, written): (&LoweredTerm, &Rule, &syntax::Rule),
     out: &mut String,
 ) -> Result<(), AllocError> {
-    let names = Names {
+    let names = NameTables {
         tyenv: &lowered.tyenv,
         terms: &lowered.termenv.terms,
     };

@@ -5,14 +5,14 @@ use cranelift_isle::syntax::{Def, Pos, Rule};
 
 /// What names are looked up in.
 #[derive(Clone, Copy)]
-pub struct Names<'a> {
+pub struct NameTables<'a> {
     /// The names and types.
     pub tyenv: &'a TypeEnv,
     /// The terms.
     pub terms: &'a [Term],
 }
 
-impl<'a> Names<'a> {
+impl<'a> NameTables<'a> {
     /// A name, or the empty text where it is none of these.
     pub fn sym(self, sym: Sym) -> &'a str {
         self.tyenv.text_of(sym)

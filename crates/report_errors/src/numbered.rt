@@ -1,6 +1,6 @@
 //! The library's words on rules that can't match, with names in the place of numbers.
 
-use crate::names::Names;
+use crate::names::NameTables;
 use cranelift_isle::environments::environments_of;
 use cranelift_isle::sema::{Sym, TypeId, VariantId};
 use cranelift_isle::syntax::{Def, Fault, Pattern, Pos, Rule};
@@ -22,7 +22,7 @@ pub(crate) fn named_forms(
     };
     match environments_of(alloc, defs, expand) {
         Ok(environments) => {
-            let names = Names {
+            let names = NameTables {
                 tyenv: &environments.tyenv,
                 terms: &environments.termenv.terms,
             };
@@ -41,14 +41,14 @@ fn constraints_in(message: &str) -> Option<(&str, &str)> {
 }
 
 // A constraint by names.
-fn named(alloc: Global, names: Names<'_>, constraint: &str) -> Result<String, AllocError> {
+fn named(alloc: Global, names: NameTables<'_>, constraint: &str) -> Result<String, AllocError> {
     let mut out = String::new(alloc);
     push_named(&mut out, names, constraint)?;
     Ok(out)
 }
 
 // Adds a constraint, as `variant 1 of type 2`, by names.
-fn push_named(out: &mut String, names: Names<'_>, constraint: &str) -> Result<(), AllocError> {
+fn push_named(out: &mut String, names: NameTables<'_>, constraint: &str) -> Result<(), AllocError> {
     let mut words = constraint.split(' ');
     let kind = words.next().unwrap_or("");
     let value = words.next().unwrap_or("");

@@ -2,7 +2,7 @@
 
 ghost use Rattle.std.specs.Prelude.{◌<◌, string_len, IfOk};
 
-use crate::names::Names;
+use crate::names::NameTables;
 use crate::trees::{TreeSize, size_of_tree};
 use cranelift_isle::lower::{Lowered, LoweredTerm};
 use cranelift_isle::sema::TermId;
@@ -27,7 +27,7 @@ pub struct TermSize {
 pub fn stats(alloc: Global, lowered: &Lowered) -> Result<String, AllocError>
     ensures { IfOk result (λ text. 0 < string_len text) }
 {
-    let names = Names {
+    let names = NameTables {
         tyenv: &lowered.tyenv,
         terms: &lowered.termenv.terms,
     };
@@ -59,7 +59,7 @@ fn size_of(term: &LoweredTerm) -> TermSize {
 }
 
 // Adds the line of a term.
-fn push_row(out: &mut String, names: Names<'_>, size: &TermSize) -> Result<(), AllocError> {
+fn push_row(out: &mut String, names: NameTables<'_>, size: &TermSize) -> Result<(), AllocError> {
     let name = names.term(size.term);
     let rules = size.rules;
     let sites = size.sites;

@@ -2,13 +2,13 @@
 
 use crate::demands::{push_head, push_site, text_at};
 use crate::lines::push_line;
-use crate::names::Names;
+use crate::names::NameTables;
 use cranelift_isle::trie_again::{Binding, BindingId, Constraint};
 use std::alloc::{AllocError, Global};
 
 /// A test on the way to a return.
 #[derive(Clone, Copy)]
-pub enum Test {
+pub enum WayTest {
     /// A value meets a constraint.
     Is(BindingId, Constraint),
     /// A call gives a value. The value's site, if it is looked at.
@@ -25,7 +25,7 @@ pub struct Sites<'a> {
     /// The memory for texts.
     pub alloc: Global,
     /// The names of terms and types.
-    pub names: Names<'a>,
+    pub names: NameTables<'a>,
     /// The sites.
     pub bindings: &'a [Binding],
     /// The names of the arguments. `_` is none.
@@ -72,15 +72,15 @@ impl<'s, 'a> Way<'s, 'a> {
     /// Adds a test, and behind it this end.
     pub fn push_test(
         &mut self,
-        test: &Test,
+        test: &WayTest,
         end: &str,
         out: &mut String,
     ) -> Result<(), AllocError> {
         match test {
-            Test::Is(source, constraint) => self.push_is(*source, constraint, end, out),
-            Test::Gives(source, value) => self.push_given((*source, *value), end, out),
-            Test::Equal(left, right) => self.push_equal((*left, *right), end, out),
-            Test::Each(each) => self.push_each(*each, end, out),
+            WayTest::Is(source, constraint) => self.push_is(*source, constraint, end, out),
+            WayTest::Gives(source, value) => self.push_given((*source, *value), end, out),
+            WayTest::Equal(left, right) => self.push_equal((*left, *right), end, out),
+            WayTest::Each(each) => self.push_each(*each, end, out),
         }
     }
 

@@ -1,6 +1,6 @@
 //! The ways to a rule's returns in a tree.
 
-use crate::way_text::{Sites, Test, Way};
+use crate::way_text::{Sites, Way, WayTest};
 use cranelift_isle::serialize::{Block, ControlFlow, EvalStep, MatchArm};
 use cranelift_isle::syntax::Pos;
 use cranelift_isle::trie_again::{BindingId, Constraint};
@@ -28,7 +28,7 @@ impl<'a> Search<'a> {
     fn push_ways_in(
         &self,
         block: &Block,
-        tests: &mut Vec<Test>,
+        tests: &mut Vec<WayTest>,
         out: &mut String,
     ) -> Result<(), AllocError> {
         for step in &block.steps {
@@ -42,7 +42,7 @@ impl<'a> Search<'a> {
     fn push_ways_of_step(
         &self,
         step: &EvalStep,
-        tests: &mut Vec<Test>,
+        tests: &mut Vec<WayTest>,
         out: &mut String,
     ) -> Result<(), AllocError> {
         match &step.check {
@@ -50,13 +50,13 @@ impl<'a> Search<'a> {
                 self.push_ways_of_arms(*source, arms, tests, out)
             }
             ControlFlow::Equal { a, b, body } => {
-                tests.push(Test::Equal(*a, *b))?;
+                tests.push(WayTest::Equal(*a, *b))?;
                 self.push_ways_in(body, tests, out)?;
                 tests.pop();
                 Ok(())
             }
             ControlFlow::Loop { result, body } => {
-                tests.push(Test::Each(*result))?;
+                tests.push(WayTest::Each(*result))?;
                 self.push_ways_in(body, tests, out)?;
                 tests.pop();
                 Ok(())
@@ -76,7 +76,7 @@ impl<'a> Search<'a> {
         &self,
         source: BindingId,
         arms: &[MatchArm],
-        tests: &mut Vec<Test>,
+        tests: &mut Vec<WayTest>,
         out: &mut String,
     ) -> Result<(), AllocError> {
         for arm in arms {
@@ -88,7 +88,7 @@ impl<'a> Search<'a> {
     }
 
     // Adds a line for each of these tests, and one for the return.
-    fn push_way(&self, tests: &[Test], out: &mut String) -> Result<(), AllocError> {
+    fn push_way(&self, tests: &[WayTest], out: &mut String) -> Result<(), AllocError> {
         let mut way = Way::new(&self.sites)?;
         for test in tests {
             way.push_test(test, "", out)?;
@@ -98,10 +98,10 @@ impl<'a> Search<'a> {
 }
 
 /// The test that a match makes for an arm.
-pub fn test_of(source: BindingId, arm: &MatchArm) -> Test {
+pub fn test_of(source: BindingId, arm: &MatchArm) -> WayTest {
     match arm.constraint {
-        Constraint::Some => Test::Gives(source, value_in(arm)),
-        _ => Test::Is(source, arm.constraint),
+        Constraint::Some => WayTest::Gives(source, value_in(arm)),
+        _ => WayTest::Is(source, arm.constraint),
     }
 }
 

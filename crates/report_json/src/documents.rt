@@ -3,7 +3,7 @@
 ghost use Rattle.std.specs.Prelude.{◌≢◌, [], string_bytes, IfOk};
 
 use crate::heads::push_all_heads;
-use crate::places::Places;
+use crate::places::LinePlaces;
 use crate::reports::push_reports;
 use crate::sizes::push_sizes;
 use crate::terms::{Shown, push_term};
@@ -13,7 +13,7 @@ use crate::writer::Json;
 use cranelift_isle::environments::{Environments, environments_of};
 use cranelift_isle::lower::{Lowered, LoweredTerm};
 use cranelift_isle::syntax::{Def, Fault, Files};
-use report_errors::names::Names;
+use report_errors::names::NameTables;
 use report_print::report::Report;
 use std::alloc::{AllocError, Global};
 
@@ -22,7 +22,7 @@ const SCHEMA: usize = 1;
 
 /// What a document is made for.
 #[derive(Clone, Copy, PartialEq, Eq)]
-pub enum Document {
+pub enum DocumentPurpose {
     /// The types, constants, terms, rules and trees of definitions.
     Trees,
     /// Nothing but what is wrong.
@@ -36,11 +36,11 @@ pub fn document_of_reports(
     alloc: Global,
     files: &Files,
     reports: &[Report],
-    document: Document,
+    document: DocumentPurpose,
 ) -> Result<String, AllocError>
     ensures { IfOk result (λ text. string_bytes text ≢ []) }
 {
-    let places = Places::new(alloc, files)?;
+    let places = LinePlaces::new(alloc, files)?;
     let mut json = begun(alloc)?;
     push_no_entries(&mut json, document)?;
     push_reports(&mut json, &places, "errors", reports)?;
@@ -55,7 +55,7 @@ pub fn document_of_warnings(
 ) -> Result<String, AllocError>
     ensures { IfOk result (λ text. string_bytes text ≢ []) }
 {
-    let places = Places::new(alloc, files)?;
+    let places = LinePlaces::new(alloc, files)?;
     let mut json = begun(alloc)?;
     push_empty(&mut json, "errors")?;
     push_reports(&mut json, &places, "warnings", warnings)?;
@@ -84,8 +84,8 @@ pub fn document_of_terms(
     ensures { IfOk result (λ text. string_bytes text ≢ []) }
 {
     let unexpanded = environments_as_written(alloc, defs, lowered)?;
-    let places = Places::new(alloc, files)?;
-    let names = Names {
+    let places = LinePlaces::new(alloc, files)?;
+    let names = NameTables {
         tyenv: &lowered.tyenv,
         terms: &lowered.termenv.terms,
     };
@@ -139,16 +139,16 @@ pub fn ended(alloc: Global, json: Json) -> Result<String, AllocError>
 }
 
 // Adds the lists of a document, without entries.
-fn push_no_entries(json: &mut Json, document: Document) -> Result<(), AllocError> {
+fn push_no_entries(json: &mut Json, document: DocumentPurpose) -> Result<(), AllocError> {
     match document {
-        Document::Trees => {
+        DocumentPurpose::Trees => {
             push_empty(json, "types")?;
             push_empty(json, "terms")?;
             push_empty(json, "constants")?;
             push_empty(json, "all_terms")
         }
-        Document::Sizes => push_empty(json, "terms"),
-        Document::Check => Ok(()),
+        DocumentPurpose::Sizes => push_empty(json, "terms"),
+        DocumentPurpose::Check => Ok(()),
     }
 }
 

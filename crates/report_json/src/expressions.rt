@@ -4,12 +4,16 @@ use crate::patterns::push_typed;
 use crate::sites::{push_bool, push_int, push_named};
 use crate::writer::Json;
 use cranelift_isle::sema::{Expr, TypeId, VarId};
-use report_errors::names::Names;
+use report_errors::names::NameTables;
 use std::alloc::AllocError;
 
 /// Adds a typed expression.
 #[cycle(exprs)]
-pub(crate) fn push_expr(json: &mut Json, names: Names<'_>, expr: &Expr) -> Result<(), AllocError> {
+pub(crate) fn push_expr(
+    json: &mut Json,
+    names: NameTables<'_>,
+    expr: &Expr,
+) -> Result<(), AllocError> {
     json.begin('{')?;
     match expr {
         Expr::Term(ty, term, arguments) => {
@@ -30,7 +34,7 @@ pub(crate) fn push_expr(json: &mut Json, names: Names<'_>, expr: &Expr) -> Resul
 
 // Adds the arguments of a term.
 #[cycle(exprs)]
-fn push_exprs(json: &mut Json, names: Names<'_>, exprs: &[Expr]) -> Result<(), AllocError> {
+fn push_exprs(json: &mut Json, names: NameTables<'_>, exprs: &[Expr]) -> Result<(), AllocError> {
     json.begin_at("arguments", '[')?;
     for expr in exprs {
         push_expr(json, names, expr)?;
@@ -42,7 +46,7 @@ fn push_exprs(json: &mut Json, names: Names<'_>, exprs: &[Expr]) -> Result<(), A
 #[cycle(exprs)]
 fn push_bindings(
     json: &mut Json,
-    names: Names<'_>,
+    names: NameTables<'_>,
     bindings: &[(VarId, TypeId, Box<Expr>)],
 ) -> Result<(), AllocError> {
     json.begin_at("variables", '[')?;
@@ -58,7 +62,7 @@ fn push_bindings(
 }
 
 // Adds what an expression without parts is.
-fn push_leaf(json: &mut Json, names: Names<'_>, expr: &Expr) -> Result<(), AllocError> {
+fn push_leaf(json: &mut Json, names: NameTables<'_>, expr: &Expr) -> Result<(), AllocError> {
     match expr {
         Expr::Var(ty, variable) => {
             push_typed(json, names, "variable", *ty)?;

@@ -1,19 +1,19 @@
 //! The heads of terms: what they take and give, and what makes them and takes them apart.
 
-use crate::places::Places;
+use crate::places::LinePlaces;
 use crate::site_types::word_of_answer;
 use crate::templates::push_template;
 use crate::writer::Json;
 use cranelift_isle::sema::{ExtractorKind, Term, TermFlags, TermKind, TypeId};
-use report_errors::names::Names;
+use report_errors::names::NameTables;
 use std::alloc::{AllocError, Global};
 
 /// Adds all terms, by their ids.
 pub(crate) fn push_all_heads(
     alloc: Global,
     json: &mut Json,
-    names: Names<'_>,
-    places: &Places<'_>,
+    names: NameTables<'_>,
+    places: &LinePlaces<'_>,
 ) -> Result<(), AllocError> {
     json.begin_at("all_terms", '[')?;
     for term in names.terms {
@@ -38,7 +38,11 @@ fn word_of_kind(kind: &TermKind) -> &'static str {
 }
 
 /// Adds the name, the signature and the flags of a term.
-pub(crate) fn push_head(json: &mut Json, names: Names<'_>, term: &Term) -> Result<(), AllocError> {
+pub(crate) fn push_head(
+    json: &mut Json,
+    names: NameTables<'_>,
+    term: &Term,
+) -> Result<(), AllocError> {
     json.key_string("name", names.sym(term.name))?;
     json.begin_at("signature", '{')?;
     push_type_names(json, names, "arguments", &term.arg_tys)?;
@@ -50,7 +54,7 @@ pub(crate) fn push_head(json: &mut Json, names: Names<'_>, term: &Term) -> Resul
 /// Adds the names of types at a key.
 pub(crate) fn push_type_names(
     json: &mut Json,
-    names: Names<'_>,
+    names: NameTables<'_>,
     key: &str,
     types: &[TypeId],
 ) -> Result<(), AllocError> {
@@ -88,7 +92,7 @@ fn push_flags(json: &mut Json, flags: TermFlags) -> Result<(), AllocError> {
 fn push_constructor(
     alloc: Global,
     json: &mut Json,
-    names: Names<'_>,
+    names: NameTables<'_>,
     term: &Term,
 ) -> Result<(), AllocError> {
     let Some(sig) = term.constructor_sig(alloc, names.tyenv)? else {
@@ -110,7 +114,7 @@ fn push_constructor(
 fn push_extractor(
     alloc: Global,
     json: &mut Json,
-    names: Names<'_>,
+    names: NameTables<'_>,
     term: &Term,
 ) -> Result<(), AllocError> {
     let Some(sig) = term.extractor_sig(alloc, names.tyenv)? else {

@@ -3,14 +3,14 @@
 use crate::sites::{push_bool, push_int, push_named};
 use crate::writer::Json;
 use cranelift_isle::sema::{Pattern, TypeId};
-use report_errors::names::Names;
+use report_errors::names::NameTables;
 use std::alloc::AllocError;
 
 /// Adds a typed pattern.
 #[cycle(patterns)]
 pub(crate) fn push_pattern(
     json: &mut Json,
-    names: Names<'_>,
+    names: NameTables<'_>,
     pattern: &Pattern,
 ) -> Result<(), AllocError> {
     json.begin('{')?;
@@ -39,7 +39,7 @@ pub(crate) fn push_pattern(
 #[cycle(patterns)]
 pub(crate) fn push_patterns(
     json: &mut Json,
-    names: Names<'_>,
+    names: NameTables<'_>,
     key: &str,
     patterns: &[Pattern],
 ) -> Result<(), AllocError> {
@@ -51,7 +51,7 @@ pub(crate) fn push_patterns(
 }
 
 // Adds what a pattern without parts is.
-fn push_leaf(json: &mut Json, names: Names<'_>, pattern: &Pattern) -> Result<(), AllocError> {
+fn push_leaf(json: &mut Json, names: NameTables<'_>, pattern: &Pattern) -> Result<(), AllocError> {
     match pattern {
         Pattern::Var(ty, variable) => {
             push_typed(json, names, "variable", *ty)?;
@@ -71,7 +71,7 @@ fn push_leaf(json: &mut Json, names: Names<'_>, pattern: &Pattern) -> Result<(),
 /// Adds a kind and a type.
 pub(crate) fn push_typed(
     json: &mut Json,
-    names: Names<'_>,
+    names: NameTables<'_>,
     kind: &str,
     ty: TypeId,
 ) -> Result<(), AllocError> {

@@ -7,29 +7,29 @@ use report_print::lines::{Line, file_name, file_text};
 use std::alloc::{AllocError, Global};
 
 /// Files, with where each of their lines begins: to count lines anew for each place takes the square of a file's length.
-pub struct Places<'a> {
+pub struct LinePlaces<'a> {
     files: &'a Files,
     // The offset at which each line of each file begins.
     begins: Vec<Vec<usize>>,
 }
 
-impl<'a> Drop for Places<'a> {
+impl<'a> Drop for LinePlaces<'a> {
     fn drop(self) {
-        let Places {
+        let LinePlaces {
             files: _,
             begins: _,
         } = self;
     }
 }
 
-impl<'a> Places<'a> {
+impl<'a> LinePlaces<'a> {
     /// The places of some files.
-    pub fn new(alloc: Global, files: &'a Files) -> Result<Places<'a>, AllocError> {
+    pub fn new(alloc: Global, files: &'a Files) -> Result<LinePlaces<'a>, AllocError> {
         let mut begins = Vec::new(alloc);
         for text in &files.texts {
             begins.push(line_begins(alloc, text)?)?;
         }
-        Ok(Places { files, begins })
+        Ok(LinePlaces { files, begins })
     }
 
     // The line of a file that an offset lies in. An offset past the end lies in the last one.

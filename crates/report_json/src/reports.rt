@@ -1,6 +1,6 @@
 //! Reports of what is wrong.
 
-use crate::places::Places;
+use crate::places::LinePlaces;
 use crate::writer::Json;
 use report_print::report::{Label, Note, Report};
 use std::alloc::AllocError;
@@ -8,7 +8,7 @@ use std::alloc::AllocError;
 /// Adds reports at a key, in order.
 pub(crate) fn push_reports(
     json: &mut Json,
-    places: &Places<'_>,
+    places: &LinePlaces<'_>,
     key: &str,
     reports: &[Report],
 ) -> Result<(), AllocError> {
@@ -20,7 +20,11 @@ pub(crate) fn push_reports(
 }
 
 // Adds a report.
-fn push_report(json: &mut Json, places: &Places<'_>, report: &Report) -> Result<(), AllocError> {
+fn push_report(
+    json: &mut Json,
+    places: &LinePlaces<'_>,
+    report: &Report,
+) -> Result<(), AllocError> {
     json.begin('{')?;
     json.key_string("kind", report.kind)?;
     json.key_string("message", &report.message)?;
@@ -31,7 +35,11 @@ fn push_report(json: &mut Json, places: &Places<'_>, report: &Report) -> Result<
 }
 
 // Adds places, the one first where a report is told.
-fn push_labels(json: &mut Json, places: &Places<'_>, labels: &[Label]) -> Result<(), AllocError> {
+fn push_labels(
+    json: &mut Json,
+    places: &LinePlaces<'_>,
+    labels: &[Label],
+) -> Result<(), AllocError> {
     json.begin_at("places", '[')?;
     for label in labels {
         json.begin('{')?;

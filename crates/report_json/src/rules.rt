@@ -1,17 +1,17 @@
 //! Rules.
 
-use crate::places::Places;
+use crate::places::LinePlaces;
 use crate::sites::{push_constraint, push_ids};
 use crate::writer::Json;
 use cranelift_isle::trie_again::Rule;
-use report_errors::names::Names;
+use report_errors::names::NameTables;
 use std::alloc::AllocError;
 
 /// Adds what a rule is, and what it demands and makes.
 pub(crate) fn push_rule(
     json: &mut Json,
-    places: &Places<'_>,
-    names: Names<'_>,
+    places: &LinePlaces<'_>,
+    names: NameTables<'_>,
     rule: &Rule,
 ) -> Result<(), AllocError> {
     json.key_number("id", rule.id.index())?;
@@ -24,7 +24,7 @@ pub(crate) fn push_rule(
 }
 
 // Adds the name that a rule is given, or `null`.
-fn push_rule_name(json: &mut Json, names: Names<'_>, rule: &Rule) -> Result<(), AllocError> {
+fn push_rule_name(json: &mut Json, names: NameTables<'_>, rule: &Rule) -> Result<(), AllocError> {
     match rule.name {
         Some(name) => json.key_string("name", names.sym(name)),
         None => json.key_null("name"),
@@ -32,7 +32,7 @@ fn push_rule_name(json: &mut Json, names: Names<'_>, rule: &Rule) -> Result<(), 
 }
 
 // Adds what a rule demands of sites, and which of them it demands to be equal.
-fn push_demands(json: &mut Json, names: Names<'_>, rule: &Rule) -> Result<(), AllocError> {
+fn push_demands(json: &mut Json, names: NameTables<'_>, rule: &Rule) -> Result<(), AllocError> {
     json.begin_at("constraints", '[')?;
     for (site, constraint) in rule.constraints() {
         json.begin('{')?;

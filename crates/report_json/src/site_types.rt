@@ -2,7 +2,7 @@
 
 use cranelift_isle::sema::{ExternalSig, Fields, ReturnKind, Type, TypeId, VariantId};
 use cranelift_isle::trie_again::{Binding, BindingId};
-use report_errors::names::Names;
+use report_errors::names::NameTables;
 use std::alloc::{AllocError, Global};
 
 /// What the values of a site are.
@@ -34,7 +34,7 @@ pub(crate) fn word_of_answer(answer: ReturnKind) -> &'static str {
 /// The types of each site of a term, whose arguments have these types.
 pub(crate) fn types_of_sites(
     alloc: Global,
-    names: Names<'_>,
+    names: NameTables<'_>,
     arguments: &[TypeId],
     bindings: &[Binding],
 ) -> Result<Vec<SiteTypes>, AllocError> {
@@ -49,7 +49,7 @@ pub(crate) fn types_of_sites(
 // The types of a site, by those of the sites before it.
 fn types_of(
     alloc: Global,
-    names: Names<'_>,
+    names: NameTables<'_>,
     arguments: &[TypeId],
     binding: &Binding,
     before: &[SiteTypes],
@@ -118,7 +118,7 @@ fn one_type(alloc: Global, ty: Option<TypeId>) -> Result<SiteTypes, AllocError> 
 
 // The type of a site that is a value and no call's.
 fn type_of(
-    names: Names<'_>,
+    names: NameTables<'_>,
     arguments: &[TypeId],
     binding: &Binding,
     before: &[SiteTypes],
@@ -160,7 +160,7 @@ fn first_type(before: &[SiteTypes], site: BindingId) -> Option<TypeId> {
 
 // The type of a field of a variant.
 fn field_of_variant(
-    names: Names<'_>,
+    names: NameTables<'_>,
     ty: TypeId,
     variant: VariantId,
     field: usize,
@@ -174,7 +174,7 @@ fn field_of_variant(
 }
 
 // The type of a field of a struct.
-fn field_of_struct(names: Names<'_>, ty: TypeId, field: usize) -> Option<TypeId> {
+fn field_of_struct(names: NameTables<'_>, ty: TypeId, field: usize) -> Option<TypeId> {
     match names.tyenv.types.get(ty.index()) {
         Some(Type::Struct { fields, .. }) => field_type(fields, field),
         _ => None,

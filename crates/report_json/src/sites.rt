@@ -5,14 +5,14 @@ use crate::site_types::{SiteTypes, word_of_answer};
 use crate::writer::Json;
 use cranelift_isle::sema::TypeId;
 use cranelift_isle::trie_again::{Binding, BindingId, Constraint};
-use report_errors::names::Names;
+use report_errors::names::NameTables;
 use report_queries::in_place::is_in_place;
 use std::alloc::AllocError;
 
 /// Adds the sites of a set, by their numbers, with their types. Those are marked that some step of the tree binds.
 pub(crate) fn push_sites(
     json: &mut Json,
-    names: Names<'_>,
+    names: NameTables<'_>,
     bindings: &[Binding],
     types: &[SiteTypes],
     marked: &[bool],
@@ -30,7 +30,7 @@ pub(crate) fn push_sites(
 }
 
 // Adds the types of a site.
-fn push_types(json: &mut Json, names: Names<'_>, types: &SiteTypes) -> Result<(), AllocError> {
+fn push_types(json: &mut Json, names: NameTables<'_>, types: &SiteTypes) -> Result<(), AllocError> {
     push_type_names(json, names, "types", &types.types)?;
     json.key_string("answer", word_of_answer(types.answer))
 }
@@ -38,7 +38,7 @@ fn push_types(json: &mut Json, names: Names<'_>, types: &SiteTypes) -> Result<()
 // Adds a site up to where it is bound.
 fn push_site(
     json: &mut Json,
-    names: Names<'_>,
+    names: NameTables<'_>,
     id: usize,
     binding: &Binding,
 ) -> Result<(), AllocError> {
@@ -72,7 +72,7 @@ fn bound_where(binding: &Binding, in_step: bool) -> &'static str {
 }
 
 // Adds what a site is, apart from the sites that it is made of.
-fn push_parts(json: &mut Json, names: Names<'_>, binding: &Binding) -> Result<(), AllocError> {
+fn push_parts(json: &mut Json, names: NameTables<'_>, binding: &Binding) -> Result<(), AllocError> {
     match binding {
         Binding::ConstBool { val, ty } => push_bool(json, names, *val, *ty),
         Binding::ConstInt { val, ty } => push_int(json, names, *val, *ty),
@@ -116,7 +116,7 @@ fn push_numbered(json: &mut Json, kind: &str, key: &str, number: usize) -> Resul
 /// Adds a truth value and its type.
 pub(crate) fn push_bool(
     json: &mut Json,
-    names: Names<'_>,
+    names: NameTables<'_>,
     val: bool,
     ty: TypeId,
 ) -> Result<(), AllocError> {
@@ -128,7 +128,7 @@ pub(crate) fn push_bool(
 /// Adds an integer and its type.
 pub(crate) fn push_int(
     json: &mut Json,
-    names: Names<'_>,
+    names: NameTables<'_>,
     val: i128,
     ty: TypeId,
 ) -> Result<(), AllocError> {
@@ -149,7 +149,7 @@ pub(crate) fn push_ids(json: &mut Json, key: &str, sites: &[BindingId]) -> Resul
 /// Adds what a constraint asks.
 pub(crate) fn push_constraint(
     json: &mut Json,
-    names: Names<'_>,
+    names: NameTables<'_>,
     constraint: Constraint,
 ) -> Result<(), AllocError> {
     json.begin_at("is", '{')?;
@@ -158,7 +158,7 @@ pub(crate) fn push_constraint(
 }
 
 // Adds a kind, and what is asked.
-fn push_asked(json: &mut Json, names: Names<'_>, asked: Constraint) -> Result<(), AllocError> {
+fn push_asked(json: &mut Json, names: NameTables<'_>, asked: Constraint) -> Result<(), AllocError> {
     match asked {
         Constraint::Variant { ty, variant, .. } => {
             push_named(json, "variant", names.variant(ty, variant))

@@ -2,7 +2,7 @@
 
 use crate::writer::Json;
 use cranelift_isle::lower::Lowered;
-use report_errors::names::Names;
+use report_errors::names::NameTables;
 use report_errors::stats::{TermSize, sizes};
 use std::alloc::{AllocError, Global};
 
@@ -12,7 +12,7 @@ pub(crate) fn push_sizes(
     json: &mut Json,
     lowered: &Lowered,
 ) -> Result<(), AllocError> {
-    let names = Names {
+    let names = NameTables {
         tyenv: &lowered.tyenv,
         terms: &lowered.termenv.terms,
     };
@@ -24,7 +24,7 @@ pub(crate) fn push_sizes(
 }
 
 // Adds the size of a term.
-fn push_size(json: &mut Json, names: Names<'_>, size: &TermSize) -> Result<(), AllocError> {
+fn push_size(json: &mut Json, names: NameTables<'_>, size: &TermSize) -> Result<(), AllocError> {
     json.begin('{')?;
     json.key_string("name", names.term(size.term))?;
     json.key_number("rules", size.rules)?;

@@ -1,7 +1,7 @@
 //! Terms with rules.
 
 use crate::heads::push_head;
-use crate::places::Places;
+use crate::places::LinePlaces;
 use crate::rules::push_rule;
 use crate::site_types::types_of_sites;
 use crate::sites::push_sites;
@@ -12,7 +12,7 @@ use cranelift_isle::lower::LoweredTerm;
 use cranelift_isle::sema::TypeId;
 use cranelift_isle::trie_again::{BindingId, Rule, RuleSet};
 use report_errors::explanation::comes_first;
-use report_errors::names::Names;
+use report_errors::names::NameTables;
 use report_queries::variable_sites::KnownSites;
 use report_queries::walk::steps;
 use std::alloc::{AllocError, Global};
@@ -22,9 +22,9 @@ use std::alloc::{AllocError, Global};
 pub(crate) struct Shown<'a> {
     pub(crate) alloc: Global,
     /// What names are looked up in.
-    pub(crate) names: Names<'a>,
+    pub(crate) names: NameTables<'a>,
     /// The places of files.
-    pub(crate) places: &'a Places<'a>,
+    pub(crate) places: &'a LinePlaces<'a>,
     /// The typed rules.
     pub(crate) typed: &'a TypedForms<'a>,
 }

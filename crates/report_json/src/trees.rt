@@ -5,7 +5,7 @@ use crate::writer::Json;
 use cranelift_isle::serialize::{Block, ControlFlow, EvalStep, MatchArm};
 use cranelift_isle::syntax::Pos;
 use cranelift_isle::trie_again::{BindingId, RuleSet};
-use report_errors::names::Names;
+use report_errors::names::NameTables;
 use report_queries::rules::rule_behind;
 use std::alloc::AllocError;
 
@@ -13,7 +13,7 @@ use std::alloc::AllocError;
 #[derive(Clone, Copy)]
 pub(crate) struct Sources<'a> {
     /// What names are looked up in.
-    pub(crate) names: Names<'a>,
+    pub(crate) names: NameTables<'a>,
     /// The sites and the rules.
     pub(crate) set: &'a RuleSet,
 }

@@ -7,7 +7,7 @@ use cranelift_isle::environments::Environments;
 use cranelift_isle::lower::Lowered;
 use cranelift_isle::sema::{BoundVar, IfLet, Rule, RuleId};
 use cranelift_isle::trie_again::BindingId;
-use report_errors::names::Names;
+use report_errors::names::NameTables;
 use report_queries::variable_sites::KnownSites;
 use std::alloc::AllocError;
 
@@ -15,7 +15,7 @@ use std::alloc::AllocError;
 #[derive(Clone, Copy)]
 struct TypedForm<'a> {
     // What names are looked up in.
-    names: Names<'a>,
+    names: NameTables<'a>,
     // The rules, by their ids.
     rules: &'a [Rule],
 }
@@ -40,7 +40,7 @@ impl<'a> Drop for TypedForms<'a> {
 impl<'a> TypedForms<'a> {
     /// Those of lowered definitions, of which these names are, and those before expansion, where there are such.
     pub(crate) fn new(
-        names: Names<'a>,
+        names: NameTables<'a>,
         lowered: &'a Lowered,
         unexpanded: &'a Option<Environments>,
     ) -> TypedForms<'a> {
@@ -81,7 +81,7 @@ impl<'a> TypedForms<'a> {
 fn form_of<'a>(environments: &'a Option<Environments>) -> Option<TypedForm<'a>> {
     match environments {
         Some(environments) => Some(TypedForm {
-            names: Names {
+            names: NameTables {
                 tyenv: &environments.tyenv,
                 terms: &environments.termenv.terms,
             },
@@ -115,7 +115,7 @@ fn push_form(
 }
 
 // Adds what a typed rule has besides its variables.
-fn push_sides(json: &mut Json, names: Names<'_>, rule: &Rule) -> Result<(), AllocError> {
+fn push_sides(json: &mut Json, names: NameTables<'_>, rule: &Rule) -> Result<(), AllocError> {
     push_patterns(json, names, "arguments", &rule.args)?;
     push_iflets(json, names, &rule.iflets)?;
     json.key("right_side")?;
@@ -123,7 +123,7 @@ fn push_sides(json: &mut Json, names: Names<'_>, rule: &Rule) -> Result<(), Allo
 }
 
 // Adds the variables of a rule, by their ids.
-fn push_variables(json: &mut Json, names: Names<'_>, rule: &Rule) -> Result<(), AllocError> {
+fn push_variables(json: &mut Json, names: NameTables<'_>, rule: &Rule) -> Result<(), AllocError> {
     json.begin_at("variables", '[')?;
     for variable in &rule.vars {
         push_variable(json, names, variable)?;
@@ -135,7 +135,7 @@ fn push_variables(json: &mut Json, names: Names<'_>, rule: &Rule) -> Result<(), 
 // Adds the variables of a rule, by their ids, with their sites.
 fn push_placed_variables(
     json: &mut Json,
-    names: Names<'_>,
+    names: NameTables<'_>,
     rule: &Rule,
     sites: &[Option<BindingId>],
 ) -> Result<(), AllocError> {
@@ -152,7 +152,11 @@ fn push_placed_variables(
 }
 
 // Adds a variable up to its site.
-fn push_variable(json: &mut Json, names: Names<'_>, variable: &BoundVar) -> Result<(), AllocError> {
+fn push_variable(
+    json: &mut Json,
+    names: NameTables<'_>,
+    variable: &BoundVar,
+) -> Result<(), AllocError> {
     json.begin('{')?;
     json.key_number("id", variable.id.index())?;
     json.key_string("name", names.sym(variable.name))?;
@@ -160,7 +164,7 @@ fn push_variable(json: &mut Json, names: Names<'_>, variable: &BoundVar) -> Resu
 }
 
 // Adds the further conditions of a rule.
-fn push_iflets(json: &mut Json, names: Names<'_>, iflets: &[IfLet]) -> Result<(), AllocError> {
+fn push_iflets(json: &mut Json, names: NameTables<'_>, iflets: &[IfLet]) -> Result<(), AllocError> {
     json.begin_at("iflets", '[')?;
     for iflet in iflets {
         json.begin('{')?;

@@ -1,17 +1,17 @@
 //! Types and constants.
 
-use crate::places::Places;
+use crate::places::LinePlaces;
 use crate::writer::Json;
 use cranelift_isle::sema::{Fields, Type, Variant};
 use cranelift_isle::syntax::{self, Def, Extern, Ident};
-use report_errors::names::Names;
+use report_errors::names::NameTables;
 use std::alloc::AllocError;
 
 /// Adds the types that definitions make, in their order.
 pub(crate) fn push_types(
     json: &mut Json,
-    names: Names<'_>,
-    places: &Places<'_>,
+    names: NameTables<'_>,
+    places: &LinePlaces<'_>,
     defs: &[Def],
 ) -> Result<(), AllocError> {
     json.begin_at("types", '[')?;
@@ -24,7 +24,7 @@ pub(crate) fn push_types(
 }
 
 // The type of a name.
-fn type_of_name<'a>(names: Names<'a>, name: &Ident) -> Option<&'a Type> {
+fn type_of_name<'a>(names: NameTables<'a>, name: &Ident) -> Option<&'a Type> {
     let id = names.tyenv.get_type_by_name(name)?;
     names.tyenv.types.get(id.index())
 }
@@ -32,8 +32,8 @@ fn type_of_name<'a>(names: Names<'a>, name: &Ident) -> Option<&'a Type> {
 // Adds a type.
 fn push_type(
     json: &mut Json,
-    names: Names<'_>,
-    places: &Places<'_>,
+    names: NameTables<'_>,
+    places: &LinePlaces<'_>,
     defined: &syntax::Type,
 ) -> Result<(), AllocError> {
     let Some(ty) = type_of_name(names, &defined.name) else {
@@ -67,8 +67,8 @@ fn word_of_kind(ty: &Type) -> &'static str {
 // Adds the variants of an enum.
 fn push_variants(
     json: &mut Json,
-    names: Names<'_>,
-    places: &Places<'_>,
+    names: NameTables<'_>,
+    places: &LinePlaces<'_>,
     variants: &[Variant],
 ) -> Result<(), AllocError> {
     json.begin_at("variants", '[')?;
@@ -83,7 +83,7 @@ fn push_variants(
 }
 
 // Adds the fields of a struct or a variant.
-fn push_fields(json: &mut Json, names: Names<'_>, fields: &Fields) -> Result<(), AllocError> {
+fn push_fields(json: &mut Json, names: NameTables<'_>, fields: &Fields) -> Result<(), AllocError> {
     json.begin_at("fields", '[')?;
     match fields {
         Fields::Unit => {}
@@ -114,8 +114,8 @@ fn end_field(json: &mut Json, ty: &str) -> Result<(), AllocError> {
 /// Adds the constants that are declared, in the order of the definitions.
 pub(crate) fn push_constants(
     json: &mut Json,
-    names: Names<'_>,
-    places: &Places<'_>,
+    names: NameTables<'_>,
+    places: &LinePlaces<'_>,
     defs: &[Def],
 ) -> Result<(), AllocError> {
     json.begin_at("constants", '[')?;
@@ -132,7 +132,7 @@ pub(crate) fn push_constants(
 }
 
 // What the type of a name is called.
-fn type_name<'a>(names: Names<'a>, name: &Ident) -> &'a str {
+fn type_name<'a>(names: NameTables<'a>, name: &Ident) -> &'a str {
     match type_of_name(names, name) {
         Some(ty) => names.ty(ty.id()),
         None => "?",

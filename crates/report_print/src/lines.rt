@@ -93,10 +93,10 @@ impl<'a> Line<'a> {
     }
 
     /// The columns of the whole line that are shown: all, or those around the offset of a line that is too long.
-    pub fn part(self) -> Part {
+    pub fn part(self) -> ShownColumns {
         let count = self.columns_before(self.text.len());
         if count <= WIDEST {
-            return Part {
+            return ShownColumns {
                 begin: 0,
                 end: count,
                 count,
@@ -107,7 +107,7 @@ impl<'a> Line<'a> {
             .columns_before(self.at)
             .saturating_sub(BEFORE)
             .min(count.saturating_sub(shown));
-        Part {
+        ShownColumns {
             begin,
             end: begin.saturating_add(shown).min(count),
             count,
@@ -163,7 +163,7 @@ impl<'a> Line<'a> {
 
 /// The columns of a line that are shown.
 #[derive(Clone, Copy)]
-pub struct Part {
+pub struct ShownColumns {
     /// The first.
     pub begin: u64,
     /// How many stand before the end.
@@ -172,7 +172,7 @@ pub struct Part {
     pub count: u64,
 }
 
-impl Part {
+impl ShownColumns {
     // How many columns show that the beginning is left out.
     fn cut_columns(self) -> u64 {
         if self.begin > 0 { CUT_COLUMNS } else { 0 }

@@ -9,7 +9,7 @@ use std::alloc::AllocError;
 /// The names of what trees speak of. A number that has no name prints as `?`; no tree of definitions
 /// holds one.
 #[derive(Clone, Copy)]
-pub struct Names<'a> {
+pub struct TreeNames<'a> {
     /// The names, by their numbers.
     pub syms: &'a [String],
     /// The types.
@@ -18,7 +18,7 @@ pub struct Names<'a> {
     pub terms: &'a [Term],
 }
 
-impl<'a> Names<'a> {
+impl<'a> TreeNames<'a> {
     // A name by its number.
     fn sym(&self, sym: Sym) -> &'a str {
         match self.syms.get(sym.index()) {
@@ -61,7 +61,7 @@ impl<'a> Names<'a> {
 /// A term: its name, its sites and its steps.
 pub fn print_term(
     out: &mut String,
-    names: Names<'_>,
+    names: TreeNames<'_>,
     id: TermId,
     bindings: &[Binding],
     block: &Block,
@@ -76,7 +76,7 @@ pub fn print_term(
 /// Each site by its number, with what it stands for.
 pub fn print_bindings(
     out: &mut String,
-    names: Names<'_>,
+    names: TreeNames<'_>,
     bindings: &[Binding],
 ) -> Result<(), AllocError> {
     for (number, binding) in bindings.iter().enumerate() {
@@ -91,7 +91,7 @@ pub fn print_bindings(
 #[cycle(print)]
 pub fn print_block(
     out: &mut String,
-    names: Names<'_>,
+    names: TreeNames<'_>,
     depth: usize,
     block: &Block,
 ) -> Result<(), AllocError> {
@@ -105,7 +105,7 @@ pub fn print_block(
 #[cycle(print)]
 fn print_step(
     out: &mut String,
-    names: Names<'_>,
+    names: TreeNames<'_>,
     depth: usize,
     step: &EvalStep,
 ) -> Result<(), AllocError> {
@@ -117,7 +117,7 @@ fn print_step(
 #[cycle(print)]
 fn print_check(
     out: &mut String,
-    names: Names<'_>,
+    names: TreeNames<'_>,
     depth: usize,
     check: &ControlFlow,
 ) -> Result<(), AllocError> {
@@ -145,7 +145,7 @@ fn print_check(
 #[cycle(print)]
 fn print_arm(
     out: &mut String,
-    names: Names<'_>,
+    names: TreeNames<'_>,
     depth: usize,
     arm: &MatchArm,
 ) -> Result<(), AllocError> {
@@ -156,7 +156,7 @@ fn print_arm(
 // The line of an arm: its constraint, and the sites of its fields, with `_` for none.
 fn print_arm_line(
     out: &mut String,
-    names: Names<'_>,
+    names: TreeNames<'_>,
     depth: usize,
     arm: &MatchArm,
 ) -> Result<(), AllocError> {
@@ -220,7 +220,11 @@ fn print_site(out: &mut String, site: BindingId) -> Result<(), AllocError> {
 }
 
 // What a site stands for.
-fn print_binding(out: &mut String, names: Names<'_>, binding: &Binding) -> Result<(), AllocError> {
+fn print_binding(
+    out: &mut String,
+    names: TreeNames<'_>,
+    binding: &Binding,
+) -> Result<(), AllocError> {
     match binding {
         Binding::ConstBool { val, .. } => print_bool(out, *val),
         Binding::ConstInt { val, ty } => print_int(out, names, *val, *ty),
@@ -265,7 +269,7 @@ fn print_binding(out: &mut String, names: Names<'_>, binding: &Binding) -> Resul
 // What an arm asks.
 fn print_constraint(
     out: &mut String,
-    names: Names<'_>,
+    names: TreeNames<'_>,
     constraint: Constraint,
 ) -> Result<(), AllocError> {
     match constraint {
@@ -287,7 +291,12 @@ fn print_bool(out: &mut String, val: bool) -> Result<(), AllocError> {
 }
 
 // An integer and its type.
-fn print_int(out: &mut String, names: Names<'_>, val: i128, ty: TypeId) -> Result<(), AllocError> {
+fn print_int(
+    out: &mut String,
+    names: TreeNames<'_>,
+    val: i128,
+    ty: TypeId,
+) -> Result<(), AllocError> {
     write!(out, "int {val} ")?;
     out.push_str(names.ty(ty))
 }
@@ -321,7 +330,7 @@ fn print_call(
 // A variant that is made, and the sites of its fields.
 fn print_made_variant(
     out: &mut String,
-    names: Names<'_>,
+    names: TreeNames<'_>,
     ty: TypeId,
     variant: VariantId,
     fields: &[BindingId],
@@ -352,7 +361,7 @@ fn print_part(
 // A variant after its enum and a point.
 fn print_variant(
     out: &mut String,
-    names: Names<'_>,
+    names: TreeNames<'_>,
     ty: TypeId,
     variant: VariantId,
 ) -> Result<(), AllocError> {

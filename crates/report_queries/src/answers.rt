@@ -16,7 +16,7 @@ use std::io::{ErrorKind, Write};
 
 /// What is to be written: the text of trees, or lines of errors.
 #[derive(Drop)]
-pub enum Answer {
+pub enum TreesOrErrors {
     /// The trees of accepted definitions, or whatever else a program gives of them.
     Trees(String),
     /// What is wrong, one error a line.
@@ -30,12 +30,14 @@ pub fn answer_to(
     defs: &[Def],
     expand: bool,
     places: Places<'_>,
-) -> Result<Answer, AllocError>
+) -> Result<TreesOrErrors, AllocError>
     ensures { IfOk result (IsAnswerTo (definition_views defs.now) expand) }
 {
     match lower(alloc, defs, expand) {
-        Ok(lowered) => Ok(Answer::Trees(trees(alloc, &lowered)?)),
-        Err(Fault::Errors(errors)) => Ok(Answer::Errors(error_lines(alloc, &errors, places)?)),
+        Ok(lowered) => Ok(TreesOrErrors::Trees(trees(alloc, &lowered)?)),
+        Err(Fault::Errors(errors)) => Ok(TreesOrErrors::Errors(error_lines(
+            alloc, &errors, places,
+        )?)),
         Err(Fault::Memory(e)) => Err(e),
     }
 }
@@ -44,7 +46,7 @@ pub fn answer_to(
 /// are on `err`, 3 where memory was refused, 4 where `out` can't be written or flushed. Neither a failure of `err` nor an `out`
 /// that nobody reads changes a status.
 pub fn write_answer<O: Write, E: Write>(
-    answer: Result<Answer, AllocError>,
+    answer: Result<TreesOrErrors, AllocError>,
     out: &mut O,
     err: &mut E,
 ) -> u8
@@ -54,8 +56,8 @@ pub fn write_answer<O: Write, E: Write>(
     ensures lowered { (defs : List Definition) (expand : Bool) → IfOk answer (IsAnswerTo defs expand) → IsStatusOf defs expand result }
 {
     match answer {
-        Ok(Answer::Trees(text)) => write_text(text.as_str(), out, err),
-        Ok(Answer::Errors(text)) => end(err, text.as_str(), 1),
+        Ok(TreesOrErrors::Trees(text)) => write_text(text.as_str(), out, err),
+        Ok(TreesOrErrors::Errors(text)) => end(err, text.as_str(), 1),
         Err(AllocError) => no_memory(err),
     }
 }

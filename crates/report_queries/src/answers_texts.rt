@@ -4,7 +4,7 @@ ghost use Rattle.std.specs.Prelude.{IfOk};
 ghost use Rattle.report_queries.specs.Statuses.{IsAnswerTo};
 ghost use Rattle.cranelift_isle.specs.SyntaxViews.{definition_views};
 
-use crate::answers::{Answer, answer_to};
+use crate::answers::{TreesOrErrors, answer_to};
 use cranelift_isle::syntax::Def;
 use report_print::places::Places;
 use std::alloc::{AllocError, Global};
@@ -13,7 +13,7 @@ use text_reader::read;
 
 /// How a text is lowered, and its errors shown.
 #[derive(Clone, Copy)]
-pub struct Asked {
+pub struct TextOptions {
     /// Whether uses of internal extractors are replaced by their templates.
     pub expand: bool,
     /// Whether the place of an error is shown as its line and column. Else it is 0 and the number of the definition
@@ -22,10 +22,16 @@ pub struct Asked {
 }
 
 /// The trees of a text's definitions, or one line for each error: those found on the way to them, or the one of reading.
-pub fn answer_to_text(alloc: Global, text: &str, asked: Asked) -> Result<Answer, AllocError> {
+pub fn answer_to_text(
+    alloc: Global,
+    text: &str,
+    asked: TextOptions,
+) -> Result<TreesOrErrors, AllocError> {
     match read(alloc, 0, text) {
         Ok(defs) => answer_to_defs(alloc, text, &defs, asked),
-        Err(ReadFault::Text(error)) => Ok(Answer::Errors(syntax_error_line(alloc, text, &error)?)),
+        Err(ReadFault::Text(error)) => Ok(TreesOrErrors::Errors(syntax_error_line(
+            alloc, text, &error,
+        )?)),
         Err(ReadFault::Memory(error)) => Err(error),
     }
 }
@@ -35,8 +41,8 @@ fn answer_to_defs(
     alloc: Global,
     text: &str,
     defs: &[Def],
-    asked: Asked,
-) -> Result<Answer, AllocError>
+    asked: TextOptions,
+) -> Result<TreesOrErrors, AllocError>
     // the answer is that of lowering these definitions
     ensures { IfOk result (IsAnswerTo (definition_views defs.now) asked.expand) }
 {
@@ -44,7 +50,7 @@ fn answer_to_defs(
 }
 
 // How the places in a text with these definitions are shown.
-fn places<'a>(text: &'a str, defs: &'a [Def], asked: Asked) -> Places<'a> {
+fn places<'a>(text: &'a str, defs: &'a [Def], asked: TextOptions) -> Places<'a> {
     if asked.lines {
         Places::Lines(text)
     } else {

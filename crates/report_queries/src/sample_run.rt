@@ -4,7 +4,7 @@ ghost use Rattle.std.specs.Prelude.{◌≡◌, ◌≢◌, ◌≤◌, false, is_s
 ghost use Rattle.report_queries.specs.Samples.{names_sample};
 
 use crate::answers::{end, write_answer};
-use crate::answers_texts::{Asked, answer_to_text};
+use crate::answers_texts::{TextOptions, answer_to_text};
 use crate::samples::sample_text;
 use std::alloc::Global;
 use std::io::Write;
@@ -30,7 +30,7 @@ pub fn run_sample<O: Write, E: Write>(
     let Some(text) = text_named_by(words) else {
         return end(err, "usage: isle-tree SAMPLE\n", 2);
     };
-    let asked = Asked {
+    let asked = TextOptions {
         expand: true,
         lines: false,
     };

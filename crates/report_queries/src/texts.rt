@@ -7,19 +7,19 @@ use cranelift_isle::serialize::{Block, ControlFlow, EvalStep, MatchArm};
 use cranelift_isle::trie_again::{Binding, BindingId, Constraint};
 pub use report_print::errors::error_lines;
 pub use report_print::places::Places;
-pub use report_print::print::{Names, print_term};
+pub use report_print::print::{TreeNames, print_term};
 use report_print::print::{print_bindings, print_block};
 use std::alloc::{AllocError, Global};
 use std::slice;
 
 /// The names that texts of an answer need.
-pub fn names_of(lowered: &Lowered) -> Names<'_> {
+pub fn names_of(lowered: &Lowered) -> TreeNames<'_> {
     names_in(&lowered.tyenv, &lowered.termenv)
 }
 
 /// The names that texts need, of these environments.
-pub fn names_in<'a>(tyenv: &'a TypeEnv, termenv: &'a TermEnv) -> Names<'a> {
-    Names {
+pub fn names_in<'a>(tyenv: &'a TypeEnv, termenv: &'a TermEnv) -> TreeNames<'a> {
+    TreeNames {
         syms: &tyenv.syms,
         types: &tyenv.types,
         terms: &termenv.terms,
@@ -33,7 +33,7 @@ pub fn names_in<'a>(tyenv: &'a TypeEnv, termenv: &'a TermEnv) -> Names<'a> {
 /// Where memory is refused.
 pub fn binding_text(
     alloc: Global,
-    names: Names<'_>,
+    names: TreeNames<'_>,
     binding: &Binding,
 ) -> Result<String, AllocError> {
     let mut line = String::new(alloc);
@@ -48,7 +48,7 @@ pub fn binding_text(
 /// Where memory is refused.
 pub fn constraint_text(
     alloc: Global,
-    names: Names<'_>,
+    names: TreeNames<'_>,
     constraint: Constraint,
 ) -> Result<String, AllocError> {
     let source = BindingId::from(0);
@@ -71,7 +71,7 @@ pub fn constraint_text(
 /// # Errors
 ///
 /// Where memory is refused.
-pub fn turn_text(alloc: Global, names: Names<'_>, turn: &Turn) -> Result<String, AllocError> {
+pub fn turn_text(alloc: Global, names: TreeNames<'_>, turn: &Turn) -> Result<String, AllocError> {
     match turn {
         Turn::Arm { source, constraint } => {
             let site = source.index();
@@ -95,7 +95,11 @@ pub fn turn_text(alloc: Global, names: Names<'_>, turn: &Turn) -> Result<String,
 /// # Errors
 ///
 /// Where memory is refused.
-pub fn step_text(alloc: Global, names: Names<'_>, step: &EvalStep) -> Result<String, AllocError> {
+pub fn step_text(
+    alloc: Global,
+    names: TreeNames<'_>,
+    step: &EvalStep,
+) -> Result<String, AllocError> {
     let check = head_of(alloc, &step.check)?;
     let block = block_with(alloc, &step.bind_order, check)?;
     let mut lines = String::new(alloc);

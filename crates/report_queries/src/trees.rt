@@ -1,12 +1,12 @@
 //! The text of what definitions become.
 
 use cranelift_isle::lower::Lowered;
-use report_print::print::{Names, print_term};
+use report_print::print::{TreeNames, print_term};
 use std::alloc::{AllocError, Global};
 
 // The text of all terms' trees.
 pub(crate) fn trees(alloc: Global, lowered: &Lowered) -> Result<String, AllocError> {
-    let names = Names {
+    let names = TreeNames {
         syms: &lowered.tyenv.syms,
         types: &lowered.tyenv.types,
         terms: &lowered.termenv.terms,

@@ -26,7 +26,7 @@ pub enum Given {
 
 /// What a line answers.
 #[derive(Drop)]
-pub enum Reply {
+pub enum LineReply {
     /// There is no answer.
     Nothing,
     /// The outputs, in order.
@@ -34,7 +34,7 @@ pub enum Reply {
 }
 
 /// A line of a file of answers.
-pub struct Line {
+pub struct AnswerLine {
     /// What is called of the term.
     pub side: Side,
     /// The term.
@@ -42,10 +42,10 @@ pub struct Line {
     /// The arguments.
     pub args: Vec<Given>,
     /// The answer.
-    pub reply: Reply,
+    pub reply: LineReply,
 }
 
-impl Drop for Line {
+impl Drop for AnswerLine {
     fn drop(self) {
         let Self {
             side: _,
@@ -60,7 +60,7 @@ impl Drop for Line {
 #[derive(Drop)]
 pub enum ReadAnswers {
     /// Its lines.
-    Lines(Vec<Line>),
+    Lines(Vec<AnswerLine>),
     /// What is wrong with it, a line each.
     Wrong(String),
 }
@@ -170,7 +170,7 @@ impl<'a> Drop for Parts<'a> {
 
 impl<'a> Place<'a> {
     // Reads a line, and adds what it says. A line may be empty.
-    fn push_line(self, text: &str, lines: &mut Vec<Line>) -> Result<(), Wrong> {
+    fn push_line(self, text: &str, lines: &mut Vec<AnswerLine>) -> Result<(), Wrong> {
         let alloc = self.alloc;
         let text = format!(in alloc; "{BEFORE}{text}\n))")?;
         match read(alloc, 0, &text) {
@@ -183,7 +183,7 @@ impl<'a> Place<'a> {
     }
 
     // Adds what a line says that was read as definitions.
-    fn push_definitions(self, defs: &[Def], lines: &mut Vec<Line>) -> Result<(), Wrong> {
+    fn push_definitions(self, defs: &[Def], lines: &mut Vec<AnswerLine>) -> Result<(), Wrong> {
         let words = match words_in(defs) {
             Some(words) => words,
             None => return Err(self.no_answer(0)),
@@ -210,12 +210,12 @@ impl<'a> Place<'a> {
     }
 
     // The line with these parts.
-    fn line_of(self, parts: &Parts<'_>) -> Result<Line, Wrong> {
+    fn line_of(self, parts: &Parts<'_>) -> Result<AnswerLine, Wrong> {
         let term = self.term_of(parts.name)?;
         let side = self.side_of(term, parts)?;
         let args = self.args_of(term, side, parts)?;
         let reply = self.reply_of(term, side, parts)?;
-        Ok(Line {
+        Ok(AnswerLine {
             side,
             term: term.id,
             args,
@@ -281,7 +281,7 @@ impl<'a> Place<'a> {
     }
 
     // The answer: a constructor's is of the term's result type, an extractor's outputs are of the types of the term's arguments.
-    fn reply_of(self, term: &Term, side: Side, parts: &Parts<'_>) -> Result<Reply, Wrong> {
+    fn reply_of(self, term: &Term, side: Side, parts: &Parts<'_>) -> Result<LineReply, Wrong> {
         if is_none(&parts.outputs) {
             return self.no_reply(term, side, parts.name);
         }
@@ -296,13 +296,13 @@ impl<'a> Place<'a> {
             let value = self.value_of(output, *ty)?;
             outputs.push(value)?;
         }
-        Ok(Reply::Outputs(outputs))
+        Ok(LineReply::Outputs(outputs))
     }
 
     // That there is no answer, where there may be none.
-    fn no_reply(self, term: &Term, side: Side, name: &Ident) -> Result<Reply, Wrong> {
+    fn no_reply(self, term: &Term, side: Side, name: &Ident) -> Result<LineReply, Wrong> {
         if count_of(term, side) != Count::One {
-            return Ok(Reply::Nothing);
+            return Ok(LineReply::Nothing);
         }
         let alloc = self.alloc;
         Err(wrong_at(

@@ -17,7 +17,7 @@ pub enum Side {
 }
 
 /// A call whose answer is asked for.
-pub struct Asked {
+pub struct AskedCall {
     /// What is called of the term.
     pub side: Side,
     /// The term.
@@ -28,7 +28,7 @@ pub struct Asked {
     pub impure: bool,
 }
 
-impl Drop for Asked {
+impl Drop for AskedCall {
     fn drop(self) {
         let Self {
             side: _,
@@ -40,7 +40,11 @@ impl Drop for Asked {
 }
 
 /// A call as text, as a file of answers writes it.
-pub fn asked_text(alloc: Global, lowered: &Lowered, asked: &Asked) -> Result<String, AllocError> {
+pub fn asked_text(
+    alloc: Global,
+    lowered: &Lowered,
+    asked: &AskedCall,
+) -> Result<String, AllocError> {
     let mut text = String::new(alloc);
     if asked.side == Side::Extractor && is_made(lowered, asked.term) {
         text.push_str("extract ")?;

@@ -1,11 +1,11 @@
 //! Whether values meet the demands of a rule.
 
-use crate::asked::{Asked, Side, asked_text};
+use crate::asked::{AskedCall, Side, asked_text};
 use crate::known::{key_of, known_in};
 use crate::templates::{Fit, SEVERAL, Sight, Taken, has_answers, term_named, value_text};
 use cranelift_isle::sema::{Term, TermKind};
-use report_witness::conditions::{Conditions, Demanded, Spoken};
-use report_witness::forms::Form;
+use report_witness::conditions::{Conditions, DemandKind, Spoken};
+use report_witness::forms::ValueForm;
 use run_terms::answers::single;
 use run_terms::values::{Value, same_value};
 use std::alloc::AllocError;
@@ -18,7 +18,7 @@ pub enum Verdict {
     /// They meet so many, and don't meet the next one, for this reason.
     Unmet(usize, String),
     /// The answer to this call has to be known.
-    Asks(Asked),
+    Asks(AskedCall),
 }
 
 // Whether values meet one demand.
@@ -26,7 +26,7 @@ pub enum Verdict {
 enum Step {
     Met,
     Unmet(String),
-    Asks(Asked),
+    Asks(AskedCall),
 }
 
 /// Whether the values of arguments meet the demands of a rule, in order.
@@ -96,11 +96,11 @@ impl<'a> Judged<'a> {
     }
 
     // Whether a demand is met.
-    fn meet(&mut self, what: &Demanded<'_>) -> Result<Step, AllocError> {
+    fn meet(&mut self, what: &DemandKind<'_>) -> Result<Step, AllocError> {
         match what {
-            Demanded::Form(number, form, parts) => self.meet_form(*number, *form, parts),
-            Demanded::Call(form, parts, number) => self.meet_call(*form, parts, *number),
-            Demanded::Equal(number) => self.meet_equal(*number),
+            DemandKind::Form(number, form, parts) => self.meet_form(*number, *form, parts),
+            DemandKind::Call(form, parts, number) => self.meet_call(*form, parts, *number),
+            DemandKind::Equal(number) => self.meet_equal(*number),
         }
     }
 
@@ -108,7 +108,7 @@ impl<'a> Judged<'a> {
     fn meet_form(
         &mut self,
         number: usize,
-        form: Form<'_>,
+        form: ValueForm<'_>,
         parts: &[Spoken<'_>],
     ) -> Result<Step, AllocError> {
         let Some(value) = value_in(&self.values, number) else {
@@ -188,11 +188,11 @@ impl<'a> Judged<'a> {
     // Whether a call gives a value.
     fn meet_call(
         &mut self,
-        form: Form<'_>,
+        form: ValueForm<'_>,
         parts: &[Spoken<'_>],
         number: usize,
     ) -> Result<Step, AllocError> {
-        let Form::Term(name) = form else {
+        let ValueForm::Term(name) = form else {
             return Ok(Step::Met);
         };
         let Some(term) = term_named(self.sight.alloc, self.sight.lowered, name)? else {
@@ -242,7 +242,7 @@ impl<'a> Judged<'a> {
     ) -> Result<Step, AllocError> {
         let alloc = self.sight.alloc;
         let key = key_of(alloc, &args)?;
-        let asked = Asked {
+        let asked = AskedCall {
             side: Side::Constructor,
             term: term.id,
             args,

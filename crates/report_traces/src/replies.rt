@@ -1,7 +1,7 @@
 //! What calls are answered.
 
-use crate::answers_file::{Given, Line, Reply};
-use crate::asked::{Asked, Count, Side, count_of};
+use crate::answers_file::{AnswerLine, Given, LineReply};
+use crate::asked::{AskedCall, Count, Side, count_of};
 use crate::echo::Echo;
 use cranelift_isle::lower::Lowered;
 use run_terms::externs::Externs;
@@ -14,7 +14,7 @@ pub enum Replies {
     /// Each call is answered in a fixed way, as an echo.
     Echoes,
     /// The lines of a file.
-    Lines(Vec<Line>),
+    Lines(Vec<AnswerLine>),
 }
 
 impl Replies {
@@ -23,7 +23,7 @@ impl Replies {
         &self,
         alloc: Global,
         lowered: &Lowered,
-        asked: &Asked,
+        asked: &AskedCall,
         before: usize,
     ) -> Result<Option<Content>, AllocError> {
         match self {
@@ -37,7 +37,7 @@ impl Replies {
 fn echoed(
     alloc: Global,
     lowered: &Lowered,
-    asked: &Asked,
+    asked: &AskedCall,
     before: usize,
 ) -> Result<Content, AllocError> {
     let echo = Echo {
@@ -63,8 +63,8 @@ fn echoed(
 fn written(
     alloc: Global,
     lowered: &Lowered,
-    lines: &[Line],
-    asked: &Asked,
+    lines: &[AnswerLine],
+    asked: &AskedCall,
 ) -> Result<Option<Content>, AllocError> {
     let Some(term) = lowered.termenv.terms.get(asked.term.index()) else {
         return Ok(None);
@@ -79,8 +79,8 @@ fn written(
 // The answer of the first line that fits.
 fn first_written(
     alloc: Global,
-    lines: &[Line],
-    asked: &Asked,
+    lines: &[AnswerLine],
+    asked: &AskedCall,
     optional: bool,
 ) -> Result<Option<Content>, AllocError> {
     for line in lines {
@@ -95,8 +95,8 @@ fn first_written(
 // The answers of all lines that fit.
 fn all_written(
     alloc: Global,
-    lines: &[Line],
-    asked: &Asked,
+    lines: &[AnswerLine],
+    asked: &AskedCall,
 ) -> Result<Option<Content>, AllocError> {
     let mut contents = Vec::new(alloc);
     let mut there = false;
@@ -114,10 +114,10 @@ fn all_written(
 }
 
 // Adds the answer of a line, where it has one.
-fn push_reply(contents: &mut Vec<Content>, line: &Line) -> Result<(), AllocError> {
+fn push_reply(contents: &mut Vec<Content>, line: &AnswerLine) -> Result<(), AllocError> {
     match &line.reply {
-        Reply::Nothing => Ok(()),
-        Reply::Outputs(values) => {
+        LineReply::Nothing => Ok(()),
+        LineReply::Outputs(values) => {
             let content = together(*values.allocator(), values)?;
             contents.push(content)?;
             Ok(())
@@ -126,10 +126,10 @@ fn push_reply(contents: &mut Vec<Content>, line: &Line) -> Result<(), AllocError
 }
 
 // The answer of a line, marked as there where it may be missing.
-fn content_of(alloc: Global, line: &Line, optional: bool) -> Result<Content, AllocError> {
+fn content_of(alloc: Global, line: &AnswerLine, optional: bool) -> Result<Content, AllocError> {
     match &line.reply {
-        Reply::Nothing => Ok(Content::Nothing),
-        Reply::Outputs(values) => {
+        LineReply::Nothing => Ok(Content::Nothing),
+        LineReply::Outputs(values) => {
             let content = together(alloc, values)?;
             if optional {
                 Ok(Content::Just(Box::new(alloc, content)?))
@@ -149,7 +149,7 @@ fn together(alloc: Global, values: &[Value]) -> Result<Content, AllocError> {
 }
 
 // Whether a line is about a call.
-fn fits(line: &Line, asked: &Asked) -> bool {
+fn fits(line: &AnswerLine, asked: &AskedCall) -> bool {
     line.term == asked.term
         && line.side == asked.side
         && line.args.len() == asked.args.len()

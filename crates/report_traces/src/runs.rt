@@ -1,7 +1,7 @@
 //! Runs of calls, and of the calls of terms with rules that they make.
 
-use crate::asked::{Asked, Count, Side, asked_text, count_of};
-use crate::faults::{Fault, fault_saying};
+use crate::asked::{AskedCall, Count, Side, asked_text, count_of};
+use crate::faults::{TraceFault, fault_saying};
 use crate::known::{Answered, Known};
 use crate::outcomes::outcome_text;
 use crate::replies::Replies;
@@ -28,7 +28,7 @@ const MOST_CALLS: usize = 20000;
 struct Frame<'a> {
     entry: &'a LoweredTerm,
     // The call that is run.
-    asked: Asked,
+    asked: AskedCall,
     // The answers to its impure calls, in order.
     made: Vec<Content>,
     // Its impure calls. A call that was run itself stands here as the calls that it made.
@@ -47,7 +47,7 @@ impl<'a> Drop for Frame<'a> {
 }
 
 impl<'a> Frame<'a> {
-    fn into_parts(self) -> (Asked, Vec<Call>) {
+    fn into_parts(self) -> (AskedCall, Vec<Call>) {
         let Self {
             entry: _,
             asked,
@@ -61,7 +61,7 @@ impl<'a> Frame<'a> {
 /// What a run came to.
 pub struct Ended {
     /// The call that was run.
-    pub asked: Asked,
+    pub asked: AskedCall,
     /// The outcome. Of its impure calls one that was run itself stands there as the calls that it made.
     pub outcome: Outcome,
     /// The places of the rules that returns took.
@@ -79,7 +79,7 @@ impl Drop for Ended {
 }
 
 impl Ended {
-    fn into_parts(self) -> (Asked, Outcome) {
+    fn into_parts(self) -> (AskedCall, Outcome) {
         let Self {
             asked,
             outcome,
@@ -161,10 +161,10 @@ impl<'a> Runs<'a> {
     /// # Errors
     ///
     /// A call that it needs has no answer, or there are too many calls.
-    pub fn run(&mut self, entry: &'a LoweredTerm, args: Vec<Value>) -> Result<Ended, Fault> {
+    pub fn run(&mut self, entry: &'a LoweredTerm, args: Vec<Value>) -> Result<Ended, TraceFault> {
         self.push_frame(
             entry,
-            Asked {
+            AskedCall {
                 side: Side::Constructor,
                 term: entry.id,
                 args,
@@ -179,7 +179,7 @@ impl<'a> Runs<'a> {
     /// # Errors
     ///
     /// There is none, or there are too many calls.
-    pub fn learn(&mut self, asked: Asked) -> Result<(), Fault> {
+    pub fn learn(&mut self, asked: AskedCall) -> Result<(), TraceFault> {
         self.answer(asked)?;
         if self.frames.is_empty() {
             return Ok(());
@@ -189,7 +189,7 @@ impl<'a> Runs<'a> {
     }
 
     // Begins a run.
-    fn push_frame(&mut self, entry: &'a LoweredTerm, asked: Asked) -> Result<(), AllocError> {
+    fn push_frame(&mut self, entry: &'a LoweredTerm, asked: AskedCall) -> Result<(), AllocError> {
         let made = Vec::new(self.alloc);
         let calls = Vec::new(self.alloc);
         self.frames.push(Frame {
@@ -202,7 +202,7 @@ impl<'a> Runs<'a> {
     }
 
     // Runs all that was begun. What the first run came to.
-    fn end_all(&mut self) -> Result<Ended, Fault> {
+    fn end_all(&mut self) -> Result<Ended, TraceFault> {
         for _ in 0..MOST_CALLS {
             match self.go_on()? {
                 Some(ended) => return Ok(ended),
@@ -214,7 +214,7 @@ impl<'a> Runs<'a> {
     }
 
     // Runs the last run from its beginning: it ends, or asks for an answer. What the first run came to, where that ended.
-    fn go_on(&mut self) -> Result<Option<Ended>, Fault> {
+    fn go_on(&mut self) -> Result<Option<Ended>, TraceFault> {
         let mut walked = self.walked()?;
         match walked.asked.pop() {
             Some(asked) => {
@@ -226,7 +226,7 @@ impl<'a> Runs<'a> {
     }
 
     // Walks the last run.
-    fn walked(&self) -> Result<Walked, Fault> {
+    fn walked(&self) -> Result<Walked, TraceFault> {
         let alloc = self.alloc;
         let Some(frame) = self.frames.last() else {
             return Err(fault_saying(String::from_str(alloc, "error[call]: nothing to run")));
@@ -253,7 +253,7 @@ impl<'a> Runs<'a> {
     }
 
     // Gives the answer to a call, or begins the call's own run.
-    fn answer(&mut self, asked: Asked) -> Result<(), Fault> {
+    fn answer(&mut self, asked: AskedCall) -> Result<(), TraceFault> {
         let before = match self.frames.last() {
             Some(frame) => frame.made.len(),
             None => 0,
@@ -271,7 +271,7 @@ impl<'a> Runs<'a> {
     }
 
     // An impure call, as it is listed.
-    fn listed(&self, asked: &Asked) -> Result<Vec<Call>, AllocError> {
+    fn listed(&self, asked: &AskedCall) -> Result<Vec<Call>, AllocError> {
         let mut calls = Vec::new(self.alloc);
         if asked.impure {
             let args = value_clones(self.alloc, &asked.args)?;
@@ -284,7 +284,7 @@ impl<'a> Runs<'a> {
     }
 
     // Begins the run of a call.
-    fn begin(&mut self, asked: Asked) -> Result<(), Fault> {
+    fn begin(&mut self, asked: AskedCall) -> Result<(), TraceFault> {
         let alloc = self.alloc;
         if asked.side == Side::Constructor {
             if let Some(entry) = lowered_term(self.lowered, asked.term) {
@@ -305,10 +305,10 @@ impl<'a> Runs<'a> {
     // Makes an answer known. The impure calls that were made for it are listed in the run that asked.
     fn give(
         &mut self,
-        mut asked: Asked,
+        mut asked: AskedCall,
         content: Content,
         mut calls: Vec<Call>,
-    ) -> Result<(), Fault> {
+    ) -> Result<(), TraceFault> {
         if asked.impure {
             if let Some(frame) = self.frames.last_mut() {
                 frame.made.push(content)?;
@@ -333,7 +333,7 @@ impl<'a> Runs<'a> {
     }
 
     // Ends the last run. What it came to, where it was the first one; else its result is given to the run that asked.
-    fn end(&mut self, walked: Walked) -> Result<Option<Ended>, Fault> {
+    fn end(&mut self, walked: Walked) -> Result<Option<Ended>, TraceFault> {
         let Some(frame) = self.frames.pop() else {
             return Ok(None);
         };
@@ -354,7 +354,7 @@ impl<'a> Runs<'a> {
     }
 
     // Compares a walk's outcome with that of the run by the same answers.
-    fn check(&self, frame: &Frame<'a>, walked: &Walked) -> Result<(), Fault> {
+    fn check(&self, frame: &Frame<'a>, walked: &Walked) -> Result<(), TraceFault> {
         let alloc = self.alloc;
         let multi = self.is_multi(frame.entry.id);
         let outcome = run(
@@ -398,7 +398,7 @@ impl<'a> Runs<'a> {
     }
 
     // Gives the result of a run to the run that asked.
-    fn give_result(&mut self, ended: Ended) -> Result<(), Fault> {
+    fn give_result(&mut self, ended: Ended) -> Result<(), TraceFault> {
         let (asked, mut outcome) = ended.into_parts();
         let none = Vec::new(self.alloc);
         let calls = mem::replace(&mut outcome.trace.calls, none);
@@ -407,7 +407,7 @@ impl<'a> Runs<'a> {
     }
 
     // The answer to a call whose run came to this.
-    fn result_of(&self, asked: &Asked, outcome: &mut Outcome) -> Result<Content, Fault> {
+    fn result_of(&self, asked: &AskedCall, outcome: &mut Outcome) -> Result<Content, TraceFault> {
         let results = &mut outcome.trace.results;
         match (self.count_of(asked.term), outcome.ending) {
             (Count::Many, Ending::RanThrough) => Ok(Content::Many(mem::replace(
@@ -434,11 +434,11 @@ impl<'a> Runs<'a> {
     }
 
     // That a call that must have a result has none.
-    fn no_result(&self, asked: &Asked, why: &str) -> Fault {
+    fn no_result(&self, asked: &AskedCall, why: &str) -> TraceFault {
         let alloc = self.alloc;
         match asked_text(alloc, self.lowered, asked) {
             Ok(text) => fault_saying(format!(in alloc; "error[call]: {why} {text}")),
-            Err(AllocError) => Fault::Memory,
+            Err(AllocError) => TraceFault::Memory,
         }
     }
 }

@@ -1,6 +1,6 @@
 //! Values that patterns take apart: what a form brings, and what the template of an internal extractor brings.
 
-use crate::asked::{Asked, Side, asked_text};
+use crate::asked::{AskedCall, Side, asked_text};
 use crate::echo::named_value;
 use crate::known::{Answered, known_in};
 use crate::outcomes::push_value;
@@ -8,7 +8,7 @@ use crate::values::{Unanswered, integer, term_of};
 use cranelift_isle::lower::Lowered;
 use cranelift_isle::sema::{ExtractorKind, Term, TermKind, TypeId};
 use cranelift_isle::syntax::{Ident, Pattern, Pos};
-use report_witness::forms::{Form, push_form};
+use report_witness::forms::{ValueForm, push_form};
 use run_terms::answers::answered_outputs;
 use run_terms::values::{Content, Value, same_value, value_clones};
 use std::alloc::{AllocError, Global};
@@ -46,7 +46,7 @@ pub enum Fit<'a> {
     /// A call gives several answers.
     Several(String),
     /// A call has no answer yet.
-    Asks(Asked),
+    Asks(AskedCall),
 }
 
 /// What a template brings of a value.
@@ -57,7 +57,7 @@ pub enum Taken {
     /// It doesn't hold, for this reason.
     Refused(String),
     /// A call has no answer yet.
-    Asks(Asked),
+    Asks(AskedCall),
 }
 
 /// The term of a name.
@@ -85,13 +85,13 @@ pub fn value_text(alloc: Global, lowered: &Lowered, value: &Value) -> Result<Str
 
 impl<'a> Sight<'a> {
     /// What a form brings of a value.
-    pub fn fit(self, form: Form<'_>, value: &Value) -> Result<Fit<'a>, AllocError> {
+    pub fn fit(self, form: ValueForm<'_>, value: &Value) -> Result<Fit<'a>, AllocError> {
         match form {
-            Form::Term(name) => match term_named(self.alloc, self.lowered, name)? {
+            ValueForm::Term(name) => match term_named(self.alloc, self.lowered, name)? {
                 Some(term) => self.fit_term(term, value),
                 None => Ok(Fit::Differs),
             },
-            Form::Bool(_) | Form::Int(_) | Form::Const(_) => {
+            ValueForm::Bool(_) | ValueForm::Int(_) | ValueForm::Const(_) => {
                 if self.is_constant(form, value)? {
                     Ok(Fit::Parts(Vec::new(self.alloc)))
                 } else {
@@ -102,7 +102,7 @@ impl<'a> Sight<'a> {
     }
 
     /// Whether a value is a constant.
-    pub fn is_constant(self, form: Form<'_>, value: &Value) -> Result<bool, AllocError> {
+    pub fn is_constant(self, form: ValueForm<'_>, value: &Value) -> Result<bool, AllocError> {
         let ty = match value {
             Value::Truth(_) => TypeId::BOOL,
             Value::Atom(ty, _) => *ty,
@@ -115,22 +115,22 @@ impl<'a> Sight<'a> {
     }
 
     /// A constant as a value of a type.
-    pub fn constant(self, form: Form<'_>, ty: TypeId) -> Result<Option<Value>, AllocError> {
+    pub fn constant(self, form: ValueForm<'_>, ty: TypeId) -> Result<Option<Value>, AllocError> {
         match form {
-            Form::Bool(val) => Ok(Some(Value::Truth(val))),
-            Form::Int(val) => match integer(self.alloc, self.lowered, val, ty) {
+            ValueForm::Bool(val) => Ok(Some(Value::Truth(val))),
+            ValueForm::Int(val) => match integer(self.alloc, self.lowered, val, ty) {
                 Ok(value) => Ok(Some(value)),
                 Err(Unanswered::Call(_)) => Ok(None),
                 Err(Unanswered::Memory) => Err(AllocError),
             },
-            Form::Const(name) => {
+            ValueForm::Const(name) => {
                 let ident = ident_of(self.alloc, name)?;
                 match self.lowered.tyenv.intern(&ident) {
                     Some(sym) => Ok(Some(named_value(&self.lowered.tyenv, sym))),
                     None => Ok(None),
                 }
             }
-            Form::Term(_) => Ok(None),
+            ValueForm::Term(_) => Ok(None),
         }
     }
 
@@ -162,7 +162,7 @@ impl<'a> Sight<'a> {
     fn extracted(self, term: &Term, value: &Value) -> Result<Fit<'a>, AllocError> {
         let argument = value.clone()?;
         let args = vec![in self.alloc; argument]?;
-        let asked = Asked {
+        let asked = AskedCall {
             side: Side::Extractor,
             term: term.id,
             args,
@@ -250,7 +250,7 @@ struct Scope<'a> {
 enum Step {
     Holds,
     Refused(String),
-    Asks(Asked),
+    Asks(AskedCall),
 }
 
 // A template that is looked at.
@@ -295,10 +295,10 @@ impl<'a> Taking<'a> {
                 self.wait(subpat, &task.value, task.scope)?;
                 self.bind(&var.0, &task)
             }
-            Pattern::ConstBool { val, .. } => self.fit(Form::Bool(*val), &[], &task),
-            Pattern::ConstInt { val, .. } => self.fit(Form::Int(*val), &[], &task),
-            Pattern::ConstPrim { val, .. } => self.fit(Form::Const(&val.0), &[], &task),
-            Pattern::Term { sym, args, .. } => self.fit(Form::Term(&sym.0), args, &task),
+            Pattern::ConstBool { val, .. } => self.fit(ValueForm::Bool(*val), &[], &task),
+            Pattern::ConstInt { val, .. } => self.fit(ValueForm::Int(*val), &[], &task),
+            Pattern::ConstPrim { val, .. } => self.fit(ValueForm::Const(&val.0), &[], &task),
+            Pattern::Term { sym, args, .. } => self.fit(ValueForm::Term(&sym.0), args, &task),
             Pattern::Wildcard { .. } => Ok(Step::Holds),
             Pattern::And { subpats, .. } => {
                 for pattern in subpats.iter().rev() {
@@ -361,7 +361,7 @@ impl<'a> Taking<'a> {
     // A form, whose parts wait.
     fn fit(
         &mut self,
-        form: Form<'a>,
+        form: ValueForm<'a>,
         patterns: &'a [Pattern],
         task: &Task<'a>,
     ) -> Result<Step, AllocError> {
@@ -389,7 +389,7 @@ impl<'a> Taking<'a> {
     }
 
     // That a value hasn't a form.
-    fn refused(&self, form: Form<'_>, value: &Value) -> Result<Step, AllocError> {
+    fn refused(&self, form: ValueForm<'_>, value: &Value) -> Result<Step, AllocError> {
         let mut why = String::from_str(self.sight.alloc, "its template asks for ")?;
         push_form(&mut why, form)?;
         why.push_str(", but there is ")?;

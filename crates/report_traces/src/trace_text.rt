@@ -8,8 +8,8 @@ use cranelift_isle::syntax::{Files, Pos};
 use cranelift_isle::trie_again::{Binding, BindingId};
 use report_errors::explanation::push_rule_place;
 use report_errors::lines::push_line;
-use report_errors::names::Names;
-use report_errors::way_text::{Sites, Test, Way};
+use report_errors::names::NameTables;
+use report_errors::way_text::{Sites, Way, WayTest};
 use report_errors::ways::test_of;
 use report_queries::rules::rule_behind;
 use run_terms::values::Content;
@@ -32,7 +32,7 @@ pub fn push_events<'x>(
     let arguments: Vec<String> = Vec::new(alloc);
     let sites = Sites {
         alloc,
-        names: Names {
+        names: NameTables {
             tyenv: &lowered.tyenv,
             terms: &lowered.termenv.terms,
         },
@@ -139,7 +139,7 @@ impl<'a, 's> Retold<'a, 's> {
         match check {
             ControlFlow::Match { source, arms } => self.push_arms(*source, arms, out),
             ControlFlow::Equal { a, b, body } => {
-                if self.push_test(&Test::Equal(*a, *b), out)? {
+                if self.push_test(&WayTest::Equal(*a, *b), out)? {
                     self.push_block(body, out)?;
                 }
                 Ok(())
@@ -182,7 +182,7 @@ impl<'a, 's> Retold<'a, 's> {
                 self.alloc,
                 &mut self.way,
                 self.shown,
-                &Test::Each(site),
+                &WayTest::Each(site),
                 true,
                 out,
             )?;
@@ -192,7 +192,7 @@ impl<'a, 's> Retold<'a, 's> {
     }
 
     // Adds a test with its outcome, if it was made. Whether it holds.
-    fn push_test(&mut self, test: &Test, out: &mut String) -> Result<bool, AllocError> {
+    fn push_test(&mut self, test: &WayTest, out: &mut String) -> Result<bool, AllocError> {
         let Some(held) = self.outcome() else {
             return Ok(false);
         };
@@ -260,7 +260,7 @@ fn push_held(
     alloc: Global,
     way: &mut Way<'_, '_>,
     shown: &[String],
-    test: &Test,
+    test: &WayTest,
     held: bool,
     out: &mut String,
 ) -> Result<(), AllocError> {
@@ -269,17 +269,22 @@ fn push_held(
 }
 
 // What stands at the end of a test's line: whether it holds, and the value that a call gives.
-fn end_of(alloc: Global, shown: &[String], test: &Test, held: bool) -> Result<String, AllocError> {
+fn end_of(
+    alloc: Global,
+    shown: &[String],
+    test: &WayTest,
+    held: bool,
+) -> Result<String, AllocError> {
     if !held {
         return String::from_str(alloc, ": no");
     }
     match test {
-        Test::Gives(source, _) => match shown.get(source.index()) {
+        WayTest::Gives(source, _) => match shown.get(source.index()) {
             Some(text) if !text.is_empty() => format!(in alloc; ": yes, {text}"),
             _ => String::from_str(alloc, ": yes"),
         },
-        Test::Is(..) | Test::Equal(..) => String::from_str(alloc, ": yes"),
-        Test::Each(_) => Ok(String::new(alloc)),
+        WayTest::Is(..) | WayTest::Equal(..) => String::from_str(alloc, ": yes"),
+        WayTest::Each(_) => Ok(String::new(alloc)),
     }
 }
 

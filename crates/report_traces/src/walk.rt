@@ -1,6 +1,6 @@
 //! Walks of runs over trees: which tests are made, what they find, and which call has no answer yet.
 
-use crate::asked::{Asked, Side};
+use crate::asked::{AskedCall, Side};
 use crate::known::{Answered, key_of, known_in};
 use cranelift_isle::lower::LoweredTerm;
 use cranelift_isle::serialize::{Block, ControlFlow, EvalStep, MatchArm};
@@ -29,7 +29,7 @@ pub enum Event {
 /// What a walk comes to.
 pub struct Walked {
     /// The call that has no answer yet, where there is one: then the walk ends there.
-    pub asked: Vec<Asked>,
+    pub asked: Vec<AskedCall>,
     /// The outcome.
     pub outcome: Outcome,
     /// What happened, in order.
@@ -96,7 +96,7 @@ struct Walk<'a, 'b> {
     stage: Stage<'a, Answered<'b>>,
     env: Vec<(BindingId, Content)>,
     trace: Trace,
-    asked: Vec<Asked>,
+    asked: Vec<AskedCall>,
     events: Vec<Event>,
     answers: Vec<(BindingId, Content)>,
 }
@@ -347,7 +347,7 @@ impl<'a, 'b> Walk<'a, 'b> {
                 match used_value(&self.stage, &self.env, *parameter)? {
                     Some(value) => {
                         let args = vec![in self.stage.alloc; value]?;
-                        self.ask(Asked {
+                        self.ask(AskedCall {
                             side: Side::Extractor,
                             term: *term,
                             args,
@@ -364,7 +364,7 @@ impl<'a, 'b> Walk<'a, 'b> {
                     instance,
                 },
             ) => match used_values(&self.stage, &self.env, parameters)? {
-                Some(args) => self.ask(Asked {
+                Some(args) => self.ask(AskedCall {
                     side: Side::Constructor,
                     term: *term,
                     args,
@@ -377,7 +377,7 @@ impl<'a, 'b> Walk<'a, 'b> {
     }
 
     // Asks for the answer to a call, unless it is known. Whether it was asked for.
-    fn ask(&mut self, asked: Asked) -> Result<bool, AllocError> {
+    fn ask(&mut self, asked: AskedCall) -> Result<bool, AllocError> {
         let alloc = self.stage.alloc;
         if is_known(alloc, self.stage.externs, &asked, self.trace.calls.len())? {
             return Ok(false);
@@ -399,7 +399,7 @@ fn is_call(binding: Option<&Binding>) -> bool {
 pub fn is_known(
     alloc: Global,
     answered: &Answered<'_>,
-    asked: &Asked,
+    asked: &AskedCall,
     before: usize,
 ) -> Result<bool, AllocError> {
     if asked.impure {

@@ -2,7 +2,7 @@
 
 use crate::calls::ReadCall;
 use crate::demands::{Verdict, verdict_of};
-use crate::faults::{Fault, fault_saying};
+use crate::faults::{TraceFault, fault_saying};
 use crate::replies::Replies;
 use crate::runs::Runs;
 use crate::templates::Sight;
@@ -18,7 +18,7 @@ use report_queries::names::term_name;
 use report_queries::premises::is_multi;
 use report_witness::conditions::{Conditions, conditions_of};
 use run_terms::choose::matched;
-use run_terms::source::Source;
+use run_terms::source::RuleContext;
 use run_terms::values::{Value, value_clones};
 use std::alloc::{AllocError, Global};
 
@@ -48,7 +48,11 @@ pub struct Asking<'a> {
 /// # Errors
 ///
 /// There is no such rule, or a call that a demand needs has no answer.
-pub fn why<'a>(asking: Asking<'a>, called: &str, call: &ReadCall<'a>) -> Result<String, Fault> {
+pub fn why<'a>(
+    asking: Asking<'a>,
+    called: &str,
+    call: &ReadCall<'a>,
+) -> Result<String, TraceFault> {
     let alloc = asking.alloc;
     let found = Called::new(alloc, asking.files, called)?;
     let mut runs = Runs::new(alloc, asking.lowered, asking.files, asking.replies, false);
@@ -77,7 +81,7 @@ fn push_answer<'a>(
     call: &ReadCall<'a>,
     (rule, written): (&Rule, &syntax::Rule),
     out: &mut String,
-) -> Result<(), Fault> {
+) -> Result<(), TraceFault> {
     push_title(asking.files, asking.lowered, rule, out)?;
     if is_multi(&asking.lowered.termenv, call.entry.id) {
         let args = value_clones(asking.alloc, &call.args)?;
@@ -137,7 +141,7 @@ fn push_first<'a>(
     call: &ReadCall<'a>,
     rule: &Rule,
     out: &mut String,
-) -> Result<(), Fault> {
+) -> Result<(), TraceFault> {
     if is_multi(&asking.lowered.termenv, call.entry.id) {
         out.push_str(": not taken\n")?;
         push_line(
@@ -165,7 +169,7 @@ fn first_above<'a>(
     entry: &'a LoweredTerm,
     rule: &Rule,
     args: &[Value],
-) -> Result<Option<&'a Rule>, Fault> {
+) -> Result<Option<&'a Rule>, TraceFault> {
     let mut first: Option<&'a Rule> = None;
     for other in &entry.rules.rules {
         if comes_first(rule, other) && is_higher(other, first) {
@@ -191,7 +195,7 @@ fn matches<'a>(
     runs: &mut Runs<'a>,
     rule: &Rule,
     args: &[Value],
-) -> Result<bool, Fault> {
+) -> Result<bool, TraceFault> {
     let Some(written) = rule_at(asking.defs, rule.pos) else {
         return Ok(false);
     };
@@ -209,7 +213,7 @@ fn settled<'a>(
     conditions: &Conditions<'_>,
     pos: Pos,
     args: &[Value],
-) -> Result<Verdict, Fault> {
+) -> Result<Verdict, TraceFault> {
     for _ in 0..MOST_ANSWERS {
         match judged(asking, runs, conditions, args)? {
             Verdict::Asks(asked) => runs.learn(asked)?,
@@ -251,11 +255,11 @@ fn check(
     pos: Pos,
     args: &[Value],
     met: bool,
-) -> Result<(), Fault> {
+) -> Result<(), TraceFault> {
     let alloc = asking.alloc;
     let env = &asking.lowered.termenv;
     let answered = runs.answered();
-    let source = Source {
+    let source = RuleContext {
         alloc,
         externs: &answered,
         terms: &env.terms,

@@ -7,7 +7,7 @@ use cranelift_isle::syntax::{Def, Ident, Pattern, Pos, Rule};
 use cranelift_isle::trie_again::{BindingId, Constraint};
 use report_errors::demands::push_head;
 use report_errors::diagnosis::{add_help, add_rule};
-use report_errors::names::Names;
+use report_errors::names::NameTables;
 use report_print::report::Report;
 use std::alloc::{AllocError, Global};
 
@@ -263,7 +263,7 @@ fn beside(
 
 // A constant as a quotation.
 fn quoted(alloc: Global, lowered: &Lowered, constraint: Constraint) -> Result<String, AllocError> {
-    let names = Names {
+    let names = NameTables {
         tyenv: &lowered.tyenv,
         terms: &lowered.termenv.terms,
     };

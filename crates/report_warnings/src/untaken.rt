@@ -6,7 +6,7 @@ use cranelift_isle::lower::{Lowered, LoweredTerm};
 use cranelift_isle::sema::{Term, TypeEnv};
 use cranelift_isle::trie_again::{Binding, BindingId, Constraint, RuleSet, TupleIndex};
 use report_errors::demands::push_head;
-use report_errors::names::Names;
+use report_errors::names::NameTables;
 use std::alloc::{AllocError, Global};
 
 // How many pieces a call may have.
@@ -31,7 +31,7 @@ enum Piece {
 // A call that is written by what a run found.
 struct Writing<'a> {
     alloc: Global,
-    names: Names<'a>,
+    names: NameTables<'a>,
     tyenv: &'a TypeEnv,
     set: &'a RuleSet,
     facts: &'a [Fact],
@@ -67,7 +67,7 @@ pub(crate) fn push_untaken(
     let tyenv = &lowered.tyenv;
     let mut writing = Writing {
         alloc,
-        names: Names { tyenv, terms },
+        names: NameTables { tyenv, terms },
         tyenv,
         set: &lowered_term.rules,
         facts,

@@ -1,6 +1,6 @@
 //! The conditions of a rule in its own words, a line for each.
 
-use crate::forms::{Form, is_constant};
+use crate::forms::{ValueForm, is_constant};
 use crate::parts::{Head, Parts};
 use crate::parts_text::Writing;
 use crate::rule_parts::parts_of;
@@ -42,7 +42,7 @@ pub struct Demand<'a> {
     /// The demand as text.
     pub text: String,
     /// What is demanded.
-    pub what: Demanded<'a>,
+    pub what: DemandKind<'a>,
 }
 
 impl<'a> Drop for Demand<'a> {
@@ -57,16 +57,16 @@ pub enum Spoken<'a> {
     /// The value of this number.
     Value(usize),
     /// A constant.
-    Constant(Form<'a>),
+    Constant(ValueForm<'a>),
 }
 
 /// What a rule demands.
 #[derive(Drop)]
-pub enum Demanded<'a> {
+pub enum DemandKind<'a> {
     /// The value of a number has a form that is made of these.
-    Form(usize, Form<'a>, Vec<Spoken<'a>>),
+    Form(usize, ValueForm<'a>, Vec<Spoken<'a>>),
     /// A call of these gives the value of a number.
-    Call(Form<'a>, Vec<Spoken<'a>>, usize),
+    Call(ValueForm<'a>, Vec<Spoken<'a>>, usize),
     /// All that is the value of a number is equal.
     Equal(usize),
 }
@@ -151,7 +151,7 @@ impl<'p, 'a> Lines<'p, 'a> {
     }
 
     // Adds a condition.
-    fn push(&mut self, line: String, what: Demanded<'a>) -> Result<(), AllocError> {
+    fn push(&mut self, line: String, what: DemandKind<'a>) -> Result<(), AllocError> {
         let text = line.clone()?;
         self.lines.push(line)?;
         self.demands.push(Demand { text, what })?;
@@ -261,7 +261,7 @@ impl<'p, 'a> Lines<'p, 'a> {
         };
         let taken = self.taken_by(head)?;
         let class = parts.class_of(part);
-        self.push(line, Demanded::Form(class, head.form, taken))
+        self.push(line, DemandKind::Form(class, head.form, taken))
     }
 
     // What a form is made of, as its text says it: a part that is a constant and has no name stands there as the constant.
@@ -297,7 +297,7 @@ impl<'p, 'a> Lines<'p, 'a> {
                 }
                 self.demands.push(Demand {
                     text,
-                    what: Demanded::Call(call.form, given, parts.class_of(call.part)),
+                    what: DemandKind::Call(call.form, given, parts.class_of(call.part)),
                 })?;
             }
         }
@@ -357,7 +357,7 @@ impl<'p, 'a> Lines<'p, 'a> {
                 self.lines.push(line)?;
             } else if parts.is_again(var.part) {
                 line.push_str(" is the same value everywhere")?;
-                self.push(line, Demanded::Equal(parts.class_of(var.part)))?;
+                self.push(line, DemandKind::Equal(parts.class_of(var.part)))?;
             }
         }
         Ok(())

@@ -5,7 +5,7 @@ use std::alloc::AllocError;
 
 /// A constant, or a term that makes values or takes them apart.
 #[derive(Clone, Copy)]
-pub enum Form<'a> {
+pub enum ValueForm<'a> {
     /// A truth value.
     Bool(bool),
     /// An integer.
@@ -17,28 +17,28 @@ pub enum Form<'a> {
 }
 
 /// Whether two forms are one.
-pub fn is_same(left: Form<'_>, right: Form<'_>) -> bool {
+pub fn is_same(left: ValueForm<'_>, right: ValueForm<'_>) -> bool {
     match (left, right) {
-        (Form::Bool(left), Form::Bool(right)) => left == right,
-        (Form::Int(left), Form::Int(right)) => left == right,
-        (Form::Const(left), Form::Const(right)) => left == right,
-        (Form::Term(left), Form::Term(right)) => left == right,
+        (ValueForm::Bool(left), ValueForm::Bool(right)) => left == right,
+        (ValueForm::Int(left), ValueForm::Int(right)) => left == right,
+        (ValueForm::Const(left), ValueForm::Const(right)) => left == right,
+        (ValueForm::Term(left), ValueForm::Term(right)) => left == right,
         _ => false,
     }
 }
 
 /// Whether a form is a constant.
-pub fn is_constant(form: Form<'_>) -> bool {
+pub fn is_constant(form: ValueForm<'_>) -> bool {
     match form {
-        Form::Bool(_) | Form::Int(_) | Form::Const(_) => true,
-        Form::Term(_) => false,
+        ValueForm::Bool(_) | ValueForm::Int(_) | ValueForm::Const(_) => true,
+        ValueForm::Term(_) => false,
     }
 }
 
 /// Whether no value has both of two forms that differ: both are constants, or variants of one enum.
-pub fn are_apart(defs: &[Def], left: Form<'_>, right: Form<'_>) -> bool {
+pub fn are_apart(defs: &[Def], left: ValueForm<'_>, right: ValueForm<'_>) -> bool {
     match (left, right) {
-        (Form::Term(left), Form::Term(right)) => are_variants(defs, left, right),
+        (ValueForm::Term(left), ValueForm::Term(right)) => are_variants(defs, left, right),
         _ => is_constant(left) && is_constant(right),
     }
 }
@@ -72,15 +72,15 @@ fn has_variant(defs: &[Def], ty: &str, variant: &str) -> bool {
 }
 
 /// Adds a form, without what it is made of.
-pub fn push_form(out: &mut String, form: Form<'_>) -> Result<(), AllocError> {
+pub fn push_form(out: &mut String, form: ValueForm<'_>) -> Result<(), AllocError> {
     match form {
-        Form::Bool(true) => out.push_str("true"),
-        Form::Bool(false) => out.push_str("false"),
-        Form::Int(val) => write!(out, "{val}"),
-        Form::Const(name) => {
+        ValueForm::Bool(true) => out.push_str("true"),
+        ValueForm::Bool(false) => out.push_str("false"),
+        ValueForm::Int(val) => write!(out, "{val}"),
+        ValueForm::Const(name) => {
             out.push('$')?;
             out.push_str(name)
         }
-        Form::Term(name) => out.push_str(name),
+        ValueForm::Term(name) => out.push_str(name),
     }
 }

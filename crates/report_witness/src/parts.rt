@@ -1,7 +1,7 @@
 //! The values that rules look at: arguments of a term, what patterns take them apart into, and results of calls. Values that
 //! must be equal are one part.
 
-use crate::forms::{Form, is_constant, is_same};
+use crate::forms::{ValueForm, is_constant, is_same};
 use core_syntax::syntax::Pos;
 use std::alloc::{AllocError, Global};
 use std::mem;
@@ -12,7 +12,7 @@ const MOST_PAIRS: usize = 1 << 20;
 /// A form that a part must have.
 pub(crate) struct Head<'a> {
     /// The form.
-    pub form: Form<'a>,
+    pub form: ValueForm<'a>,
     /// The place in a rule that asks for it.
     pub pos: Pos,
     /// The parts that the form is made of.
@@ -51,7 +51,7 @@ impl<'a> Drop for Part<'a> {
 /// A call in a further condition. Equal calls are one.
 pub(crate) struct Call<'a> {
     /// What is called, or a constant.
-    pub form: Form<'a>,
+    pub form: ValueForm<'a>,
     /// The arguments.
     pub parts: Vec<usize>,
     /// The result.
@@ -158,7 +158,7 @@ impl<'a> Parts<'a> {
     }
 
     /// The result of a call. An equal call has the same result.
-    pub fn call(&mut self, form: Form<'a>, parts: Vec<usize>) -> Result<usize, AllocError> {
+    pub fn call(&mut self, form: ValueForm<'a>, parts: Vec<usize>) -> Result<usize, AllocError> {
         if let Some(part) = self.called(form, &parts) {
             return Ok(part);
         }
@@ -173,7 +173,7 @@ impl<'a> Parts<'a> {
     }
 
     // The result of a call that was made before.
-    fn called(&self, form: Form<'a>, parts: &[usize]) -> Option<usize> {
+    fn called(&self, form: ValueForm<'a>, parts: &[usize]) -> Option<usize> {
         for call in &self.calls {
             if is_same(call.form, form) && self.are_same(&call.parts, parts) {
                 return Some(call.part);
@@ -250,7 +250,7 @@ impl<'a> Parts<'a> {
     pub fn add_constant(
         &mut self,
         part: usize,
-        form: Form<'a>,
+        form: ValueForm<'a>,
         pos: Pos,
     ) -> Result<(), AllocError> {
         let class = self.class_of(part);
@@ -265,7 +265,7 @@ impl<'a> Parts<'a> {
     pub fn add_term(
         &mut self,
         part: usize,
-        form: Form<'a>,
+        form: ValueForm<'a>,
         count: usize,
         pos: Pos,
     ) -> Result<Vec<usize>, AllocError> {
@@ -280,7 +280,7 @@ impl<'a> Parts<'a> {
     }
 
     // The so many parts that a form of a class is made of.
-    fn head_of(&self, class: usize, form: Form<'a>, count: usize) -> Option<&[usize]> {
+    fn head_of(&self, class: usize, form: ValueForm<'a>, count: usize) -> Option<&[usize]> {
         for head in &self.parts.get(class)?.heads {
             if is_same(head.form, form) && head.parts.len() == count {
                 return Some(&head.parts);

@@ -1,6 +1,6 @@
 //! Parts in the notation of rules.
 
-use crate::forms::{Form, is_constant, push_form};
+use crate::forms::{ValueForm, is_constant, push_form};
 use crate::part_names::PartNames;
 use crate::parts::{Call, Head, Parts};
 use std::alloc::{AllocError, Global};
@@ -331,7 +331,7 @@ impl<'p, 'a> Writing<'p, 'a> {
 }
 
 // Adds the begin of a term's use.
-fn begin_term(form: Form<'_>, out: &mut String) -> Result<(), AllocError> {
+fn begin_term(form: ValueForm<'_>, out: &mut String) -> Result<(), AllocError> {
     out.push('(')?;
     push_form(out, form)
 }

@@ -1,6 +1,6 @@
 //! What rules ask of the values that they look at.
 
-use crate::forms::Form;
+use crate::forms::ValueForm;
 use crate::parts::Parts;
 use core_syntax::syntax::{Def, Expr, Extractor, Ident, IfLet, LetDef, Pattern, Pos, Rule};
 use std::alloc::{AllocError, Global};
@@ -170,12 +170,12 @@ impl<'a> Reader<'a> {
         match expr {
             Expr::Term { sym, args, .. } => {
                 let parts = self.add_exprs(args, scope)?;
-                self.parts.call(Form::Term(&sym.0), parts)
+                self.parts.call(ValueForm::Term(&sym.0), parts)
             }
             Expr::Var { name, pos: _ } => self.var(&name.0, scope),
-            Expr::ConstBool { val, pos } => self.constant(Form::Bool(*val), *pos),
-            Expr::ConstInt { val, pos } => self.constant(Form::Int(*val), *pos),
-            Expr::ConstPrim { val, pos } => self.constant(Form::Const(&val.0), *pos),
+            Expr::ConstBool { val, pos } => self.constant(ValueForm::Bool(*val), *pos),
+            Expr::ConstInt { val, pos } => self.constant(ValueForm::Int(*val), *pos),
+            Expr::ConstPrim { val, pos } => self.constant(ValueForm::Const(&val.0), *pos),
             Expr::Let { defs, body, .. } => {
                 self.add_lets(defs, scope)?;
                 self.add_expr(body, scope)
@@ -217,7 +217,7 @@ impl<'a> Reader<'a> {
     }
 
     // The part that a constant is.
-    fn constant(&mut self, form: Form<'a>, pos: Pos) -> Result<usize, AllocError> {
+    fn constant(&mut self, form: ValueForm<'a>, pos: Pos) -> Result<usize, AllocError> {
         let part = self.parts.call(form, Vec::new(self.alloc))?;
         self.parts.add_constant(part, form, pos)?;
         Ok(part)
@@ -248,9 +248,13 @@ impl<'a> Reader<'a> {
                 })?;
                 self.add_var(&var.0, task, waiting)
             }
-            Pattern::ConstBool { val, pos } => self.add_constant(task, Form::Bool(*val), *pos),
-            Pattern::ConstInt { val, pos } => self.add_constant(task, Form::Int(*val), *pos),
-            Pattern::ConstPrim { val, pos } => self.add_constant(task, Form::Const(&val.0), *pos),
+            Pattern::ConstBool { val, pos } => self.add_constant(task, ValueForm::Bool(*val), *pos),
+            Pattern::ConstInt { val, pos } => self.add_constant(task, ValueForm::Int(*val), *pos),
+            Pattern::ConstPrim { val, pos } => self.add_constant(
+                task,
+                ValueForm::Const(&val.0),
+                *pos,
+            ),
             Pattern::Term { sym, args, pos } => self.add_term(task, &sym.0, args, *pos, waiting),
             Pattern::And { subpats, .. } => add_all(task, subpats, waiting),
             Pattern::Wildcard { .. } | Pattern::MacroArg { .. } => Ok(()),
@@ -315,7 +319,12 @@ impl<'a> Reader<'a> {
     }
 
     // Adds that a part is a constant.
-    fn add_constant(&mut self, task: Task<'a>, form: Form<'a>, pos: Pos) -> Result<(), AllocError> {
+    fn add_constant(
+        &mut self,
+        task: Task<'a>,
+        form: ValueForm<'a>,
+        pos: Pos,
+    ) -> Result<(), AllocError> {
         let pos = self.place_of(task.scope).unwrap_or(pos);
         self.parts.add_constant(task.part, form, pos)
     }
@@ -347,7 +356,7 @@ impl<'a> Reader<'a> {
         }
         let parts = self
             .parts
-            .add_term(task.part, Form::Term(name), args.len(), pos)?;
+            .add_term(task.part, ValueForm::Term(name), args.len(), pos)?;
         add_each(&parts, args, task.scope, waiting)
     }
 

@@ -1,7 +1,7 @@
 //! The text of a rule apart from its place.
 
 use crate::conditions::push_expr;
-use crate::forms::{Form, push_form};
+use crate::forms::{ValueForm, push_form};
 use core_syntax::syntax::{IfLet, Pattern, Rule};
 use std::alloc::{AllocError, Global};
 
@@ -41,9 +41,9 @@ fn push_pattern(pattern: &Pattern, out: &mut String) -> Result<(), AllocError> {
             out.push_str(" @ ")?;
             push_pattern(subpat, out)
         }
-        Pattern::ConstBool { val, .. } => push_form(out, Form::Bool(*val)),
-        Pattern::ConstInt { val, .. } => push_form(out, Form::Int(*val)),
-        Pattern::ConstPrim { val, .. } => push_form(out, Form::Const(&val.0)),
+        Pattern::ConstBool { val, .. } => push_form(out, ValueForm::Bool(*val)),
+        Pattern::ConstInt { val, .. } => push_form(out, ValueForm::Int(*val)),
+        Pattern::ConstPrim { val, .. } => push_form(out, ValueForm::Const(&val.0)),
         Pattern::Term { sym, args, .. } => push_patterns(&sym.0, args, out),
         Pattern::Wildcard { .. } => out.push('_'),
         Pattern::And { subpats, .. } => push_patterns("and", subpats, out),

@@ -1,6 +1,6 @@
 //! What two rules both match, and why no value matches a rule.
 
-use crate::forms::{Form, are_apart, is_same};
+use crate::forms::{ValueForm, are_apart, is_same};
 use crate::parts::{Head, Parts};
 use crate::parts_text::Writing;
 use crate::rule_parts::{extractors_of, parts_of, parts_of_template};
@@ -73,9 +73,9 @@ pub fn term_of(rule: &Rule) -> &str {
 #[derive(Clone, Copy)]
 pub struct Conflict<'a> {
     /// The one, and its place.
-    pub first: (Form<'a>, Pos),
+    pub first: (ValueForm<'a>, Pos),
     /// The other, and its place.
-    pub second: (Form<'a>, Pos),
+    pub second: (ValueForm<'a>, Pos),
 }
 
 impl<'a> Conflict<'a> {
@@ -139,7 +139,7 @@ fn has_conflict(defs: &[Def], parts: &Parts<'_>, wanted: &Conflict<'_>) -> bool 
 }
 
 // Whether two patterns are one, and ask for one form.
-fn is_same_demand(left: (Form<'_>, Pos), right: (Form<'_>, Pos)) -> bool {
+fn is_same_demand(left: (ValueForm<'_>, Pos), right: (ValueForm<'_>, Pos)) -> bool {
     left.1 == right.1 && is_same(left.0, right.0)
 }
 

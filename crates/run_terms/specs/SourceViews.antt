@@ -10,7 +10,7 @@ use Rattle.core_terms.specs.declared.term.Term.{Term}
 use Rattle.core_terms.specs.TermViews.{term_views}
 use Rattle.run_terms.specs.declared.values.Value.{Value}
 use Rattle.run_terms.specs.ValueViews.{value_view, value_views}
-use Rattle.run_terms.specs.declared.source.Source.{Source}
+use Rattle.run_terms.specs.declared.source.RuleContext.{RuleContext}
 use Rattle.run_terms.specs.declared.exprs.Evaluated.{Evaluated}
 use Rattle.run_terms.specs.declared.exprs.Evaluated.TheVariants as E
 use Rattle.run_terms.specs.declared.exprs.EvaluatedAll.{EvaluatedAll}
@@ -21,10 +21,10 @@ abbrev pub of_terms : List Term → Program
 of_terms ts = record { types = []; constants = []; terms = term_views ts; rules = [] }
 
 -- the program of a source's terms, and the meaning of what it calls
-abbrev pub source_program : {E : Type 0} → Source E → Program
+abbrev pub source_program : {E : Type 0} → RuleContext E → Program
 source_program source = of_terms source.terms.now
 
-abbrev pub meaning_in : {E : Type 0} → (E → TotalMeaning) → Source E → Meaning
+abbrev pub meaning_in : {E : Type 0} → (E → TotalMeaning) → RuleContext E → Meaning
 meaning_in functions source = total (functions source.externs.now)
 
 -- what is pushed last is first

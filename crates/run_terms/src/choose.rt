@@ -18,7 +18,7 @@ ghost use Rattle.run_terms.specs.SourceViews.{of_terms, source_program, meaning_
 use crate::exprs::{Evaluated, eval, pure_value};
 use crate::externs::Externs;
 use crate::patterns::{each_holds, holds};
-use crate::source::Source;
+use crate::source::RuleContext;
 use crate::state::{Call, Ending, Outcome, Trace};
 use crate::values::{Content, Value};
 use core_terms::{Term, TermKind};
@@ -28,7 +28,7 @@ use std::alloc::{AllocError, Global};
 
 // Whether if-lets hold, in order: each has a value of which its pattern holds.
 fn iflets_hold<E: Externs>(
-    source: &Source<'_, E>,
+    source: &RuleContext<'_, E>,
     iflets: &[IfLet],
     vars: &mut Vec<(VarId, Option<Value>)>,
 ) -> Result<bool, AllocError>
@@ -55,7 +55,7 @@ fn iflets_hold<E: Externs>(
 ///
 /// Where memory is refused, by the call or by what it calls.
 pub fn matched<E: Externs>(
-    source: &Source<'_, E>,
+    source: &RuleContext<'_, E>,
     rule: &Rule,
     args: &[Value],
 ) -> Result<Option<Vec<(VarId, Option<Value>)>>, AllocError>
@@ -76,7 +76,7 @@ pub fn matched<E: Externs>(
 
 // Whether a rule is one of this term, and matches.
 fn is_taken<E: Externs>(
-    source: &Source<'_, E>,
+    source: &RuleContext<'_, E>,
     rule: &Rule,
     term: TermId,
     args: &[Value],
@@ -103,7 +103,7 @@ fn higher<'a>(rule: &'a Rule, other: Option<&'a Rule>) -> &'a Rule
 
 // The matching rule of a term of greatest priority; the first one of these.
 fn chosen<'a, E: Externs>(
-    source: &Source<'_, E>,
+    source: &RuleContext<'_, E>,
     rules: &'a [Rule],
     term: TermId,
     args: &[Value],
@@ -176,7 +176,7 @@ fn outcome_of(
 
 // The outcome of a rule whose left side took these variables.
 fn right_side<E: Externs>(
-    source: &Source<'_, E>,
+    source: &RuleContext<'_, E>,
     rule: &Rule,
     vars: &[(VarId, Option<Value>)],
 ) -> Result<Outcome, AllocError>
@@ -229,7 +229,7 @@ pub fn choose<E: Externs>(
     ensures { IfOk result (λ o. outcome_view o
         ≡ choice (of_terms terms.now) (total (E.functions externs.now)) (filter (λ r. r.root_term == term.0) (rule_views rules.now)) (arg_views args.now)) }
 {
-    let source = Source {
+    let source = RuleContext {
         alloc,
         externs,
         terms,

@@ -14,7 +14,7 @@ ghost use Rattle.run_terms.specs.SourceViews.{of_terms, source_program, meaning_
 
 use crate::answers::single;
 use crate::externs::Externs;
-use crate::source::Source;
+use crate::source::RuleContext;
 use crate::state::Call;
 use crate::values::Value;
 use crate::vars::{copied, value_of};
@@ -25,7 +25,7 @@ use std::alloc::AllocError;
 
 // The value of a term on values: what it makes, or what its call answers, where that is one value.
 fn pure_term<E: Externs>(
-    source: &Source<'_, E>,
+    source: &RuleContext<'_, E>,
     term: TermId,
     args: Vec<Value>,
 ) -> Result<Option<Value>, AllocError>
@@ -50,7 +50,7 @@ fn pure_term<E: Externs>(
 /// The value of an expression that makes no impure calls, where it has one.
 #[cycle(pure)]
 pub fn pure_value<E: Externs>(
-    source: &Source<'_, E>,
+    source: &RuleContext<'_, E>,
     expr: &Expr,
     vars: &[(VarId, Option<Value>)],
 ) -> Result<Option<Value>, AllocError>
@@ -77,7 +77,7 @@ pub fn pure_value<E: Externs>(
 // The values of expressions, where each has one.
 #[cycle(pure)]
 fn pure_values<E: Externs>(
-    source: &Source<'_, E>,
+    source: &RuleContext<'_, E>,
     exprs: &[Expr],
     vars: &[(VarId, Option<Value>)],
 ) -> Result<Option<Vec<Value>>, AllocError>
@@ -97,7 +97,7 @@ fn pure_values<E: Externs>(
 // A let's definitions: each variable is bound to its value, or as one whose value failed.
 #[cycle(pure)]
 fn pure_lets<E: Externs>(
-    source: &Source<'_, E>,
+    source: &RuleContext<'_, E>,
     bindings: &[(VarId, TypeId, Box<Expr>)],
     vars: &mut Vec<(VarId, Option<Value>)>,
 ) -> Result<(), AllocError>
@@ -131,7 +131,7 @@ pub(crate) enum EvaluatedAll {
 
 // An impure call with values for its arguments is made, and listed.
 fn impure_call<E: Externs>(
-    source: &Source<'_, E>,
+    source: &RuleContext<'_, E>,
     term: TermId,
     args: Vec<Value>,
     calls: &mut Vec<Call>,
@@ -165,7 +165,7 @@ fn purity(terms: &[Term], term: TermId) -> Option<bool>
 
 // What a pure term comes to on values, or where one of them failed.
 fn pure_applied<E: Externs>(
-    source: &Source<'_, E>,
+    source: &RuleContext<'_, E>,
     term: TermId,
     args: Option<Vec<Value>>,
 ) -> Result<Option<Value>, AllocError>
@@ -181,7 +181,7 @@ fn pure_applied<E: Externs>(
 
 // What an impure term comes to on values, or where one of them failed.
 fn impure_applied<E: Externs>(
-    source: &Source<'_, E>,
+    source: &RuleContext<'_, E>,
     term: TermId,
     args: Option<Vec<Value>>,
     calls: &mut Vec<Call>,
@@ -197,7 +197,7 @@ fn impure_applied<E: Externs>(
 
 // What a term comes to on values, or where one of them failed.
 fn applied<E: Externs>(
-    source: &Source<'_, E>,
+    source: &RuleContext<'_, E>,
     term: TermId,
     args: Option<Vec<Value>>,
     calls: &mut Vec<Call>,
@@ -216,7 +216,7 @@ fn applied<E: Externs>(
 /// What an expression of a right side comes to. Its impure calls are made in order, and listed behind those before.
 #[cycle(eval)]
 pub fn eval<E: Externs>(
-    source: &Source<'_, E>,
+    source: &RuleContext<'_, E>,
     expr: &Expr,
     vars: &[(VarId, Option<Value>)],
     calls: &mut Vec<Call>,
@@ -275,7 +275,7 @@ fn with_value(
 // What arguments come to, left to right.
 #[cycle(eval)]
 fn eval_all<E: Externs>(
-    source: &Source<'_, E>,
+    source: &RuleContext<'_, E>,
     exprs: &[Expr],
     vars: &[(VarId, Option<Value>)],
     calls: &mut Vec<Call>,
@@ -300,7 +300,7 @@ fn eval_all<E: Externs>(
 // A let's definitions, in order; whether all goes on.
 #[cycle(eval)]
 fn eval_lets<E: Externs>(
-    source: &Source<'_, E>,
+    source: &RuleContext<'_, E>,
     bindings: &[(VarId, TypeId, Box<Expr>)],
     vars: &mut Vec<(VarId, Option<Value>)>,
     calls: &mut Vec<Call>,

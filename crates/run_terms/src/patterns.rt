@@ -10,7 +10,7 @@ ghost use Rattle.run_terms.specs.SourceViews.{of_terms, source_program, meaning_
 
 use crate::answers::answered_outputs;
 use crate::externs::Externs;
-use crate::source::Source;
+use crate::source::RuleContext;
 use crate::values::{Value, same_type, same_value, same_variant, value_clones};
 use crate::vars::var_value;
 use core_terms::TermKind;
@@ -54,7 +54,7 @@ fn struct_parts(ty: TypeId, value: &Value) -> Result<Option<Vec<Value>>, AllocEr
 
 // What the parts of a term's pattern are matched with.
 fn parts_seen<E: Externs>(
-    source: &Source<'_, E>,
+    source: &RuleContext<'_, E>,
     term: TermId,
     value: &Value,
 ) -> Result<Option<Vec<Value>>, AllocError>
@@ -79,7 +79,7 @@ fn parts_seen<E: Externs>(
 /// Whether a pattern holds of a value: it binds variables, or it doesn't hold, and then what is bound is of no use.
 #[cycle(holds)]
 pub fn holds<E: Externs>(
-    source: &Source<'_, E>,
+    source: &RuleContext<'_, E>,
     pattern: &Pattern,
     value: &Value,
     vars: &mut Vec<(VarId, Option<Value>)>,
@@ -121,7 +121,7 @@ pub fn holds<E: Externs>(
 /// Whether each pattern holds of its own value, where there are as many.
 #[cycle(holds)]
 pub fn each_holds<E: Externs>(
-    source: &Source<'_, E>,
+    source: &RuleContext<'_, E>,
     patterns: &[Pattern],
     values: &[Value],
     vars: &mut Vec<(VarId, Option<Value>)>,
@@ -149,7 +149,7 @@ pub fn each_holds<E: Externs>(
 // Whether all patterns hold of one value.
 #[cycle(holds)]
 fn all_hold<E: Externs>(
-    source: &Source<'_, E>,
+    source: &RuleContext<'_, E>,
     patterns: &[Pattern],
     value: &Value,
     vars: &mut Vec<(VarId, Option<Value>)>,

@@ -4,7 +4,7 @@ use core_terms::Term;
 use std::alloc::Global;
 
 /// What rules are looked at with.
-pub struct Source<'a, E> {
+pub struct RuleContext<'a, E> {
     /// Where memory is asked of.
     pub alloc: Global,
     /// What is called.
@@ -13,7 +13,7 @@ pub struct Source<'a, E> {
     pub terms: &'a [Term],
 }
 
-impl<E> Drop for Source<'_, E> {
+impl<E> Drop for RuleContext<'_, E> {
     fn drop(self) {
         let Self {
             alloc: _,

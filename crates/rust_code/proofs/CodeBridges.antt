@@ -8,7 +8,7 @@ use Rattle.core_rule_sets.specs.SiteViews.{constraint_view}
 use Rattle.model_code.specs.Code as M
 use Rattle.model_code.specs.Code.{no_statement, statement, CodeArms, code_arm}
 use Rattle.rust_code.specs.declared.code.Use.{Use}
-use Rattle.rust_code.specs.declared.code.Expr.{Expr}
+use Rattle.rust_code.specs.declared.code.BoundExpr.{BoundExpr}
 use Rattle.rust_code.specs.declared.code.CodeBlock.{CodeBlock}
 use Rattle.rust_code.specs.declared.code.CodeArm.{CodeArm}
 use Rattle.rust_code.specs.declared.code.Statement.{Bind, BindSome, NoWay, MatchOn, IfEqual, ForEachOf, Give, Labelled, UnlessLet, UnlessEqual}
@@ -23,7 +23,7 @@ row_statements-items (more_of-Statement s rest) = ap (statement (statement_view 
 body_seen : (b : CodeBlock) → row_statements (hidden-the_row-Statement-0 b.statements) ≡ block_view b
 body_seen b = row_statements-items (hidden-the_row-Statement-0 b.statements) ∙ ap (λ l. before l no_statement) (items_hidden-the_row-Statement-0 b.statements)
 
-pub bind_seen : (site : ℕ) (expr : Expr) → statement_view (Bind site expr) ≡ M.bind site (expr_view expr)
+pub bind_seen : (site : ℕ) (expr : BoundExpr) → statement_view (Bind site expr) ≡ M.bind site (expr_view expr)
 unfolding statement_view
 bind_seen site expr = refl
 

@@ -11,7 +11,7 @@ use Rattle.model_code.specs.Modes.{Types}
 use Rattle.model_code.specs.MovedOnce.{block_reads, read_no_more, unlooked}
 use Rattle.model_code.specs.Saving.{saved, saved_arms, saved_at, saved_expr, saved_use}
 use Rattle.rust_code.specs.declared.code.Use.{Use}
-use Rattle.rust_code.specs.declared.code.Expr.{Expr}
+use Rattle.rust_code.specs.declared.code.BoundExpr.{BoundExpr}
 use Rattle.rust_code.specs.declared.code.CodeBlock.{CodeBlock}
 use Rattle.rust_code.specs.declared.code.CodeArm.{CodeArm}
 use Rattle.rust_code.specs.declared.code.Statement.{Statement, Bind, BindSome, NoWay, MatchOn, IfEqual, ForEachOf, Give, Labelled, UnlessLet, UnlessEqual}
@@ -32,7 +32,7 @@ module _ (types : Types) (movable : List ℕ) (spot : Spot) (s : Statement) wher
   at_once : (made : Statement) (v w : M.Statement) → statement_view s ≡ v → statement_view made ≡ w → w ≡ saved_at types movable (later_at s spot) v → statement_view made ≡ moved
   at_once made v w is m e = m ∙ e ∙ ap (saved_at types movable (later_at s spot)) (sym is)
 
-  pub bind_moved : (site : ℕ) (e made : Expr) → s ≡ Bind site e → expr_view made ≡ saved_expr types movable (later_at s spot) (expr_view e) → statement_view (Bind site made) ≡ moved
+  pub bind_moved : (site : ℕ) (e made : BoundExpr) → s ≡ Bind site e → expr_view made ≡ saved_expr types movable (later_at s spot) (expr_view e) → statement_view (Bind site made) ≡ moved
   bind_moved site e made is m = at_once (Bind site made) (M.bind site (expr_view e)) (M.bind site (expr_view made)) (ap statement_view is ∙ bind_seen site e) (bind_seen site made) (ap (M.bind site) m)
 
   pub give_moved : (pos : Pos) (value made : Use) → s ≡ Give pos value → use_view made ≡ saved_use types movable (later_at s spot) (use_view value) → statement_view (Give pos made) ≡ moved

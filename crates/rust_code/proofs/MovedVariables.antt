@@ -7,7 +7,7 @@ use Rattle.model_code.specs.Code.{variable, parameter, part_of, int_written, nam
 use Rattle.model_code.specs.MovedOnce.{movable_after, unlooked}
 use Rattle.core_rule_sets.specs.declared.trie_again.Constraint.{Constraint}
 use Rattle.rust_code.specs.declared.code.Use.{Use}
-use Rattle.rust_code.specs.declared.code.Expr.{Expr}
+use Rattle.rust_code.specs.declared.code.BoundExpr.{BoundExpr}
 use Rattle.rust_code.specs.declared.code.Statement.{Statement, Bind, BindSome, UnlessLet}
 use Rattle.rust_code.specs.CodeViews.{place_view, statement_view}
 use Rattle.rust_code.specs.Spots.{HasSame}
@@ -34,7 +34,7 @@ module _ (inside movable : List ℕ) (same : HasSame inside movable) where
     pub stays_movable : (v : M.Statement) → statement_view s ≡ v → movable_after movable v ≡ movable → IsBehind inside
     stays_movable v is e = seen_behind v inside is (λ x. same x ∙ ap (is_in x) (sym e))
 
-    pub bound_movable : (site : ℕ) (e : Expr) (new : List ℕ) → s ≡ Bind site e → new ≡ inside ++ site ∷ [] → IsBehind new
+    pub bound_movable : (site : ℕ) (e : BoundExpr) (new : List ℕ) → s ≡ Bind site e → new ≡ inside ++ site ∷ [] → IsBehind new
     bound_movable site e new is made = seen_behind _ new (ap statement_view is ∙ bind_seen site e) (λ x. ap (is_in x) made ∙ same_joined inside movable (site ∷ []) same x)
 
     pub looked_movable : (site : ℕ) (value : Use) (kept new : List ℕ) → s ≡ BindSome site value → kept ≡ unlooked inside (place_view value.place) → new ≡ kept ++ site ∷ [] → IsBehind new

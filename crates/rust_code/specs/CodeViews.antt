@@ -4,19 +4,19 @@ use Rattle.core_syntax.specs.SyntaxViews.{position}
 use Rattle.core_rule_sets.specs.SiteViews.{constraint_view}
 use Rattle.model_code.specs.Code as M
 use Rattle.model_code.specs.Code.{Block, no_statement, statement, CodeArms, no_code_arm, code_arm}
-use Rattle.rust_code.specs.declared.code.Place.{Place}
-use Rattle.rust_code.specs.declared.code.Place.TheVariants as P
+use Rattle.rust_code.specs.declared.code.ReadPlace.{ReadPlace}
+use Rattle.rust_code.specs.declared.code.ReadPlace.TheVariants as P
 use Rattle.rust_code.specs.declared.code.Pass.{Pass}
 use Rattle.rust_code.specs.declared.code.Pass.TheVariants as W
 use Rattle.rust_code.specs.declared.code.Use.{Use}
-use Rattle.rust_code.specs.declared.code.Expr.{Expr}
-use Rattle.rust_code.specs.declared.code.Expr.TheVariants as E
+use Rattle.rust_code.specs.declared.code.BoundExpr.{BoundExpr}
+use Rattle.rust_code.specs.declared.code.BoundExpr.TheVariants as E
 use Rattle.rust_code.specs.declared.code.CodeBlock.{CodeBlock}
 use Rattle.rust_code.specs.declared.code.CodeArm.{CodeArm}
 use Rattle.rust_code.specs.declared.code.Statement.{Statement, Bind, BindSome, NoWay, MatchOn', IfEqual', ForEachOf', Give, Labelled', UnlessLet, UnlessEqual}
 use Rattle.rust_code.specs.declared.code.Statement.TheBlock.{Row_of-Statement, end_of-Statement, more_of-Statement, Row_of-CodeArm, end_of-CodeArm, more_of-CodeArm}
 
-abbrev pub place_view : Place → M.Place
+abbrev pub place_view : ReadPlace → M.Place
 place_view (P.Variable site) = M.variable site
 place_view (P.Parameter index) = M.parameter index
 place_view (P.PartOf tuple field) = M.part_of tuple field
@@ -37,7 +37,7 @@ use_view u = record { place = place_view u.place; pass = pass_view u.pass }
 abbrev pub use_views : List Use → List M.PlaceUse
 use_views us = map use_view us
 
-abbrev pub expr_view : Expr → M.Expr
+abbrev pub expr_view : BoundExpr → M.Expr
 expr_view (E.TruthWritten val ty) = M.truth_written val ty.0
 expr_view (E.Extraction term value) = M.extraction term.0 (use_view value)
 expr_view (E.Call term args instance) = M.call term.0 (use_views args.items) instance

@@ -8,7 +8,7 @@ ghost use Rattle.core_rule_sets.specs.SiteViews.{site_view, site_views};
 ghost use Rattle.rust_code.specs.CodeViews.{before, statement_view};
 ghost use Rattle.rust_code.specs.HeldViews.{passes_in};
 
-use crate::code::{Expr, Statement};
+use crate::code::{BoundExpr, Statement};
 use crate::stage::Stage;
 use crate::uses::{kept_use, kept_uses, lent_use, lent_uses};
 use core_rule_sets::trie_again::{Binding, BindingId};
@@ -29,7 +29,7 @@ fn bind_call(
 {
     Ok(Statement::Bind {
         site,
-        expr: Expr::Call {
+        expr: BoundExpr::Call {
             term,
             args: lent_uses(stage, parameters)?,
             instance,
@@ -51,7 +51,7 @@ fn bind_variant(
 {
     Ok(Statement::Bind {
         site,
-        expr: Expr::VariantOf {
+        expr: BoundExpr::VariantOf {
             ty,
             variant,
             fields: kept_uses(stage, fields)?,
@@ -72,7 +72,7 @@ fn bind_struct(
 {
     Ok(Statement::Bind {
         site,
-        expr: Expr::StructOf {
+        expr: BoundExpr::StructOf {
             ty,
             fields: kept_uses(stage, fields)?,
         },
@@ -92,11 +92,11 @@ fn bind_binding(
     match binding {
         Binding::ConstBool { val, ty } => Ok(Statement::Bind {
             site,
-            expr: Expr::TruthWritten { val: *val, ty: *ty },
+            expr: BoundExpr::TruthWritten { val: *val, ty: *ty },
         }),
         Binding::Extractor { term, parameter } => Ok(Statement::Bind {
             site,
-            expr: Expr::Extraction {
+            expr: BoundExpr::Extraction {
                 term: *term,
                 value: lent_use(stage, *parameter),
             },
@@ -114,7 +114,7 @@ fn bind_binding(
         Binding::MakeStruct { ty, fields } => Ok(bind_struct(stage, site, *ty, fields)?),
         Binding::MakeSome { inner } => Ok(Statement::Bind {
             site,
-            expr: Expr::SomeOf {
+            expr: BoundExpr::SomeOf {
                 value: kept_use(stage, *inner),
             },
         }),

@@ -7,7 +7,7 @@ use core_types::{Sym, TermId, TypeId, VariantId};
 
 /// What is read.
 #[derive(Clone, Copy)]
-pub enum Place {
+pub enum ReadPlace {
     /// The variable that a site is bound to.
     Variable {
         /// The site.
@@ -68,13 +68,13 @@ pub enum Pass {
 #[derive(Clone, Copy)]
 pub struct Use {
     /// The place.
-    pub place: Place,
+    pub place: ReadPlace,
     /// How it is handed on.
     pub pass: Pass,
 }
 
 /// What a variable is bound to.
-pub enum Expr {
+pub enum BoundExpr {
     /// A truth value.
     TruthWritten {
         /// The value.
@@ -121,23 +121,23 @@ pub enum Expr {
     },
 }
 
-impl Drop for Expr {
+impl Drop for BoundExpr {
     fn drop(self) {
         match self {
-            Expr::TruthWritten { val: _, ty: _ } => {}
-            Expr::Extraction { term: _, value: _ } => {}
-            Expr::Call {
+            BoundExpr::TruthWritten { val: _, ty: _ } => {}
+            BoundExpr::Extraction { term: _, value: _ } => {}
+            BoundExpr::Call {
                 term: _,
                 args: _,
                 instance: _,
             } => {}
-            Expr::VariantOf {
+            BoundExpr::VariantOf {
                 ty: _,
                 variant: _,
                 fields: _,
             } => {}
-            Expr::StructOf { ty: _, fields: _ } => {}
-            Expr::SomeOf { value: _ } => {}
+            BoundExpr::StructOf { ty: _, fields: _ } => {}
+            BoundExpr::SomeOf { value: _ } => {}
         }
     }
 }
@@ -164,7 +164,7 @@ pub enum Statement {
         /// The site whose variable is bound.
         site: BindingId,
         /// What it is bound to.
-        expr: Expr,
+        expr: BoundExpr,
     },
     /// `let Some(v) = u else { the term fails };`
     BindSome {

@@ -12,7 +12,7 @@ ghost use Rattle.model.specs.trees.Places.{field_sites, is_in};
 ghost use Rattle.rust_code.specs.CodeViews.{arm_view, arms_before, before, block_view, expr_view, pass_view, place_view, statement_view, use_view, use_views};
 ghost use Rattle.rust_code.specs.Spots.{later_at, left_reads, HasSame, OfSpots, SaysModes};
 
-use crate::code::{CodeArm, CodeBlock, Expr, Pass, Place, Statement, Use};
+use crate::code::{BoundExpr, CodeArm, CodeBlock, Pass, ReadPlace, Statement, Use};
 use crate::held::{Held, held_at};
 use crate::reads::{are_reading, hides, is_read};
 use core_rule_sets::trie_again::BindingId;
@@ -52,14 +52,14 @@ pub(crate) struct Spot<'a> {
 }
 
 // Whether what is left of blocks reads of a place.
-fn is_read_after(after: &[Left<'_>], place: &Place) -> bool
+fn is_read_after(after: &[Left<'_>], place: &ReadPlace) -> bool
     ensures { result ≡ left_reads after.now (place_view place.now) }
 {
     after.iter().any(|left| is_read(left.statements, place))
 }
 
 // Whether a place is read behind a statement.
-fn is_read_behind(statement: &Statement, spot: &Spot<'_>, place: &Place) -> bool
+fn is_read_behind(statement: &Statement, spot: &Spot<'_>, place: &ReadPlace) -> bool
     ensures { result ≡ later_at statement.now spot.now (place_view place.now) }
 {
     (!hides(statement, place) && is_read(spot.rest, place)) || is_read_after(spot.after, place)
@@ -82,18 +82,18 @@ fn is_site_movable(spot: &Spot<'_>, site: BindingId) -> bool
 }
 
 // Whether a place may be moved if nothing reads it later.
-fn is_movable(spot: &Spot<'_>, place: &Place) -> bool
+fn is_movable(spot: &Spot<'_>, place: &ReadPlace) -> bool
     ensures { OfSpots spot.now.held.now spot.now.inside.now (λ types movable.
         result ≡ ((is_value (mode_at types (place_view place.now)) && is_owned types (place_view place.now)) && is_of movable (place_view place.now))) }
 {
     match place {
-        Place::Variable { site } => is_site_movable(spot, *site),
-        Place::PartOf { tuple, .. } => is_site_movable(spot, *tuple),
-        Place::Parameter { .. } => false,
-        Place::IntWritten { .. } => false,
-        Place::NameWritten { .. } => false,
-        Place::VariantWritten { .. } => false,
-        Place::StructWritten { .. } => false,
+        ReadPlace::Variable { site } => is_site_movable(spot, *site),
+        ReadPlace::PartOf { tuple, .. } => is_site_movable(spot, *tuple),
+        ReadPlace::Parameter { .. } => false,
+        ReadPlace::IntWritten { .. } => false,
+        ReadPlace::NameWritten { .. } => false,
+        ReadPlace::VariantWritten { .. } => false,
+        ReadPlace::StructWritten { .. } => false,
     }
 }
 
@@ -101,7 +101,7 @@ fn is_movable(spot: &Spot<'_>, place: &Place) -> bool
 fn is_read_later(
     statement: &Statement,
     spot: &Spot<'_>,
-    place: &Place,
+    place: &ReadPlace,
     before: &[Use],
     behind: &[Use],
 ) -> bool
@@ -112,7 +112,7 @@ fn is_read_later(
 
 // Whether one of the uses before and behind a use in its statement reads of a place.
 #[tactic(auto, using(crate::proofs::Reading::any_touch_listed))]
-fn is_read_beside(place: &Place, before: &[Use], behind: &[Use]) -> bool
+fn is_read_beside(place: &ReadPlace, before: &[Use], behind: &[Use]) -> bool
     ensures { result ≡ (any_touch (place_view place.now) (use_views before.now) || any_touch (place_view place.now) (use_views behind.now)) }
 {
     are_reading(place, before) || are_reading(place, behind)
@@ -122,7 +122,7 @@ fn is_read_beside(place: &Place, before: &[Use], behind: &[Use]) -> bool
 fn may_move(
     statement: &Statement,
     spot: &Spot<'_>,
-    place: &Place,
+    place: &ReadPlace,
     before: &[Use],
     behind: &[Use],
 ) -> bool
@@ -181,39 +181,43 @@ fn uses_with_moves(
 }
 
 // What a variable is bound to: what is made takes values.
-fn expr_with_moves(statement: &Statement, spot: &Spot<'_>, expr: &Expr) -> Result<Expr, AllocError>
+fn expr_with_moves(
+    statement: &Statement,
+    spot: &Spot<'_>,
+    expr: &BoundExpr,
+) -> Result<BoundExpr, AllocError>
     ensures { IfOk result (λ e. OfSpots spot.now.held.now spot.now.inside.now (λ types movable.
         expr_view e ≡ saved_expr types movable (later_at statement.now spot.now) (expr_view expr.now))) }
 {
     match expr {
-        Expr::TruthWritten { val, ty } => Ok(Expr::TruthWritten { val: *val, ty: *ty }),
-        Expr::Extraction { term, value } => Ok(Expr::Extraction {
+        BoundExpr::TruthWritten { val, ty } => Ok(BoundExpr::TruthWritten { val: *val, ty: *ty }),
+        BoundExpr::Extraction { term, value } => Ok(BoundExpr::Extraction {
             term: *term,
             value: *value,
         }),
-        Expr::Call {
+        BoundExpr::Call {
             term,
             args,
             instance,
-        } => Ok(Expr::Call {
+        } => Ok(BoundExpr::Call {
             term: *term,
             args: Vec::from_slice(spot.alloc, args)?,
             instance: *instance,
         }),
-        Expr::VariantOf {
+        BoundExpr::VariantOf {
             ty,
             variant,
             fields,
-        } => Ok(Expr::VariantOf {
+        } => Ok(BoundExpr::VariantOf {
             ty: *ty,
             variant: *variant,
             fields: uses_with_moves(statement, spot, fields)?,
         }),
-        Expr::StructOf { ty, fields } => Ok(Expr::StructOf {
+        BoundExpr::StructOf { ty, fields } => Ok(BoundExpr::StructOf {
             ty: *ty,
             fields: uses_with_moves(statement, spot, fields)?,
         }),
-        Expr::SomeOf { value } => Ok(Expr::SomeOf {
+        BoundExpr::SomeOf { value } => Ok(BoundExpr::SomeOf {
             value: use_with_moves(statement, spot, value, &[], &[]),
         }),
     }
@@ -240,18 +244,18 @@ fn without(
 fn unlooked(
     alloc: Global,
     inside: &[BindingId],
-    place: &Place,
+    place: &ReadPlace,
 ) -> Result<Vec<BindingId>, AllocError>
     ensures { IfOk result (λ v. v.items ≡ Moved.unlooked inside.now (place_view place.now)) }
 {
     match place {
-        Place::Variable { site } => Ok(without(alloc, inside, *site)?),
-        Place::PartOf { tuple, .. } => Ok(without(alloc, inside, *tuple)?),
-        Place::Parameter { .. } => Ok(Vec::from_slice(alloc, inside)?),
-        Place::IntWritten { .. } => Ok(Vec::from_slice(alloc, inside)?),
-        Place::NameWritten { .. } => Ok(Vec::from_slice(alloc, inside)?),
-        Place::VariantWritten { .. } => Ok(Vec::from_slice(alloc, inside)?),
-        Place::StructWritten { .. } => Ok(Vec::from_slice(alloc, inside)?),
+        ReadPlace::Variable { site } => Ok(without(alloc, inside, *site)?),
+        ReadPlace::PartOf { tuple, .. } => Ok(without(alloc, inside, *tuple)?),
+        ReadPlace::Parameter { .. } => Ok(Vec::from_slice(alloc, inside)?),
+        ReadPlace::IntWritten { .. } => Ok(Vec::from_slice(alloc, inside)?),
+        ReadPlace::NameWritten { .. } => Ok(Vec::from_slice(alloc, inside)?),
+        ReadPlace::VariantWritten { .. } => Ok(Vec::from_slice(alloc, inside)?),
+        ReadPlace::StructWritten { .. } => Ok(Vec::from_slice(alloc, inside)?),
     }
 }
 

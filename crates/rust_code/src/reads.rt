@@ -9,74 +9,74 @@ ghost use Rattle.model_code.specs.MovedOnce.{arms_read, block_reads, expr_reads,
 ghost use Rattle.model.specs.trees.Places.{field_sites, is_in};
 ghost use Rattle.rust_code.specs.CodeViews.{arm_view, arms_before, before, expr_view, place_view, statement_view};
 
-use crate::code::{CodeArm, Expr, Place, Statement, Use};
+use crate::code::{BoundExpr, CodeArm, ReadPlace, Statement, Use};
 use core_rule_sets::trie_again::{BindingId, TupleIndex};
 
 // Whether to read a variable reads of a place.
-fn touches_variable(site: BindingId, other: &Place) -> bool
+fn touches_variable(site: BindingId, other: &ReadPlace) -> bool
     ensures { result ≡ Moved.touches (Code.variable site) (place_view other.now) }
 {
     match other {
-        Place::Variable { site: read } => site == *read,
-        Place::PartOf { tuple, .. } => site == *tuple,
-        Place::Parameter { .. } => false,
-        Place::IntWritten { .. } => false,
-        Place::NameWritten { .. } => false,
-        Place::VariantWritten { .. } => false,
-        Place::StructWritten { .. } => false,
+        ReadPlace::Variable { site: read } => site == *read,
+        ReadPlace::PartOf { tuple, .. } => site == *tuple,
+        ReadPlace::Parameter { .. } => false,
+        ReadPlace::IntWritten { .. } => false,
+        ReadPlace::NameWritten { .. } => false,
+        ReadPlace::VariantWritten { .. } => false,
+        ReadPlace::StructWritten { .. } => false,
     }
 }
 
 // Whether to read a part of a tuple reads of a place.
-fn touches_part(tuple: BindingId, field: TupleIndex, other: &Place) -> bool
+fn touches_part(tuple: BindingId, field: TupleIndex, other: &ReadPlace) -> bool
     ensures { result ≡ Moved.touches (Code.part_of tuple field) (place_view other.now) }
 {
     match other {
-        Place::Variable { site } => tuple == *site,
-        Place::PartOf {
+        ReadPlace::Variable { site } => tuple == *site,
+        ReadPlace::PartOf {
             tuple: read,
             field: part,
         } => tuple == *read && field == *part,
-        Place::Parameter { .. } => false,
-        Place::IntWritten { .. } => false,
-        Place::NameWritten { .. } => false,
-        Place::VariantWritten { .. } => false,
-        Place::StructWritten { .. } => false,
+        ReadPlace::Parameter { .. } => false,
+        ReadPlace::IntWritten { .. } => false,
+        ReadPlace::NameWritten { .. } => false,
+        ReadPlace::VariantWritten { .. } => false,
+        ReadPlace::StructWritten { .. } => false,
     }
 }
 
 // Whether to read a parameter reads of a place.
-fn touches_parameter(index: TupleIndex, other: &Place) -> bool
+fn touches_parameter(index: TupleIndex, other: &ReadPlace) -> bool
     ensures { result ≡ Moved.touches (Code.parameter index) (place_view other.now) }
 {
     match other {
-        Place::Parameter { index: read } => index == *read,
-        Place::Variable { .. } => false,
-        Place::PartOf { .. } => false,
-        Place::IntWritten { .. } => false,
-        Place::NameWritten { .. } => false,
-        Place::VariantWritten { .. } => false,
-        Place::StructWritten { .. } => false,
+        ReadPlace::Parameter { index: read } => index == *read,
+        ReadPlace::Variable { .. } => false,
+        ReadPlace::PartOf { .. } => false,
+        ReadPlace::IntWritten { .. } => false,
+        ReadPlace::NameWritten { .. } => false,
+        ReadPlace::VariantWritten { .. } => false,
+        ReadPlace::StructWritten { .. } => false,
     }
 }
 
 /// Whether to read one place reads of the other: it is the same, or a part of it, or the whole.
-fn touches(place: &Place, other: &Place) -> bool
+fn touches(place: &ReadPlace, other: &ReadPlace) -> bool
     ensures { result ≡ Moved.touches (place_view place.now) (place_view other.now) }
 {
     match place {
-        Place::Variable { site } => touches_variable(*site, other),
-        Place::PartOf { tuple, field } => touches_part(*tuple, *field, other),
-        Place::Parameter { index } => touches_parameter(*index, other),
-        Place::IntWritten { .. } => false,
-        Place::NameWritten { .. } => false,
-        Place::VariantWritten { .. } => false,
-        Place::StructWritten { .. } => false,
+        ReadPlace::Variable { site } => touches_variable(*site, other),
+        ReadPlace::PartOf { tuple, field } => touches_part(*tuple, *field, other),
+        ReadPlace::Parameter { index } => touches_parameter(*index, other),
+        ReadPlace::IntWritten { .. } => false,
+        ReadPlace::NameWritten { .. } => false,
+        ReadPlace::VariantWritten { .. } => false,
+        ReadPlace::StructWritten { .. } => false,
     }
 }
 
 /// Whether one of these uses reads of a place.
-pub(crate) fn are_reading(place: &Place, uses: &[Use]) -> bool
+pub(crate) fn are_reading(place: &ReadPlace, uses: &[Use]) -> bool
     ensures { result ≡ list_any (λ u. Moved.touches (place_view place.now) (place_view u.place)) uses.now }
 {
     uses.iter().any(|found| touches(place, &found.place))
@@ -84,32 +84,32 @@ pub(crate) fn are_reading(place: &Place, uses: &[Use]) -> bool
 
 // Whether what a variable is bound to reads of a place.
 #[tactic(auto, using(crate::proofs::Reading::any_touch_listed))]
-fn is_reading(place: &Place, expr: &Expr) -> bool
+fn is_reading(place: &ReadPlace, expr: &BoundExpr) -> bool
     ensures { result ≡ expr_reads (place_view place.now) (expr_view expr.now) }
 {
     match expr {
-        Expr::TruthWritten { .. } => false,
-        Expr::Extraction { value, .. } => touches(place, &value.place),
-        Expr::Call { args, .. } => are_reading(place, args),
-        Expr::VariantOf { fields, .. } => are_reading(place, fields),
-        Expr::StructOf { fields, .. } => are_reading(place, fields),
-        Expr::SomeOf { value } => touches(place, &value.place),
+        BoundExpr::TruthWritten { .. } => false,
+        BoundExpr::Extraction { value, .. } => touches(place, &value.place),
+        BoundExpr::Call { args, .. } => are_reading(place, args),
+        BoundExpr::VariantOf { fields, .. } => are_reading(place, fields),
+        BoundExpr::StructOf { fields, .. } => are_reading(place, fields),
+        BoundExpr::SomeOf { value } => touches(place, &value.place),
     }
 }
 
 // Whether a place is of the variable of a site.
 #[tactic(auto, using(crate::proofs::Reading::in_one))]
-fn is_of_site(site: BindingId, place: &Place) -> bool
+fn is_of_site(site: BindingId, place: &ReadPlace) -> bool
     ensures { result ≡ is_of (site ∷ []) (place_view place.now) }
 {
     match place {
-        Place::Variable { site: read } => site == *read,
-        Place::PartOf { tuple, .. } => site == *tuple,
-        Place::Parameter { .. } => false,
-        Place::IntWritten { .. } => false,
-        Place::NameWritten { .. } => false,
-        Place::VariantWritten { .. } => false,
-        Place::StructWritten { .. } => false,
+        ReadPlace::Variable { site: read } => site == *read,
+        ReadPlace::PartOf { tuple, .. } => site == *tuple,
+        ReadPlace::Parameter { .. } => false,
+        ReadPlace::IntWritten { .. } => false,
+        ReadPlace::NameWritten { .. } => false,
+        ReadPlace::VariantWritten { .. } => false,
+        ReadPlace::StructWritten { .. } => false,
     }
 }
 
@@ -133,23 +133,23 @@ fn binds_site(fields: &[Option<BindingId>], site: BindingId) -> bool
 
 // Whether a place is of the variable of a field.
 #[tactic(auto, using(crate::proofs::Reading::in_fields))]
-fn is_of_field(fields: &[Option<BindingId>], place: &Place) -> bool
+fn is_of_field(fields: &[Option<BindingId>], place: &ReadPlace) -> bool
     ensures { result ≡ is_of (field_sites fields.now) (place_view place.now) }
 {
     match place {
-        Place::Variable { site } => binds_site(fields, *site),
-        Place::PartOf { tuple, .. } => binds_site(fields, *tuple),
-        Place::Parameter { .. } => false,
-        Place::IntWritten { .. } => false,
-        Place::NameWritten { .. } => false,
-        Place::VariantWritten { .. } => false,
-        Place::StructWritten { .. } => false,
+        ReadPlace::Variable { site } => binds_site(fields, *site),
+        ReadPlace::PartOf { tuple, .. } => binds_site(fields, *tuple),
+        ReadPlace::Parameter { .. } => false,
+        ReadPlace::IntWritten { .. } => false,
+        ReadPlace::NameWritten { .. } => false,
+        ReadPlace::VariantWritten { .. } => false,
+        ReadPlace::StructWritten { .. } => false,
     }
 }
 
 // Whether what follows a statement means another variable by a place, or nothing comes to it.
 #[tactic(auto, using(crate::proofs::CodeBridges::code_steps))]
-pub(crate) fn hides(statement: &Statement, place: &Place) -> bool
+pub(crate) fn hides(statement: &Statement, place: &ReadPlace) -> bool
     ensures { (later : Bool) → read_behind (place_view place.now) (statement_view statement.now) later ≡ (not result && later) }
 {
     match statement {
@@ -168,7 +168,7 @@ pub(crate) fn hides(statement: &Statement, place: &Place) -> bool
 
 /// Whether statements read of a place.
 #[cycle(reads)]
-pub(crate) fn is_read(statements: &[Statement], place: &Place) -> bool
+pub(crate) fn is_read(statements: &[Statement], place: &ReadPlace) -> bool
     ensures { result ≡ block_reads (place_view place.now) (before statements.now no_statement) }
 {
     for statement in statements {
@@ -185,7 +185,7 @@ pub(crate) fn is_read(statements: &[Statement], place: &Place) -> bool
 // Whether a statement reads of a place.
 #[tactic(auto, using(crate::proofs::CodeBridges::code_steps))]
 #[cycle(reads)]
-fn is_read_at(statement: &Statement, place: &Place) -> bool
+fn is_read_at(statement: &Statement, place: &ReadPlace) -> bool
     ensures { result ≡ statement_reads (place_view place.now) (statement_view statement.now) }
 {
     match statement {
@@ -198,7 +198,7 @@ fn is_read_at(statement: &Statement, place: &Place) -> bool
             touches(place, &a.place) || touches(place, &b.place) || is_read(&body.statements, place)
         }
         Statement::ForEachOf { site, from, body } => {
-            let gone_over = Place::Variable { site: *from };
+            let gone_over = ReadPlace::Variable { site: *from };
             touches(place, &gone_over)
                 || (!is_of_site(*site, place) && is_read(&body.statements, place))
         }
@@ -211,7 +211,7 @@ fn is_read_at(statement: &Statement, place: &Place) -> bool
 
 // Whether arms read of a place.
 #[cycle(reads)]
-fn is_read_in(arms: &[CodeArm], place: &Place) -> bool
+fn is_read_in(arms: &[CodeArm], place: &ReadPlace) -> bool
     ensures { result ≡ arms_read (place_view place.now) (arms_before arms.now no_code_arm) }
 {
     for arm in arms {
@@ -224,7 +224,7 @@ fn is_read_in(arms: &[CodeArm], place: &Place) -> bool
 
 // Whether an arm reads of a place.
 #[cycle(reads)]
-fn is_read_by(arm: &CodeArm, place: &Place) -> bool
+fn is_read_by(arm: &CodeArm, place: &ReadPlace) -> bool
     ensures { (rest : Code.CodeArms) → arms_read (place_view place.now) (arm_view arm.now rest) ≡ (result || arms_read (place_view place.now) rest) }
 {
     !is_of_field(&arm.fields, place) && is_read(&arm.body.statements, place)

@@ -9,7 +9,7 @@ ghost use Rattle.rust_code.specs.CodeViews.{pass_view, place_view, use_view, use
 ghost use Rattle.rust_code.specs.HeldPasses.{owned_by};
 ghost use Rattle.rust_code.specs.HeldViews.{hold_in, hold_view, passes_in};
 
-use crate::code::{Pass, Place, Use};
+use crate::code::{Pass, ReadPlace, Use};
 use crate::held::{Held, held_at};
 use crate::stage::Stage;
 use core_rule_sets::trie_again::{Binding, BindingId};
@@ -17,36 +17,36 @@ use core_types::{TypeId, VariantId};
 use std::alloc::AllocError;
 
 // Where a variant is read: one without fields is written out.
-fn variant_place(ty: TypeId, variant: VariantId, fields: &[BindingId], site: BindingId) -> Place
+fn variant_place(ty: TypeId, variant: VariantId, fields: &[BindingId], site: BindingId) -> ReadPlace
     ensures { place_view result ≡ place_of (Some (make_variant_site ty.0 variant.0 fields.now)) site }
 {
     if fields.is_empty() {
-        Place::VariantWritten { ty, variant }
+        ReadPlace::VariantWritten { ty, variant }
     } else {
-        Place::Variable { site }
+        ReadPlace::Variable { site }
     }
 }
 
 // Where a struct is read: one without fields is written out.
-fn struct_place(ty: TypeId, fields: &[BindingId], site: BindingId) -> Place
+fn struct_place(ty: TypeId, fields: &[BindingId], site: BindingId) -> ReadPlace
     ensures { place_view result ≡ place_of (Some (make_struct_site ty.0 fields.now)) site }
 {
     if fields.is_empty() {
-        Place::StructWritten { ty }
+        ReadPlace::StructWritten { ty }
     } else {
-        Place::Variable { site }
+        ReadPlace::Variable { site }
     }
 }
 
 // Where a site is read that stands for this.
-fn place_of_binding(binding: &Binding, site: BindingId) -> Place
+fn place_of_binding(binding: &Binding, site: BindingId) -> ReadPlace
     ensures { place_view result ≡ place_of (Some (site_view binding.now)) site }
 {
     match binding {
-        Binding::ConstInt { val, ty } => Place::IntWritten { val: *val, ty: *ty },
-        Binding::ConstPrim { val } => Place::NameWritten { name: *val },
-        Binding::Argument { index } => Place::Parameter { index: *index },
-        Binding::MatchTuple { source, field } => Place::PartOf {
+        Binding::ConstInt { val, ty } => ReadPlace::IntWritten { val: *val, ty: *ty },
+        Binding::ConstPrim { val } => ReadPlace::NameWritten { name: *val },
+        Binding::Argument { index } => ReadPlace::Parameter { index: *index },
+        Binding::MatchTuple { source, field } => ReadPlace::PartOf {
             tuple: *source,
             field: *field,
         },
@@ -56,24 +56,24 @@ fn place_of_binding(binding: &Binding, site: BindingId) -> Place
             fields,
         } => variant_place(*ty, *variant, fields, site),
         Binding::MakeStruct { ty, fields } => struct_place(*ty, fields, site),
-        Binding::ConstBool { .. } => Place::Variable { site },
-        Binding::Extractor { .. } => Place::Variable { site },
-        Binding::Constructor { .. } => Place::Variable { site },
-        Binding::Iterator { .. } => Place::Variable { site },
-        Binding::MatchVariant { .. } => Place::Variable { site },
-        Binding::ExtractStruct { .. } => Place::Variable { site },
-        Binding::MakeSome { .. } => Place::Variable { site },
-        Binding::MatchSome { .. } => Place::Variable { site },
+        Binding::ConstBool { .. } => ReadPlace::Variable { site },
+        Binding::Extractor { .. } => ReadPlace::Variable { site },
+        Binding::Constructor { .. } => ReadPlace::Variable { site },
+        Binding::Iterator { .. } => ReadPlace::Variable { site },
+        Binding::MatchVariant { .. } => ReadPlace::Variable { site },
+        Binding::ExtractStruct { .. } => ReadPlace::Variable { site },
+        Binding::MakeSome { .. } => ReadPlace::Variable { site },
+        Binding::MatchSome { .. } => ReadPlace::Variable { site },
     }
 }
 
 // Where a site is read.
-fn place_at(sites: &[Binding], site: BindingId) -> Place
+fn place_at(sites: &[Binding], site: BindingId) -> ReadPlace
     ensures { place_view result ≡ place_in (site_views sites.now) site }
 {
     match sites.get(site.index()) {
         Some(binding) => place_of_binding(binding, site),
-        None => Place::Variable { site },
+        None => ReadPlace::Variable { site },
     }
 }
 
@@ -89,17 +89,17 @@ fn lent(held: Held) -> Pass
 }
 
 // Whether a place is written out, so that each use makes the value anew.
-fn is_written(place: &Place) -> bool
+fn is_written(place: &ReadPlace) -> bool
     ensures { result ≡ is_new (place_view place.now) }
 {
     match place {
-        Place::Variable { .. } => false,
-        Place::Parameter { .. } => false,
-        Place::PartOf { .. } => false,
-        Place::IntWritten { .. } => true,
-        Place::NameWritten { .. } => true,
-        Place::VariantWritten { .. } => true,
-        Place::StructWritten { .. } => true,
+        ReadPlace::Variable { .. } => false,
+        ReadPlace::Parameter { .. } => false,
+        ReadPlace::PartOf { .. } => false,
+        ReadPlace::IntWritten { .. } => true,
+        ReadPlace::NameWritten { .. } => true,
+        ReadPlace::VariantWritten { .. } => true,
+        ReadPlace::StructWritten { .. } => true,
     }
 }
 
@@ -122,17 +122,17 @@ fn compared(held: Held, other: Held) -> Pass
 }
 
 // Whether a place isn't behind a reference, but for that its variable is one.
-fn is_owned(stage: &Stage<'_>, place: &Place) -> bool
+fn is_owned(stage: &Stage<'_>, place: &ReadPlace) -> bool
     ensures { result ≡ owned_by (hold_in stage.now.held.now) (place_view place.now) }
 {
     match place {
-        Place::PartOf { tuple, .. } => !held_at(stage.held, *tuple).is_reference,
-        Place::Variable { .. } => true,
-        Place::Parameter { .. } => true,
-        Place::IntWritten { .. } => true,
-        Place::NameWritten { .. } => true,
-        Place::VariantWritten { .. } => true,
-        Place::StructWritten { .. } => true,
+        ReadPlace::PartOf { tuple, .. } => !held_at(stage.held, *tuple).is_reference,
+        ReadPlace::Variable { .. } => true,
+        ReadPlace::Parameter { .. } => true,
+        ReadPlace::IntWritten { .. } => true,
+        ReadPlace::NameWritten { .. } => true,
+        ReadPlace::VariantWritten { .. } => true,
+        ReadPlace::StructWritten { .. } => true,
     }
 }
 

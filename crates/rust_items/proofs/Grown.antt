@@ -6,7 +6,7 @@ use Rattle.std.proofs.lemmas.Grind.{flat_map-append}
 use Rattle.std.proofs.lemmas.List.{append_assoc, append-nil, map-append, take_all, take_more}
 use Rattle.std.proofs.lemmas.List.FromFn.{map-range_with_len_more}
 use Rattle.rust_items.specs.declared.claims.Claim as C
-use Rattle.rust_items.specs.declared.claims.Kind as K
+use Rattle.rust_items.specs.declared.claims.Namespace as K
 use Rattle.rust_items.specs.Claims.{Claim, Namespace}
 use Rattle.rust_items.specs.ClaimViews.{claim_view, claim_views, kind_view, kind_views}
 use Rattle.rust_items.specs.OwnNames.{is_own_type, is_own_value}
@@ -53,7 +53,7 @@ pushed_claim old new x written owner e w o =
     ap claim_views e ∙ map-append claim_view old (x ∷ []) ∙ ap (λ y. claim_views old ++ claim y (string_bytes x.owner) ∷ []) w ∙ ap (λ y. claim_views old ++ claim written y ∷ []) o
 
 -- a kind more
-pub pushed_kind : (old new : List K.Kind) (x : K.Kind) (kind : Namespace) → new ≡ old ++ x ∷ [] → kind_view x ≡ kind → kind_views new ≡ kind_views old ++ kind ∷ []
+pub pushed_kind : (old new : List K.Namespace) (x : K.Namespace) (kind : Namespace) → new ≡ old ++ x ∷ [] → kind_view x ≡ kind → kind_views new ≡ kind_views old ++ kind ∷ []
 pushed_kind old new x kind e k = ap kind_views e ∙ map-append kind_view old (x ∷ []) ∙ ap (λ y. kind_views old ++ y ∷ []) k
 
 -- the kinds of a program, one after another

@@ -2,7 +2,7 @@
 use Rattle.std.specs.Prelude.{ℕ, Bool, false, List, map, Option, option_map, string_bytes, String}
 use Rattle.std.specs.HashMap.{HashMap, get_by_text}
 use Rattle.rust_items.specs.declared.claims.Claim as C
-use Rattle.rust_items.specs.declared.claims.Kind as K
+use Rattle.rust_items.specs.declared.claims.Namespace as K
 use Rattle.rust_items.specs.declared.claims.Own.{Own}
 use Rattle.rust_items.specs.declared.claims.Own.TheVariants.{Nothing, Values, Types}
 use Rattle.rust_items.specs.Claims.{Claim, Namespace}
@@ -19,10 +19,10 @@ is_own Nothing name = false
 is_own Values name = is_own_value name
 is_own Types name = is_own_type name
 
-abbrev pub kind_view : K.Kind → Namespace
+abbrev pub kind_view : K.Namespace → Namespace
 kind_view k = record { what = k.what.now; one = k.one.now; own = is_own k.own; claims = claim_views k.claims.items }
 
-abbrev pub kind_views : List K.Kind → List Namespace
+abbrev pub kind_views : List K.Namespace → List Namespace
 kind_views ks = map kind_view ks
 
 -- what has a name so far

@@ -31,7 +31,7 @@ pub enum Own {
 }
 
 /// Things that are to be told apart.
-pub struct Kind {
+pub struct Namespace {
     /// What they are, as errors tell it.
     pub what: &'static str,
     /// What one of them is.
@@ -51,9 +51,9 @@ impl Drop for Claim {
     }
 }
 
-impl Drop for Kind {
+impl Drop for Namespace {
     fn drop(self) {
-        let Kind {
+        let Namespace {
             what: _,
             one: _,
             own: _,
@@ -68,7 +68,7 @@ impl Drop for Kind {
 ///
 /// `Names` for the first kind where a thing is written as a name of the code's own, or as an earlier thing; `Memory` where memory
 /// is refused.
-pub fn check_kinds(alloc: Global, kinds: &[Kind]) -> Result<(), CodeError>
+pub fn check_kinds(alloc: Global, kinds: &[Namespace]) -> Result<(), CodeError>
     ensures good { OnOk result (All IsWellNamed (kind_views kinds.now)) }
     ensures wrong { IfErr result (λ e. TellsOf e (TellsFirst (kind_views kinds.now))) }
 {
@@ -79,7 +79,7 @@ pub fn check_kinds(alloc: Global, kinds: &[Kind]) -> Result<(), CodeError>
 }
 
 // Looks for things of a kind that can't have their names.
-fn check_kind(alloc: Global, kind: &Kind) -> Result<(), CodeError>
+fn check_kind(alloc: Global, kind: &Namespace) -> Result<(), CodeError>
     ensures good { OnOk result (IsWellNamed (kind_view kind.now)) }
     ensures wrong { IfErr result (λ e. TellsOf e (λ text. TellsTaken (kind_view kind.now) text ⊎ TellsClash (kind_view kind.now) text)) }
 {
@@ -88,7 +88,7 @@ fn check_kind(alloc: Global, kind: &Kind) -> Result<(), CodeError>
 }
 
 // Looks for a thing that is written as a name of the code's own.
-fn check_free(alloc: Global, kind: &Kind) -> Result<(), CodeError>
+fn check_free(alloc: Global, kind: &Namespace) -> Result<(), CodeError>
     ensures free { OnOk result (first_taken (kind_view kind.now) ≡ None) }
     ensures taken { IfErr result (λ e. TellsOf e (TellsTaken (kind_view kind.now))) }
 {

@@ -11,7 +11,7 @@ ghost use Rattle.rust_items.specs.ClaimViews.{claim_views, is_own, kind_views};
 ghost use Rattle.rust_items.specs.Claims.{IsWellNamed, TellsFirst};
 ghost use Rattle.rust_items.specs.Faults.{TellsOf};
 
-use crate::claims::{Claim, Kind, Own, check_kinds};
+use crate::claims::{Claim, Namespace, Own, check_kinds};
 use crate::names::{push_constant, push_name, push_part, push_path};
 use crate::options::CodeError;
 use crate::program::Program;
@@ -37,7 +37,7 @@ pub fn check_names(program: Program<'_>, terms: &[LoweredTerm]) -> Result<(), Co
 }
 
 // The kinds of a program's things, with how each thing is written.
-fn kinds_of(program: Program<'_>, lowered: &[LoweredTerm]) -> Result<Vec<Kind>, AllocError>
+fn kinds_of(program: Program<'_>, lowered: &[LoweredTerm]) -> Result<Vec<Namespace>, AllocError>
     ensures { IfOk result (λ v. kind_views v.items ≡ kinds (named_program program.entry.tyenv.now program.entry.terms.now lowered.now)) }
 {
     let Program {
@@ -75,7 +75,7 @@ fn kinds_of(program: Program<'_>, lowered: &[LoweredTerm]) -> Result<Vec<Kind>, 
 // Adds a kind.
 #[tactic(auto, using(crate::proofs::Grown::pushed_kind))]
 fn push_kind(
-    kinds: &mut Vec<Kind>,
+    kinds: &mut Vec<Namespace>,
     what: &'static str,
     one: &'static str,
     own: Own,
@@ -83,7 +83,7 @@ fn push_kind(
 ) -> Result<(), AllocError>
     ensures { OnOk result (kind_views kinds.new.items ≡ kind_views kinds.old.items ++ kind_as what.now one.now (is_own own) (claim_views claims.items) ∷ []) }
 {
-    kinds.push(Kind {
+    kinds.push(Namespace {
         what,
         one,
         own,
@@ -152,7 +152,7 @@ fn push_claim(claims: &mut Vec<Claim>, written: String, owner: &str) -> Result<(
 fn push_insides(
     alloc: Global,
     tyenv: &TypeEnv,
-    kinds: &mut Vec<Kind>,
+    kinds: &mut Vec<Namespace>,
     types: &[Type],
 ) -> Result<(), AllocError>
     ensures { OnOk result (kind_views kinds.new.items ≡ kind_views kinds.old.items ++ flat_map (kinds_inside (names_of tyenv.now)) (type_views types.now)) }
@@ -167,7 +167,7 @@ fn push_insides(
 fn push_inside(
     alloc: Global,
     tyenv: &TypeEnv,
-    kinds: &mut Vec<Kind>,
+    kinds: &mut Vec<Namespace>,
     ty: &Type,
 ) -> Result<(), AllocError>
     ensures { OnOk result (kind_views kinds.new.items ≡ kind_views kinds.old.items ++ kinds_inside (names_of tyenv.now) (type_view ty.now)) }
@@ -184,7 +184,7 @@ fn push_inside(
 fn push_variants(
     alloc: Global,
     tyenv: &TypeEnv,
-    kinds: &mut Vec<Kind>,
+    kinds: &mut Vec<Namespace>,
     variants: &[Variant],
 ) -> Result<(), AllocError>
     ensures { OnOk result (kind_views kinds.new.items ≡ kind_views kinds.old.items ++ (variant_kind (names_of tyenv.now) (map variant_view variants.now) ∷ map (variant_fields (names_of tyenv.now)) (map variant_view variants.now))) }
@@ -198,7 +198,7 @@ fn push_variants(
 fn push_variant_fields(
     alloc: Global,
     tyenv: &TypeEnv,
-    kinds: &mut Vec<Kind>,
+    kinds: &mut Vec<Namespace>,
     variants: &[Variant],
 ) -> Result<(), AllocError>
     ensures { OnOk result (kind_views kinds.new.items ≡ kind_views kinds.old.items ++ map (variant_fields (names_of tyenv.now)) (map variant_view variants.now)) }
@@ -228,7 +228,7 @@ fn variant_claims(
 fn push_fields(
     alloc: Global,
     tyenv: &TypeEnv,
-    kinds: &mut Vec<Kind>,
+    kinds: &mut Vec<Namespace>,
     fields: &Fields,
 ) -> Result<(), AllocError>
     ensures { OnOk result (kind_views kinds.new.items ≡ kind_views kinds.old.items ++ field_kind (names_of tyenv.now) (fields_view fields.now) ∷ []) }

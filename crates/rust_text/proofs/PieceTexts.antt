@@ -9,8 +9,8 @@ use Rattle.model_code.specs.Pieces as P
 use Rattle.model_code.specs.Tokens as M
 use Rattle.model_code.specs.ProgramNotation.{ending_in, function_number, list_of, notation_of, outside_of}
 use Rattle.model_code.specs.Spelling.{Names, piece_text, spelled}
-use Rattle.rust_text.specs.declared.tokens.Token.{Token}
-use Rattle.rust_text.specs.declared.tokens.Token.TheVariants as T
+use Rattle.rust_text.specs.declared.tokens.RustToken.{RustToken}
+use Rattle.rust_text.specs.declared.tokens.RustToken.TheVariants as T
 use Rattle.rust_text.specs.declared.tokens.Piece.{Piece}
 use Rattle.rust_text.specs.declared.tokens.Piece.TheVariants as S
 use Rattle.rust_text.specs.ProgramNames.{NameSetting, IsProgramOf, program_in, notation_in}
@@ -31,7 +31,7 @@ module _ (s : NameSetting) (p : Program) (kind : ReturnForm) (is_logged : Bool) 
   same_ending : (ty : ℕ) → ending_in (slice_get p.types ty) ty ≡ ending_in (slice_get s.types ty) ty
   same_ending ty = ap (λ ts. ending_in (slice_get ts ty) ty) of.types
 
-  same_token : (t : Token) → token_view (notation_of p kind is_logged) t ≡ token_view (notation_in s) t
+  same_token : (t : RustToken) → token_view (notation_of p kind is_logged) t ≡ token_view (notation_in s) t
   same_token (T.Word w) = refl
   same_token (T.Variable site) = refl
   same_token (T.Parameter index) = refl

@@ -11,8 +11,8 @@ use Rattle.rust_text.specs.declared.tokens.Owner.{Owner}
 use Rattle.rust_text.specs.declared.tokens.Owner.TheVariants as O
 use Rattle.rust_text.specs.declared.tokens.Callee.{Callee}
 use Rattle.rust_text.specs.declared.tokens.Callee.TheVariants as C
-use Rattle.rust_text.specs.declared.tokens.Token.{Token}
-use Rattle.rust_text.specs.declared.tokens.Token.TheVariants as T
+use Rattle.rust_text.specs.declared.tokens.RustToken.{RustToken}
+use Rattle.rust_text.specs.declared.tokens.RustToken.TheVariants as T
 use Rattle.rust_text.specs.declared.tokens.Piece.{Piece}
 use Rattle.rust_text.specs.declared.tokens.Piece.TheVariants as S
 
@@ -65,7 +65,7 @@ abbrev pub callee_view : Callee → N.Callee
 callee_view (C.Extractor term) = N.extractor_of term.0
 callee_view (C.Constructor term) = N.constructor_of term.0
 
-abbrev pub token_view : Notation → Token → M.Token
+abbrev pub token_view : Notation → RustToken → M.Token
 token_view p (T.Word w) = M.word (word_view w)
 token_view p (T.Variable site) = M.variable_name site
 token_view p (T.Parameter index) = M.parameter_name index

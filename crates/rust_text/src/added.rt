@@ -6,7 +6,7 @@ ghost use Rattle.model_code.specs.Pieces.{put, put_all, put_between, put_first, 
 ghost use Rattle.rust_text.specs.TokenViews.{piece_view, token_view, word_view};
 ghost use Rattle.rust_text.specs.Adding.{Adds};
 
-use crate::tokens::{Piece, Token, Word};
+use crate::tokens::{Piece, RustToken, Word};
 use std::alloc::AllocError;
 
 /// Adds a piece.
@@ -27,7 +27,7 @@ pub(crate) fn add(out: &mut Vec<Piece>, piece: Piece) -> Result<(), AllocError>
 }
 
 /// Adds a token.
-pub(crate) fn add_token(out: &mut Vec<Piece>, token: Token) -> Result<(), AllocError>
+pub(crate) fn add_token(out: &mut Vec<Piece>, token: RustToken) -> Result<(), AllocError>
     ensures { OnOk result (Adds out.old.items out.new.items (λ p rest. Pieces.token (token_view p token) ∷ rest)) }
 {
     add(out, Piece::Token(token))
@@ -37,7 +37,7 @@ pub(crate) fn add_token(out: &mut Vec<Piece>, token: Token) -> Result<(), AllocE
 pub(crate) fn add_word(out: &mut Vec<Piece>, word: Word) -> Result<(), AllocError>
     ensures { OnOk result (Adds out.old.items out.new.items (λ p rest. put (word_view word) rest)) }
 {
-    add(out, Piece::Token(Token::Word(word)))
+    add(out, Piece::Token(RustToken::Word(word)))
 }
 
 /// Adds a word with a space behind it.

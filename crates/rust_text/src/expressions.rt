@@ -11,8 +11,8 @@ ghost use Rattle.rust_text.specs.Writers.{shape_view};
 use crate::added::{add, add_first, add_if, add_token, add_word, add_words};
 use crate::notation::{Shape, Writer};
 use crate::places::add_use;
-use crate::tokens::{Callee, Owner, Piece, Token, Word};
-use rust_code::code::{Expr, Use};
+use crate::tokens::{Callee, Owner, Piece, RustToken, Word};
+use rust_code::code::{BoundExpr, Use};
 use std::alloc::AllocError;
 use std::slice;
 
@@ -42,7 +42,7 @@ fn add_args(out: &mut Vec<Piece>, args: &[Use]) -> Result<(), AllocError>
 pub(crate) fn add_call(out: &mut Vec<Piece>, callee: Callee, args: &[Use]) -> Result<(), AllocError>
     ensures { OnOk result (Adds out.old.items out.new.items (λ p rest. called_before p (callee_view callee) (use_views args.now) rest)) }
 {
-    add_token(out, Token::Function(callee))?;
+    add_token(out, RustToken::Function(callee))?;
     add_words(out, &[Word::Opening, Word::Ctx])?;
     add_args(out, args)
 }
@@ -75,7 +75,7 @@ fn add_named_values(out: &mut Vec<Piece>, owner: Owner, values: &[Use]) -> Resul
 {
     for (index, value) in values.iter().enumerate() {
         add_gap(out, index)?;
-        add_token(out, Token::Field { owner, index })?;
+        add_token(out, RustToken::Field { owner, index })?;
         add_first(out, Word::Colon)?;
         add_use(out, *value)?;
     }
@@ -143,23 +143,23 @@ impl Writer<'_> {
         ensures { OnOk result (AddsBy self.now out.old.items out.new.items (λ p rest. token (owner_name (owner_view owner))
             ∷ made_before p (owner_view owner) (p.shape (owner_view owner)) (use_views values.now) rest)) }
     {
-        add_token(out, Token::Owner(owner))?;
+        add_token(out, RustToken::Owner(owner))?;
         add_made(out, owner, self.shape_of(owner), values)
     }
 
     /// Adds what a variable is bound to.
-    pub(crate) fn add_expr(&self, out: &mut Vec<Piece>, expr: &Expr) -> Result<(), AllocError>
+    pub(crate) fn add_expr(&self, out: &mut Vec<Piece>, expr: &BoundExpr) -> Result<(), AllocError>
         ensures { OnOk result (AddsBy self.now out.old.items out.new.items (λ p rest. expr_before p (expr_view expr.now) rest)) }
     {
         match expr {
-            Expr::TruthWritten { val, .. } => add_truth(out, *val),
-            Expr::Extraction { term, value } => {
+            BoundExpr::TruthWritten { val, .. } => add_truth(out, *val),
+            BoundExpr::Extraction { term, value } => {
                 self.add_answer(out, Callee::Extractor(*term), slice::from_ref(value))
             }
-            Expr::Call { term, args, .. } => {
+            BoundExpr::Call { term, args, .. } => {
                 self.add_answer(out, Callee::Constructor(*term), args)
             }
-            Expr::VariantOf {
+            BoundExpr::VariantOf {
                 ty,
                 variant,
                 fields,
@@ -170,8 +170,12 @@ impl Writer<'_> {
                 };
                 self.add_owner(out, owner, fields)
             }
-            Expr::StructOf { ty, fields } => self.add_owner(out, Owner::Struct { ty: *ty }, fields),
-            Expr::SomeOf { value } => {
+            BoundExpr::StructOf { ty, fields } => self.add_owner(
+                out,
+                Owner::Struct { ty: *ty },
+                fields,
+            ),
+            BoundExpr::SomeOf { value } => {
                 add_words(out, &[Word::Some, Word::Opening])?;
                 add_use(out, *value)?;
                 add_word(out, Word::Closing)

@@ -9,7 +9,7 @@ ghost use Rattle.rust_text.specs.Adding.{Adds};
 ghost use Rattle.rust_text.specs.Margins.{margin_view};
 
 use crate::added::{add, add_between, add_first, add_token, add_word};
-use crate::tokens::{Piece, Token, Word};
+use crate::tokens::{Piece, RustToken, Word};
 use std::alloc::AllocError;
 
 /// Where the lines of a block stand.
@@ -126,7 +126,7 @@ pub(crate) fn add_break(out: &mut Vec<Piece>, at: Margin) -> Result<(), AllocErr
 {
     add_between(out, Word::OpeningBrace)?;
     add_first(out, Word::Break)?;
-    add_token(out, Token::Label(at.label_number()))?;
+    add_token(out, RustToken::Label(at.label_number()))?;
     add(out, Piece::Space)?;
     add_word(out, Word::ClosingBrace)
 }
@@ -138,6 +138,6 @@ pub(crate) fn add_label(out: &mut Vec<Piece>, at: Margin, is_left: bool) -> Resu
     if !is_left {
         return Ok(());
     }
-    add_token(out, Token::Label(at.depth))?;
+    add_token(out, RustToken::Label(at.depth))?;
     add_first(out, Word::Colon)
 }

@@ -14,7 +14,7 @@ use crate::added::{add, add_between, add_first, add_first_if, add_token, add_wor
 use crate::expressions::{add_comma, add_truth};
 use crate::notation::{Shape, Writer};
 use crate::places::add_int;
-use crate::tokens::{Owner, Piece, Token, Word};
+use crate::tokens::{Owner, Piece, RustToken, Word};
 use cranelift_isle::trie_again::{BindingId, Constraint};
 use std::alloc::AllocError;
 
@@ -36,7 +36,7 @@ fn add_inner(out: &mut Vec<Piece>, fields: &[Option<BindingId>]) -> Result<(), A
     ensures { OnOk result (Adds out.old.items out.new.items (λ p rest. inner_before fields.now rest)) }
 {
     match fields {
-        [Some(site), ..] => add_token(out, Token::Variable(*site)),
+        [Some(site), ..] => add_token(out, RustToken::Variable(*site)),
         [None, ..] => add_word(out, Word::Underscore),
         [] => add_word(out, Word::Underscore),
     }
@@ -49,7 +49,7 @@ pub(crate) fn add_constant(out: &mut Vec<Piece>, constraint: &Constraint) -> Res
     match constraint {
         Constraint::ConstBool { val, .. } => add_truth(out, *val),
         Constraint::ConstInt { val, ty } => add_int(out, *val, *ty),
-        Constraint::ConstPrim { val } => add_token(out, Token::Constant(*val)),
+        Constraint::ConstPrim { val } => add_token(out, RustToken::Constant(*val)),
         Constraint::Variant { .. } => Ok(()),
         Constraint::Struct { .. } => Ok(()),
         Constraint::Some => Ok(()),
@@ -77,7 +77,7 @@ impl Writer<'_> {
         ensures { OnOk result (AddsBy self.now out.old.items out.new.items (λ p rest. binding_before p (owner_view owner) index site rest)) }
     {
         add_first_if(out, self.is_field_composed(owner, index), Word::Ref)?;
-        add_token(out, Token::Variable(site))
+        add_token(out, RustToken::Variable(site))
     }
 
     // Adds a field with a name if it is bound.
@@ -94,7 +94,7 @@ impl Writer<'_> {
         match field {
             Some(site) => {
                 add_first_if(out, is_bound, Word::Comma)?;
-                add_token(out, Token::Field { owner, index })?;
+                add_token(out, RustToken::Field { owner, index })?;
                 add_first(out, Word::Colon)?;
                 self.add_binding(out, owner, index, site)
             }
@@ -189,7 +189,7 @@ impl Writer<'_> {
             ∷ bindings_before p (owner_view owner) (p.shape (owner_view owner)) fields.now rest))) }
     {
         add_word(out, Word::Ampersand)?;
-        add_token(out, Token::Owner(owner))?;
+        add_token(out, RustToken::Owner(owner))?;
         self.add_bindings(out, owner, self.shape_of(owner), fields)
     }
 

@@ -15,7 +15,7 @@ use crate::added::{add, add_token, add_word};
 use crate::labels::is_end;
 use crate::layout::{Margin, add_margin};
 use crate::notation::Writer;
-use crate::tokens::{Piece, Token, Word};
+use crate::tokens::{Piece, RustToken, Word};
 use cranelift_isle::sema::ReturnKind;
 use rust_code::code::{CodeBlock, Statement};
 use std::alloc::{AllocError, Global};
@@ -53,7 +53,7 @@ fn add_fall(out: &mut Vec<Piece>, gives: ReturnKind) -> Result<(), AllocError>
     match gives {
         ReturnKind::Plain => {
             add_margin(out, margin)?;
-            add_token(out, Token::NoMatch)?;
+            add_token(out, RustToken::NoMatch)?;
             add(out, Piece::LineEnd)
         }
         ReturnKind::Option => {

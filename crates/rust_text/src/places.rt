@@ -7,35 +7,35 @@ ghost use Rattle.rust_code.specs.CodeViews.{place_view, use_view};
 ghost use Rattle.rust_text.specs.Adding.{Adds};
 
 use crate::added::{add_token, add_word, add_words};
-use crate::tokens::{Owner, Piece, Token, Word};
+use crate::tokens::{Owner, Piece, RustToken, Word};
 use cranelift_isle::sema::TypeId;
-use rust_code::code::{Pass, Place, Use};
+use rust_code::code::{Pass, ReadPlace, Use};
 use std::alloc::AllocError;
 
 /// Adds an integer.
 pub(crate) fn add_int(out: &mut Vec<Piece>, val: i128, ty: TypeId) -> Result<(), AllocError>
     ensures { OnOk result (Adds out.old.items out.new.items (λ p rest. token (number val (p.ending ty.0)) ∷ rest)) }
 {
-    add_token(out, Token::Int { val, ty })
+    add_token(out, RustToken::Int { val, ty })
 }
 
 /// Adds a place.
-pub(crate) fn add_place(out: &mut Vec<Piece>, place: Place) -> Result<(), AllocError>
+pub(crate) fn add_place(out: &mut Vec<Piece>, place: ReadPlace) -> Result<(), AllocError>
     ensures { OnOk result (Adds out.old.items out.new.items (λ p rest. place_before p (place_view place) rest)) }
 {
     match place {
-        Place::Variable { site } => add_token(out, Token::Variable(site)),
-        Place::Parameter { index } => add_token(out, Token::Parameter(index)),
-        Place::PartOf { tuple, field } => {
-            add_token(out, Token::Variable(tuple))?;
-            add_token(out, Token::Part(field))
+        ReadPlace::Variable { site } => add_token(out, RustToken::Variable(site)),
+        ReadPlace::Parameter { index } => add_token(out, RustToken::Parameter(index)),
+        ReadPlace::PartOf { tuple, field } => {
+            add_token(out, RustToken::Variable(tuple))?;
+            add_token(out, RustToken::Part(field))
         }
-        Place::IntWritten { val, ty } => add_int(out, val, ty),
-        Place::NameWritten { name } => add_token(out, Token::Constant(name)),
-        Place::VariantWritten { ty, variant } => {
-            add_token(out, Token::Owner(Owner::Variant { ty, variant }))
+        ReadPlace::IntWritten { val, ty } => add_int(out, val, ty),
+        ReadPlace::NameWritten { name } => add_token(out, RustToken::Constant(name)),
+        ReadPlace::VariantWritten { ty, variant } => {
+            add_token(out, RustToken::Owner(Owner::Variant { ty, variant }))
         }
-        Place::StructWritten { ty } => add_token(out, Token::Owner(Owner::Struct { ty })),
+        ReadPlace::StructWritten { ty } => add_token(out, RustToken::Owner(Owner::Struct { ty })),
     }
 }
 

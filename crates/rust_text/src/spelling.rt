@@ -12,7 +12,7 @@ ghost use Rattle.rust_text.specs.SettingViews.{setting_of};
 ghost use Rattle.rust_text.specs.TokenViews.{piece_view, piece_views, token_view, word_view};
 
 use crate::names::Names;
-use crate::tokens::{Piece, Token, Word};
+use crate::tokens::{Piece, RustToken, Word};
 use cranelift_isle::syntax::Pos;
 use std::alloc::AllocError;
 
@@ -54,23 +54,23 @@ fn push_piece(out: &mut String, names: Names<'_>, piece: Piece) -> Result<(), Al
 }
 
 // Adds a token.
-fn push_token(out: &mut String, names: Names<'_>, token: Token) -> Result<(), AllocError>
+fn push_token(out: &mut String, names: Names<'_>, token: RustToken) -> Result<(), AllocError>
     ensures { OnOk result (string_bytes out.new ≡ string_bytes out.old
         ++ token_text (names_of (setting_of names.entry)) (token_view (notation_in (setting_of names.entry)) token)) }
 {
     match token {
-        Token::Word(word) => out.push_str(word_text(word)),
-        Token::Variable(site) => push_numbered(out, "v", site.index()),
-        Token::Parameter(index) => push_numbered(out, "arg", index.index()),
-        Token::Part(index) => push_numbered(out, ".", index.index()),
-        Token::Int { val, ty } => names.push_int(out, val, ty),
-        Token::Constant(name) => names.push_constant(out, name),
-        Token::Owner(owner) => names.push_owner(out, owner),
-        Token::Field { owner, index } => names.push_field(out, owner, index),
-        Token::Function(callee) => names.push_function(out, callee),
-        Token::List(callee) => names.push_list(out, callee),
-        Token::Label(number) => push_numbered(out, "'at", number),
-        Token::NoMatch => names.push_panic(out),
+        RustToken::Word(word) => out.push_str(word_text(word)),
+        RustToken::Variable(site) => push_numbered(out, "v", site.index()),
+        RustToken::Parameter(index) => push_numbered(out, "arg", index.index()),
+        RustToken::Part(index) => push_numbered(out, ".", index.index()),
+        RustToken::Int { val, ty } => names.push_int(out, val, ty),
+        RustToken::Constant(name) => names.push_constant(out, name),
+        RustToken::Owner(owner) => names.push_owner(out, owner),
+        RustToken::Field { owner, index } => names.push_field(out, owner, index),
+        RustToken::Function(callee) => names.push_function(out, callee),
+        RustToken::List(callee) => names.push_list(out, callee),
+        RustToken::Label(number) => push_numbered(out, "'at", number),
+        RustToken::NoMatch => names.push_panic(out),
     }
 }
 

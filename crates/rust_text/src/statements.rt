@@ -19,11 +19,11 @@ use crate::expressions::add_call;
 use crate::layout::{Margin, add_break, add_margin, begin_line, close_body, open_body};
 use crate::notation::Writer;
 use crate::places::add_use;
-use crate::tokens::{Callee, Piece, Token, Word};
+use crate::tokens::{Callee, Piece, RustToken, Word};
 use cranelift_isle::sema::ReturnKind;
 use cranelift_isle::syntax::Pos;
 use cranelift_isle::trie_again::{BindingId, Constraint};
-use rust_code::code::{Expr, Use};
+use rust_code::code::{BoundExpr, Use};
 use std::alloc::AllocError;
 use std::slice;
 
@@ -68,7 +68,7 @@ fn begin_mutable(out: &mut Vec<Piece>, at: Margin, site: BindingId) -> Result<()
 {
     begin_line(out, at, Word::Let)?;
     add_first(out, Word::Mut)?;
-    add_token(out, Token::Variable(site))?;
+    add_token(out, RustToken::Variable(site))?;
     add_between(out, Word::Equals)
 }
 
@@ -78,7 +78,7 @@ fn add_some_variable(out: &mut Vec<Piece>, site: BindingId) -> Result<(), AllocE
         put_all (some_word ∷ opening ∷ []) (token (variable_name site) ∷ put closing (put_between equals rest)))) }
 {
     add_words(out, &[Word::Some, Word::Opening])?;
-    add_token(out, Token::Variable(site))?;
+    add_token(out, RustToken::Variable(site))?;
     add_word(out, Word::Closing)?;
     add_between(out, Word::Equals)
 }
@@ -91,7 +91,7 @@ fn add_filled(out: &mut Vec<Piece>, site: BindingId) -> Result<(), AllocError>
     add_first(out, Word::Comma)?;
     add_word(out, Word::Ampersand)?;
     add_first(out, Word::Mut)?;
-    add_token(out, Token::Variable(site))?;
+    add_token(out, RustToken::Variable(site))?;
     add_word(out, Word::Closing)?;
     end_line(out)
 }
@@ -108,7 +108,7 @@ fn add_many(
         many_lines p (margin_view at) site (callee_view callee) (use_views args.now) rest)) }
 {
     begin_mutable(out, at, site)?;
-    add_token(out, Token::List(callee))?;
+    add_token(out, RustToken::List(callee))?;
     end_line(out)?;
     add_margin(out, at)?;
     add_call(out, callee, args)?;
@@ -138,7 +138,7 @@ fn add_iterator(out: &mut Vec<Piece>, at: Margin, from: BindingId) -> Result<(),
         (token (variable_name from) ∷ put_all (dot ∷ iter_word ∷ opening ∷ closing ∷ []) (Pieces.end_line rest)))))) }
 {
     begin_mutable(out, at, from)?;
-    add_token(out, Token::Variable(from))?;
+    add_token(out, RustToken::Variable(from))?;
     add_words(out, &[Word::Dot, Word::Iter, Word::Opening, Word::Closing])?;
     end_line(out)
 }
@@ -148,7 +148,7 @@ fn add_next(out: &mut Vec<Piece>, from: BindingId) -> Result<(), AllocError>
     ensures { OnOk result (Adds out.old.items out.new.items (λ p rest.
         token (variable_name from) ∷ put_all (dot ∷ next_word ∷ opening ∷ ctx_word ∷ closing ∷ []) (Pieces.open_body rest))) }
 {
-    add_token(out, Token::Variable(from))?;
+    add_token(out, RustToken::Variable(from))?;
     add_words(
         out,
         &[
@@ -266,12 +266,12 @@ impl Writer<'_> {
         out: &mut Vec<Piece>,
         at: Margin,
         site: BindingId,
-        expr: &Expr,
+        expr: &BoundExpr,
     ) -> Result<(), AllocError>
         ensures { OnOk result (AddsBy self.now out.old.items out.new.items (λ p rest. one_line p (margin_view at) site (expr_view expr.now) rest)) }
     {
         begin_line(out, at, Word::Let)?;
-        add_token(out, Token::Variable(site))?;
+        add_token(out, RustToken::Variable(site))?;
         add_between(out, Word::Equals)?;
         self.add_expr(out, expr)?;
         end_line(out)
@@ -285,7 +285,7 @@ impl Writer<'_> {
         site: BindingId,
         callee: Callee,
         args: &[Use],
-        expr: &Expr,
+        expr: &BoundExpr,
     ) -> Result<(), AllocError>
         ensures { OnOk result (AddsBy self.now out.old.items out.new.items (λ p rest.
             call_lines (p.has_many (callee_view callee)) p (margin_view at) site (callee_view callee) (use_views args.now) (expr_view expr.now) rest)) }
@@ -302,7 +302,7 @@ impl Writer<'_> {
         site: BindingId,
         callee: Callee,
         args: &[Use],
-        expr: &Expr,
+        expr: &BoundExpr,
     ) -> Result<(), AllocError>
         ensures { OnOk result (AddsBy self.now out.old.items out.new.items (λ p rest.
             call_lines has_many p (margin_view at) site (callee_view callee) (use_views args.now) (expr_view expr.now) rest)) }
@@ -320,22 +320,22 @@ impl Writer<'_> {
         out: &mut Vec<Piece>,
         at: Margin,
         site: BindingId,
-        expr: &Expr,
+        expr: &BoundExpr,
     ) -> Result<(), AllocError>
         ensures { OnOk result (AddsBy self.now out.old.items out.new.items (λ p rest. bind_lines p (margin_view at) site (expr_view expr.now) rest)) }
     {
         match expr {
-            Expr::Extraction { term, value } => {
+            BoundExpr::Extraction { term, value } => {
                 let callee = Callee::Extractor(*term);
                 self.add_called(out, at, site, callee, slice::from_ref(value), expr)
             }
-            Expr::Call { term, args, .. } => {
+            BoundExpr::Call { term, args, .. } => {
                 self.add_called(out, at, site, Callee::Constructor(*term), args, expr)
             }
-            Expr::TruthWritten { .. } => self.add_one(out, at, site, expr),
-            Expr::VariantOf { .. } => self.add_one(out, at, site, expr),
-            Expr::StructOf { .. } => self.add_one(out, at, site, expr),
-            Expr::SomeOf { .. } => self.add_one(out, at, site, expr),
+            BoundExpr::TruthWritten { .. } => self.add_one(out, at, site, expr),
+            BoundExpr::VariantOf { .. } => self.add_one(out, at, site, expr),
+            BoundExpr::StructOf { .. } => self.add_one(out, at, site, expr),
+            BoundExpr::SomeOf { .. } => self.add_one(out, at, site, expr),
         }
     }
 

@@ -115,7 +115,7 @@ pub enum Callee {
 
 /// What rustc reads as one word or mark, or as one name or call of a macro.
 #[derive(Clone, Copy)]
-pub enum Token {
+pub enum RustToken {
     /// A word that is the same in all code.
     Word(Word),
     /// The variable that a site is bound to.
@@ -156,7 +156,7 @@ pub enum Token {
 #[derive(Clone, Copy)]
 pub enum Piece {
     /// A token.
-    Token(Token),
+    Token(RustToken),
     /// A space.
     Space,
     /// The white space before a line that is set in so many times.

@@ -6,7 +6,7 @@ use crate::sites::Variable;
 use cranelift_isle::trie_again::BindingId;
 use spec_formulas::faults::NoCondition;
 use spec_formulas::terms::{NodeId, Terms};
-use spec_values::models::Model;
+use spec_values::models::ValueModel;
 use std::alloc::{AllocError, Global};
 
 /// What is known once all is assumed: what is true of the values of enums beside what is assumed, and the widths and values
@@ -87,7 +87,7 @@ impl<'a, 'b> Maker<'a, 'b> {
     // The width of a variable that is a word of any width, if it is known.
     fn width_of_variable(&self, variable: &Variable<'_>) -> Option<usize> {
         match self.builder.specs.model(variable.ty) {
-            Model::AnyWord => self.width_at(variable.site),
+            ValueModel::AnyWord => self.width_at(variable.site),
             _ => None,
         }
     }

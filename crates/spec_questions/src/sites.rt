@@ -7,8 +7,8 @@ use report_queries::names::{sym_name, term_name};
 use spec_formulas::faults::{NoCondition, missing};
 use spec_formulas::terms::NodeId;
 use spec_values::builder::{Builder, DEEPEST, DEEPEST_VALUE};
-use spec_values::models::Model;
-use spec_values::values::{Value, ValueId, copied};
+use spec_values::models::ValueModel;
+use spec_values::values::{SymbolicValue, ValueId, copied};
 use std::alloc::{AllocError, Global};
 use std::slice;
 
@@ -281,7 +281,7 @@ impl<'b> Sites<'b> {
     ) -> Result<ValueId, NoCondition> {
         check_own_type(builder, ty)?;
         let fields = self.values_at(fields)?;
-        Ok(builder.add(Value::Variant {
+        Ok(builder.add(SymbolicValue::Variant {
             ty,
             variant,
             fields,
@@ -297,7 +297,7 @@ impl<'b> Sites<'b> {
     ) -> Result<ValueId, NoCondition> {
         check_own_type(builder, ty)?;
         let fields = self.values_at(fields)?;
-        Ok(builder.add(Value::Struct { ty, fields })?)
+        Ok(builder.add(SymbolicValue::Struct { ty, fields })?)
     }
 
     // What a constructor gives: what an unknown function does, where it is one, else anything.
@@ -471,7 +471,7 @@ fn literal_at(
 
 // That values of a type stand for themselves.
 fn check_own_type(builder: &Builder<'_>, ty: TypeId) -> Result<(), NoCondition> {
-    if builder.specs.model(ty) == Model::Own {
+    if builder.specs.model(ty) == ValueModel::Own {
         return Ok(());
     }
     Err(missing(String::from_str(

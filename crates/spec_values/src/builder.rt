@@ -1,9 +1,9 @@
 //! A condition that is being built: its formulas and values.
 
 use crate::expressions::pos_of;
-use crate::models::{Model, without_model};
+use crate::models::{ValueModel, without_model};
 use crate::specs::Specs;
-use crate::values::{Shape, Value, ValueId, copied};
+use crate::values::{SymbolicValue, ValueId, ValueShape, copied};
 use cranelift_isle::lower::Lowered;
 use cranelift_isle::sema::{Fields, TermId, Type, TypeId, Variant, VariantId};
 use report_queries::names::sym_name;
@@ -29,9 +29,9 @@ pub struct Builder<'a> {
     /// The terms that are taken as unknown functions, by the functions' numbers.
     pub functions: Vec<TermId>,
     // The values.
-    values: Vec<Value>,
+    values: Vec<SymbolicValue>,
     // What stands for a value that there isn't.
-    unit: Value,
+    unit: SymbolicValue,
     /// Where specs say something of the values that they are asked about: all of these are true.
     pub defined: Vec<NodeId>,
     // Which signature is taken at each call where several fit, and how many were taken.
@@ -72,7 +72,7 @@ impl<'a> Builder<'a> {
             terms: Terms::new(alloc),
             functions: Vec::new(alloc),
             values: Vec::new(alloc),
-            unit: Value::Unit,
+            unit: SymbolicValue::Unit,
             defined: Vec::new(alloc),
             decisions,
             decided: 0,
@@ -94,7 +94,7 @@ impl<'a> Builder<'a> {
     }
 
     /// A new value.
-    pub fn add(&mut self, value: Value) -> Result<ValueId, AllocError> {
+    pub fn add(&mut self, value: SymbolicValue) -> Result<ValueId, AllocError> {
         let id = ValueId(self.values.len());
         self.values.push(value)?;
         Ok(id)
@@ -102,11 +102,11 @@ impl<'a> Builder<'a> {
 
     /// A formula as a value.
     pub fn term_value(&mut self, term: NodeId) -> Result<ValueId, AllocError> {
-        self.add(Value::Term(term))
+        self.add(SymbolicValue::Term(term))
     }
 
     /// A value.
-    pub fn value(&self, id: ValueId) -> &Value {
+    pub fn value(&self, id: ValueId) -> &SymbolicValue {
         match self.values.get(id.0) {
             Some(value) => value,
             None => &self.unit,
@@ -114,7 +114,7 @@ impl<'a> Builder<'a> {
     }
 
     /// What a value is, without its fields and names.
-    pub fn shape(&self, id: ValueId) -> Shape {
+    pub fn shape(&self, id: ValueId) -> ValueShape {
         self.value(id).shape()
     }
 
@@ -124,7 +124,7 @@ impl<'a> Builder<'a> {
     }
 
     /// Puts another value in the place of one that it is equal to.
-    pub fn replace(&mut self, id: ValueId, value: Value) {
+    pub fn replace(&mut self, id: ValueId, value: SymbolicValue) {
         if let Some(entry) = self.values.get_mut(id.0) {
             *entry = value;
         }
@@ -133,7 +133,7 @@ impl<'a> Builder<'a> {
     /// The formula that a value is.
     pub fn term_of(&self, id: ValueId) -> Option<NodeId> {
         match self.shape(id) {
-            Shape::Term(term) => Some(term),
+            ValueShape::Term(term) => Some(term),
             _ => None,
         }
     }
@@ -148,8 +148,8 @@ impl<'a> Builder<'a> {
         fuel: usize,
     ) -> Result<ValueId, NoCondition> {
         match self.specs.model(ty) {
-            Model::Own => self.any_of_own(ty, name, words, fuel),
-            Model::Unit => Ok(self.add(Value::Unit)?),
+            ValueModel::Own => self.any_of_own(ty, name, words, fuel),
+            ValueModel::Unit => Ok(self.add(SymbolicValue::Unit)?),
             model => self.any_term(model, ty, name, words),
         }
     }
@@ -157,7 +157,7 @@ impl<'a> Builder<'a> {
     // Any formula of the sort of a model, that of a type.
     fn any_term(
         &mut self,
-        model: Model,
+        model: ValueModel,
         ty: TypeId,
         name: String,
         words: String,
@@ -171,13 +171,13 @@ impl<'a> Builder<'a> {
     }
 
     // The sort of the values of a model, a new width where words differ in theirs. None where they are no formulas.
-    pub(crate) fn sort_of(&mut self, model: Model) -> Result<Option<Sort>, AllocError> {
+    pub(crate) fn sort_of(&mut self, model: ValueModel) -> Result<Option<Sort>, AllocError> {
         match model {
-            Model::Truth => Ok(Some(Sort::Truth)),
-            Model::Integer => Ok(Some(Sort::Integer)),
-            Model::Word(width) => Ok(Some(Sort::Word(self.terms.widths.add(Some(width))?))),
-            Model::AnyWord => Ok(Some(Sort::Word(self.terms.widths.add(None)?))),
-            Model::Unit | Model::Own | Model::Unknown => Ok(None),
+            ValueModel::Truth => Ok(Some(Sort::Truth)),
+            ValueModel::Integer => Ok(Some(Sort::Integer)),
+            ValueModel::Word(width) => Ok(Some(Sort::Word(self.terms.widths.add(Some(width))?))),
+            ValueModel::AnyWord => Ok(Some(Sort::Word(self.terms.widths.add(None)?))),
+            ValueModel::Unit | ValueModel::Own | ValueModel::Unknown => Ok(None),
         }
     }
 
@@ -200,7 +200,7 @@ impl<'a> Builder<'a> {
             Some(Type::Enum { variants, .. }) => self.any_variant(ty, variants.len(), name, words),
             Some(Type::Struct { fields, .. }) => {
                 let fields = self.any_fields(fields, &name, &words, fuel)?;
-                Ok(self.add(Value::Struct { ty, fields })?)
+                Ok(self.add(SymbolicValue::Struct { ty, fields })?)
             }
             _ => Err(self.modelless(ty)),
         }
@@ -216,7 +216,7 @@ impl<'a> Builder<'a> {
     ) -> Result<ValueId, NoCondition> {
         let tag = self.any_tag(count, &name, &words)?;
         let fields = unopened(self.alloc, count)?;
-        Ok(self.add(Value::Enum {
+        Ok(self.add(SymbolicValue::Enum {
             ty,
             tag,
             name,
@@ -288,9 +288,9 @@ impl<'a> Builder<'a> {
     #[cycle(tag)]
     pub fn tag_of(&mut self, id: ValueId, fuel: usize) -> Result<NodeId, NoCondition> {
         match self.shape(id) {
-            Shape::Enum(_, tag) => Ok(tag),
-            Shape::Variant(ty, variant) => self.tag_literal(ty, variant),
-            Shape::Chosen(_, condition, first, second) => {
+            ValueShape::Enum(_, tag) => Ok(tag),
+            ValueShape::Variant(ty, variant) => self.tag_literal(ty, variant),
+            ValueShape::Chosen(_, condition, first, second) => {
                 self.chosen_tag(condition, first, second, fuel)
             }
             _ => Err(NoCondition::Unsorted),
@@ -331,9 +331,13 @@ impl<'a> Builder<'a> {
     /// That a value is of a variant.
     pub fn is_variant(&mut self, id: ValueId, variant: VariantId) -> Result<NodeId, NoCondition> {
         match self.shape(id) {
-            Shape::Variant(_, known) => Ok(self.terms.truth(known == variant)?),
-            Shape::Enum(ty, _) | Shape::Chosen(ty, _, _, _) => self.has_tag(id, ty, variant),
-            Shape::Term(_) | Shape::Unit | Shape::Struct(_) => Err(NoCondition::Unsorted),
+            ValueShape::Variant(_, known) => Ok(self.terms.truth(known == variant)?),
+            ValueShape::Enum(ty, _) | ValueShape::Chosen(ty, _, _, _) => self.has_tag(
+                id, ty, variant,
+            ),
+            ValueShape::Term(_) | ValueShape::Unit | ValueShape::Struct(_) => Err(
+                NoCondition::Unsorted,
+            ),
         }
     }
 
@@ -352,8 +356,10 @@ impl<'a> Builder<'a> {
     /// The enum of a value.
     pub fn enum_of(&self, id: ValueId) -> Option<TypeId> {
         match self.shape(id) {
-            Shape::Variant(ty, _) | Shape::Enum(ty, _) | Shape::Chosen(ty, _, _, _) => Some(ty),
-            Shape::Term(_) | Shape::Unit | Shape::Struct(_) => None,
+            ValueShape::Variant(ty, _)
+            | ValueShape::Enum(ty, _)
+            | ValueShape::Chosen(ty, _, _, _) => Some(ty),
+            ValueShape::Term(_) | ValueShape::Unit | ValueShape::Struct(_) => None,
         }
     }
 
@@ -376,9 +382,9 @@ impl<'a> Builder<'a> {
         fuel: usize,
     ) -> Result<Option<Vec<ValueId>>, NoCondition> {
         match self.shape(id) {
-            Shape::Variant(_, known) if known == variant => Ok(Some(self.parts(id)?)),
-            Shape::Enum(ty, _) => self.fields_of_any(id, ty, variant, fuel),
-            Shape::Chosen(_, condition, first, second) => {
+            ValueShape::Variant(_, known) if known == variant => Ok(Some(self.parts(id)?)),
+            ValueShape::Enum(ty, _) => self.fields_of_any(id, ty, variant, fuel),
+            ValueShape::Chosen(_, condition, first, second) => {
                 self.chosen_fields(condition, first, second, variant, fuel)
             }
             _ => Ok(None),
@@ -415,7 +421,7 @@ impl<'a> Builder<'a> {
     // The fields of a variant of an unknown value, if they were made.
     fn opened(&self, id: ValueId, variant: VariantId) -> Result<Option<Vec<ValueId>>, AllocError> {
         match self.value(id) {
-            Value::Enum { fields, .. } => match fields.get(variant.index()) {
+            SymbolicValue::Enum { fields, .. } => match fields.get(variant.index()) {
                 Some(Some(fields)) => Ok(Some(copied(self.alloc, fields)?)),
                 _ => Ok(None),
             },
@@ -444,7 +450,7 @@ impl<'a> Builder<'a> {
         let alloc = self.alloc;
         let number = variant.index();
         match self.value(id) {
-            Value::Enum { name, .. } => format!(in alloc; "{name}.v{number}"),
+            SymbolicValue::Enum { name, .. } => format!(in alloc; "{name}.v{number}"),
             _ => Ok(String::new(alloc)),
         }
     }
@@ -452,14 +458,14 @@ impl<'a> Builder<'a> {
     // What an unknown value is, in the words of the rule.
     fn words_of(&self, id: ValueId) -> Result<String, AllocError> {
         match self.value(id) {
-            Value::Enum { words, .. } => words.clone(),
+            SymbolicValue::Enum { words, .. } => words.clone(),
             _ => Ok(String::new(self.alloc)),
         }
     }
 
     // Keeps the fields of a variant of an unknown value.
     fn keep_fields(&mut self, id: ValueId, variant: VariantId, made: Vec<ValueId>) {
-        if let Some(Value::Enum { fields, .. }) = self.values.get_mut(id.0) {
+        if let Some(SymbolicValue::Enum { fields, .. }) = self.values.get_mut(id.0) {
             if let Some(entry) = fields.get_mut(variant.index()) {
                 *entry = Some(made);
             }
@@ -549,9 +555,9 @@ impl<'a> Builder<'a> {
             return Err(self.too_deep());
         }
         match (self.shape(first), self.shape(second)) {
-            (Shape::Term(a), Shape::Term(b)) => self.choose_term(condition, a, b),
-            (Shape::Unit, Shape::Unit) => Ok(first),
-            (Shape::Struct(ty), Shape::Struct(other)) if ty == other => {
+            (ValueShape::Term(a), ValueShape::Term(b)) => self.choose_term(condition, a, b),
+            (ValueShape::Unit, ValueShape::Unit) => Ok(first),
+            (ValueShape::Struct(ty), ValueShape::Struct(other)) if ty == other => {
                 self.choose_struct(condition, ty, first, second, fuel - 1)
             }
             _ => self.choose_variant(condition, first, second),
@@ -585,7 +591,7 @@ impl<'a> Builder<'a> {
         let a = self.parts(first)?;
         let b = self.parts(second)?;
         let fields = self.chosen_of(condition, &a, &b, fuel)?;
-        Ok(self.add(Value::Struct { ty, fields })?)
+        Ok(self.add(SymbolicValue::Struct { ty, fields })?)
     }
 
     // One of two values of an enum.
@@ -596,7 +602,7 @@ impl<'a> Builder<'a> {
         second: ValueId,
     ) -> Result<ValueId, NoCondition> {
         match self.common_enum(first, second) {
-            Some(ty) => Ok(self.add(Value::Chosen {
+            Some(ty) => Ok(self.add(SymbolicValue::Chosen {
                 ty,
                 condition,
                 first,
@@ -616,9 +622,9 @@ impl<'a> Builder<'a> {
             return Err(self.too_deep());
         }
         match (self.shape(a), self.shape(b)) {
-            (Shape::Term(a), Shape::Term(b)) => self.equal_terms(a, b),
-            (Shape::Unit, Shape::Unit) => Ok(self.terms.truth(true)?),
-            (Shape::Struct(ty), Shape::Struct(other)) if ty == other => {
+            (ValueShape::Term(a), ValueShape::Term(b)) => self.equal_terms(a, b),
+            (ValueShape::Unit, ValueShape::Unit) => Ok(self.terms.truth(true)?),
+            (ValueShape::Struct(ty), ValueShape::Struct(other)) if ty == other => {
                 self.equal_parts(a, b, fuel - 1)
             }
             _ => self.equal_variants(a, b, fuel - 1),
@@ -760,7 +766,7 @@ impl<'a> Builder<'a> {
 
     // That a value has one of the variants that there are, if it is an unknown one of an enum.
     fn tag_in_range(&mut self, id: ValueId) -> Result<Option<NodeId>, AllocError> {
-        let Shape::Enum(ty, tag) = self.shape(id) else {
+        let ValueShape::Enum(ty, tag) = self.shape(id) else {
             return Ok(None);
         };
         let count = self.variants_of(ty);

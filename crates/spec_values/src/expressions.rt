@@ -2,8 +2,8 @@
 
 use crate::builder::{Builder, DEEPEST_VALUE};
 use crate::checks::is_other;
-use crate::models::{Model, said_model};
-use crate::values::{Shape, Value, ValueId};
+use crate::models::{ValueModel, said_model};
+use crate::values::{SymbolicValue, ValueId, ValueShape};
 use core_syntax::syntax::{Ident, Pos};
 use cranelift_isle::sema::{Fields, Term, TermId, TermKind, Type, TypeId, VariantId};
 use spec_formulas::faults::{NoCondition, missing, wrong};
@@ -111,7 +111,7 @@ impl<'a> Builder<'a> {
             SpecExpr::ConstInt { val, .. } => self.says_integer(*val),
             SpecExpr::ConstBitVec { val, width, .. } => self.says_word(*val, *width),
             SpecExpr::ConstBool { val, .. } => self.says_truth(*val),
-            SpecExpr::ConstUnit { .. } => Ok(self.add(Value::Unit)?),
+            SpecExpr::ConstUnit { .. } => Ok(self.add(SymbolicValue::Unit)?),
             SpecExpr::Var { var, .. } => self.says_name(scope, var, fuel - 1),
             SpecExpr::Op { op, args, pos } => self.says_list(scope, op, args, *pos, fuel - 1),
             SpecExpr::Cases {
@@ -373,12 +373,12 @@ impl<'a> Builder<'a> {
         values: Vec<ValueId>,
     ) -> Result<ValueId, NoCondition> {
         match &term.kind {
-            TermKind::EnumVariant { variant } => Ok(self.add(Value::Variant {
+            TermKind::EnumVariant { variant } => Ok(self.add(SymbolicValue::Variant {
                 ty: term.ret_ty,
                 variant: *variant,
                 fields: values,
             })?),
-            TermKind::Struct => Ok(self.add(Value::Struct {
+            TermKind::Struct => Ok(self.add(SymbolicValue::Struct {
                 ty: term.ret_ty,
                 fields: values,
             })?),
@@ -415,8 +415,8 @@ impl<'a> Builder<'a> {
         };
         let model = self.specs.model(term.ret_ty);
         let sort = match model {
-            Model::Truth | Model::Integer | Model::Word(_) => self.sort_of(model)?,
-            Model::AnyWord | Model::Unit | Model::Own | Model::Unknown => None,
+            ValueModel::Truth | ValueModel::Integer | ValueModel::Word(_) => self.sort_of(model)?,
+            ValueModel::AnyWord | ValueModel::Unit | ValueModel::Own | ValueModel::Unknown => None,
         };
         let Some(sort) = sort else {
             return Ok(None);
@@ -451,8 +451,10 @@ impl<'a> Builder<'a> {
             return Ok(None);
         }
         match (self.specs.model(ty), self.terms.sort(term)) {
-            (Model::Truth, Sort::Truth) | (Model::Integer, Sort::Integer) => Ok(Some(term)),
-            (Model::Word(width), Sort::Word(known)) => {
+            (ValueModel::Truth, Sort::Truth) | (ValueModel::Integer, Sort::Integer) => Ok(Some(
+                term,
+            )),
+            (ValueModel::Word(width), Sort::Word(known)) => {
                 if !self.terms.widths.set(known, width) {
                     return Err(NoCondition::Unfit);
                 }
@@ -502,8 +504,8 @@ impl<'a> Builder<'a> {
     // The field of a variant that is known or of a struct, by its name.
     fn field_called(&self, value: ValueId, name: &str) -> Option<ValueId> {
         let fields = match self.shape(value) {
-            Shape::Struct(ty) => self.fields_of_struct(ty)?,
-            Shape::Variant(ty, variant) => &self.variant_at(ty, variant)?.fields,
+            ValueShape::Struct(ty) => self.fields_of_struct(ty)?,
+            ValueShape::Variant(ty, variant) => &self.variant_at(ty, variant)?.fields,
             _ => return None,
         };
         let place = self.field_place(fields, name)?;
@@ -982,7 +984,7 @@ impl<'a> Builder<'a> {
         pos: Pos,
     ) -> Result<NodeId, NoCondition> {
         match self.shape(value) {
-            Shape::Struct(_) => {
+            ValueShape::Struct(_) => {
                 let fields = self.parts(value)?;
                 self.bind_all(scope, name, &fields, args, pos)?;
                 Ok(self.terms.truth(true)?)
@@ -1052,11 +1054,11 @@ impl<'a> Builder<'a> {
             return Ok(());
         };
         match (model, self.terms.sort(term)) {
-            (Model::Truth, Sort::Truth)
-            | (Model::Integer, Sort::Integer)
-            | (Model::AnyWord, Sort::Word(_))
-            | (Model::Own | Model::Unknown, _) => Ok(()),
-            (Model::Word(width), Sort::Word(known)) => {
+            (ValueModel::Truth, Sort::Truth)
+            | (ValueModel::Integer, Sort::Integer)
+            | (ValueModel::AnyWord, Sort::Word(_))
+            | (ValueModel::Own | ValueModel::Unknown, _) => Ok(()),
+            (ValueModel::Word(width), Sort::Word(known)) => {
                 if self.terms.widths.set(known, width) {
                     Ok(())
                 } else {

@@ -8,7 +8,7 @@ use text_reader::syntax::ModelType;
 
 /// What the values of a type stand for.
 #[derive(Clone, Copy, PartialEq, Eq)]
-pub enum Model {
+pub enum ValueModel {
     /// Truth values.
     Truth,
     /// Integers.
@@ -27,7 +27,7 @@ pub enum Model {
 
 /// The models of types where no spec says another one, by the types' ids: truth values, words of the bits of built-in integers,
 /// and enums and structs as they are.
-pub fn own_models(alloc: Global, types: &[Type]) -> Result<Vec<Model>, AllocError> {
+pub fn own_models(alloc: Global, types: &[Type]) -> Result<Vec<ValueModel>, AllocError> {
     let mut models = Vec::new(alloc);
     for ty in types {
         models.push(own_model(ty))?;
@@ -36,12 +36,12 @@ pub fn own_models(alloc: Global, types: &[Type]) -> Result<Vec<Model>, AllocErro
 }
 
 // The model of a type where no spec says another one.
-fn own_model(ty: &Type) -> Model {
+fn own_model(ty: &Type) -> ValueModel {
     match ty {
-        Type::Builtin(BuiltinType::Bool) => Model::Truth,
-        Type::Builtin(BuiltinType::Int(int)) => Model::Word(bits_of(*int)),
-        Type::Primitive(..) => Model::Unknown,
-        Type::Enum { .. } | Type::Struct { .. } => Model::Own,
+        Type::Builtin(BuiltinType::Bool) => ValueModel::Truth,
+        Type::Builtin(BuiltinType::Int(int)) => ValueModel::Word(bits_of(*int)),
+        Type::Primitive(..) => ValueModel::Unknown,
+        Type::Enum { .. } | Type::Struct { .. } => ValueModel::Own,
     }
 }
 
@@ -54,18 +54,18 @@ fn bits_of(int: IntType) -> usize {
 pub fn said_model(
     alloc: Global,
     tyenv: &TypeEnv,
-    models: &[Model],
+    models: &[ValueModel],
     said: &ModelType,
-) -> Result<Model, NoCondition> {
+) -> Result<ValueModel, NoCondition> {
     match said {
-        ModelType::Int(_) => Ok(Model::Integer),
-        ModelType::Bool(_) => Ok(Model::Truth),
-        ModelType::Unit(_) => Ok(Model::Unit),
-        ModelType::BitVec(None, _) => Ok(Model::AnyWord),
+        ModelType::Int(_) => Ok(ValueModel::Integer),
+        ModelType::Bool(_) => Ok(ValueModel::Truth),
+        ModelType::Unit(_) => Ok(ValueModel::Unit),
+        ModelType::BitVec(None, _) => Ok(ValueModel::AnyWord),
         ModelType::BitVec(Some(0), pos) => {
             Err(wrong(*pos, String::from_str(alloc, "a word of no bits")))
         }
-        ModelType::BitVec(Some(width), _) => Ok(Model::Word(*width)),
+        ModelType::BitVec(Some(width), _) => Ok(ValueModel::Word(*width)),
         ModelType::Named(name, _) => match tyenv.get_type_by_name(name) {
             Some(ty) => Ok(model_at(models, ty)),
             None => Err(wrong(name.1, format!(in alloc; "no type is called `{}`", name.0))),
@@ -74,10 +74,10 @@ pub fn said_model(
 }
 
 /// The model of a type.
-pub fn model_at(models: &[Model], ty: TypeId) -> Model {
+pub fn model_at(models: &[ValueModel], ty: TypeId) -> ValueModel {
     match models.get(ty.index()) {
         Some(model) => *model,
-        None => Model::Unknown,
+        None => ValueModel::Unknown,
     }
 }
 

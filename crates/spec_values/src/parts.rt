@@ -1,8 +1,8 @@
 //! Parts of values, and what is known of a value that meets what a rule asks.
 
 use crate::builder::{Builder, DEEPEST_VALUE};
-use crate::models::Model;
-use crate::values::{Value, ValueId};
+use crate::models::ValueModel;
+use crate::values::{SymbolicValue, ValueId};
 use cranelift_isle::sema::{TypeId, VariantId};
 use spec_formulas::faults::{NoCondition, missing};
 use spec_formulas::terms::NodeId;
@@ -11,8 +11,8 @@ impl<'a> Builder<'a> {
     /// What an integer of a type stands for. None where the type's model has no integers and no words.
     pub fn literal_of(&mut self, val: i128, ty: TypeId) -> Result<Option<ValueId>, NoCondition> {
         let term = match self.specs.model(ty) {
-            Model::Integer => self.terms.integer(val)?,
-            Model::Word(width) => self.terms.word(val, width)?,
+            ValueModel::Integer => self.terms.integer(val)?,
+            ValueModel::Word(width) => self.terms.word(val, width)?,
             _ => return Ok(None),
         };
         Ok(Some(self.term_value(term)?))
@@ -46,7 +46,7 @@ impl<'a> Builder<'a> {
         place: usize,
     ) -> Result<ValueId, NoCondition> {
         match self.value(value) {
-            Value::Struct { fields, .. } => self.field_among(fields, place),
+            SymbolicValue::Struct { fields, .. } => self.field_among(fields, place),
             _ => Err(self.opaque()),
         }
     }
@@ -74,7 +74,7 @@ impl<'a> Builder<'a> {
         if let Some(fields) = self.fields_as(value, variant, DEEPEST_VALUE)? {
             self.replace(
                 value,
-                Value::Variant {
+                SymbolicValue::Variant {
                     ty,
                     variant,
                     fields,
@@ -97,7 +97,7 @@ impl<'a> Builder<'a> {
         }
         facts.push(equal)?;
         if let Some(term) = self.term_of(wanted) {
-            self.replace(value, Value::Term(term));
+            self.replace(value, SymbolicValue::Term(term));
         }
         Ok(())
     }

@@ -1,6 +1,6 @@
 //! Specs, looked up: which term, type or constant each of them is of.
 
-use crate::models::{Model, model_at, own_models, said_model};
+use crate::models::{ValueModel, model_at, own_models, said_model};
 use core_syntax::syntax::{Ident, Pos};
 use cranelift_isle::lower::Lowered;
 use cranelift_isle::sema::{Sym, TermId, TypeId};
@@ -36,7 +36,7 @@ pub struct Specs<'a> {
     /// What is said of each term, by the terms' ids.
     pub terms: Vec<TermSpec<'a>>,
     /// The models of types, by the types' ids.
-    pub models: Vec<Model>,
+    pub models: Vec<ValueModel>,
     /// The constants with models.
     pub constants: Vec<ConstantModel<'a>>,
     /// Expressions with names.
@@ -96,7 +96,7 @@ impl<'a> Specs<'a> {
     }
 
     /// The model of a type.
-    pub fn model(&self, ty: TypeId) -> Model {
+    pub fn model(&self, ty: TypeId) -> ValueModel {
         model_at(&self.models, ty)
     }
 
@@ -510,7 +510,7 @@ fn note(
 fn note_model(
     specs: &mut Specs<'_>,
     ty: TypeId,
-    model: Result<Model, NoCondition>,
+    model: Result<ValueModel, NoCondition>,
     errors: &mut Vec<SpecError>,
 ) -> Result<(), AllocError> {
     match model {

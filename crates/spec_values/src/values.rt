@@ -9,7 +9,7 @@ use std::alloc::{AllocError, Global};
 pub struct ValueId(pub usize);
 
 /// A value: a formula, or a variant or a struct of values.
-pub enum Value {
+pub enum SymbolicValue {
     /// A truth value, an integer or a word.
     Term(NodeId),
     /// A value of which there is one alone.
@@ -57,25 +57,25 @@ pub enum Value {
 }
 
 // Written out, and so proved here once.
-impl Drop for Value {
+impl Drop for SymbolicValue {
     fn drop(self) {
         match self {
-            Value::Term(_) => {}
-            Value::Unit => {}
-            Value::Variant {
+            SymbolicValue::Term(_) => {}
+            SymbolicValue::Unit => {}
+            SymbolicValue::Variant {
                 ty: _,
                 variant: _,
                 fields: _,
             } => {}
-            Value::Enum {
+            SymbolicValue::Enum {
                 ty: _,
                 tag: _,
                 name: _,
                 words: _,
                 fields: _,
             } => {}
-            Value::Struct { ty: _, fields: _ } => {}
-            Value::Chosen {
+            SymbolicValue::Struct { ty: _, fields: _ } => {}
+            SymbolicValue::Chosen {
                 ty: _,
                 condition: _,
                 first: _,
@@ -87,7 +87,7 @@ impl Drop for Value {
 
 /// What a value is, without its fields and names.
 #[derive(Clone, Copy)]
-pub enum Shape {
+pub enum ValueShape {
     /// A formula.
     Term(NodeId),
     /// A value of which there is one alone.
@@ -102,29 +102,33 @@ pub enum Shape {
     Chosen(TypeId, NodeId, ValueId, ValueId),
 }
 
-impl Value {
+impl SymbolicValue {
     /// What the value is, without its fields and names.
-    pub fn shape(&self) -> Shape {
+    pub fn shape(&self) -> ValueShape {
         match self {
-            Value::Term(term) => Shape::Term(*term),
-            Value::Unit => Shape::Unit,
-            Value::Variant { ty, variant, .. } => Shape::Variant(*ty, *variant),
-            Value::Enum { ty, tag, .. } => Shape::Enum(*ty, *tag),
-            Value::Struct { ty, .. } => Shape::Struct(*ty),
-            Value::Chosen {
+            SymbolicValue::Term(term) => ValueShape::Term(*term),
+            SymbolicValue::Unit => ValueShape::Unit,
+            SymbolicValue::Variant { ty, variant, .. } => ValueShape::Variant(*ty, *variant),
+            SymbolicValue::Enum { ty, tag, .. } => ValueShape::Enum(*ty, *tag),
+            SymbolicValue::Struct { ty, .. } => ValueShape::Struct(*ty),
+            SymbolicValue::Chosen {
                 ty,
                 condition,
                 first,
                 second,
-            } => Shape::Chosen(*ty, *condition, *first, *second),
+            } => ValueShape::Chosen(*ty, *condition, *first, *second),
         }
     }
 
     /// The fields of a variant that is known or of a struct. Others have none.
     pub fn parts(&self) -> &[ValueId] {
         match self {
-            Value::Variant { fields, .. } | Value::Struct { fields, .. } => fields.as_slice(),
-            Value::Term(_) | Value::Unit | Value::Enum { .. } | Value::Chosen { .. } => &[],
+            SymbolicValue::Variant { fields, .. } | SymbolicValue::Struct { fields, .. } =>
+                fields.as_slice(),
+            SymbolicValue::Term(_)
+            | SymbolicValue::Unit
+            | SymbolicValue::Enum { .. }
+            | SymbolicValue::Chosen { .. } => &[],
         }
     }
 }

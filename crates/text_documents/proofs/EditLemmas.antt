@@ -3,7 +3,7 @@ use Rattle.std.proofs.Common.{◌≡◌, ℕ, true, List, [], ◌∷◌, ◌++�
 use Rattle.std.specs.Str.{all_scalars}
 use Rattle.std.proofs.lemmas.Bool.{and_parts}
 use Rattle.std.proofs.lemmas.Str.{encodes-append, encodes-chars, scalars-chars, IsCharBoundary-at_seam}
-use Rattle.text_documents.specs.declared.places.Place.{Place}
+use Rattle.text_documents.specs.declared.places.DocumentPosition.{DocumentPosition}
 use Rattle.text_documents.specs.Places.{IsCutAt, IsOffsetOf, IsRange, IsEdit, replaced}
 use Rattle.text_documents.proofs.OffsetLemmas.{offset_one}
 
@@ -18,20 +18,20 @@ cut_boundary bytes front back offset u cut =
     subst (IsCharBoundary bytes) cut.bytes (IsCharBoundary-at_seam bytes (encode_utf8_all front) (encode_utf8_all back) e (back, (s, refl)))
 
 -- a place's offset is at the boundary of a character
-pub offset_boundary : (bytes : List ℕ) (place : Place) (offset : ℕ) → IsUtf8 bytes → IsOffsetOf (chars bytes) place offset → IsCharBoundary bytes offset
+pub offset_boundary : (bytes : List ℕ) (place : DocumentPosition) (offset : ℕ) → IsUtf8 bytes → IsOffsetOf (chars bytes) place offset → IsCharBoundary bytes offset
 offset_boundary bytes place offset u (inl h) = cut_boundary bytes h.front h.back offset u h.cut
 offset_boundary bytes place offset u (inr h) = cut_boundary bytes h.front h.back offset u h.cut
 
 -- a range is one
-pub range_one : (text : List ℕ) (begin end : Place) (a b c d : ℕ) → IsRange text begin end a b → IsRange text begin end c d → (a ≡ c) × (b ≡ d)
+pub range_one : (text : List ℕ) (begin end : DocumentPosition) (a b c d : ℕ) → IsRange text begin end a b → IsRange text begin end c d → (a ≡ c) × (b ≡ d)
 range_one text begin end a b c d h k = (offset_one text begin a c h.begins k.begins, offset_one text end b d h.ends k.ends)
 
-pub range_same : (text : List ℕ) (begin end : Place) (a b c d : ℕ) → IsRange text begin end a b → IsRange text begin end c d
+pub range_same : (text : List ℕ) (begin end : DocumentPosition) (a b c d : ℕ) → IsRange text begin end a b → IsRange text begin end c d
     → (let x : Option (ℕ × ℕ) = Some (a, b) in let y : Option (ℕ × ℕ) = Some (c, d) in x ≡ y)
 range_same text begin end a b c d h k = let e = range_one text begin end a b c d h k in ap₂ (λ (x y : ℕ). Some (x, y)) e.0 e.1
 
 -- an edit has one outcome
-pub edit_one : (bytes : List ℕ) (begin end : Place) (new made other : List ℕ) → IsEdit bytes begin end new made → IsEdit bytes begin end new other → made ≡ other
+pub edit_one : (bytes : List ℕ) (begin end : DocumentPosition) (new made other : List ℕ) → IsEdit bytes begin end new made → IsEdit bytes begin end new other → made ≡ other
 edit_one bytes begin end new made other h k =
     let e = range_one (chars bytes) begin end h.from h.to k.from k.to h.range k.range in
     h.is ∙ ap₂ (λ a b. replaced bytes a b new) e.0 e.1 ∙ sym k.is

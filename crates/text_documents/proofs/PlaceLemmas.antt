@@ -2,7 +2,7 @@
 use Rattle.std.proofs.Common.{◌≡◌, ℕ, zero, suc, ◌+◌, ◌-◌, ◌≤◌, Bool, true, false, ◌==◌, nat_lt, List, [], ◌∷◌, ◌++◌, ◌⊎◌, Option, Some, None, IfSome, IfNone, unwrap_or, refl, sym, ap, ap₂, ◌∙◌, subst, inl, inr, arith, append_assoc, append-nil, add-zero, zero-add, eqb-true, ne_eqb, le-ltb, ltb-false}
 use Rattle.std.proofs.lemmas.Bool.{cases_Bool}
 use Rattle.std.proofs.lemmas.List.Sums.{sum_by_push}
-use Rattle.text_documents.specs.declared.places.Place.{Place}
+use Rattle.text_documents.specs.declared.places.DocumentPosition.{DocumentPosition}
 use Rattle.text_documents.specs.Lines.{End, feed, return_feed, return, ending, is_break, IsUnbroken, begins_with_feed, MayFollow, AreLines}
 use Rattle.text_documents.specs.Places.{units, units_of, size, IsBetween, IsCutAt, IsPlaceAt, IsOffsetOf, IsInEnd}
 use Rattle.text_documents.specs.Walks.{place_past, place_after}
@@ -10,30 +10,30 @@ use Rattle.text_documents.proofs.SizeLemmas.{width, width_pos, size_more, size-a
 use Rattle.text_documents.proofs.LineLemmas.{no_break, unbroken_first, unbroken_rest, unbroken_cons, IsUnbroken-append, regrouped, AreLines-more}
 use Rattle.text_documents.proofs.UnitLemmas.{units_more}
 
-abbrev pub at : ℕ → ℕ → Place
+abbrev pub at : ℕ → ℕ → DocumentPosition
 at line character = record { line = line; character = character }
 
 -- ---- one character
-place_step : (p : Place) (r : Bool) (left c : ℕ) (cs : List ℕ) → place_after p r (width c + left) (c ∷ cs) ≡ place_after (place_past p r c) (c == 13) left cs
+place_step : (p : DocumentPosition) (r : Bool) (left c : ℕ) (cs : List ℕ) → place_after p r (width c + left) (c ∷ cs) ≡ place_after (place_past p r c) (c == 13) left cs
 place_step p r left c cs =
     let e : ((width c + left) == 0) ≡ false = ne_eqb (width c + left) 0 (λ k. omega (arith, width_pos c, k)) in
     let f : nat_lt (width c + left) (width c) ≡ false = le-ltb (width c + left) (width c) (omega arith) in
     let g : (width c + left) - width c ≡ left = omega arith in
     rw (e, f, g) refl
 
-place_here : (p : Place) (cs : List ℕ) → place_after p false 0 cs ≡ Some p
+place_here : (p : DocumentPosition) (cs : List ℕ) → place_after p false 0 cs ≡ Some p
 place_here p [] = refl
 place_here p (c ∷ cs) = refl
 
 -- behind \r, where no \n follows
-place_return : (p : Place) (left : ℕ) (cs : List ℕ) → begins_with_feed cs ≡ false → place_after p true left cs ≡ place_after p false left cs
+place_return : (p : DocumentPosition) (left : ℕ) (cs : List ℕ) → begins_with_feed cs ≡ false → place_after p true left cs ≡ place_after p false left cs
 place_return p left [] h = refl
 place_return p left (c ∷ cs) h = rw h refl
 
-plain_past : (p : Place) (r : Bool) (c : ℕ) → is_break c ≡ false → place_past p r c ≡ at p.line (p.character + units c)
+plain_past : (p : DocumentPosition) (r : Bool) (c : ℕ) → is_break c ≡ false → place_past p r c ≡ at p.line (p.character + units c)
 plain_past p r c h = let n = no_break c h in rw (n.no_feed, n.no_return) refl
 
-plain_step : (p : Place) (r : Bool) (left c : ℕ) (cs : List ℕ) → is_break c ≡ false → place_after p r (width c + left) (c ∷ cs) ≡ place_after (at p.line (p.character + units c)) false left cs
+plain_step : (p : DocumentPosition) (r : Bool) (left c : ℕ) (cs : List ℕ) → is_break c ≡ false → place_after p r (width c + left) (c ∷ cs) ≡ place_after (at p.line (p.character + units c)) false left cs
 plain_step p r left c cs h =
     place_step p r left c cs
     ∙ ap (λ q. place_after q (c == 13) left cs) (plain_past p r c h)
@@ -78,7 +78,7 @@ place_lines (suc n) front rest l left h =
     ∙ ap (λ k. place_after (at k 0) false left rest) f
 
 -- a place between a front and its back is found
-pub between_place : (p : Place) (front back : List ℕ) → IsBetween p front back → place_after (at 0 0) false (size front) (front ++ back) ≡ Some p
+pub between_place : (p : DocumentPosition) (front back : List ℕ) → IsBetween p front back → place_after (at 0 0) false (size front) (front ++ back) ≡ Some p
 between_place p front back b =
     let i = b.in_line in
     let e : size (i.above ++ b.begun) ≡ size i.above + (size b.begun + 0) = omega (arith, size-append i.above b.begun) in
@@ -91,7 +91,7 @@ between_place p front back b =
     ∙ ap₂ (λ l c. Some (at l c)) (zero-add p.line) (zero-add (units_of b.begun) ∙ b.character)
 
 -- none is found between \r and \n
-end_place : (before : List ℕ) (p : Place) (r : Bool) (after : List ℕ) → place_after p r (size (before ++ 13 ∷ [])) ((before ++ 13 ∷ []) ++ 10 ∷ after) ≡ None
+end_place : (before : List ℕ) (p : DocumentPosition) (r : Bool) (after : List ℕ) → place_after p r (size (before ++ 13 ∷ [])) ((before ++ 13 ∷ []) ++ 10 ∷ after) ≡ None
 end_place [] p r after =
     let e : size (13 ∷ []) ≡ width 13 + 0 = size_more 13 [] in
     ap (λ n. place_after p r n (13 ∷ 10 ∷ after)) e ∙ place_step p r 0 13 (10 ∷ after)
@@ -104,7 +104,7 @@ pub in_end_place : (front back : List ℕ) → IsInEnd front back → place_afte
 in_end_place front back h = ap₂ (λ x y. place_after (at 0 0) false (size x) (x ++ y)) h.front_is h.back_is ∙ end_place h.before (at 0 0) false h.after
 
 -- ---- each cut has a place, but those between \r and \n
-grow_char : (p : Place) (front : List ℕ) (c : ℕ) (cs : List ℕ) → is_break c ≡ false → IsBetween p front (c ∷ cs) → IsBetween (at p.line (p.character + units c)) (front ++ c ∷ []) cs
+grow_char : (p : DocumentPosition) (front : List ℕ) (c : ℕ) (cs : List ℕ) → is_break c ≡ false → IsBetween p front (c ∷ cs) → IsBetween (at p.line (p.character + units c)) (front ++ c ∷ []) cs
 grow_char p front c cs h b =
     let i = b.in_line in record {
       begun = b.begun ++ c ∷ [];
@@ -117,7 +117,7 @@ grow_char p front c cs h b =
       character = sum_by_push units b.begun c ∙ ap (λ k. k + units c) b.character;
     }
 
-grow_end : (p : Place) (front : List ℕ) (end : End) (cs : List ℕ) → MayFollow end cs → IsBetween p front (ending end ++ cs) → IsBetween (at (suc p.line) 0) (front ++ ending end) cs
+grow_end : (p : DocumentPosition) (front : List ℕ) (end : End) (cs : List ℕ) → MayFollow end cs → IsBetween p front (ending end ++ cs) → IsBetween (at (suc p.line) 0) (front ++ ending end) cs
 grow_end p front end cs m b =
     let i = b.in_line in record {
       begun = [];
@@ -132,16 +132,16 @@ grow_end p front end cs m b =
     }
 
 abbrev pub HasPlace : List ℕ → List ℕ → Type 0
-HasPlace front back = IsInEnd front back ⊎ ((p : Place) × IsBetween p front back)
+HasPlace front back = IsInEnd front back ⊎ ((p : DocumentPosition) × IsBetween p front back)
 
 abbrev Goes : List ℕ → Type 0
-Goes cs = (front back : List ℕ) (p : Place) → IsBetween p front (cs ++ back) → HasPlace (front ++ cs) back
+Goes cs = (front back : List ℕ) (p : DocumentPosition) → IsBetween p front (cs ++ back) → HasPlace (front ++ cs) back
 
 nothing : Goes []
 nothing front back p b = inr (p, subst (λ x. IsBetween p x back) (sym (append-nil front)) b)
 
 -- past an end that these characters begin with
-end_goes : (end : End) (ds : List ℕ) → Goes ds → (front back : List ℕ) (p : Place) → MayFollow end (ds ++ back) → IsBetween p front (ending end ++ (ds ++ back)) → HasPlace (front ++ (ending end ++ ds)) back
+end_goes : (end : End) (ds : List ℕ) → Goes ds → (front back : List ℕ) (p : DocumentPosition) → MayFollow end (ds ++ back) → IsBetween p front (ending end ++ (ds ++ back)) → HasPlace (front ++ (ending end ++ ds)) back
 end_goes end ds h front back p m b =
     subst (λ x. HasPlace x back) (append_assoc front (ending end) ds) (h (front ++ ending end) back (at (suc p.line) 0) (grow_end p front end (ds ++ back) m b))
 
@@ -152,7 +152,7 @@ char_goes : (d : ℕ) (ds : List ℕ) → is_break d ≡ false → Goes ds → G
 char_goes d ds n h front back p b =
     subst (λ x. HasPlace x back) (append_assoc front (d ∷ []) ds) (h (front ++ d ∷ []) back (at p.line (p.character + units d)) (grow_char p front d (ds ++ back) n b))
 
-return_last : (back front : List ℕ) (p : Place) → IsBetween p front (13 ∷ back) → HasPlace (front ++ 13 ∷ []) back
+return_last : (back front : List ℕ) (p : DocumentPosition) → IsBetween p front (13 ∷ back) → HasPlace (front ++ 13 ∷ []) back
 return_last [] front p b = inr (at (suc p.line) 0, grow_end p front return [] refl b)
 return_last (x ∷ xs) front p b = elim (cases_Bool (x == 10)) [
   | inl e ↦ inl (record { before = front; after = xs; front_is = refl; back_is = ap (λ y. y ∷ xs) (eqb-true x 10 e) })
@@ -191,11 +191,11 @@ has_place front back = (goes front).0 [] back (at 0 0) (at_start (front ++ back)
 abbrev HasCut : List ℕ → ℕ → Type 0
 HasCut text offset = (front : List ℕ) × (back : List ℕ) × IsCutAt text offset front back
 
-any : (o : Option Place) (A : Type 0) → A → IfSome o (λ _. A)
+any : (o : Option DocumentPosition) (A : Type 0) → A → IfSome o (λ _. A)
 any None A a = tt
 any (Some p) A a = a
 
-map_any : (o : Option Place) (A B : Type 0) → (A → B) → IfSome o (λ _. A) → IfSome o (λ _. B)
+map_any : (o : Option DocumentPosition) (A B : Type 0) → (A → B) → IfSome o (λ _. A) → IfSome o (λ _. B)
 map_any None A B f h = tt
 map_any (Some p) A B f h = f h
 
@@ -205,7 +205,7 @@ at_front text left e = ([], text, record { parts = refl; bytes = sym (eqb-true l
 further : (c : ℕ) (cs : List ℕ) (left : ℕ) → width c ≤ left → HasCut cs (left - width c) → HasCut (c ∷ cs) left
 further c cs left l h = (c ∷ h.0, h.1, record { parts = ap (λ x. c ∷ x) h.2.parts; bytes = omega (arith, size_more c h.0, h.2.bytes, l) })
 
-place_cut : (cs : List ℕ) (p : Place) (r : Bool) (left : ℕ) → IfSome (place_after p r left cs) (λ _. HasCut cs left)
+place_cut : (cs : List ℕ) (p : DocumentPosition) (r : Bool) (left : ℕ) → IfSome (place_after p r left cs) (λ _. HasCut cs left)
 place_cut [] p r left = elim (cases_Bool (left == 0)) [
   | inl e ↦ any (place_after p r left []) (HasCut [] left) (at_front [] left e)
   | inr e ↦ (let q : place_after p r left [] ≡ None = rw e refl in subst (λ o. IfSome o (λ _. HasCut [] left)) (sym q) tt)
@@ -222,37 +222,37 @@ place_cut (c ∷ cs) p r left = elim (cases_Bool (left == 0)) [
 ]
 
 -- ---- offsets and places
-abbrev pub place_of : List ℕ → ℕ → Option Place
+abbrev pub place_of : List ℕ → ℕ → Option DocumentPosition
 place_of text offset = place_after (at 0 0) false offset text
 
-cut_place : (text front back : List ℕ) (offset : ℕ) (o : Option Place) → IsCutAt text offset front back → place_after (at 0 0) false (size front) (front ++ back) ≡ o → place_of text offset ≡ o
+cut_place : (text front back : List ℕ) (offset : ℕ) (o : Option DocumentPosition) → IsCutAt text offset front back → place_after (at 0 0) false (size front) (front ++ back) ≡ o → place_of text offset ≡ o
 cut_place text front back offset o cut e = ap₂ (λ t n. place_after (at 0 0) false n t) cut.parts (sym cut.bytes) ∙ e
 
-pub place_only : (text : List ℕ) (offset : ℕ) (p : Place) → IsPlaceAt text offset p → place_of text offset ≡ Some p
+pub place_only : (text : List ℕ) (offset : ℕ) (p : DocumentPosition) → IsPlaceAt text offset p → place_of text offset ≡ Some p
 place_only text offset p h = cut_place text h.front h.back offset (Some p) h.cut (between_place p h.front h.back h.between)
 
 -- an offset has one place
-pub place_one : (text : List ℕ) (offset : ℕ) (p q : Place) → IsPlaceAt text offset p → IsPlaceAt text offset q → p ≡ q
+pub place_one : (text : List ℕ) (offset : ℕ) (p q : DocumentPosition) → IsPlaceAt text offset p → IsPlaceAt text offset q → p ≡ q
 place_one text offset p q h k = ap (λ o. unwrap_or o p) (sym (place_only text offset p h) ∙ place_only text offset q k)
 
 in_end_none : (text front back : List ℕ) (offset : ℕ) → IsCutAt text offset front back → IsInEnd front back → place_of text offset ≡ None
 in_end_none text front back offset cut h = cut_place text front back offset None cut (in_end_place front back h)
 
 -- no place is between \r and \n
-pub end_no_place : (p : Place) (front back : List ℕ) → IsInEnd front back → IsBetween p front back → ⊥
+pub end_no_place : (p : DocumentPosition) (front back : List ℕ) → IsInEnd front back → IsBetween p front back → ⊥
 end_no_place p front back h b = let e = sym (in_end_place front back h) ∙ between_place p front back b in cc
 
-pub each_cut : (text front back : List ℕ) (offset : ℕ) → IsCutAt text offset front back → IsInEnd front back ⊎ ((p : Place) × IsPlaceAt text offset p)
+pub each_cut : (text front back : List ℕ) (offset : ℕ) → IsCutAt text offset front back → IsInEnd front back ⊎ ((p : DocumentPosition) × IsPlaceAt text offset p)
 each_cut text front back offset cut = elim (has_place front back) [
   | inl h ↦ inl h
   | inr h ↦ inr (h.0, record { front = front; back = back; cut = cut; between = h.1 })
 ]
 
-from_some : (o : Option Place) (p : Place) (A : Type 0) → o ≡ Some p → IfSome o (λ _. A) → A
+from_some : (o : Option DocumentPosition) (p : DocumentPosition) (A : Type 0) → o ≡ Some p → IfSome o (λ _. A) → A
 from_some None p A e h = let no : ⊥ = cc in absurd no
 from_some (Some q) p A e h = h
 
-pub place_found : (text : List ℕ) (offset : ℕ) (p : Place) → place_of text offset ≡ Some p → IsPlaceAt text offset p
+pub place_found : (text : List ℕ) (offset : ℕ) (p : DocumentPosition) → place_of text offset ≡ Some p → IsPlaceAt text offset p
 place_found text offset p e =
     let c = from_some (place_of text offset) p (HasCut text offset) e (place_cut text (at 0 0) false offset) in
     elim (each_cut text c.0 c.1 offset c.2) [
@@ -260,7 +260,7 @@ place_found text offset p e =
       | inr h ↦ subst (IsPlaceAt text offset) (ap (λ o. unwrap_or o p) (sym (place_only text offset h.0 h.1) ∙ e)) h.1
     ]
   where
-    impossible : (p : Place) → (let none : Option Place = None in none ≡ Some p) → ⊥
+    impossible : (p : DocumentPosition) → (let none : Option DocumentPosition = None in none ≡ Some p) → ⊥
     impossible p h = cc
 
 pub place_none : (text : List ℕ) (offset : ℕ) → place_of text offset ≡ None → (front back : List ℕ) → IsCutAt text offset front back → IsInEnd front back
@@ -269,34 +269,34 @@ place_none text offset e front back cut = elim (each_cut text front back offset 
   | inr h ↦ (let no = sym e ∙ place_only text offset h.0 h.1 in absurd (impossible h.0 no))
 ]
   where
-    impossible : (p : Place) → (let none : Option Place = None in none ≡ Some p) → ⊥
+    impossible : (p : DocumentPosition) → (let none : Option DocumentPosition = None in none ≡ Some p) → ⊥
     impossible p h = cc
 
 -- the clauses of `place_at`, of what the walk gives
-pub place_clause : (text : List ℕ) (offset : ℕ) (o : Option Place) → o ≡ place_of text offset → IfSome o (IsPlaceAt text offset)
+pub place_clause : (text : List ℕ) (offset : ℕ) (o : Option DocumentPosition) → o ≡ place_of text offset → IfSome o (IsPlaceAt text offset)
 place_clause text offset None e = tt
 place_clause text offset (Some p) e = place_found text offset p (sym e)
 
-pub none_clause : (text : List ℕ) (offset : ℕ) (o : Option Place) → o ≡ place_of text offset → IfNone o ((front back : List ℕ) → IsCutAt text offset front back → IsInEnd front back)
+pub none_clause : (text : List ℕ) (offset : ℕ) (o : Option DocumentPosition) → o ≡ place_of text offset → IfNone o ((front back : List ℕ) → IsCutAt text offset front back → IsInEnd front back)
 none_clause text offset None e = place_none text offset (sym e)
 none_clause text offset (Some p) e = tt
 
 -- ---- there and back
-pub offset_place : (text : List ℕ) (place : Place) (offset : ℕ) → IsOffsetOf text place offset → (p : Place) × IsPlaceAt text offset p
+pub offset_place : (text : List ℕ) (place : DocumentPosition) (offset : ℕ) → IsOffsetOf text place offset → (p : DocumentPosition) × IsPlaceAt text offset p
 offset_place text place offset (inl h) = (place, h)
 offset_place text place offset (inr h) = (
   at place.line (units_of h.past.begun),
   record { front = h.front; back = h.back; cut = h.cut; between = record { begun = h.past.begun; in_line = h.past.in_line; character = refl } },
 )
 
-pub offset_again_place : (text : List ℕ) (offset : ℕ) (o : Option ℕ) (p : Place) → IsPlaceAt text offset p → IfSome o (λ _. (q : Place) × IsPlaceAt text offset q)
+pub offset_again_place : (text : List ℕ) (offset : ℕ) (o : Option ℕ) (p : DocumentPosition) → IsPlaceAt text offset p → IfSome o (λ _. (q : DocumentPosition) × IsPlaceAt text offset q)
 offset_again_place text offset None p h = tt
 offset_again_place text offset (Some x) p h = (p, h)
 
-pub place_again_found : (text : List ℕ) (place : Place) (offset : ℕ) (o : Option Place) → IsOffsetOf text place offset → IfSome o (IsPlaceAt text offset)
+pub place_again_found : (text : List ℕ) (place : DocumentPosition) (offset : ℕ) (o : Option DocumentPosition) → IsOffsetOf text place offset → IfSome o (IsPlaceAt text offset)
     → IfSome o (λ p. (n : ℕ) × IsOffsetOf text place n × IsPlaceAt text n p)
 place_again_found text place offset None h k = tt
 place_again_found text place offset (Some p) h k = (offset, h, k)
 
-pub place_again_none : (text : List ℕ) (place : Place) (offset : ℕ) (o : Option Place) (A : Type 0) → IsOffsetOf text place offset → ((p : Place) → IsPlaceAt text offset p → o ≡ Some p) → IfNone o A
+pub place_again_none : (text : List ℕ) (place : DocumentPosition) (offset : ℕ) (o : Option DocumentPosition) (A : Type 0) → IsOffsetOf text place offset → ((p : DocumentPosition) → IsPlaceAt text offset p → o ≡ Some p) → IfNone o A
 place_again_none text place offset o A h only = let p = offset_place text place offset h in subst (λ r. IfNone r A) (sym (only p.0 p.1)) tt

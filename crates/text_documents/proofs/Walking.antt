@@ -6,7 +6,7 @@ use Rattle.std.proofs.lemmas.Str.{chars_past_char, chars-nil, length-encode, len
 use Rattle.std.specs.Option.{SomeIff}
 use Rattle.std.proofs.lemmas.Bool.{cases_Bool, cases_lt}
 use Rattle.std.proofs.lemmas.Option.{none-some, same_Some}
-use Rattle.text_documents.specs.declared.places.Place.{Place}
+use Rattle.text_documents.specs.declared.places.DocumentPosition.{DocumentPosition}
 use Rattle.text_documents.specs.Lines.{is_break}
 use Rattle.text_documents.specs.Places.{units}
 use Rattle.text_documents.specs.Walks.{after_line, after_lines, after_units, next_line, place_past, place_after, without_feed}
@@ -86,11 +86,11 @@ pub units_end : (n : ℕ) (bytes : List ℕ) (whole : Option (List ℕ)) → aft
 units_end n bytes whole w e = ap (λ x. Some x) (ap chars (nil_from_length bytes e) ∙ chars-nil) ∙ at_end (after_units n) bytes whole e w
 
 -- ---- one character of a walk
-pub walk_stop : (p : Place) (r : Bool) (n c : ℕ) (bytes rest : List ℕ) (whole : Option Place) → IsUtf8 bytes → bytes ≡ encode_utf8 c ++ rest → place_after p r n (chars bytes) ≡ whole → n ≡ 0
+pub walk_stop : (p : DocumentPosition) (r : Bool) (n c : ℕ) (bytes rest : List ℕ) (whole : Option DocumentPosition) → IsUtf8 bytes → bytes ≡ encode_utf8 c ++ rest → place_after p r n (chars bytes) ≡ whole → n ≡ 0
     → (if r && c == 10 then None else Some p) ≡ whole
 walk_stop p r n c bytes rest whole u e w z = ap (λ k. place_after p r k (c ∷ chars rest)) (sym z) ∙ one_on (place_after p r n) bytes rest c whole u e w
 
-pub walk_short : (p : Place) (r : Bool) (n c : ℕ) (o : Option ℕ) (bytes rest : List ℕ) (whole : Option Place) → IsUtf8 bytes → bytes ≡ encode_utf8 c ++ rest → place_after p r n (chars bytes) ≡ whole
+pub walk_short : (p : DocumentPosition) (r : Bool) (n c : ℕ) (o : Option ℕ) (bytes rest : List ℕ) (whole : Option DocumentPosition) → IsUtf8 bytes → bytes ≡ encode_utf8 c ++ rest → place_after p r n (chars bytes) ≡ whole
     → (n ≡ 0 → ⊥) → SomeIff o (width c ≤ n) (n - width c) → o ≡ None → None ≡ whole
 walk_short p r n c o bytes rest whole u e w nz s none =
     let a : (n == 0) ≡ false = ne_eqb n 0 nz in
@@ -98,7 +98,7 @@ walk_short p r n c o bytes rest whole u e w nz s none =
     let q : place_after p r n (c ∷ chars rest) ≡ None = rw (a, b) refl in
     sym q ∙ one_on (place_after p r n) bytes rest c whole u e w
 
-pub walk_on : (p : Place) (r : Bool) (n m c : ℕ) (o : Option ℕ) (bytes rest : List ℕ) (whole : Option Place) → IsUtf8 bytes → bytes ≡ encode_utf8 c ++ rest → place_after p r n (chars bytes) ≡ whole
+pub walk_on : (p : DocumentPosition) (r : Bool) (n m c : ℕ) (o : Option ℕ) (bytes rest : List ℕ) (whole : Option DocumentPosition) → IsUtf8 bytes → bytes ≡ encode_utf8 c ++ rest → place_after p r n (chars bytes) ≡ whole
     → (n ≡ 0 → ⊥) → SomeIff o (width c ≤ n) (n - width c) → o ≡ Some m → place_after (place_past p r c) (c == 13) m (chars rest) ≡ whole
 walk_on p r n m c o bytes rest whole u e w nz s some =
     let l = enough o (width c) n m s some in
@@ -108,10 +108,10 @@ walk_on p r n m c o bytes rest whole u e w nz s some =
     ap (λ k. place_after (place_past p r c) (c == 13) k (chars rest)) l.1 ∙ sym q ∙ one_on (place_after p r n) bytes rest c whole u e w
 
 -- at the end of the text
-pub walk_ended : (p : Place) (r : Bool) (n : ℕ) (bytes : List ℕ) (whole : Option Place) → length bytes ≡ 0 → place_after p r n (chars bytes) ≡ whole → n ≡ 0 → Some p ≡ whole
+pub walk_ended : (p : DocumentPosition) (r : Bool) (n : ℕ) (bytes : List ℕ) (whole : Option DocumentPosition) → length bytes ≡ 0 → place_after p r n (chars bytes) ≡ whole → n ≡ 0 → Some p ≡ whole
 walk_ended p r n bytes whole e w z = let a : (n == 0) ≡ true = eq-eqb n 0 z in let q : place_after p r n [] ≡ Some p = rw a refl in sym q ∙ at_end (place_after p r n) bytes whole e w
 
-pub walk_cut : (p : Place) (r : Bool) (n : ℕ) (bytes : List ℕ) (whole : Option Place) → length bytes ≡ 0 → place_after p r n (chars bytes) ≡ whole → (n ≡ 0 → ⊥) → None ≡ whole
+pub walk_cut : (p : DocumentPosition) (r : Bool) (n : ℕ) (bytes : List ℕ) (whole : Option DocumentPosition) → length bytes ≡ 0 → place_after p r n (chars bytes) ≡ whole → (n ≡ 0 → ⊥) → None ≡ whole
 walk_cut p r n bytes whole e w z = let a : (n == 0) ≡ false = ne_eqb n 0 z in let q : place_after p r n [] ≡ None = rw a refl in sym q ∙ at_end (place_after p r n) bytes whole e w
 
 -- a line and a character go up by no more than the bytes that are passed
@@ -125,10 +125,10 @@ units_width c = subst (λ n. units c ≤ n) (sym (length-encode c)) (elim (units
       omega (arith, h.1, four))
 ])
 
-abbrev pub Bounds : Place → ℕ → Place → Type 0
+abbrev pub Bounds : DocumentPosition → ℕ → DocumentPosition → Type 0
 Bounds p c q = (q.line ≤ p.line + 1) × (q.character ≤ p.character + units c)
 
-pub past_bounds : (p : Place) (r : Bool) (c : ℕ) → Bounds p c (place_past p r c)
+pub past_bounds : (p : DocumentPosition) (r : Bool) (c : ℕ) → Bounds p c (place_past p r c)
 past_bounds p r c = elim (cases_Bool (c == 10)) [
   | inl e ↦ elim (cases_Bool r) [
     | inl f ↦ (let q : place_past p r c ≡ p = rw (e, f) refl in subst (Bounds p c) (sym q) (omega arith, omega arith))

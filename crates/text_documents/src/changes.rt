@@ -4,7 +4,7 @@ ghost use Rattle.std.specs.Prelude.{◌≡◌, ℕ, List, IfOk, IfSome, IsSomeAn
 ghost use Rattle.text_documents.specs.Changes.{AreEdits, IsEditBy};
 
 use crate::edits::edited;
-use crate::places::Place;
+use crate::places::DocumentPosition;
 use std::alloc::{AllocError, Global};
 
 /// A change of a document's text (LSP 3.17: `TextDocumentContentChangeEvent`).
@@ -14,8 +14,8 @@ pub enum Change {
     Whole(String),
     /// What is between two places is replaced, as `edited` has it.
     Range {
-        begin: Place,
-        end: Place,
+        begin: DocumentPosition,
+        end: DocumentPosition,
         text: String,
     },
 }

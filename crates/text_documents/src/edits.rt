@@ -4,7 +4,7 @@ ghost use Rattle.std.specs.Prelude.{◌≡◌, ℕ, List, IfOk, IfSome, IsSomeAn
 ghost use Rattle.std.specs.Str.{chars};
 ghost use Rattle.text_documents.specs.Places.{IsEdit, IsRange, replaced};
 
-use crate::places::{Place, offset_at};
+use crate::places::{DocumentPosition, offset_at};
 use std::alloc::{AllocError, Global};
 
 /// A text where what is between two places is replaced. A place past the end of its line is the line's end, as `offset_at` has it.
@@ -17,8 +17,8 @@ use std::alloc::{AllocError, Global};
 pub fn edited(
     alloc: Global,
     text: &str,
-    begin: Place,
-    end: Place,
+    begin: DocumentPosition,
+    end: DocumentPosition,
     new: &str,
 ) -> Result<Option<String>, AllocError>
     ensures made { IfOk result (λ made. IfSome made (λ s. IsEdit text.now begin end new.now (string_bytes s))) }
@@ -35,7 +35,11 @@ pub fn edited(
 /// The byte offsets of two places, each as `offset_at` has it.
 ///
 /// None where a place isn't in the text, and where `end` lies before `begin`.
-pub fn range_at(text: &str, begin: Place, end: Place) -> Option<(usize, usize)>
+pub fn range_at(
+    text: &str,
+    begin: DocumentPosition,
+    end: DocumentPosition,
+) -> Option<(usize, usize)>
     ensures range { IfSome result (λ r. IsRange (chars text.now) begin end r.0 r.1) }
     ensures only { (from to : ℕ) → IsRange (chars text.now) begin end from to → result ≡ Some (from, to) }
 {

@@ -2,7 +2,7 @@
 
 ghost use Rattle.std.specs.Prelude.{◌≡◌, ◌+◌, ◌<◌, ◌≤◌, ◌⊎◌, ◌&&◌, ◌==◌, ℕ, List, IfNone, IfSome, option_map, if◌then◌else◌};
 ghost use Rattle.std.specs.Str.{chars, IsUtf8};
-ghost use Rattle.text_documents.specs.declared.places.Place.{Place};
+ghost use Rattle.text_documents.specs.declared.places.DocumentPosition.{DocumentPosition};
 ghost use Rattle.text_documents.specs.Places.{IsCutAt, IsInEnd, IsInPair, IsOffsetOf, IsPlaceAt, LacksLine, units};
 ghost use Rattle.text_documents.specs.Walks.{back_at, place_after, place_past};
 
@@ -10,7 +10,7 @@ use crate::lines::{after_lines, after_units};
 
 /// A place in a text: LSP 3.17's `Position`.
 #[derive(Clone, Copy, PartialEq, Eq, Debug)]
-pub struct Place {
+pub struct DocumentPosition {
     /// The line, counted from 0.
     pub line: usize,
     /// How many UTF-16 units of the line stand before the place.
@@ -21,7 +21,7 @@ pub struct Place {
 #[derive(Clone, Copy)]
 struct Walk {
     // the place that is reached
-    place: Place,
+    place: DocumentPosition,
     // whether it is behind `\r`
     after_return: bool,
 }
@@ -30,7 +30,7 @@ struct Walk {
 /// characters that end it (LSP 3.17: a greater character "defaults back to the line length").
 ///
 /// None where the text has no such line, and where the place is inside a surrogate pair.
-pub fn offset_at(text: &str, place: Place) -> Option<usize>
+pub fn offset_at(text: &str, place: DocumentPosition) -> Option<usize>
     ensures offset { IfSome result (IsOffsetOf (chars text.now) place) }
     ensures only { (o : ℕ) → IsOffsetOf (chars text.now) place o → result ≡ Some o }
     ensures none { IfNone result (LacksLine (chars text.now) place.line ⊎ IsInPair (chars text.now) place) }
@@ -42,13 +42,13 @@ pub fn offset_at(text: &str, place: Place) -> Option<usize>
 /// The place of a byte offset.
 ///
 /// None where the offset isn't at the boundary of a character of the text, and between a `\r` and its `\n`.
-pub fn place_at(text: &str, offset: usize) -> Option<Place>
+pub fn place_at(text: &str, offset: usize) -> Option<DocumentPosition>
     ensures place { IfSome result (IsPlaceAt (chars text.now) offset) }
-    ensures only { (p : Place) → IsPlaceAt (chars text.now) offset p → result ≡ Some p }
+    ensures only { (p : DocumentPosition) → IsPlaceAt (chars text.now) offset p → result ≡ Some p }
     ensures none { IfNone result ((front back : List ℕ) → IsCutAt (chars text.now) offset front back → IsInEnd front back) }
 {
     let start = Walk {
-        place: Place {
+        place: DocumentPosition {
             line: 0,
             character: 0,
         },
@@ -58,7 +58,7 @@ pub fn place_at(text: &str, offset: usize) -> Option<Place>
 }
 
 // What follows a place.
-fn back_at(text: &str, place: Place) -> Option<&str>
+fn back_at(text: &str, place: DocumentPosition) -> Option<&str>
     ensures text { IfSome result (λ rest. IsUtf8 rest.now) }
     ensures rest { option_map (λ rest. chars rest.now) result ≡ back_at place (chars text.now) }
 {
@@ -68,7 +68,7 @@ fn back_at(text: &str, place: Place) -> Option<&str>
 impl Walk {
     // The place behind the first `len` bytes of what follows. None where there are fewer, or they end inside a character, or
     // between `\r` and `\n`.
-    fn over(self, text: &str, len: usize) -> Option<Place>
+    fn over(self, text: &str, len: usize) -> Option<DocumentPosition>
         requires line { self.place.line + len ≤ usize.MAX }
         requires character { self.place.character + len ≤ usize.MAX }
         ensures { result ≡ place_after self.place self.after_return len (chars text.now) }
@@ -86,7 +86,7 @@ impl Walk {
     }
 
     // The place before a character, unless that is the `\n` of a `\r`.
-    fn place_before(self, next: char) -> Option<Place>
+    fn place_before(self, next: char) -> Option<DocumentPosition>
         ensures { result ≡ (if self.after_return && next == 10 then None else Some self.place) }
     {
         if self.after_return && next == '\n' {
@@ -104,11 +104,11 @@ impl Walk {
     {
         let place = match c {
             '\n' if self.after_return => self.place,
-            '\n' | '\r' => Place {
+            '\n' | '\r' => DocumentPosition {
                 line: self.place.line + 1,
                 character: 0,
             },
-            _ => Place {
+            _ => DocumentPosition {
                 line: self.place.line,
                 character: self.place.character + c.len_utf16(),
             },

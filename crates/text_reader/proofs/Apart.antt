@@ -4,14 +4,14 @@ use Rattle.std.specs.Prelude.{if◌then◌else◌}
 use Rattle.std.proofs.lemmas.Bool.{false≢true}
 use Rattle.std.proofs.Math.Nat.{add-zero}
 use Rattle.text_reader.specs.Pieces.{size}
-use Rattle.text_reader.specs.declared.chunks.Place.{Place}
-use Rattle.text_reader.specs.declared.chunks.Place.TheVariants.{LineBegin, Within, Opened, Line, Block, Lost}
+use Rattle.text_reader.specs.declared.chunks.CharacterPlace.{CharacterPlace}
+use Rattle.text_reader.specs.declared.chunks.CharacterPlace.TheVariants.{LineBegin, Within, Opened, Line, Block, Lost}
 use Rattle.text_reader.specs.Chunks.{Part, begins_chunk, moved, empty_at, longer, chunks_from, chunks_at, behind_all, EndsLine, begins}
 use Rattle.text_reader.specs.Recovering.{beside, of_forms, forms_in_part, of_parts}
 use Rattle.text_reader.proofs.Dividing.{width, past}
 use Rattle.text_reader.proofs.Recovered.{beside_assoc}
 
-begun_apart : (place : Place) (p : Part) (o c : ℕ) (cs : List ℕ) → place ≡ LineBegin → begins_chunk LineBegin c ≡ true → chunks_from place p o (c ∷ cs) ≡ p ∷ chunks_at o (c ∷ cs)
+begun_apart : (place : CharacterPlace) (p : Part) (o c : ℕ) (cs : List ℕ) → place ≡ LineBegin → begins_chunk LineBegin c ≡ true → chunks_from place p o (c ∷ cs) ≡ p ∷ chunks_at o (c ∷ cs)
 begun_apart LineBegin p o c cs e b =
     ap (λ x. if x then p ∷ chunks_at o (c ∷ cs) else chunks_from (moved LineBegin c) (longer p c) (o + width c) cs) b
 begun_apart Within p o c cs e b = absurd (cc e)
@@ -24,7 +24,7 @@ either_apart : (b : Bool) (p : Part) (x y v w rest : List Part) → x ≡ v ++ r
 either_apart true p x y v w rest h k = ap (λ ps. p ∷ ps) h
 either_apart false p x y v w rest h k = k
 
-from_apart : (front : List ℕ) (place : Place) (p : Part) (o c : ℕ) (cs : List ℕ) → behind_all place front ≡ LineBegin → begins_chunk LineBegin c ≡ true
+from_apart : (front : List ℕ) (place : CharacterPlace) (p : Part) (o c : ℕ) (cs : List ℕ) → behind_all place front ≡ LineBegin → begins_chunk LineBegin c ≡ true
     → chunks_from place p o (front ++ c ∷ cs) ≡ chunks_from place p o front ++ chunks_at (o + size front) (c ∷ cs)
 from_apart [] place p o c cs e b = begun_apart place p o c cs e b ∙ ap (λ k. p ∷ chunks_at k (c ∷ cs)) (sym (add-zero o))
 from_apart (d ∷ front) place p o c cs e b =

@@ -4,7 +4,7 @@ use Rattle.std.specs.Prelude.{Some, None, option_map, Ok}
 use Rattle.std.proofs.lemmas.List.{take-append-drop}
 use Rattle.std.proofs.Math.Seq.{drop-cons, drop-length}
 use Rattle.model.specs.lists.Syntax.{Position}
-use Rattle.text_reader.specs.declared.forms.Form.{Form}
+use Rattle.text_reader.specs.declared.forms.TextForm.{TextForm}
 use Rattle.text_reader.specs.Lexemes.{◌>>=◌}
 use Rattle.text_reader.specs.FormTrees.{form_and}
 use Rattle.text_reader.specs.FormViews.{form_view, all_view}
@@ -12,22 +12,22 @@ use Rattle.text_reader.specs.Grammar.{count}
 use Rattle.text_reader.specs.TermGrammar.{last_three}
 use Rattle.text_reader.specs.RuleGrammar.{parted_of}
 
-pub counted : (fs : List Form) → count (all_view fs) ≡ length fs
+pub counted : (fs : List TextForm) → count (all_view fs) ≡ length fs
 counted [] = refl
 counted (f ∷ fs) = ap suc (counted fs)
 
 -- ---- a list that is cut before its last forms
 
-from : (fs : List Form) (n : ℕ) (f : Form) → n < length fs → f ≡ get_or fs n f → drop n fs ≡ f ∷ drop (suc n) fs
+from : (fs : List TextForm) (n : ℕ) (f : TextForm) → n < length fs → f ≡ get_or fs n f → drop n fs ≡ f ∷ drop (suc n) fs
 from fs n f inside at = drop-cons fs n f inside ∙ ap (λ x. x ∷ drop (suc n) fs) (sym at)
 
-from_last : (fs : List Form) (c : Form) → 1 ≤ length fs → c ≡ get_or fs (length fs - 1) c → drop (length fs - 1) fs ≡ c ∷ []
+from_last : (fs : List TextForm) (c : TextForm) → 1 ≤ length fs → c ≡ get_or fs (length fs - 1) c → drop (length fs - 1) fs ≡ c ∷ []
 from_last fs c some at =
     let inside : length fs - 1 < length fs = omega arith in
     let end : suc (length fs - 1) ≡ length fs = omega arith in
     from fs (length fs - 1) c inside at ∙ ap (λ n. c ∷ drop n fs) end ∙ ap (λ l. c ∷ l) (drop-length fs)
 
-from_last_two : (fs : List Form) (b c : Form) → 2 ≤ length fs → b ≡ get_or fs (length fs - 2) b → c ≡ get_or fs (length fs - 1) c
+from_last_two : (fs : List TextForm) (b c : TextForm) → 2 ≤ length fs → b ≡ get_or fs (length fs - 2) b → c ≡ get_or fs (length fs - 1) c
     → drop (length fs - 2) fs ≡ b ∷ c ∷ []
 from_last_two fs b c some b_at c_at =
     let inside : length fs - 2 < length fs = omega arith in
@@ -35,7 +35,7 @@ from_last_two fs b c some b_at c_at =
     let one : 1 ≤ length fs = omega arith in
     from fs (length fs - 2) b inside b_at ∙ ap (λ n. b ∷ drop n fs) next ∙ ap (λ l. b ∷ l) (from_last fs c one c_at)
 
-from_last_three : (fs : List Form) (a b c : Form) → 3 ≤ length fs
+from_last_three : (fs : List TextForm) (a b c : TextForm) → 3 ≤ length fs
     → a ≡ get_or fs (length fs - 3) a → b ≡ get_or fs (length fs - 2) b → c ≡ get_or fs (length fs - 1) c
     → drop (length fs - 3) fs ≡ a ∷ b ∷ c ∷ []
 from_last_three fs a b c some a_at b_at c_at =
@@ -46,12 +46,12 @@ from_last_three fs a b c some a_at b_at c_at =
 
 -- ---- the last form
 
-behind : (ends : Position) (before : List Form) (a : Form) → parted_of ends (all_view (before ++ a ∷ [])) ≡ Ok (all_view before, form_view a)
+behind : (ends : Position) (before : List TextForm) (a : TextForm) → parted_of ends (all_view (before ++ a ∷ [])) ≡ Ok (all_view before, form_view a)
 behind ends [] a = refl
 behind ends (f ∷ []) a = refl
 behind ends (f ∷ g ∷ gs) a = ap (λ r. r >>= (λ s. Ok (form_and (form_view f) s.0, s.1))) (behind ends (g ∷ gs) a)
 
-pub one_last : (ends : Position) (fs : List Form) (a : Form) → 1 ≤ length fs → a ≡ get_or fs (length fs - 1) a
+pub one_last : (ends : Position) (fs : List TextForm) (a : TextForm) → 1 ≤ length fs → a ≡ get_or fs (length fs - 1) a
     → parted_of ends (all_view fs) ≡ Ok (all_view (take (length fs - 1) fs), form_view a)
 one_last ends fs a some at =
     let before = take (length fs - 1) fs in
@@ -60,7 +60,7 @@ one_last ends fs a some at =
 
 -- ---- the last three
 
-three_behind : (before : List Form) (a b c : Form)
+three_behind : (before : List TextForm) (a b c : TextForm)
     → last_three (all_view (before ++ a ∷ b ∷ c ∷ [])) ≡ Some (all_view before, form_view a, form_view b, form_view c)
 three_behind [] a b c = refl
 three_behind (f ∷ []) a b c = refl
@@ -69,7 +69,7 @@ three_behind (f ∷ g ∷ h ∷ []) a b c = refl
 three_behind (f ∷ g ∷ h ∷ k ∷ ks) a b c =
     ap (option_map (λ s. (form_and (form_view f) s.0, s.1, s.2, s.3))) (three_behind (g ∷ h ∷ k ∷ ks) a b c)
 
-pub three_last : (fs : List Form) (a b c : Form) → 3 ≤ length fs
+pub three_last : (fs : List TextForm) (a b c : TextForm) → 3 ≤ length fs
     → a ≡ get_or fs (length fs - 3) a → b ≡ get_or fs (length fs - 2) b → c ≡ get_or fs (length fs - 1) c
     → last_three (all_view fs) ≡ Some (all_view (take (length fs - 3) fs), form_view a, form_view b, form_view c)
 three_last fs a b c some a_at b_at c_at =
@@ -77,7 +77,7 @@ three_last fs a b c some a_at b_at c_at =
     ap (λ l. last_three (all_view l)) (sym (take-append-drop (length fs - 3) fs) ∙ ap (λ l. before ++ l) (from_last_three fs a b c some a_at b_at c_at))
     ∙ three_behind before a b c
 
-pub too_few : (fs : List Form) → length fs < 3 → last_three (all_view fs) ≡ None
+pub too_few : (fs : List TextForm) → length fs < 3 → last_three (all_view fs) ≡ None
 too_few [] few = refl
 too_few (f ∷ []) few = refl
 too_few (f ∷ g ∷ []) few = refl

@@ -3,7 +3,7 @@ use Rattle.std.proofs.Common.{◌≡◌, suc, ◌<◌, ◌≤◌, List, [], ◌�
 use Rattle.core_syntax.specs.declared.syntax.Pos.{Pos}
 use Rattle.core_syntax.specs.SyntaxViews.{position}
 use Rattle.model.specs.lists.Syntax.{Position, Name, ExprTree, LetTrees, let_expr}
-use Rattle.text_reader.specs.declared.forms.Form.{Form}
+use Rattle.text_reader.specs.declared.forms.TextForm.{TextForm}
 use Rattle.text_reader.specs.declared.errors.Mistake.{Mistake}
 use Rattle.text_reader.specs.declared.errors.Mistake.TheVariants as M
 use Rattle.text_reader.specs.declared.errors.Problem.TheVariants.{Expected}
@@ -22,7 +22,7 @@ told e m at read is wrong = subst (λ f. Fails f read) (sym is) wrong
 
 -- ---- a let
 
-let-three : (fs : List Form) (d b : Form) (p e : Position) → length fs ≡ 3 → d ≡ get_or fs 1 d → b ≡ get_or fs 2 b
+let-three : (fs : List TextForm) (d b : TextForm) (p e : Position) → length fs ≡ 3 → d ≡ get_or fs 1 d → b ≡ get_or fs 2 b
     → let_of (all_view fs) p e ≡ (lets_of (form_view d) >>= (λ defs. expr_of (form_view b) >>= (λ x. Ok (let_expr defs x p))))
 let-three [] d b p e three hd hb = let k : 0 ≡ 3 = three in absurd (omega (arith, k))
 let-three (h ∷ []) d b p e three hd hb = let k : 1 ≡ 3 = three in absurd (omega (arith, k))
@@ -32,7 +32,7 @@ let-three (h ∷ y ∷ z ∷ []) d b p e three hd hb =
     ∙ ap (λ f. lets_of (form_view d) >>= (λ defs. expr_of (form_view f) >>= (λ x. Ok (let_expr defs x p)))) (sym hb)
 let-three (h ∷ y ∷ z ∷ w ∷ fs) d b p e three hd hb = let k : suc (suc (suc (suc (length fs)))) ≡ 3 = three in absurd (omega (arith, k))
 
-module _ (fs : List Form) (d b : Form) (p e : Position) (three : length fs ≡ 3) (hd : d ≡ get_or fs 1 d) (hb : b ≡ get_or fs 2 b) where
+module _ (fs : List TextForm) (d b : TextForm) (p e : Position) (three : length fs ≡ 3) (hd : d ≡ get_or fs 1 d) (hb : b ≡ get_or fs 2 b) where
   pub let-is : (defs : LetTrees) (x : ExprTree) → lets_of (form_view d) ≡ Ok defs → expr_of (form_view b) ≡ Ok x → let_of (all_view fs) p e ≡ Ok (let_expr defs x p)
   let-is defs x ds is =
       let-three fs d b p e three hd hb
@@ -51,12 +51,12 @@ module _ (fs : List Form) (d b : Form) (p e : Position) (three : length fs ≡ 3
       ∙ ap (λ r. r >>= (λ defs. expr_of (form_view b) >>= (λ x. Ok (let_expr defs x p)))) ds
       ∙ ap (λ r. r >>= (λ x. Ok (let_expr defs x p))) is)
 
-pub let-few : (fs : List Form) (p e : Position) → length fs < 2 → let_of (all_view fs) p e ≡ no M.LetDefinitions e
+pub let-few : (fs : List TextForm) (p e : Position) → length fs < 2 → let_of (all_view fs) p e ≡ no M.LetDefinitions e
 let-few [] p e few = refl
 let-few (h ∷ []) p e few = refl
 let-few (h ∷ y ∷ fs) p e few = let k : suc (suc (length fs)) < 2 = few in absurd (omega (arith, k))
 
-pub let-two : (fs : List Form) (p e : Position) → length fs ≡ 2 → let_of (all_view fs) p e ≡ no M.Expression e
+pub let-two : (fs : List TextForm) (p e : Position) → length fs ≡ 2 → let_of (all_view fs) p e ≡ no M.Expression e
 let-two [] p e two = let k : 0 ≡ 2 = two in absurd (omega (arith, k))
 let-two (h ∷ []) p e two = let k : 1 ≡ 2 = two in absurd (omega (arith, k))
 let-two (h ∷ y ∷ []) p e two = refl
@@ -64,7 +64,7 @@ let-two (h ∷ y ∷ z ∷ fs) p e two = let k : suc (suc (suc (length fs))) ≡
 
 -- ---- a definition
 
-defined-three : (fs : List Form) (v t b : Form) (p : Position) → length fs ≡ 3 → v ≡ get_or fs 0 v → t ≡ get_or fs 1 t → b ≡ get_or fs 2 b
+defined-three : (fs : List TextForm) (v t b : TextForm) (p : Position) → length fs ≡ 3 → v ≡ get_or fs 0 v → t ≡ get_or fs 1 t → b ≡ get_or fs 2 b
     → defined_in (all_view fs) p ≡ (name_of (form_view v) >>= (λ var. name_of (form_view t) >>= (λ ty. expr_of (form_view b) >>= (λ x. Ok (var, ty, x, p)))))
 defined-three [] v t b p three hv ht hb = let k : 0 ≡ 3 = three in absurd (omega (arith, k))
 defined-three (x ∷ []) v t b p three hv ht hb = let k : 1 ≡ 3 = three in absurd (omega (arith, k))
@@ -75,7 +75,7 @@ defined-three (x ∷ y ∷ z ∷ []) v t b p three hv ht hb =
     ∙ ap (λ f. name_of (form_view v) >>= (λ var. name_of (form_view t) >>= (λ ty. expr_of (form_view f) >>= (λ a. Ok (var, ty, a, p))))) (sym hb)
 defined-three (x ∷ y ∷ z ∷ w ∷ fs) v t b p three hv ht hb = let k : suc (suc (suc (suc (length fs)))) ≡ 3 = three in absurd (omega (arith, k))
 
-module _ (fs : List Form) (v t b : Form) (p : Position) (three : length fs ≡ 3) (hv : v ≡ get_or fs 0 v) (ht : t ≡ get_or fs 1 t) (hb : b ≡ get_or fs 2 b) (var ty : Name) (is_var : name_of (form_view v) ≡ Ok var) (is_ty : name_of (form_view t) ≡ Ok ty) where
+module _ (fs : List TextForm) (v t b : TextForm) (p : Position) (three : length fs ≡ 3) (hv : v ≡ get_or fs 0 v) (ht : t ≡ get_or fs 1 t) (hb : b ≡ get_or fs 2 b) (var ty : Name) (is_var : name_of (form_view v) ≡ Ok var) (is_ty : name_of (form_view t) ≡ Ok ty) where
   named : defined_in (all_view fs) p ≡ (expr_of (form_view b) >>= (λ x. Ok (var, ty, x, p)))
   named =
       defined-three fs v t b p three hv ht hb
@@ -89,13 +89,13 @@ module _ (fs : List Form) (v t b : Form) (p : Position) (three : length fs ≡ 3
   definition-valueless f fails =
       fails-too f (expr_of (form_view b)) (defined_in (all_view fs) p) fails (λ w is. named ∙ ap (λ r. r >>= (λ y. Ok (var, ty, y, p))) is)
 
-pub defined-few : (fs : List Form) (p : Position) → length fs < 3 → defined_in (all_view fs) p ≡ no M.LetDefinitions p
+pub defined-few : (fs : List TextForm) (p : Position) → length fs < 3 → defined_in (all_view fs) p ≡ no M.LetDefinitions p
 defined-few [] p few = refl
 defined-few (x ∷ []) p few = refl
 defined-few (x ∷ y ∷ []) p few = refl
 defined-few (x ∷ y ∷ z ∷ fs) p few = let k : suc (suc (suc (length fs))) < 3 = few in absurd (omega (arith, k))
 
-pub defined-many : (fs : List Form) (p : Position) → 4 ≤ length fs → defined_in (all_view fs) p ≡ no M.LetDefinitions p
+pub defined-many : (fs : List TextForm) (p : Position) → 4 ≤ length fs → defined_in (all_view fs) p ≡ no M.LetDefinitions p
 defined-many [] p many = let k : 4 ≤ 0 = many in absurd (omega (arith, k))
 defined-many (x ∷ []) p many = let k : 4 ≤ 1 = many in absurd (omega (arith, k))
 defined-many (x ∷ y ∷ []) p many = let k : 4 ≤ 2 = many in absurd (omega (arith, k))

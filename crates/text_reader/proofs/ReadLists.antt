@@ -12,7 +12,7 @@ use Rattle.core_syntax.specs.SyntaxViews.{position, name_view, pattern_view, pat
 use Rattle.core_syntax.proofs.PatternViews.{view-Term, view-And}
 use Rattle.core_syntax.proofs.ExprViews.{row_lets-hidden}
 use Rattle.model.specs.lists.Syntax.{Position, Name, PatternTrees, and_pattern, term_pattern, ExprTrees, term_expr, let_expr}
-use Rattle.text_reader.specs.declared.forms.Form.{Form, Group}
+use Rattle.text_reader.specs.declared.forms.TextForm.{TextForm, Group}
 use Rattle.text_reader.specs.declared.errors.ReadFault.{ReadFault}
 use Rattle.text_reader.specs.declared.errors.ReadFault.TheVariants.{Memory, Text}
 use Rattle.text_reader.specs.Lexemes.{Wrong, ◌>>=◌}
@@ -49,7 +49,7 @@ let-read defs e body p is =
     sym (ap (λ ds. let_expr ds (expr_view e) (position p)) (row_lets-hidden defs) ∙ ap (λ x. let_expr (let_views defs.items) (expr_view x) (position p)) is)
 
 -- a list of a text
-pub group-view : (form : Form) (v : Vec Form Global) (p e : Pos) (fs : List Form) → form ≡ Group v p e → fs ≡ v.items
+pub group-view : (form : TextForm) (v : Vec TextForm Global) (p e : Pos) (fs : List TextForm) → form ≡ Group v p e → fs ≡ v.items
     → form_view form ≡ a_list (all_view fs) (position p) (position e)
 group-view form v p e fs is at = ap form_view is ∙ ap (λ parts. a_list parts (position p) (position e)) (row_hidden v ∙ sym (ap all_view at))
 

@@ -2,7 +2,7 @@
 use Rattle.std.proofs.Common.{◌≡◌, ℕ, suc, ◌+◌, ◌<◌, List, [], ◌∷◌, ◌++◌, drop, get_or, length, map, refl, sym, ap, subst, ◌∙◌, Result, Ok, Err, arith}
 use Rattle.std.proofs.lemmas.List.{append_assoc, map-append}
 use Rattle.std.proofs.Math.Seq.{drop-cons}
-use Rattle.text_reader.specs.declared.forms.Form.{Form}
+use Rattle.text_reader.specs.declared.forms.TextForm.{TextForm}
 use Rattle.text_reader.specs.Lexemes.{Wrong, ◌>>=◌}
 use Rattle.text_reader.specs.FormTrees.{FormTree, form_and}
 use Rattle.text_reader.specs.FormViews.{form_view, all_view}
@@ -10,12 +10,12 @@ use Rattle.text_reader.specs.Grammar.{each_of}
 
 module _ {A : Type 0} (one : FormTree → Result A Wrong) where
   -- of these forms so many are read, as these things: with what the others are they are what all are
-  abbrev pub IsReadOn : List Form → ℕ → List A → Type 0
+  abbrev pub IsReadOn : List TextForm → ℕ → List A → Type 0
   IsReadOn forms count read =
       each_of one (all_view forms) ≡ (each_of one (all_view (drop count forms)) >>= (λ rest. Ok (read ++ rest)))
 
   -- the form that comes next, and the others
-  parted : (forms : List Form) (n : ℕ) (f : Form) → n < length forms → f ≡ get_or forms n f
+  parted : (forms : List TextForm) (n : ℕ) (f : TextForm) → n < length forms → f ≡ get_or forms n f
       → all_view (drop n forms) ≡ form_and (form_view f) (all_view (drop (suc n) forms))
   parted forms n f inside at =
       ap all_view (drop-cons forms n f inside) ∙ ap (λ x. form_and (form_view x) (all_view (drop (suc n) forms))) (sym at)
@@ -25,7 +25,7 @@ module _ {A : Type 0} (one : FormTree → Result A Wrong) where
   then read x (Ok xs) = ap Ok (sym (append_assoc read (x ∷ []) xs))
   then read x (Err w) = refl
 
-  pub more : (forms : List Form) (n : ℕ) (read : List A) (f : Form) (x : A) → n < length forms → f ≡ get_or forms n f
+  pub more : (forms : List TextForm) (n : ℕ) (read : List A) (f : TextForm) (x : A) → n < length forms → f ≡ get_or forms n f
       → one (form_view f) ≡ Ok x → IsReadOn forms n read → IsReadOn forms (suc n) (read ++ x ∷ [])
   more forms n read f x inside at is so_far =
       so_far
@@ -34,7 +34,7 @@ module _ {A : Type 0} (one : FormTree → Result A Wrong) where
       ∙ then read x (each_of one (all_view (drop (suc n) forms)))
 
   -- one more is put behind them
-  pub put : {X : Type 0} (view : X → A) (forms : List Form) (n : ℕ) (old new : List X) (f : Form) (x : X) → n < length forms → f ≡ get_or forms n f
+  pub put : {X : Type 0} (view : X → A) (forms : List TextForm) (n : ℕ) (old new : List X) (f : TextForm) (x : X) → n < length forms → f ≡ get_or forms n f
       → one (form_view f) ≡ Ok (view x) → new ≡ old ++ x ∷ [] → IsReadOn forms n (map view old) → IsReadOn forms (n + 1) (map view new)
   put view forms n old new f x inside at is pushed so_far =
       let next : suc n ≡ n + 1 = omega arith in

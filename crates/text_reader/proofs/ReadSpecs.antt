@@ -4,7 +4,7 @@ use Rattle.std.specs.Prelude.{Bool, codes, if◌then◌else◌}
 use Rattle.model.specs.lists.Syntax.{Position, Name}
 use Rattle.std.specs.declared.alloc.Global.{Global}
 use Rattle.core_syntax.specs.declared.syntax.Pos.{Pos}
-use Rattle.text_reader.specs.declared.forms.Form.{Form, Group}
+use Rattle.text_reader.specs.declared.forms.TextForm.{TextForm, Group}
 use Rattle.text_reader.specs.PassedOver.{begins_passed_over, is_passed_over}
 use Rattle.text_reader.specs.declared.errors.Mistake.TheVariants as M
 use Rattle.text_reader.specs.declared.errors.ReadFault.{ReadFault}
@@ -21,11 +21,11 @@ use Rattle.text_reader.specs.SpecViews.{spec_expr_view, spec_expr_views}
 use Rattle.text_reader.specs.SpecGrammar.{is_empty, has_cases, has_three, let_of, with_of, as_of, spec_expr_of, spec_exprs_of, arguments_of, switch_of, three_of, two_of, defs_of, name_list_of, model_type_of, pairs_of, pair_of, pair_in}
 
 -- whether a list is passed over
-pub group-passed : (form : Form) (v : Vec Form Global) (p e : Pos) (fs : List Form) → form ≡ Group v p e → fs ≡ v.items → begins_passed_over (all_view fs) ≡ is_passed_over (form_view form)
+pub group-passed : (form : TextForm) (v : Vec TextForm Global) (p e : Pos) (fs : List TextForm) → form ≡ Group v p e → fs ≡ v.items → begins_passed_over (all_view fs) ≡ is_passed_over (form_view form)
 group-passed form v p e fs is at = sym (ap is_passed_over (group-view form v p e fs is at))
 
 -- a list that has a part
-pub some-parts : (gs : List Form) → 1 ≤ length gs → false ≡ is_empty (all_view gs)
+pub some-parts : (gs : List TextForm) → 1 ≤ length gs → false ≡ is_empty (all_view gs)
 some-parts [] one = let k : 1 ≤ 0 = one in absurd (omega (arith, k))
 some-parts (g ∷ gs) one = refl
 
@@ -77,19 +77,19 @@ module _ (fs : FormTrees) (at ends : Position) where
 
 -- ---- a switch
 
-value-first : (op : Name) (gs : List Form) (v : Form) (p e : Position) → 2 ≤ length gs → v ≡ get_or gs 1 v
+value-first : (op : Name) (gs : List TextForm) (v : TextForm) (p e : Position) → 2 ≤ length gs → v ≡ get_or gs 1 v
     → switch_of op (all_view gs) p e ≡ (spec_expr_of (form_view v) >>= (λ x. pairs_of (all_view (drop 2 gs)) >>= (λ xs. Ok (spec_cases op x xs p))))
 value-first op [] v p e two is = let k : 2 ≤ 0 = two in absurd (omega (arith, k))
 value-first op (h ∷ []) v p e two is = let k : 2 ≤ 1 = two in absurd (omega (arith, k))
 value-first op (h ∷ y ∷ gs) v p e two is =
     ap (λ f. spec_expr_of (form_view f) >>= (λ x. pairs_of (all_view gs) >>= (λ xs. Ok (spec_cases op x xs p)))) (sym is)
 
-pub few-cases : (op : Name) (gs : List Form) (p e : Position) → length gs < 2 → switch_of op (all_view gs) p e ≡ no M.Expression e
+pub few-cases : (op : Name) (gs : List TextForm) (p e : Position) → length gs < 2 → switch_of op (all_view gs) p e ≡ no M.Expression e
 few-cases op [] p e few = refl
 few-cases op (h ∷ []) p e few = refl
 few-cases op (h ∷ y ∷ gs) p e few = let k : suc (suc (length gs)) < 2 = few in absurd (omega (arith, k))
 
-module _ (op : Name) (fs : List Form) (v : Form) (p e : Position) where
+module _ (op : Name) (fs : List TextForm) (v : TextForm) (p e : Position) where
   module _ (two : 2 ≤ length fs) (is : v ≡ get_or fs 1 v) where
     by-value : switch_of op (all_view fs) p e ≡ (spec_expr_of (form_view v) >>= (λ x. pairs_of (all_view (drop 2 fs)) >>= (λ xs. Ok (spec_cases op x xs p))))
     by-value = value-first op fs v p e two is
@@ -130,7 +130,7 @@ module _ {A B C : Type 0} (both : A → B → C) (first : Result A Wrong) (secon
 abbrev by_two : Name → FormTree → FormTree → Position → Result SpecExprTree Wrong
 by_two op f g p = two_of op (defs_of f) (name_list_of f) (spec_expr_of f) (spec_expr_of g) (model_type_of g) p
 
-three-parts : (op : Name) (gs : List Form) (a b : Form) (p e : Position) → length gs ≡ 3 → a ≡ get_or gs 1 a → b ≡ get_or gs 2 b
+three-parts : (op : Name) (gs : List TextForm) (a b : TextForm) (p e : Position) → length gs ≡ 3 → a ≡ get_or gs 1 a → b ≡ get_or gs 2 b
     → three_of op (all_view gs) p e ≡ by_two op (form_view a) (form_view b) p
 three-parts op [] a b p e three ha hb = let k : 0 ≡ 3 = three in absurd (omega (arith, k))
 three-parts op (x ∷ []) a b p e three ha hb = let k : 1 ≡ 3 = three in absurd (omega (arith, k))
@@ -139,7 +139,7 @@ three-parts op (x ∷ y ∷ z ∷ []) a b p e three ha hb =
     sym (ap (λ f. by_two op (form_view f) (form_view b) p) ha ∙ ap (λ f. by_two op (form_view y) (form_view f) p) hb)
 three-parts op (x ∷ y ∷ z ∷ w ∷ gs) a b p e three ha hb = let k : suc (suc (suc (suc (length gs)))) ≡ 3 = three in absurd (omega (arith, k))
 
-module _ (op : Name) (gs : List Form) (a b : Form) (p e : Position) (three : length gs ≡ 3) (ha : a ≡ get_or gs 1 a) (hb : b ≡ get_or gs 2 b) where
+module _ (op : Name) (gs : List TextForm) (a b : TextForm) (p e : Position) (three : length gs ≡ 3) (ha : a ≡ get_or gs 1 a) (hb : b ≡ get_or gs 2 b) where
   abbrev either : Bool → Bool → Result SpecExprTree Wrong
   either l w =
       if l then let_of (defs_of (form_view a)) (spec_expr_of (form_view b)) p
@@ -157,7 +157,7 @@ module _ (op : Name) (gs : List Form) (a b : Form) (p e : Position) (three : len
       → three_of op (all_view gs) p e ≡ as_of (spec_expr_of (form_view a)) (model_type_of (form_view b)) p
   behind-as other is = three-parts op gs a b p e three ha hb ∙ ap (λ l. either l (reads op (codes "with"))) other ∙ ap (either false) is
 
-pub three-few : (op : Name) (gs : List Form) (p e : Position) → length gs < 3 → three_of op (all_view gs) p e ≡ no M.Expression e
+pub three-few : (op : Name) (gs : List TextForm) (p e : Position) → length gs < 3 → three_of op (all_view gs) p e ≡ no M.Expression e
 three-few op [] p e few = refl
 three-few op (x ∷ []) p e few = refl
 three-few op (x ∷ y ∷ []) p e few = refl
@@ -165,18 +165,18 @@ three-few op (x ∷ y ∷ z ∷ gs) p e few = let k : suc (suc (suc (length gs))
 
 -- ---- a pair
 
-pub few-parts : (gs : List Form) (p : Position) → length gs < 2 → pair_in (all_view gs) p ≡ no M.Case p
+pub few-parts : (gs : List TextForm) (p : Position) → length gs < 2 → pair_in (all_view gs) p ≡ no M.Case p
 few-parts [] p few = refl
 few-parts (h ∷ []) p few = refl
 few-parts (h ∷ y ∷ gs) p few = let k : suc (suc (length gs)) < 2 = few in absurd (omega (arith, k))
 
-pub many-parts : (gs : List Form) (p : Position) → 3 ≤ length gs → pair_in (all_view gs) p ≡ no M.Case p
+pub many-parts : (gs : List TextForm) (p : Position) → 3 ≤ length gs → pair_in (all_view gs) p ≡ no M.Case p
 many-parts [] p many = let k : 3 ≤ 0 = many in absurd (omega (arith, k))
 many-parts (h ∷ []) p many = let k : 3 ≤ 1 = many in absurd (omega (arith, k))
 many-parts (h ∷ y ∷ []) p many = let k : 3 ≤ 2 = many in absurd (omega (arith, k))
 many-parts (h ∷ y ∷ z ∷ gs) p many = refl
 
-parts-of_two : (gs : List Form) (l r : Form) (p : Position) → length gs ≡ 2 → l ≡ get_or gs 0 l → r ≡ get_or gs 1 r
+parts-of_two : (gs : List TextForm) (l r : TextForm) (p : Position) → length gs ≡ 2 → l ≡ get_or gs 0 l → r ≡ get_or gs 1 r
     → pair_in (all_view gs) p ≡ (spec_expr_of (form_view l) >>= (λ x. spec_expr_of (form_view r) >>= (λ y. Ok (spec_pair x y p))))
 parts-of_two [] l r p two hl hr = let k : 0 ≡ 2 = two in absurd (omega (arith, k))
 parts-of_two (h ∷ []) l r p two hl hr = let k : 1 ≡ 2 = two in absurd (omega (arith, k))
@@ -185,7 +185,7 @@ parts-of_two (h ∷ y ∷ []) l r p two hl hr =
     ∙ ap (λ f. spec_expr_of (form_view l) >>= (λ a. spec_expr_of (form_view f) >>= (λ b. Ok (spec_pair a b p)))) (sym hr)
 parts-of_two (h ∷ y ∷ z ∷ gs) l r p two hl hr = let k : suc (suc (suc (length gs))) ≡ 2 = two in absurd (omega (arith, k))
 
-module _ (fs : List Form) (l r : Form) (p : Position) where
+module _ (fs : List TextForm) (l r : TextForm) (p : Position) where
   module _ (two : length fs ≡ 2) (hl : l ≡ get_or fs 0 l) (hr : r ≡ get_or fs 1 r) where
     by-parts : pair_in (all_view fs) p ≡ (spec_expr_of (form_view l) >>= (λ x. spec_expr_of (form_view r) >>= (λ y. Ok (spec_pair x y p))))
     by-parts = parts-of_two fs l r p two hl hr
@@ -209,7 +209,7 @@ module _ (fs : List Form) (l r : Form) (p : Position) where
 
 -- ---- expressions one after another
 
-abbrev pub SpecsAreRead : Result SpecExprTrees Wrong → List Form → ℕ → List SpecExpr → Type 0
+abbrev pub SpecsAreRead : Result SpecExprTrees Wrong → List TextForm → ℕ → List SpecExpr → Type 0
 SpecsAreRead whole forms count read = AreRead spec_expr_and spec_expr_view spec_exprs_of whole forms count read
 
 each-spec : AllIsEach spec_expr_and spec_expr_of spec_exprs_of
@@ -219,45 +219,45 @@ before-specs : (xs : List SpecExpr) → before spec_expr_and spec_expr_view xs n
 before-specs [] = refl
 before-specs (x ∷ xs) = ap (spec_expr_and (spec_expr_view x)) (before-specs xs)
 
-behind-first : (forms : List Form) → arguments_of (all_view forms) ≡ spec_exprs_of (all_view (drop 1 forms))
+behind-first : (forms : List TextForm) → arguments_of (all_view forms) ≡ spec_exprs_of (all_view (drop 1 forms))
 behind-first [] = refl
 behind-first (f ∷ fs) = refl
 
-pub specs-begun : (forms : List Form) (read : List SpecExpr) → read ≡ [] → SpecsAreRead (spec_exprs_of (all_view forms)) forms 0 read
+pub specs-begun : (forms : List TextForm) (read : List SpecExpr) → read ≡ [] → SpecsAreRead (spec_exprs_of (all_view forms)) forms 0 read
 specs-begun forms read empty = begun spec_expr_and spec_expr_view spec_exprs_of (spec_exprs_of (all_view forms)) forms 0 read empty refl
 
-pub arguments-begun : (forms : List Form) (read : List SpecExpr) → read ≡ [] → SpecsAreRead (arguments_of (all_view forms)) forms 1 read
+pub arguments-begun : (forms : List TextForm) (read : List SpecExpr) → read ≡ [] → SpecsAreRead (arguments_of (all_view forms)) forms 1 read
 arguments-begun forms read empty = begun spec_expr_and spec_expr_view spec_exprs_of (arguments_of (all_view forms)) forms 1 read empty (behind-first forms)
 
-pub specs-put : (whole : Result SpecExprTrees Wrong) (forms : List Form) (n : ℕ) (old new : List SpecExpr) (f : Form) (x : SpecExpr) → n < length forms → f ≡ get_or forms n f
+pub specs-put : (whole : Result SpecExprTrees Wrong) (forms : List TextForm) (n : ℕ) (old new : List SpecExpr) (f : TextForm) (x : SpecExpr) → n < length forms → f ≡ get_or forms n f
     → spec_expr_of (form_view f) ≡ Ok (spec_expr_view x) → new ≡ old ++ x ∷ [] → SpecsAreRead whole forms n old → SpecsAreRead whole forms (n + 1) new
 specs-put = put spec_expr_and spec_expr_view spec_expr_of spec_exprs_of each-spec
 
-pub specs-failed : (whole : Result SpecExprTrees Wrong) (forms : List Form) (n : ℕ) (read : List SpecExpr) (f : Form) (e : ReadFault) → n < length forms → f ≡ get_or forms n f
+pub specs-failed : (whole : Result SpecExprTrees Wrong) (forms : List TextForm) (n : ℕ) (read : List SpecExpr) (f : TextForm) (e : ReadFault) → n < length forms → f ≡ get_or forms n f
     → Fails e (spec_expr_of (form_view f)) → SpecsAreRead whole forms n read → Fails e whole
 specs-failed = failed spec_expr_and spec_expr_view spec_expr_of spec_exprs_of each-spec
 
-pub specs-done : (whole : Result SpecExprTrees Wrong) (forms : List Form) (n : ℕ) (read : List SpecExpr) → length forms ≤ n → SpecsAreRead whole forms n read → whole ≡ Ok (spec_expr_views read)
+pub specs-done : (whole : Result SpecExprTrees Wrong) (forms : List TextForm) (n : ℕ) (read : List SpecExpr) → length forms ≤ n → SpecsAreRead whole forms n read → whole ≡ Ok (spec_expr_views read)
 specs-done whole forms n read past so_far = done spec_expr_and spec_expr_view spec_exprs_of no_spec_expr whole forms n read refl past so_far ∙ ap Ok (before-specs read)
 
 -- ---- pairs one after another
 
-abbrev pub PairsAreRead : Result SpecExprTrees Wrong → List Form → ℕ → List SpecExpr → Type 0
+abbrev pub PairsAreRead : Result SpecExprTrees Wrong → List TextForm → ℕ → List SpecExpr → Type 0
 PairsAreRead whole forms count read = AreRead spec_expr_and spec_expr_view pairs_of whole forms count read
 
 each-pair : AllIsEach spec_expr_and pair_of pairs_of
 each-pair f fs = refl
 
-pub pairs-begun : (forms : List Form) (from : ℕ) (read : List SpecExpr) → read ≡ [] → PairsAreRead (pairs_of (all_view (drop from forms))) forms from read
+pub pairs-begun : (forms : List TextForm) (from : ℕ) (read : List SpecExpr) → read ≡ [] → PairsAreRead (pairs_of (all_view (drop from forms))) forms from read
 pairs-begun forms from read empty = begun spec_expr_and spec_expr_view pairs_of (pairs_of (all_view (drop from forms))) forms from read empty refl
 
-pub pairs-put : (whole : Result SpecExprTrees Wrong) (forms : List Form) (n : ℕ) (old new : List SpecExpr) (f : Form) (x : SpecExpr) → n < length forms → f ≡ get_or forms n f
+pub pairs-put : (whole : Result SpecExprTrees Wrong) (forms : List TextForm) (n : ℕ) (old new : List SpecExpr) (f : TextForm) (x : SpecExpr) → n < length forms → f ≡ get_or forms n f
     → pair_of (form_view f) ≡ Ok (spec_expr_view x) → new ≡ old ++ x ∷ [] → PairsAreRead whole forms n old → PairsAreRead whole forms (n + 1) new
 pairs-put = put spec_expr_and spec_expr_view pair_of pairs_of each-pair
 
-pub pairs-failed : (whole : Result SpecExprTrees Wrong) (forms : List Form) (n : ℕ) (read : List SpecExpr) (f : Form) (e : ReadFault) → n < length forms → f ≡ get_or forms n f
+pub pairs-failed : (whole : Result SpecExprTrees Wrong) (forms : List TextForm) (n : ℕ) (read : List SpecExpr) (f : TextForm) (e : ReadFault) → n < length forms → f ≡ get_or forms n f
     → Fails e (pair_of (form_view f)) → PairsAreRead whole forms n read → Fails e whole
 pairs-failed = failed spec_expr_and spec_expr_view pair_of pairs_of each-pair
 
-pub pairs-done : (whole : Result SpecExprTrees Wrong) (forms : List Form) (n : ℕ) (read : List SpecExpr) → length forms ≤ n → PairsAreRead whole forms n read → whole ≡ Ok (spec_expr_views read)
+pub pairs-done : (whole : Result SpecExprTrees Wrong) (forms : List TextForm) (n : ℕ) (read : List SpecExpr) → length forms ≤ n → PairsAreRead whole forms n read → whole ≡ Ok (spec_expr_views read)
 pairs-done whole forms n read past so_far = done spec_expr_and spec_expr_view pairs_of no_spec_expr whole forms n read refl past so_far ∙ ap Ok (before-specs read)

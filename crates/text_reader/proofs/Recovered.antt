@@ -7,7 +7,7 @@ use Rattle.std.proofs.Math.Seq.{drop-cons}
 use Rattle.model.specs.lists.Syntax.{Definition}
 use Rattle.core_syntax.specs.declared.syntax.Def.{Def}
 use Rattle.core_syntax.specs.SyntaxViews.{definition_view, definition_views}
-use Rattle.text_reader.specs.declared.forms.Form.{Form}
+use Rattle.text_reader.specs.declared.forms.TextForm.{TextForm}
 use Rattle.text_reader.specs.declared.errors.ReadFault.{ReadFault}
 use Rattle.text_reader.specs.declared.errors.TextError.{TextError}
 use Rattle.text_reader.specs.Lexemes.{Wrong, ◌>>=◌}
@@ -18,7 +18,7 @@ use Rattle.text_reader.specs.Forming.{forms_of}
 use Rattle.text_reader.specs.FormViews.{form_view, all_view}
 use Rattle.text_reader.specs.Definitions.{definition_of}
 use Rattle.text_reader.specs.Views.{Fails}
-use Rattle.text_reader.specs.declared.chunks.Place.{Place}
+use Rattle.text_reader.specs.declared.chunks.CharacterPlace.{CharacterPlace}
 use Rattle.text_reader.specs.declared.chunks.Chunk.{Chunk}
 use Rattle.text_reader.specs.Chunks.{Part, begins_chunk, moved, empty_at, longer, next_parts, chunks_from}
 use Rattle.text_reader.specs.Recovering.{Recovery, nothing, beside, one_of, each_by_itself, of_forms, tokens_of, forms_in_part, of_parts}
@@ -50,7 +50,7 @@ chunk_read file cs n c old new whole inside at_it grown so_far =
     ∙ so_far
 
 -- one more form
-pub form_read : (fs : List Form) (n : ℕ) (f : Form) (old new whole : Recovery) → n < length fs → f ≡ get_or fs n f → new ≡ beside old (one_of (definition_of (form_view f)))
+pub form_read : (fs : List TextForm) (n : ℕ) (f : TextForm) (old new whole : Recovery) → n < length fs → f ≡ get_or fs n f → new ≡ beside old (one_of (definition_of (form_view f)))
     → beside old (each_by_itself (all_view (drop n fs))) ≡ whole → beside new (each_by_itself (all_view (drop (n + 1) fs))) ≡ whole
 form_read fs n f old new whole inside at_it grown so_far =
     let next : n + 1 ≡ suc n = omega arith in
@@ -97,7 +97,7 @@ module _ (file end o : ℕ) (text : List ℕ) (u : IsUtf8 text) (at_end : o + le
 
 -- ---- the chunks of a text, one character after another
 
-pub chunk_kept : (place next : Place) (last made empty : Part) (o there c n : ℕ) (bytes rest : List ℕ) (old new whole : List Part) → IsUtf8 bytes → bytes ≡ encode_utf8 c ++ rest
+pub chunk_kept : (place next : CharacterPlace) (last made empty : Part) (o there c n : ℕ) (bytes rest : List ℕ) (old new whole : List Part) → IsUtf8 bytes → bytes ≡ encode_utf8 c ++ rest
     → old ++ chunks_from place last o (chars bytes) ≡ whole → n ≡ o → there ≡ o + length (encode_utf8 c) → next ≡ moved place c → empty ≡ empty_at n
     → ((others : Part → List Part) → new ++ others made ≡ old ++ next_parts others place empty last c)
     → new ++ chunks_from next made there (chars rest) ≡ whole
@@ -110,20 +110,20 @@ chunk_kept place next last made empty o there c n bytes rest old new whole u e w
     ∙ ap (λ cs. old ++ chunks_from place last o cs) (sym (chars_past_char bytes rest c u e))
     ∙ w
 
-pub chunks_ended : (place : Place) (o : ℕ) (bytes : List ℕ) (old new : List Chunk) (last : Chunk) (whole : List Part) → length bytes ≡ 0 → new ≡ old ++ last ∷ []
+pub chunks_ended : (place : CharacterPlace) (o : ℕ) (bytes : List ℕ) (old new : List Chunk) (last : Chunk) (whole : List Part) → length bytes ≡ 0 → new ≡ old ++ last ∷ []
     → part_views old ++ chunks_from place (part_view last) o (chars bytes) ≡ whole → part_views new ≡ whole
 chunks_ended place o bytes old new last whole none n w =
     ap part_views n ∙ map-append part_view old (last ∷ [])
     ∙ ap (λ cs. part_views old ++ chunks_from place (part_view last) o cs) (sym (ap chars (nil_from_length bytes none) ∙ chars-nil)) ∙ w
 
 -- a chunk that goes on, or begins
-pub begun_next : (place : Place) (c : ℕ) (empty last made : Part) (old new : List Part) → begins_chunk place c ≡ true → new ≡ old ++ last ∷ [] → made ≡ longer empty c
+pub begun_next : (place : CharacterPlace) (c : ℕ) (empty last made : Part) (old new : List Part) → begins_chunk place c ≡ true → new ≡ old ++ last ∷ [] → made ≡ longer empty c
     → (others : Part → List Part) → new ++ others made ≡ old ++ next_parts others place empty last c
 begun_next place c empty last made old new b n m others =
     ap (λ x. new ++ others x) m ∙ ap (λ x. x ++ others (longer empty c)) n ∙ append_assoc old (last ∷ []) (others (longer empty c))
     ∙ ap (λ x. old ++ (if x then last ∷ others (longer empty c) else others (longer last c))) (sym b)
 
-pub gone_on : (place : Place) (c : ℕ) (empty last made : Part) (old new : List Part) → begins_chunk place c ≡ false → new ≡ old → made ≡ longer last c
+pub gone_on : (place : CharacterPlace) (c : ℕ) (empty last made : Part) (old new : List Part) → begins_chunk place c ≡ false → new ≡ old → made ≡ longer last c
     → (others : Part → List Part) → new ++ others made ≡ old ++ next_parts others place empty last c
 gone_on place c empty last made old new b n m others =
     ap (λ x. new ++ others x) m ∙ ap (λ x. x ++ others (longer last c)) n

@@ -17,29 +17,29 @@ use Rattle.core_syntax.specs.declared.syntax.Def.{Def}
 use Rattle.core_syntax.specs.SyntaxViews.{name_view, pattern_view, pattern_views, row_patterns, expr_view, expr_views, row_exprs, let_views, row_lets, field_view, tuple_field_view, variant_view, iflet_view, definition_view, definition_views}
 use Rattle.core_syntax.proofs.PatternViews.{row_patterns-hidden}
 use Rattle.core_syntax.proofs.ExprViews.{row_exprs-hidden, row_lets-hidden}
-use Rattle.text_reader.specs.declared.forms.Form.{Form, Group, Row_of-Form, end_of-Form, more_of-Form, items-the_row-Form}
-use Rattle.text_reader.specs.declared.forms.Form.TheBlock.{hidden-the_row-Form-0, items_hidden-the_row-Form-0}
+use Rattle.text_reader.specs.declared.forms.TextForm.{TextForm, Group, Row_of-TextForm, end_of-TextForm, more_of-TextForm, items-the_row-TextForm}
+use Rattle.text_reader.specs.declared.forms.TextForm.TheBlock.{hidden-the_row-TextForm-0, items_hidden-the_row-TextForm-0}
 use Rattle.text_reader.specs.Forms.{FormIsWithin, RowIsWithin, FormsAreWithin, IdentsAreWithin, PosIsWithin}
 use Rattle.text_reader.specs.Lets.{LetIsWithin}
 use Rattle.text_reader.specs.Within.{NameIsWithin, PatternIsWithin, PatternsAreWithin, ExprIsWithin, ExprsAreWithin, LetsAreWithin, FieldIsWithin, TupleFieldIsWithin, VariantIsWithin, IfLetIsWithin, DefinitionIsWithin, DefinitionsAreWithin}
 
 -- the forms of a list
-all-from_row : (file size : ℕ) {m : _} (r : Row_of-Form m) → RowIsWithin file size r → All (FormIsWithin file size) (items-the_row-Form m r)
-all-from_row file size end_of-Form h = All-nil (FormIsWithin file size)
-all-from_row file size (more_of-Form f fs) h = All-cons (FormIsWithin file size) f (items-the_row-Form _ fs) h.0 (all-from_row file size fs h.1)
+all-from_row : (file size : ℕ) {m : _} (r : Row_of-TextForm m) → RowIsWithin file size r → All (FormIsWithin file size) (items-the_row-TextForm m r)
+all-from_row file size end_of-TextForm h = All-nil (FormIsWithin file size)
+all-from_row file size (more_of-TextForm f fs) h = All-cons (FormIsWithin file size) f (items-the_row-TextForm _ fs) h.0 (all-from_row file size fs h.1)
 
-row-from_all : (file size : ℕ) {m : _} (r : Row_of-Form m) → All (FormIsWithin file size) (items-the_row-Form m r) → RowIsWithin file size r
-row-from_all file size end_of-Form h = tt
-row-from_all file size (more_of-Form f fs) h = (All-head (FormIsWithin file size) f (items-the_row-Form _ fs) h, row-from_all file size fs (All-tail (FormIsWithin file size) f (items-the_row-Form _ fs) h))
+row-from_all : (file size : ℕ) {m : _} (r : Row_of-TextForm m) → All (FormIsWithin file size) (items-the_row-TextForm m r) → RowIsWithin file size r
+row-from_all file size end_of-TextForm h = tt
+row-from_all file size (more_of-TextForm f fs) h = (All-head (FormIsWithin file size) f (items-the_row-TextForm _ fs) h, row-from_all file size fs (All-tail (FormIsWithin file size) f (items-the_row-TextForm _ fs) h))
 
-pub forms-from_row : (file size : ℕ) (v : Vec Form Global) → RowIsWithin file size (hidden-the_row-Form-0 v) → FormsAreWithin file size v.items
-forms-from_row file size v h = subst (All (FormIsWithin file size)) (items_hidden-the_row-Form-0 v) (all-from_row file size (hidden-the_row-Form-0 v) h)
+pub forms-from_row : (file size : ℕ) (v : Vec TextForm Global) → RowIsWithin file size (hidden-the_row-TextForm-0 v) → FormsAreWithin file size v.items
+forms-from_row file size v h = subst (All (FormIsWithin file size)) (items_hidden-the_row-TextForm-0 v) (all-from_row file size (hidden-the_row-TextForm-0 v) h)
 
-pub row-from_forms : (file size : ℕ) (v : Vec Form Global) → FormsAreWithin file size v.items → RowIsWithin file size (hidden-the_row-Form-0 v)
-row-from_forms file size v h = row-from_all file size (hidden-the_row-Form-0 v) (subst (All (FormIsWithin file size)) (sym (items_hidden-the_row-Form-0 v)) h)
+pub row-from_forms : (file size : ℕ) (v : Vec TextForm Global) → FormsAreWithin file size v.items → RowIsWithin file size (hidden-the_row-TextForm-0 v)
+row-from_forms file size v h = row-from_all file size (hidden-the_row-TextForm-0 v) (subst (All (FormIsWithin file size)) (sym (items_hidden-the_row-TextForm-0 v)) h)
 
 -- what a list of a text has
-pub group-parts : (file size : ℕ) (form : Form) (v : Vec Form Global) (p e : Pos) (fs : List Form) → form ≡ Group v p e → fs ≡ v.items → FormIsWithin file size form → FormsAreWithin file size fs × PosIsWithin file size p × PosIsWithin file size e
+pub group-parts : (file size : ℕ) (form : TextForm) (v : Vec TextForm Global) (p e : Pos) (fs : List TextForm) → form ≡ Group v p e → fs ≡ v.items → FormIsWithin file size form → FormsAreWithin file size fs × PosIsWithin file size p × PosIsWithin file size e
 group-parts file size form v p e fs is at h =
     let k = subst (FormIsWithin file size) is h in
     (subst (FormsAreWithin file size) (sym at) (forms-from_row file size v k.0), k.1, k.2)

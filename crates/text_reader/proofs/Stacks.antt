@@ -8,8 +8,8 @@ use Rattle.core_syntax.specs.SyntaxViews.{position}
 use Rattle.core_syntax.specs.declared.syntax.Ident.{Ident}
 use Rattle.core_syntax.specs.declared.syntax.Pos.{Pos}
 use Rattle.text_reader.specs.declared.errors.Mistake.TheVariants as M
-use Rattle.text_reader.specs.declared.forms.Form.{Form, Group, Row_of-Form, end_of-Form, more_of-Form, items-the_row-Form}
-use Rattle.text_reader.specs.declared.forms.Form.TheBlock.{hidden-the_row-Form-0, items_hidden-the_row-Form-0}
+use Rattle.text_reader.specs.declared.forms.TextForm.{TextForm, Group, Row_of-TextForm, end_of-TextForm, more_of-TextForm, items-the_row-TextForm}
+use Rattle.text_reader.specs.declared.forms.TextForm.TheBlock.{hidden-the_row-TextForm-0, items_hidden-the_row-TextForm-0}
 use Rattle.text_reader.specs.declared.forms.Open.{Open}
 use Rattle.text_reader.specs.declared.forms.Open.TheVariants as V
 use Rattle.text_reader.specs.FormTrees.{a_list, FormTrees, form_and}
@@ -25,19 +25,19 @@ stack_pushed old new o e = ap begun_views e ∙ at_end old []
     at_end [] under = refl
     at_end (x ∷ os) under = at_end os (open_view x ∷ under)
 
-pub forms_pushed : (old new : List Form) (f : Form) → new ≡ old ++ f ∷ [] → all_view new ≡ behind (all_view old) (form_view f)
+pub forms_pushed : (old new : List TextForm) (f : TextForm) → new ≡ old ++ f ∷ [] → all_view new ≡ behind (all_view old) (form_view f)
 forms_pushed old new f e = ap all_view e ∙ at_end old
   where
-    at_end : (fs : List Form) → all_view (fs ++ f ∷ []) ≡ behind (all_view fs) (form_view f)
+    at_end : (fs : List TextForm) → all_view (fs ++ f ∷ []) ≡ behind (all_view fs) (form_view f)
     at_end [] = refl
     at_end (x ∷ fs) = ap (form_and (form_view x)) (at_end fs)
 
-row_items : {m : _} (r : Row_of-Form m) → row_view r ≡ all_view (items-the_row-Form m r)
-row_items end_of-Form = refl
-row_items (more_of-Form f fs) = ap (form_and (form_view f)) (row_items fs)
+row_items : {m : _} (r : Row_of-TextForm m) → row_view r ≡ all_view (items-the_row-TextForm m r)
+row_items end_of-TextForm = refl
+row_items (more_of-TextForm f fs) = ap (form_and (form_view f)) (row_items fs)
 
-pub row_hidden : (v : Vec Form Global) → row_view (hidden-the_row-Form-0 v) ≡ all_view v.items
-row_hidden v = row_items (hidden-the_row-Form-0 v) ∙ ap all_view (items_hidden-the_row-Form-0 v)
+pub row_hidden : (v : Vec TextForm Global) → row_view (hidden-the_row-TextForm-0 v) ≡ all_view v.items
+row_hidden v = row_items (hidden-the_row-TextForm-0 v) ∙ ap all_view (items_hidden-the_row-TextForm-0 v)
 
 -- how much is begun
 begun_count : (os : List Open) (under : List Begun) → length (stacked os under) ≡ length os + length under
@@ -75,12 +75,12 @@ ended_binder old new r i p fs e is = ap (ended p fs) (last_begun old new r (V.Bi
 pub whole_binder : (file end : ℕ) (old new : List Open) (r : Option Open) (i : Ident) (fs : FormTrees) → old ≡ new ++ option_to_list r → r ≡ Some (V.Binder i) → whole file end fs (begun_views old) ≡ no M.BoundPattern (position i.1)
 whole_binder file end old new r i fs e is = ap (whole file end fs) (last_begun old new r (V.Binder i) e is)
 
-pub whole_group : (file end : ℕ) (old new : List Open) (r : Option Open) (v : Vec Form Global) (p : Pos) (fs : FormTrees) → old ≡ new ++ option_to_list r → r ≡ Some (V.Group v p)
+pub whole_group : (file end : ℕ) (old new : List Open) (r : Option Open) (v : Vec TextForm Global) (p : Pos) (fs : FormTrees) → old ≡ new ++ option_to_list r → r ≡ Some (V.Group v p)
     → whole file end fs (begun_views old) ≡ Err (unclosed (position p), record { file = file; offset = end })
 whole_group file end old new r v p fs e is = ap (whole file end fs) (last_begun old new r (V.Group v p) e is)
 
 -- a form goes into the list that was begun last
-pub put_into : (old new after_it : List Open) (parts more : Vec Form Global) (pos : Pos) (f : Form) (fs : FormTrees) → old ≡ new ++ V.Group parts pos ∷ [] → more.items ≡ parts.items ++ f ∷ [] → after_it ≡ new ++ V.Group more pos ∷ []
+pub put_into : (old new after_it : List Open) (parts more : Vec TextForm Global) (pos : Pos) (f : TextForm) (fs : FormTrees) → old ≡ new ++ V.Group parts pos ∷ [] → more.items ≡ parts.items ++ f ∷ [] → after_it ≡ new ++ V.Group more pos ∷ []
     → put (form_view f) fs (begun_views old) ≡ (fs, begun_views after_it)
 put_into old new after_it parts more pos f fs o m n =
     ap (put (form_view f) fs) (stack_pushed new old (V.Group parts pos) o)
@@ -88,7 +88,7 @@ put_into old new after_it parts more pos f fs o m n =
     ∙ ap (λ os. (fs, os)) (sym (stack_pushed new after_it (V.Group more pos) n))
 
 -- the list that was begun last ends
-pub closed : (old new : List Open) (parts : Vec Form Global) (pos end : Pos) (fs : FormTrees) → old ≡ new ++ V.Group parts pos ∷ []
+pub closed : (old new : List Open) (parts : Vec TextForm Global) (pos end : Pos) (fs : FormTrees) → old ≡ new ++ V.Group parts pos ∷ []
     → Ok (put (form_view (Group parts pos end)) fs (begun_views new)) ≡ ended (position end) fs (begun_views old)
 closed old new parts pos end fs o =
     ap (λ gs. Ok (put (a_list gs (position pos) (position end)) fs (begun_views new))) (row_hidden parts)

@@ -10,8 +10,8 @@ use Rattle.text_reader.specs.Lexing.{Tokens, Mode, between, in_line, opened, in_
 use Rattle.text_reader.specs.FormTrees.{FormTree, FormTrees, no_form, form_and}
 use Rattle.text_reader.specs.Forming.{forms_of}
 use Rattle.text_reader.specs.Definitions.{definition_of, definitions_of, reading}
-use Rattle.text_reader.specs.declared.chunks.Place.{Place}
-use Rattle.text_reader.specs.declared.chunks.Place.TheVariants.{LineBegin, Within, Opened, Line, Block, Lost}
+use Rattle.text_reader.specs.declared.chunks.CharacterPlace.{CharacterPlace}
+use Rattle.text_reader.specs.declared.chunks.CharacterPlace.TheVariants.{LineBegin, Within, Opened, Line, Block, Lost}
 use Rattle.text_reader.specs.Chunks.{Part, begins_chunk, moved_between, moved_in_block, moved, empty_at, longer, chunks_from, chunks_of}
 use Rattle.text_reader.specs.Recovering.{Recovery, one_of, each_by_itself, of_forms, forms_in_part, tokens_of, of_parts, whole_or, recovering}
 use Rattle.text_reader.proofs.Dividing.{at, width, divided_from, size_one, size_more}
@@ -122,7 +122,7 @@ part_fine file p (Err w) is e = absurd (cc e)
 -- ---- chunks without a mistake
 
 -- what ends in the first column ends with a line break
-abbrev IsBroken : Place → List ℕ → Type 0
+abbrev IsBroken : CharacterPlace → List ℕ → Type 0
 IsBroken LineBegin text = (front : List ℕ) × (text ≡ front ++ 10 ∷ [])
 IsBroken Within text = ⊤
 IsBroken Opened text = ⊤
@@ -130,7 +130,7 @@ IsBroken Line text = ⊤
 IsBroken (Block depth last) text = ⊤
 IsBroken Lost text = ⊤
 
-broken_if : (b : Bool) (x y : Place) (text : List ℕ) → (b ≡ true → IsBroken x text) → IsBroken y text → IsBroken (if b then x else y) text
+broken_if : (b : Bool) (x y : CharacterPlace) (text : List ℕ) → (b ≡ true → IsBroken x text) → IsBroken y text → IsBroken (if b then x else y) text
 broken_if true x y text h k = h refl
 broken_if false x y text h k = k
 
@@ -139,7 +139,7 @@ between_broken c text =
     broken_if (c == 10) _ _ _ (λ e. (text, ap (λ x. text ++ x ∷ []) (eqb-true c 10 e)))
     (broken_if (c == 40) Opened _ _ (λ e. tt) (broken_if (c == 59) Line Within _ (λ e. tt) tt))
 
-moved_broken : (place : Place) (c : ℕ) (text : List ℕ) → IsBroken (moved place c) (text ++ c ∷ [])
+moved_broken : (place : CharacterPlace) (c : ℕ) (text : List ℕ) → IsBroken (moved place c) (text ++ c ∷ [])
 moved_broken LineBegin c text = between_broken c text
 moved_broken Within c text = between_broken c text
 moved_broken Opened c text = broken_if (c == 59) (Block 1 32) _ _ (λ e. tt) (between_broken c text)
@@ -149,7 +149,7 @@ moved_broken (Block depth last) c text =
     (broken_if (last == 59 && c == 41) _ _ _ (λ e. broken_if (nat_le depth 1) Within (Block (depth - 1) 32) _ (λ f. tt) tt) tt)
 moved_broken Lost c text = tt
 
-begins_broken : (place : Place) (c : ℕ) (text : List ℕ) → begins_chunk place c ≡ true → IsBroken place text → (front : List ℕ) × (text ≡ front ++ 10 ∷ [])
+begins_broken : (place : CharacterPlace) (c : ℕ) (text : List ℕ) → begins_chunk place c ≡ true → IsBroken place text → (front : List ℕ) × (text ≡ front ++ 10 ∷ [])
 begins_broken LineBegin c text e h = h
 begins_broken Within c text e h = absurd (false≢true e)
 begins_broken Opened c text e h = absurd (false≢true e)
@@ -174,7 +174,7 @@ first_fine file o p front cs ps at_end text_is others e =
     let rest : IsWhole file (p.at + size (front ++ 10 ∷ [])) cs es = subst (λ k. IsWhole file k cs es) (at_end ∙ ap (λ t. p.at + size t) text_is) (others none.1) in
     subst (λ t. IsWhole file p.at t (ds ++ es)) (sym (ap (λ t. t ++ cs) text_is ∙ append_assoc front (10 ∷ []) cs)) (whole_behind file p.at front cs ds es first rest)
 
-next_fine : (file o c : ℕ) (p : Part) (cs : List ℕ) (new more : List Part) (place : Place) (b : Bool) → begins_chunk place c ≡ b → o ≡ p.at + size p.text → IsBroken place p.text
+next_fine : (file o c : ℕ) (p : Part) (cs : List ℕ) (new more : List Part) (place : CharacterPlace) (b : Bool) → begins_chunk place c ≡ b → o ≡ p.at + size p.text → IsBroken place p.text
     → AreFine file o (c ∷ cs) new → AreFine file p.at ((p.text ++ c ∷ []) ++ cs) more → AreFine file p.at (p.text ++ c ∷ cs) (if b then p ∷ new else more)
 next_fine file o c p cs new more place true begins at_end broken first others e =
     let f = begins_broken place c p.text begins broken in
@@ -182,7 +182,7 @@ next_fine file o c p cs new more place true begins at_end broken first others e 
 next_fine file o c p cs new more place false begins at_end broken first others e =
     subst (λ t. IsWhole file p.at t (of_parts file more).definitions) (append_assoc p.text (c ∷ []) cs) (others e)
 
-chunks_fine : (file : ℕ) (cs : List ℕ) (place : Place) (p : Part) (o : ℕ) → o ≡ p.at + size p.text → IsBroken place p.text → AreFine file p.at (p.text ++ cs) (chunks_from place p o cs)
+chunks_fine : (file : ℕ) (cs : List ℕ) (place : CharacterPlace) (p : Part) (o : ℕ) → o ≡ p.at + size p.text → IsBroken place p.text → AreFine file p.at (p.text ++ cs) (chunks_from place p o cs)
 chunks_fine file [] place p o at_end broken e =
     let r = of_forms (forms_in_part file p) in
     let none : r.mistakes ≡ [] = sym (append-nil r.mistakes) ∙ e in

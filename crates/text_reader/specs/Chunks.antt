@@ -1,11 +1,11 @@
 -- A text in chunks: what begins in the first column of a line, outside of block comments, begins a chunk.
 use Rattle.std.specs.Prelude.{◌≡◌, ℕ, ◌+◌, ◌-◌, Bool, false, not, ◌&&◌, ◌||◌, nat_le, List, [], ◌∷◌, ◌++◌, length, if◌then◌else◌, ◌==◌}
 use Rattle.std.specs.Char.{encode_utf8, is_whitespace}
-use Rattle.text_reader.specs.declared.chunks.Place.{Place}
-use Rattle.text_reader.specs.declared.chunks.Place.TheVariants.{LineBegin, Within, Opened, Line, Block, Lost}
+use Rattle.text_reader.specs.declared.chunks.CharacterPlace.{CharacterPlace}
+use Rattle.text_reader.specs.declared.chunks.CharacterPlace.TheVariants.{LineBegin, Within, Opened, Line, Block, Lost}
 
 -- whether a character at a place begins a chunk: any but white space, the end of a list, and a comment to the line's end
-abbrev pub begins_chunk : Place → ℕ → Bool
+abbrev pub begins_chunk : CharacterPlace → ℕ → Bool
 begins_chunk LineBegin c = not (is_whitespace c || c == 41 || c == 59)
 begins_chunk Within c = false
 begins_chunk Opened c = false
@@ -14,18 +14,18 @@ begins_chunk (Block depth last) c = false
 begins_chunk Lost c = false
 
 -- the place behind a character outside of comments
-abbrev pub moved_between : ℕ → Place
+abbrev pub moved_between : ℕ → CharacterPlace
 moved_between c = if c == 10 then LineBegin else if c == 40 then Opened else if c == 59 then Line else Within
 
 -- the place behind a character of a block comment. A character that began or ended a comment does neither again
-abbrev pub moved_in_block : (depth last c : ℕ) → Place
+abbrev pub moved_in_block : (depth last c : ℕ) → CharacterPlace
 moved_in_block depth last c =
     if last == 40 && c == 59 then (if nat_le 1000 depth then Lost else Block (depth + 1) 32)
     else if last == 59 && c == 41 then (if nat_le depth 1 then Within else Block (depth - 1) 32)
     else Block depth c
 
 -- the place behind a character
-abbrev pub moved : Place → ℕ → Place
+abbrev pub moved : CharacterPlace → ℕ → CharacterPlace
 moved LineBegin c = moved_between c
 moved Within c = moved_between c
 moved Opened c = if c == 59 then Block 1 32 else moved_between c
@@ -45,12 +45,12 @@ abbrev pub longer : Part → ℕ → Part
 longer p c = record { at = p.at; text = p.text ++ c ∷ [] }
 
 -- a character goes into the chunk before it, or into the empty one behind that
-abbrev pub next_parts : (Part → List Part) → Place → (empty last : Part) → ℕ → List Part
+abbrev pub next_parts : (Part → List Part) → CharacterPlace → (empty last : Part) → ℕ → List Part
 next_parts others place empty last c =
     if begins_chunk place c then last ∷ others (longer empty c) else others (longer last c)
 
 -- the chunks of a text from an offset on, behind a chunk that may go on
-abbrev pub chunks_from : Place → Part → ℕ → List ℕ → List Part
+abbrev pub chunks_from : CharacterPlace → Part → ℕ → List ℕ → List Part
 chunks_from place last offset [] = last ∷ []
 chunks_from place last offset (c ∷ cs) =
     next_parts (λ p. chunks_from (moved place c) p (offset + length (encode_utf8 c)) cs) place (empty_at offset) last c
@@ -63,7 +63,7 @@ abbrev pub chunks_of : List ℕ → List Part
 chunks_of text = chunks_at 0 text
 
 -- the place behind characters
-abbrev pub behind_all : Place → List ℕ → Place
+abbrev pub behind_all : CharacterPlace → List ℕ → CharacterPlace
 behind_all place [] = place
 behind_all place (c ∷ cs) = behind_all (moved place c) cs
 

@@ -1,8 +1,8 @@
 -- Forms as they are read, without where they lie in memory.
 use Rattle.std.specs.Prelude.{Bool, false, List, [], ◌∷◌}
 use Rattle.core_syntax.specs.SyntaxViews.{position, name_view}
-use Rattle.text_reader.specs.declared.forms.Form as F
-use Rattle.text_reader.specs.declared.forms.Form.{Form, Row_of-Form, end_of-Form, more_of-Form}
+use Rattle.text_reader.specs.declared.forms.TextForm as F
+use Rattle.text_reader.specs.declared.forms.TextForm.{TextForm, Row_of-TextForm, end_of-TextForm, more_of-TextForm}
 use Rattle.text_reader.specs.declared.forms.Open.{Open}
 use Rattle.text_reader.specs.declared.forms.Open.TheVariants as V
 use Rattle.text_reader.specs.FormTrees.{FormTree, a_word, a_number, a_constant, a_binding, a_list, FormTrees, no_form, form_and}
@@ -11,18 +11,18 @@ use Rattle.text_reader.specs.Grammar.{Listed, listed}
 use Rattle.text_reader.specs.Forming.{Begun, a_group, a_binder, passes_begun}
 
 abbrev mutual
-  pub form_view : Form → FormTree
+  pub form_view : TextForm → FormTree
   form_view (F.Word i) = a_word (name_view i)
   form_view (F.Number z p) = a_number z (position p)
   form_view (F.Constant i p) = a_constant (name_view i) (position p)
   form_view (F.Bound' i b f) = a_binding (name_view i) (form_view f)
   form_view (F.Group' shape fs p e) = a_list (row_view fs) (position p) (position e)
 
-  pub row_view : {m : _} → Row_of-Form m → FormTrees
-  row_view end_of-Form = no_form
-  row_view (more_of-Form f fs) = form_and (form_view f) (row_view fs)
+  pub row_view : {m : _} → Row_of-TextForm m → FormTrees
+  row_view end_of-TextForm = no_form
+  row_view (more_of-TextForm f fs) = form_and (form_view f) (row_view fs)
 
-abbrev pub all_view : List Form → FormTrees
+abbrev pub all_view : List TextForm → FormTrees
 all_view [] = no_form
 all_view (f ∷ fs) = form_and (form_view f) (all_view fs)
 

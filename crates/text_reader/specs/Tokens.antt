@@ -2,8 +2,8 @@
 use Rattle.std.specs.Prelude.{ℕ, List, All, ⊤}
 use Rattle.text_reader.specs.declared.tokens.Token.{Token}
 use Rattle.text_reader.specs.declared.tokens.Token.TheVariants as T
-use Rattle.text_reader.specs.declared.tokens.State.{State}
-use Rattle.text_reader.specs.declared.tokens.State.TheVariants as S
+use Rattle.text_reader.specs.declared.tokens.LexerState.{LexerState}
+use Rattle.text_reader.specs.declared.tokens.LexerState.TheVariants as S
 use Rattle.text_reader.specs.Forms.{IdentIsWithin, PosIsWithin}
 
 abbrev pub TokenIsWithin : (file size : ℕ) → Token → Type 0
@@ -18,7 +18,7 @@ TokenIsWithin file size (T.Constant i p) = IdentIsWithin file size i × PosIsWit
 abbrev pub TokensAreWithin : (file size : ℕ) → List Token → Type 0
 TokensAreWithin file size ts = All (TokenIsWithin file size) ts
 
-abbrev pub StateIsWithin : (file size : ℕ) → State → Type 0
+abbrev pub StateIsWithin : (file size : ℕ) → LexerState → Type 0
 StateIsWithin file size S.Between = ⊤
 StateIsWithin file size S.Line = ⊤
 StateIsWithin file size (S.Opened p) = PosIsWithin file size p

@@ -7,8 +7,8 @@ use Rattle.text_reader.specs.declared.errors.ReadFault.{ReadFault}
 use Rattle.text_reader.specs.declared.errors.ReadFault.TheVariants.{Memory, Text}
 use Rattle.text_reader.specs.declared.tokens.Token.{Token}
 use Rattle.text_reader.specs.declared.tokens.Token.TheVariants as T
-use Rattle.text_reader.specs.declared.tokens.State.{State}
-use Rattle.text_reader.specs.declared.tokens.State.TheVariants as S
+use Rattle.text_reader.specs.declared.tokens.LexerState.{LexerState}
+use Rattle.text_reader.specs.declared.tokens.LexerState.TheVariants as S
 use Rattle.text_reader.specs.Lexemes.{Lexeme, begin_list, end_list, word, dash, binder, number, constant, Complaint, expected, unclosed, unknown, Wrong}
 use Rattle.text_reader.specs.Lexing.{Mode, between, in_line, opened, in_block, signed, in_name, in_constant}
 
@@ -24,7 +24,7 @@ token_view (T.Constant i p) = constant (name_view i) (position p)
 abbrev pub token_views : List Token → List Lexeme
 token_views ts = map token_view ts
 
-abbrev pub mode_view : State → Mode
+abbrev pub mode_view : LexerState → Mode
 mode_view S.Between = between
 mode_view S.Line = in_line
 mode_view (S.Opened p) = opened (position p)

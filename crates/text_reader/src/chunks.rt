@@ -22,7 +22,7 @@ pub struct Chunk {
 
 /// Where the next character of a text stands.
 #[derive(Clone, Copy)]
-pub enum Place {
+pub enum CharacterPlace {
     /// In the first column of a line.
     LineBegin,
     Within,
@@ -43,7 +43,7 @@ pub fn chunks(alloc: Global, text: &str) -> Result<Vec<Chunk>, AllocError>
 {
     let mut chunks = Vec::new(alloc);
     let mut chunk = chunk_at(alloc, 0);
-    let mut place = Place::Within;
+    let mut place = CharacterPlace::Within;
     for (offset, c) in text.char_indices() {
         let end = offset + c.len_utf8();
         match next(chunk_at(alloc, offset), place, c, end, chunk, &mut chunks) {
@@ -59,7 +59,7 @@ pub fn chunks(alloc: Global, text: &str) -> Result<Vec<Chunk>, AllocError>
 // Reads one more character, up to this end: the chunk that it stands in, where it begins the empty one or goes on in the last.
 fn next(
     empty: Chunk,
-    place: Place,
+    place: CharacterPlace,
     c: char,
     end: usize,
     last: Chunk,
@@ -109,57 +109,61 @@ fn longer(mut chunk: Chunk, c: char, end: usize) -> Result<Chunk, AllocError>
 }
 
 // Whether a character begins a chunk.
-fn begins_chunk(place: Place, c: char) -> bool
+fn begins_chunk(place: CharacterPlace, c: char) -> bool
     ensures { result ≡ begins_chunk place c }
 {
     match place {
-        Place::LineBegin => !(c.is_whitespace() || c == ')' || c == ';'),
-        Place::Within | Place::Opened | Place::Line | Place::Block(_, _) | Place::Lost => false,
+        CharacterPlace::LineBegin => !(c.is_whitespace() || c == ')' || c == ';'),
+        CharacterPlace::Within
+        | CharacterPlace::Opened
+        | CharacterPlace::Line
+        | CharacterPlace::Block(_, _)
+        | CharacterPlace::Lost => false,
     }
 }
 
 // The place behind a character.
-fn moved(place: Place, c: char) -> Place
+fn moved(place: CharacterPlace, c: char) -> CharacterPlace
     ensures { result ≡ moved place c }
 {
     match place {
-        Place::LineBegin | Place::Within => moved_between(c),
-        Place::Opened if c == ';' => Place::Block(1, ' '),
-        Place::Opened => moved_between(c),
-        Place::Line if c == '\n' => Place::LineBegin,
-        Place::Line => Place::Line,
-        Place::Block(depth, last) => moved_in_block(depth, last, c),
-        Place::Lost => Place::Lost,
+        CharacterPlace::LineBegin | CharacterPlace::Within => moved_between(c),
+        CharacterPlace::Opened if c == ';' => CharacterPlace::Block(1, ' '),
+        CharacterPlace::Opened => moved_between(c),
+        CharacterPlace::Line if c == '\n' => CharacterPlace::LineBegin,
+        CharacterPlace::Line => CharacterPlace::Line,
+        CharacterPlace::Block(depth, last) => moved_in_block(depth, last, c),
+        CharacterPlace::Lost => CharacterPlace::Lost,
     }
 }
 
 // The place behind a character outside of comments.
-fn moved_between(c: char) -> Place
+fn moved_between(c: char) -> CharacterPlace
     ensures { result ≡ moved_between c }
 {
     match c {
-        '\n' => Place::LineBegin,
-        '(' => Place::Opened,
-        ';' => Place::Line,
-        _ => Place::Within,
+        '\n' => CharacterPlace::LineBegin,
+        '(' => CharacterPlace::Opened,
+        ';' => CharacterPlace::Line,
+        _ => CharacterPlace::Within,
     }
 }
 
 // The place behind a character of a block comment. A character that began or ended a comment does neither again.
-fn moved_in_block(depth: usize, last: char, c: char) -> Place
+fn moved_in_block(depth: usize, last: char, c: char) -> CharacterPlace
     ensures { result ≡ moved_in_block depth last c }
 {
     if last == '(' && c == ';' {
         if depth >= DEEPEST {
-            return Place::Lost;
+            return CharacterPlace::Lost;
         }
-        return Place::Block(depth + 1, ' ');
+        return CharacterPlace::Block(depth + 1, ' ');
     }
     if last == ';' && c == ')' {
         if depth <= 1 {
-            return Place::Within;
+            return CharacterPlace::Within;
         }
-        return Place::Block(depth - 1, ' ');
+        return CharacterPlace::Block(depth - 1, ' ');
     }
-    Place::Block(depth, c)
+    CharacterPlace::Block(depth, c)
 }

@@ -12,7 +12,7 @@ ghost use Rattle.text_reader.specs.Lexemes.{unknown};
 ghost use Rattle.text_reader.specs.Views.{Gives};
 
 use crate::errors::{Mistake, Problem, ReadFault, TextError};
-use crate::forms::Form;
+use crate::forms::TextForm;
 use crate::heads::is_passed_over;
 use crate::parts::headed;
 use crate::rules::rule;
@@ -22,7 +22,7 @@ use crate::types::type_definition;
 use core_syntax::syntax::{Def, Ident};
 
 /// The definitions that forms are.
-pub fn definitions(at: Source, forms: &[Form]) -> Result<Vec<Def>, ReadFault>
+pub fn definitions(at: Source, forms: &[TextForm]) -> Result<Vec<Def>, ReadFault>
     requires { FormsAreWithin at.file at.len forms.now }
     ensures read { Gives (λ ds. definition_views ds.items) result (definitions_of (all_view forms.now)) }
     ensures within { MatchResult result (λ ds. DefinitionsAreWithin at.file at.len (definition_views ds.items)) (FaultIsWithin at.file at.len) }
@@ -35,7 +35,7 @@ pub fn definitions(at: Source, forms: &[Form]) -> Result<Vec<Def>, ReadFault>
 }
 
 /// The definition that a form is.
-pub fn definition(at: Source, form: &Form) -> Result<Def, ReadFault>
+pub fn definition(at: Source, form: &TextForm) -> Result<Def, ReadFault>
     requires { FormIsWithin at.file at.len form.now }
     ensures read { Gives definition_view result (definition_of (form_view form.now)) }
     ensures within { MatchResult result (λ d. DefinitionIsWithin at.file at.len (definition_view d)) (FaultIsWithin at.file at.len) }

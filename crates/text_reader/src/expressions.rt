@@ -14,31 +14,31 @@ ghost use Rattle.text_reader.specs.ExprGrammar.{defined_in, expr_arguments_of, e
 ghost use Rattle.text_reader.specs.Views.{Gives};
 
 use crate::errors::{Mistake, ReadFault, fault};
-use crate::forms::Form;
+use crate::forms::TextForm;
 use crate::parts::{head, name, seen};
 use crate::source::Source;
 use core_syntax::syntax::{Expr, Ident, LetDef, Pos};
 
 /// The expression that a form is.
 #[cycle(expression)]
-pub fn expression(at: Source, form: &Form) -> Result<Expr, ReadFault>
+pub fn expression(at: Source, form: &TextForm) -> Result<Expr, ReadFault>
     requires { FormIsWithin at.file at.len form.now }
     ensures read { Gives expr_view result (expr_of (form_view form.now)) }
     ensures within { MatchResult result (λ e. ExprIsWithin at.file at.len (expr_view e)) (FaultIsWithin at.file at.len) }
 {
     match form {
-        Form::Word(name) => word_expression(at, name),
-        Form::Number(val, pos) => Ok(Expr::ConstInt {
+        TextForm::Word(name) => word_expression(at, name),
+        TextForm::Number(val, pos) => Ok(Expr::ConstInt {
             val: *val,
             pos: *pos,
         }),
-        Form::Constant(name, pos) => Ok(Expr::ConstPrim {
+        TextForm::Constant(name, pos) => Ok(Expr::ConstPrim {
             val: name.clone()?,
             pos: *pos,
         }),
-        Form::Bound(name, _) => Err(fault(Mistake::Expression, name.1)),
-        Form::Group(parts, pos, end) => {
-            let parts: &[Form] = parts;
+        TextForm::Bound(name, _) => Err(fault(Mistake::Expression, name.1)),
+        TextForm::Group(parts, pos, end) => {
+            let parts: &[TextForm] = parts;
             seen(at, parts);
             let sym = head(at, parts, *end)?;
             if sym.0.as_str() == "let" {
@@ -52,7 +52,7 @@ pub fn expression(at: Source, form: &Form) -> Result<Expr, ReadFault>
 
 // The let with these parts, its head the first.
 #[cycle(expression)]
-fn let_expression(at: Source, forms: &[Form], pos: Pos, end: Pos) -> Result<Expr, ReadFault>
+fn let_expression(at: Source, forms: &[TextForm], pos: Pos, end: Pos) -> Result<Expr, ReadFault>
     requires forms { FormsAreWithin at.file at.len forms.now }
     requires pos { PosIsWithin at.file at.len pos }
     requires end { PosIsWithin at.file at.len end }
@@ -73,14 +73,14 @@ fn let_expression(at: Source, forms: &[Form], pos: Pos, end: Pos) -> Result<Expr
 
 // The definitions of a let.
 #[cycle(expression)]
-fn let_definitions(at: Source, form: &Form) -> Result<Vec<LetDef>, ReadFault>
+fn let_definitions(at: Source, form: &TextForm) -> Result<Vec<LetDef>, ReadFault>
     requires { FormIsWithin at.file at.len form.now }
     ensures read { Gives (λ ds. let_views ds.items) result (lets_of (form_view form.now)) }
     ensures within { MatchResult result (λ ds. All (LetIsWithin at.file at.len) ds.items) (FaultIsWithin at.file at.len) }
 {
     match form {
-        Form::Group(parts, _, _) => {
-            let parts: &[Form] = parts;
+        TextForm::Group(parts, _, _) => {
+            let parts: &[TextForm] = parts;
             seen(at, parts);
             let_definitions_of(at, parts)
         }
@@ -90,7 +90,7 @@ fn let_definitions(at: Source, form: &Form) -> Result<Vec<LetDef>, ReadFault>
 
 // The definitions of a let that forms are.
 #[cycle(expression)]
-fn let_definitions_of(at: Source, forms: &[Form]) -> Result<Vec<LetDef>, ReadFault>
+fn let_definitions_of(at: Source, forms: &[TextForm]) -> Result<Vec<LetDef>, ReadFault>
     requires { FormsAreWithin at.file at.len forms.now }
     ensures read { Gives (λ ds. let_views ds.items) result (lets_in (all_view forms.now)) }
     ensures within { MatchResult result (λ ds. All (LetIsWithin at.file at.len) ds.items) (FaultIsWithin at.file at.len) }
@@ -104,14 +104,14 @@ fn let_definitions_of(at: Source, forms: &[Form]) -> Result<Vec<LetDef>, ReadFau
 
 // One definition of a let.
 #[cycle(expression)]
-fn let_definition(at: Source, form: &Form) -> Result<LetDef, ReadFault>
+fn let_definition(at: Source, form: &TextForm) -> Result<LetDef, ReadFault>
     requires { FormIsWithin at.file at.len form.now }
     ensures read { Gives let_tuple result (let_definition_of (form_view form.now)) }
     ensures within { MatchResult result (LetIsWithin at.file at.len) (FaultIsWithin at.file at.len) }
 {
     match form {
-        Form::Group(parts, pos, _) => {
-            let parts: &[Form] = parts;
+        TextForm::Group(parts, pos, _) => {
+            let parts: &[TextForm] = parts;
             seen(at, parts);
             let_definition_of(at, parts, *pos)
         }
@@ -121,7 +121,7 @@ fn let_definition(at: Source, form: &Form) -> Result<LetDef, ReadFault>
 
 // A definition of a let with these parts: a name, its type's name, and its value.
 #[cycle(expression)]
-fn let_definition_of(at: Source, parts: &[Form], pos: Pos) -> Result<LetDef, ReadFault>
+fn let_definition_of(at: Source, parts: &[TextForm], pos: Pos) -> Result<LetDef, ReadFault>
     requires parts { FormsAreWithin at.file at.len parts.now }
     requires pos { PosIsWithin at.file at.len pos }
     ensures read { Gives let_tuple result (defined_in (all_view parts.now) (position pos)) }
@@ -141,7 +141,7 @@ fn let_definition_of(at: Source, parts: &[Form], pos: Pos) -> Result<LetDef, Rea
 
 // The expressions that a list's parts after its head are.
 #[cycle(expression)]
-fn arguments(at: Source, parts: &[Form]) -> Result<Vec<Expr>, ReadFault>
+fn arguments(at: Source, parts: &[TextForm]) -> Result<Vec<Expr>, ReadFault>
     requires { FormsAreWithin at.file at.len parts.now }
     ensures read { Gives (λ es. expr_views es.items) result (expr_arguments_of (all_view parts.now)) }
     ensures within { MatchResult result (λ es. All (λ e. ExprIsWithin at.file at.len (expr_view e)) es.items) (FaultIsWithin at.file at.len) }

@@ -22,39 +22,40 @@ use core_syntax::syntax::{Ident, Pos};
 
 /// A form, as the parentheses of a text make it.
 #[derive(Drop)]
-pub enum Form {
+pub enum TextForm {
     Word(Ident),
     Number(i128, Pos),
     /// A name with `$` before it, and where the sign stands.
     Constant(Ident, Pos),
     /// A name that is bound to what a form matches.
-    Bound(Ident, Box<Form>),
+    Bound(Ident, Box<TextForm>),
     /// A list, where it begins and where it ends.
-    Group(Vec<Form>, Pos, Pos),
+    Group(Vec<TextForm>, Pos, Pos),
 }
 
 /// A form that is begun: a list with its forms so far, or a name that is bound to what comes next.
 #[derive(Drop)]
 pub enum Open {
-    Group(Vec<Form>, Pos),
+    Group(Vec<TextForm>, Pos),
     Binder(Ident),
 }
 
-impl Form {
+impl TextForm {
     /// The position of the form.
     pub fn pos(&self) -> Pos
         ensures within { (file size : ℕ) → FormIsWithin file size self.now → PosIsWithin file size result }
         ensures place { position result ≡ place_of (form_view self.now) }
     {
         match self {
-            Form::Word(name) | Form::Bound(name, _) => name.1,
-            Form::Number(_, pos) | Form::Constant(_, pos) | Form::Group(_, pos, _) => *pos,
+            TextForm::Word(name) | TextForm::Bound(name, _) => name.1,
+            TextForm::Number(_, pos) | TextForm::Constant(_, pos) | TextForm::Group(_, pos, _) =>
+                *pos,
         }
     }
 }
 
 /// The forms of a text.
-pub fn forms(at: Source, tokens: Vec<Token>) -> Result<Vec<Form>, ReadFault>
+pub fn forms(at: Source, tokens: Vec<Token>) -> Result<Vec<TextForm>, ReadFault>
     requires { TokensAreWithin at.file at.len tokens.items }
     ensures within { MatchResult result (λ fs. FormsAreWithin at.file at.len fs.items) (FaultIsWithin at.file at.len) }
     // What the tokens give, one after another, or the first mistake among them.
@@ -109,7 +110,7 @@ fn add(
     at: Source,
     token: Token,
     stack: &mut Vec<Open>,
-    forms: &mut Vec<Form>,
+    forms: &mut Vec<TextForm>,
 ) -> Result<(), ReadFault>
     requires token { TokenIsWithin at.file at.len token }
     requires stack { OpensAreWithin at.file at.len stack.old.items }
@@ -126,10 +127,10 @@ fn add(
             start(at, Open::Binder(name), pos, stack)
         }
         Token::Close(pos) => close(at, pos, stack, forms),
-        Token::Word(name) => put(at, Form::Word(name), stack, forms),
+        Token::Word(name) => put(at, TextForm::Word(name), stack, forms),
         Token::Dash(name) => dash(at, name, stack, forms),
-        Token::Number(n, pos) => put(at, Form::Number(n, pos), stack, forms),
-        Token::Constant(name, pos) => put(at, Form::Constant(name, pos), stack, forms),
+        Token::Number(n, pos) => put(at, TextForm::Number(n, pos), stack, forms),
+        Token::Constant(name, pos) => put(at, TextForm::Constant(name, pos), stack, forms),
     }
 }
 
@@ -138,7 +139,7 @@ fn dash(
     at: Source,
     name: Ident,
     stack: &mut Vec<Open>,
-    forms: &mut Vec<Form>,
+    forms: &mut Vec<TextForm>,
 ) -> Result<(), ReadFault>
     requires name { IdentIsWithin at.file at.len name }
     requires stack { OpensAreWithin at.file at.len stack.old.items }
@@ -151,7 +152,7 @@ fn dash(
     if !passes_over(stack.as_slice()) {
         return Err(fault(Mistake::Digits, name.1));
     }
-    put(at, Form::Word(name), stack, forms)
+    put(at, TextForm::Word(name), stack, forms)
 }
 
 // Whether the outermost form that is begun is a list that is passed over.
@@ -172,11 +173,11 @@ fn outermost_passes(stack: &[Open]) -> bool
 }
 
 /// Whether the parts of a list are those of a definition that is passed over.
-pub fn begins_passed_over(parts: &[Form]) -> bool
+pub fn begins_passed_over(parts: &[TextForm]) -> bool
     ensures { result ≡ begins_passed_over (all_view parts.now) }
 {
     match parts {
-        [Form::Word(head), ..] => is_passed_over(&head.0),
+        [TextForm::Word(head), ..] => is_passed_over(&head.0),
         _ => false,
     }
 }
@@ -203,7 +204,7 @@ fn close(
     at: Source,
     end: Pos,
     stack: &mut Vec<Open>,
-    forms: &mut Vec<Form>,
+    forms: &mut Vec<TextForm>,
 ) -> Result<(), ReadFault>
     requires end { PosIsWithin at.file at.len end }
     requires stack { OpensAreWithin at.file at.len stack.old.items }
@@ -216,16 +217,16 @@ fn close(
     match stack.pop() {
         None => Err(fault(Mistake::ListBegin, end)),
         Some(Open::Binder(_)) => Err(fault(Mistake::BoundPattern, end)),
-        Some(Open::Group(parts, pos)) => put(at, Form::Group(parts, pos, end), stack, forms),
+        Some(Open::Group(parts, pos)) => put(at, TextForm::Group(parts, pos, end), stack, forms),
     }
 }
 
 // Adds a whole form to the list that was begun last, bound to the names that wait for it.
 fn put(
     at: Source,
-    form: Form,
+    form: TextForm,
     stack: &mut Vec<Open>,
-    forms: &mut Vec<Form>,
+    forms: &mut Vec<TextForm>,
 ) -> Result<(), ReadFault>
     requires form { FormIsWithin at.file at.len form }
     requires stack { OpensAreWithin at.file at.len stack.old.items }
@@ -238,7 +239,7 @@ fn put(
     let mut form = form;
     while let Some(begun) = stack.pop() {
         match begun {
-            Open::Binder(name) => form = Form::Bound(name, Box::new(at.alloc, form)?),
+            Open::Binder(name) => form = TextForm::Bound(name, Box::new(at.alloc, form)?),
             Open::Group(mut parts, pos) => {
                 parts.push(form)?;
                 stack.push(Open::Group(parts, pos))?;

@@ -10,7 +10,7 @@ ghost use Rattle.text_reader.specs.SpecGrammar.{bits_model_in, bits_model_of, la
 ghost use Rattle.text_reader.specs.SpecViews.{model_type_view, model_value_view, model_view, variant_value_view};
 
 use crate::errors::{Mistake, ReadFault, fault};
-use crate::forms::Form;
+use crate::forms::TextForm;
 use crate::parts::{Parts, headed, list, next_name, no_more};
 use crate::pieces::last;
 use crate::source::Source;
@@ -33,7 +33,7 @@ pub fn model(at: Source, parts: Parts<'_>) -> Result<Model, ReadFault>
 }
 
 // What the values of a type stand for.
-fn model_value(at: Source, form: &Form) -> Result<ModelValue, ReadFault>
+fn model_value(at: Source, form: &TextForm) -> Result<ModelValue, ReadFault>
     requires { FormIsWithin at.file at.len form.now }
     ensures { Gives model_value_view result (model_value_of (form_view form.now)) }
 {
@@ -47,7 +47,7 @@ fn model_value(at: Source, form: &Form) -> Result<ModelValue, ReadFault>
 }
 
 // What variants stand for.
-fn variant_values(at: Source, forms: &[Form]) -> Result<Vec<VariantValue>, ReadFault>
+fn variant_values(at: Source, forms: &[TextForm]) -> Result<Vec<VariantValue>, ReadFault>
     requires { FormsAreWithin at.file at.len forms.now }
     ensures { Gives (λ vs. map variant_value_view vs.items) result (variant_values_of (all_view forms.now)) }
 {
@@ -59,12 +59,12 @@ fn variant_values(at: Source, forms: &[Form]) -> Result<Vec<VariantValue>, ReadF
 }
 
 // `NAME` or `(NAME EXPRESSION)`.
-fn variant_value(at: Source, form: &Form) -> Result<VariantValue, ReadFault>
+fn variant_value(at: Source, form: &TextForm) -> Result<VariantValue, ReadFault>
     requires { FormIsWithin at.file at.len form.now }
     ensures { Gives variant_value_view result (variant_value_of (form_view form.now)) }
 {
     match form {
-        Form::Word(name) => Ok(VariantValue {
+        TextForm::Word(name) => Ok(VariantValue {
             name: name.clone()?,
             value: None,
             pos: name.1,
@@ -74,7 +74,7 @@ fn variant_value(at: Source, form: &Form) -> Result<VariantValue, ReadFault>
 }
 
 // `(NAME EXPRESSION)`.
-fn valued(at: Source, form: &Form) -> Result<VariantValue, ReadFault>
+fn valued(at: Source, form: &TextForm) -> Result<VariantValue, ReadFault>
     requires { FormIsWithin at.file at.len form.now }
     ensures { Gives variant_value_view result (valued_of (form_view form.now)) }
 {
@@ -89,7 +89,7 @@ fn valued(at: Source, form: &Form) -> Result<VariantValue, ReadFault>
 }
 
 /// The types that forms are.
-pub fn model_types(at: Source, forms: &[Form]) -> Result<Vec<ModelType>, ReadFault>
+pub fn model_types(at: Source, forms: &[TextForm]) -> Result<Vec<ModelType>, ReadFault>
     requires { FormsAreWithin at.file at.len forms.now }
     ensures { Gives (λ ts. map model_type_view ts.items) result (model_types_of (all_view forms.now)) }
 {
@@ -109,12 +109,12 @@ pub fn last_model(at: Source, parts: Parts<'_>) -> Result<ModelType, ReadFault>
 }
 
 /// The type that a form is.
-pub fn model_type(at: Source, form: &Form) -> Result<ModelType, ReadFault>
+pub fn model_type(at: Source, form: &TextForm) -> Result<ModelType, ReadFault>
     requires { FormIsWithin at.file at.len form.now }
     ensures { Gives model_type_view result (model_type_of (form_view form.now)) }
 {
     match form {
-        Form::Word(name) => word_model(name),
+        TextForm::Word(name) => word_model(name),
         _ => list_model(at, form),
     }
 }
@@ -133,7 +133,7 @@ fn word_model(word: &Ident) -> Result<ModelType, ReadFault>
 }
 
 // `(bv)`, `(bv INT)` or `(named TYPE)`.
-fn list_model(at: Source, form: &Form) -> Result<ModelType, ReadFault>
+fn list_model(at: Source, form: &TextForm) -> Result<ModelType, ReadFault>
     requires { FormIsWithin at.file at.len form.now }
     ensures { Gives model_type_view result (list_model_of (form_view form.now)) }
 {
@@ -157,10 +157,10 @@ fn bits_model(at: Source, parts: Parts<'_>) -> Result<ModelType, ReadFault>
 }
 
 // Bit vectors of a width, in the list that begins there.
-fn bits_of_width(form: &Form, pos: Pos) -> Result<ModelType, ReadFault>
+fn bits_of_width(form: &TextForm, pos: Pos) -> Result<ModelType, ReadFault>
     ensures { Gives model_type_view result (bits_model_in (form_view form.now) (position pos)) }
 {
-    let Form::Number(n, place) = form else {
+    let TextForm::Number(n, place) = form else {
         return Err(fault(Mistake::Width, form.pos()));
     };
     match usize::try_from(*n) {

@@ -11,14 +11,14 @@ ghost use Rattle.text_reader.specs.Lists.{PartsAreWithin};
 ghost use Rattle.text_reader.specs.Views.{Gives};
 
 use crate::errors::{Mistake, ReadFault, fault};
-use crate::forms::Form;
+use crate::forms::TextForm;
 use crate::source::Source;
 use core_syntax::syntax::{Ident, Pos};
 
 /// A list of a text: the parts that are left to read.
 #[derive(Clone, Copy)]
 pub struct Parts<'a> {
-    pub forms: &'a [Form],
+    pub forms: &'a [TextForm],
     /// Where the list begins.
     pub pos: Pos,
     /// Where it ends.
@@ -30,7 +30,7 @@ pub fn next<'a>(
     at: Source,
     parts: Parts<'a>,
     mistake: Mistake,
-) -> Result<(&'a Form, Parts<'a>), ReadFault>
+) -> Result<(&'a TextForm, Parts<'a>), ReadFault>
     requires { PartsAreWithin at.file at.len parts }
     ensures read { Gives (λ p. (form_view p.0.now, parts_view p.1)) result (next_of mistake (parts_view parts.entry)) }
     ensures within { MatchResult result
@@ -62,19 +62,19 @@ pub fn next_name<'a>(at: Source, parts: Parts<'a>) -> Result<(Ident, Parts<'a>),
 }
 
 /// The name that a form is.
-pub fn name(at: Source, form: &Form) -> Result<Ident, ReadFault>
+pub fn name(at: Source, form: &TextForm) -> Result<Ident, ReadFault>
     requires { FormIsWithin at.file at.len form.now }
     ensures read { Gives name_view result (name_of (form_view form.now)) }
     ensures within { MatchResult result (IdentIsWithin at.file at.len) (FaultIsWithin at.file at.len) }
 {
     match form {
-        Form::Word(name) => Ok(name.clone()?),
+        TextForm::Word(name) => Ok(name.clone()?),
         _ => Err(fault(Mistake::Name, form.pos())),
     }
 }
 
 /// The name that a list begins with.
-pub fn head(at: Source, forms: &[Form], end: Pos) -> Result<Ident, ReadFault>
+pub fn head(at: Source, forms: &[TextForm], end: Pos) -> Result<Ident, ReadFault>
     requires forms { FormsAreWithin at.file at.len forms.now }
     requires end { PosIsWithin at.file at.len end }
     ensures read { Gives name_view result (head_of (all_view forms.now) (position end)) }
@@ -88,7 +88,7 @@ pub fn head(at: Source, forms: &[Form], end: Pos) -> Result<Ident, ReadFault>
 
 /// Does nothing. Called before a call that goes down a form, so that what that one requires of the parts is known beside what
 /// makes the recursion end.
-pub fn seen(at: Source, forms: &[Form])
+pub fn seen(at: Source, forms: &[TextForm])
     requires { FormsAreWithin at.file at.len forms.now }
     ensures { FormsAreWithin at.file at.len forms.now }
 {
@@ -102,7 +102,7 @@ pub fn next_if<'a>(at: Source, parts: Parts<'a>, word: &str) -> (bool, Parts<'a>
     ensures within { PartsAreWithin at.file at.len result.1 }
 {
     match parts.forms {
-        [Form::Word(name), rest @ ..] if name.0.as_str() == word => (
+        [TextForm::Word(name), rest @ ..] if name.0.as_str() == word => (
             true,
             Parts {
                 forms: rest,
@@ -126,13 +126,13 @@ pub fn no_more(at: Source, parts: Parts<'_>) -> Result<(), ReadFault>
 }
 
 /// The list that a form is.
-pub fn list<'a>(at: Source, form: &'a Form, mistake: Mistake) -> Result<Parts<'a>, ReadFault>
+pub fn list<'a>(at: Source, form: &'a TextForm, mistake: Mistake) -> Result<Parts<'a>, ReadFault>
     requires { FormIsWithin at.file at.len form.now }
     ensures read { Gives parts_view result (list_of mistake (form_view form.now)) }
     ensures within { MatchResult result (PartsAreWithin at.file at.len) (FaultIsWithin at.file at.len) }
 {
     match form {
-        Form::Group(forms, pos, end) => Ok(Parts {
+        TextForm::Group(forms, pos, end) => Ok(Parts {
             forms,
             pos: *pos,
             end: *end,
@@ -144,7 +144,7 @@ pub fn list<'a>(at: Source, form: &'a Form, mistake: Mistake) -> Result<Parts<'a
 /// The word that a list begins with, and the list after it.
 pub fn headed<'a>(
     at: Source,
-    form: &'a Form,
+    form: &'a TextForm,
     mistake: Mistake,
 ) -> Result<(&'a Ident, Parts<'a>), ReadFault>
     requires { FormIsWithin at.file at.len form.now }
@@ -167,20 +167,25 @@ pub fn headed<'a>(
 }
 
 // The word that a form is; else there is a mistake at this position.
-fn word<'a>(at: Source, form: &'a Form, mistake: Mistake, pos: Pos) -> Result<&'a Ident, ReadFault>
+fn word<'a>(
+    at: Source,
+    form: &'a TextForm,
+    mistake: Mistake,
+    pos: Pos,
+) -> Result<&'a Ident, ReadFault>
     requires form { FormIsWithin at.file at.len form.now }
     requires pos { PosIsWithin at.file at.len pos }
     ensures read { Gives (λ w. name_view w.now) result (word_at mistake (position pos) (form_view form.now)) }
     ensures within { MatchResult result (λ w. IdentIsWithin at.file at.len w.now) (FaultIsWithin at.file at.len) }
 {
     match form {
-        Form::Word(word) => Ok(word),
+        TextForm::Word(word) => Ok(word),
         _ => Err(fault(mistake, pos)),
     }
 }
 
 /// The names that forms are.
-pub fn names(at: Source, forms: &[Form]) -> Result<Vec<Ident>, ReadFault>
+pub fn names(at: Source, forms: &[TextForm]) -> Result<Vec<Ident>, ReadFault>
     requires { FormsAreWithin at.file at.len forms.now }
     ensures read { Gives (λ ns. map name_view ns.items) result (names_of (all_view forms.now)) }
     ensures within { MatchResult result (λ ns. IdentsAreWithin at.file at.len ns.items) (FaultIsWithin at.file at.len) }

@@ -13,31 +13,31 @@ ghost use Rattle.text_reader.specs.PatternGrammar.{arguments_of, list_pattern_of
 ghost use Rattle.text_reader.specs.Views.{Gives};
 
 use crate::errors::{Mistake, ReadFault, fault};
-use crate::forms::Form;
+use crate::forms::TextForm;
 use crate::parts::{Parts, head, next, no_more, seen};
 use crate::source::Source;
 use core_syntax::syntax::{Ident, Pattern, Pos};
 
 /// The pattern that a form is.
 #[cycle(pattern)]
-pub fn pattern(at: Source, form: &Form) -> Result<Pattern, ReadFault>
+pub fn pattern(at: Source, form: &TextForm) -> Result<Pattern, ReadFault>
     requires { FormIsWithin at.file at.len form.now }
     ensures read { Gives pattern_view result (pattern_of (form_view form.now)) }
     ensures within { MatchResult result (λ p. PatternIsWithin at.file at.len (pattern_view p)) (FaultIsWithin at.file at.len) }
 {
     match form {
-        Form::Word(name) => word_pattern(at, name),
-        Form::Number(val, pos) => Ok(Pattern::ConstInt {
+        TextForm::Word(name) => word_pattern(at, name),
+        TextForm::Number(val, pos) => Ok(Pattern::ConstInt {
             val: *val,
             pos: *pos,
         }),
-        Form::Constant(name, pos) => Ok(Pattern::ConstPrim {
+        TextForm::Constant(name, pos) => Ok(Pattern::ConstPrim {
             val: name.clone()?,
             pos: *pos,
         }),
-        Form::Bound(name, of) => bound(at, name, pattern(at, of)?),
-        Form::Group(forms, pos, end) => {
-            let forms: &[Form] = forms;
+        TextForm::Bound(name, of) => bound(at, name, pattern(at, of)?),
+        TextForm::Group(forms, pos, end) => {
+            let forms: &[TextForm] = forms;
             seen(at, forms);
             let sym = head(at, forms, *end)?;
             let args = arguments(at, forms)?;
@@ -53,7 +53,7 @@ pub fn pattern(at: Source, form: &Form) -> Result<Pattern, ReadFault>
 
 // The patterns that a list's parts after its head are.
 #[cycle(pattern)]
-fn arguments(at: Source, forms: &[Form]) -> Result<Vec<Pattern>, ReadFault>
+fn arguments(at: Source, forms: &[TextForm]) -> Result<Vec<Pattern>, ReadFault>
     requires { FormsAreWithin at.file at.len forms.now }
     ensures read { Gives (λ ps. pattern_views ps.items) result (arguments_of (all_view forms.now)) }
     ensures within { MatchResult result (λ ps. All (λ p. PatternIsWithin at.file at.len (pattern_view p)) ps.items) (FaultIsWithin at.file at.len) }
@@ -140,7 +140,7 @@ fn macro_arg(at: Source, parts: Parts<'_>) -> Result<Pattern, ReadFault>
     let (_, rest) = next(at, parts, Mistake::Name)?;
     let (form, rest) = next(at, rest, Mistake::Index)?;
     no_more(at, rest)?;
-    let Form::Number(n, at_number) = form else {
+    let TextForm::Number(n, at_number) = form else {
         return Err(fault(Mistake::Index, form.pos()));
     };
     match usize::try_from(*n) {

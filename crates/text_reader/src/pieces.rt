@@ -9,7 +9,7 @@ ghost use Rattle.text_reader.specs.Views.{Gives};
 ghost use Rattle.text_reader.specs.SpecGrammar.{last_of, name_list_of, section_of, use_of};
 
 use crate::errors::{Mistake, ReadFault, fault};
-use crate::forms::Form;
+use crate::forms::TextForm;
 use crate::parts::{Parts, headed, list, names, next, next_name, no_more};
 use crate::source::Source;
 use core_syntax::syntax::Ident;
@@ -17,7 +17,7 @@ use core_syntax::syntax::Ident;
 /// What follows this word in the list that a form is. Any other form is the mistake, at its beginning.
 pub fn section<'a>(
     at: Source,
-    form: &'a Form,
+    form: &'a TextForm,
     word: &str,
     mistake: Mistake,
 ) -> Result<Parts<'a>, ReadFault>
@@ -33,7 +33,7 @@ pub fn section<'a>(
 }
 
 /// The part that comes next, the list's last.
-pub fn last<'a>(at: Source, parts: Parts<'a>, mistake: Mistake) -> Result<&'a Form, ReadFault>
+pub fn last<'a>(at: Source, parts: Parts<'a>, mistake: Mistake) -> Result<&'a TextForm, ReadFault>
     requires { PartsAreWithin at.file at.len parts }
     ensures read { Gives (λ f. form_view f.now) result (last_of mistake (parts_view parts.entry)) }
     ensures within { IfOk result (λ f. FormIsWithin at.file at.len f.now) }
@@ -44,7 +44,7 @@ pub fn last<'a>(at: Source, parts: Parts<'a>, mistake: Mistake) -> Result<&'a Fo
 }
 
 /// A name and the names of its arguments: the list that a form is.
-pub fn name_use(at: Source, form: &Form) -> Result<(Ident, Vec<Ident>), ReadFault>
+pub fn name_use(at: Source, form: &TextForm) -> Result<(Ident, Vec<Ident>), ReadFault>
     requires { FormIsWithin at.file at.len form.now }
     ensures read { Gives (λ u. (name_view u.0, map name_view u.1.items)) result (use_of (form_view form.now)) }
 {
@@ -54,7 +54,7 @@ pub fn name_use(at: Source, form: &Form) -> Result<(Ident, Vec<Ident>), ReadFaul
 }
 
 /// The names in the list that a form is.
-pub fn name_list(at: Source, form: &Form) -> Result<Vec<Ident>, ReadFault>
+pub fn name_list(at: Source, form: &TextForm) -> Result<Vec<Ident>, ReadFault>
     requires { FormIsWithin at.file at.len form.now }
     ensures read { Gives (λ ns. map name_view ns.items) result (name_list_of (form_view form.now)) }
 {

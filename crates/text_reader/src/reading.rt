@@ -9,7 +9,7 @@ ghost use Rattle.text_reader.specs.SpecViews.{numbered_view, verification_view};
 ghost use Rattle.text_reader.specs.Verifying.{numbered, said_from, said_of, verification_of};
 
 use crate::errors::{Mistake, ReadFault};
-use crate::forms::{Form, begins_passed_over};
+use crate::forms::{TextForm, begins_passed_over};
 use crate::models::model;
 use crate::parts::headed;
 use crate::signatures::{attributes, form_of_signatures, instantiation, macro_definition, state};
@@ -21,7 +21,7 @@ use std::alloc::AllocError;
 /// Those of some forms that are for a verifier, each with its number among them all.
 pub fn verifications(
     at: Source,
-    forms: &[Form],
+    forms: &[TextForm],
 ) -> Result<Vec<(usize, VerificationForm)>, ReadFault>
     requires { FormsAreWithin at.file at.len forms.now }
     ensures { Gives (λ vs. map numbered_view vs.items) result (said_from 0 (all_view forms.now)) }
@@ -52,7 +52,7 @@ fn push_said(
 }
 
 // What a form says, if it is for a verifier.
-fn said_by(at: Source, form: &Form) -> Result<Option<VerificationForm>, ReadFault>
+fn said_by(at: Source, form: &TextForm) -> Result<Option<VerificationForm>, ReadFault>
     requires { FormIsWithin at.file at.len form.now }
     ensures { Gives (option_map verification_view) result (said_of (form_view form.now)) }
 {
@@ -63,12 +63,12 @@ fn said_by(at: Source, form: &Form) -> Result<Option<VerificationForm>, ReadFaul
 }
 
 // Whether a form is one that definitions are read without.
-fn is_passed_over(form: &Form) -> bool
+fn is_passed_over(form: &TextForm) -> bool
     ensures { result ≡ is_passed_over (form_view form.now) }
 {
     match form {
-        Form::Group(parts, _, _) => {
-            let parts: &[Form] = parts;
+        TextForm::Group(parts, _, _) => {
+            let parts: &[TextForm] = parts;
             begins_passed_over(parts)
         }
         _ => false,
@@ -76,7 +76,7 @@ fn is_passed_over(form: &Form) -> bool
 }
 
 // What a form says for a verifier.
-fn verification(at: Source, form: &Form) -> Result<VerificationForm, ReadFault>
+fn verification(at: Source, form: &TextForm) -> Result<VerificationForm, ReadFault>
     requires { FormIsWithin at.file at.len form.now }
     ensures { Gives verification_view result (verification_of (form_view form.now)) }
 {

@@ -17,7 +17,7 @@ ghost use Rattle.text_reader.specs.Views.{Gives};
 use crate::chunks::{Chunk, chunks};
 use crate::definitions::definition;
 use crate::errors::{ReadFault, TextError};
-use crate::forms::{Form, forms};
+use crate::forms::{TextForm, forms};
 use crate::read;
 use crate::source::Source;
 use crate::tokens::tokens_from;
@@ -102,7 +102,7 @@ impl Recovered {
     }
 
     // Adds what forms are, each by itself.
-    fn read_forms(&mut self, at: Source, forms: &[Form]) -> Result<(), AllocError>
+    fn read_forms(&mut self, at: Source, forms: &[TextForm]) -> Result<(), AllocError>
         requires { FormsAreWithin at.file at.len forms.now }
         ensures { IfOk result (λ _. recovery_view self.new ≡ beside (recovery_view self.old) (each_by_itself (all_view forms.now))) }
     {
@@ -131,7 +131,7 @@ impl Recovered {
 }
 
 // The forms of a chunk.
-fn forms_in(at: Source, chunk: &Chunk) -> Result<Vec<Form>, ReadFault>
+fn forms_in(at: Source, chunk: &Chunk) -> Result<Vec<TextForm>, ReadFault>
     requires end { at.len ≡ chunk.now.end }
     requires ends { Ends chunk.now }
     ensures read { Gives (λ fs. all_view fs.items) result (forms_in_part at.file (part_view chunk.now)) }

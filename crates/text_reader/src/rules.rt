@@ -13,7 +13,7 @@ ghost use Rattle.text_reader.specs.Views.{Gives};
 
 use crate::errors::{Mistake, ReadFault, fault};
 use crate::expressions::expression;
-use crate::forms::Form;
+use crate::forms::TextForm;
 use crate::parts::{Parts, headed, next, next_name, no_more};
 use crate::patterns::pattern;
 use crate::source::Source;
@@ -51,7 +51,7 @@ fn rule_name<'a>(at: Source, parts: Parts<'a>) -> Result<(Option<Ident>, Parts<'
         (FaultIsWithin at.file at.len) }
 {
     match parts.forms {
-        [Form::Word(_), ..] => {
+        [TextForm::Word(_), ..] => {
             let (name, rest) = next_name(at, parts)?;
             Ok((Some(name), rest))
         }
@@ -65,7 +65,7 @@ fn priority<'a>(at: Source, parts: Parts<'a>) -> Result<(Option<i64>, Parts<'a>)
     ensures read { Gives (λ p. (p.0, parts_view p.1)) result (priority_of (parts_view parts.entry)) }
     ensures within { MatchResult result (λ p. PartsAreWithin at.file at.len p.1) (FaultIsWithin at.file at.len) }
 {
-    let [Form::Number(n, pos), rest @ ..] = parts.forms else {
+    let [TextForm::Number(n, pos), rest @ ..] = parts.forms else {
         return Ok((None, parts));
     };
     match i64::try_from(*n) {
@@ -81,7 +81,11 @@ fn priority<'a>(at: Source, parts: Parts<'a>) -> Result<(Option<i64>, Parts<'a>)
 }
 
 // The last of some forms, and those before it. The list that they are in ends there.
-fn parted<'a>(at: Source, forms: &'a [Form], end: Pos) -> Result<(&'a [Form], &'a Form), ReadFault>
+fn parted<'a>(
+    at: Source,
+    forms: &'a [TextForm],
+    end: Pos,
+) -> Result<(&'a [TextForm], &'a TextForm), ReadFault>
     requires forms { FormsAreWithin at.file at.len forms.now }
     requires end { PosIsWithin at.file at.len end }
     ensures read { Gives (λ p. (all_view p.0.now, form_view p.1.now)) result (parted_of (position end) (all_view forms.now)) }
@@ -97,7 +101,7 @@ fn parted<'a>(at: Source, forms: &'a [Form], end: Pos) -> Result<(&'a [Form], &'
 }
 
 // The conditions that forms are.
-fn iflets(at: Source, forms: &[Form]) -> Result<Vec<IfLet>, ReadFault>
+fn iflets(at: Source, forms: &[TextForm]) -> Result<Vec<IfLet>, ReadFault>
     requires { FormsAreWithin at.file at.len forms.now }
     ensures read { Gives (λ ls. map iflet_view ls.items) result (statements_of (all_view forms.now)) }
     ensures within { MatchResult result (λ ls. All (λ l. IfLetIsWithin at.file at.len (iflet_view l)) ls.items) (FaultIsWithin at.file at.len) }
@@ -110,7 +114,7 @@ fn iflets(at: Source, forms: &[Form]) -> Result<Vec<IfLet>, ReadFault>
 }
 
 // The condition that a form is.
-fn statement(at: Source, form: &Form) -> Result<IfLet, ReadFault>
+fn statement(at: Source, form: &TextForm) -> Result<IfLet, ReadFault>
     requires { FormIsWithin at.file at.len form.now }
     ensures read { Gives iflet_view result (statement_of (form_view form.now)) }
     ensures within { MatchResult result (λ l. IfLetIsWithin at.file at.len (iflet_view l)) (FaultIsWithin at.file at.len) }

@@ -10,7 +10,7 @@ ghost use Rattle.text_reader.specs.SpecGrammar.{attr_kind_of, attr_kinds_of, att
 ghost use Rattle.text_reader.specs.SpecViews.{attr_kind_view, attr_view, instantiation_view, macro_view, signature_view, signatures_view, state_view};
 
 use crate::errors::{Mistake, ReadFault, fault};
-use crate::forms::Form;
+use crate::forms::TextForm;
 use crate::models::{last_model, model_types};
 use crate::parts::{Parts, headed, list, next, next_if, next_name, no_more};
 use crate::pieces::{last, name_use, section};
@@ -53,10 +53,10 @@ pub fn instantiation(at: Source, parts: Parts<'_>) -> Result<Instantiation, Read
 }
 
 // Whether a word comes next.
-fn begins_with_word(forms: &[Form]) -> bool
+fn begins_with_word(forms: &[TextForm]) -> bool
     ensures { result ≡ begins_with_word (all_view forms.now) }
 {
-    matches!(forms, [Form::Word(_), ..])
+    matches!(forms, [TextForm::Word(_), ..])
 }
 
 // The signatures of a form that is named.
@@ -75,7 +75,7 @@ fn by_form(at: Source, term: Ident, parts: Parts<'_>, pos: Pos) -> Result<Instan
 }
 
 // The signatures that forms are.
-fn signatures(at: Source, forms: &[Form]) -> Result<Vec<Signature>, ReadFault>
+fn signatures(at: Source, forms: &[TextForm]) -> Result<Vec<Signature>, ReadFault>
     requires { FormsAreWithin at.file at.len forms.now }
     ensures { Gives (λ ss. map signature_view ss.items) result (signatures_of (all_view forms.now)) }
 {
@@ -87,7 +87,7 @@ fn signatures(at: Source, forms: &[Form]) -> Result<Vec<Signature>, ReadFault>
 }
 
 // `((args MODEL ..) (ret MODEL) (canon MODEL))`.
-fn signature(at: Source, form: &Form) -> Result<Signature, ReadFault>
+fn signature(at: Source, form: &TextForm) -> Result<Signature, ReadFault>
     requires { FormIsWithin at.file at.len form.now }
     ensures { Gives signature_view result (signature_of (form_view form.now)) }
 {
@@ -123,7 +123,7 @@ pub fn attributes(at: Source, parts: Parts<'_>) -> Result<Attr, ReadFault>
 }
 
 // The attributes that forms are.
-fn attribute_kinds(at: Source, forms: &[Form]) -> Result<Vec<AttrKind>, ReadFault>
+fn attribute_kinds(at: Source, forms: &[TextForm]) -> Result<Vec<AttrKind>, ReadFault>
     requires { FormsAreWithin at.file at.len forms.now }
     ensures { Gives (λ ks. map attr_kind_view ks.items) result (attr_kinds_of (all_view forms.now)) }
 {
@@ -135,7 +135,7 @@ fn attribute_kinds(at: Source, forms: &[Form]) -> Result<Vec<AttrKind>, ReadFaul
 }
 
 // `(tag NAME)`, `(veri chain)` or `(veri priority)`.
-fn attribute_kind(at: Source, form: &Form) -> Result<AttrKind, ReadFault>
+fn attribute_kind(at: Source, form: &TextForm) -> Result<AttrKind, ReadFault>
     requires { FormIsWithin at.file at.len form.now }
     ensures { Gives attr_kind_view result (attr_kind_of (form_view form.now)) }
 {

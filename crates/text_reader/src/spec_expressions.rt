@@ -14,7 +14,7 @@ ghost use Rattle.text_reader.specs.SpecTrees.{spec_as, spec_cases, spec_let, spe
 ghost use Rattle.text_reader.specs.SpecViews.{model_type_view, spec_expr_view, spec_expr_views};
 
 use crate::errors::{Mistake, ReadFault, fault};
-use crate::forms::Form;
+use crate::forms::TextForm;
 use crate::models::model_type;
 use crate::numbers::{digit_of, size_of};
 use crate::parts::{Parts, head, seen};
@@ -32,7 +32,7 @@ pub fn last_expression(at: Source, parts: Parts<'_>) -> Result<SpecExpr, ReadFau
 }
 
 /// The expressions that forms are.
-pub fn expressions(at: Source, forms: &[Form]) -> Result<Vec<SpecExpr>, ReadFault>
+pub fn expressions(at: Source, forms: &[TextForm]) -> Result<Vec<SpecExpr>, ReadFault>
     requires { FormsAreWithin at.file at.len forms.now }
     ensures { Gives (λ xs. spec_expr_views xs.items) result (spec_exprs_of (all_view forms.now)) }
 {
@@ -45,20 +45,20 @@ pub fn expressions(at: Source, forms: &[Form]) -> Result<Vec<SpecExpr>, ReadFaul
 
 // The expression that a form is.
 #[cycle(expression)]
-fn expression(at: Source, form: &Form) -> Result<SpecExpr, ReadFault>
+fn expression(at: Source, form: &TextForm) -> Result<SpecExpr, ReadFault>
     requires { FormIsWithin at.file at.len form.now }
     ensures { Gives spec_expr_view result (spec_expr_of (form_view form.now)) }
 {
     match form {
-        Form::Word(word) => word_expression(word),
-        Form::Number(val, pos) => Ok(SpecExpr::ConstInt {
+        TextForm::Word(word) => word_expression(word),
+        TextForm::Number(val, pos) => Ok(SpecExpr::ConstInt {
             val: *val,
             pos: *pos,
         }),
-        Form::Constant(_, pos) => Err(fault(Mistake::Expression, *pos)),
-        Form::Bound(name, _) => Err(fault(Mistake::Expression, name.1)),
-        Form::Group(parts, pos, end) => {
-            let parts: &[Form] = parts;
+        TextForm::Constant(_, pos) => Err(fault(Mistake::Expression, *pos)),
+        TextForm::Bound(name, _) => Err(fault(Mistake::Expression, name.1)),
+        TextForm::Group(parts, pos, end) => {
+            let parts: &[TextForm] = parts;
             seen(at, parts);
             list_expression(at, parts, *pos, *end)
         }
@@ -67,7 +67,12 @@ fn expression(at: Source, form: &Form) -> Result<SpecExpr, ReadFault>
 
 // The expression that the list with these parts is.
 #[cycle(expression)]
-fn list_expression(at: Source, parts: &[Form], pos: Pos, end: Pos) -> Result<SpecExpr, ReadFault>
+fn list_expression(
+    at: Source,
+    parts: &[TextForm],
+    pos: Pos,
+    end: Pos,
+) -> Result<SpecExpr, ReadFault>
     requires parts { FormsAreWithin at.file at.len parts.now }
     requires end { PosIsWithin at.file at.len end }
     ensures { Gives spec_expr_view result (spec_expr_of (a_list (all_view parts.now) (position pos) (position end))) }
@@ -88,7 +93,13 @@ fn list_expression(at: Source, parts: &[Form], pos: Pos, end: Pos) -> Result<Spe
 
 // A switch with these parts, its head the first.
 #[cycle(expression)]
-fn switch(at: Source, op: Ident, parts: &[Form], pos: Pos, end: Pos) -> Result<SpecExpr, ReadFault>
+fn switch(
+    at: Source,
+    op: Ident,
+    parts: &[TextForm],
+    pos: Pos,
+    end: Pos,
+) -> Result<SpecExpr, ReadFault>
     requires { FormsAreWithin at.file at.len parts.now }
     ensures { Gives spec_expr_view result (switch_of (name_view op) (all_view parts.now) (position pos) (position end)) }
 {
@@ -104,7 +115,13 @@ fn switch(at: Source, op: Ident, parts: &[Form], pos: Pos, end: Pos) -> Result<S
 
 // A list of three parts that begins with `let`, `with` or `as`.
 #[cycle(expression)]
-fn three(at: Source, op: &Ident, parts: &[Form], pos: Pos, end: Pos) -> Result<SpecExpr, ReadFault>
+fn three(
+    at: Source,
+    op: &Ident,
+    parts: &[TextForm],
+    pos: Pos,
+    end: Pos,
+) -> Result<SpecExpr, ReadFault>
     requires { FormsAreWithin at.file at.len parts.now }
     ensures { Gives spec_expr_view result (three_of (name_view op.now) (all_view parts.now) (position pos) (position end)) }
 {
@@ -122,7 +139,13 @@ fn three(at: Source, op: &Ident, parts: &[Form], pos: Pos, end: Pos) -> Result<S
 
 // Definitions and an expression, behind `let`.
 #[cycle(expression)]
-fn let_in(at: Source, op: &Ident, parts: &[Form], pos: Pos, end: Pos) -> Result<SpecExpr, ReadFault>
+fn let_in(
+    at: Source,
+    op: &Ident,
+    parts: &[TextForm],
+    pos: Pos,
+    end: Pos,
+) -> Result<SpecExpr, ReadFault>
     requires parts { FormsAreWithin at.file at.len parts.now }
     requires few { length parts.now ≤ 3 }
     requires word { reads (name_view op.now) (codes "let") ≡ true }
@@ -140,13 +163,13 @@ fn let_in(at: Source, op: &Ident, parts: &[Form], pos: Pos, end: Pos) -> Result<
 
 // The definitions that a form is.
 #[cycle(expression)]
-fn definitions(at: Source, form: &Form) -> Result<Vec<SpecExpr>, ReadFault>
+fn definitions(at: Source, form: &TextForm) -> Result<Vec<SpecExpr>, ReadFault>
     requires { FormIsWithin at.file at.len form.now }
     ensures { Gives (λ xs. spec_expr_views xs.items) result (defs_of (form_view form.now)) }
 {
     match form {
-        Form::Group(parts, _, _) => {
-            let parts: &[Form] = parts;
+        TextForm::Group(parts, _, _) => {
+            let parts: &[TextForm] = parts;
             seen(at, parts);
             pairs(at, parts, 0)
         }
@@ -159,7 +182,7 @@ fn definitions(at: Source, form: &Form) -> Result<Vec<SpecExpr>, ReadFault>
 fn with_names(
     at: Source,
     op: &Ident,
-    parts: &[Form],
+    parts: &[TextForm],
     pos: Pos,
     end: Pos,
 ) -> Result<SpecExpr, ReadFault>
@@ -184,7 +207,7 @@ fn with_names(
 fn as_type(
     at: Source,
     op: &Ident,
-    parts: &[Form],
+    parts: &[TextForm],
     pos: Pos,
     end: Pos,
 ) -> Result<SpecExpr, ReadFault>
@@ -206,7 +229,7 @@ fn as_type(
 
 // The expressions behind the first part of a list.
 #[cycle(expression)]
-fn arguments(at: Source, parts: &[Form]) -> Result<Vec<SpecExpr>, ReadFault>
+fn arguments(at: Source, parts: &[TextForm]) -> Result<Vec<SpecExpr>, ReadFault>
     requires { FormsAreWithin at.file at.len parts.now }
     ensures { Gives (λ xs. spec_expr_views xs.items) result (arguments_of (all_view parts.now)) }
 {
@@ -219,7 +242,7 @@ fn arguments(at: Source, parts: &[Form]) -> Result<Vec<SpecExpr>, ReadFault>
 
 // The pairs that the parts of a list are, from this one on.
 #[cycle(expression)]
-fn pairs(at: Source, parts: &[Form], from: usize) -> Result<Vec<SpecExpr>, ReadFault>
+fn pairs(at: Source, parts: &[TextForm], from: usize) -> Result<Vec<SpecExpr>, ReadFault>
     requires { FormsAreWithin at.file at.len parts.now }
     ensures { Gives (λ xs. spec_expr_views xs.items) result (pairs_of (all_view (drop from parts.now))) }
 {
@@ -232,13 +255,13 @@ fn pairs(at: Source, parts: &[Form], from: usize) -> Result<Vec<SpecExpr>, ReadF
 
 // The pair that a form is.
 #[cycle(expression)]
-fn pair(at: Source, form: &Form) -> Result<SpecExpr, ReadFault>
+fn pair(at: Source, form: &TextForm) -> Result<SpecExpr, ReadFault>
     requires { FormIsWithin at.file at.len form.now }
     ensures { Gives spec_expr_view result (pair_of (form_view form.now)) }
 {
     match form {
-        Form::Group(parts, pos, _) => {
-            let parts: &[Form] = parts;
+        TextForm::Group(parts, pos, _) => {
+            let parts: &[TextForm] = parts;
             seen(at, parts);
             pair_in(at, parts, *pos)
         }
@@ -248,7 +271,7 @@ fn pair(at: Source, form: &Form) -> Result<SpecExpr, ReadFault>
 
 // The pair with these parts.
 #[cycle(expression)]
-fn pair_in(at: Source, parts: &[Form], pos: Pos) -> Result<SpecExpr, ReadFault>
+fn pair_in(at: Source, parts: &[TextForm], pos: Pos) -> Result<SpecExpr, ReadFault>
     requires { FormsAreWithin at.file at.len parts.now }
     ensures { Gives spec_expr_view result (pair_in (all_view parts.now) (position pos)) }
 {
@@ -264,7 +287,7 @@ fn pair_in(at: Source, parts: &[Form], pos: Pos) -> Result<SpecExpr, ReadFault>
 }
 
 /// Whether there are no parts.
-pub fn is_empty(parts: &[Form]) -> bool
+pub fn is_empty(parts: &[TextForm]) -> bool
     ensures { result ≡ is_empty (all_view parts.now) }
 {
     match parts {

@@ -10,7 +10,7 @@ ghost use Rattle.text_reader.specs.SpecViews.{exprs_view, modifies_view, spec_vi
 ghost use Rattle.text_reader.specs.TermSpecGrammar.{modifies_of, once_of, spec_of, with_part_of, with_parts_of, with_section};
 
 use crate::errors::{Mistake, ReadFault, fault};
-use crate::forms::Form;
+use crate::forms::TextForm;
 use crate::parts::{Parts, headed, next, next_name, no_more};
 use crate::pieces::name_use;
 use crate::source::Source;
@@ -38,7 +38,7 @@ pub fn spec(at: Source, parts: Parts<'_>) -> Result<Spec, ReadFault>
 }
 
 // A spec with the parts that forms are.
-fn with_parts(at: Source, begun: Spec, forms: &[Form]) -> Result<Spec, ReadFault>
+fn with_parts(at: Source, begun: Spec, forms: &[TextForm]) -> Result<Spec, ReadFault>
     requires { FormsAreWithin at.file at.len forms.now }
     ensures { Gives spec_view result (with_parts_of (spec_view begun) (all_view forms.now)) }
 {
@@ -50,7 +50,7 @@ fn with_parts(at: Source, begun: Spec, forms: &[Form]) -> Result<Spec, ReadFault
 }
 
 // Adds the part that a form is.
-fn add_part(at: Source, spec: &mut Spec, form: &Form) -> Result<(), ReadFault>
+fn add_part(at: Source, spec: &mut Spec, form: &TextForm) -> Result<(), ReadFault>
     requires { FormIsWithin at.file at.len form.now }
     ensures { Gives (λ _. spec_view spec.new) result (with_part_of (spec_view spec.old) (form_view form.now)) }
 {

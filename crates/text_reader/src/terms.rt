@@ -13,7 +13,7 @@ ghost use Rattle.text_reader.specs.TermGrammar.{conversion_of, declaration_of, d
 ghost use Rattle.text_reader.specs.Views.{Gives};
 
 use crate::errors::{Mistake, ReadFault, fault};
-use crate::forms::Form;
+use crate::forms::TextForm;
 use crate::parts::{Parts, list, name, names, next, next_if, next_name, no_more};
 use crate::patterns::pattern;
 use crate::source::Source;
@@ -44,10 +44,10 @@ pub fn declaration(at: Source, parts: Parts<'_>) -> Result<Def, ReadFault>
 fn declared(
     at: Source,
     pos: Pos,
-    before: &[Form],
-    term: &Form,
-    args: &Form,
-    ret: &Form,
+    before: &[TextForm],
+    term: &TextForm,
+    args: &TextForm,
+    ret: &TextForm,
 ) -> Result<Def, ReadFault>
     requires pos { PosIsWithin at.file at.len pos }
     requires before { FormsAreWithin at.file at.len before.now }
@@ -76,7 +76,7 @@ fn declared(
 }
 
 // What the words before a declaration's name say.
-fn read_flags(at: Source, forms: &[Form]) -> Result<Flags, ReadFault>
+fn read_flags(at: Source, forms: &[TextForm]) -> Result<Flags, ReadFault>
     requires { FormsAreWithin at.file at.len forms.now }
     ensures read { Gives flags_view result (flags_of no_flags (all_view forms.now)) }
     ensures within { MatchResult result (λ _. ⊤) (FaultIsWithin at.file at.len) }
@@ -94,12 +94,12 @@ fn read_flags(at: Source, forms: &[Form]) -> Result<Flags, ReadFault>
 }
 
 // The flags with one more.
-fn with_flag(at: Source, flags: Flags, form: &Form) -> Result<Flags, ReadFault>
+fn with_flag(at: Source, flags: Flags, form: &TextForm) -> Result<Flags, ReadFault>
     requires { FormIsWithin at.file at.len form.now }
     ensures read { Gives flags_view result (with_flag_of (flags_view flags) (form_view form.now)) }
     ensures within { MatchResult result (λ _. ⊤) (FaultIsWithin at.file at.len) }
 {
-    let Form::Word(word) = form else {
+    let TextForm::Word(word) = form else {
         return Err(fault(Mistake::Flag, form.pos()));
     };
     match word.0.as_str() {
@@ -193,7 +193,7 @@ pub fn external(at: Source, parts: Parts<'_>) -> Result<Def, ReadFault>
     ensures within { MatchResult result (λ d. DefinitionIsWithin at.file at.len (definition_view d)) (FaultIsWithin at.file at.len) }
 {
     let (kind, rest) = next(at, parts, Mistake::Extern)?;
-    let Form::Word(word) = kind else {
+    let TextForm::Word(word) = kind else {
         return Err(fault(Mistake::Extern, kind.pos()));
     };
     match word.0.as_str() {
@@ -258,7 +258,7 @@ fn external_constant(at: Source, parts: Parts<'_>) -> Result<Def, ReadFault>
     ensures within { MatchResult result (λ d. DefinitionIsWithin at.file at.len (definition_view d)) (FaultIsWithin at.file at.len) }
 {
     let (constant, rest) = next(at, parts, Mistake::Constant)?;
-    let Form::Constant(name, _) = constant else {
+    let TextForm::Constant(name, _) = constant else {
         return Err(fault(Mistake::Constant, constant.pos()));
     };
     let name = name.clone()?;

@@ -38,7 +38,7 @@ pub enum Token {
 
 /// What the last characters were the beginning of.
 #[derive(Drop)]
-pub enum State {
+pub enum LexerState {
     Between,
     /// A comment to the end of the line.
     Line,
@@ -72,7 +72,7 @@ fn read_all(at: Source, text: &str) -> Result<Vec<Token>, ReadFault>
     ensures within { MatchResult result (λ ts. TokensAreWithin at.file at.len ts.items) (FaultIsWithin at.file at.len) }
 {
     let mut tokens = Vec::new(at.alloc);
-    let mut state = State::Between;
+    let mut state = LexerState::Between;
     for (offset, c) in text.char_indices() {
         let pos = Pos {
             file: at.file,
@@ -96,7 +96,7 @@ pub fn tokens_from(at: Source, begin: usize, part: &str) -> Result<Vec<Token>, R
     ensures within { MatchResult result (λ ts. TokensAreWithin at.file at.len ts.items) (FaultIsWithin at.file at.len) }
 {
     let mut tokens = Vec::new(at.alloc);
-    let mut state = State::Between;
+    let mut state = LexerState::Between;
     for (index, c) in part.char_indices() {
         let pos = Pos {
             file: at.file,
@@ -116,11 +116,11 @@ pub fn tokens_from(at: Source, begin: usize, part: &str) -> Result<Vec<Token>, R
 // Reads one more character. The tokens that it ends are added.
 fn next(
     at: Source,
-    state: State,
+    state: LexerState,
     pos: Pos,
     c: char,
     tokens: &mut Vec<Token>,
-) -> Result<State, ReadFault>
+) -> Result<LexerState, ReadFault>
     requires tokens { TokensAreWithin at.file at.len tokens.old.items }
     requires state { StateIsWithin at.file at.len state }
     requires pos { PosIsWithin at.file at.len pos }
@@ -129,24 +129,24 @@ fn next(
     ensures tokens { OnOk result (TokensAreWithin at.file at.len tokens.new.items) }
 {
     match state {
-        State::Between => begin(at, pos, c, tokens),
-        State::Line if c == '\n' => Ok(State::Between),
-        State::Line => Ok(State::Line),
-        State::Opened(open) if c == ';' => Ok(State::Block(open, 1, ' ')),
-        State::Block(open, depth, last) => next_in_comment(at, open, depth, last, c),
-        State::Sign(sign) => {
+        LexerState::Between => begin(at, pos, c, tokens),
+        LexerState::Line if c == '\n' => Ok(LexerState::Between),
+        LexerState::Line => Ok(LexerState::Line),
+        LexerState::Opened(open) if c == ';' => Ok(LexerState::Block(open, 1, ' ')),
+        LexerState::Block(open, depth, last) => next_in_comment(at, open, depth, last, c),
+        LexerState::Sign(sign) => {
             if !is_in_word(c) {
                 return Err(fault(Mistake::ConstantName, pos));
             }
-            Ok(State::Constant(word_of(at, pos, c)?, sign))
+            Ok(LexerState::Constant(word_of(at, pos, c)?, sign))
         }
-        State::Word(mut name) if is_in_word(c) => {
+        LexerState::Word(mut name) if is_in_word(c) => {
             name.0.push(c)?;
-            Ok(State::Word(name))
+            Ok(LexerState::Word(name))
         }
-        State::Constant(mut name, sign) if is_in_word(c) => {
+        LexerState::Constant(mut name, sign) if is_in_word(c) => {
             name.0.push(c)?;
-            Ok(State::Constant(name, sign))
+            Ok(LexerState::Constant(name, sign))
         }
         ended => {
             finish(at, ended, tokens)?;
@@ -163,7 +163,7 @@ fn next_in_comment(
     depth: usize,
     last: char,
     c: char,
-) -> Result<State, ReadFault>
+) -> Result<LexerState, ReadFault>
     requires { PosIsWithin at.file at.len start }
     ensures read { Gives mode_view result (in_comment (position start) depth last c) }
     ensures within { MatchResult result (StateIsWithin at.file at.len) (FaultIsWithin at.file at.len) }
@@ -172,20 +172,20 @@ fn next_in_comment(
         if depth >= DEEPEST {
             return Err(fault(Mistake::Depth, start));
         }
-        return Ok(State::Block(start, depth + 1, ' '));
+        return Ok(LexerState::Block(start, depth + 1, ' '));
     }
     if last == ';' && c == ')' {
         if depth <= 1 {
-            return Ok(State::Between);
+            return Ok(LexerState::Between);
         }
-        return Ok(State::Block(start, depth - 1, ' '));
+        return Ok(LexerState::Block(start, depth - 1, ' '));
     }
-    Ok(State::Block(start, depth, c))
+    Ok(LexerState::Block(start, depth, c))
 }
 
 // Reads a character that stands in no token. A byte order mark is one at the beginning of the text alone.
 #[tactic(auto, unfolding(crate::specs::Lexing::begun))]
-fn begin(at: Source, pos: Pos, c: char, tokens: &mut Vec<Token>) -> Result<State, ReadFault>
+fn begin(at: Source, pos: Pos, c: char, tokens: &mut Vec<Token>) -> Result<LexerState, ReadFault>
     requires tokens { TokensAreWithin at.file at.len tokens.old.items }
     requires pos { PosIsWithin at.file at.len pos }
     ensures read { Gives (λ s. (mode_view s, token_views tokens.new.items)) result (begun (position pos) c (token_views tokens.old.items)) }
@@ -193,20 +193,20 @@ fn begin(at: Source, pos: Pos, c: char, tokens: &mut Vec<Token>) -> Result<State
     ensures tokens { OnOk result (TokensAreWithin at.file at.len tokens.new.items) }
 {
     match c {
-        '(' => Ok(State::Opened(pos)),
-        ';' => Ok(State::Line),
-        '$' => Ok(State::Sign(pos)),
+        '(' => Ok(LexerState::Opened(pos)),
+        ';' => Ok(LexerState::Line),
+        '$' => Ok(LexerState::Sign(pos)),
         ')' => {
             add(at, Token::Close(pos), tokens)?;
-            Ok(State::Between)
+            Ok(LexerState::Between)
         }
         '@' => {
             bind(at, pos, tokens)?;
-            Ok(State::Between)
+            Ok(LexerState::Between)
         }
-        '\u{feff}' if pos.offset == 0 => Ok(State::Between),
-        _ if c.is_whitespace() => Ok(State::Between),
-        _ => Ok(State::Word(word_of(at, pos, c)?)),
+        '\u{feff}' if pos.offset == 0 => Ok(LexerState::Between),
+        _ if c.is_whitespace() => Ok(LexerState::Between),
+        _ => Ok(LexerState::Word(word_of(at, pos, c)?)),
     }
 }
 
@@ -250,28 +250,28 @@ fn as_word(at: Source, token: Token) -> Option<Ident>
 }
 
 // Ends what the text's last characters began.
-fn finish(at: Source, state: State, tokens: &mut Vec<Token>) -> Result<(), ReadFault>
+fn finish(at: Source, state: LexerState, tokens: &mut Vec<Token>) -> Result<(), ReadFault>
     requires tokens { TokensAreWithin at.file at.len tokens.old.items }
     requires state { StateIsWithin at.file at.len state }
     ensures read { Gives (λ _. token_views tokens.new.items) result (finished at.file at.len (mode_view state) (token_views tokens.old.items)) }
     ensures within { MatchResult result (λ _. TokensAreWithin at.file at.len tokens.new.items) (FaultIsWithin at.file at.len) }
 {
     match state {
-        State::Between | State::Line => Ok(()),
-        State::Opened(open) => add(at, Token::Open(open), tokens),
-        State::Block(open, _, _) => Err(fault(Mistake::CommentEnd, open)),
-        State::Sign(_) => {
+        LexerState::Between | LexerState::Line => Ok(()),
+        LexerState::Opened(open) => add(at, Token::Open(open), tokens),
+        LexerState::Block(open, _, _) => Err(fault(Mistake::CommentEnd, open)),
+        LexerState::Sign(_) => {
             let end = Pos {
                 file: at.file,
                 offset: at.len,
             };
             Err(fault(Mistake::ConstantName, end))
         }
-        State::Word(name) => {
+        LexerState::Word(name) => {
             let token = word_or_number(at, name)?;
             add(at, token, tokens)
         }
-        State::Constant(name, sign) => add(at, Token::Constant(name, sign), tokens),
+        LexerState::Constant(name, sign) => add(at, Token::Constant(name, sign), tokens),
     }
 }
 

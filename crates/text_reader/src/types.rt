@@ -12,7 +12,7 @@ ghost use Rattle.text_reader.specs.TypeGrammar.{enumeration_of, fields_of, named
 ghost use Rattle.text_reader.specs.Views.{Gives};
 
 use crate::errors::{Mistake, ReadFault, fault};
-use crate::forms::Form;
+use crate::forms::TextForm;
 use crate::parts::{Parts, headed, list, name, next, next_if, next_name, no_more};
 use crate::source::Source;
 use core_syntax::syntax::{
@@ -41,7 +41,7 @@ pub fn type_definition(at: Source, parts: Parts<'_>) -> Result<Def, ReadFault>
 }
 
 // What a type is.
-fn type_value(at: Source, form: &Form) -> Result<TypeValue, ReadFault>
+fn type_value(at: Source, form: &TextForm) -> Result<TypeValue, ReadFault>
     requires { FormIsWithin at.file at.len form.now }
     ensures read { Gives type_value_view result (type_value_of (form_view form.now)) }
     ensures within { MatchResult result (λ v. TypeValueIsWithin at.file at.len (type_value_view v)) (FaultIsWithin at.file at.len) }
@@ -77,7 +77,7 @@ fn primitive(at: Source, parts: Parts<'_>) -> Result<TypeValue, ReadFault>
 }
 
 // The variants that forms are.
-fn variants(at: Source, forms: &[Form]) -> Result<Vec<Variant>, ReadFault>
+fn variants(at: Source, forms: &[TextForm]) -> Result<Vec<Variant>, ReadFault>
     requires { FormsAreWithin at.file at.len forms.now }
     ensures read { Gives (λ vs. map variant_view vs.items) result (variants_of (all_view forms.now)) }
     ensures within { MatchResult result (λ vs. All (λ v. VariantIsWithin at.file at.len (variant_view v)) vs.items) (FaultIsWithin at.file at.len) }
@@ -90,13 +90,13 @@ fn variants(at: Source, forms: &[Form]) -> Result<Vec<Variant>, ReadFault>
 }
 
 // The variant that a form is: a name, or a list of a name and fields.
-fn variant(at: Source, form: &Form) -> Result<Variant, ReadFault>
+fn variant(at: Source, form: &TextForm) -> Result<Variant, ReadFault>
     requires { FormIsWithin at.file at.len form.now }
     ensures read { Gives variant_view result (variant_of (form_view form.now)) }
     ensures within { MatchResult result (λ v. VariantIsWithin at.file at.len (variant_view v)) (FaultIsWithin at.file at.len) }
 {
     match form {
-        Form::Word(name) => Ok(Variant {
+        TextForm::Word(name) => Ok(Variant {
             name: name.clone()?,
             fields: Fields::Unit,
             pos: name.1,
@@ -106,7 +106,7 @@ fn variant(at: Source, form: &Form) -> Result<Variant, ReadFault>
 }
 
 // A list of a name and fields.
-fn variant_with_fields(at: Source, form: &Form) -> Result<Variant, ReadFault>
+fn variant_with_fields(at: Source, form: &TextForm) -> Result<Variant, ReadFault>
     requires { FormIsWithin at.file at.len form.now }
     ensures read { Gives variant_view result (with_fields_of (form_view form.now)) }
     ensures within { MatchResult result (λ v. VariantIsWithin at.file at.len (variant_view v)) (FaultIsWithin at.file at.len) }
@@ -122,20 +122,20 @@ fn variant_with_fields(at: Source, form: &Form) -> Result<Variant, ReadFault>
 }
 
 // The fields that forms are: with names if the first is a list, else without.
-fn fields(at: Source, forms: &[Form]) -> Result<Fields, ReadFault>
+fn fields(at: Source, forms: &[TextForm]) -> Result<Fields, ReadFault>
     requires { FormsAreWithin at.file at.len forms.now }
     ensures read { Gives fields_view result (fields_of (all_view forms.now)) }
     ensures within { MatchResult result (λ fs. FieldsAreWithin at.file at.len (fields_view fs)) (FaultIsWithin at.file at.len) }
 {
     match forms {
         [] => Ok(Fields::Unit),
-        [Form::Group(_, _, _), ..] => named_fields(at, forms),
+        [TextForm::Group(_, _, _), ..] => named_fields(at, forms),
         _ => tuple_fields(at, forms),
     }
 }
 
 // Fields with names.
-fn named_fields(at: Source, forms: &[Form]) -> Result<Fields, ReadFault>
+fn named_fields(at: Source, forms: &[TextForm]) -> Result<Fields, ReadFault>
     requires { FormsAreWithin at.file at.len forms.now }
     ensures read { Gives fields_view result (with_names_of (all_view forms.now)) }
     ensures within { MatchResult result (λ fs. FieldsAreWithin at.file at.len (fields_view fs)) (FaultIsWithin at.file at.len) }
@@ -148,7 +148,7 @@ fn named_fields(at: Source, forms: &[Form]) -> Result<Fields, ReadFault>
 }
 
 // `(NAME TYPE)`.
-fn named_field(at: Source, form: &Form) -> Result<StructField, ReadFault>
+fn named_field(at: Source, form: &TextForm) -> Result<StructField, ReadFault>
     requires { FormIsWithin at.file at.len form.now }
     ensures read { Gives field_view result (named_field_of (form_view form.now)) }
     ensures within { MatchResult result (λ f. FieldIsWithin at.file at.len (field_view f)) (FaultIsWithin at.file at.len) }
@@ -165,7 +165,7 @@ fn named_field(at: Source, form: &Form) -> Result<StructField, ReadFault>
 }
 
 // Fields without names, which their places stand for.
-fn tuple_fields(at: Source, forms: &[Form]) -> Result<Fields, ReadFault>
+fn tuple_fields(at: Source, forms: &[TextForm]) -> Result<Fields, ReadFault>
     requires { FormsAreWithin at.file at.len forms.now }
     ensures read { Gives fields_view result (with_numbers_of (all_view forms.now)) }
     ensures within { MatchResult result (λ fs. FieldsAreWithin at.file at.len (fields_view fs)) (FaultIsWithin at.file at.len) }

@@ -7,7 +7,7 @@ use Rattle.text_reader.specs.Pieces.{Piece, space, spelling}
 use Rattle.text_writer.specs.declared.gaps.Gap.TheVariants.{Breaks}
 use Rattle.text_writer.specs.declared.gaps.Last.{Last}
 use Rattle.text_writer.specs.declared.lists.OpenList.{OpenList}
-use Rattle.text_writer.specs.declared.lists.Place.{Place}
+use Rattle.text_writer.specs.declared.lists.LineColumn.{LineColumn}
 use Rattle.text_writer.specs.declared.parts.PlacedPart.{PlacedPart}
 use Rattle.text_writer.specs.Pages.{Layout, laid_from, layout_behind, written, text_of, ending, mark, noted, with_part, kind_of, indent, list_indent, laid_plan, first_layout, white}
 use Rattle.text_writer.specs.PageViews.{planned_view}
@@ -35,7 +35,7 @@ gap_written old broken new n column e f =
 pub innermost : (xs ys : List OpenList) (o : OpenList) → xs ≡ ys ++ o ∷ [] → reverse xs ≡ o ∷ reverse ys
 innermost xs ys o e = ap reverse e ∙ reverse-append ys (o ∷ [])
 
-pub noted_one : (p : Piece) (at : Place) (o : OpenList) (os : List OpenList) → noted p at (o ∷ os) ≡ with_part o.column o.head o.second (kind_of (length os == 0) p) at ∷ os
+pub noted_one : (p : Piece) (at : LineColumn) (o : OpenList) (os : List OpenList) → noted p at (o ∷ os) ≡ with_part o.column o.head o.second (kind_of (length os == 0) p) at ∷ os
 noted_one p at o [] = refl
 noted_one p at o (q ∷ os) = sym (ap (λ b. with_part o.column o.head o.second (kind_of b p) at ∷ q ∷ os) (not_empty (length os)))
 
@@ -77,14 +77,14 @@ written_whole marked parts end e =
     ∙ sym (text_joined (mark marked) (laid_from (first_layout marked) qs ++ ending qs))
 
 -- the innermost list with one more part
-pub noted_list : (p : Piece) (at : Place) (old popped new : List OpenList) (o n : OpenList) (b : Bool) → old ≡ popped ++ o ∷ [] → new ≡ popped ++ n ∷ []
+pub noted_list : (p : Piece) (at : LineColumn) (old popped new : List OpenList) (o n : OpenList) (b : Bool) → old ≡ popped ++ o ∷ [] → new ≡ popped ++ n ∷ []
     → n ≡ with_part o.column o.head o.second (kind_of b p) at → b ≡ (length popped == 0) → reverse new ≡ noted p at (reverse old)
 noted_list p at old popped new o n b e f g h =
     innermost new popped n f
     ∙ ap (λ x. x ∷ reverse popped) (g ∙ ap (λ k. with_part o.column o.head o.second (kind_of k p) at) (h ∙ ap (λ m. m == 0) (sym (length-reverse popped))))
     ∙ sym (ap (noted p at) (innermost old popped o e) ∙ noted_one p at o (reverse popped))
 
-pub no_list : (p : Piece) (at : Place) (old popped : List OpenList) → old ≡ [] → popped ≡ old → reverse popped ≡ noted p at (reverse old)
+pub no_list : (p : Piece) (at : LineColumn) (old popped : List OpenList) → old ≡ [] → popped ≡ old → reverse popped ≡ noted p at (reverse old)
 no_list p at old popped e f = ap reverse (f ∙ e) ∙ sym (ap (λ x. noted p at (reverse x)) e)
 
 last_of_all : (os : List OpenList) (o x : OpenList) → slice_get (os ++ o ∷ []) (length os) ≡ Some x → o ≡ x

@@ -12,16 +12,16 @@ use Rattle.text_writer.specs.declared.lists.Kind.{Kind}
 use Rattle.text_writer.specs.declared.lists.Kind.TheVariants as K
 use Rattle.text_writer.specs.declared.lists.Head.{Head}
 use Rattle.text_writer.specs.declared.lists.OpenList.{OpenList}
-use Rattle.text_writer.specs.declared.lists.Place.{Place}
+use Rattle.text_writer.specs.declared.lists.LineColumn.{LineColumn}
 use Rattle.text_writer.specs.Plans.{Planned, plan, is_marked, first_last, last_of}
 
 -- ---- places
 
 -- the place behind a character, and behind characters
-abbrev pub past : Place → ℕ → Place
+abbrev pub past : LineColumn → ℕ → LineColumn
 past at c = if c == 10 then record { line = at.line + 1; column = 0 } else record { line = at.line; column = at.column + 1 }
 
-abbrev pub behind : Place → List ℕ → Place
+abbrev pub behind : LineColumn → List ℕ → LineColumn
 behind at [] = at
 behind at (c ∷ cs) = behind (past at c) cs
 
@@ -30,14 +30,14 @@ behind at (c ∷ cs) = behind (past at c) cs
 -- where a line in a list begins, by its head, the row of that and its second part: under the second part if that stands in the line of the first
 -- word, else one column in; in a `let` two columns in, so that its definitions, where they begin a line, stand no deeper than
 -- what follows them; in a definition that is passed over four
-abbrev pub column_in : (column : ℕ) → Kind → (row : ℕ) → Option Place → ℕ
+abbrev pub column_in : (column : ℕ) → Kind → (row : ℕ) → Option LineColumn → ℕ
 column_in column K.PassedOver row second = column + 4
 column_in column K.Let row second = column + 2
 column_in column K.Word row None = column + 1
 column_in column K.Word row (Some part) = if part.line == row then part.column else column + 1
 column_in column K.Other row second = column + 1
 
-abbrev pub inner_column : (column : ℕ) → Option Head → Option Place → ℕ
+abbrev pub inner_column : (column : ℕ) → Option Head → Option LineColumn → ℕ
 inner_column column None second = column + 1
 inner_column column (Some head) second = column_in column head.kind head.line second
 
@@ -78,18 +78,18 @@ kind_of outermost (endless cs) = K.Other
 kind_of outermost alone = K.Word
 
 -- a list with one more part, of which the first two are noted
-abbrev pub with_part : (column : ℕ) → Option Head → Option Place → Kind → Place → OpenList
+abbrev pub with_part : (column : ℕ) → Option Head → Option LineColumn → Kind → LineColumn → OpenList
 with_part column None second kind at = record { column = column; head = Some (record { kind = kind; line = at.line }); second = second }
 with_part column (Some head) None kind at = record { column = column; head = Some head; second = Some at }
 with_part column (Some head) (Some part) kind at = record { column = column; head = Some head; second = Some part }
 
-abbrev pub noted : Piece → Place → List OpenList → List OpenList
+abbrev pub noted : Piece → LineColumn → List OpenList → List OpenList
 noted p at [] = []
 noted p at (o ∷ []) = with_part o.column o.head o.second (kind_of true p) at ∷ []
 noted p at (o ∷ q ∷ os) = with_part o.column o.head o.second (kind_of false p) at ∷ q ∷ os
 
 -- a part of the innermost list: what `@` binds is none of its own
-abbrev pub counted : Last → Piece → Place → List OpenList → List OpenList
+abbrev pub counted : Last → Piece → LineColumn → List OpenList → List OpenList
 counted L.Nothing p at os = noted p at os
 counted L.Mark p at os = noted p at os
 counted L.Open p at os = noted p at os
@@ -98,7 +98,7 @@ counted L.Line p at os = noted p at os
 counted L.Other p at os = noted p at os
 
 -- the lists that are open behind a piece that begins at a place
-abbrev pub listed : Last → Piece → Place → List OpenList → List OpenList
+abbrev pub listed : Last → Piece → LineColumn → List OpenList → List OpenList
 listed last (space c) at os = os
 listed last (line cs) at os = os
 listed last (block cs) at os = os
@@ -115,7 +115,7 @@ listed last alone at os = counted last alone at os
 -- how far a text is laid out: what was written last, the place behind it, and the lists that are open there
 pub record Layout : Type 0 where
   pub last : Last
-  pub at : Place
+  pub at : LineColumn
   pub lists : List OpenList
 
 -- the white space of a gap, where a line begins at a column
@@ -123,7 +123,7 @@ abbrev pub white : (column : ℕ) → Gap → List Piece
 white column (Spaces n) = replicate n (space 32)
 white column (Breaks n) = replicate n (space 10) ++ replicate column (space 32)
 
-abbrev pub behind_gap : (column : ℕ) → Gap → Place → Place
+abbrev pub behind_gap : (column : ℕ) → Gap → LineColumn → LineColumn
 behind_gap column (Spaces n) at = record { line = at.line; column = at.column + n }
 behind_gap column (Breaks n) at = record { line = at.line + n; column = column }
 
@@ -131,7 +131,7 @@ behind_gap column (Breaks n) at = record { line = at.line + n; column = column }
 abbrev pub written : Layout → Planned → List Piece
 written so_far q = white (indent so_far.lists q.piece) q.gap ++ q.piece ∷ []
 
-abbrev pub behind_piece : Last → Piece → Place → List OpenList → Layout
+abbrev pub behind_piece : Last → Piece → LineColumn → List OpenList → Layout
 behind_piece last p at os = record { last = last_of p; at = behind at (spelling p); lists = listed last p at os }
 
 abbrev pub layout_behind : Layout → Planned → Layout

@@ -10,7 +10,7 @@ ghost use Rattle.text_writer.specs.PartViews.{part_view, placed_views};
 ghost use Rattle.text_writer.specs.Plans.{first_last, planned};
 
 use crate::gaps::{Gap, Last, gap_before, last_of};
-use crate::lists::{Lists, Place, sum};
+use crate::lists::{LineColumn, Lists, sum};
 use crate::parts::{Part, PlacedPart};
 use std::alloc::{AllocError, Global};
 
@@ -19,7 +19,7 @@ use std::alloc::{AllocError, Global};
 struct Page {
     text: String,
     // where it ends
-    at: Place,
+    at: LineColumn,
     lists: Lists,
     last: Last,
 }
@@ -64,7 +64,7 @@ fn first_page(alloc: Global, is_marked: bool) -> Result<Page, AllocError>
 {
     Ok(Page {
         text: marked_text(alloc, is_marked)?,
-        at: Place { line: 0, column: 0 },
+        at: LineColumn { line: 0, column: 0 },
         lists: Lists::new(alloc),
         last: first_last(is_marked),
     })
@@ -106,14 +106,19 @@ impl Page {
 }
 
 // Writes the white space of a gap, where a line begins at this column, and answers the place behind it.
-fn push_gap(text: &mut String, at: Place, column: usize, gap: Gap) -> Result<Place, AllocError>
+fn push_gap(
+    text: &mut String,
+    at: LineColumn,
+    column: usize,
+    gap: Gap,
+) -> Result<LineColumn, AllocError>
     ensures place { IfOk result (λ place. place ≡ behind_gap column gap at) }
     ensures text { IfOk result (λ _. chars (string_bytes text.new) ≡ chars (string_bytes text.old) ++ text_of (white column gap)) }
 {
     match gap {
         Gap::Spaces(spaces) => {
             push_times(text, ' ', spaces)?;
-            Ok(Place {
+            Ok(LineColumn {
                 line: at.line,
                 column: sum(at.column, spaces)?,
             })
@@ -121,7 +126,7 @@ fn push_gap(text: &mut String, at: Place, column: usize, gap: Gap) -> Result<Pla
         Gap::Breaks(breaks) => {
             push_times(text, '\n', breaks)?;
             push_times(text, ' ', column)?;
-            Ok(Place {
+            Ok(LineColumn {
                 line: sum(at.line, breaks)?,
                 column,
             })
@@ -130,7 +135,7 @@ fn push_gap(text: &mut String, at: Place, column: usize, gap: Gap) -> Result<Pla
 }
 
 // Writes a part, and answers the place behind it.
-fn push_part(text: &mut String, at: Place, part: &Part) -> Result<Place, AllocError>
+fn push_part(text: &mut String, at: LineColumn, part: &Part) -> Result<LineColumn, AllocError>
     ensures place { IfOk result (λ place. place ≡ behind at (spelling (part_view part.now))) }
     ensures text { IfOk result (λ _. chars (string_bytes text.new) ≡ chars (string_bytes text.old) ++ spelling (part_view part.now)) }
 {
@@ -150,7 +155,12 @@ fn push_part(text: &mut String, at: Place, part: &Part) -> Result<Place, AllocEr
 }
 
 // Writes a character and a text, and answers the place behind them.
-fn push_behind(text: &mut String, at: Place, first: char, more: &str) -> Result<Place, AllocError>
+fn push_behind(
+    text: &mut String,
+    at: LineColumn,
+    first: char,
+    more: &str,
+) -> Result<LineColumn, AllocError>
     ensures place { IfOk result (λ place. place ≡ behind at (first ∷ chars more.now)) }
     ensures text { IfOk result (λ _. chars (string_bytes text.new) ≡ chars (string_bytes text.old) ++ first ∷ chars more.now) }
 {
@@ -159,7 +169,7 @@ fn push_behind(text: &mut String, at: Place, first: char, more: &str) -> Result<
 }
 
 // Writes a text, and answers the place behind it.
-fn push(text: &mut String, at: Place, more: &str) -> Result<Place, AllocError>
+fn push(text: &mut String, at: LineColumn, more: &str) -> Result<LineColumn, AllocError>
     ensures place { IfOk result (λ place. place ≡ behind at (chars more.now)) }
     ensures text { IfOk result (λ _. chars (string_bytes text.new) ≡ chars (string_bytes text.old) ++ chars more.now) }
 {
@@ -171,7 +181,7 @@ fn push(text: &mut String, at: Place, more: &str) -> Result<Place, AllocError>
 }
 
 // Writes a character, and answers the place behind it.
-fn push_char(text: &mut String, at: Place, c: char) -> Result<Place, AllocError>
+fn push_char(text: &mut String, at: LineColumn, c: char) -> Result<LineColumn, AllocError>
     ensures place { IfOk result (λ place. place ≡ past at c) }
     ensures text { IfOk result (λ _. chars (string_bytes text.new) ≡ chars (string_bytes text.old) ++ c ∷ []) }
 {
@@ -181,16 +191,16 @@ fn push_char(text: &mut String, at: Place, c: char) -> Result<Place, AllocError>
 }
 
 // The place behind a character.
-fn past(at: Place, c: char) -> Result<Place, AllocError>
+fn past(at: LineColumn, c: char) -> Result<LineColumn, AllocError>
     ensures { IfOk result (λ place. place ≡ past at c) }
 {
     if c == '\n' {
-        return Ok(Place {
+        return Ok(LineColumn {
             line: sum(at.line, 1)?,
             column: 0,
         });
     }
-    Ok(Place {
+    Ok(LineColumn {
         line: at.line,
         column: sum(at.column, 1)?,
     })

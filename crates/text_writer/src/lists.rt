@@ -13,7 +13,7 @@ use text_reader::heads::is_passed_over;
 
 /// A place in a text.
 #[derive(Clone, Copy)]
-pub struct Place {
+pub struct LineColumn {
     /// How many lines are ended before it.
     pub line: usize,
     /// How many characters stand before it in its line.
@@ -47,7 +47,7 @@ struct OpenList {
     column: usize,
     head: Option<Head>,
     // where its second part begins
-    second: Option<Place>,
+    second: Option<LineColumn>,
 }
 
 /// The lists that are open, the innermost last.
@@ -85,7 +85,7 @@ impl Lists {
     /// # Errors
     ///
     /// Where memory is refused.
-    pub fn read(&mut self, last: Last, part: &Part, at: Place) -> Result<(), AllocError>
+    pub fn read(&mut self, last: Last, part: &Part, at: LineColumn) -> Result<(), AllocError>
         ensures { IfOk result (λ _. lists_view self.new ≡ listed last (part_view part.now) at (lists_view self.old)) }
     {
         match part {
@@ -122,7 +122,7 @@ impl Lists {
     }
 
     // Notes a part of the innermost list. What `@` binds is none of its own.
-    fn count(&mut self, last: Last, part: &Part, at: Place) -> Result<(), AllocError>
+    fn count(&mut self, last: Last, part: &Part, at: LineColumn) -> Result<(), AllocError>
         ensures { IfOk result (λ _. lists_view self.new ≡ counted last (part_view part.now) at (lists_view self.old)) }
     {
         match last {
@@ -132,7 +132,7 @@ impl Lists {
     }
 
     // Notes a part of the innermost list.
-    fn note(&mut self, part: &Part, at: Place) -> Result<(), AllocError>
+    fn note(&mut self, part: &Part, at: LineColumn) -> Result<(), AllocError>
         ensures { IfOk result (λ _. lists_view self.new ≡ noted (part_view part.now) at (lists_view self.old)) }
     {
         let Some(list) = self.open.pop() else {
@@ -171,7 +171,7 @@ impl OpenList {
     }
 
     // The list with one more part, of which the first two are noted.
-    fn with_part(self, is_outermost: bool, part: &Part, at: Place) -> OpenList
+    fn with_part(self, is_outermost: bool, part: &Part, at: LineColumn) -> OpenList
         ensures { result ≡ with_part self.column self.head self.second (kind_of is_outermost (part_view part.now)) at }
     {
         match (self.head, self.second) {

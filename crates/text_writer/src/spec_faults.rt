@@ -8,7 +8,7 @@ use std::alloc::{AllocError, AllocFailed};
 
 /// Why trees for a verifier aren't printed.
 #[derive(Debug, Drop)]
-pub enum PrintFault {
+pub enum SpecPrintFault {
     /// The allocator refused.
     Memory(AllocError),
     /// No text spells this tree or this definition, which stands there.
@@ -18,18 +18,18 @@ pub enum PrintFault {
     Unmatched(usize),
 }
 
-impl From<AllocError> for PrintFault {
+impl From<AllocError> for SpecPrintFault {
     ghost from_gives = { λ a e. e ≡ Memory a };
 
-    fn from(e: AllocError) -> PrintFault {
-        PrintFault::Memory(e)
+    fn from(e: AllocError) -> SpecPrintFault {
+        SpecPrintFault::Memory(e)
     }
 }
 
-impl<T: Drop> From<AllocFailed<T>> for PrintFault {
+impl<T: Drop> From<AllocFailed<T>> for SpecPrintFault {
     ghost from_gives = { λ _ e. e ≡ Memory alloc_error };
 
-    fn from(e: AllocFailed<T>) -> PrintFault {
-        PrintFault::Memory(AllocError::from(e))
+    fn from(e: AllocFailed<T>) -> SpecPrintFault {
+        SpecPrintFault::Memory(AllocError::from(e))
     }
 }

@@ -13,7 +13,7 @@ ghost use Rattle.text_writer.specs.SpellableTrees.{first_unspelled};
 ghost use Rattle.text_writer.specs.Texts.{written};
 
 use crate::signatures::{push_attr, push_form, push_instantiation};
-use crate::spec_faults::PrintFault;
+use crate::spec_faults::SpecPrintFault;
 use crate::spec_terms::{push_macro, push_model, push_spec, push_state};
 use crate::spellable::first_unspelled;
 pub use crate::woven::print_all;
@@ -26,7 +26,7 @@ use text_reader::syntax::VerificationForm;
 ///
 /// Where the first tree stands that no text spells, and where memory is refused.
 #[tactic(auto, using(crate::proofs::ItemsReadBack::printed_says))]
-pub fn print(alloc: Global, forms: &[VerificationForm]) -> Result<String, PrintFault>
+pub fn print(alloc: Global, forms: &[VerificationForm]) -> Result<String, SpecPrintFault>
     // What is printed can be spelled, and is this text.
     ensures spelled { IfOk result (λ s. first_unspelled (map verification_view forms.now) ≡ None) }
     ensures text { IfOk result (λ s. string_bytes s ≡ printed (map verification_view forms.now)) }
@@ -36,7 +36,7 @@ pub fn print(alloc: Global, forms: &[VerificationForm]) -> Result<String, PrintF
     ensures first { IfErr result (λ e. TellsUnspellableSpec e (first_unspelled (map verification_view forms.now))) }
 {
     match first_unspelled(forms) {
-        Some(place) => Err(PrintFault::Unspellable(place)),
+        Some(place) => Err(SpecPrintFault::Unspellable(place)),
         None => Ok(text_of(alloc, forms)?),
     }
 }

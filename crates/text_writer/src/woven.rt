@@ -9,7 +9,7 @@ ghost use Rattle.text_writer.specs.Woven.{added, defined_item, item_at, left_beh
 ghost use Rattle.text_writer.specs.ReadsBack.{ReadsBackAs};
 
 use crate::definitions::{can_be_spelled as definition_can_be_spelled, push_definition};
-use crate::spec_faults::PrintFault;
+use crate::spec_faults::SpecPrintFault;
 use crate::spellable::{can_be_spelled, place};
 use crate::verification::push_verification;
 use core_syntax::syntax::{Def, Pos};
@@ -27,7 +27,7 @@ pub fn print_all(
     alloc: Global,
     defs: &[Def],
     forms: &[(usize, VerificationForm)],
-) -> Result<String, PrintFault>
+) -> Result<String, SpecPrintFault>
     ensures text { IfOk result (λ s. woven 0 (definition_views defs.now) (map numbered_view forms.now) ≡ Ok (string_bytes s)) }
     // A reader of definitions reads these, and one for a verifier these trees, but for places.
     ensures defined { IfOk result (λ s. ReadsBackAs (string_bytes s) (definition_views defs.now)) }
@@ -42,7 +42,7 @@ fn woven_text(
     alloc: Global,
     defs: &[Def],
     forms: &[(usize, VerificationForm)],
-) -> Result<String, PrintFault>
+) -> Result<String, SpecPrintFault>
     ensures text { IfOk result (λ s. woven 0 (definition_views defs.now) (map numbered_view forms.now) ≡ Ok (string_bytes s)) }
     ensures trouble { IfErr result (λ e. IsTrouble e (woven 0 (definition_views defs.now) (map numbered_view forms.now))) }
 {
@@ -56,7 +56,7 @@ fn woven_text(
     }
     match left {
         [] => Ok(text),
-        [first, ..] => Err(PrintFault::Unmatched(first.0)),
+        [first, ..] => Err(SpecPrintFault::Unmatched(first.0)),
     }
 }
 
@@ -66,7 +66,7 @@ fn push_item(
     n: usize,
     def: &Def,
     left: &[(usize, VerificationForm)],
-) -> Result<(), PrintFault>
+) -> Result<(), SpecPrintFault>
     ensures added { OnOk result (added (string_bytes out.old) (item_at n (definition_view def.now) (map numbered_view left.now)) ≡ Ok (string_bytes out.new)) }
     ensures trouble { IfErr result (λ e. IsTrouble e (item_at n (definition_view def.now) (map numbered_view left.now))) }
 {
@@ -77,12 +77,12 @@ fn push_item(
 }
 
 // Adds a definition that stands there.
-fn push_defined(out: &mut String, def: &Def, place: Pos) -> Result<(), PrintFault>
+fn push_defined(out: &mut String, def: &Def, place: Pos) -> Result<(), SpecPrintFault>
     ensures added { OnOk result (added (string_bytes out.old) (defined_item (definition_view def.now) (position place)) ≡ Ok (string_bytes out.new)) }
     ensures trouble { IfErr result (λ e. IsTrouble e (defined_item (definition_view def.now) (position place))) }
 {
     if !definition_can_be_spelled(def) {
-        return Err(PrintFault::Unspellable(place));
+        return Err(SpecPrintFault::Unspellable(place));
     }
     push_definition(out, def)?;
     out.push_str("\n")?;
@@ -94,12 +94,12 @@ fn push_said(
     out: &mut String,
     n: usize,
     left: &[(usize, VerificationForm)],
-) -> Result<(), PrintFault>
+) -> Result<(), SpecPrintFault>
     ensures added { OnOk result (added (string_bytes out.old) (said_item n (map numbered_view left.now)) ≡ Ok (string_bytes out.new)) }
     ensures trouble { IfErr result (λ e. IsTrouble e (said_item n (map numbered_view left.now))) }
 {
     match left {
-        [] => Err(PrintFault::Unmatched(n)),
+        [] => Err(SpecPrintFault::Unmatched(n)),
         [first, ..] => push_tree(out, n, first.0, &first.1),
     }
 }
@@ -110,15 +110,15 @@ fn push_tree(
     n: usize,
     number: usize,
     form: &VerificationForm,
-) -> Result<(), PrintFault>
+) -> Result<(), SpecPrintFault>
     ensures added { OnOk result (added (string_bytes out.old) (tree_item n (number, verification_view form.now)) ≡ Ok (string_bytes out.new)) }
     ensures trouble { IfErr result (λ e. IsTrouble e (tree_item n (number, verification_view form.now))) }
 {
     if number != n {
-        return Err(PrintFault::Unmatched(n));
+        return Err(SpecPrintFault::Unmatched(n));
     }
     if !can_be_spelled(form) {
-        return Err(PrintFault::Unspellable(place(form)));
+        return Err(SpecPrintFault::Unspellable(place(form)));
     }
     push_verification(out, form)?;
     out.push_str("\n")?;

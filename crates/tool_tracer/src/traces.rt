@@ -4,31 +4,35 @@ use cranelift_isle::lower::{Lowered, LoweredTerm, lower};
 use cranelift_isle::sema::RuleId;
 use cranelift_isle::syntax::{Def, Fault};
 use cranelift_isle::trie_again::Rule;
-use report_queries::answers::Answer;
+use report_queries::answers::TreesOrErrors;
 use report_queries::answers_texts::syntax_error_line;
 use report_queries::names::{rule_name, term_name};
 use report_queries::rules::rule_returned;
-use report_queries::texts::{Names, Places, error_lines, names_of, turn_text};
+use report_queries::texts::{Places, TreeNames, error_lines, names_of, turn_text};
 use report_queries::walk::{Turn, steps};
 use std::alloc::{AllocError, Global};
 use text_reader::errors::ReadFault;
 use text_reader::read;
 
 /// The traces of a text's definitions, or one line for each error.
-pub fn answer(alloc: Global, text: &str) -> Result<Answer, AllocError> {
+pub fn answer(alloc: Global, text: &str) -> Result<TreesOrErrors, AllocError> {
     match read(alloc, 0, text) {
         Ok(defs) => answer_to_defs(alloc, text, &defs),
-        Err(ReadFault::Text(error)) => Ok(Answer::Errors(syntax_error_line(alloc, text, &error)?)),
+        Err(ReadFault::Text(error)) => Ok(TreesOrErrors::Errors(syntax_error_line(
+            alloc, text, &error,
+        )?)),
         Err(ReadFault::Memory(error)) => Err(error),
     }
 }
 
 // The traces of definitions, or one line for each error.
-fn answer_to_defs(alloc: Global, text: &str, defs: &[Def]) -> Result<Answer, AllocError> {
+fn answer_to_defs(alloc: Global, text: &str, defs: &[Def]) -> Result<TreesOrErrors, AllocError> {
     let places = Places::Lines(text);
     match lower(alloc, defs, true) {
-        Ok(lowered) => Ok(Answer::Trees(traces(alloc, &lowered, places)?)),
-        Err(Fault::Errors(errors)) => Ok(Answer::Errors(error_lines(alloc, &errors, places)?)),
+        Ok(lowered) => Ok(TreesOrErrors::Trees(traces(alloc, &lowered, places)?)),
+        Err(Fault::Errors(errors)) => Ok(TreesOrErrors::Errors(error_lines(
+            alloc, &errors, places,
+        )?)),
         Err(Fault::Memory(error)) => Err(error),
     }
 }
@@ -87,7 +91,7 @@ fn or_nameless(name: Option<&str>) -> &str {
 fn push_path(
     alloc: Global,
     out: &mut String,
-    names: Names<'_>,
+    names: TreeNames<'_>,
     path: &[Turn],
 ) -> Result<(), AllocError> {
     for (i, turn) in path.iter().enumerate() {

@@ -7,7 +7,7 @@ ghost use Rattle.cranelift_isle.specs.SyntaxViews.{definition_views};
 use crate::verified::{runs_always, runs_where_apart};
 use cranelift_isle::lower::{Lowered, lower};
 use cranelift_isle::syntax::{Def, Fault};
-use report_queries::answers::Answer;
+use report_queries::answers::TreesOrErrors;
 use report_queries::answers_texts::syntax_error_line;
 use report_queries::names::term_name;
 use report_queries::texts::{Places, error_lines};
@@ -16,21 +16,23 @@ use text_reader::errors::ReadFault;
 use text_reader::read;
 
 /// A line for each term of a text's definitions, or one line for each error.
-pub fn answer(alloc: Global, text: &str) -> Result<Answer, AllocError> {
+pub fn answer(alloc: Global, text: &str) -> Result<TreesOrErrors, AllocError> {
     match read(alloc, 0, text) {
         Ok(defs) => answer_to_defs(alloc, text, &defs),
-        Err(ReadFault::Text(error)) => Ok(Answer::Errors(syntax_error_line(alloc, text, &error)?)),
+        Err(ReadFault::Text(error)) => Ok(TreesOrErrors::Errors(syntax_error_line(
+            alloc, text, &error,
+        )?)),
         Err(ReadFault::Memory(error)) => Err(error),
     }
 }
 
 // A line for each term of definitions, or one line for each error.
-fn answer_to_defs(alloc: Global, text: &str, defs: &[Def]) -> Result<Answer, AllocError> {
+fn answer_to_defs(alloc: Global, text: &str, defs: &[Def]) -> Result<TreesOrErrors, AllocError> {
     match lower(alloc, defs, true) {
-        Ok(lowered) => Ok(Answer::Trees(verdicts(alloc, defs, &lowered)?)),
+        Ok(lowered) => Ok(TreesOrErrors::Trees(verdicts(alloc, defs, &lowered)?)),
         Err(Fault::Errors(errors)) => {
             let lines = error_lines(alloc, &errors, Places::Lines(text))?;
-            Ok(Answer::Errors(lines))
+            Ok(TreesOrErrors::Errors(lines))
         }
         Err(Fault::Memory(error)) => Err(error),
     }

@@ -1,5 +1,5 @@
 // Trees of generated definitions and of samples, judged; and trees that the judge refuses.
-use check_support::judge::{Fault, judge};
+use check_support::judge::{TreeFault, judge};
 use check_support::one_term::list;
 use cranelift_isle::lower::{Lowered, LoweredTerm, lower};
 use cranelift_isle::sema::TypeId;
@@ -208,7 +208,12 @@ fn apply_to_arms(change: Change, arms: &mut Vec<MatchArm>) {
 }
 
 // The trees of a text's terms, each changed, are judged so.
-fn expect(rt: &impl Abort, alloc: Global, change: Change, want: Option<Fault>) -> Result<(), Fail> {
+fn expect(
+    rt: &impl Abort,
+    alloc: Global,
+    change: Change,
+    want: Option<TreeFault>,
+) -> Result<(), Fail> {
     let mut lowered = accepted(rt, alloc, TWO_STEPS)?;
     assert_eq!(rt; lowered.terms.len(), 1);
     for term in &mut lowered.terms {
@@ -223,11 +228,11 @@ fn refuses_changed_trees(rt: HostRuntime) -> Result<(), Fail> {
     let alloc = rt.alloc();
     for (change, want) in [
         (Change::Nothing, None),
-        (Change::StepsReversed, Some(Fault::Greatest)),
-        (Change::StepLeftOut, Some(Fault::Returns)),
-        (Change::ArmsReversed, Some(Fault::ArmOrder)),
-        (Change::ArmLeftOut, Some(Fault::Returns)),
-        (Change::SiteBound, Some(Fault::BindOrder)),
+        (Change::StepsReversed, Some(TreeFault::Greatest)),
+        (Change::StepLeftOut, Some(TreeFault::Returns)),
+        (Change::ArmsReversed, Some(TreeFault::ArmOrder)),
+        (Change::ArmLeftOut, Some(TreeFault::Returns)),
+        (Change::SiteBound, Some(TreeFault::BindOrder)),
     ] {
         expect(&rt, alloc, change, want)?;
     }
@@ -271,9 +276,9 @@ fn refuses_lesser_tests(rt: HostRuntime) -> Result<(), Fail> {
     for term in &lowered.terms {
         for (first, second, want) in [
             ((0, 1), (1, 2), None),
-            ((1, 2), (0, 1), Some(Fault::Greatest)),
-            ((0, 1), (0, 1), Some(Fault::Open)),
-            ((0, 2), (1, 2), Some(Fault::ArmRules)),
+            ((1, 2), (0, 1), Some(TreeFault::Greatest)),
+            ((0, 1), (0, 1), Some(TreeFault::Open)),
+            ((0, 2), (1, 2), Some(TreeFault::ArmRules)),
         ] {
             let (pos, result) = (
                 Pos {
@@ -302,7 +307,7 @@ fn refuses_trees_of_other_rules(rt: HostRuntime) -> Result<(), Fail> {
         for tree in &other.terms {
             assert_eq!(rt;
                 judge(alloc, &term.rules, &tree.block)?,
-                Some(Fault::Greatest)
+                Some(TreeFault::Greatest)
             );
         }
     }

@@ -6,7 +6,7 @@ use cranelift_isle::syntax::{Error, Limit, Pos, Span};
 use cranelift_isle::trie_again::{Binding, BindingId, Constraint, TupleIndex};
 use report_print::errors::error_lines;
 use report_print::places::Places;
-use report_print::print::{Names, print_bindings, print_block};
+use report_print::print::{TreeNames, print_bindings, print_block};
 use std::alloc::{AllocError, Global};
 use std::test::Fail;
 use text_reader::read;
@@ -65,7 +65,7 @@ const NAMED: &str = "(type T (enum A)) (type S (struct (x u8))) (type P (primiti
 fn printed(alloc: Global, bindings: &[Binding], block: &Block) -> Result<String, Fail> {
     let defs = read(alloc, 0, NAMED)?;
     let (tyenv, termenv) = types_and_rules(alloc, &defs)?;
-    let names = Names {
+    let names = TreeNames {
         syms: &tyenv.syms,
         types: &tyenv.types,
         terms: &termenv.terms,

@@ -5,7 +5,7 @@ use std::process::Abort;
 use std::test::Fail;
 use text_reader::syntax::{Model, ModelValue, SpecExpr, VerificationForm};
 use text_reader::{read, verification};
-use text_writer::spec_faults::PrintFault;
+use text_writer::spec_faults::SpecPrintFault;
 use text_writer::verification::{print, print_all};
 
 // The forms of a text for a verifier.
@@ -88,7 +88,7 @@ fn bits_of_too_great_a_number_are_not_printed(rt: HostRuntime) -> Result<(), Fai
     };
     let forms = vec![in alloc; VerificationForm::Model(model)]?;
     match print(alloc, &forms) {
-        Err(PrintFault::Unspellable(at)) => assert!(&rt; at == place),
+        Err(SpecPrintFault::Unspellable(at)) => assert!(&rt; at == place),
         Err(_) | Ok(_) => panic!(&rt; "printed, or no memory"),
     }
     Ok(())
