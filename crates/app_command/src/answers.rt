@@ -23,7 +23,7 @@ use cranelift_isle::lower::{Lowered, LoweredTerm, lower};
 use cranelift_isle::syntax::{Def, Error, Fault, Files};
 use report_errors::diagnosis::reports_of;
 use report_errors::explanation::{explanation, with_rules};
-use report_errors::stats::stats;
+use report_errors::term_sizes::stats;
 use report_json::documents::{
     DocumentPurpose, document_of_reports, document_of_sizes, document_of_terms,
     document_of_warnings,

@@ -1,11 +1,11 @@
 //! What is wrong with definitions, as reports.
 
+use crate::error_order::Order;
+use crate::named_forms::{named_forms, only_place};
 use crate::names::{name_of, priority_of, rule_at};
-use crate::numbered::{named_forms, only_place};
-use crate::order::Order;
 use crate::reports::report_of as report_of_type_error;
-use crate::templates::{Templates, report_of_template};
-use crate::uses::add_uses;
+use crate::undefined_terms::add_uses;
+use crate::unmatched_templates::{Templates, report_of_template};
 use cranelift_isle::syntax::{Def, Error, Limit, Pos, Span};
 use report_print::report::{Level, Report};
 use report_witness::forms::{ValueForm, push_form};

@@ -1,9 +1,9 @@
 //! What a rule demands, and when it is taken.
 
-use crate::called::Called;
-use crate::lines::push_line;
+use crate::indented_lines::push_line;
+use crate::meant_rules::Called;
 use crate::names::{NameTables, rule_at};
-use crate::trees::push_returns;
+use crate::tree_sizes::push_returns;
 use crate::way_text::Sites;
 use crate::ways::Search;
 use cranelift_isle::lower::{Lowered, LoweredTerm};

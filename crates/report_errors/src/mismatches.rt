@@ -1,9 +1,9 @@
 //! Where the two types of a mismatch come from.
 
 use crate::definitions::{place_of_constant, place_of_made, rule_around};
-use crate::forms::{Form, Need, form_at, type_needed};
+use crate::forms_at_places::{Form, Need, form_at, type_needed};
 use crate::scopes::binding_at;
-use crate::terms::between;
+use crate::terms_in_errors::between;
 use core_syntax::syntax::{Def, Pos};
 use report_print::report::Report;
 use std::alloc::{AllocError, Global};

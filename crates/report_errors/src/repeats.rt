@@ -1,7 +1,7 @@
 //! The other places of what is defined more than once.
 
 use crate::definitions::{definition_around, is_struct, root_of, variant_in};
-use crate::forms::subject_at;
+use crate::forms_at_places::subject_at;
 use core_syntax::syntax::{Converter, Def, Extern, Fields, Pos, Rule, Type, TypeValue};
 use std::alloc::{AllocError, Global};
 

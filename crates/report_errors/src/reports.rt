@@ -1,10 +1,10 @@
 //! The reports of type errors.
 
 use crate::definitions::{place_of_template, place_of_term};
-use crate::forms::subject_at;
+use crate::forms_at_places::subject_at;
 use crate::mismatches::{add_binding, add_types};
 use crate::repeats::other_places;
-use crate::terms::{between, path_in, term_in};
+use crate::terms_in_errors::{between, path_in, term_in};
 use crate::unknown::{question, unknown_in};
 use core_syntax::syntax::{Def, Pos};
 use report_print::report::{Level, Report};

@@ -1,7 +1,7 @@
 //! The names that errors say aren't known, and those that may be meant.
 
 use crate::definitions::rule_around;
-use crate::forms::subject_at;
+use crate::forms_at_places::subject_at;
 use crate::nearest::Nearest;
 use crate::scopes::variables_at;
 use core_syntax::syntax::{Def, Extern, Pos, Type, TypeValue, Variant};

@@ -1,8 +1,8 @@
 //! The tests on the way to a return, a line each.
 
-use crate::demands::{push_head, push_site, text_at};
-use crate::lines::push_line;
+use crate::indented_lines::push_line;
 use crate::names::NameTables;
+use crate::site_words::{push_head, push_site, text_at};
 use cranelift_isle::trie_again::{Binding, BindingId, Constraint};
 use std::alloc::{AllocError, Global};
 

@@ -3,7 +3,7 @@
 use crate::writer::Json;
 use cranelift_isle::lower::Lowered;
 use report_errors::names::NameTables;
-use report_errors::stats::{TermSize, sizes};
+use report_errors::term_sizes::{TermSize, sizes};
 use std::alloc::{AllocError, Global};
 
 /// Adds the sizes of terms with rules, the one with most rules first.

@@ -7,7 +7,7 @@ use cranelift_isle::serialize::{Block, ControlFlow, MatchArm};
 use cranelift_isle::syntax::{Files, Pos};
 use cranelift_isle::trie_again::{Binding, BindingId};
 use report_errors::explanation::push_rule_place;
-use report_errors::lines::push_line;
+use report_errors::indented_lines::push_line;
 use report_errors::names::NameTables;
 use report_errors::way_text::{Sites, Way, WayTest};
 use report_errors::ways::test_of;

@@ -5,9 +5,9 @@ use cranelift_isle::lower::{Lowered, LoweredTerm};
 use cranelift_isle::sema::{Sym, Type};
 use cranelift_isle::syntax::{Def, Ident, Pattern, Pos, Rule};
 use cranelift_isle::trie_again::{BindingId, Constraint};
-use report_errors::demands::push_head;
 use report_errors::diagnosis::{add_help, add_rule};
 use report_errors::names::NameTables;
+use report_errors::site_words::push_head;
 use report_print::report::Report;
 use std::alloc::{AllocError, Global};
 

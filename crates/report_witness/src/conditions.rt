@@ -1,9 +1,9 @@
 //! The conditions of a rule in its own words, a line for each.
 
 use crate::forms::{ValueForm, is_constant};
-use crate::parts::{Head, Parts};
 use crate::parts_text::Writing;
-use crate::rule_parts::parts_of;
+use crate::rule_demands::parts_of;
+use crate::value_parts::{Head, Parts};
 use crate::witness::term_of;
 use core_syntax::syntax::{Expr, LetDef, Rule};
 use std::alloc::{AllocError, Global};

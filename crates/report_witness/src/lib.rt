@@ -4,9 +4,9 @@
 pub mod conditions;
 pub mod forms;
 mod part_names;
-mod parts;
 mod parts_text;
-mod rule_parts;
+mod rule_demands;
 pub mod rule_text;
 pub mod templates;
+mod value_parts;
 pub mod witness;

@@ -1,6 +1,6 @@
 //! The names of parts in a text.
 
-use crate::parts::Parts;
+use crate::value_parts::Parts;
 use std::alloc::{AllocError, Global};
 
 // How many names are tried for a part that has none.

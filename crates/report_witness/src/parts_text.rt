@@ -2,7 +2,7 @@
 
 use crate::forms::{ValueForm, is_constant, push_form};
 use crate::part_names::PartNames;
-use crate::parts::{Call, Head, Parts};
+use crate::value_parts::{Call, Head, Parts};
 use std::alloc::{AllocError, Global};
 
 // How many pieces a text may have.

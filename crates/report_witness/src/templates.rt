@@ -1,6 +1,6 @@
 //! The internal extractors that rules use, and those among them whose templates no value matches.
 
-use crate::rule_parts::extractors_of;
+use crate::rule_demands::extractors_of;
 use crate::witness::{Conflict, conflict_in_template, stays_without};
 use core_syntax::syntax::{Def, Extractor, Pattern, Rule};
 use std::alloc::{AllocError, Global};

@@ -1,9 +1,9 @@
 //! What two rules both match, and why no value matches a rule.
 
 use crate::forms::{ValueForm, are_apart, is_same};
-use crate::parts::{Head, Parts};
 use crate::parts_text::Writing;
-use crate::rule_parts::{extractors_of, parts_of, parts_of_template};
+use crate::rule_demands::{extractors_of, parts_of, parts_of_template};
+use crate::value_parts::{Head, Parts};
 use core_syntax::syntax::{Def, Extractor, Pattern, Pos, Rule};
 use std::alloc::{AllocError, Global};
 

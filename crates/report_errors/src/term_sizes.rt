@@ -3,7 +3,7 @@
 ghost use Rattle.std.specs.Prelude.{◌<◌, string_len, IfOk};
 
 use crate::names::NameTables;
-use crate::trees::{TreeSize, size_of_tree};
+use crate::tree_sizes::{TreeSize, size_of_tree};
 use cranelift_isle::lower::{Lowered, LoweredTerm};
 use cranelift_isle::sema::TermId;
 use std::alloc::{AllocError, Global};

@@ -1,8 +1,8 @@
 //! The uses of a term that isn't defined.
 
 use crate::definitions::definition_around;
-use crate::order::{Order, place_of, words_of};
-use crate::terms::undefined_in;
+use crate::error_order::{Order, place_of, words_of};
+use crate::terms_in_errors::undefined_in;
 use core_syntax::syntax::{Def, Error, Pos};
 use report_print::report::Report;
 use std::alloc::{AllocError, Global};

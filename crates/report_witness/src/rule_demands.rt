@@ -1,7 +1,7 @@
 //! What rules ask of the values that they look at.
 
 use crate::forms::ValueForm;
-use crate::parts::Parts;
+use crate::value_parts::Parts;
 use core_syntax::syntax::{Def, Expr, Extractor, Ident, IfLet, LetDef, Pattern, Pos, Rule};
 use std::alloc::{AllocError, Global};
 

@@ -1,6 +1,6 @@
 //! The terms that errors speak of, whose definition tells why.
 
-use crate::forms::subject_at;
+use crate::forms_at_places::subject_at;
 use core_syntax::syntax::{Def, Pos};
 
 // How errors begin that are of a term, and what stands behind its name.

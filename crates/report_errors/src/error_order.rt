@@ -2,7 +2,7 @@
 
 use crate::definitions::rule_around;
 use crate::scopes::binding_at;
-use crate::terms::{between, path_in, undefined_in, unusable_in};
+use crate::terms_in_errors::{between, path_in, undefined_in, unusable_in};
 use core_syntax::syntax::{Def, Error, Pos};
 use std::alloc::{AllocError, Global};
 
