@@ -12,7 +12,7 @@ use Rattle.model_code.specs.Saving.{with_moves, WithMovesSaysSame}
 use Rattle.model_code.specs.SiteTypes.{types_of}
 use Rattle.model_code.specs.TreeCode.{tree_code}
 use Rattle.laws_code.specs.CodeChoices.{CodeChoosesAsSource, MeansItsSource}
-use Rattle.laws_code.specs.TypedTrees.{CodeOfAcceptedIsWellMade, ConstrainsByTypes, IsWellMade}
+use Rattle.laws_code.specs.TypedTrees.{CodeOfEachTermIsWellMade, IsWellMade}
 use Rattle.laws_code.proofs.WellMade.{means_same}
 use Rattle.core_terms.specs.declared.term.Term.{Term}
 use Rattle.core_terms.specs.TermViews.{term_views}
@@ -55,9 +55,9 @@ module _ (l : Lowered) (t : Code.LoweredTerm) (code : Block) where
       (means_same p term cloned (with_moves types cloned) (λ w most. ap outcome_of (sym ((same types cloned).runs w most [] at_start)))
       (chooses defs expand rules term answers.accepted lowered.built lowered.best passes is_deep 0))
 
-  pub is_well_made : CodeOfAcceptedIsWellMade → OfLowered l t (IsItsCode code) → OfLowered l t (λ p term. ConstrainsByTypes p term.term term.set → IsWellMade p term code)
-  is_well_made made its defs expand rules answers here by_types =
+  pub is_well_made : CodeOfEachTermIsWellMade → OfLowered l t (IsItsCode code) → OfLowered l t (λ p term. IsWellMade p term code)
+  is_well_made made its defs expand rules answers here =
       let p = own_program defs rules in
       let term = lowered_view t in
       let lowered : IsLoweredTerm p term = All-contains (IsLoweredTerm p) (lowered_views l.terms.items) term answers.trees.lowered here in
-      subst (IsWellMade p term) (sym (its defs expand rules answers here)) (made defs expand rules term answers.accepted lowered.built lowered.best by_types is_deep 0)
+      subst (IsWellMade p term) (sym (its defs expand rules answers here)) (made defs expand rules term answers.accepted lowered.built lowered.best is_deep 0)

@@ -8,7 +8,7 @@
 ghost use Rattle.rust_text.specs.ClosedNames.{WrittenNamesAreClosed};
 ghost use Rattle.std.specs.Prelude.{IfOk};
 ghost use Rattle.laws_code.specs.CodeChoices.{MeansItsSource};
-ghost use Rattle.laws_code.specs.TypedTrees.{ConstrainsByTypes, IsWellMade};
+ghost use Rattle.laws_code.specs.TypedTrees.{IsWellMade};
 ghost use Rattle.rust_code.specs.CodeViews.{block_view};
 ghost use Rattle.rust_text.specs.LoweredCode.{IsItsCode, OfLowered};
 ghost use Rattle.rust_text.specs.PrintedTexts.{EachTermHasItsPrintedText, PrintedTextsAreReadBack};
@@ -16,7 +16,7 @@ ghost use Rattle.rust_text.specs.WholeNames.{NamesAreClosed, NamesAreWhole};
 
 use cranelift_isle::lower::{Lowered, LoweredTerm};
 use laws_code::{
-    code_chooses_as_source, code_of_accepted_is_well_made, each_term_has_its_text,
+    code_chooses_as_source, code_of_each_term_is_well_made, each_term_has_its_text,
     text_of_accepted_is_read_back,
 };
 use model_code::with_moves_says_same;
@@ -67,15 +67,13 @@ pub fn function_code(
     // bag of the rules' results, or with a bound a part of it
     ensures means { IfOk result (λ c. OfLowered lowered.now term.now (λ p t. MeansItsSource p t (block_view c))) }
 
-    // and where the rules constrain by types, what it reads is in scope, each use gives a reference or a value as is wanted, and
-    // what isn't Copy is moved once at most
-    ensures well_made { IfOk result (λ c. OfLowered lowered.now term.now (λ p t. ConstrainsByTypes p t.term t.set
-        → IsWellMade p t (block_view c))) }
+    // what it reads is in scope, each use gives a reference or a value as is wanted, and what isn't Copy is moved once at most
+    ensures well_made { IfOk result (λ c. OfLowered lowered.now term.now (λ p t. IsWellMade p t (block_view c))) }
 {
     // laws, without code
     code_chooses_as_source();
     with_moves_says_same();
-    code_of_accepted_is_well_made();
+    code_of_each_term_is_well_made();
     let tables = Tables {
         tyenv: &lowered.tyenv,
         terms: &lowered.termenv.terms,

@@ -11,5 +11,5 @@ returns c =
     record {
       made = its;
       means = means_its_source l t code c.code_chooses_as_source.ensures c.with_moves_says_same.ensures its;
-      well_made = is_well_made l t code c.code_of_accepted_is_well_made.ensures its;
+      well_made = is_well_made l t code c.code_of_each_term_is_well_made.ensures its;
     }
