@@ -11,6 +11,7 @@ pub mod echo;
 pub mod faults;
 pub mod known;
 pub mod laws;
+pub mod opaque;
 pub mod outcomes;
 pub mod replies;
 pub mod runs;

@@ -1,6 +1,7 @@
 //! Outcomes in words.
 
 use crate::echo::constant_number;
+use crate::opaque::{has_opaque_values, push_opaque};
 use cranelift_isle::lower::Lowered;
 use cranelift_isle::sema::{Sym, TypeId};
 use report_queries::names::{full_variant_name, sym_name, term_name, type_name};
@@ -115,7 +116,7 @@ fn push_values(out: &mut String, lowered: &Lowered, values: &[Value]) -> Result<
     Ok(())
 }
 
-// Adds a number, or the constant that it stands for.
+// Adds a number, the constant that it stands for, or an opaque value.
 fn push_atom(
     out: &mut String,
     lowered: &Lowered,
@@ -124,6 +125,7 @@ fn push_atom(
 ) -> Result<(), AllocError> {
     match constant_of(lowered, ty, number) {
         Some(name) => write!(out, "${name}"),
+        None if has_opaque_values(&lowered.tyenv, ty) => push_opaque(out, lowered, ty, number),
         None => write!(out, "{number}"),
     }
 }

@@ -1,6 +1,7 @@
 //! Values, as expressions write them.
 
 use crate::echo::named_value;
+use crate::opaque::{bare_integer, has_opaque_values, opaque_value};
 use cranelift_isle::lower::Lowered;
 use cranelift_isle::sema::{BuiltinType, Term, TermKind, Type, TypeId};
 use cranelift_isle::syntax::{Expr, Ident};
@@ -71,7 +72,7 @@ fn wrong_count(alloc: Global, lowered: &Lowered, term: &Term, given: usize) -> U
     wrong(format!(in alloc; "wrong number of arguments of `{name}`: {given} instead of {wanted}"))
 }
 
-/// The value of a type that an expression writes: an integer, a truth value, a constant, a variant or a struct.
+/// The value of a type that an expression writes: an integer, a truth value, a constant, an opaque value, a variant or a struct.
 #[cycle(values)]
 pub fn value_of(
     alloc: Global,
@@ -84,7 +85,7 @@ pub fn value_of(
         Expr::ConstBool { val, .. } => truth(alloc, lowered, *val, ty),
         Expr::ConstPrim { val, .. } => constant(alloc, lowered, val, ty),
         Expr::Term { sym, args, .. } => composed(alloc, lowered, sym, args, ty),
-        Expr::Var { name, .. } => Err(no_value(alloc, lowered, name.0.as_str(), ty)),
+        Expr::Var { name, .. } => opaque_value(alloc, lowered, name, ty),
         Expr::Let { .. } => Err(no_value(alloc, lowered, "let", ty)),
     }
 }
@@ -117,8 +118,7 @@ fn composed(
     }
 }
 
-/// An integer as a value of a type: of a built-in one the number of its range that it stands for. Of an extern enum an integer is
-/// a value of none of its variants.
+/// An integer as a value of a type: of a built-in one the number of its range that it stands for. Opaque values aren't written so.
 pub fn integer(
     alloc: Global,
     lowered: &Lowered,
@@ -128,12 +128,7 @@ pub fn integer(
     match lowered.tyenv.types.get(ty.index()) {
         Some(Type::Builtin(BuiltinType::Int(int))) => Ok(Value::Atom(ty, int.reduce(val))),
         Some(Type::Primitive(..)) => Ok(Value::Atom(ty, val)),
-        Some(
-            Type::Enum {
-                is_extern: true,
-                ..
-            },
-        ) => Ok(Value::Atom(ty, val)),
+        _ if has_opaque_values(&lowered.tyenv, ty) => Err(bare_integer(alloc, lowered, val, ty)),
         _ => {
             let text = format!(in alloc; "{val}")?;
             Err(no_value(alloc, lowered, &text, ty))
@@ -167,8 +162,8 @@ fn constant(
     Err(no_value(alloc, lowered, &text, ty))
 }
 
-// That something is no value of a type.
-fn no_value(alloc: Global, lowered: &Lowered, text: &str, ty: TypeId) -> Unanswered {
+/// That something is no value of a type.
+pub fn no_value(alloc: Global, lowered: &Lowered, text: &str, ty: TypeId) -> Unanswered {
     let name = type_name(&lowered.tyenv, ty).unwrap_or("?");
     wrong(format!(in alloc; "`{text}` isn't a value of type `{name}`"))
 }
