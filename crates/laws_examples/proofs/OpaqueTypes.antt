@@ -132,4 +132,4 @@ no_values (of_struct t no_value) = never (t == own)
 no_values (of_struct t (value_and w ws)) = never (t == own)
 
 pub closed_enums : ClosedEnums
-closed_enums = record { no_value_of_none = no_values; of_a_variant = refl; of_no_variant = λ z. refl; of_no_such_variant = refl }
+closed_enums = record { no_value_of_none = no_values; of_a_variant = refl; of_no_variant = λ z. refl; of_no_such_variant = refl; of_other_fields = refl }

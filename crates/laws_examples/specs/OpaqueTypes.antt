@@ -231,5 +231,6 @@ pub record ClosedEnums : Type 0 where
   pub no_value_of_none : (x : Value) → well_typed (with_enum false []) own x ≡ false
   pub of_a_variant : well_typed (with_enum false one_variant) own of_a ≡ true
   pub of_no_variant : (z : ℤ) → well_typed (with_enum false one_variant) own (o z) ≡ false
-  -- and a variant that isn't declared gives no value, also of an extern enum
+  -- and a variant that isn't declared gives no value, also of an extern enum; nor does a declared one with a field that it hasn't
   pub of_no_such_variant : well_typed (with_enum true []) own of_a ≡ false
+  pub of_other_fields : well_typed (with_enum true one_variant) own (of_variant own 0 (value_and (o (pos 5)) no_value)) ≡ false
