@@ -26,8 +26,8 @@ PING = (
 
 def recorded():
     """The recorded messages, as texts."""
-    folder = os.path.dirname(os.path.dirname(os.path.abspath(__file__)))
-    path = os.path.join(folder, 'crates', 'check_json', 'stdin')
+    top = os.path.dirname(os.path.dirname(os.path.dirname(os.path.realpath(__file__))))
+    path = os.path.join(top, 'crates', 'check_json', 'stdin')
     with open(path, encoding='utf-8') as lines:
         texts = [line[2:].rstrip('\n') for line in lines if line.startswith('> ')]
     return [text for text in texts if '"shutdown"' not in text and '"exit"' not in text]
