@@ -1,6 +1,6 @@
 #!/usr/bin/env python3
-"""Writes a set of rules of one shape and size to standard output: shapes.py SHAPE SIZE. The same shape and size give the same
-text each time."""
+"""Writes a set of rules of one shape and size to standard output. The same shape and size give the same text each time."""
+import argparse
 import random
 import sys
 
@@ -328,7 +328,13 @@ NESTED = {
 }
 
 
+def main():
+    parser = argparse.ArgumentParser(prog="shapes.py", description=__doc__)
+    parser.add_argument("shape", metavar="SHAPE", choices=SHAPES, help=", ".join(SHAPES))
+    parser.add_argument("size", metavar="SIZE", type=int, help="how many rules, or how large the one rule is")
+    asked = parser.parse_args()
+    sys.stdout.write(text(asked.shape, asked.size))
+
+
 if __name__ == "__main__":
-    if len(sys.argv) != 3 or sys.argv[1] not in SHAPES or not sys.argv[2].isdigit():
-        sys.exit(f"usage: shapes.py SHAPE SIZE, where SHAPE is one of {', '.join(SHAPES)}")
-    sys.stdout.write(text(sys.argv[1], int(sys.argv[2])))
+    main()
