@@ -1,7 +1,6 @@
 #!/usr/bin/env python3
-"""Tries try-smt on answers that are made up. Small programs stand in for isle, z3 and cvc5; a solver reads what it has to do from
-a comment in the question. Status: 0 if all is as it must be, 1 if something isn't."""
-import argparse
+"""Tries try-smt on answers that are made up: fakes.py TRY-SMT. Small programs stand in for isle, z3 and cvc5; a solver reads what
+it has to do from a comment in the question. Status: 0 if all is as it must be, 1 if something isn't."""
 import json
 import os
 import subprocess
@@ -97,12 +96,12 @@ def ask(script, room, rows, above, words):
 
 
 def main(script):
-    failed, passed = [], []
+    failed = []
 
     def check(name, is_so, found):
         print("%s %s" % ("pass" if is_so else "FAIL", name), flush=True)
-        (passed if is_so else failed).append(name)
         if not is_so:
+            failed.append(name)
             print("  " + repr(found))
 
     with tempfile.TemporaryDirectory() as room:
@@ -136,16 +135,9 @@ def main(script):
         os.mkdir(empty)
         found = run(script, room, ["asked"], empty)
         check("no solver", found[1] == 70 and "apt-get install z3 cvc5" in found[0][0], found)
-    print("%d cases, %d passed" % (len(passed) + len(failed), len(passed)))
+    print("%d failed" % len(failed))
     return 1 if failed else 0
 
 
-def options():
-    parser = argparse.ArgumentParser(prog="fakes.py", description=__doc__)
-    script = os.path.join(os.path.dirname(os.path.dirname(os.path.realpath(__file__))), "try-smt")
-    parser.add_argument("script", metavar="TRY-SMT", nargs="?", default=script, help="the script; without it, the one of this repository")
-    return parser.parse_args()
-
-
 if __name__ == "__main__":
-    sys.exit(main(options().script))
+    sys.exit(main(sys.argv[1]))
