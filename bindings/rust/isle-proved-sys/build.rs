@@ -41,7 +41,7 @@ fn find() -> Result<(), String> {
 
 // The program that was proved and built of the sources as they are now.
 fn proved_program(top: &Path) -> Option<PathBuf> {
-    let found = Command::new(top.join("run-program"))
+    let found = Command::new(top.join("tools/run-program"))
         .args(["--where", "isle", "rt run -- lower fall.isle"])
         .output()
         .ok()?;

@@ -17,6 +17,6 @@ Options:
   --help
 
 Status: 0 success, 1 errors or a rule that isn't shown to be right, 2 wrong use, 3 out of memory, 4 a file cannot be read or
-the answer cannot be written. The script ./isle adds 70: no program gave an answer. ./try-smt asks the solvers that are
+the answer cannot be written. The script ./isle adds 70: no program gave an answer. tools/try-smt asks the solvers that are
 installed about all rules.
 ";

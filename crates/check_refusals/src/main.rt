@@ -1,9 +1,9 @@
-//! Says of each claim on refused memory whether it holds in this run: `./refuse-memory` runs it with one request for memory
+//! Says of each claim on refused memory whether it holds in this run: `tools/refuse-memory` runs it with one request for memory
 //! refused, the first, the second and so on.
 //!
 //! A claim makes a copy of what it looks at, makes the calls that may be refused, and compares. Where the refusal falls on a
 //! copy, it begins again: one request is refused in a run. The last claims are on calls that take no memory: what they ask is
-//! made before their first line is written, and after that `./refuse-memory` may refuse every request.
+//! made before their first line is written, and after that `tools/refuse-memory` may refuse every request.
 #![tactic(auto)]
 
 mod asked;

@@ -1,5 +1,5 @@
--- Tries the server in Neovim without a screen: try-editor runs it. ISLE_SERVER is the program, ISLE_EDITORS the folder of this
--- file, ISLE_FOLDER a folder with the rule files. Each check is a line of ISLE_RESULTS.
+-- Tries the server in Neovim without a screen: try-editor runs it. ISLE_SERVER is the program, ISLE_EDITORS the folder
+-- editors, ISLE_FOLDER a folder with the rule files. Each check is a line of ISLE_RESULTS.
 local folder = vim.env.ISLE_FOLDER
 local results = assert(io.open(vim.env.ISLE_RESULTS, 'w'))
 

@@ -1,9 +1,11 @@
-"""Sends messages that were changed at random to the server: mutated.py PROGRAM COUNT [SEED].
+#!/usr/bin/env python3
+"""Sends messages that were changed at random to the server.
 
 The messages are those of crates/check_json/stdin without the ones that end the server. The server has to go on, to answer a request that
 follows each message, to answer no id twice, and to end with the status 0 after shutdown and exit.
 """
 
+import argparse
 import json
 import os
 import queue
@@ -26,8 +28,8 @@ PING = (
 
 def recorded():
     """The recorded messages, as texts."""
-    folder = os.path.dirname(os.path.dirname(os.path.abspath(__file__)))
-    path = os.path.join(folder, 'crates', 'check_json', 'stdin')
+    top = os.path.dirname(os.path.dirname(os.path.dirname(os.path.realpath(__file__))))
+    path = os.path.join(top, 'crates', 'check_json', 'stdin')
     with open(path, encoding='utf-8') as lines:
         texts = [line[2:].rstrip('\n') for line in lines if line.startswith('> ')]
     return [text for text in texts if '"shutdown"' not in text and '"exit"' not in text]
@@ -140,8 +142,12 @@ def message(rng, texts, others):
 
 
 def main():
-    program, count = sys.argv[1], int(sys.argv[2])
-    seed = int(sys.argv[3]) if len(sys.argv) > 3 else 1
+    parser = argparse.ArgumentParser(prog='mutated.py', description=__doc__)
+    parser.add_argument('program', metavar='PROGRAM', help='the program isle')
+    parser.add_argument('count', metavar='COUNT', type=int, help='how many messages')
+    parser.add_argument('seed', metavar='SEED', type=int, nargs='?', default=1, help='chooses the messages (1)')
+    asked = parser.parse_args()
+    program, count, seed = asked.program, asked.count, asked.seed
     rng = random.Random(seed)
     texts = recorded()
     opening = [text for text in texts if 'didOpen' in text]
@@ -180,8 +186,9 @@ def main():
     else:
         failed += 1
         print(f'FAIL the server ends with the status {status}')
-    print(f'{passed} passed, {failed} failed')
+    print(f'{passed + failed} cases, {passed} passed')
     sys.exit(1 if failed else 0)
 
 
-main()
+if __name__ == '__main__':
+    main()
