@@ -1,8 +1,8 @@
 //! The compiler of ISLE definitions, for build scripts and tools.
 //!
-//! Two things are proved: what the trees of definitions do, and that there are errors exactly if the definitions aren't accepted.
-//! Which errors there are is proved in part. Which definitions a text gives, and everything that is printed (Rust code too), is
-//! only tested.
+//! It is proved that a text is read as the definitions that it spells, that there are errors exactly if these aren't accepted,
+//! what their trees do, and that the bodies of Rust functions are printed as code that does the same. Everything else that is
+//! printed is only tested (`docs/CLAIMS.md`).
 //!
 //! A build script of three lines compiles rules to Rust code:
 //!
