@@ -15,7 +15,7 @@ use Rattle.text_reader.specs.SpecTrees.{spec_bits}
 use Rattle.text_reader.specs.SpecGrammar.{are_digits, are_bits, bits_of, word_spec_of}
 use Rattle.text_writer.specs.SpecForms.{digit_text, digits_text, bits_text}
 use Rattle.text_writer.specs.SpellableTrees.{bits_are_spellable}
-use Rattle.text_writer.proofs.Parts.{both, three}
+use Rattle.text_writer.proofs.WordParts.{both, three}
 use Rattle.text_reader.proofs.Digits.{powers}
 
 -- ---- one digit

@@ -15,7 +15,7 @@ use Rattle.text_reader.specs.RuleGrammar.{is_signed_64}
 use Rattle.text_reader.specs.Solid.{nowhere, placeless_name}
 use Rattle.text_writer.specs.Forms.{the_word, word_form, constant_form, number_form, list_form, headed_form, truth_form, names_before, flag_before, flags_before, type_words_before, rule_words_before, pattern_form, pattern_forms, expr_form, expr_forms, let_forms, field_forms, tuple_field_forms, fields_forms, variant_by, variant_forms, value_form, type_form, decl_form, extern_form, if_let_form, if_lets_before, name_before, priority_before, rule_form, form_of}
 use Rattle.text_writer.specs.Spellable.{begins_word, has_word_characters, is_word, is_any_word, is_constant_name, is_signed_128, are_words, is_pattern_head, is_expr_head, pattern_is_spellable, patterns_are_spellable, expr_is_spellable, exprs_are_spellable, lets_are_spellable, field_is_spellable, tuple_is_spellable, fields_are_spellable, variant_is_spellable, value_is_spellable, type_is_spellable, if_let_is_spellable, begins_with_pattern, is_no_name_or_word, is_no_priority_or_fits, can_be_spelled}
-use Rattle.text_writer.proofs.Parts.{both, three, four, six, word_parts, beginning_parts, nothing_begins, word_is_any, variable_parts, pattern_head_parts, expr_variable_parts, expr_head_parts}
+use Rattle.text_writer.proofs.WordParts.{both, three, four, six, word_parts, beginning_parts, nothing_begins, word_is_any, variable_parts, pattern_head_parts, expr_variable_parts, expr_head_parts}
 
 -- a word, which may begin with `-` where such words may stand
 abbrev pub is_fine_word : (dashes : Bool) → Name → Bool

@@ -17,7 +17,7 @@ use Rattle.text_writer.specs.Placeless.{placeless_pattern, placeless_patterns, p
 use Rattle.text_writer.specs.Forms.{names_before, flag_before, flags_before, type_words_before, rule_words_before, name_before, priority_before, pattern_form, pattern_forms, expr_form, expr_forms, let_forms, field_forms, tuple_field_forms, fields_forms, variant_by, variant_forms, value_form, if_let_form, if_lets_before, form_of}
 use Rattle.text_writer.specs.Spellable.{is_pattern_variable, is_pattern_head, is_expr_variable, is_expr_head, is_signed_128, pattern_is_spellable, patterns_are_spellable, expr_is_spellable, exprs_are_spellable, lets_are_spellable, field_is_spellable, tuple_is_spellable, fields_are_spellable, variant_is_spellable, value_is_spellable, if_let_is_spellable, is_written_as_word, is_written_as_number, begins_with_pattern, is_no_name_or_word, is_no_priority_or_fits, can_be_spelled}
 use Rattle.text_writer.specs.Spellable as S
-use Rattle.text_writer.proofs.Parts.{both, three, four, six, unless, variable_parts, pattern_head_parts, expr_variable_parts, expr_head_parts}
+use Rattle.text_writer.proofs.WordParts.{both, three, four, six, unless, variable_parts, pattern_head_parts, expr_variable_parts, expr_head_parts}
 
 names_read : (ns : List Name) → names_of (names_before ns no_form) ≡ Ok (map placeless_name ns)
 names_read [] = refl

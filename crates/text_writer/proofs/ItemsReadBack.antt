@@ -14,7 +14,7 @@ use Rattle.text_writer.specs.ReadsBack.{ReadsBackAs}
 use Rattle.text_writer.specs.Texts.{written}
 use Rattle.text_writer.specs.Placeless.{placeless_definition}
 use Rattle.text_writer.specs.Spellable as D
-use Rattle.text_writer.proofs.Parts.{both}
+use Rattle.text_writer.proofs.WordParts.{both}
 use Rattle.text_writer.proofs.Bare.{bared}
 use Rattle.text_writer.proofs.Placed.{placed, placed_bare}
 use Rattle.text_writer.proofs.Lines.{StandsAlone, lines, line_end, lines_placed, lines_forms, placed_passed}

@@ -25,7 +25,7 @@ pub mod FormsRead
 pub mod Lines
 pub mod Names
 pub mod Numbers
-pub mod Parts
+pub mod WordParts
 pub mod Placed
 pub mod ReadBack
 pub mod Spaces

@@ -14,7 +14,7 @@ use Rattle.text_reader.specs.Solid.{nowhere, placeless_name}
 use Rattle.text_reader.specs.Lexing.{Tokens, added, tokens_after}
 use Rattle.text_reader.specs.PassedOver.{is_dashed, mark}
 use Rattle.text_writer.specs.Spellable.{begins_any_word, is_word, is_any_word, is_constant_name, is_signed_128}
-use Rattle.text_writer.proofs.Parts.{both, word_parts, any_word_parts, any_beginning_parts, nothing_begins_any, word_is_any}
+use Rattle.text_writer.proofs.WordParts.{both, word_parts, any_word_parts, any_beginning_parts, nothing_begins_any, word_is_any}
 use Rattle.text_writer.proofs.Bare.{bare, all_bare}
 use Rattle.text_writer.proofs.Fine.{is_fine, are_fine, no_dash}
 use Rattle.text_writer.proofs.Numbers.{number_ascii, number_token}

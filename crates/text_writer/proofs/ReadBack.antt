@@ -15,7 +15,7 @@ use Rattle.text_writer.specs.Forms.{form_of}
 use Rattle.text_writer.specs.Texts.{written, printed}
 use Rattle.text_writer.specs.Spellable.{can_be_spelled, first_unspelled}
 use Rattle.text_writer.specs.ReadsBack.{ReadsBackAs}
-use Rattle.text_writer.proofs.Parts.{both}
+use Rattle.text_writer.proofs.WordParts.{both}
 use Rattle.text_writer.proofs.FormsRead.{definition_read}
 use Rattle.text_writer.proofs.Bare.{bared, definition_bare}
 use Rattle.text_writer.proofs.Twice.{definition_twice}

@@ -10,7 +10,7 @@ use Rattle.text_reader.specs.PassedOver.{is_passed_over, has_dash}
 use Rattle.text_reader.specs.Pieces.{is_in_word}
 use Rattle.text_writer.specs.Forms.{the_word, word_form, names_before}
 use Rattle.text_writer.specs.Spellable.{is_any_word, begins_word}
-use Rattle.text_writer.proofs.Parts.{both, three, four, six}
+use Rattle.text_writer.proofs.WordParts.{both, three, four, six}
 use Rattle.text_writer.proofs.Fine.{is_plain, Fits, AllFit, known, any_word_fits, number_fits, index_fits, truth_fits, none, more, listed, headed, one_more, some_left, two_less}
 use Rattle.text_writer.proofs.Written.{is_list}
 use Rattle.text_writer.proofs.Lines.{StandsAlone}

@@ -18,7 +18,7 @@ use Rattle.text_reader.specs.Verifying.{verification_of}
 use Rattle.text_writer.specs.SpecForms.{with_forms, forms_by, part_forms, model_type_form, spec_expr_form, spec_expr_forms, modifies_form, variant_value_form, model_value_form, signature_form, attr_kind_form, verification_form}
 use Rattle.text_writer.specs.PlacelessTrees.{placeless_model_type, placeless_spec_expr, placeless_spec_exprs, placeless_modifies, placeless_variant_value, placeless_model_value, placeless_signature, placeless_attr_kind, placeless_tree}
 use Rattle.text_writer.specs.SpellableTrees.{are_any_words, is_operator, is_spec_variable, model_type_is_spellable, spec_expr_is_spellable, spec_exprs_are_spellable, pair_is_spellable, pairs_are_spellable, part_is_spellable, modifies_is_spellable, is_no_value_or_spellable, variant_value_is_spellable, model_value_is_spellable, signature_type_is_spellable, signature_is_spellable, signatures_are_spellable, are_signatures_spellable, attr_kind_is_spellable, can_be_spelled}
-use Rattle.text_writer.proofs.Parts.{both, three, four, six, unless}
+use Rattle.text_writer.proofs.WordParts.{both, three, four, six, unless}
 use Rattle.text_writer.proofs.WordTests.{variable_parts, operator_parts}
 use Rattle.text_writer.proofs.DigitTexts.{bits_read}
 

@@ -7,7 +7,7 @@ use Rattle.model.specs.lists.Syntax.{Name}
 use Rattle.text_reader.specs.Grammar.{reads}
 use Rattle.text_writer.specs.Spellable.{is_any_word, is_truth}
 use Rattle.text_writer.specs.Forms.{the_word, word_form}
-use Rattle.text_writer.proofs.Parts.{three, four, unless, truth_parts}
+use Rattle.text_writer.proofs.WordParts.{three, four, unless, truth_parts}
 use Rattle.text_writer.proofs.Fine.{is_plain, Fits, known}
 use Rattle.text_reader.specs.SpecGrammar.{has_cases, has_mark, has_three}
 use Rattle.text_writer.specs.SpellableTrees.{is_spec_variable, is_operator}

@@ -14,7 +14,7 @@ use Rattle.text_reader.specs.FormTrees.{FormTree, a_word, a_number, a_constant, 
 use Rattle.text_reader.specs.Pieces.{Piece, space, left, right, bind, name, sign, spelling, size, is_in_word, is_name, is_constant, ends_word, begins_with, Stands, AreIn}
 use Rattle.text_writer.specs.Spellable.{begins_any_word, has_word_characters, is_word, is_any_word, is_some_text, is_constant_name, is_signed_128}
 use Rattle.text_writer.specs.Texts.{written, parted, spaced}
-use Rattle.text_writer.proofs.Parts.{both, any_word_parts, constant_parts, character_parts, any_beginning_parts, any_beginning_some, nothing_begins_any, word_is_any}
+use Rattle.text_writer.proofs.WordParts.{both, any_word_parts, constant_parts, character_parts, any_beginning_parts, any_beginning_some, nothing_begins_any, word_is_any}
 use Rattle.text_writer.proofs.Fine.{is_fine, are_fine}
 use Rattle.text_writer.proofs.Numbers.{number_characters, number_ascii, number_some, begins_as_number}
 
