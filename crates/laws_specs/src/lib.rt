@@ -23,7 +23,6 @@ ghost use Rattle.laws_specs.specs.SampleRuns.{RunsAreWhole};
 ghost use Rattle.laws_specs.specs.SampleSets.{SetsAreAsked};
 ghost use Rattle.laws_specs.specs.SetConditions.{LoweredSetsComputeAsSaid, ProgramsOfSetsComputeAsSaid, SetsAskEnough, TermsOfValidSetsAreValid};
 
-use crate::{chooses_as_said, chooses_as_said_by_priority, priorities_count, sums_are_right};
 use laws_trees::{accepted_sets_are_whole, built_demands_hold_alike};
 
 /// Where the condition of each rule of a term that isn't multi is valid, and what is called meets its spec, the choice among

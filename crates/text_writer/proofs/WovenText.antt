@@ -13,7 +13,7 @@ use Rattle.text_reader.specs.SpecTrees.{VerificationTree}
 use Rattle.text_writer.specs.SpellableTrees as T
 use Rattle.text_writer.specs.Items.{Item, a_definition, a_tree, definition_in, trees_from, item_form, item_can_be_spelled, printed_items}
 use Rattle.text_writer.specs.Saying.{ReadsBackVerification}
-use Rattle.text_writer.specs.declared.faults.PrintFault.{PrintFault}
+use Rattle.text_writer.specs.declared.spec_faults.SpecPrintFault.{SpecPrintFault}
 use Rattle.text_writer.specs.Woven.{Trouble, unspelled, unmatched, Trees, said_item, defined_item, item_at, left_by, left_behind, before, item_before, woven}
 use Rattle.text_writer.proofs.ItemsReadBack.{items_read_back}
 
@@ -111,10 +111,10 @@ woven_reads_back ds vs text e =
       subst (λ t. ReadsBackVerification t vs) is.printed (subst (λ l. ReadsBackVerification (printed_items is.items) l) is.trees back.1),
     )
 
-pub defined_if_ok : (ds : List Definition) (vs : Trees) (r : Result (String Global) PrintFault) → IfOk r (λ s. woven 0 ds vs ≡ Ok (string_bytes s)) → IfOk r (λ s. ReadsBackAs (string_bytes s) ds)
+pub defined_if_ok : (ds : List Definition) (vs : Trees) (r : Result (String Global) SpecPrintFault) → IfOk r (λ s. woven 0 ds vs ≡ Ok (string_bytes s)) → IfOk r (λ s. ReadsBackAs (string_bytes s) ds)
 defined_if_ok ds vs (Ok s) h = (woven_reads_back ds vs (string_bytes s) h).0
 defined_if_ok ds vs (Err e) h = tt
 
-pub said_if_ok : (ds : List Definition) (vs : Trees) (r : Result (String Global) PrintFault) → IfOk r (λ s. woven 0 ds vs ≡ Ok (string_bytes s)) → IfOk r (λ s. ReadsBackVerification (string_bytes s) vs)
+pub said_if_ok : (ds : List Definition) (vs : Trees) (r : Result (String Global) SpecPrintFault) → IfOk r (λ s. woven 0 ds vs ≡ Ok (string_bytes s)) → IfOk r (λ s. ReadsBackVerification (string_bytes s) vs)
 said_if_ok ds vs (Ok s) h = (woven_reads_back ds vs (string_bytes s) h).1
 said_if_ok ds vs (Err e) h = tt

@@ -1,7 +1,7 @@
 //! Why trees for a verifier aren't printed.
 
 ghost use Rattle.std.specs.Prelude.{◌≡◌, alloc_error};
-ghost use Rattle.text_writer.specs.declared.faults.PrintFault.TheVariants.{Memory};
+ghost use Rattle.text_writer.specs.declared.spec_faults.SpecPrintFault.TheVariants.{Memory};
 
 use core_syntax::syntax::Pos;
 use std::alloc::{AllocError, AllocFailed};
