@@ -1,8 +1,10 @@
 //! The answers of trials in Rust: what generated code calls.
 
 use crate::answers::WITHHELD;
-use crate::fitting::{can_be_extracted, can_be_given, is_of_numbers};
-use crate::rust_names::{is_composed, push_name, push_part, push_tuple, push_type};
+use crate::fitting::{can_be_extracted, can_be_given, has_atoms, is_of_numbers};
+use crate::rust_names::{
+    OPAQUE, is_composed, push_name, push_number, push_part, push_tuple, push_type,
+};
 use cranelift_isle::lower::Lowered;
 use cranelift_isle::sema::{ExternalSig, ReturnKind, Term, TermFlags, TermKind, TypeEnv, TypeId};
 use report_queries::names::term_name;
@@ -72,7 +74,7 @@ fn push_extractor(
     push_head(out, &lowered.tyenv, signature)?;
     if can_be_extracted(term) {
         if !term.arg_tys.is_empty() {
-            push_withheld(out, lowered, signature.ret_kind, term.ret_ty, "arg0")?;
+            push_argument_withheld(out, lowered, signature.ret_kind, term.ret_ty)?;
         }
         push_answer(out, signature, "arg0.clone()")?;
     } else {
@@ -158,7 +160,22 @@ fn push_result(
     }
 }
 
-// Adds that nothing is given in the place of a value of numbers that is withheld.
+// Adds that nothing is given in the place of a first argument that is withheld.
+fn push_argument_withheld(
+    out: &mut String,
+    lowered: &Lowered,
+    kind: ReturnKind,
+    ty: TypeId,
+) -> Result<(), AllocError> {
+    let value = if is_composed(&lowered.tyenv, ty) {
+        "*arg0"
+    } else {
+        "arg0"
+    };
+    push_withheld(out, lowered, kind, ty, value)
+}
+
+// Adds that nothing is given in the place of a value that is withheld.
 fn push_withheld(
     out: &mut String,
     lowered: &Lowered,
@@ -171,14 +188,12 @@ fn push_withheld(
         ReturnKind::Option => " None",
         ReturnKind::Iterator => "",
     };
-    if is_of_numbers(lowered, ty) {
-        write!(
-            out,
-            "        if {value} == {WITHHELD} {{ return{nothing}; }}\n"
-        )
-    } else {
-        Ok(())
+    if !has_atoms(lowered, ty) {
+        return Ok(());
     }
+    write!(out, "        if {value} == ")?;
+    push_number(out, &lowered.tyenv, ty, WITHHELD)?;
+    write!(out, " {{ return{nothing}; }}\n")
 }
 
 // Adds a constructor's answer, which is made of its first argument or of the number of impure calls before.
@@ -192,25 +207,37 @@ fn push_given(
     if !flags.pure {
         push_noted(out, lowered, term)?;
         push_withheld(out, lowered, signature.ret_kind, term.ret_ty, "before")?;
-        return push_answer(out, signature, "before");
+        return push_answer(out, signature, "before.clone()");
     }
     if term.arg_tys.is_empty() {
-        return push_answer(out, signature, "0");
+        let mut zero = String::new(*out.allocator());
+        push_number(&mut zero, &lowered.tyenv, term.ret_ty, 0)?;
+        return push_answer(out, signature, &zero);
     }
-    push_withheld(out, lowered, signature.ret_kind, term.ret_ty, "arg0")?;
+    push_argument_withheld(out, lowered, signature.ret_kind, term.ret_ty)?;
     push_answer(out, signature, "arg0.clone()")
 }
 
 // Adds that an impure call is noted, after the number of those before it.
 fn push_noted(out: &mut String, lowered: &Lowered, term: &Term) -> Result<(), AllocError> {
     let name = term_name(&lowered.tyenv, &lowered.termenv, term.id).unwrap_or("?");
-    out.push_str("        let before = self.calls.len() as ")?;
-    push_type(out, &lowered.tyenv, term.ret_ty)?;
+    out.push_str("        let before = ")?;
+    push_before(out, lowered, term.ret_ty)?;
     write!(out, ";\n        self.calls.push(composed({name:?}, &[")?;
     for (place, ty) in term.arg_tys.iter().enumerate() {
         write!(out, "show{}(&arg{place}), ", ty.index())?;
     }
     out.push_str("]));\n")
+}
+
+// Adds the value of a type that the number of impure calls before tells.
+fn push_before(out: &mut String, lowered: &Lowered, ty: TypeId) -> Result<(), AllocError> {
+    if is_of_numbers(lowered, ty) {
+        out.push_str("self.calls.len() as ")?;
+        return push_type(out, &lowered.tyenv, ty);
+    }
+    push_type(out, &lowered.tyenv, ty)?;
+    write!(out, "::{OPAQUE}(self.calls.len() as i128)")
 }
 
 // Adds an answer: one value as each of the outputs, in the form of the function.

@@ -1,8 +1,9 @@
 //! Whether what a term's tree calls can be answered in Rust by values of the right types.
 
 use cranelift_isle::lower::{Lowered, LoweredTerm};
-use cranelift_isle::sema::{Sym, Term, TermFlags, TermId, TermKind, TypeId};
+use cranelift_isle::sema::{Sym, Term, TermFlags, TermId, TermKind, Type, TypeId};
 use cranelift_isle::trie_again::{Binding, Constraint, Rule};
+use report_traces::opaque::has_opaque_values;
 
 /// Whether a type is one of numbers: a built-in integer type or a primitive type.
 pub fn is_of_numbers(lowered: &Lowered, ty: TypeId) -> bool {
@@ -10,6 +11,11 @@ pub fn is_of_numbers(lowered: &Lowered, ty: TypeId) -> bool {
         Some(found) => found.is_int() || found.is_prim(),
         None => false,
     }
+}
+
+/// Whether a type has values that are told by numbers: one of numbers, or an extern enum.
+pub fn has_atoms(lowered: &Lowered, ty: TypeId) -> bool {
+    is_of_numbers(lowered, ty) || has_opaque_values(&lowered.tyenv, ty)
 }
 
 /// Whether what an extractor takes apart can be each of its outputs.
@@ -22,12 +28,12 @@ pub fn can_be_extracted(term: &Term) -> bool {
     true
 }
 
-/// Whether a constructor's answer has the type of its result: of a pure one its first argument, or a number where there is none;
-/// of an impure one a number.
+/// Whether a constructor's answer has the type of its result: of a pure one its first argument, or the value of a number where there
+/// is none; of an impure one the value of a number.
 pub fn can_be_given(lowered: &Lowered, term: &Term, flags: TermFlags) -> bool {
     match term.arg_tys.as_slice() {
         [first, ..] if flags.pure => *first == term.ret_ty,
-        _ => is_of_numbers(lowered, term.ret_ty),
+        _ => has_atoms(lowered, term.ret_ty),
     }
 }
 
@@ -91,7 +97,15 @@ fn why_not_constructor(lowered: &Lowered, term: TermId) -> Option<&'static str> 
 
 fn why_not_constant(lowered: &Lowered, name: Sym) -> Option<&'static str> {
     match lowered.tyenv.const_types.get(&name) {
-        Some(ty) if is_of_numbers(lowered, *ty) => None,
-        _ => Some("a constant's type has no numbers"),
+        Some(ty) if has_atoms(lowered, *ty) && !has_variants(lowered, *ty) => None,
+        _ => Some("a constant's type has no numbers, or variants"),
+    }
+}
+
+// Whether a type is an enum with variants. A tree tells apart its constants and its variants, which needn't differ.
+fn has_variants(lowered: &Lowered, ty: TypeId) -> bool {
+    match lowered.tyenv.types.get(ty.index()) {
+        Some(Type::Enum { variants, .. }) => !variants.is_empty(),
+        _ => false,
     }
 }

@@ -1,7 +1,7 @@
 //! What generated code takes from outside, in Rust: primitive types, named constants, and types that are declared outside.
 
-use crate::fitting::is_of_numbers;
-use crate::rust_names::{labels, push_number, push_sym, push_type};
+use crate::fitting::has_atoms;
+use crate::rust_names::{OPAQUE, labels, push_number, push_sym, push_type};
 use core_typed::checks::literal_number;
 use cranelift_isle::lower::Lowered;
 use cranelift_isle::sema::{Fields, Sym, Type, TypeEnv, TypeId, Variant};
@@ -78,7 +78,7 @@ fn is_first(tyenv: &TypeEnv, id: TypeId, name: Sym) -> bool {
     true
 }
 
-// Adds an enum.
+// Adds an enum, with a variant more than are declared.
 fn push_enum(
     alloc: Global,
     out: &mut String,
@@ -95,7 +95,7 @@ fn push_enum(
         push_fields(alloc, out, tyenv, &variant.fields, "")?;
         out.push_str(",\n")?;
     }
-    out.push_str("    }\n")
+    write!(out, "        {OPAQUE}(i128),\n    }}\n")
 }
 
 // Adds fields with their types, each behind a word.
@@ -126,14 +126,14 @@ fn push_fields(
     out.push_str(if named { "}" } else { ")" })
 }
 
-// Adds a named constant, where its type is one of numbers.
+// Adds a named constant, where a number tells it.
 fn push_constant(
     out: &mut String,
     lowered: &Lowered,
     name: Sym,
     ty: TypeId,
 ) -> Result<(), AllocError> {
-    if !is_of_numbers(lowered, ty) {
+    if !has_atoms(lowered, ty) {
         return Ok(());
     }
     let number = literal_number(&lowered.tyenv, ty, constant_number(name));

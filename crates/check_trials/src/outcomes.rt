@@ -4,10 +4,9 @@ use crate::answers::Answers;
 use crate::bound::bound_of;
 use crate::calls::{TermCalls, calls_of};
 use crate::trial::Trial;
-use crate::value_texts::push_composed;
 use cranelift_isle::lower::LoweredTerm;
 use report_queries::premises::is_multi;
-use report_traces::outcomes::outcome_text;
+use report_traces::outcomes::{outcome_text, push_composed};
 use run_terms::choose::choose;
 use run_terms::run::run;
 use run_terms::state::{Ending, Outcome};
@@ -44,7 +43,7 @@ fn push_outcomes(
 ) -> Result<(), AllocError> {
     if let Some(entry) = trial.entry() {
         for args in calls {
-            push_composed(out, &trial.lowered, trial.name(), args)?;
+            push_composed(out, &trial.lowered, Some(trial.name()), args)?;
             out.push_str(": ")?;
             push_outcome(alloc, out, trial, entry, args, bound)?;
             out.push('\n')?;

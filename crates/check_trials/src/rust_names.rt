@@ -4,6 +4,7 @@
 use cranelift_isle::lower::Lowered;
 use cranelift_isle::sema::{BuiltinType, Fields, IntType, Sym, Type, TypeEnv, TypeId};
 use report_queries::names::{sym_name, variant_of};
+use report_traces::opaque::has_opaque_values;
 use run_terms::values::Value;
 use std::alloc::{AllocError, Global};
 
@@ -173,7 +174,10 @@ fn push_parts(
     out.push('}')
 }
 
-/// Adds a number of a type: of `u128` it stands for the number with the same bits.
+/// What the variant is called that extern enums have beside those that they declare. It holds an opaque value's number.
+pub const OPAQUE: &str = "Opaque__";
+
+/// Adds the value of a type that a number tells: of `u128` the number with the same bits, of an extern enum an opaque value.
 pub fn push_number(
     out: &mut String,
     tyenv: &TypeEnv,
@@ -183,6 +187,10 @@ pub fn push_number(
     match tyenv.types.get(ty.index()) {
         Some(Type::Builtin(BuiltinType::Int(IntType::U128))) => {
             write!(out, "{}", number.cast_unsigned())
+        }
+        Some(Type::Enum { .. }) if has_opaque_values(tyenv, ty) => {
+            push_type(out, tyenv, ty)?;
+            write!(out, "::{OPAQUE}({number})")
         }
         _ => write!(out, "{number}"),
     }

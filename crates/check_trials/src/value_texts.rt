@@ -1,11 +1,11 @@
-//! How values are told in Rust, as `isle_calls` tells them, and here; and when two are equal.
+//! How values are told in Rust, as `report_traces` tells them; and when two are equal.
 
-use crate::rust_names::{labels, push_sym, push_type};
+use crate::fitting::is_of_numbers;
+use crate::rust_names::{OPAQUE, labels, push_number, push_sym, push_type};
 use cranelift_isle::lower::Lowered;
 use cranelift_isle::sema::{BuiltinType, Fields, IntType, Sym, Type, TypeEnv, TypeId, Variant};
-use report_queries::names::{full_variant_name, sym_name, type_name};
+use report_queries::names::{sym_name, type_name};
 use report_traces::echo::constant_number;
-use run_terms::values::Value;
 use std::alloc::{AllocError, Global};
 
 /// Adds a function for each type that tells a value of it.
@@ -77,7 +77,21 @@ fn push_body(
             push_constants(out, lowered, id)?;
             out.push_str("    value.to_string()\n")
         }
-        Type::Enum { variants, .. } => push_arms(alloc, out, &lowered.tyenv, id, variants),
+        Type::Enum {
+            is_extern,
+            variants,
+            ..
+        } => {
+            if *is_extern {
+                push_constants(out, lowered, id)?;
+            }
+            out.push_str("    match *value {\n")?;
+            push_arms(alloc, out, &lowered.tyenv, id, variants)?;
+            if *is_extern {
+                push_opaque_arm(out, &lowered.tyenv, id)?;
+            }
+            out.push_str("    }\n")
+        }
         Type::Struct { fields, .. } => {
             let name = type_name(&lowered.tyenv, id).unwrap_or("?");
             out.push_str("    match value {\n        ")?;
@@ -93,15 +107,26 @@ fn push_constants(out: &mut String, lowered: &Lowered, ty: TypeId) -> Result<(),
     for place in 0..lowered.tyenv.syms.len() {
         if lowered.tyenv.const_types.get(&Sym(place)).copied() == Some(ty) {
             let name = sym_name(&lowered.tyenv, Sym(place)).unwrap_or("?");
-            let number = constant_number(Sym(place));
             let told = format!(in *out.allocator(); "${name}")?;
-            write!(
-                out,
-                "    if *value as i128 == {number} {{ return String::from({told:?}); }}\n"
-            )?;
+            push_condition(out, lowered, ty, constant_number(Sym(place)))?;
+            write!(out, " {{ return String::from({told:?}); }}\n")?;
         }
     }
     Ok(())
+}
+
+// Adds that a value is asked to be that of a number.
+fn push_condition(
+    out: &mut String,
+    lowered: &Lowered,
+    ty: TypeId,
+    number: i128,
+) -> Result<(), AllocError> {
+    if is_of_numbers(lowered, ty) {
+        return write!(out, "    if *value as i128 == {number}");
+    }
+    out.push_str("    if *value == ")?;
+    push_number(out, &lowered.tyenv, ty, number)
 }
 
 fn push_arms(
@@ -111,7 +136,6 @@ fn push_arms(
     ty: TypeId,
     variants: &[Variant],
 ) -> Result<(), AllocError> {
-    out.push_str("    match *value {\n")?;
     for variant in variants {
         out.push_str("        ")?;
         push_type(out, tyenv, ty)?;
@@ -120,7 +144,18 @@ fn push_arms(
         let name = sym_name(tyenv, variant.fullname).unwrap_or("?");
         push_arm(alloc, out, tyenv, &variant.fields, name)?;
     }
-    out.push_str("    }\n")
+    Ok(())
+}
+
+// Adds the arm for the opaque values of an extern enum.
+fn push_opaque_arm(out: &mut String, tyenv: &TypeEnv, ty: TypeId) -> Result<(), AllocError> {
+    out.push_str("        ")?;
+    push_type(out, tyenv, ty)?;
+    let name = type_name(tyenv, ty).unwrap_or("?");
+    write!(
+        out,
+        "::{OPAQUE}(number) => format!(\"{{}}#{{number}}\", {name:?}),\n"
+    )
 }
 
 // Adds the rest of an arm: the fields, and how they are told together.
@@ -140,54 +175,4 @@ fn push_arm(
         write!(out, "show{}(part{place}), ", ty.index())?;
     }
     out.push_str("]),\n")
-}
-
-/// Adds a name with values, in parentheses.
-#[cycle(told)]
-pub fn push_composed(
-    out: &mut String,
-    lowered: &Lowered,
-    name: &str,
-    values: &[Value],
-) -> Result<(), AllocError> {
-    write!(out, "({name}")?;
-    for value in values {
-        out.push(' ')?;
-        push_told(out, lowered, value)?;
-    }
-    out.push(')')
-}
-
-// Adds a value.
-#[cycle(told)]
-fn push_told(out: &mut String, lowered: &Lowered, value: &Value) -> Result<(), AllocError> {
-    match value {
-        Value::Truth(truth) => out.push_str(if *truth { "true" } else { "false" }),
-        Value::Atom(ty, number) => push_atom(out, lowered, *ty, *number),
-        Value::Variant(ty, variant, fields) => {
-            let name = full_variant_name(&lowered.tyenv, *ty, *variant).unwrap_or("?");
-            push_composed(out, lowered, name, fields)
-        }
-        Value::Struct(ty, fields) => {
-            let name = type_name(&lowered.tyenv, *ty).unwrap_or("?");
-            push_composed(out, lowered, name, fields)
-        }
-    }
-}
-
-// Adds a number, or the constant that it stands for.
-fn push_atom(
-    out: &mut String,
-    lowered: &Lowered,
-    ty: TypeId,
-    number: i128,
-) -> Result<(), AllocError> {
-    for place in 0..lowered.tyenv.syms.len() {
-        let of_type = lowered.tyenv.const_types.get(&Sym(place)).copied() == Some(ty);
-        if of_type && constant_number(Sym(place)) == number {
-            let name = sym_name(&lowered.tyenv, Sym(place)).unwrap_or("?");
-            return write!(out, "${name}");
-        }
-    }
-    write!(out, "{number}")
 }

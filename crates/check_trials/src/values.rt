@@ -86,7 +86,16 @@ impl<'a> Makings<'a> {
                 Ok(Some(Value::Atom(ty, self.integer(chance, ty, *int))))
             }
             Some(Type::Primitive(..)) => Ok(Some(Value::Atom(ty, self.number(chance, ty)))),
-            Some(Type::Enum { variants, .. }) => {
+            Some(
+                Type::Enum {
+                    is_extern,
+                    variants,
+                    ..
+                },
+            ) => {
+                if *is_extern && is_opaque(chance, variants) {
+                    return Ok(Some(Value::Atom(ty, self.opaque(chance, ty))));
+                }
                 self.variant_of(alloc, chance, ty, variants, depth)
             }
             Some(Type::Struct { fields, .. }) => {
@@ -141,6 +150,15 @@ impl<'a> Makings<'a> {
         }
     }
 
+    // The number of an opaque value.
+    fn opaque(&self, chance: &mut Chance, ty: TypeId) -> i128 {
+        let few = chance.below(4) as i128;
+        match chance.below(2) {
+            0 => self.constant_of(chance, ty).unwrap_or(few),
+            _ => few,
+        }
+    }
+
     fn integer(&self, chance: &mut Chance, ty: TypeId, int: IntType) -> i128 {
         match chance.below(8) {
             0..=2 => int.reduce(small(chance)),
@@ -178,6 +196,11 @@ impl<'a> Makings<'a> {
         }
         found
     }
+}
+
+// Whether a value of an extern enum with these variants is to be of none of them.
+fn is_opaque(chance: &mut Chance, variants: &[Variant]) -> bool {
+    variants.is_empty() || chance.below(4) == 0
 }
 
 fn small(chance: &mut Chance) -> i128 {
