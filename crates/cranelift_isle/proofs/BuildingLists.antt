@@ -1,7 +1,6 @@
 -- Building goes on by one rule after another, and what there is after the last.
 use Rattle.std.proofs.Common.{◌≡◌, ◌≢◌, ◌==◌, ℕ, zero, suc, ◌+◌, ◌<◌, ◌≤◌, Bool, List, [], ◌∷◌, ◌++◌, length, take, Some, slice_get, get_or, option_map, refl, sym, ap, ◌∙◌, subst, inl, inr, arith, eqb-true, eq-eqb, add-one}
-use Rattle.std.specs.BTreeMap.{BTreeMap, IsOrdered, get, is_at}
-use Rattle.std.specs.Map.{lookup}
+use Rattle.std.specs.BTreeMap.{BTreeMap, IsOrdered, get}
 use Rattle.std.specs.Ordering.{nat_cmp}
 use Rattle.std.proofs.lemmas.Bool.{cases_Bool, false≢true}
 use Rattle.std.proofs.lemmas.List.{length-map, map-append, take_all}
@@ -20,16 +19,15 @@ use Rattle.model.specs.sites.RuleSets.{StandFor}
 use Rattle.model.specs.sites.Sites.{SiteSet}
 use Rattle.model.proofs.Elements.{contains_from_in, in_slice, none_some}
 use Rattle.model.proofs.Positions.{distinct_nil}
-use Rattle.laws_sites.specs.RuleByRule.{AreBuiltSoFar, GoesPast, of_one_term, or_nothing_built}
+use Rattle.laws_sites.specs.RuleByRule.{GoesPast, of_one_term, or_nothing_built}
 use Rattle.laws_trees.specs.AnswerLaws.{BuiltSetsAreAnswered}
-use Rattle.laws_sites.proofs.building.SetsSoFar.{building_ends_lem, building_goes_on_lem, building_starts_lem, stands}
+use Rattle.laws_sites.proofs.building.SetsSoFar.{building_ends_lem, building_goes_on_lem, stands}
 use Rattle.laws_sites.proofs.overlaps.JudgedLists.{well_typed_rules_have_terms_lem}
 use Rattle.laws_sites.proofs.built.DistinctSites.{once_after}
 use Rattle.laws_typing.specs.WellTypedPrograms.{ElaboratedProgramsAreWellTyped}
 use Rattle.core_syntax.specs.declared.syntax.Error.{Error}
 use Rattle.core_types.specs.declared.ids.TermId.{TermId}
 use Rattle.core_terms.specs.TermViews.{term_views}
-use Rattle.core_syntax.specs.ErrorViews.{error_views}
 use Rattle.core_typed.specs.RuleViews.{rule_view, rule_views}
 use Rattle.core_typed.specs.declared.rules.Rule.{Rule}
 use Rattle.core_rules.specs.declared.term_env.TermEnv.{TermEnv}

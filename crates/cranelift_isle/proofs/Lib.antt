@@ -1,10 +1,10 @@
 mod BuildingLists
 mod CheckedSets
 mod ErrorsOfReading
+mod LowerLaws
 mod NamedErrors
 mod NamedPlaces
 mod OneAnswer
-mod SharedTrees
 mod TermsAscending
 mod TreesSoFar
 pub mod LoweredAnswers

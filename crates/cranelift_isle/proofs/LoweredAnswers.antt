@@ -4,7 +4,7 @@ use Rattle.std.specs.Prelude.{All, Result, slice_index_or}
 use Rattle.std.specs.Global.{Vec}
 use Rattle.std.proofs.lemmas.List.Elements.{All-nil, All-cons, All-head, All-tail}
 use Rattle.core_syntax.specs.Answers.{Answers, OnErrors}
-use Rattle.core_syntax.specs.Positions.{HasSingleSpans, ErrorStandsAt, positions_of}
+use Rattle.core_syntax.specs.Positions.{HasSingleSpans}
 use Rattle.core_syntax.specs.declared.syntax.Error.{Error}
 use Rattle.core_syntax.specs.declared.syntax.Fault.{Fault}
 use Rattle.core_syntax.specs.declared.syntax.Fault.TheVariants.{Memory, Errors}
@@ -13,16 +13,14 @@ use Rattle.model.specs.lists.TypeTable.{IsValidTypes}
 use Rattle.model.specs.lists.Elaborated.{TypedRules, named}
 use Rattle.model.specs.rules.Program.{Program}
 use Rattle.model.specs.sites.RuleSets.{IsBuilt}
+use Rattle.model.specs.trees.Best.{IsBestTree}
 use Rattle.model.specs.claims.Environments.{TypesRead, types_read, setting_of, IsElaborated, IsRead, TypeEnvironment, AreRulesOf, program_of}
 use Rattle.model.specs.claims.Layers.{own_program, IsAccepted, IsBuiltForSome, CheckAnswers, LoweredTerm, AreLowered, LoweringAnswers, RefusedBy, by_check, BestTreesKeepTheHeadline}
-use Rattle.model.specs.claims.Refusals.{Refusal, refusal_of, NamesOnlyPassed, PassedInBuilding}
+use Rattle.model.specs.claims.Refusals.{Refusal, refusal_of}
 use Rattle.model.proofs.Elements.{none_some}
 use Rattle.model.proofs.Mapped.{nothing_mapped}
-use Rattle.laws_trees.specs.NoLimits.{PassedInLowering, in_building}
-use Rattle.laws_trees.specs.OneTree.{IsOnlyBest, LoweredTreesAreOnlyBest}
 use Rattle.laws_trees.specs.OneAnswer.{AreCheckErrors}
 use Rattle.laws_trees.proofs.OneAnswer.{typed_one}
-use Rattle.laws_trees.specs.WholeDemands.{AcceptedDemandsAreWhole, AcceptedSetsAreWhole}
 use Rattle.laws_typing.proofs.NoReadLimits.{elaborated_rules_are_within_limits_lem}
 use Rattle.laws_sites.specs.ShadowLaws.{check_errors}
 use Rattle.core_types.specs.declared.ids.TermId.{TermId}
@@ -34,7 +32,8 @@ use Rattle.cranelift_isle.specs.BuiltSets.{IsOfElaborated, ShowsElaborated, term
 use Rattle.cranelift_isle.specs.Checks.{IsChecked, NamesRules, OfErrors, ReportsAreErrors}
 use Rattle.cranelift_isle.proofs.NamedPlaces.{rules_stand}
 use Rattle.cranelift_isle.specs.declared.lower.Lowered.{Lowered}
-use Rattle.cranelift_isle.specs.Lowerings.{set_of_term, AreAccepted, IsLowered, OfAccepted, ChooseAsSource, CollectBags, SharesTests, DemandWhole, SetsAreWhole}
+use Rattle.cranelift_isle.specs.LoweringErrors.{AreErrorsOfLowering}
+use Rattle.cranelift_isle.specs.Lowerings.{set_of_term, AreAccepted, IsLowered}
 use Rattle.cranelift_isle.specs.Environments.{BreaksWhereRefused, NamesLackedLimits, TellsOfEach}
 
 all_unmap : {X Y : Type 0} (P : Y → Type 0) (f : X → Y) (xs : List X) → All P (map f xs) → All (λ x. P (f x)) xs
@@ -115,35 +114,18 @@ module _ {defs : List Definition} {expand : Bool} {env : TermEnv} {types : TypeE
     }
 
     -- 3. their best trees
-    module _ (law : BestTreesKeepTheHeadline) (ts : List LoweredTerm) (same : map set_of_term ts ≡ term_set_views sets.items) (shared : All (λ t. SharesTests t.set t.tree) ts) where
+    module _ (law : BestTreesKeepTheHeadline) (ts : List LoweredTerm) (same : map set_of_term ts ≡ term_set_views sets.items) (best : All (λ t. IsBestTree t.set t.tree) ts) where
       built : All (λ t. IsBuilt p t.term t.set) ts
       built = all_unmap (λ b. IsBuilt p b.0 b.1) set_of_term ts (subst (All (λ b. IsBuilt p b.0 b.1)) (sym same) checked.given.built)
 
       lowered : AreLowered p ts
       lowered = record {
         each = terms_are ts ∙ ap (map (λ b. b.0)) same ∙ checked.given.terms;
-        lowered = λ k d h. law defs expand rules (slice_index_or ts k d) is_accepted (built k d h) (shared k d h).best;
+        lowered = λ k d h. law defs expand rules (slice_index_or ts k d) is_accepted (built k d h) (best k d h);
       }
 
       pub answers : (rules : TypedRules) × LoweringAnswers defs expand types (environment_shown_by env) rules ts
       answers = (rules, record { accepted = is_accepted; environments = read.rules.1; trees = lowered })
-
-      pub chosen : OfAccepted defs expand (ChooseAsSource ts)
-      chosen other is = subst (λ r. ChooseAsSource ts (own_program defs r)) (sym (same_typing other is)) (λ k d h. (lowered.lowered k d h).headline.runs)
-
-      pub unique : LoweredTreesAreOnlyBest → All (λ t. IsOnlyBest t.set t.tree) ts
-      unique one k d h = one p (slice_index_or ts k d) (lowered.lowered k d h)
-
-      pub whole : AcceptedSetsAreWhole → OfAccepted defs expand (SetsAreWhole ts)
-      whole all other is =
-          subst (λ r. SetsAreWhole ts (own_program defs r)) (sym (same_typing other is))
-          (λ k d h. all defs expand rules is_accepted (slice_index_or ts k d).term (slice_index_or ts k d).set (built k d h))
-
-      pub demands : AcceptedDemandsAreWhole → OfAccepted defs expand (DemandWhole ts)
-      demands all other is k d h = all defs expand other is (slice_index_or ts k d).term
-
-      pub collected : OfAccepted defs expand (CollectBags ts)
-      collected other is = subst (λ r. CollectBags ts (own_program defs r)) (sym (same_typing other is)) (λ k d h. (lowered.lowered k d h).collects)
 
   -- 4. errors of the check
   module _ (es : List Error) (wrong : ReportsAreErrors p es) where
@@ -152,9 +134,6 @@ module _ {defs : List Definition} {expand : Bool} {env : TermEnv} {types : TypeE
 
     not_accepted : AreAccepted defs expand → ⊥
     not_accepted a = wrong.reported.refused (subst (λ r. IsAccepted defs expand r) (same_typing a.0 a.1) a.1).checkable
-
-    passed_in_building : NamesOnlyPassed (PassedInLowering defs expand) (error_views es)
-    passed_in_building l at is = in_building l at rules is_read (subst (NamesOnlyPassed (PassedInBuilding p)) (sym wrong.are) wrong.reported.limits l at is)
 
   -- with whatever typed rules the definitions are read, they are these
   exactly : (es : List Error) → ReportsAreErrors p es → AreCheckErrors defs expand (error_views es)
@@ -172,65 +151,30 @@ module _ {defs : List Definition} {expand : Bool} {env : TermEnv} {types : TypeE
   refused_as (Errors es) c = (some_error es.items c, not_accepted es.items c)
   refused_as (Memory m) c = tt
 
-  refused_why : (f : Fault) → IsChecked p (Err f) → OnErrors {A = Lowered} (Err f) (λ es. RefusedBy defs expand (error_views es))
-  refused_why (Errors es) c = subst (RefusedBy defs expand) (sym c.are) (by_check rules c.reports is_read c.reported)
-  refused_why (Memory m) c = tt
-
-  exact_as : (f : Fault) → IsChecked p (Err f) → OnErrors {A = Lowered} (Err f) (λ es. AreCheckErrors defs expand (error_views es))
-  exact_as (Errors es) c = exactly es.items c
-  exact_as (Memory m) c = tt
-
-  lacked_as : (f : Fault) → OnErrors {A = Lowered} (Err f) (λ es. NamesLackedLimits defs expand (error_views es))
-  lacked_as (Errors es) = none_lacked (error_views es.items)
-  lacked_as (Memory m) = tt
-
   -- and nothing lacks a type or a typed rule
   none_broken : (es : List Error) → BreaksWhereRefused defs expand es
   none_broken es = record { types = λ no. absurd (no read.valid); rules = λ valid no. absurd (no (rules, elaborated)) }
 
-  breach_as : (f : Fault) → OnErrors {A = Lowered} (Err f) (λ es. BreaksWhereRefused defs expand es)
-  breach_as (Errors es) = none_broken es.items
-  breach_as (Memory m) = tt
-
   none_told : (es : List Error) → TellsOfEach defs expand es
   none_told es = record { types = λ no. absurd (no read.valid); rules = λ valid no. absurd (no (rules, elaborated)) }
 
-  told_as : (f : Fault) → OnErrors {A = Lowered} (Err f) (λ es. TellsOfEach defs expand es)
-  told_as (Errors es) = none_told es.items
-  told_as (Memory m) = tt
-
-  limits_as : (f : Fault) → IsChecked p (Err f) → OnErrors {A = Lowered} (Err f) (λ es. NamesOnlyPassed (PassedInLowering defs expand) (error_views es))
-  limits_as (Errors es) c = passed_in_building es.items c
-  limits_as (Memory m) c = tt
-
-  stand_as : (f : Fault) → OnErrors {A = Vec (TermId × RuleSet)} (Err f) (λ es. NamesRules p (error_views es)) → OnErrors {A = Vec (TermId × RuleSet)} (Err f) (λ es. All HasSingleSpans es)
-      → OnErrors {A = Lowered} (Err f) (λ es. All (ErrorStandsAt (positions_of defs)) es)
-  stand_as (Errors es) names single = rules_stand (types_read defs) defs expand rules elaborated es.items single names
-  stand_as (Memory m) names single = tt
-
-  pub stand_of_check : (r : Result Lowered Fault) (f : Fault) → r ≡ Err f → OfErrors env (Err f) NamesRules → OnErrors {A = Vec (TermId × RuleSet)} (Err f) (λ es. All HasSingleSpans es)
-      → OnErrors r (λ es. All (ErrorStandsAt (positions_of defs)) es)
-  stand_of_check r f is names single =
-      subst (λ x. OnErrors x (λ es. All (ErrorStandsAt (positions_of defs)) es)) (sym is) (stand_as f (names (types_read defs) defs expand rules elaborated shown) single)
+  errors_as : (f : Fault) → IsChecked p (Err f) → OnErrors {A = Vec (TermId × RuleSet)} (Err f) (λ es. NamesRules p (error_views es))
+      → OnErrors {A = Vec (TermId × RuleSet)} (Err f) (λ es. All HasSingleSpans es) → OnErrors {A = Lowered} (Err f) (AreErrorsOfLowering defs expand)
+  errors_as (Errors es) c names single = record {
+    pass = subst (RefusedBy defs expand) (sym c.are) (by_check rules c.reports is_read c.reported);
+    breach = none_broken es.items;
+    told = none_told es.items;
+    exact = exactly es.items c;
+    named = none_lacked (error_views es.items);
+    places = rules_stand (types_read defs) defs expand rules elaborated es.items single names;
+  }
+  errors_as (Memory m) c names single = tt
 
   module _ (r : Result Lowered Fault) (f : Fault) (is : r ≡ Err f) (check : AnswersCheck env (Err f)) where
     pub refused_by_check : Answers r (AreAccepted defs expand) (IsLowered defs expand)
     refused_by_check = subst (λ x. Answers x (AreAccepted defs expand) (IsLowered defs expand)) (sym is) (refused_as f (checked_as (Err f) check))
 
-    pub why_refused : OnErrors r (λ es. RefusedBy defs expand (error_views es))
-    why_refused = subst (λ x. OnErrors x (λ es. RefusedBy defs expand (error_views es))) (sym is) (refused_why f (checked_as (Err f) check))
-
-    pub exact_of_check : OnErrors r (λ es. AreCheckErrors defs expand (error_views es))
-    exact_of_check = subst (λ x. OnErrors x (λ es. AreCheckErrors defs expand (error_views es))) (sym is) (exact_as f (checked_as (Err f) check))
-
-    pub named_of_check : OnErrors r (λ es. NamesLackedLimits defs expand (error_views es))
-    named_of_check = subst (λ x. OnErrors x (λ es. NamesLackedLimits defs expand (error_views es))) (sym is) (lacked_as f)
-
-    pub breach_of_check : OnErrors r (λ es. BreaksWhereRefused defs expand es)
-    breach_of_check = subst (λ x. OnErrors x (λ es. BreaksWhereRefused defs expand es)) (sym is) (breach_as f)
-
-    pub told_of_check : OnErrors r (λ es. TellsOfEach defs expand es)
-    told_of_check = subst (λ x. OnErrors x (λ es. TellsOfEach defs expand es)) (sym is) (told_as f)
-
-    pub limits_of_check : OnErrors r (λ es. NamesOnlyPassed (PassedInLowering defs expand) (error_views es))
-    limits_of_check = subst (λ x. OnErrors x (λ es. NamesOnlyPassed (PassedInLowering defs expand) (error_views es))) (sym is) (limits_as f (checked_as (Err f) check))
+    pub errors_of_check : OfErrors env (Err f) NamesRules → OnErrors {A = Vec (TermId × RuleSet)} (Err f) (λ es. All HasSingleSpans es) → OnErrors r (AreErrorsOfLowering defs expand)
+    errors_of_check names single =
+        subst (λ x. OnErrors x (AreErrorsOfLowering defs expand)) (sym is)
+        (errors_as f (checked_as (Err f) check) (names (types_read defs) defs expand rules elaborated shown) single)

@@ -1,8 +1,10 @@
 pub mod BuiltSets
 pub mod Checks
 pub mod Environments
+pub mod LoweringErrors
 pub mod Lowerings
 pub mod SetsSoFar
+pub mod ShownPrograms
 pub use Rattle.core_syntax.specs.ErrorViews
 pub use Rattle.core_syntax.specs.SyntaxViews
 pub use Rattle.core_rule_sets.specs.SiteViews

@@ -40,6 +40,10 @@ abbrev pub IsLowered : List Definition → Bool → Lowered → Type 0
 IsLowered defs expand l =
     (rules : TypedRules) × LoweringAnswers defs expand (environment_view l.tyenv) (environment_shown_by l.termenv) rules (lowered_views l.terms.items)
 
+-- what holds of each answer that meets what lowering promises of an answer
+abbrev pub OfEachAnswer : (List Definition → Bool → Lowered → Type 0) → Type 0
+OfEachAnswer P = (defs : List Definition) (expand : Bool) (l : Lowered) → IsLowered defs expand l → P defs expand l
+
 -- two answers are one: they show equal environments, and each term has the same sites, rules that show the same and the
 -- same tree
 pub record AreOneAnswer (a b : Lowered) : Type 0 where

@@ -7,6 +7,7 @@ pub use core_serialize::serialize;
 pub use core_syntax::{stablemapset, syntax};
 
 pub mod environments;
+pub mod laws;
 pub mod lower;
 pub mod overlap;
 pub mod sema;

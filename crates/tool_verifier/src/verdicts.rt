@@ -1,7 +1,7 @@
 //! What is known of the trees of a text's terms, as text.
 
 ghost use Rattle.std.specs.Prelude.{true};
-ghost use Rattle.cranelift_isle.specs.Lowerings.{lowered_views, DemandWhole, IsLowered, OfAccepted};
+ghost use Rattle.cranelift_isle.specs.Lowerings.{IsLowered};
 ghost use Rattle.cranelift_isle.specs.SyntaxViews.{definition_views};
 
 use crate::verified::{runs_always, runs_where_apart};
@@ -40,8 +40,7 @@ fn answer_to_defs(alloc: Global, text: &str, defs: &[Def]) -> Result<TreesOrErro
 
 // A line for each term.
 fn verdicts(alloc: Global, defs: &[Def], lowered: &Lowered) -> Result<String, AllocError>
-    requires lowered { IsLowered (definition_views defs.now) true lowered.now }
-    requires whole { OfAccepted (definition_views defs.now) true (DemandWhole (lowered_views lowered.now.terms.items)) }
+    requires { IsLowered (definition_views defs.now) true lowered.now }
 {
     let mut out = String::new(alloc);
     for (place, term) in lowered.terms.iter().enumerate() {
@@ -54,8 +53,7 @@ fn verdicts(alloc: Global, defs: &[Def], lowered: &Lowered) -> Result<String, Al
 
 // What is known of the tree at a place.
 fn verdict(defs: &[Def], lowered: &Lowered, place: usize) -> &'static str
-    requires lowered { IsLowered (definition_views defs.now) true lowered.now }
-    requires whole { OfAccepted (definition_views defs.now) true (DemandWhole (lowered_views lowered.now.terms.items)) }
+    requires { IsLowered (definition_views defs.now) true lowered.now }
 {
     if runs_always(defs, true, lowered, place).is_some() {
         ": runs as the chosen rule\n"

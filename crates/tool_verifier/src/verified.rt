@@ -1,10 +1,11 @@
 //! What is known of the tree of one term, as contracts that rest on that of `lower`.
 
 ghost use Rattle.std.specs.Prelude.{◌≡◌, IfSome};
-ghost use Rattle.cranelift_isle.specs.Lowerings.{lowered_view, lowered_views, DemandWhole, IsLowered, OfAccepted};
+ghost use Rattle.cranelift_isle.specs.Lowerings.{lowered_view, IsLowered};
 ghost use Rattle.cranelift_isle.specs.SyntaxViews.{definition_views};
 ghost use Rattle.tool_verifier.specs.Verified.{RunsAlways, RunsWhereApart};
 
+use cranelift_isle::laws::demands;
 use cranelift_isle::lower::{Lowered, LoweredTerm};
 use cranelift_isle::syntax::Def;
 use laws_specs::lowered_sets_compute_as_said;
@@ -33,18 +34,18 @@ pub fn runs_where_apart<'a>(
 
 /// The entry at a place of `lowered.terms`, where the term isn't `multi` and its rules ask no constant whose value a meaning
 /// may choose: its tree runs as the chosen rule, on well-typed arguments and under every meaning that serves the term's rules.
-/// None as above. Conditions: two of the clauses of `lower`.
+/// None as above. Condition: as above.
 pub fn runs_always<'a>(
     defs: &[Def],
     expand: bool,
     lowered: &'a Lowered,
     place: usize,
 ) -> Option<&'a LoweredTerm>
-    requires lowered { IsLowered (definition_views defs.now) expand lowered.now }
-    requires whole { OfAccepted (definition_views defs.now) expand (DemandWhole (lowered_views lowered.now.terms.items)) }
+    requires { IsLowered (definition_views defs.now) expand lowered.now }
     ensures { IfSome result (λ t. RunsAlways (definition_views defs.now) expand (lowered_view t.now)) }
 {
-    // a law, without code
+    // laws, without code
+    demands();
     lowered_sets_compute_as_said();
     let term = lowered.terms.get(place)?;
     if is_multi(&lowered.termenv, term.id) || !asks_own_constants(&lowered.tyenv, &term.rules) {

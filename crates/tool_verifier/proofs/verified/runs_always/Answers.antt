@@ -16,4 +16,5 @@ returns c =
     ap (λ l. slice_get l c.args.place) (sym c.deref.ensures.value) ∙ slice_get-get_or c.deref.result.now c.args.place c.in_ok-term.term.now found.3.0 ∙ ap Some (sym found.1) in
     let single : is_multi (env_program c.args.lowered.now.termenv) c.in_ok-term.term.now.id.0 ≡ false = search rules in
     let own : asks_own_constants (type_views c.args.lowered.now.tyenv.types.items) (set_view c.in_ok-term.term.now.rules) ≡ true = search rules in
-    runs_under_all (definition_views c.args.defs.now) c.args.expand c.args.lowered.now c.args.place c.in_ok-term.term.now c.requires.lowered at single c.lowered_sets_compute_as_said.ensures c.requires.whole own
+    runs_under_all (definition_views c.args.defs.now) c.args.expand c.args.lowered.now c.args.place c.in_ok-term.term.now c.requires at single c.lowered_sets_compute_as_said.ensures
+    (c.demands.ensures (definition_views c.args.defs.now) c.args.expand c.args.lowered.now c.requires) own
