@@ -153,7 +153,6 @@ pub(crate) fn refusal(
     })
 }
 
-// What a JSON document is made for.
 fn document_for(task: Task) -> DocumentPurpose {
     match task {
         Task::Lower => DocumentPurpose::Trees,
@@ -173,7 +172,6 @@ fn push_rest(err: &mut String, count: usize) -> Result<(), AllocError>
     write!(err, "and {count} more, shown by `--all`\n")
 }
 
-// What is answered to definitions.
 fn answer_to_defs<E: Write>(
     alloc: Global,
     asked: &Request<'_>,
@@ -373,7 +371,6 @@ fn answer_of_call(alloc: Global, told: Told) -> Result<Answer, AllocError>
     }
 }
 
-// The terms that are asked for.
 fn wanted<'a>(
     alloc: Global,
     asked: &Request<'_>,
@@ -428,7 +425,6 @@ fn compared_with(alloc: Global, all: bool, files: &Files, trees: &str) -> Result
     })
 }
 
-// The trees of the terms that are asked for.
 fn trees<E: Write>(
     alloc: Global,
     asked: &Request<'_>,
@@ -447,7 +443,6 @@ fn trees<E: Write>(
     Ok(accepted(alloc, out))
 }
 
-// The text of the trees of terms.
 fn text_of_trees<E: Write>(
     alloc: Global,
     format: Format,
@@ -529,7 +524,6 @@ fn tree(
     format!(in alloc; "term {name}\n{steps}")
 }
 
-// The name of a term.
 fn term_name<'a>(lowered: &'a Lowered, term: &LoweredTerm) -> &'a str {
     match lowered.termenv.terms.get(term.id.index()) {
         Some(term) => lowered.tyenv.text_of(term.name),

@@ -109,7 +109,6 @@ fn echoed(alloc: Global, lowered: &Lowered, text: &str) -> Result<String, TraceF
     }
 }
 
-// The call that is asked for.
 fn call_asked<'a>(
     alloc: Global,
     asked: &Request<'_>,

@@ -220,7 +220,6 @@ fn tree_of<'t, 'a>(trees: &'t [Printed<'a>], head: &str) -> Option<&'t Printed<'
     trees.iter().find(|tree| tree.head() == head)
 }
 
-// The lines of a text.
 fn lines_of(alloc: Global, text: &str) -> Result<Vec<&str>, AllocError> {
     let mut lines = Vec::new(alloc);
     for line in text.lines() {
@@ -229,7 +228,6 @@ fn lines_of(alloc: Global, text: &str) -> Result<Vec<&str>, AllocError> {
     Ok(lines)
 }
 
-// The trees in a text.
 fn trees_in(alloc: Global, text: &str) -> Result<Vec<Printed<'_>>, AllocError> {
     let mut trees = Vec::new(alloc);
     for (before, line) in text.lines().enumerate() {

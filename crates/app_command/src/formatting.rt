@@ -76,7 +76,6 @@ fn wrong(why: Result<String, AllocError>) -> Unasked {
 }
 
 impl<'a> Formatting<'a> {
-    // Reads a word, and answers what is awaited then.
     fn read(&mut self, alloc: Global, awaited: Awaited, word: &'a str) -> Result<Awaited, Unasked> {
         if awaited == Awaited::Folder {
             self.folder = word;
@@ -139,7 +138,6 @@ fn format_files<R: std::rt::Files + AllocGlobal, O: Write, E: Write>(
     status
 }
 
-// Lays a file out.
 fn format_file<R: std::rt::Files + AllocGlobal, O: Write, E: Write>(
     rt: &R,
     asked: &Formatting<'_>,
@@ -156,7 +154,6 @@ fn format_file<R: std::rt::Files + AllocGlobal, O: Write, E: Write>(
     }
 }
 
-// Lays out the text of a file.
 fn format_text<R: std::rt::Files + AllocGlobal, O: Write, E: Write>(
     rt: &R,
     asked: &Formatting<'_>,

@@ -142,7 +142,6 @@ impl<'a> Drawing<'a> {
         }
     }
 
-    // Adds the arms of a match.
     #[cycle(draw)]
     fn push_arms(&self, graph: &mut Graph, node: u64, arms: &[MatchArm]) -> Result<(), AllocError> {
         for arm in arms {
@@ -159,7 +158,6 @@ impl<'a> Drawing<'a> {
         Ok(label)
     }
 
-    // Adds the node of a step.
     fn push_node(&self, graph: &mut Graph, step: &EvalStep) -> Result<u64, AllocError> {
         let mut label = String::new(self.alloc);
         for site in &step.bind_order {
@@ -186,7 +184,6 @@ impl<'a> Drawing<'a> {
         }
     }
 
-    // Adds a word and a site.
     fn push_line(&self, label: &mut String, word: &str, site: BindingId) -> Result<(), AllocError> {
         label.push_str(word)?;
         label.push_str(text_at(self.texts, site))
@@ -232,7 +229,6 @@ fn push_edge(
     }
 }
 
-// The shape of a step's node.
 fn shape_of(check: &ControlFlow) -> &'static str {
     match check {
         ControlFlow::Return { .. } => "box",

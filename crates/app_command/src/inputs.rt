@@ -98,7 +98,6 @@ pub(crate) fn path_of(alloc: Global, folder: &str, name: &str) -> Result<String,
     }
 }
 
-// The text of the file at a path.
 fn text_at<R: std::rt::Files + AllocGlobal>(
     rt: &R,
     path: &str,
@@ -123,7 +122,6 @@ fn unread_folder<R: std::rt::Files + AllocGlobal>(rt: &R, folder: &str) -> Optio
     Some(file(format!(in alloc; "the folder {folder}: {why}")))
 }
 
-// The text that a file's bytes are.
 fn text_of(alloc: Global, name: &str, bytes: Vec<u8>) -> Result<String, Unread> {
     if let Some(at) = utf16_at(&bytes) {
         return Err(Unread::Text(format!(in alloc;
@@ -148,7 +146,6 @@ fn utf16_at(bytes: &[u8]) -> Option<usize> {
     }
 }
 
-// Why a file can't be read.
 fn why_unread(alloc: Global, name: &str, error: &io::Error) -> Unread {
     // the words of a program have this character in place of what isn't UTF-8
     let is_named = !name.contains('\u{fffd}');

@@ -123,7 +123,6 @@ fn labels_of(alloc: Global, place: Option<Pos>) -> Result<Vec<Label>, AllocError
     }
 }
 
-// What is said.
 fn message_of(place: Option<Pos>) -> &'static str {
     match place {
         Some(_) => "no text spells this definition",
@@ -141,7 +140,6 @@ fn notes_of(alloc: Global, place: Option<Pos>) -> Result<Vec<Note>, AllocError> 
     Ok(notes)
 }
 
-// A note with this text.
 fn note_of(alloc: Global, word: &'static str, text: &str) -> Result<Note, AllocError> {
     let text = String::from_str(alloc, text)?;
     Ok(Note { word, text })

@@ -54,7 +54,6 @@ impl<'a, E: Write> Teller<'a, E> {
         }
     }
 
-    // Writes some texts.
     fn write(&mut self, texts: [&str; 5]) {
         for text in texts {
             let _ = self.err.write_all(text.as_bytes());

@@ -67,7 +67,6 @@ fn wrong_words<E: Write>(alloc: Global, why: &str, err: &mut E) -> u8
     }
 }
 
-// Does what is asked.
 fn run_request<R: std::rt::Files + AllocGlobal, I: Read + Drop, O: Write, E: Write>(
     rt: &R,
     asked: &Request<'_>,
@@ -172,7 +171,6 @@ fn run_samples<O: Write, E: Write>(
     }
 }
 
-// Writes what comes of the sample of this name.
 fn run_sample_named<O: Write, E: Write>(alloc: Global, name: &str, out: &mut O, err: &mut E) -> u8
     ensures known { result ≤ 4 }
     // a name that is no sample's is wrong use, where memory isn't refused before

@@ -25,7 +25,6 @@ struct Read<'a> {
     reading: &'a Reading,
 }
 
-// A version with its definitions.
 #[derive(Clone, Copy)]
 struct Defined<'a> {
     files: &'a Files,
@@ -69,7 +68,6 @@ fn divided(alloc: Global, files: &Files, count: usize) -> Result<(Files, Files),
     Ok((old, new))
 }
 
-// Files of these names and texts.
 fn files_of(alloc: Global, names: &[String], texts: &[String]) -> Result<Files, AllocError>
     ensures { IfOk result (λ files. map string_bytes files.texts.items ≡ map string_bytes texts.now) }
 {
@@ -78,7 +76,6 @@ fn files_of(alloc: Global, names: &[String], texts: &[String]) -> Result<Files, 
     Ok(Files { names, texts })
 }
 
-// What is answered to what two versions are read as.
 fn answer_to_readings<E: Write>(
     alloc: Global,
     asked: &Request<'_>,

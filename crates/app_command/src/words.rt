@@ -37,7 +37,6 @@ pub enum Task {
     Why,
 }
 
-// All tasks.
 const TASKS: [Task; 11] = [
     Task::Lower,
     Task::Rust,
@@ -53,7 +52,6 @@ const TASKS: [Task; 11] = [
 ];
 
 impl Task {
-    // The word for a task.
     fn word(self) -> &'static str {
         match self {
             Task::Lower => "lower",
@@ -75,7 +73,6 @@ impl Task {
         self == Task::Run || self == Task::Why
     }
 
-    // The task of a word.
     fn of(word: &str) -> Option<Task> {
         for task in TASKS {
             if task.word() == word {
@@ -100,7 +97,6 @@ pub enum Format {
 }
 
 impl Format {
-    // The format of a word.
     fn of(word: &str) -> Option<Format> {
         match word {
             "text" => Some(Format::Text),
@@ -263,7 +259,6 @@ fn push_kinds(alloc: Global, kinds: &mut Vec<Warning>, word: &str) -> Result<(),
     Ok(())
 }
 
-// That there is no kind of warnings of a name.
 fn no_kind(alloc: Global, name: &str) -> Unasked {
     match warning_names(alloc) {
         Ok(names) => wrong(format!(in alloc;
@@ -321,7 +316,6 @@ fn asked_of_program<'a>(words: &[String]) -> Option<Command<'a>> {
     None
 }
 
-// What these words ask to be done.
 fn request_by<'a>(given: Given, words: &'a [String]) -> Result<Request<'a>, Unasked> {
     let mut asked = Request {
         task: Task::Lower,
@@ -457,7 +451,6 @@ impl<'a> Request<'a> {
         has_other && number.checked_add(1) == Some(self.files.len())
     }
 
-    // Reads a word, and answers what is awaited then.
     fn read(&mut self, given: Given, awaited: Awaited, word: &'a str) -> Result<Awaited, Unasked> {
         match awaited {
             Awaited::Task => self.read_task(given.alloc, word),
@@ -489,7 +482,6 @@ impl<'a> Request<'a> {
         }
     }
 
-    // Reads the name of a task.
     fn read_task(&mut self, alloc: Global, word: &str) -> Result<Awaited, Unasked> {
         if word.is_empty() {
             return Err(wrong_as(alloc, "no task"));
@@ -505,7 +497,6 @@ impl<'a> Request<'a> {
         })
     }
 
-    // Reads the name of a format.
     fn read_format(&mut self, alloc: Global, word: &str) -> Result<Awaited, Unasked> {
         let Some(format) = Format::of(word) else {
             return Err(wrong(format!(in alloc; "no format is called '{word}'")));
@@ -518,7 +509,6 @@ impl<'a> Request<'a> {
         Ok(Awaited::Any)
     }
 
-    // Reads when there are colours.
     fn read_color(&mut self, given: Given, word: &str) -> Result<Awaited, Unasked> {
         self.colored = match word {
             "always" => true,

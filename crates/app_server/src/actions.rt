@@ -13,7 +13,6 @@ use serde_json::{Value, json};
 use std::alloc::{AllocError, Global};
 use text_documents::places::offset_at;
 
-// The actions that are found.
 struct Found<'a> {
     alloc: Global,
     analysis: &'a Analysis,
@@ -55,7 +54,6 @@ pub fn actions_at(
     Ok(Value::Array(found.into_actions()))
 }
 
-// Whether a report is told in a piece of a file.
 fn is_told_in(report: &Report, text: &str, (file, begin, end): (usize, usize, usize)) -> bool {
     match report.labels.first() {
         Some(label) => {
@@ -77,7 +75,6 @@ impl<'a> Found<'a> {
         actions
     }
 
-    // Adds an edit, in these words.
     fn add(&mut self, title: &str, edit: Edit<'_>) -> Result<(), AllocError> {
         let alloc = self.alloc;
         let changes = changes_value(alloc, self.analysis, &[edit])?;
@@ -348,7 +345,6 @@ const WRITTEN: [(&str, &str); 5] = [
     ("an equal value is asked for by the name alone, as ", ""),
 ];
 
-// The declaration at a position.
 fn declaration_at(defs: &[Def], pos: Pos) -> Option<&Decl> {
     for def in defs {
         if let Def::Decl(decl) = def {
@@ -360,7 +356,6 @@ fn declaration_at(defs: &[Def], pos: Pos) -> Option<&Decl> {
     None
 }
 
-// The greatest priority of the rules of a report.
 fn greatest_priority(defs: &[Def], report: &Report) -> i64 {
     let mut greatest = i64::MIN;
     for label in &report.labels {
@@ -456,7 +451,6 @@ fn ends_word(c: Option<char>) -> bool {
     }
 }
 
-// The offset behind the blanks at an offset.
 fn behind_blanks(text: &str, offset: usize) -> usize {
     let rest = text.get(offset..).unwrap_or("");
     let count = rest.len().saturating_sub(rest.trim_start().len());

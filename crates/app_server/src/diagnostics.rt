@@ -76,7 +76,6 @@ pub fn told_files(alloc: Global, analysis: &Analysis) -> Result<Vec<String>, All
     Ok(told)
 }
 
-// The file that a report is told in.
 fn file_of(report: &Report) -> usize {
     match report.labels.first() {
         Some(label) => label.pos.file,
@@ -84,7 +83,6 @@ fn file_of(report: &Report) -> usize {
     }
 }
 
-// The diagnostics of a file.
 fn diagnostics_in(
     alloc: Global,
     analysis: &Analysis,
@@ -99,7 +97,6 @@ fn diagnostics_in(
     Ok(found)
 }
 
-// A report as a diagnostic.
 fn diagnostic_of(alloc: Global, analysis: &Analysis, report: &Report) -> Result<Value, AllocError> {
     let range = match report.labels.first() {
         Some(label) => form_range(alloc, analysis, label.pos)?,

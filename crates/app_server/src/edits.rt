@@ -34,7 +34,6 @@ pub fn changes_value(
     json!(in alloc; {"changes": changes})
 }
 
-// The edits of a file.
 fn edits_in(
     alloc: Global,
     analysis: &Analysis,

@@ -130,7 +130,6 @@ impl<R: Read + Drop> Frames<R> {
         Frame::End
     }
 
-    // What a line makes, if it makes a frame.
     fn frame_after(&mut self, line: Line) -> Option<Frame> {
         match line {
             Line::Empty if self.has_length => {
@@ -189,7 +188,6 @@ impl<R: Read + Drop> Frames<R> {
         Err(Step::End)
     }
 
-    // What the line says that ends there.
     fn line_before(&self, end: usize) -> Line {
         match self.bytes.get(self.used..end) {
             Some(line) => line_of(line),
@@ -216,7 +214,6 @@ impl<R: Read + Drop> Frames<R> {
         frame
     }
 
-    // The message that ends there.
     fn message_before(&self, end: usize) -> Frame {
         match self.bytes.get(self.used..end) {
             Some(body) => parsed(self.alloc, body),

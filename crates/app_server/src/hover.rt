@@ -47,7 +47,6 @@ fn rule_headed_at(analysis: &Analysis, pos: Pos) -> Option<&Rule> {
     }
 }
 
-// A text of Markdown with the range that it is of.
 fn hover_value(alloc: Global, text: &str, range: Value) -> Result<Value, AllocError> {
     json!(in alloc; {"contents": {"kind": "markdown", "value": text}, "range": range})
 }
@@ -83,7 +82,6 @@ fn text_of_name(
     }
 }
 
-// A text as code of a language.
 fn code(alloc: Global, language: &str, text: &str) -> Result<String, AllocError> {
     format!(in alloc; "```{language}\n{text}\n```\n")
 }
@@ -95,12 +93,10 @@ fn form_at(analysis: &Analysis, pos: Pos) -> &str {
         .unwrap_or("")
 }
 
-// The form at a position, as code.
 fn form_code(alloc: Global, analysis: &Analysis, pos: Pos) -> Result<String, AllocError> {
     code(alloc, "isle", form_at(analysis, pos))
 }
 
-// What is told of a type.
 fn type_text(alloc: Global, analysis: &Analysis, name: &str) -> Result<String, AllocError> {
     match type_named(&analysis.defs, name) {
         Some(ty) => form_code(alloc, analysis, ty.pos),
@@ -133,7 +129,6 @@ fn term_text(alloc: Global, analysis: &Analysis, name: &str) -> Result<String, A
     Ok(out)
 }
 
-// Adds how many rules a term has.
 fn push_count(out: &mut String, rules: usize) -> Result<(), AllocError> {
     match rules {
         0 => Ok(()),
@@ -142,7 +137,6 @@ fn push_count(out: &mut String, rules: usize) -> Result<(), AllocError> {
     }
 }
 
-// Whether a definition is a rule of a term.
 fn is_rule_of(def: &Def, name: &str) -> bool {
     match def {
         Def::Rule(rule) => match rule.pattern.root_term() {
@@ -189,7 +183,6 @@ fn push_side(
     }
 }
 
-// What is told of a variant.
 fn variant_text(
     alloc: Global,
     analysis: &Analysis,

@@ -75,12 +75,10 @@ impl<'a> Listing<'a> {
         found
     }
 
-    // Adds a name.
     fn add(&mut self, name: &'a Ident, kind: MentionKind, defines: bool) -> Result<(), AllocError> {
         self.add_of(name, kind, defines, name)
     }
 
-    // Adds a name, with the one that it belongs to.
     fn add_of(
         &mut self,
         name: &'a Ident,
@@ -97,7 +95,6 @@ impl<'a> Listing<'a> {
         Ok(())
     }
 
-    // Adds the names of a definition.
     fn add_definition(&mut self, def: &'a Def) -> Result<(), AllocError> {
         match def {
             Def::TypeDef(ty) => self.add_type(ty),
@@ -124,7 +121,6 @@ impl<'a> Listing<'a> {
         }
     }
 
-    // Adds the names of a type's variants.
     fn add_variants(&mut self, ty: &'a Ident, variants: &'a [Variant]) -> Result<(), AllocError> {
         for variant in variants {
             self.add_of(&variant.name, MentionKind::Variant, true, ty)?;
@@ -153,7 +149,6 @@ impl<'a> Listing<'a> {
         }
     }
 
-    // Adds the names of a declaration.
     fn add_declaration(&mut self, decl: &'a Decl) -> Result<(), AllocError> {
         self.add(&decl.term, MentionKind::Term, true)?;
         for ty in &decl.arg_tys {
@@ -184,7 +179,6 @@ impl<'a> Listing<'a> {
         }
     }
 
-    // Adds the names of a rule.
     fn add_rule(&mut self, rule: &'a Rule) -> Result<(), AllocError> {
         if let Some(name) = &rule.name {
             self.add(name, MentionKind::Rule, true)?;
@@ -216,13 +210,11 @@ impl<'a> Listing<'a> {
         }
     }
 
-    // Adds a variable of an expression.
     fn add_in_expr(&mut self, name: &'a Ident) -> Result<(), AllocError> {
         let home = bound_in(&self.scope, name).unwrap_or(name);
         self.add_of(name, MentionKind::Variable, false, home)
     }
 
-    // Adds the names of a pattern.
     #[cycle(patterns)]
     fn add_pattern(&mut self, pattern: &'a Pattern) -> Result<(), AllocError> {
         match pattern {
@@ -252,7 +244,6 @@ impl<'a> Listing<'a> {
         Ok(())
     }
 
-    // Adds the names of an expression.
     #[cycle(exprs)]
     fn add_expr(&mut self, expr: &'a Expr) -> Result<(), AllocError> {
         match expr {

@@ -31,7 +31,6 @@ pub fn message_of(value: &Value) -> Message<'_> {
     }
 }
 
-// The message that a value without a method is.
 fn without_method(value: &Value) -> Message<'_> {
     let is_response = value.get("id").is_some()
         && value.get("method").is_none()
@@ -76,7 +75,6 @@ pub fn place_of(value: &Value) -> Result<DocumentPosition, Refusal> {
     Ok(DocumentPosition { line, character })
 }
 
-// The count that a value is.
 fn count_of(value: &Value) -> Result<usize, Refusal> {
     let Some(number) = value.as_u64() else {
         return Err(Refusal::NoParameter);

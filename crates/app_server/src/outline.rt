@@ -55,7 +55,6 @@ pub fn outline_of(alloc: Global, analysis: &Analysis, file: usize) -> Result<Val
     Ok(Value::Array(found))
 }
 
-// Whether a definition is one of a file.
 fn is_in(def: &Def, file: usize) -> bool {
     match def.place() {
         Some(pos) => pos.file == file,
@@ -63,7 +62,6 @@ fn is_in(def: &Def, file: usize) -> bool {
     }
 }
 
-// Adds a definition.
 fn push_definition(
     alloc: Global,
     text: &str,
@@ -135,7 +133,6 @@ fn external_entry(alloc: Global, text: &str, external: &Extern) -> Result<Value,
     }
 }
 
-// The entry of a declaration.
 fn declaration_entry(alloc: Global, text: &str, decl: &Decl) -> Result<Value, AllocError> {
     let mut detail = String::from_str(alloc, "(")?;
     for (number, ty) in decl.arg_tys.iter().enumerate() {
@@ -183,7 +180,6 @@ fn type_entry(alloc: Global, text: &str, ty: &Type) -> Result<Value, AllocError>
     }
 }
 
-// An entry with those of its parts.
 fn with_parts(alloc: Global, mut entry: Value, parts: Vec<Value>) -> Result<Value, AllocError> {
     if let Some(object) = entry.as_object_mut() {
         serde_json::put(object, alloc, "children", Value::Array(parts))?;
@@ -191,7 +187,6 @@ fn with_parts(alloc: Global, mut entry: Value, parts: Vec<Value>) -> Result<Valu
     Ok(entry)
 }
 
-// The entries of variants.
 fn variant_entries(
     alloc: Global,
     text: &str,

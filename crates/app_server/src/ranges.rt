@@ -7,7 +7,6 @@ use serde_json::{Value, json};
 use std::alloc::{AllocError, Global};
 use text_documents::places::{DocumentPosition, place_at};
 
-// A place as a value.
 fn place_value(alloc: Global, place: DocumentPosition) -> Result<Value, AllocError> {
     json!(in alloc; {"line": place.line, "character": place.character})
 }

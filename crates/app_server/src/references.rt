@@ -76,7 +76,6 @@ fn same_names<'a>(
     }
 }
 
-// The location of a name.
 fn location_of(
     alloc: Global,
     analysis: &Analysis,

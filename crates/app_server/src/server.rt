@@ -30,7 +30,6 @@ const UNWRITTEN: u8 = 4;
 // The id of an error that belongs to no request.
 const NO_ID: &str = "null";
 
-// What the server works with.
 struct Server {
     alloc: Global,
     session: Session,
@@ -170,7 +169,6 @@ impl Server {
         publish(self.alloc, out, analysis, &self.session)
     }
 
-    // Takes a message.
     fn take_message<R: std::rt::Files + AllocGlobal, O: Write>(
         &mut self,
         rt: &R,
@@ -238,7 +236,6 @@ impl Server {
         }
     }
 
-    // The answer to a request.
     fn answer<R: std::rt::Files + AllocGlobal, O: Write>(
         &mut self,
         rt: &R,
@@ -267,7 +264,6 @@ impl Server {
         }
     }
 
-    // Begins.
     fn initialize(&mut self, params: Option<&Value>) -> Result<Value, Refusal> {
         self.session.initialize(self.alloc, given(params)?)
     }
@@ -319,7 +315,6 @@ enum Question {
     Actions,
 }
 
-// What a request asks, by its method.
 fn question_of(method: &str) -> Option<Question> {
     match method {
         "textDocument/hover" => Some(Question::Hover),

@@ -131,7 +131,6 @@ impl Session {
     }
 }
 
-// The version of a document.
 fn version_in(document: &Value) -> i64 {
     document.get("version").and_then(Value::as_i64).unwrap_or(0)
 }
@@ -155,7 +154,6 @@ fn root_uri(params: &Value) -> &str {
     params.get("rootUri").and_then(Value::as_str).unwrap_or("")
 }
 
-// The first of the client's folders.
 fn first_folder(params: &Value) -> Option<&Value> {
     let folders = params.get("workspaceFolders").and_then(Value::as_array)?;
     folders.first()
@@ -180,13 +178,11 @@ fn named_files(alloc: Global, params: &Value) -> Result<Vec<String>, AllocError>
     Ok(named)
 }
 
-// The option that names files.
 fn files_option(params: &Value) -> Option<&Vec<Value>> {
     let options = params.get("initializationOptions")?;
     options.get("files").and_then(Value::as_array)
 }
 
-// What the server can do.
 fn capabilities(alloc: Global) -> Result<Value, AllocError> {
     json!(in alloc; {
         "capabilities": {

@@ -68,7 +68,6 @@ pub fn sources_of<R: std::rt::Files + AllocGlobal>(
     Ok(sources)
 }
 
-// The paths of the files that are named.
 fn paths_of<R: std::rt::Files + AllocGlobal>(
     rt: &R,
     workspace: &Workspace,
@@ -121,7 +120,6 @@ fn in_folder(alloc: Global, workspace: &Workspace, name: &str) -> Result<String,
     format!(in alloc; "{root}/{name}")
 }
 
-// Adds the file at a path.
 fn add_path<R: std::rt::Files + AllocGlobal>(
     rt: &R,
     sources: &mut Sources,

@@ -47,7 +47,6 @@ impl<'a> Symbol<'a> {
     }
 }
 
-// Whether a name means a variant.
 fn is_variant(mention: &Mention<'_>, ty: &str, name: &str) -> bool {
     match mention.kind {
         MentionKind::Variant => mention.text() == name && mention.home.0.as_str() == ty,
@@ -95,7 +94,6 @@ pub fn symbol_of<'a>(defs: &'a [Def], mention: &Mention<'a>) -> Symbol<'a> {
     }
 }
 
-// What the name of a term means.
 fn term_symbol<'a>(defs: &'a [Def], name: &'a str) -> Symbol<'a> {
     if declaration_of(defs, name).is_some() {
         return Symbol::Term(name);
@@ -164,7 +162,6 @@ pub fn has_rule(defs: &[Def], name: &str) -> bool {
     defs.iter().any(|def| is_rule_named(def, name))
 }
 
-// Whether a definition is a rule of a name.
 fn is_rule_named(def: &Def, name: &str) -> bool {
     match def {
         Def::Rule(rule) => match &rule.name {

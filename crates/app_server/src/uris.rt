@@ -64,7 +64,6 @@ pub fn uri_of(alloc: Global, path: &str) -> Result<String, AllocError> {
     Ok(out)
 }
 
-// Adds a byte of a path.
 fn push_escaped(out: &mut String, byte: u8) -> Result<(), AllocError> {
     let c = char::from(byte);
     if c.is_ascii_alphanumeric() || matches!(c, '/' | '-' | '.' | '_' | '~') {

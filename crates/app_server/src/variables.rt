@@ -81,7 +81,6 @@ impl<'a> Types<'a> {
         Ok(())
     }
 
-    // Adds the variables of a rule.
     fn add_rule(&mut self, rule: &'a Rule) -> Result<(), AllocError> {
         self.add_pattern(&rule.pattern, "")?;
         for iflet in &rule.iflets {
@@ -199,7 +198,6 @@ fn fields_named<'a>(defs: &'a [Def], term: &str) -> Option<&'a Fields> {
     }
 }
 
-// The name of the type of a field.
 fn field_type(fields: &Fields, number: usize) -> Option<&Ident> {
     match fields {
         Fields::Unit => None,

@@ -48,7 +48,6 @@ fn told<R: std::rt::Files + AllocGlobal>(
     }
 }
 
-// What is sent in an exchange.
 fn sent_by(alloc: Global, exchange: &str) -> Result<String, AllocError> {
     let mut sent = String::new(alloc);
     for line in exchange.split('\n') {
@@ -73,7 +72,6 @@ fn push_bytes(sent: &mut String, bytes: &str) -> Result<(), AllocError> {
     Ok(())
 }
 
-// What has to be answered in an exchange.
 fn wanted_by(alloc: Global, exchange: &str) -> Result<Vec<&str>, AllocError> {
     let mut wanted = Vec::new(alloc);
     for line in exchange.split('\n') {
@@ -112,7 +110,6 @@ fn first_message(text: &str) -> Option<(&str, &str)> {
     Some((rest.get(..length)?, rest.get(length..)?))
 }
 
-// The answers that differ from those that are wanted.
 fn differences(alloc: Global, wanted: &[&str], found: &[&str]) -> Result<String, AllocError> {
     let mut text = String::new(alloc);
     for number in 0..wanted.len().max(found.len()) {

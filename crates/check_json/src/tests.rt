@@ -17,7 +17,6 @@ const TYPES: &str =
 (extern const $K P) (decl f (S T) u8)
 (rule 2 (f (S (T.A 1 $K) true) _) 10) (rule 1 (f _ (T.B)) 11) (rule (f x _) 12)";
 
-// The words of a command.
 fn words(alloc: Global, text: &str) -> Result<Vec<String>, AllocError> {
     let mut words = Vec::new(alloc);
     for word in text.split(' ') {
@@ -26,7 +25,6 @@ fn words(alloc: Global, text: &str) -> Result<Vec<String>, AllocError> {
     Ok(words)
 }
 
-// A text as the one file.
 fn one_file(alloc: Global, text: &str) -> Result<Files, AllocError> {
     Ok(Files {
         names: Vec::from_array(alloc, [String::from_str(alloc, "a.isle")?])?,
@@ -87,12 +85,10 @@ fn samples_are_read_back(rt: HostRuntime) -> Result<(), Fail> {
     Ok(())
 }
 
-// A text at a place of a document.
 fn text_at<'a>(value: &'a Value, path: &str) -> Option<&'a str> {
     value.pointer(path)?.as_str()
 }
 
-// A number at a place of a document.
 fn number_at(value: &Value, path: &str) -> Option<u64> {
     value.pointer(path)?.as_u64()
 }

@@ -38,7 +38,6 @@ pub enum ExpectedReading {
 }
 
 impl ExpectedReading {
-    // Whether it came to this.
     fn is(self, answer: &Result<TermEnv, Fault>) -> bool {
         match (self, answer) {
             (ExpectedReading::Rules(terms, rules), Ok(env)) => {

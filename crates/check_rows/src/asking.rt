@@ -70,7 +70,6 @@ pub fn asked_about(alloc: Global, text: &str, above: bool) -> Result<Questions, 
     Ok(questions_about(alloc, &lowered, &forms, wanted)?)
 }
 
-// What is said for a verifier in a text.
 fn forms_in(alloc: Global, text: &str) -> Result<Vec<VerificationForm>, Refused> {
     let mut forms = Vec::new(alloc);
     for (_, form) in verification(alloc, 0, text)? {

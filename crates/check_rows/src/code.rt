@@ -26,7 +26,6 @@ pub fn push_code(
     push_told(answer_by(alloc, words, files)?, out)
 }
 
-// What is answered to files.
 fn answer_by(alloc: Global, words: &[String], files: &Files) -> Result<TreesOrErrors, AllocError> {
     let mut defs = Vec::new(alloc);
     for (number, text) in files.texts.iter().enumerate() {
@@ -41,7 +40,6 @@ fn answer_by(alloc: Global, words: &[String], files: &Files) -> Result<TreesOrEr
     answer_to_defs(alloc, words, files, &defs)
 }
 
-// What is answered to definitions.
 fn answer_to_defs(
     alloc: Global,
     words: &[String],
@@ -84,7 +82,6 @@ fn shortened(alloc: Global, code: &str) -> Result<String, AllocError> {
     }
 }
 
-// The options by a row's words.
 fn options_by(alloc: Global, words: &[String]) -> Result<CodegenOptions, AllocError> {
     let mut options = CodegenOptions::included(alloc);
     for word in words {

@@ -23,7 +23,6 @@ pub fn push_command(
     }
 }
 
-// Adds what is answered to files.
 fn push_answer(
     alloc: Global,
     asked: &Request<'_>,

@@ -74,7 +74,6 @@ fn push_errors(text: &str, errors: &[SpecError], out: &mut String) -> Result<(),
     Ok(())
 }
 
-// Adds what is asked about rules.
 fn push_asked(
     words: &[String],
     text: &str,
@@ -108,7 +107,6 @@ fn push_question(
     out.push_str(&question.wrong)
 }
 
-// Adds what is how wide.
 fn push_widths(widths: &[(String, usize)], out: &mut String) -> Result<(), AllocError> {
     for (of, width) in widths {
         write!(out, "{of} {width}\n")?;
@@ -116,7 +114,6 @@ fn push_widths(widths: &[(String, usize)], out: &mut String) -> Result<(), Alloc
     Ok(())
 }
 
-// Adds that a rule has no question.
 fn push_without(text: &str, rule: &Without, out: &mut String) -> Result<(), AllocError> {
     let place = line_from(text, rule.pos.offset);
     write!(out, "without {place}: {}\n", rule.reason)

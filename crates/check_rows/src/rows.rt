@@ -59,7 +59,6 @@ fn add_file(alloc: Global, files: &mut Files, name: &str) -> Result<(), AllocErr
     Ok(())
 }
 
-// Adds a line of a row.
 fn add_line(alloc: Global, files: &mut Files, line: &str) -> Result<(), AllocError> {
     if let Some(name) = line.strip_prefix("## ") {
         return add_file(alloc, files, name);
@@ -70,7 +69,6 @@ fn add_line(alloc: Global, files: &mut Files, line: &str) -> Result<(), AllocErr
     }
 }
 
-// Adds a line.
 fn push_line(out: &mut String, line: &str) -> Result<(), AllocError> {
     out.push_str(line)?;
     out.push('\n')

@@ -25,7 +25,6 @@ pub fn push_text(
     }
 }
 
-// Whether a word is among these.
 fn has_word(words: &[String], word: &str) -> bool {
     words.iter().any(|other| other.as_str() == word)
 }
@@ -67,7 +66,6 @@ pub fn push_told(answer: TreesOrErrors, out: &mut String) -> Result<(), AllocErr
     }
 }
 
-// What is answered to a text.
 fn answer_by(alloc: Global, words: &[String], text: &str) -> Result<TreesOrErrors, AllocError> {
     let expand = !has_word(words, "no-expand");
     if has_word(words, "rules") {

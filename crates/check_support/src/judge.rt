@@ -67,7 +67,6 @@ pub fn judge(alloc: Global, set: &RuleSet, block: &Block) -> Result<Option<TreeF
     }
 }
 
-// Stops with a fault, unless this holds.
 fn want(holds: bool, fault: TreeFault) -> Result<(), Stop> {
     if holds {
         Ok(())
@@ -239,7 +238,6 @@ fn held_by(alloc: Global, set: &RuleSet, check: &ControlFlow) -> Result<Vec<usiz
     Ok(rules)
 }
 
-// What a step uses.
 fn uses(alloc: Global, set: &RuleSet, check: &ControlFlow) -> Result<Vec<BindingId>, AllocError> {
     match check {
         ControlFlow::Match { source, .. } => Ok(vec![in alloc; *source]?),
@@ -256,7 +254,6 @@ fn uses(alloc: Global, set: &RuleSet, check: &ControlFlow) -> Result<Vec<Binding
     }
 }
 
-// Adds the impure calls of a rule.
 fn push_impure(used: &mut Vec<BindingId>, set: &RuleSet, rule: usize) -> Result<(), AllocError> {
     match set.rules.get(rule) {
         Some(rule) => used.extend_from_slice(&rule.impure),

@@ -145,7 +145,6 @@ pub fn list(alloc: Global, seed: u64) -> Result<String, AllocError> {
 }
 
 impl Maker {
-    // One of these forms.
     fn pick(&mut self, from: &[Form]) -> Form {
         self.chance.pick(from).unwrap_or(Form::Integer)
     }
@@ -476,7 +475,6 @@ fn extractor_shape(form: Form) -> Option<Shape> {
     }
 }
 
-// Whether a form has patterns of this type.
 fn has_patterns_of(form: Form, kind: Kind) -> bool {
     match form {
         Form::Equal | Form::Bind | Form::And => true,

@@ -18,7 +18,6 @@ enum Kind {
     Nested,
 }
 
-// All types.
 const KINDS: [Kind; 9] = [
     Kind::Byte,
     Kind::Int,
@@ -31,7 +30,6 @@ const KINDS: [Kind; 9] = [
     Kind::Nested,
 ];
 
-// The types of numbers.
 const NUMBERS: [Kind; 4] = [Kind::Byte, Kind::Int, Kind::Wide, Kind::Prim];
 
 // The types that all lists have.
@@ -48,7 +46,6 @@ const TYPES: &str = "(type P (primitive P))
 (convert u8 i32 widen)
 ";
 
-// A term with rules.
 #[derive(Drop)]
 struct Ruled {
     name: &'static str,
@@ -135,7 +132,6 @@ impl Maker {
         Ok(())
     }
 
-    // A term with its rules.
     fn push_term(&mut self, alloc: Global, name: &'static str) -> Result<Ruled, AllocError> {
         self.flag = self.chance.pick(&FLAGS).unwrap_or(Flag::Plain);
         let gives = match self.chance.below(2) {
@@ -550,7 +546,6 @@ impl Maker {
         Ok(())
     }
 
-    // A call of a term with rules.
     fn push_call_of(&mut self, term: &Ruled) -> Result<(), AllocError> {
         self.push("(")?;
         self.push(term.name)?;

@@ -35,7 +35,6 @@ impl<'a> Drop for Answers<'a> {
     }
 }
 
-// The value of a named constant.
 fn constant_value(tyenv: &TypeEnv, name: Sym) -> Value
     ensures { value_view result ≡ constant_answer (type_views tyenv.now.types.items) (constant_at tyenv.now name.0) name.0 }
 {
@@ -46,7 +45,6 @@ fn constant_value(tyenv: &TypeEnv, name: Sym) -> Value
     Value::Atom(ty, literal_number(tyenv, ty, constant_number(name)))
 }
 
-// Whether a value is withheld.
 fn is_withheld(value: &Value) -> bool
     ensures { result ≡ is_withheld (value_view value.now) }
 {
@@ -87,7 +85,6 @@ fn is_answer_withheld(content: &Content) -> bool
     }
 }
 
-// Whether the first of several answers is withheld.
 fn is_first_withheld(answers: &[Content]) -> bool
     ensures { result ≡ is_answer_withheld (many (content_views answers.now)) }
 {

@@ -23,7 +23,6 @@ fn makes_impure_calls(trial: &Trial) -> bool {
     }
 }
 
-// Whether a site is an impure call.
 fn is_impure(site: &Binding) -> bool {
     match site {
         Binding::Constructor { instance, .. } => *instance > 0,

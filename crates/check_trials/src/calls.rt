@@ -62,7 +62,6 @@ fn calls_with(
     Ok(TermCalls::With(calls))
 }
 
-// The types of a term's arguments.
 fn argument_types(trial: &Trial) -> &[TypeId] {
     match trial.lowered.termenv.terms.get(trial.term.index()) {
         Some(term) => &term.arg_tys,

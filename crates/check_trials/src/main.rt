@@ -37,7 +37,6 @@ fn main(rt: HostRuntime) -> ExitCode {
     ExitCode::from(status)
 }
 
-// Does what the words ask for.
 fn run<R: Read + Drop, O: Write, E: Write>(
     alloc: Global,
     words: &[String],

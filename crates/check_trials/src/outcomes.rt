@@ -106,7 +106,6 @@ fn told(alloc: Global, trial: &Trial, outcome: Outcome, multi: bool) -> Result<S
     outcome_text(alloc, &trial.lowered, multi, &told)
 }
 
-// Whether a trial's term is partial.
 fn is_partial(trial: &Trial) -> bool {
     match trial.lowered.termenv.terms.get(trial.term.index()) {
         Some(term) => term.is_partial(),

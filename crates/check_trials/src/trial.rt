@@ -95,7 +95,6 @@ fn is_kept(def: &Def, name: &str) -> bool {
     }
 }
 
-// Whether a rule is of the term of this name.
 fn is_of(rule: &Rule, name: &str) -> bool {
     match rule.pattern.root_term() {
         Some(root) => root.0.as_str() == name,

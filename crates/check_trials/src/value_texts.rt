@@ -40,7 +40,6 @@ fn is_without_equality(ty: &Type) -> bool {
     }
 }
 
-// Whether there are fields.
 fn has_fields(fields: &Fields) -> bool {
     match fields {
         Fields::Unit => false,

@@ -237,7 +237,6 @@ fn half_of(int: IntType) -> i128 {
     }
 }
 
-// The number that a site writes, with its type.
 fn written_at(lowered: &Lowered, site: &Binding) -> Option<(TypeId, i128)> {
     match site {
         Binding::ConstInt { val, ty } => Some((*ty, *val)),
@@ -246,7 +245,6 @@ fn written_at(lowered: &Lowered, site: &Binding) -> Option<(TypeId, i128)> {
     }
 }
 
-// The number of a constant, with its type.
 fn constant_at(lowered: &Lowered, name: Sym) -> Option<(TypeId, i128)> {
     let ty = *lowered.tyenv.const_types.get(&name)?;
     let number = literal_number(&lowered.tyenv, ty, constant_number(name));
@@ -265,7 +263,6 @@ fn push_asked(
     Ok(())
 }
 
-// Adds those of one rule.
 fn push_asked_by(
     lowered: &Lowered,
     rule: &Rule,
@@ -279,7 +276,6 @@ fn push_asked_by(
     Ok(())
 }
 
-// The number that a constraint asks for, with its type.
 fn asked_by(lowered: &Lowered, constraint: Constraint) -> Option<(TypeId, i128)> {
     match constraint {
         Constraint::ConstInt { val, ty } => Some((ty, val)),

@@ -126,7 +126,6 @@ fn wrong(alloc: Global, text: &str, errors: &[Error]) -> Result<TreesOrErrors, A
     Ok(TreesOrErrors::Errors(lines))
 }
 
-// Trials of definitions.
 fn answer_to_defs(
     alloc: Global,
     text: &str,
@@ -158,7 +157,6 @@ fn program(
     }
 }
 
-// The text as a file.
 fn file_of(alloc: Global, text: &str) -> Result<Files, AllocError> {
     let mut names = Vec::new(alloc);
     names.push(String::from_str(alloc, "rules.isle")?)?;

@@ -117,7 +117,6 @@ impl RuleSetBuilder {
         self.table.add(binding)
     }
 
-    // Asks something of a site.
     pub(crate) fn ask(&mut self, site: BindingId, constraint: &Constraint) -> Result<(), AllocError>
         ensures asked { (before : List SiteTerm) (v : Visit) → BuilderStandsAt before self.old v → site < length (built_sites self.old)
             → OnOk result (GoesTo before self.old self.new (asking (unfold_site (built_sites self.old) site) (constraint_view constraint.now) v)) }

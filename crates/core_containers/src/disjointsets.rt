@@ -213,7 +213,6 @@ fn is_one_class(first: Option<usize>, second: Option<usize>) -> bool
     }
 }
 
-// The items in a vector of their own.
 fn copied<X: Copy>(alloc: Global, items: &[X]) -> Result<Vec<X>, AllocError>
     ensures { IfOk result (λ copy. copy.items ≡ items.now) }
 {
@@ -222,7 +221,6 @@ fn copied<X: Copy>(alloc: Global, items: &[X]) -> Result<Vec<X>, AllocError>
     Ok(copy)
 }
 
-// The same sets in vectors of their own.
 fn members_copied<T: Copy + Debug>(
     alloc: Global,
     members: &[Vec<T>],
@@ -236,7 +234,6 @@ fn members_copied<T: Copy + Debug>(
     Ok(copy)
 }
 
-// The same numbers in a map of their own.
 fn classes_copied<T: Copy + Debug + Eq + Hash>(
     alloc: Global,
     classes: &HashMap<T, usize>,
@@ -321,7 +318,6 @@ fn place<T: Copy + Debug>(members: &mut Vec<Vec<T>>, free: &mut Vec<usize>, set:
     }
 }
 
-// A set of two.
 fn pair<T: Copy + Debug>(alloc: Global, x: T, y: T) -> Result<Vec<T>, AllocError>
     ensures { IfOk result (λ set. set.items ≡ x ∷ y ∷ []) }
 {
@@ -454,7 +450,6 @@ fn merge_classes<T: Copy + Debug + Eq + Hash>(
     }
 }
 
-// The items in order, in a vector of their own.
 fn sorted<T: Copy + Debug + Ord>(alloc: Global, items: &[T]) -> Result<Vec<T>, AllocError>
     ensures same { IfOk result (λ set. IsPermutation items.now set.items) }
     ensures ascending { IfOk result (λ set. IsSorted T.cmp set.items) }

@@ -125,7 +125,6 @@ impl Stack {
     }
 }
 
-// Whether a number stands at a place.
 fn stands_at(list: &[u16], place: usize, number: u16) -> bool
     ensures { result ≡ is_at list.now place number }
 {
@@ -135,7 +134,6 @@ fn stands_at(list: &[u16], place: usize, number: u16) -> bool
     }
 }
 
-// The place, if the number stands there.
 fn place_if(stands: bool, place: usize) -> Option<usize>
     ensures { result ≡ (if stands then Some place else None) }
 {

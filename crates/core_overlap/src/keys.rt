@@ -146,7 +146,6 @@ fn priorities(alloc: Global, rules: &[Rule]) -> Result<Vec<Option<usize>>, Alloc
     Ok(keys)
 }
 
-// How many different keys there are.
 fn count_different(alloc: Global, keys: &[Option<usize>]) -> Result<usize, AllocError> {
     let mut seen = BTreeSet::new(alloc);
     for key in keys {

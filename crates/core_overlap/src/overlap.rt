@@ -323,7 +323,6 @@ fn masked_by_each(
     Ok(lists)
 }
 
-// Spans at these places.
 fn spans_of(alloc: Global, places: &[Pos]) -> Result<Vec<Span>, AllocError>
     ensures starts { IfOk result (λ v. span_starts v.items ≡ positions places.now) }
     ensures single { IfOk result (λ v. All IsSingle v.items) }
@@ -614,7 +613,6 @@ fn overlap_errors(alloc: Global, wrong: &[(Pos, Pos)]) -> Result<Vec<Error>, All
     Ok(errors)
 }
 
-// Where an error stands.
 fn place_of(error: &Error) -> Pos
     ensures { result ≡ error_pos error.now }
 {

@@ -105,7 +105,6 @@ impl Demanded {
         self.join_fields(alloc, table, &members, &constraint)
     }
 
-    // Asks the same of each of some sites.
     fn ask_each(&mut self, sites: &[BindingId], constraint: &Constraint) -> Result<(), AllocError>
         requires due { KeepsDue self.old }
         ensures due { OnOk result (KeepsDue self.new) }

@@ -142,7 +142,6 @@ impl Looks {
         })
     }
 
-    // The next part, with its number.
     fn next(&mut self, parts: &[Part]) -> Option<(usize, Part)>
         ensures there { IfSome result (λ x. Contains parts.now x.1) }
         ensures part { IfSome result (λ x. slice_get parts.now x.0 ≡ Some x.1) }

@@ -32,14 +32,12 @@ impl Rule {
     }
 }
 
-// Whether a rule demands no equality.
 fn has_no_equality(rule: &Rule) -> bool
     ensures { result ≡ equates_none (set_rule_view rule.now) }
 {
     rule.equals.len() == 0
 }
 
-// Whether two constraints are one.
 pub(crate) fn is_same_constraint(a: &Constraint, b: &Constraint) -> bool
     ensures { result ≡ constraint_eq (constraint_view a.now) (constraint_view b.now) }
 {

@@ -32,7 +32,6 @@ impl RuleSet {
     }
 }
 
-// Whether two bindings are one.
 fn is_same_binding(a: &Binding, b: &Binding) -> bool
     ensures { IsTrue result ↔ (site_view a.now ≡ site_view b.now) }
 {

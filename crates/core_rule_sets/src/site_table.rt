@@ -190,7 +190,6 @@ impl SiteTable {
     }
 }
 
-// The same binding, with lists of its own.
 fn copied(binding: &Binding) -> Result<Binding, AllocError>
     ensures { IfOk result (λ b. site_view b ≡ site_view binding.now) }
 {

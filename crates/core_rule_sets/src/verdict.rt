@@ -36,7 +36,6 @@ pub enum Unreachable {
 // What is asked of a class: the first thing, and the first other one.
 type Asked = (Constraint, Option<Constraint>);
 
-// A constraint, where it is another one than the first.
 fn other_than(first: Constraint, constraint: Constraint) -> Option<Constraint>
     ensures { option_map constraint_view result ≡ (if constraint_eq (constraint_view first) (constraint_view constraint) then None else Some (constraint_view constraint)) }
 {

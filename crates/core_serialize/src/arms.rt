@@ -67,7 +67,6 @@ fn all_asked(
     Ok(turns)
 }
 
-// How two constraints are ordered.
 fn by_constraint(a: &AskingRule, b: &AskingRule) -> Ordering
     ensures { is_lt result ≡ Turns.is_ahead a.now b.now }
 {

@@ -32,7 +32,6 @@ fn used_by(alloc: Global, set: &RuleSet, number: usize) -> Result<Vec<BindingId>
     Ok(used)
 }
 
-// The return of a rule.
 #[tactic(auto, using(crate::proofs::TreeLaws::tree_steps))]
 fn return_from(rule: &Rule) -> ControlFlow
     ensures { check_view result ≡ Trees.return_of (Some (set_rule_view rule.now)) }

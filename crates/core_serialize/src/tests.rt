@@ -261,7 +261,6 @@ fn score_by(place: &Place<'_>, test: &Test, count: usize) -> Score
     }
 }
 
-// The score of a test at a place.
 fn score_of(place: &Place<'_>, test: &Test) -> Score
     ensures { score_view result ≡ Tests.score (set_at place.now) (around_at place.now) (here_at place.now) (test_view test.now) }
 {

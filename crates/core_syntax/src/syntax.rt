@@ -708,7 +708,6 @@ fn place_of(args: &[Ident], name: &Ident) -> Option<usize>
     None
 }
 
-// The templates of several patterns.
 #[cycle(template)]
 fn templates(alloc: Global, parts: &[Pattern], args: &[Ident]) -> Result<Vec<Pattern>, AllocError>
     ensures { IfOk result (λ v. pattern_views v.items
@@ -801,7 +800,6 @@ impl Clone for Pattern {
     }
 }
 
-// The clones of several patterns.
 #[cycle(pattern_clone)]
 fn pattern_clones(alloc: Global, parts: &[Pattern]) -> Result<Vec<Pattern>, AllocError>
     ensures { IfOk result (λ v. pattern_views v.items ≡ pattern_views parts.now) }
@@ -872,7 +870,6 @@ impl Clone for LetDef {
     }
 }
 
-// The clones of several expressions.
 #[cycle(expr_clone)]
 fn expr_clones(alloc: Global, parts: &[Expr]) -> Result<Vec<Expr>, AllocError>
     ensures { IfOk result (λ v. expr_views v.items ≡ expr_views parts.now) }
@@ -884,7 +881,6 @@ fn expr_clones(alloc: Global, parts: &[Expr]) -> Result<Vec<Expr>, AllocError>
     Ok(out)
 }
 
-// The clones of several definitions.
 #[cycle(expr_clone)]
 fn let_clones(alloc: Global, parts: &[LetDef]) -> Result<Vec<LetDef>, AllocError>
     ensures { IfOk result (λ v. let_views v.items ≡ let_views parts.now) }

@@ -136,7 +136,6 @@ fn inside_names(alloc: Global, word: &str, name: &str) -> Result<FunctionNames, 
     Ok(FunctionNames { own, full })
 }
 
-// The names of a function from outside.
 fn outside_names(alloc: Global, name: &str) -> Result<FunctionNames, AllocError>
     ensures own { IfOk result (λ n. string_bytes n.own ≡ name.now) }
     ensures full { IfOk result (λ n. string_bytes n.full ≡ codes "C::" ++ name.now) }
@@ -146,7 +145,6 @@ fn outside_names(alloc: Global, name: &str) -> Result<FunctionNames, AllocError>
     Ok(FunctionNames { own, full })
 }
 
-// A signature with these names and types.
 fn signature(
     names: FunctionNames,
     param_tys: Vec<TypeId>,
@@ -196,7 +194,6 @@ fn constructor_kind_of(flags: TermFlags) -> ReturnKind
     }
 }
 
-// A list of one type.
 fn one_type(alloc: Global, ty: TypeId) -> Result<Vec<TypeId>, AllocError>
     ensures { IfOk result (λ v. map (λ t. t.0) v.items ≡ ty.0 ∷ []) }
 {
@@ -205,7 +202,6 @@ fn one_type(alloc: Global, ty: TypeId) -> Result<Vec<TypeId>, AllocError>
     Ok(types)
 }
 
-// The same types.
 fn copied_types(alloc: Global, types: &[TypeId]) -> Result<Vec<TypeId>, AllocError>
     ensures { IfOk result (λ v. v.items ≡ types.now) }
 {

@@ -76,7 +76,6 @@ impl Clone for Expr {
     }
 }
 
-// The clones of several expressions.
 #[cycle(clone_expr)]
 fn clones(alloc: Global, parts: &[Expr]) -> Result<Vec<Expr>, AllocError>
     ensures { IfOk result (λ v. expr_views v.items ≡ expr_views parts.now) }
@@ -88,7 +87,6 @@ fn clones(alloc: Global, parts: &[Expr]) -> Result<Vec<Expr>, AllocError>
     Ok(out)
 }
 
-// The clones of a let's definitions.
 #[cycle(clone_expr)]
 fn clone_bindings(
     alloc: Global,

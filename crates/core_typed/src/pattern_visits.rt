@@ -19,7 +19,6 @@ use core_terms::{ExtractorKind, TermFlags, TermKind};
 use core_types::{TermId, TypeId};
 use std::alloc::{AllocError, Global};
 
-// The types of several patterns.
 fn types_of(alloc: Global, patterns: &[Pattern]) -> Result<Vec<TypeId>, AllocError>
     ensures { IfOk result (λ tys. type_numbers tys.items ≡ part_types (pattern_parts (pattern_views patterns.now))) }
 {

@@ -74,7 +74,6 @@ impl Clone for Pattern {
     }
 }
 
-// The clones of several patterns.
 #[cycle(clone_pattern)]
 fn clones(alloc: Global, parts: &[Pattern]) -> Result<Vec<Pattern>, AllocError>
     ensures { IfOk result (λ v. pattern_views v.items ≡ pattern_views parts.now) }

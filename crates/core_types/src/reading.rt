@@ -122,7 +122,6 @@ impl TypeEnv {
         Ok(None)
     }
 
-    // Adds the built-in types.
     fn add_builtins(&mut self, builtins: &[BuiltinType]) -> Result<(), AllocError>
         requires { Booting self.old builtins.now }
         ensures { OnOk result (Booting self.new []) }
@@ -159,7 +158,6 @@ impl TypeEnv {
         report_duplicate(errors, ty, existing)
     }
 
-    // Reads the names of all types.
     fn name_types(&mut self, errors: &mut Vec<Error>, defs: &[Def]) -> Result<(), AllocError>
         requires { NamesTypes (definition_views defs.now) [] (definition_views defs.now) self.old errors.old.items }
         ensures names { OnOk result (NamesTypes (definition_views defs.now) (definition_views defs.now) [] self.new errors.new.items) }

@@ -101,7 +101,6 @@ impl TypeEnv {
         }
     }
 
-    // The id of the name of a text.
     fn look_up_text(&self, name: &str) -> Option<Sym>
         ensures looked_up { option_map (λ s. s.0) result ≡ symbol_of self.now name.now }
         ensures place { IsInterned self.now

@@ -174,7 +174,6 @@ fn request_of<'a>(alloc: Global, asked: CallRequest) -> Request<'a>
     }
 }
 
-// A task as the command has it.
 fn task_of(task: CallTask) -> words::Task
     ensures { result ≡ command_task task }
 {
@@ -184,7 +183,6 @@ fn task_of(task: CallTask) -> words::Task
     }
 }
 
-// A format as the command has it.
 fn format_of(format: ReportFormat) -> words::Format
     ensures { result ≡ command_format format }
 {
@@ -195,7 +193,6 @@ fn format_of(format: ReportFormat) -> words::Format
     }
 }
 
-// The status of what the command answers.
 fn status_of(answer: &Answer) -> u32
     ensures text { HasText result }
     ensures same { result ≡ status_of answer.now }

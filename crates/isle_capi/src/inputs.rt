@@ -92,7 +92,6 @@ pub fn files_of(alloc: Global, bytes: &[u8], lengths: &[FileLengths]) -> Result<
     Ok(files)
 }
 
-// Bytes as text.
 fn string_of(alloc: Global, bytes: &[u8]) -> Result<String, UnreadInput>
     ensures text { IfOk result (λ _. is_utf8 bytes.now ≡ true) }
     ensures same { IfOk result (λ text. string_bytes text ≡ bytes.now) }

@@ -88,7 +88,6 @@ fn go_together(options: &Options) -> bool
     options.task != 2 || options.expand == 1
 }
 
-// The task of a number.
 fn task_of(number: u32) -> Option<CallTask>
     ensures known { is_some result ≡ is_task number }
     ensures number { IfSome result (λ x. number ≡ task_number x) }
@@ -101,7 +100,6 @@ fn task_of(number: u32) -> Option<CallTask>
     }
 }
 
-// The format of a number.
 fn format_of(number: u32) -> Option<ReportFormat>
     ensures known { is_some result ≡ is_format number }
     ensures number { IfSome result (λ x. number ≡ format_number x) }
@@ -115,7 +113,6 @@ fn format_of(number: u32) -> Option<ReportFormat>
     }
 }
 
-// The truth value of a number.
 fn truth_of(number: u32) -> Option<bool>
     ensures known { is_some result ≡ is_truth number }
     ensures number { IfSome result (λ x. number ≡ truth_number x) }

@@ -240,7 +240,6 @@ pub(crate) fn add_form(
     report.add_label(pos, text)
 }
 
-// Adds a form as a quotation.
 fn push_quoted(out: &mut String, form: ValueForm<'_>) -> Result<(), AllocError> {
     out.push('`')?;
     push_form(out, form)?;
@@ -253,7 +252,6 @@ fn begun(alloc: Global, kind: &'static str, message: &str) -> Result<Report, All
     Ok(Report::new(alloc, Level::Error, kind, message))
 }
 
-// A report of one rule, with what helps.
 fn of_rule(
     source: Source<'_>,
     (kind, message): (&'static str, &str),

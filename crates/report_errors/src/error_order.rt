@@ -133,7 +133,6 @@ impl<'a> Drop for Cycle<'a> {
 }
 
 impl<'a> Causes<'a> {
-    // The causes among errors.
     fn new(alloc: Global, errors: &'a [Error]) -> Result<Causes<'a>, AllocError> {
         let mut terms = Vec::new(alloc);
         let mut cycles = Vec::new(alloc);
@@ -193,7 +192,6 @@ fn are_one(left: &Cycle<'_>, right: &Cycle<'_>) -> bool {
         && left.members.iter().all(|name| has(&right.members, name))
 }
 
-// Whether a name is among these.
 fn has(names: &[&str], name: &str) -> bool {
     names.iter().any(|other| *other == name)
 }

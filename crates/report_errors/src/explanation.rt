@@ -46,7 +46,6 @@ fn rule_name<'a>(lowered: &'a Lowered, rule: &Rule) -> &'a str {
     }
 }
 
-// Adds what is said of a rule.
 fn push_rule(
     alloc: Global,
     files: &Files,

@@ -63,7 +63,6 @@ pub(crate) fn type_needed<'a>(defs: &'a [Def], need: Need<'a>) -> Option<&'a Ide
     }
 }
 
-// The name of the type of a term's argument.
 fn argument_type<'a>(defs: &'a [Def], term: &str, place: usize) -> Option<&'a Ident> {
     if let Some(decl) = declaration_of(defs, term) {
         return decl.arg_tys.get(place);
@@ -77,7 +76,6 @@ fn argument_type<'a>(defs: &'a [Def], term: &str, place: usize) -> Option<&'a Id
     }
 }
 
-// The name of the type of a field.
 fn field_type(fields: &Fields, place: usize) -> Option<&Ident> {
     match fields {
         Fields::Unit => None,
@@ -86,7 +84,6 @@ fn field_type(fields: &Fields, place: usize) -> Option<&Ident> {
     }
 }
 
-// The form at a place of a rule.
 fn in_rule(rule: &Rule, pos: Pos) -> Option<Form<'_>> {
     if let Some(found) = in_pattern(&rule.pattern, pos, Need::Nothing) {
         return Some(found);
@@ -110,7 +107,6 @@ fn in_iflets(rule: &Rule, pos: Pos) -> Option<Form<'_>> {
     None
 }
 
-// The form at a place of a pattern.
 #[cycle(patterns)]
 fn in_pattern<'a>(pattern: &'a Pattern, pos: Pos, need: Need<'a>) -> Option<Form<'a>> {
     if pattern.pos() == pos {
@@ -167,7 +163,6 @@ fn name_of_pattern(pattern: &Pattern) -> &str {
     }
 }
 
-// The form at a place of an expression.
 #[cycle(exprs)]
 fn in_expr<'a>(expr: &'a Expr, pos: Pos, need: Need<'a>) -> Option<Form<'a>> {
     if expr.pos() == pos {

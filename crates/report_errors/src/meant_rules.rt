@@ -62,7 +62,6 @@ fn line_in(name: &str, text: &str, called: &str) -> Option<(usize, usize)> {
     }
 }
 
-// Whether a path ends in another one.
 fn is_end_of_path(name: &str, end: &str) -> bool {
     let end = end.strip_prefix("./").unwrap_or(end);
     match name.strip_suffix(end) {

@@ -67,7 +67,6 @@ fn add_need(
     report.add_new_label(ty.1, text)
 }
 
-// What needs a type.
 fn need_text(alloc: Global, need: Need<'_>, ty: &str) -> Result<String, AllocError> {
     match need {
         Need::Nothing => Ok(String::new(alloc)),

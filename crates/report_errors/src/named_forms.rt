@@ -84,7 +84,6 @@ pub(crate) fn only_place(
     })
 }
 
-// Adds the places of a form in a pattern.
 #[cycle(patterns)]
 fn add_places(places: &mut Vec<Pos>, pattern: &Pattern, form: &str) -> Result<(), AllocError> {
     if is_form(pattern, form) {
@@ -131,7 +130,6 @@ fn is_form(pattern: &Pattern, form: &str) -> bool {
     }
 }
 
-// Whether a form is a number.
 fn is_number(form: &str, val: i128) -> bool {
     match form.parse::<i128>() {
         Ok(number) => number == val,

@@ -135,7 +135,6 @@ fn place_in(defs: &[Def], def: &Def, repeat: Repeat<'_>) -> Option<Pos> {
     }
 }
 
-// A place, if what is asked of it holds.
 fn place_if(pos: Pos, holds: bool) -> Option<Pos> {
     if holds { Some(pos) } else { None }
 }
@@ -229,7 +228,6 @@ fn rules_of(defs: &[Def], term: &str) -> usize {
     defs.iter().filter(|def| is_rule_of(def, term)).count()
 }
 
-// Whether a definition is a rule of a term.
 fn is_rule_of(def: &Def, term: &str) -> bool {
     match def {
         Def::Rule(rule) => root_of(rule) == term,
@@ -254,7 +252,6 @@ fn add_inside(
     }
 }
 
-// Adds the places of a type's variants that have a name.
 fn add_variants(places: &mut Vec<Pos>, ty: &Type, name: &str, pos: Pos) -> Result<(), AllocError> {
     let TypeValue::Enum(variants, _) = &ty.ty else {
         return Ok(());

@@ -105,7 +105,6 @@ fn push_two(out: &mut String, first: &str, second: &str) -> Result<(), AllocErro
     out.push_str(second)
 }
 
-// Adds a text and a number.
 fn push_numbered(out: &mut String, first: &str, number: usize) -> Result<(), AllocError> {
     out.push_str(first)?;
     write!(out, "{number}")

@@ -48,7 +48,6 @@ pub fn sizes(alloc: Global, lowered: &Lowered) -> Result<Vec<TermSize>, AllocErr
     Ok(listed)
 }
 
-// How large a term is.
 fn size_of(term: &LoweredTerm) -> TermSize {
     TermSize {
         term: term.id,
@@ -58,7 +57,6 @@ fn size_of(term: &LoweredTerm) -> TermSize {
     }
 }
 
-// Adds the line of a term.
 fn push_row(out: &mut String, names: NameTables<'_>, size: &TermSize) -> Result<(), AllocError> {
     let name = names.term(size.term);
     let rules = size.rules;

@@ -94,7 +94,6 @@ pub fn push_returns(block: &Block, out: &mut Vec<Pos>) -> Result<(), AllocError>
     Ok(())
 }
 
-// The same of a step.
 #[cycle(returns)]
 fn push_returns_of_step(step: &EvalStep, out: &mut Vec<Pos>) -> Result<(), AllocError> {
     match &step.check {
@@ -107,7 +106,6 @@ fn push_returns_of_step(step: &EvalStep, out: &mut Vec<Pos>) -> Result<(), Alloc
     }
 }
 
-// The same of arms.
 #[cycle(returns)]
 fn push_returns_of_arms(arms: &[MatchArm], out: &mut Vec<Pos>) -> Result<(), AllocError> {
     for arm in arms {

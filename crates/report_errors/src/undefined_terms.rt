@@ -86,7 +86,6 @@ fn word_for(users: &[&Def]) -> &'static str {
     }
 }
 
-// Whether a definition is a rule.
 fn is_rule(def: &Def) -> bool {
     matches!(def, Def::Rule(_))
 }

@@ -84,7 +84,6 @@ impl<'s, 'a> Way<'s, 'a> {
         }
     }
 
-    // Adds a line.
     fn push_line(&self, line: &str, out: &mut String) -> Result<(), AllocError> {
         push_line(out, self.sites.indent, line)
     }
@@ -115,7 +114,6 @@ impl<'s, 'a> Way<'s, 'a> {
         Ok(line)
     }
 
-    // Adds that two values are equal.
     fn push_equal(
         &mut self,
         (left, right): (BindingId, BindingId),
@@ -177,7 +175,6 @@ impl<'s, 'a> Way<'s, 'a> {
         self.next_name()
     }
 
-    // Whether an argument has this name.
     fn is_argument(&self, name: &str) -> bool {
         self.sites
             .arguments
@@ -185,7 +182,6 @@ impl<'s, 'a> Way<'s, 'a> {
             .any(|other| other.as_str() == name)
     }
 
-    // The next name.
     fn next_name(&mut self) -> Result<String, AllocError> {
         let number = self.next;
         self.next = number.saturating_add(1);
@@ -199,7 +195,6 @@ impl<'s, 'a> Way<'s, 'a> {
         }
     }
 
-    // Whether a site has a name.
     fn is_named(&self, site: BindingId) -> bool {
         !text_at(&self.texts, site).is_empty()
     }

@@ -37,7 +37,6 @@ impl<'a> Search<'a> {
         Ok(())
     }
 
-    // The same of a step.
     #[cycle(ways)]
     fn push_ways_of_step(
         &self,
@@ -70,7 +69,6 @@ impl<'a> Search<'a> {
         }
     }
 
-    // The same of arms.
     #[cycle(ways)]
     fn push_ways_of_arms(
         &self,

@@ -158,7 +158,6 @@ fn push_empty(json: &mut Json, key: &str) -> Result<(), AllocError> {
     json.end(']')
 }
 
-// Adds terms with rules.
 fn push_terms(
     json: &mut Json,
     shown: &Shown<'_>,

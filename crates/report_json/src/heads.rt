@@ -28,7 +28,6 @@ pub(crate) fn push_all_heads(
     json.end(']')
 }
 
-// What a term is, in a word.
 fn word_of_kind(kind: &TermKind) -> &'static str {
     match kind {
         TermKind::EnumVariant { .. } => "variant",
@@ -78,7 +77,6 @@ fn flags_of(kind: &TermKind) -> TermFlags {
     }
 }
 
-// Adds flags.
 fn push_flags(json: &mut Json, flags: TermFlags) -> Result<(), AllocError> {
     json.begin_at("flags", '{')?;
     json.key_flag("pure", flags.pure)?;

@@ -75,7 +75,6 @@ impl<'a> LinePlaces<'a> {
     }
 }
 
-// Where each line of a text begins.
 fn line_begins(alloc: Global, text: &str) -> Result<Vec<usize>, AllocError> {
     let mut begins = Vec::new(alloc);
     begins.push(0usize)?;

@@ -19,7 +19,6 @@ pub(crate) fn push_reports(
     json.end(']')
 }
 
-// Adds a report.
 fn push_report(
     json: &mut Json,
     places: &LinePlaces<'_>,

@@ -77,7 +77,6 @@ fn types_of(
     }
 }
 
-// What a function gives.
 fn given_by(alloc: Global, sig: &Option<ExternalSig>) -> Result<SiteTypes, AllocError> {
     match sig {
         Some(sig) => Ok(SiteTypes {
@@ -158,7 +157,6 @@ fn first_type(before: &[SiteTypes], site: BindingId) -> Option<TypeId> {
     before.get(site.index())?.types.first().copied()
 }
 
-// The type of a field of a variant.
 fn field_of_variant(
     names: NameTables<'_>,
     ty: TypeId,
@@ -173,7 +171,6 @@ fn field_of_variant(
     }
 }
 
-// The type of a field of a struct.
 fn field_of_struct(names: NameTables<'_>, ty: TypeId, field: usize) -> Option<TypeId> {
     match names.tyenv.types.get(ty.index()) {
         Some(Type::Struct { fields, .. }) => field_type(fields, field),
@@ -181,7 +178,6 @@ fn field_of_struct(names: NameTables<'_>, ty: TypeId, field: usize) -> Option<Ty
     }
 }
 
-// The type of a field by its place.
 fn field_type(fields: &Fields, place: usize) -> Option<TypeId> {
     match fields {
         Fields::Unit => None,

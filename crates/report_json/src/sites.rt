@@ -29,7 +29,6 @@ pub(crate) fn push_sites(
     json.end(']')
 }
 
-// Adds the types of a site.
 fn push_types(json: &mut Json, names: NameTables<'_>, types: &SiteTypes) -> Result<(), AllocError> {
     push_type_names(json, names, "types", &types.types)?;
     json.key_string("answer", word_of_answer(types.answer))
@@ -50,7 +49,6 @@ fn push_site(
     json.end('}')
 }
 
-// Whether the site of this number is marked.
 fn is_marked(marked: &[bool], id: usize) -> bool {
     match marked.get(id) {
         Some(entry) => *entry,
@@ -107,7 +105,6 @@ pub(crate) fn push_named(json: &mut Json, kind: &str, name: &str) -> Result<(), 
     json.key_string("name", name)
 }
 
-// Adds a kind and a number.
 fn push_numbered(json: &mut Json, kind: &str, key: &str, number: usize) -> Result<(), AllocError> {
     json.key_string("kind", kind)?;
     json.key_number(key, number)

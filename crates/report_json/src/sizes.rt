@@ -23,7 +23,6 @@ pub(crate) fn push_sizes(
     json.end(']')
 }
 
-// Adds the size of a term.
 fn push_size(json: &mut Json, names: NameTables<'_>, size: &TermSize) -> Result<(), AllocError> {
     json.begin('{')?;
     json.key_string("name", names.term(size.term))?;

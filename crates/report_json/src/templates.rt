@@ -27,7 +27,6 @@ pub(crate) fn push_template(json: &mut Json, pattern: &Pattern) -> Result<(), Al
     json.end('}')
 }
 
-// Adds templates at a key.
 #[cycle(templates)]
 fn push_templates(json: &mut Json, key: &str, patterns: &[Pattern]) -> Result<(), AllocError> {
     json.begin_at(key, '[')?;
@@ -59,7 +58,6 @@ fn push_leaf(json: &mut Json, pattern: &Pattern) -> Result<(), AllocError> {
     }
 }
 
-// Adds a kind and a name.
 fn push_called(json: &mut Json, kind: &str, name: &str) -> Result<(), AllocError> {
     json.key_string("kind", kind)?;
     json.key_string("name", name)

@@ -49,7 +49,6 @@ pub(crate) fn push_term(
     json.end('}')
 }
 
-// Adds the sites of a term with arguments of these types.
 fn push_all_sites(
     json: &mut Json,
     shown: &Shown<'_>,
@@ -98,7 +97,6 @@ fn marked_sites(alloc: Global, term: &LoweredTerm) -> Result<Vec<bool>, AllocErr
     Ok(marked)
 }
 
-// Marks these sites.
 fn mark(marked: &mut Vec<bool>, sites: &[BindingId]) {
     for site in sites {
         if let Some(entry) = marked.get_mut(site.index()) {

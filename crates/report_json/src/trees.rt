@@ -34,7 +34,6 @@ impl<'a> Sources<'a> {
         json.end(']')
     }
 
-    // Adds a step.
     #[cycle(json)]
     fn push_step(&self, json: &mut Json, step: &EvalStep) -> Result<(), AllocError> {
         json.begin('{')?;
@@ -63,7 +62,6 @@ impl<'a> Sources<'a> {
         }
     }
 
-    // Adds the arms of a match.
     #[cycle(json)]
     fn push_arms(&self, json: &mut Json, arms: &[MatchArm]) -> Result<(), AllocError> {
         json.begin_at("arms", '[')?;

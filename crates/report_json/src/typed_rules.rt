@@ -163,7 +163,6 @@ fn push_variable(
     json.key_string("type", names.ty(variable.ty))
 }
 
-// Adds the further conditions of a rule.
 fn push_iflets(json: &mut Json, names: NameTables<'_>, iflets: &[IfLet]) -> Result<(), AllocError> {
     json.begin_at("iflets", '[')?;
     for iflet in iflets {

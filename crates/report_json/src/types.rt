@@ -23,13 +23,11 @@ pub(crate) fn push_types(
     json.end(']')
 }
 
-// The type of a name.
 fn type_of_name<'a>(names: NameTables<'a>, name: &Ident) -> Option<&'a Type> {
     let id = names.tyenv.get_type_by_name(name)?;
     names.tyenv.types.get(id.index())
 }
 
-// Adds a type.
 fn push_type(
     json: &mut Json,
     names: NameTables<'_>,
@@ -54,7 +52,6 @@ fn push_type(
     json.end('}')
 }
 
-// What a type is, in a word.
 fn word_of_kind(ty: &Type) -> &'static str {
     match ty {
         Type::Builtin(_) => "builtin",
@@ -64,7 +61,6 @@ fn word_of_kind(ty: &Type) -> &'static str {
     }
 }
 
-// Adds the variants of an enum.
 fn push_variants(
     json: &mut Json,
     names: NameTables<'_>,
@@ -105,7 +101,6 @@ fn push_fields(json: &mut Json, names: NameTables<'_>, fields: &Fields) -> Resul
     json.end(']')
 }
 
-// Adds the type of a field, and ends it.
 fn end_field(json: &mut Json, ty: &str) -> Result<(), AllocError> {
     json.key_string("type", ty)?;
     json.end('}')
@@ -131,7 +126,6 @@ pub(crate) fn push_constants(
     json.end(']')
 }
 
-// What the type of a name is called.
 fn type_name<'a>(names: NameTables<'a>, name: &Ident) -> &'a str {
     match type_of_name(names, name) {
         Some(ty) => names.ty(ty.id()),

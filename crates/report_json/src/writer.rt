@@ -126,7 +126,6 @@ impl Json {
         Ok(())
     }
 
-    // A character of a string.
     fn character(&mut self, c: char) -> Result<(), AllocError> {
         match c {
             '"' => self.out.push_str("\\\""),
@@ -137,7 +136,6 @@ impl Json {
         }
     }
 
-    // A control character by its number.
     fn control(&mut self, number: u32) -> Result<(), AllocError> {
         write!(self.out, "\\u{number:04x}")
     }

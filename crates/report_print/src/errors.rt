@@ -44,7 +44,6 @@ fn push_error(out: &mut String, error: &Error, places: Places<'_>) -> Result<(),
     }
 }
 
-// Places, and what is wrong there.
 fn push_placed(
     out: &mut String,
     spans: &[Span],
@@ -55,7 +54,6 @@ fn push_placed(
     write!(out, ": {text}")
 }
 
-// Rules that another one shadows.
 fn push_shadowed(
     out: &mut String,
     shadowed: &[Span],

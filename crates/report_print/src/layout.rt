@@ -49,12 +49,10 @@ pub fn push_place(out: &mut String, files: &Files, pos: Pos) -> Result<(), Alloc
     write!(out, "{name}:{number}:{column}")
 }
 
-// The line that a place lies in.
 fn line_of(files: &Files, pos: Pos) -> Line<'_> {
     line_at(file_text(files, pos.file), pos.offset)
 }
 
-// Adds a report in one line.
 fn push_line(out: &mut String, files: &Files, report: &Report) -> Result<(), AllocError>
     ensures { OnOk result (string_bytes out.new ≢ []) }
 {
@@ -78,7 +76,6 @@ fn push_line(out: &mut String, files: &Files, report: &Report) -> Result<(), All
     out.push('\n')
 }
 
-// Adds a further place to a line.
 fn push_further(out: &mut String, files: &Files, label: &Label) -> Result<(), AllocError> {
     out.push_str("; ")?;
     out.push_str(&label.text)?;

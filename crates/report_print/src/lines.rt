@@ -214,7 +214,6 @@ struct Form {
 }
 
 impl Form {
-    // The form after one more character.
     fn after(self, c: char) -> Form {
         if self.ended || self.ends_before(c) {
             return Form {

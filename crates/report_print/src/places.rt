@@ -106,7 +106,6 @@ impl<'a> Marked<'a> {
         Ok(Marked { text, marks })
     }
 
-    // The line and the column of an offset.
     fn line_and_column(&self, offset: usize) -> (usize, usize) {
         let before = self.marks.partition_point(|mark| mark.offset <= offset);
         let from = match self.marks.get(before.saturating_sub(1)) {

@@ -27,7 +27,6 @@ impl<'a> TreeNames<'a> {
         }
     }
 
-    // The name of a type.
     fn ty(&self, ty: TypeId) -> &'a str {
         match self.types.get(ty.index()) {
             Some(Type::Builtin(builtin)) => builtin.name(),
@@ -49,7 +48,6 @@ impl<'a> TreeNames<'a> {
         }
     }
 
-    // The name of a term.
     fn term(&self, term: TermId) -> &'a str {
         match self.terms.get(term.index()) {
             Some(term) => self.sym(term.name),
@@ -141,7 +139,6 @@ fn print_check(
     }
 }
 
-// An arm and its body.
 #[cycle(print)]
 fn print_arm(
     out: &mut String,
@@ -168,7 +165,6 @@ fn print_arm_line(
     out.push_str(":\n")
 }
 
-// The site of a field, where it has one.
 fn print_field(out: &mut String, field: Option<BindingId>) -> Result<(), AllocError> {
     match field {
         Some(site) => print_site(out, site),
@@ -184,7 +180,6 @@ fn print_bind_order(out: &mut String, depth: usize, sites: &[BindingId]) -> Resu
     print_line(out, depth, "bind", sites)
 }
 
-// A line of a word and sites.
 fn print_line(
     out: &mut String,
     depth: usize,
@@ -219,7 +214,6 @@ fn print_site(out: &mut String, site: BindingId) -> Result<(), AllocError> {
     write!(out, " b{number}")
 }
 
-// What a site stands for.
 fn print_binding(
     out: &mut String,
     names: TreeNames<'_>,
@@ -285,12 +279,10 @@ fn print_constraint(
     }
 }
 
-// A truth value.
 fn print_bool(out: &mut String, val: bool) -> Result<(), AllocError> {
     out.push_str(if val { "bool true" } else { "bool false" })
 }
 
-// An integer and its type.
 fn print_int(
     out: &mut String,
     names: TreeNames<'_>,
@@ -307,7 +299,6 @@ fn print_word(out: &mut String, first: &str, second: &str) -> Result<(), AllocEr
     out.push_str(second)
 }
 
-// A text and a number.
 fn print_number(out: &mut String, first: &str, number: usize) -> Result<(), AllocError> {
     out.push_str(first)?;
     write!(out, "{number}")
@@ -327,7 +318,6 @@ fn print_call(
     print_sites(out, parameters)
 }
 
-// A variant that is made, and the sites of its fields.
 fn print_made_variant(
     out: &mut String,
     names: TreeNames<'_>,
@@ -340,7 +330,6 @@ fn print_made_variant(
     print_sites(out, fields)
 }
 
-// A word and a site.
 fn print_of(out: &mut String, word: &str, site: BindingId) -> Result<(), AllocError> {
     out.push_str(word)?;
     print_site(out, site)

@@ -36,7 +36,6 @@ pub fn answer_to_text(
     }
 }
 
-// What is answered to the definitions of a text.
 fn answer_to_defs(
     alloc: Global,
     text: &str,

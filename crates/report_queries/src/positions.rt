@@ -32,7 +32,6 @@ pub fn positions(alloc: Global, error: &Error) -> Result<Vec<Pos>, AllocError>
     }
 }
 
-// Where spans begin.
 fn starts(alloc: Global, spans: &[Span]) -> Result<Vec<Pos>, AllocError>
     ensures { IfOk result (λ v. map position v.items ≡ span_starts spans.now) }
 {

@@ -59,7 +59,6 @@ pub fn sample_text(name: &str) -> Option<&'static str>
     text_among(&SAMPLES, name)
 }
 
-// The text of the sample with this name among some.
 fn text_among(samples: &[(&'static str, &'static str)], name: &str) -> Option<&'static str>
     ensures { is_some result ≡ list_any (λ s. bytes_eq s.0.now name.now) samples.now }
 {

@@ -107,7 +107,6 @@ pub fn step_text(
     Ok(lines)
 }
 
-// A block of one step.
 fn block_with(alloc: Global, binds: &[BindingId], check: ControlFlow) -> Result<Block, AllocError> {
     let mut bind_order = Vec::new(alloc);
     bind_order.extend_from_slice(binds)?;

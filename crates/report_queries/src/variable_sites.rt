@@ -42,14 +42,12 @@ impl Drop for Found {
 }
 
 impl Found {
-    // A variable's value has this site.
     fn note(&mut self, variable: VarId, site: Option<BindingId>) {
         if let Some(entry) = self.sites.get_mut(variable.index()) {
             *entry = site;
         }
     }
 
-    // The site of a variable.
     fn site_of(&self, variable: VarId) -> Option<BindingId> {
         match self.sites.get(variable.index()) {
             Some(site) => *site,
@@ -103,12 +101,10 @@ impl<'a> KnownSites<'a> {
         found.sites.clone()
     }
 
-    // The site that stands for a binding.
     fn find(&self, binding: &Binding) -> Option<BindingId> {
         self.numbers.get(binding).copied()
     }
 
-    // Notes the variables in the patterns of arguments.
     fn note_arguments(&self, arguments: &[Pattern], found: &mut Found) {
         for (place, argument) in arguments.iter().enumerate() {
             if let Ok(index) = TupleIndex::try_from(place) {
@@ -118,7 +114,6 @@ impl<'a> KnownSites<'a> {
         }
     }
 
-    // Notes the variables in a pattern of this site.
     #[cycle(patterns)]
     fn note_pattern(&self, pattern: &Pattern, site: &Option<BindingId>, found: &mut Found) {
         match pattern {
@@ -140,7 +135,6 @@ impl<'a> KnownSites<'a> {
         }
     }
 
-    // Notes the variables in the parts of a term's pattern of this site.
     #[cycle(patterns)]
     fn note_parts(
         &self,
@@ -238,7 +232,6 @@ impl<'a> KnownSites<'a> {
         Ok(Some(values))
     }
 
-    // Notes the variables of a let.
     #[cycle(exprs)]
     fn note_bindings(
         &self,
@@ -275,7 +268,6 @@ impl<'a> KnownSites<'a> {
     }
 }
 
-// A variant that is made of these fields.
 fn variant_of(ty: TypeId, variant: VariantId, fields: Vec<BindingId>) -> Binding {
     Binding::MakeVariant {
         ty,

@@ -139,7 +139,6 @@ fn push_visit<'a>(
     Ok(())
 }
 
-// The same path.
 fn path_of(alloc: Global, path: &[Turn]) -> Result<Vec<Turn>, AllocError>
     ensures { IfOk result (λ v. v.items ≡ path.now) }
 {

@@ -101,7 +101,6 @@ pub fn read_answers(
     }
 }
 
-// Adds what is wrong at a place.
 fn push_wrong(out: &mut String, files: &Files, pos: Pos, why: &str) -> Result<(), AllocError> {
     if !out.is_empty() {
         out.push('\n')?;
@@ -132,7 +131,6 @@ impl<T: Drop> From<AllocFailed<T>> for Wrong {
     }
 }
 
-// That something is wrong at a place of what is read.
 fn wrong_at(pos: Pos, why: Result<String, AllocError>) -> Wrong {
     match why {
         Ok(why) => Wrong::At(pos.offset.saturating_sub(BEFORE.len()), why),
@@ -200,7 +198,6 @@ impl<'a> Place<'a> {
         Ok(())
     }
 
-    // That a line isn't an answer.
     fn no_answer(self, offset: usize) -> Wrong {
         let pos = Pos { file: 0, offset };
         wrong_at(
@@ -209,7 +206,6 @@ impl<'a> Place<'a> {
         )
     }
 
-    // The line with these parts.
     fn line_of(self, parts: &Parts<'_>) -> Result<AnswerLine, Wrong> {
         let term = self.term_of(parts.name)?;
         let side = self.side_of(term, parts)?;
@@ -223,7 +219,6 @@ impl<'a> Place<'a> {
         })
     }
 
-    // The term of a name.
     fn term_of(self, name: &Ident) -> Result<&'a Term, Wrong> {
         match term_of(self.lowered, name) {
             Some(term) => Ok(term),
@@ -271,7 +266,6 @@ impl<'a> Place<'a> {
         Ok(args)
     }
 
-    // An argument of a type.
     fn given_of(self, arg: &Expr, ty: TypeId) -> Result<Given, Wrong> {
         if is_word(arg, "_") {
             return Ok(Given::Any);
@@ -333,7 +327,6 @@ impl<'a> Place<'a> {
         ))
     }
 
-    // The value of a type that an expression writes.
     fn value_of(self, expr: &Expr, ty: TypeId) -> Result<Value, Wrong> {
         match value_of(self.alloc, self.lowered, expr, ty) {
             Ok(value) => Ok(value),
@@ -410,7 +403,6 @@ fn has_equals(words: &[Expr]) -> bool {
     }
 }
 
-// Adds references to expressions.
 fn push_all<'a>(out: &mut Vec<&'a Expr>, exprs: &'a [Expr]) -> Result<(), AllocError> {
     for expr in exprs {
         out.push(expr)?;
@@ -437,7 +429,6 @@ fn push_sides<'a>(
     Ok(behind)
 }
 
-// Whether an expression is a word.
 fn is_word(expr: &Expr, word: &str) -> bool {
     match expr {
         Expr::Var { name, pos: _ } => name.0.as_str() == word,

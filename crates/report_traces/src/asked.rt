@@ -111,7 +111,6 @@ pub fn count_of(term: &Term, side: Side) -> Count {
     }
 }
 
-// The count of a term with these flags.
 fn count_by(flags: TermFlags, optional: bool) -> Count {
     if flags.multi {
         Count::Many

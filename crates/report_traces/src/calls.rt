@@ -112,7 +112,6 @@ fn choice_of(
     )
 }
 
-// That a call can't be read.
 fn unread(alloc: Global, call: &str, error: &TextError) -> Unanswered {
     let place = error.pos.offset.saturating_sub(BEFORE.len());
     let column = place.min(call.len()).saturating_add(1);
@@ -133,7 +132,6 @@ fn call_in(defs: &[Def]) -> Option<(&Ident, &[Expr])> {
     }
 }
 
-// What a term of this name is called on.
 fn call_of<'a>(
     alloc: Global,
     lowered: &'a Lowered,

@@ -72,7 +72,6 @@ impl<'a> Drop for Judged<'a> {
     }
 }
 
-// The value of a number.
 fn value_in(values: &[(usize, Value)], number: usize) -> Option<&Value> {
     for (other, value) in values {
         if *other == number {
@@ -95,7 +94,6 @@ impl<'a> Judged<'a> {
         Ok(())
     }
 
-    // Whether a demand is met.
     fn meet(&mut self, what: &DemandKind<'_>) -> Result<Step, AllocError> {
         match what {
             DemandKind::Form(number, form, parts) => self.meet_form(*number, *form, parts),

@@ -50,7 +50,6 @@ pub fn named_value(tyenv: &TypeEnv, name: Sym) -> Value
     }
 }
 
-// The same content twice.
 fn twice(alloc: Global, content: Content) -> Result<Content, AllocError>
     ensures { IfOk result (λ c. content_view c ≡ many (content_and (content_view content) (content_and (content_view content) no_content))) }
 {
@@ -78,7 +77,6 @@ fn in_form(
     }
 }
 
-// A value for each of some types.
 fn for_each_type(alloc: Global, types: &[TypeId], value: &Value) -> Result<Vec<Value>, AllocError>
     ensures { IfOk result (λ v. value_views v.items ≡ for_each_type (map (λ ty. ty.0) types.now) (value_view value.now)) }
 {
@@ -99,7 +97,6 @@ fn outputs_of(alloc: Global, types: &[TypeId], value: &Value) -> Result<Content,
     }
 }
 
-// Whether an extractor, of a term of these flags, always answers.
 fn always_answers(flags: TermFlags, extractor: &Option<ExtractorKind>) -> bool
     ensures { result ≡ always_answers (flags_view flags) (option_map extractor_view extractor.now) }
 {
@@ -109,7 +106,6 @@ fn always_answers(flags: TermFlags, extractor: &Option<ExtractorKind>) -> bool
     }
 }
 
-// What an extractor gives that is called on a value.
 fn extracted(alloc: Global, term: &Term, value: &Value) -> Result<Content, AllocError>
     ensures { IfOk result (λ c. content_view c ≡ extracted_by (kind_of (term_view term.now)) (term_view term.now).arg_tys (value_view value.now)) }
 {
@@ -131,7 +127,6 @@ fn extracted(alloc: Global, term: &Term, value: &Value) -> Result<Content, Alloc
     }
 }
 
-// A value that a constructor gives.
 fn given(alloc: Global, term: &Term, value: Value) -> Result<Content, AllocError>
     ensures { IfOk result (λ c. content_view c ≡ given_by (kind_of (term_view term.now)) (value_view value)) }
 {

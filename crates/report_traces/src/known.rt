@@ -60,7 +60,6 @@ pub fn known_in<'a>(all: &'a [Known], term: TermId, key: &Value) -> Option<&'a C
     None
 }
 
-// A content, or nothing where there is none.
 fn or_nothing(content: Option<&Content>) -> Result<Content, AllocError>
     ensures { IfOk result (λ c. content_view c ≡ or_nothing (option_map (λ r. content_view r.now) content.entry)) }
 {

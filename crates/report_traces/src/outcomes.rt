@@ -29,7 +29,6 @@ pub fn outcome_text(
     Ok(out)
 }
 
-// The word for how a run ends.
 fn ending_word(ending: Ending, multi: bool) -> &'static str {
     match ending {
         Ending::Ended => "some",

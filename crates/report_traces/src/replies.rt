@@ -33,7 +33,6 @@ impl Replies {
     }
 }
 
-// What an echo answers.
 fn echoed(
     alloc: Global,
     lowered: &Lowered,
@@ -148,7 +147,6 @@ fn together(alloc: Global, values: &[Value]) -> Result<Content, AllocError> {
     }
 }
 
-// Whether a line is about a call.
 fn fits(line: &AnswerLine, asked: &AskedCall) -> bool {
     line.term == asked.term
         && line.side == asked.side
@@ -156,7 +154,6 @@ fn fits(line: &AnswerLine, asked: &AskedCall) -> bool {
         && all_fit(&line.args, &asked.args)
 }
 
-// Whether arguments are as they are given.
 fn all_fit(given: &[Given], args: &[Value]) -> bool {
     for (given, arg) in given.iter().zip(args) {
         if !is_given(given, arg) {
@@ -166,7 +163,6 @@ fn all_fit(given: &[Given], args: &[Value]) -> bool {
     true
 }
 
-// Whether an argument is as it is given.
 fn is_given(given: &Given, arg: &Value) -> bool {
     match given {
         Given::Any => true,

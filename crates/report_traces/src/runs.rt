@@ -237,12 +237,10 @@ impl<'a> Runs<'a> {
         Ok(walked)
     }
 
-    // Whether a term is multi.
     fn is_multi(&self, term: TermId) -> bool {
         is_multi(&self.lowered.termenv, term)
     }
 
-    // The answers that are known in a run.
     fn answered_in<'b>(&'b self, frame: &'b Frame<'a>) -> Answered<'b> {
         Answered {
             tyenv: &self.lowered.tyenv,
@@ -270,7 +268,6 @@ impl<'a> Runs<'a> {
         }
     }
 
-    // An impure call, as it is listed.
     fn listed(&self, asked: &AskedCall) -> Result<Vec<Call>, AllocError> {
         let mut calls = Vec::new(self.alloc);
         if asked.impure {
@@ -283,7 +280,6 @@ impl<'a> Runs<'a> {
         Ok(calls)
     }
 
-    // Begins the run of a call.
     fn begin(&mut self, asked: AskedCall) -> Result<(), TraceFault> {
         let alloc = self.alloc;
         if asked.side == Side::Constructor {
@@ -375,7 +371,6 @@ impl<'a> Runs<'a> {
         )))
     }
 
-    // Tells what happened in a run.
     fn tell(&mut self, frame: &Frame<'a>, walked: &Walked) -> Result<(), AllocError> {
         let alloc = self.alloc;
         let title = asked_text(alloc, self.lowered, &frame.asked)?;
@@ -389,7 +384,6 @@ impl<'a> Runs<'a> {
         )
     }
 
-    // Tells what a run came to.
     fn tell_outcome(&mut self, ended: &Ended) -> Result<(), AllocError> {
         let multi = self.is_multi(ended.asked.term);
         let text = outcome_text(self.alloc, self.lowered, multi, &ended.outcome)?;

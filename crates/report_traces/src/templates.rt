@@ -310,7 +310,6 @@ impl<'a> Taking<'a> {
         }
     }
 
-    // A pattern waits.
     fn wait(
         &mut self,
         pattern: &'a Pattern,
@@ -388,7 +387,6 @@ impl<'a> Taking<'a> {
         }
     }
 
-    // That a value hasn't a form.
     fn refused(&self, form: ValueForm<'_>, value: &Value) -> Result<Step, AllocError> {
         let mut why = String::from_str(self.sight.alloc, "its template asks for ")?;
         push_form(&mut why, form)?;

@@ -105,12 +105,10 @@ impl<'a, 's> Retold<'a, 's> {
         }
     }
 
-    // Whether all is told.
     fn is_ended(&self) -> bool {
         self.next >= self.events.len()
     }
 
-    // Adds what happened in a block.
     #[cycle(retold)]
     fn push_block(&mut self, block: &Block, out: &mut String) -> Result<(), AllocError> {
         for step in &block.steps {
@@ -255,7 +253,6 @@ fn show(alloc: Global, place: &mut String, text: String) -> Result<(), AllocErro
     Ok(())
 }
 
-// Adds a test, and whether it holds.
 fn push_held(
     alloc: Global,
     way: &mut Way<'_, '_>,
@@ -304,7 +301,6 @@ fn push_failure(
     push_line(out, 2, &line)
 }
 
-// Adds that a rule gives the result.
 fn push_return(
     alloc: Global,
     files: &Files,

@@ -136,7 +136,6 @@ pub fn integer(
     }
 }
 
-// A truth value as a value of a type.
 fn truth(alloc: Global, lowered: &Lowered, val: bool, ty: TypeId) -> Result<Value, Unanswered> {
     if ty == TypeId::BOOL {
         Ok(Value::Truth(val))
@@ -146,7 +145,6 @@ fn truth(alloc: Global, lowered: &Lowered, val: bool, ty: TypeId) -> Result<Valu
     }
 }
 
-// A named constant as a value of a type.
 fn constant(
     alloc: Global,
     lowered: &Lowered,

@@ -272,7 +272,6 @@ impl<'a, 'b> Walk<'a, 'b> {
         }
     }
 
-    // A result is given.
     fn give(&mut self, site: BindingId, pos: Pos) -> Result<Ending, AllocError> {
         let Some(content) = used(&self.stage, &self.env, site)? else {
             return Ok(Ending::Stuck);
@@ -286,13 +285,11 @@ impl<'a, 'b> Walk<'a, 'b> {
         }
     }
 
-    // Adds a result.
     fn add_result(&mut self, content: Content) -> Result<(), AllocError> {
         self.trace.results.push(content)?;
         Ok(())
     }
 
-    // Notes what happens.
     fn note(&mut self, event: Event) -> Result<(), AllocError> {
         self.events.push(event)?;
         Ok(())
@@ -328,7 +325,6 @@ impl<'a, 'b> Walk<'a, 'b> {
         bind_all(&self.stage, &mut self.env, &mut self.trace.calls, &[site])
     }
 
-    // Notes what a call answered.
     fn note_answer(&mut self, site: BindingId) -> Result<(), AllocError> {
         if !is_call(self.stage.sites.get(site.index())) {
             return Ok(());
@@ -387,7 +383,6 @@ impl<'a, 'b> Walk<'a, 'b> {
     }
 }
 
-// Whether a site is a call.
 fn is_call(binding: Option<&Binding>) -> bool {
     match binding {
         Some(Binding::Extractor { .. } | Binding::Constructor { .. }) => true,

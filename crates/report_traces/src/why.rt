@@ -101,7 +101,6 @@ fn push_answer<'a>(
     }
 }
 
-// Whether a place is among these.
 fn has_place(places: &[Pos], pos: Pos) -> bool {
     places.iter().any(|other| *other == pos)
 }
@@ -189,7 +188,6 @@ fn is_higher(rule: &Rule, other: Option<&Rule>) -> bool {
     }
 }
 
-// Whether a rule matches.
 fn matches<'a>(
     asking: Asking<'a>,
     runs: &mut Runs<'a>,
@@ -276,7 +274,6 @@ fn check(
     Err(fault_saying(String::from_str(alloc, "error[internal]: the demands and the rule differ")))
 }
 
-// The typed rule at a place.
 fn typed_rule(rules: &[sema::Rule], pos: Pos) -> Option<&sema::Rule> {
     for rule in rules {
         if rule.pos == pos {

@@ -17,7 +17,6 @@ pub(crate) fn calls_of(alloc: Global, termenv: &TermEnv) -> Result<Vec<Vec<usize
     Ok(calls)
 }
 
-// Adds what a rule calls.
 fn add_rule(termenv: &TermEnv, rule: &Rule, called: &mut Vec<usize>) -> Result<(), AllocError> {
     for iflet in &rule.iflets {
         add_expr(termenv, &iflet.rhs, called)?;
@@ -25,7 +24,6 @@ fn add_rule(termenv: &TermEnv, rule: &Rule, called: &mut Vec<usize>) -> Result<(
     add_expr(termenv, &rule.rhs, called)
 }
 
-// Adds what an expression calls.
 #[cycle(exprs)]
 fn add_expr(termenv: &TermEnv, expr: &Expr, called: &mut Vec<usize>) -> Result<(), AllocError> {
     match expr {
@@ -100,7 +98,6 @@ fn calls_none(calls: &[Vec<usize>], term: usize) -> bool {
     }
 }
 
-// Whether a term is among those that are called.
 fn is_among(called: Option<&Vec<usize>>, term: usize) -> bool {
     match called {
         Some(called) => called.contains(&term),
@@ -129,7 +126,6 @@ fn reach(
     Ok(())
 }
 
-// The caller that was noted of a term.
 fn caller_of(callers: &[Option<usize>], term: usize) -> Option<usize> {
     match callers.get(term) {
         Some(caller) => *caller,

@@ -90,7 +90,6 @@ fn tree_text(alloc: Global, lowered: &Lowered, term: &LoweredTerm) -> Result<Str
     Ok(text)
 }
 
-// The lines on the rules of a term.
 fn changes_of_rules(
     alloc: Global,
     old: Version<'_>,
@@ -114,7 +113,6 @@ fn changes_of_rules(
     Ok(out)
 }
 
-// The rules of a term in some definitions.
 fn rules_of<'a>(alloc: Global, defs: &'a [Def], term: &str) -> Result<Vec<Told<'a>>, AllocError> {
     let mut rules = Vec::new(alloc);
     for def in defs {
@@ -171,7 +169,6 @@ impl<'a> Rules<'a> {
         Ok(())
     }
 
-    // Adds how a rule changed.
     fn push_change(
         self,
         before: &Told<'_>,

@@ -25,7 +25,6 @@ pub(crate) fn add_named(
     }
 }
 
-// Those of a rule.
 fn add_in_rule(
     alloc: Global,
     reports: &mut Vec<Report>,
@@ -39,7 +38,6 @@ fn add_in_rule(
     Ok(())
 }
 
-// Those of a pattern.
 #[cycle(patterns)]
 fn add_in_pattern(
     alloc: Global,
@@ -189,7 +187,6 @@ fn add_at(
     Ok(())
 }
 
-// What each rule asks of a site.
 fn asked_of(alloc: Global, term: &LoweredTerm, site: BindingId) -> Result<Vec<Asked>, AllocError> {
     let mut all = Vec::new(alloc);
     for rule in &term.rules.rules {
@@ -261,7 +258,6 @@ fn beside(
     Ok(report)
 }
 
-// A constant as a quotation.
 fn quoted(alloc: Global, lowered: &Lowered, constraint: Constraint) -> Result<String, AllocError> {
     let names = NameTables {
         tyenv: &lowered.tyenv,
@@ -273,7 +269,6 @@ fn quoted(alloc: Global, lowered: &Lowered, constraint: Constraint) -> Result<St
     Ok(text)
 }
 
-// Adds the place of a rule that asks for a constant.
 fn add_asking(
     alloc: Global,
     report: &mut Report,

@@ -28,7 +28,6 @@ fn check_ends(alloc: Global, tyenv: &TypeEnv, check: &ControlFlow) -> Result<boo
     }
 }
 
-// The same of the arms of a match.
 #[cycle(ends)]
 fn arms_end(alloc: Global, tyenv: &TypeEnv, arms: &[MatchArm]) -> Result<bool, AllocError> {
     if !are_total(alloc, tyenv, arms)? {
@@ -167,7 +166,6 @@ fn only_variant<'a>(
     only
 }
 
-// Whether one of these asks for a variant.
 fn asks_variant(constraints: &[Constraint], id: VariantId) -> bool {
     constraints.iter().any(|asked| is_variant(*asked, id))
 }
@@ -179,7 +177,6 @@ fn is_variant(constraint: Constraint, id: VariantId) -> bool {
     }
 }
 
-// The constraint that a variant's values meet.
 fn constraint_of(ty: TypeId, variant: &Variant) -> Option<Constraint> {
     let count = match &variant.fields {
         Fields::Unit => 0,
@@ -205,7 +202,6 @@ fn free_bool(constraints: &[Constraint]) -> Option<bool> {
     None
 }
 
-// Whether one of these asks for a truth value.
 fn asks_bool(constraints: &[Constraint], val: bool) -> bool {
     constraints.iter().any(|asked| is_bool(*asked, val))
 }

@@ -93,7 +93,6 @@ pub(crate) fn begun(alloc: Global, kind: Warning, message: String) -> Report {
     }
 }
 
-// Adds a place, and what is said of it.
 pub(crate) fn add_place(
     alloc: Global,
     report: &mut Report,

@@ -37,7 +37,6 @@ pub fn warnings(
     without(alloc, reports, allowed)
 }
 
-// Reports without those of some kinds.
 fn without(
     alloc: Global,
     reports: Vec<Report>,

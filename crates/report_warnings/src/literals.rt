@@ -64,7 +64,6 @@ fn int_of(lowered: &Lowered, ty: Option<TypeId>) -> Option<IntType> {
     int_type(&lowered.tyenv, ty?)
 }
 
-// Those of a rule.
 fn add_in_rule(
     alloc: Global,
     reports: &mut Vec<Report>,
@@ -91,7 +90,6 @@ fn add_in_iflet(
     add_in_expr(alloc, reports, lowered, &iflet.expr, ty)
 }
 
-// Those of a pattern at a type.
 #[cycle(patterns)]
 fn add_in_pattern(
     alloc: Global,
@@ -123,7 +121,6 @@ fn add_in_pattern(
     }
 }
 
-// Those of an expression at a type.
 #[cycle(exprs)]
 fn add_in_expr(
     alloc: Global,

@@ -186,7 +186,6 @@ impl<'a> Search<'a> {
         }
     }
 
-    // Passes a match.
     fn pass_match(
         &mut self,
         source: BindingId,
@@ -312,7 +311,6 @@ impl<'a> Search<'a> {
         Ok(only_left(self.tyenv, &denied))
     }
 
-    // The constraint that a value meets as it is made.
     fn made(&self, site: BindingId) -> Option<Constraint> {
         match self.bindings.get(site.index())? {
             Binding::ConstBool { val, ty } => Some(Constraint::ConstBool { val: *val, ty: *ty }),

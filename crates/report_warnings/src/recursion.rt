@@ -61,7 +61,6 @@ fn recursive(
     Ok(report)
 }
 
-// Adds the name of a term.
 fn push_name(out: &mut String, lowered: &Lowered, number: usize) -> Result<(), AllocError> {
     if let Some(term) = lowered.termenv.terms.get(number) {
         let name = lowered.tyenv.text_of(term.name);

@@ -119,7 +119,6 @@ fn has_same_types(own: &Lowered, left: TermId, other: &Lowered, right: TermId) -
     true
 }
 
-// The name of a type.
 fn name_of_type(lowered: &Lowered, ty: TypeId) -> &str {
     match type_name(&lowered.tyenv, ty) {
         Some(name) => name,
@@ -127,7 +126,6 @@ fn name_of_type(lowered: &Lowered, ty: TypeId) -> &str {
     }
 }
 
-// The types of a term's arguments.
 fn argument_types(lowered: &Lowered, term: TermId) -> &[TypeId] {
     match lowered.termenv.terms.get(term.index()) {
         Some(term) => &term.arg_tys,
@@ -151,7 +149,6 @@ fn knows(alloc: Global, lowered: &Lowered, rule: &Rule) -> Result<bool, AllocErr
     Ok(true)
 }
 
-// Whether a version has a term of this name.
 fn has_term(lowered: &Lowered, name: &str) -> bool {
     lowered
         .termenv

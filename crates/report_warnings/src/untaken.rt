@@ -86,7 +86,6 @@ fn has_fields(constraint: &Constraint) -> bool {
 }
 
 impl<'a> Writing<'a> {
-    // Adds the call.
     fn push_call(&mut self, term: &Term, out: &mut String) -> Result<(), AllocError> {
         out.push_str("`(")?;
         out.push_str(self.names.sym(term.name))?;
@@ -98,7 +97,6 @@ impl<'a> Writing<'a> {
         out.push_str(")`")
     }
 
-    // The piece of an argument.
     fn argument(&self, place: usize) -> Piece {
         match TupleIndex::try_from(place) {
             Ok(index) => self.piece_of(&Binding::Argument { index }),
@@ -208,7 +206,6 @@ impl<'a> Writing<'a> {
         }
     }
 
-    // That a site meets a constraint, or doesn't.
     fn met(
         &self,
         site: BindingId,

@@ -83,7 +83,6 @@ impl<'a> Names<'a> {
         Ok(())
     }
 
-    // The type of a term's argument of that place.
     fn type_of_argument(&self, sym: &Ident, number: usize) -> Option<TypeId> {
         argument_of(self.lowered, term_of(self.lowered, sym), number)
     }
@@ -215,7 +214,6 @@ fn note_iflet(names: &mut Names<'_>, iflet: &IfLet) -> Result<(), AllocError> {
     note_expr(names, &iflet.expr)
 }
 
-// The names in a pattern for a value of a type.
 #[cycle(patterns)]
 fn note_pattern(
     names: &mut Names<'_>,
@@ -247,7 +245,6 @@ fn note_pattern(
     }
 }
 
-// The names in the patterns for the arguments of a term.
 #[cycle(patterns)]
 fn note_arguments(
     names: &mut Names<'_>,

@@ -15,7 +15,6 @@ pub struct Version<'a> {
     pub lowered: &'a Lowered,
 }
 
-// The name of a term with rules.
 pub(crate) fn term_name<'a>(lowered: &'a Lowered, term: &LoweredTerm) -> &'a str {
     match names::term_name(&lowered.tyenv, &lowered.termenv, term.id) {
         Some(name) => name,

@@ -150,7 +150,6 @@ impl<'p, 'a> Lines<'p, 'a> {
         (lines, demands)
     }
 
-    // Adds a condition.
     fn push(&mut self, line: String, what: DemandKind<'a>) -> Result<(), AllocError> {
         let text = line.clone()?;
         self.lines.push(line)?;
@@ -190,7 +189,6 @@ impl<'p, 'a> Lines<'p, 'a> {
         Ok(())
     }
 
-    // Adds all conditions.
     fn add_all(&mut self) -> Result<(), AllocError> {
         let parts = self.parts;
         for part in parts.arguments() {
@@ -242,7 +240,6 @@ impl<'p, 'a> Lines<'p, 'a> {
         Ok(())
     }
 
-    // Adds the forms of a part.
     fn add_heads(&mut self, part: usize) -> Result<(), AllocError> {
         for number in 0..self.parts.heads(part).len() {
             let mut line = String::from_str(self.alloc, self.writing.names.name(part))?;
@@ -253,7 +250,6 @@ impl<'p, 'a> Lines<'p, 'a> {
         Ok(())
     }
 
-    // Adds a form of a part, which has this text.
     fn push_form(&mut self, part: usize, number: usize, line: String) -> Result<(), AllocError> {
         let parts = self.parts;
         let Some(head) = parts.heads(part).get(number) else {
@@ -398,7 +394,6 @@ pub(crate) fn push_expr(expr: &Expr, out: &mut String) -> Result<(), AllocError>
     }
 }
 
-// Adds the arguments of a call.
 #[cycle(exprs)]
 fn push_arguments(args: &[Expr], out: &mut String) -> Result<(), AllocError> {
     for arg in args {
@@ -408,7 +403,6 @@ fn push_arguments(args: &[Expr], out: &mut String) -> Result<(), AllocError> {
     Ok(())
 }
 
-// Adds the definitions of a let.
 #[cycle(exprs)]
 fn push_lets(defs: &[LetDef], out: &mut String) -> Result<(), AllocError> {
     for (i, def) in defs.iter().enumerate() {
@@ -423,7 +417,6 @@ fn push_lets(defs: &[LetDef], out: &mut String) -> Result<(), AllocError> {
     Ok(())
 }
 
-// Adds numbers, the last one first.
 fn push_reversed(numbers: &[usize], out: &mut Vec<usize>) -> Result<(), AllocError> {
     for number in numbers.iter().rev() {
         out.push(*number)?;

@@ -131,7 +131,6 @@ impl<'p, 'a> PartNames<'p, 'a> {
         String::from_str(self.alloc, "?")
     }
 
-    // Whether a part has this name.
     fn is_taken(&self, name: &str) -> bool {
         self.names.iter().any(|other| other.as_str() == name)
     }

@@ -113,7 +113,6 @@ impl<'p, 'a> Writing<'p, 'a> {
         Ok(())
     }
 
-    // Adds a further condition.
     fn push_condition(
         &mut self,
         number: usize,
@@ -189,7 +188,6 @@ impl<'p, 'a> Writing<'p, 'a> {
         }
     }
 
-    // Adds a part's pattern.
     fn push_pattern(
         &mut self,
         part: usize,
@@ -210,7 +208,6 @@ impl<'p, 'a> Writing<'p, 'a> {
         out.push_str(self.names.name(part))
     }
 
-    // Begins a part's pattern.
     fn begin_pattern(
         &mut self,
         part: usize,
@@ -286,7 +283,6 @@ impl<'p, 'a> Writing<'p, 'a> {
         out.push_str(self.names.name(part))
     }
 
-    // The call that gives a part.
     fn call_of(&self, part: usize) -> Option<usize> {
         let class = self.parts.class_of(part);
         self.parts
@@ -295,7 +291,6 @@ impl<'p, 'a> Writing<'p, 'a> {
             .position(|call| self.parts.class_of(call.part) == class)
     }
 
-    // Adds a call.
     fn push_one_call(
         &mut self,
         number: usize,
@@ -330,7 +325,6 @@ impl<'p, 'a> Writing<'p, 'a> {
     }
 }
 
-// Adds the begin of a term's use.
 fn begin_term(form: ValueForm<'_>, out: &mut String) -> Result<(), AllocError> {
     out.push('(')?;
     push_form(out, form)

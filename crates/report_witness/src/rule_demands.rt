@@ -105,7 +105,6 @@ impl<'a> Reader<'a> {
         parts
     }
 
-    // Adds what a rule asks.
     fn add_rule(&mut self, rule: &'a Rule) -> Result<(), AllocError> {
         let scope = self.scopes.len();
         self.scopes.push(Scope {
@@ -140,7 +139,6 @@ impl<'a> Reader<'a> {
         })
     }
 
-    // Adds what is asked of the arguments.
     fn add_arguments(&mut self, patterns: &'a [Pattern], scope: usize) -> Result<(), AllocError> {
         for (place, pattern) in patterns.iter().enumerate() {
             let part = self.parts.argument(place)?;
@@ -153,7 +151,6 @@ impl<'a> Reader<'a> {
         Ok(())
     }
 
-    // Adds what a further condition asks.
     fn add_iflet(&mut self, iflet: &'a IfLet, scope: usize) -> Result<(), AllocError> {
         let part = self.add_expr(&iflet.expr, scope)?;
         self.parts.ask(part);
@@ -164,7 +161,6 @@ impl<'a> Reader<'a> {
         })
     }
 
-    // The part that an expression gives.
     #[cycle(exprs)]
     fn add_expr(&mut self, expr: &'a Expr, scope: usize) -> Result<usize, AllocError> {
         match expr {
@@ -183,7 +179,6 @@ impl<'a> Reader<'a> {
         }
     }
 
-    // The parts that expressions give.
     #[cycle(exprs)]
     fn add_exprs(&mut self, exprs: &'a [Expr], scope: usize) -> Result<Vec<usize>, AllocError> {
         let mut parts = Vec::new(self.alloc);
@@ -194,7 +189,6 @@ impl<'a> Reader<'a> {
         Ok(parts)
     }
 
-    // Binds the variables of a let.
     #[cycle(exprs)]
     fn add_lets(&mut self, defs: &'a [LetDef], scope: usize) -> Result<(), AllocError> {
         for def in defs {
@@ -216,14 +210,12 @@ impl<'a> Reader<'a> {
         }
     }
 
-    // The part that a constant is.
     fn constant(&mut self, form: ValueForm<'a>, pos: Pos) -> Result<usize, AllocError> {
         let part = self.parts.call(form, Vec::new(self.alloc))?;
         self.parts.add_constant(part, form, pos)?;
         Ok(part)
     }
 
-    // Adds what a pattern asks.
     fn add_pattern(&mut self, task: Task<'a>) -> Result<(), AllocError> {
         let mut waiting = Vec::new(self.alloc);
         waiting.push(task)?;
@@ -318,7 +310,6 @@ impl<'a> Reader<'a> {
         self.scopes.get(scope)?.place
     }
 
-    // Adds that a part is a constant.
     fn add_constant(
         &mut self,
         task: Task<'a>,

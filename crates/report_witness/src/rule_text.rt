@@ -22,7 +22,6 @@ pub fn rule_text(alloc: Global, rule: &Rule) -> Result<String, AllocError> {
     Ok(text)
 }
 
-// Adds a further condition.
 fn push_iflet(iflet: &IfLet, out: &mut String) -> Result<(), AllocError> {
     out.push_str(" (if-let ")?;
     push_pattern(&iflet.pattern, out)?;
@@ -31,7 +30,6 @@ fn push_iflet(iflet: &IfLet, out: &mut String) -> Result<(), AllocError> {
     out.push(')')
 }
 
-// Adds a pattern.
 #[cycle(patterns)]
 fn push_pattern(pattern: &Pattern, out: &mut String) -> Result<(), AllocError> {
     match pattern {

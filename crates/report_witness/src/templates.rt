@@ -85,7 +85,6 @@ pub fn count_users(
     Ok(count)
 }
 
-// Whether an extractor is among these.
 fn has(extractors: &[&Extractor], extractor: &Extractor) -> bool {
     extractors.iter().any(|other| other.pos == extractor.pos)
 }
@@ -154,7 +153,6 @@ fn add_used<'a>(
     }
 }
 
-// Adds patterns.
 fn add_all<'a>(waiting: &mut Vec<&'a Pattern>, patterns: &'a [Pattern]) -> Result<(), AllocError> {
     for pattern in patterns {
         waiting.push(pattern)?;
@@ -162,7 +160,6 @@ fn add_all<'a>(waiting: &mut Vec<&'a Pattern>, patterns: &'a [Pattern]) -> Resul
     Ok(())
 }
 
-// The internal extractor of a name.
 fn extractor_of<'a>(extractors: &[&'a Extractor], name: &str) -> Option<&'a Extractor> {
     for extractor in extractors {
         if extractor.term.0.as_str() == name {

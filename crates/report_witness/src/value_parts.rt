@@ -137,7 +137,6 @@ impl<'a> Parts<'a> {
         Ok(number)
     }
 
-    // So many new parts.
     fn new_parts(&mut self, count: usize) -> Result<Vec<usize>, AllocError> {
         let mut parts = Vec::new(self.alloc);
         for _ in 0..count {
@@ -289,7 +288,6 @@ impl<'a> Parts<'a> {
         None
     }
 
-    // Adds a form to a class.
     fn push_head(&mut self, class: usize, head: Head<'a>) -> Result<(), AllocError> {
         if let Some(part) = self.parts.get_mut(class) {
             part.heads.push(head)?;
@@ -445,7 +443,6 @@ impl<'a> Parts<'a> {
     }
 }
 
-// The same numbers.
 fn copied(alloc: Global, numbers: &[usize]) -> Result<Vec<usize>, AllocError> {
     let mut copy = Vec::new(alloc);
     for number in numbers {

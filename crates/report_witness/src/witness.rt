@@ -123,7 +123,6 @@ pub(crate) fn stays_without(
     Ok(found)
 }
 
-// Whether a conflict is among those of parts.
 fn has_conflict(defs: &[Def], parts: &Parts<'_>, wanted: &Conflict<'_>) -> bool {
     for number in 0..MOST_CONFLICTS {
         let Some(conflict) = conflict_of(defs, parts, number) else {
@@ -167,7 +166,6 @@ fn conflict_of_two<'a>(defs: &[Def], parts: &Parts<'a>) -> Option<Conflict<'a>> 
     None
 }
 
-// The conflict of this number.
 fn conflict_of<'a>(defs: &[Def], parts: &Parts<'a>, number: usize) -> Option<Conflict<'a>> {
     let mut left = number;
     for part in 0..parts.count() {

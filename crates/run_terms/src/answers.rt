@@ -38,7 +38,6 @@ pub fn answered_outputs(alloc: Global, content: &Content) -> Result<Option<Vec<V
     }
 }
 
-// The value that a content is, if it is one.
 fn one_value(content: &Content) -> Result<Option<Value>, AllocError>
     ensures { IfOk result (λ o. option_map value_view o ≡ as_value (content_view content.now)) }
 {

@@ -29,7 +29,6 @@ fn there(content: Option<Content>) -> Found
     }
 }
 
-// What is in the content of a site that is used.
 fn unwrap_used<E: Externs>(
     stage: &Stage<'_, E>,
     env: &[(BindingId, Content)],
@@ -44,7 +43,6 @@ fn unwrap_used<E: Externs>(
     }
 }
 
-// A part of the content of a site that is used.
 fn part_used<E: Externs>(
     stage: &Stage<'_, E>,
     env: &[(BindingId, Content)],
@@ -60,7 +58,6 @@ fn part_used<E: Externs>(
     }
 }
 
-// The content of a site that is used, as one that is there.
 fn some_used<E: Externs>(
     stage: &Stage<'_, E>,
     env: &[(BindingId, Content)],
@@ -218,7 +215,6 @@ fn found<E: Externs>(
     }
 }
 
-// A site is bound to what it was found to hold.
 fn bind(
     env: &mut Vec<(BindingId, Content)>,
     site: BindingId,
@@ -237,7 +233,6 @@ fn bind(
     }
 }
 
-// A site is bound to its content.
 fn bind_site<E: Externs>(
     stage: &Stage<'_, E>,
     env: &mut Vec<(BindingId, Content)>,

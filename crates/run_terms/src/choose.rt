@@ -189,7 +189,6 @@ fn right_side<E: Externs>(
     outcome_of(source.alloc, partial, evaluated, calls)
 }
 
-// That no rule matches.
 fn no_rule(alloc: Global) -> Outcome
     ensures { outcome_view result ≡ no_rule }
 {

@@ -17,7 +17,6 @@ use core_rule_sets::trie_again::{BindingId, Constraint};
 use core_types::{TypeId, VariantId};
 use std::alloc::{AllocError, Global};
 
-// Each value as a content.
 fn each_one(alloc: Global, values: &[Value]) -> Result<Vec<Content>, AllocError>
     ensures { IfOk result (λ v. content_list v.items ≡ all_one (listed (value_views values.now))) }
 {
@@ -112,7 +111,6 @@ fn value_fields<E: Externs>(
     }
 }
 
-// A content alone.
 fn single(alloc: Global, content: &Content) -> Result<Vec<Content>, AllocError>
     ensures { IfOk result (λ v. content_list v.items ≡ content_view content.now ∷ []) }
 {

@@ -146,7 +146,6 @@ pub fn each_holds<E: Externs>(
     Ok(values.get(place).is_none())
 }
 
-// Whether all patterns hold of one value.
 #[cycle(holds)]
 fn all_hold<E: Externs>(
     source: &RuleContext<'_, E>,

@@ -95,7 +95,6 @@ fn after_result(multi: bool) -> Ending
     }
 }
 
-// A result is given.
 fn give<E: Externs>(
     stage: &Stage<'_, E>,
     env: &[(BindingId, Content)],

@@ -32,7 +32,6 @@ pub fn value_of(vars: &[(VarId, Option<Value>)], var: VarId) -> Result<Option<Va
     }
 }
 
-// A value that may be there, as one of its own.
 fn bound_value(bound: &(VarId, Option<Value>)) -> Result<Option<Value>, AllocError>
     ensures { IfOk result (λ o. option_map value_view o ≡ option_map value_view bound.now.1) }
 {

@@ -15,7 +15,6 @@ use core_rule_sets::trie_again::{Binding, BindingId};
 use core_types::{TermId, TypeId, VariantId};
 use std::alloc::AllocError;
 
-// A call is bound.
 #[tactic(auto, using(crate::proofs::CodeBridges::code_steps, crate::proofs::HeldPasses::arguments_lent))]
 fn bind_call(
     stage: &Stage<'_>,
@@ -37,7 +36,6 @@ fn bind_call(
     })
 }
 
-// A variant that is made is bound.
 #[tactic(auto, using(crate::proofs::CodeBridges::code_steps))]
 fn bind_variant(
     stage: &Stage<'_>,
@@ -59,7 +57,6 @@ fn bind_variant(
     })
 }
 
-// A struct that is made is bound.
 #[tactic(auto, using(crate::proofs::CodeBridges::code_steps))]
 fn bind_struct(
     stage: &Stage<'_>,
@@ -132,7 +129,6 @@ fn bind_binding(
     }
 }
 
-// What binds a site.
 #[tactic(auto, using(crate::proofs::CodeBridges::code_steps))]
 fn bind_site(stage: &Stage<'_>, site: BindingId) -> Result<Statement, AllocError>
     ensures { IfOk result (λ s. statement_view s

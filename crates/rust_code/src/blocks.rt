@@ -106,7 +106,6 @@ fn check_of(check: &ControlFlow, stage: &Stage<'_>, room: usize) -> Result<State
     }
 }
 
-// The arms of a match.
 #[cycle(code)]
 fn arms_of(arms: &[MatchArm], stage: &Stage<'_>, room: usize) -> Result<Vec<CodeArm>, AllocError>
     ensures { IfOk result (λ v. (n : ℕ) → room ≡ room_at n → arms_before v.items no_code_arm ≡ flat_arms (arms_in stage.now (arms_view arms.now)) is_deep n) }
@@ -119,7 +118,6 @@ fn arms_of(arms: &[MatchArm], stage: &Stage<'_>, room: usize) -> Result<Vec<Code
     Ok(out)
 }
 
-// An arm.
 #[cycle(code)]
 fn arm_of(arm: &MatchArm, stage: &Stage<'_>, room: usize) -> Result<CodeArm, AllocError>
     ensures { IfOk result (λ a. (n : ℕ) (rest : Code.CodeArms) → room ≡ room_at n → arm_view a rest

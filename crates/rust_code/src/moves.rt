@@ -51,21 +51,18 @@ pub(crate) struct Spot<'a> {
     pub rest: &'a [Statement],
 }
 
-// Whether what is left of blocks reads of a place.
 fn is_read_after(after: &[Left<'_>], place: &ReadPlace) -> bool
     ensures { result ≡ left_reads after.now (place_view place.now) }
 {
     after.iter().any(|left| is_read(left.statements, place))
 }
 
-// Whether a place is read behind a statement.
 fn is_read_behind(statement: &Statement, spot: &Spot<'_>, place: &ReadPlace) -> bool
     ensures { result ≡ later_at statement.now spot.now (place_view place.now) }
 {
     (!hides(statement, place) && is_read(spot.rest, place)) || is_read_after(spot.after, place)
 }
 
-// Whether a site is one of these.
 fn is_one_of(sites: &[BindingId], site: BindingId) -> bool
     ensures { result ≡ is_in site sites.now }
 {
@@ -223,7 +220,6 @@ fn expr_with_moves(
     }
 }
 
-// These variables but for one.
 fn without(
     alloc: Global,
     inside: &[BindingId],
@@ -259,7 +255,6 @@ fn unlooked(
     }
 }
 
-// Adds the variables of fields.
 fn add_fields(inside: &mut Vec<BindingId>, fields: &[Option<BindingId>]) -> Result<(), AllocError>
     ensures { OnOk result (inside.new.items ≡ inside.old.items ++ field_sites fields.now) }
 {
@@ -300,7 +295,6 @@ fn movable_behind(
     }
 }
 
-// These variables and one more.
 fn with_site(inside: Vec<BindingId>, site: BindingId) -> Result<Vec<BindingId>, AllocError>
     ensures { IfOk result (λ v. v.items ≡ inside.items ++ site ∷ []) }
 {
@@ -368,7 +362,6 @@ fn block_with_moves<'a>(
     Ok(CodeBlock { statements: out })
 }
 
-// A statement.
 #[cycle(moves)]
 fn statement_with_moves(statement: &Statement, spot: &Spot<'_>) -> Result<Statement, AllocError>
     ensures { IfOk result (λ s. OfSpots spot.now.held.now spot.now.inside.now (λ types movable.
@@ -488,7 +481,6 @@ fn arms_with_moves<'a>(
     Ok(out)
 }
 
-// An arm.
 #[cycle(moves)]
 fn arm_with_moves<'a>(
     arm: &'a CodeArm,

@@ -82,7 +82,6 @@ pub(crate) fn are_reading(place: &ReadPlace, uses: &[Use]) -> bool
     uses.iter().any(|found| touches(place, &found.place))
 }
 
-// Whether what a variable is bound to reads of a place.
 #[tactic(auto, using(crate::proofs::Reading::any_touch_listed))]
 fn is_reading(place: &ReadPlace, expr: &BoundExpr) -> bool
     ensures { result ≡ expr_reads (place_view place.now) (expr_view expr.now) }
@@ -97,7 +96,6 @@ fn is_reading(place: &ReadPlace, expr: &BoundExpr) -> bool
     }
 }
 
-// Whether a place is of the variable of a site.
 #[tactic(auto, using(crate::proofs::Reading::in_one))]
 fn is_of_site(site: BindingId, place: &ReadPlace) -> bool
     ensures { result ≡ is_of (site ∷ []) (place_view place.now) }
@@ -113,7 +111,6 @@ fn is_of_site(site: BindingId, place: &ReadPlace) -> bool
     }
 }
 
-// Whether a field is bound to a site.
 #[tactic(auto, using(crate::proofs::Reading::in_one))]
 fn is_bound_to(field: Option<BindingId>, site: BindingId) -> bool
     ensures { result ≡ is_in site (field_sites (field ∷ [])) }
@@ -124,14 +121,12 @@ fn is_bound_to(field: Option<BindingId>, site: BindingId) -> bool
     }
 }
 
-// Whether one of these fields is bound to a site.
 fn binds_site(fields: &[Option<BindingId>], site: BindingId) -> bool
     ensures { result ≡ list_any (λ f. is_in site (field_sites (f ∷ []))) fields.now }
 {
     fields.iter().any(|field| is_bound_to(*field, site))
 }
 
-// Whether a place is of the variable of a field.
 #[tactic(auto, using(crate::proofs::Reading::in_fields))]
 fn is_of_field(fields: &[Option<BindingId>], place: &ReadPlace) -> bool
     ensures { result ≡ is_of (field_sites fields.now) (place_view place.now) }
@@ -182,7 +177,6 @@ pub(crate) fn is_read(statements: &[Statement], place: &ReadPlace) -> bool
     false
 }
 
-// Whether a statement reads of a place.
 #[tactic(auto, using(crate::proofs::CodeBridges::code_steps))]
 #[cycle(reads)]
 fn is_read_at(statement: &Statement, place: &ReadPlace) -> bool
@@ -209,7 +203,6 @@ fn is_read_at(statement: &Statement, place: &ReadPlace) -> bool
     }
 }
 
-// Whether arms read of a place.
 #[cycle(reads)]
 fn is_read_in(arms: &[CodeArm], place: &ReadPlace) -> bool
     ensures { result ≡ arms_read (place_view place.now) (arms_before arms.now no_code_arm) }
@@ -222,7 +215,6 @@ fn is_read_in(arms: &[CodeArm], place: &ReadPlace) -> bool
     false
 }
 
-// Whether an arm reads of a place.
 #[cycle(reads)]
 fn is_read_by(arm: &CodeArm, place: &ReadPlace) -> bool
     ensures { (rest : Code.CodeArms) → arms_read (place_view place.now) (arm_view arm.now rest) ≡ (result || arms_read (place_view place.now) rest) }

@@ -178,7 +178,6 @@ pub(crate) fn in_label(
     }
 }
 
-// A block within a label.
 #[tactic(auto, using(crate::proofs::CodeBridges::code_steps))]
 fn labelled(stage: &Stage<'_>, statements: Vec<Statement>) -> Result<CodeBlock, AllocError>
     ensures { IfOk result (λ b. block_view b ≡ statement (Code.labelled (before statements.items no_statement)) no_statement) }

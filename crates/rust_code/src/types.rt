@@ -87,7 +87,6 @@ pub(crate) fn are_copied(tables: &Tables<'_>, types: SiteTypes) -> bool
     }
 }
 
-// This type, where there is one.
 fn one(ty: Option<TypeId>) -> SiteTypes
     ensures { (terms : List Term) → seen_types terms result ≡ one_type (option_map (λ t. t.0) ty) }
 {
@@ -97,7 +96,6 @@ fn one(ty: Option<TypeId>) -> SiteTypes
     }
 }
 
-// The type at a place.
 fn type_at(types: &[TypeId], place: TupleIndex) -> SiteTypes
     ensures { (terms : List Term) → seen_types terms result ≡ one_type (slice_get (map (λ ty. ty.0) types.now) place) }
 {
@@ -107,7 +105,6 @@ fn type_at(types: &[TypeId], place: TupleIndex) -> SiteTypes
     }
 }
 
-// The only one of these types.
 fn sole_of(tables: &Tables<'_>, types: SiteTypes) -> Option<TypeId>
     ensures { option_map (λ ty. ty.0) result ≡ sole (seen_types tables.now.terms.now types) }
 {
@@ -121,7 +118,6 @@ fn sole_of(tables: &Tables<'_>, types: SiteTypes) -> Option<TypeId>
     }
 }
 
-// The only type of a list.
 fn only(types: &[TypeId]) -> Option<TypeId>
     ensures { option_map (λ ty. ty.0) result ≡ sole (map (λ ty. ty.0) types.now) }
 {
@@ -141,7 +137,6 @@ pub(crate) fn is_one_composed(tables: &Tables<'_>, types: SiteTypes) -> bool
     }
 }
 
-// The type of a part of a tuple.
 fn part_of(tables: &Tables<'_>, types: SiteTypes, field: TupleIndex) -> SiteTypes
     ensures { seen_types tables.now.terms.now result ≡ one_type (slice_get (seen_types tables.now.terms.now types) field) }
 {
@@ -161,14 +156,12 @@ fn part_of(tables: &Tables<'_>, types: SiteTypes, field: TupleIndex) -> SiteType
     }
 }
 
-// The type of an argument of the term.
 fn argument_of(tables: &Tables<'_>, index: TupleIndex) -> SiteTypes
     ensures { seen_types tables.now.terms.now result ≡ one_type (slice_get (arguments_in tables.now) index) }
 {
     part_of(tables, SiteTypes::OfArguments { term: tables.term }, index)
 }
 
-// The type of a field.
 fn field_of(fields: &Fields, field: TupleIndex) -> SiteTypes
     ensures { (terms : List Term) → seen_types terms result ≡ one_type (slice_get (field_types (fields_view fields.now)) field) }
 {
@@ -179,7 +172,6 @@ fn field_of(fields: &Fields, field: TupleIndex) -> SiteTypes
     }
 }
 
-// The type of a field with a name.
 fn named_field(fields: &[StructField], place: TupleIndex) -> SiteTypes
     ensures { (terms : List Term) → seen_types terms result ≡ one_type (slice_get (field_types (struct_entries (map field_view fields.now))) place) }
 {
@@ -189,7 +181,6 @@ fn named_field(fields: &[StructField], place: TupleIndex) -> SiteTypes
     }
 }
 
-// The type of a field without a name.
 fn unnamed_field(fields: &[TupleField], place: TupleIndex) -> SiteTypes
     ensures { (terms : List Term) → seen_types terms result ≡ one_type (slice_get (field_types (tuple_entries (map tuple_field_view fields.now))) place) }
 {
@@ -199,7 +190,6 @@ fn unnamed_field(fields: &[TupleField], place: TupleIndex) -> SiteTypes
     }
 }
 
-// The type of a constant.
 fn constant_of(tyenv: &TypeEnv, name: Sym) -> SiteTypes
     ensures { (terms : List Term) → seen_types terms result ≡ one_type (constant_at tyenv.now name.0) }
 {
@@ -232,7 +222,6 @@ fn variant_field(
     }
 }
 
-// The type of a field of a variant of a type.
 fn field_of_variant(tyenv: &TypeEnv, ty: TypeId, variant: VariantId, field: TupleIndex) -> SiteTypes
     ensures { (terms : List Term) → seen_types terms result
         ≡ one_type (slice_get (or_no_types (variant_types (slice_get (type_views tyenv.now.types.items) ty.0) variant.0)) field) }
@@ -257,7 +246,6 @@ fn struct_field(tables: &Tables<'_>, types: SiteTypes, field: TupleIndex) -> Sit
     }
 }
 
-// The type of a field of a type.
 fn field_of_struct(tyenv: &TypeEnv, ty: TypeId, field: TupleIndex) -> SiteTypes
     ensures { (terms : List Term) → seen_types terms result
         ≡ one_type (slice_get (or_no_types (struct_types (slice_get (type_views tyenv.now.types.items) ty.0))) field) }
@@ -334,7 +322,6 @@ pub(crate) fn place_types(tables: &Tables<'_>, number: usize, binding: &Binding)
     }
 }
 
-// The types of a site.
 fn types_of_site(tables: &Tables<'_>, number: usize) -> SiteTypes
     ensures { OfTables tables.now (λ p. seen_types tables.now.terms.now result
         ≡ types_at p (arguments_in tables.now) (unfold_site (site_views tables.now.sites.now) number)) }

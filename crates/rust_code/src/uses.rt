@@ -38,7 +38,6 @@ fn struct_place(ty: TypeId, fields: &[BindingId], site: BindingId) -> ReadPlace
     }
 }
 
-// Where a site is read that stands for this.
 fn place_of_binding(binding: &Binding, site: BindingId) -> ReadPlace
     ensures { place_view result ≡ place_of (Some (site_view binding.now)) site }
 {
@@ -67,7 +66,6 @@ fn place_of_binding(binding: &Binding, site: BindingId) -> ReadPlace
     }
 }
 
-// Where a site is read.
 fn place_at(sites: &[Binding], site: BindingId) -> ReadPlace
     ensures { place_view result ≡ place_in (site_views sites.now) site }
 {

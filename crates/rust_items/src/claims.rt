@@ -110,7 +110,6 @@ fn first_taken(own: Own, claims: &[Claim]) -> Option<&Claim>
     None
 }
 
-// Whether a name is one of the code's own.
 fn is_own(own: Own, name: &str) -> bool
     ensures { result ≡ is_own own name.now }
 {

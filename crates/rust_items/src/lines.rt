@@ -125,7 +125,6 @@ fn lines_up_to(begins: &[usize], offset: usize) -> usize
     begins.partition_point(|begin| *begin <= offset)
 }
 
-// Where the lines of a text begin.
 fn begins_of(alloc: Global, text: &str) -> Result<Vec<usize>, AllocError>
     ensures { IfOk result (λ begins. begins.items ≡ line_begins text.now) }
 {

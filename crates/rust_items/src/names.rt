@@ -243,7 +243,6 @@ fn is_truth(name: &str) -> bool
     is_among(name, &TRUTHS)
 }
 
-// Whether a name is one of these words.
 pub(crate) fn is_among(name: &str, words: &[&str]) -> bool
     ensures { result ≡ list_any (λ word. bytes_eq word.now name.now) words.now }
 {

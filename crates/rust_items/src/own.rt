@@ -81,7 +81,6 @@ fn is_number(bytes: &[u8]) -> bool
     }
 }
 
-// Whether there are only digits.
 fn are_digits(bytes: &[u8]) -> bool
     ensures { result ≡ list_all is_ascii_digit bytes.now }
 {

@@ -72,7 +72,6 @@ fn kinds_of(program: Program<'_>, lowered: &[LoweredTerm]) -> Result<Vec<Namespa
     Ok(kinds)
 }
 
-// Adds a kind.
 #[tactic(auto, using(crate::proofs::Grown::pushed_kind))]
 fn push_kind(
     kinds: &mut Vec<Namespace>,
@@ -92,7 +91,6 @@ fn push_kind(
     Ok(())
 }
 
-// The types, as things with names.
 fn type_claims(alloc: Global, tyenv: &TypeEnv, types: &[Type]) -> Result<Vec<Claim>, AllocError>
     ensures { IfOk result (λ v. claim_views v.items ≡ flat_map (type_claim (names_of tyenv.now)) (type_views types.now)) }
 {
@@ -138,7 +136,6 @@ fn push_identified(tyenv: &TypeEnv, claims: &mut Vec<Claim>, name: Sym) -> Resul
     push_claim(claims, written, name)
 }
 
-// Adds a thing.
 #[tactic(auto, using(crate::proofs::Grown::pushed_claim))]
 fn push_claim(claims: &mut Vec<Claim>, written: String, owner: &str) -> Result<(), AllocError>
     ensures { OnOk result (claim_views claims.new.items ≡ claim_views claims.old.items ++ claim (string_bytes written) owner.now ∷ []) }
@@ -163,7 +160,6 @@ fn push_insides(
     Ok(())
 }
 
-// Adds what is inside of a type.
 fn push_inside(
     alloc: Global,
     tyenv: &TypeEnv,
@@ -194,7 +190,6 @@ fn push_variants(
     push_variant_fields(alloc, tyenv, kinds, variants)
 }
 
-// Adds the fields of each variant.
 fn push_variant_fields(
     alloc: Global,
     tyenv: &TypeEnv,
@@ -209,7 +204,6 @@ fn push_variant_fields(
     Ok(())
 }
 
-// The variants of an enum, as things with names.
 fn variant_claims(
     alloc: Global,
     tyenv: &TypeEnv,
@@ -248,7 +242,6 @@ fn field_claims(alloc: Global, tyenv: &TypeEnv, fields: &Fields) -> Result<Vec<C
     }
 }
 
-// The fields, as things with names.
 fn named_claims(
     alloc: Global,
     tyenv: &TypeEnv,
@@ -274,7 +267,6 @@ fn function_claims(alloc: Global, tyenv: &TypeEnv, terms: &[Term]) -> Result<Vec
     Ok(claims)
 }
 
-// Adds the functions from outside of a term.
 fn push_functions(
     tyenv: &TypeEnv,
     claims: &mut Vec<Claim>,
@@ -330,7 +322,6 @@ fn push_constructor(
     }
 }
 
-// The constants, as things with names.
 fn constant_claims(alloc: Global, tyenv: &TypeEnv) -> Result<Vec<Claim>, AllocError>
     ensures { IfOk result (λ v. claim_views v.items ≡ map (constant_claim (names_of tyenv.now)) (constants_of tyenv.now)) }
 {
@@ -341,7 +332,6 @@ fn constant_claims(alloc: Global, tyenv: &TypeEnv) -> Result<Vec<Claim>, AllocEr
     Ok(claims)
 }
 
-// Adds what has a name, where it is a constant.
 fn push_if_constant(tyenv: &TypeEnv, claims: &mut Vec<Claim>, name: Sym) -> Result<(), AllocError>
     ensures { OnOk result (claim_views claims.new.items ≡ claim_views claims.old.items ++ map (constant_claim (names_of tyenv.now)) (constant_or_none tyenv.now name.0)) }
 {
@@ -351,7 +341,6 @@ fn push_if_constant(tyenv: &TypeEnv, claims: &mut Vec<Claim>, name: Sym) -> Resu
     push_constant_claim(tyenv, claims, name)
 }
 
-// Adds a constant.
 fn push_constant_claim(
     tyenv: &TypeEnv,
     claims: &mut Vec<Claim>,

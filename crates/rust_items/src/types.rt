@@ -48,7 +48,6 @@ fn push_declaration(out: &mut String, program: Program<'_>, ty: &Type) -> Result
     }
 }
 
-// Whether there are no fields.
 fn is_without_fields(fields: &Fields) -> bool {
     matches!(fields, Fields::Unit)
 }
@@ -125,7 +124,6 @@ fn push_fields(
     }
 }
 
-// Adds fields with names.
 fn push_named(
     out: &mut String,
     program: Program<'_>,
@@ -143,7 +141,6 @@ fn push_named(
     out.push_str(" }")
 }
 
-// Adds fields without names.
 fn push_unnamed(
     out: &mut String,
     program: Program<'_>,

@@ -45,7 +45,6 @@ impl Writer<'_> {
         Ok(())
     }
 
-    // Adds a statement.
     #[tactic(auto, using(rust_code::proofs::CodeBridges::code_steps))]
     #[cycle(code)]
     fn add_statement(
@@ -110,7 +109,6 @@ impl Writer<'_> {
         }
     }
 
-    // Adds the only statement of a body.
     #[tactic(auto, using(rust_code::proofs::CodeBridges::code_steps))]
     #[cycle(code)]
     fn add_only(&self, out: &mut Vec<Piece>, at: Margin, only: &Statement) -> Result<(), AllocError>
@@ -185,7 +183,6 @@ impl Writer<'_> {
         Ok(end_match(out, at, is_alone)?)
     }
 
-    // Adds arms.
     #[cycle(code)]
     fn add_arms(
         &self,
@@ -204,7 +201,6 @@ impl Writer<'_> {
         Ok(())
     }
 
-    // Adds an arm.
     #[cycle(code)]
     fn add_arm(
         &self,
@@ -222,7 +218,6 @@ impl Writer<'_> {
     }
 }
 
-// Whether there is one arm alone.
 fn stands_alone(arms: &[CodeArm]) -> bool
     ensures { (p : Notation) → result ≡ Pieces.is_alone (written_arms p (arms_before arms.now no_code_arm)) }
 {

@@ -76,7 +76,6 @@ fn items_of(
     Ok(out)
 }
 
-// Code with what it begins with.
 fn headed(alloc: Global, items: &str) -> Result<String, CodeError>
     ensures { IfOk result (λ code. string_bytes code ≢ []) }
 {

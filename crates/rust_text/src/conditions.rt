@@ -100,7 +100,6 @@ impl Writer<'_> {
         }
     }
 
-    // Adds a comparison with a named constant in an arm.
     fn add_named_arm(
         &self,
         out: &mut Vec<Piece>,

@@ -69,7 +69,6 @@ pub(crate) fn add_comma(out: &mut Vec<Piece>, place: usize) -> Result<(), AllocE
     }
 }
 
-// Adds fields with names.
 fn add_named_values(out: &mut Vec<Piece>, owner: Owner, values: &[Use]) -> Result<(), AllocError>
     ensures { OnOk result (Adds out.old.items out.new.items (λ p rest. named_values p (owner_view owner) 0 (use_views values.now) rest)) }
 {
@@ -83,7 +82,6 @@ fn add_named_values(out: &mut Vec<Piece>, owner: Owner, values: &[Use]) -> Resul
     Ok(add_word(out, Word::ClosingBrace)?)
 }
 
-// Adds fields without names.
 fn add_unnamed_values(out: &mut Vec<Piece>, values: &[Use]) -> Result<(), AllocError>
     ensures { OnOk result (Adds out.old.items out.new.items (λ p rest. unnamed_values p 0 (use_views values.now) rest)) }
 {
@@ -94,7 +92,6 @@ fn add_unnamed_values(out: &mut Vec<Piece>, values: &[Use]) -> Result<(), AllocE
     Ok(add_word(out, Word::Closing)?)
 }
 
-// Adds the fields of what is made, in their shape.
 fn add_made(
     out: &mut Vec<Piece>,
     owner: Owner,

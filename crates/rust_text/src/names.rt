@@ -36,7 +36,6 @@ pub struct Names<'a> {
 }
 
 impl<'a> Names<'a> {
-    // Adds a constant.
     pub(crate) fn push_constant(self, out: &mut String, name: Sym) -> Result<(), AllocError>
         ensures { OnOk result (string_bytes out.new ≡ string_bytes out.old
             ++ spelled_constant (text_of (setting_of self.entry).names name.0)) }
@@ -90,7 +89,6 @@ impl<'a> Names<'a> {
         }
     }
 
-    // Adds a variant.
     fn push_variant(
         self,
         out: &mut String,
@@ -132,7 +130,6 @@ impl<'a> Names<'a> {
         }
     }
 
-    // Adds a field with a name.
     pub(crate) fn push_field(
         self,
         out: &mut String,
@@ -151,7 +148,6 @@ impl<'a> Names<'a> {
         }
     }
 
-    // Adds the name of a field.
     fn push_field_name(
         self,
         out: &mut String,
@@ -166,7 +162,6 @@ impl<'a> Names<'a> {
         }
     }
 
-    // Adds a function.
     pub(crate) fn push_function(self, out: &mut String, callee: Callee) -> Result<(), AllocError>
         ensures { OnOk result (string_bytes out.new ≡ string_bytes out.old ++ function_written (setting_of self.entry) (callee_view callee)) }
     {
@@ -234,7 +229,6 @@ impl<'a> Names<'a> {
         out.push_str("_returns::default()")
     }
 
-    // The name of a function that comes from outside.
     fn outside_name(self, callee: Callee) -> Option<Sym>
         ensures { option_map (λ s. s.0) result ≡ outside_of (program_in (setting_of self.entry)) (callee_view callee) }
     {
@@ -298,7 +292,6 @@ impl Callee {
     }
 }
 
-// One of some fields.
 fn field_at(fields: &[StructField], index: usize) -> Option<&StructField>
     ensures { option_map (λ f. field_view f.now) result ≡ slice_get (map field_view fields.now) index }
 {
@@ -315,7 +308,6 @@ fn int_of(ty: &Type) -> Option<IntType>
     }
 }
 
-// The type of integers that a built-in type is.
 #[tactic(auto, using(crate::proofs::IntegerTexts::int_place_at))]
 fn int_of_builtin(builtin: BuiltinType) -> Option<IntType>
     ensures { option_map int_place result ≡ int_place_in (Some (builtin_type (builtin_place builtin))) }
@@ -343,7 +335,6 @@ fn outside_in(kind: &TermKind, callee: Callee) -> Option<Sym>
     }
 }
 
-// The name of an extractor from outside.
 fn outside_extractor(kind: &Option<ExtractorKind>) -> Option<Sym>
     ensures { option_map (λ s. s.0) result ≡ outside_extractor (option_map extractor_view kind.now) }
 {
@@ -353,7 +344,6 @@ fn outside_extractor(kind: &Option<ExtractorKind>) -> Option<Sym>
     }
 }
 
-// The name of a constructor from outside.
 fn outside_constructor(kind: &Option<ConstructorKind>) -> Option<Sym>
     ensures { option_map (λ s. s.0) result ≡ outside_constructor (option_map constructor_view kind.now) }
 {

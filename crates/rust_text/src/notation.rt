@@ -201,7 +201,6 @@ fn form_of(fields: Option<&Fields>) -> Shape
     }
 }
 
-// The type of a field.
 fn field_type(fields: Option<&Fields>, index: usize) -> Option<TypeId>
     ensures { option_map (λ t. t.0) result ≡ slice_get (field_types (fields_seen (option_map (λ f. f.now) fields.entry))) index }
 {
@@ -213,7 +212,6 @@ fn field_type(fields: Option<&Fields>, index: usize) -> Option<TypeId>
     }
 }
 
-// The type of a field with a name.
 fn named_type(fields: &[StructField], index: usize) -> Option<TypeId>
     ensures { option_map (λ t. t.0) result ≡ slice_get (map (λ f. f.ty) (map field_view fields.now)) index }
 {
@@ -223,7 +221,6 @@ fn named_type(fields: &[StructField], index: usize) -> Option<TypeId>
     }
 }
 
-// The type of a field without a name.
 fn unnamed_type(fields: &[TupleField], index: usize) -> Option<TypeId>
     ensures { option_map (λ t. t.0) result ≡ slice_get (map (λ f. f.ty) (map tuple_field_view fields.now)) index }
 {
@@ -233,7 +230,6 @@ fn unnamed_type(fields: &[TupleField], index: usize) -> Option<TypeId>
     }
 }
 
-// The only type of a list.
 fn only(types: &[TypeId]) -> Option<TypeId>
     ensures { option_map (λ ty. ty.0) result ≡ sole (map (λ ty. ty.0) types.now) }
 {
@@ -263,7 +259,6 @@ fn argument_of(terms: &[Term], term: TermId) -> Option<TypeId>
     }
 }
 
-// The type of a term's result.
 fn result_of(terms: &[Term], term: TermId) -> Option<TypeId>
     ensures { option_map (λ ty. ty.0) result ≡ sole (term_results (slice_get (term_views terms.now) term.0)) }
 {
@@ -273,7 +268,6 @@ fn result_of(terms: &[Term], term: TermId) -> Option<TypeId>
     }
 }
 
-// The term that a function is of.
 fn term_of(callee: Callee) -> TermId
     ensures { result.0 ≡ Alike.term_of (callee_view callee) }
 {

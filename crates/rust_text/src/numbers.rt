@@ -20,7 +20,6 @@ pub(crate) fn push_int_of(out: &mut String, val: i128, ty: IntType) -> Result<()
     out.push_str(ty.name())
 }
 
-// Adds the digits of an integer.
 fn push_digits(out: &mut String, val: i128, is_signed: bool) -> Result<(), AllocError>
     ensures { OnOk result (string_bytes out.new ≡ string_bytes out.old ++ digits_written is_signed val) }
 {
@@ -31,7 +30,6 @@ fn push_digits(out: &mut String, val: i128, is_signed: bool) -> Result<(), Alloc
     push_hexadecimal(out, val.cast_unsigned())
 }
 
-// Adds a number in hexadecimal digits.
 fn push_hexadecimal(out: &mut String, number: u128) -> Result<(), AllocError>
     ensures { OnOk result (string_bytes out.new ≡ string_bytes out.old ++ digits 16 false number) }
 {
@@ -42,7 +40,6 @@ fn push_hexadecimal(out: &mut String, number: u128) -> Result<(), AllocError>
     push_digit(out, number % 16)
 }
 
-// Adds a hexadecimal digit.
 fn push_digit(out: &mut String, digit: u128) -> Result<(), AllocError>
     requires { digit < 16 }
     ensures { OnOk result (string_bytes out.new ≡ string_bytes out.old ++ digit_glyph false digit ∷ []) }
@@ -50,7 +47,6 @@ fn push_digit(out: &mut String, digit: u128) -> Result<(), AllocError>
     out.push(digit_of(digit as u8))
 }
 
-// A hexadecimal digit.
 fn digit_of(digit: u8) -> char
     requires { digit < 16 }
     ensures same { result ≡ digit_glyph false digit }

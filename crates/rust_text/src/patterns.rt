@@ -56,7 +56,6 @@ pub(crate) fn add_constant(out: &mut Vec<Piece>, constraint: &Constraint) -> Res
     }
 }
 
-// Adds a pattern of what is there.
 fn add_some(out: &mut Vec<Piece>, fields: &[Option<BindingId>]) -> Result<(), AllocError>
     ensures { OnOk result (Adds out.old.items out.new.items (λ p rest. put_all (some_word ∷ opening ∷ []) (inner_before fields.now (put closing rest)))) }
 {
@@ -138,7 +137,6 @@ impl Writer<'_> {
         }
     }
 
-    // Adds the fields without names.
     fn add_unnamed_bindings(
         &self,
         out: &mut Vec<Piece>,
@@ -154,7 +152,6 @@ impl Writer<'_> {
         Ok(add_word(out, Word::Closing)?)
     }
 
-    // Adds the fields of a pattern, in their shape.
     fn add_bindings(
         &self,
         out: &mut Vec<Piece>,

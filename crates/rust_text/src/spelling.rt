@@ -38,7 +38,6 @@ fn push_all(out: &mut String, names: Names<'_>, pieces: &[Piece]) -> Result<(), 
     Ok(())
 }
 
-// Adds a piece.
 fn push_piece(out: &mut String, names: Names<'_>, piece: Piece) -> Result<(), AllocError>
     ensures { OnOk result (string_bytes out.new ≡ string_bytes out.old
         ++ piece_text (names_of (setting_of names.entry)) (piece_view (notation_in (setting_of names.entry)) piece)) }
@@ -53,7 +52,6 @@ fn push_piece(out: &mut String, names: Names<'_>, piece: Piece) -> Result<(), Al
     }
 }
 
-// Adds a token.
 fn push_token(out: &mut String, names: Names<'_>, token: RustToken) -> Result<(), AllocError>
     ensures { OnOk result (string_bytes out.new ≡ string_bytes out.old
         ++ token_text (names_of (setting_of names.entry)) (token_view (notation_in (setting_of names.entry)) token)) }
@@ -74,7 +72,6 @@ fn push_token(out: &mut String, names: Names<'_>, token: RustToken) -> Result<()
     }
 }
 
-// Adds a word and a number.
 fn push_numbered(out: &mut String, word: &str, number: usize) -> Result<(), AllocError>
     ensures { OnOk result (string_bytes out.new ≡ string_bytes out.old ++ word.now ++ decimal number) }
 {
@@ -101,7 +98,6 @@ fn push_comment(out: &mut String, names: Names<'_>, pos: Pos) -> Result<(), Allo
     out.push('.')
 }
 
-// A word as it is written.
 fn word_text(word: Word) -> &'static str
     ensures { result.now ≡ word_text (word_view word) }
 {

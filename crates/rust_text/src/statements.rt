@@ -513,7 +513,6 @@ impl Writer<'_> {
     }
 }
 
-// Adds a return.
 fn add_return(out: &mut Vec<Piece>, value: Use) -> Result<(), AllocError>
     ensures { OnOk result (Adds out.old.items out.new.items (λ p rest. put_first return_word (use_before p (use_view value) (Pieces.end_line rest)))) }
 {

@@ -527,7 +527,6 @@ impl Terms {
         self.number_of(self.nodes.get(id)?)
     }
 
-    // Notes the integer that a formula is.
     fn note_number(&mut self, id: NodeId, number: Option<i128>) {
         if let Some(entry) = self.numbers.get_mut(id.0) {
             *entry = number;
@@ -599,7 +598,6 @@ impl Terms {
     }
 }
 
-// What an operator gives on two integers.
 fn computed(operator: Operator, a: i128, b: i128) -> Option<i128> {
     match operator {
         Operator::Plus => a.checked_add(b),
@@ -612,7 +610,6 @@ fn computed(operator: Operator, a: i128, b: i128) -> Option<i128> {
 // The greatest width of a word.
 const WIDEST: usize = 4096;
 
-// The width that an integer is.
 fn width_of(value: i128) -> Result<usize, NoCondition> {
     match usize::try_from(value) {
         Ok(width) if width > 0 && width <= WIDEST => Ok(width),

@@ -114,7 +114,6 @@ struct Printer<'t> {
 }
 
 impl<'t> Printer<'t> {
-    // Whether a formula is used.
     fn is_used(&self, id: usize) -> bool {
         match self.uses.get(id) {
             Some(count) => *count > 0,
@@ -181,7 +180,6 @@ impl<'t> Printer<'t> {
         Ok(())
     }
 
-    // Whether an unknown function is used.
     fn is_function_used(&self, number: usize) -> bool {
         for (id, node) in self.terms.nodes.iter().enumerate() {
             if let Node::Answer(known, _) = node {
@@ -225,7 +223,6 @@ impl<'t> Printer<'t> {
         Ok(())
     }
 
-    // A sort.
     fn push_sort(&self, out: &mut String, sort: Sort) -> Result<(), NoCondition> {
         match sort {
             Sort::Truth => out.push_str("Bool")?,
@@ -238,7 +235,6 @@ impl<'t> Printer<'t> {
         Ok(())
     }
 
-    // That a width isn't known.
     fn open_width(&self) -> NoCondition {
         missing(String::from_str(self.alloc, "a width stays open"))
     }
@@ -321,7 +317,6 @@ impl<'t> Printer<'t> {
         Ok(out.push(')')?)
     }
 
-    // A word on formulas.
     #[cycle(node)]
     fn push_application(
         &self,
@@ -341,7 +336,6 @@ impl<'t> Printer<'t> {
         Ok(out.push(')')?)
     }
 
-    // An operator on formulas.
     #[cycle(node)]
     fn push_operation(
         &self,
@@ -369,7 +363,6 @@ impl<'t> Printer<'t> {
         }
     }
 
-    // A wider word.
     #[cycle(node)]
     fn push_extension(
         &self,
@@ -412,7 +405,6 @@ impl<'t> Printer<'t> {
         Ok(out.push(')')?)
     }
 
-    // An integer as a word.
     #[cycle(node)]
     fn push_to_word(&self, out: &mut String, id: NodeId, a: NodeId) -> Result<(), NoCondition> {
         let width = self.width(id)?;

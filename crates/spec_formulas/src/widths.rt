@@ -47,7 +47,6 @@ impl Widths {
         *self.known.get(*class)?
     }
 
-    // Notes what a width is.
     fn note(&mut self, id: WidthId, width: Option<usize>) {
         if let Some(class) = self.classes.get(id.0) {
             if let Some(entry) = self.known.get_mut(*class) {

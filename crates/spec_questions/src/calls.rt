@@ -106,7 +106,6 @@ impl<'a, 'b> Maker<'a, 'b> {
         }
     }
 
-    // That arguments are as a spec requires.
     fn required_of(
         &mut self,
         spec: &'a Spec,

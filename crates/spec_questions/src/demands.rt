@@ -40,7 +40,6 @@ pub(crate) fn needed_for(
     Ok(needed)
 }
 
-// Marks sites.
 fn mark(marks: &mut [bool], sites: &[BindingId]) {
     for site in sites {
         if let Some(entry) = marks.get_mut(site.index()) {

@@ -66,7 +66,6 @@ impl<'a, 'b> Maker<'a, 'b> {
         Ok(())
     }
 
-    // Any value of an argument, with its words.
     fn any_argument(
         &mut self,
         place: usize,
@@ -79,7 +78,6 @@ impl<'a, 'b> Maker<'a, 'b> {
         self.builder.any_of_type(ty, name, words, DEEPEST_VALUE)
     }
 
-    // What an argument at a site is, in words.
     fn words_of_argument(&self, place: usize, site: Option<usize>) -> Result<String, AllocError> {
         let alloc = self.builder.alloc;
         if let Some(site) = site {
@@ -90,7 +88,6 @@ impl<'a, 'b> Maker<'a, 'b> {
         argument_name(alloc, place)
     }
 
-    // The site of an argument.
     fn site_of_argument(&self, place: usize) -> Option<usize> {
         for (site, binding) in self.sites.bindings.iter().enumerate() {
             if is_argument(binding, place) {
@@ -208,7 +205,6 @@ impl<'a, 'b> Maker<'a, 'b> {
     }
 }
 
-// Whether a site is an argument.
 fn is_argument(binding: &Binding, place: usize) -> bool {
     match binding {
         Binding::Argument { index } => index.index() == place,

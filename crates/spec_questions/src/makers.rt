@@ -128,7 +128,6 @@ impl<'a, 'b> Maker<'a, 'b> {
         missing(format!(in alloc; "widths don't fit at a call of `{name}` or below"))
     }
 
-    // The name of a term.
     fn name_of(&self, term: TermId) -> &'a str {
         let lowered = self.builder.lowered;
         term_name(&lowered.tyenv, &lowered.termenv, term).unwrap_or("_")

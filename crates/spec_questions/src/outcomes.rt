@@ -129,7 +129,6 @@ impl<'a, 'b> Maker<'a, 'b> {
         Ok(())
     }
 
-    // The formula that a site holds.
     fn term_at(&self, site: BindingId) -> Option<NodeId> {
         match self.sites.value_at(site) {
             Ok(value) => self.builder.term_of(value),

@@ -128,7 +128,6 @@ struct Asker<'a> {
     wanted: Wanted<'a>,
 }
 
-// A rule that is asked about.
 #[derive(Clone, Copy)]
 struct Asked<'r> {
     term: &'r LoweredTerm,
@@ -243,7 +242,6 @@ fn add_said(
     }
 }
 
-// Whether a spec is said of a term.
 fn says_of(specs: &Specs<'_>, term: TermId) -> bool
     ensures { result ≡ has_spec specs.now.terms.items term.0 }
 {
@@ -292,7 +290,6 @@ fn add_if_wanted(
     }
 }
 
-// Whether a rule is asked about.
 fn is_wanted(wanted: Wanted<'_>, rule: &Rule) -> bool
     ensures { result ≡ is_wanted_at wanted.entry rule.now.pos }
 {
@@ -302,14 +299,12 @@ fn is_wanted(wanted: Wanted<'_>, rule: &Rule) -> bool
     }
 }
 
-// Whether a position is one of these.
 fn is_among(places: &[Pos], pos: Pos) -> bool
     ensures { result ≡ list_any (is_place pos) places.now }
 {
     places.iter().any(|place| *place == pos)
 }
 
-// The variables of a rule.
 fn variables_of<'a>(
     asker: Asker<'a>,
     sites: &KnownSites<'_>,
@@ -329,7 +324,6 @@ fn variables_of<'a>(
     Ok(variables)
 }
 
-// A variable whose value is at a site.
 fn variable_at<'a>(lowered: &'a Lowered, variable: &BoundVar, site: BindingId) -> Variable<'a> {
     Variable {
         name: lowered.tyenv.text_of(variable.name),
@@ -402,7 +396,6 @@ fn add_error(errors: &mut Vec<SpecError>, error: SpecError) -> Result<(), AllocE
     Ok(())
 }
 
-// Whether an error stands at a place.
 fn has_error_at(errors: &[SpecError], pos: Pos) -> bool
     ensures { IsTrue result → 0 < length errors.now }
 {
@@ -415,7 +408,6 @@ fn has_error_at(errors: &[SpecError], pos: Pos) -> bool
 }
 
 impl Questions {
-    // Adds the questions about a rule.
     fn add_questions(
         &mut self,
         asked: Asked<'_>,
@@ -531,7 +523,6 @@ fn branch(
     Ok(())
 }
 
-// What is asked of a rule by its condition.
 fn question_of(
     alloc: Global,
     asked: Asked<'_>,
@@ -544,7 +535,6 @@ fn question_of(
     Ok(texts.into_question(asked, condition.into_widths()))
 }
 
-// The texts of a question.
 struct Texts {
     taken: String,
     wrong: String,
@@ -564,7 +554,6 @@ impl Drop for Texts {
 }
 
 impl Texts {
-    // What is asked of a rule at these widths.
     fn into_question(self, asked: Asked<'_>, widths: Vec<(String, usize)>) -> Question
         ensures { is_about asked.entry.term.now.id.0 asked.entry.rule.now.id.0 result ≡ true }
     {
@@ -656,7 +645,6 @@ fn names_of(
     Ok(names)
 }
 
-// Adds the name of an unknown, with what it is in words.
 fn push_name(names: &mut Vec<(String, String)>, unknown: &Unknown) -> Result<(), AllocError> {
     let name = unknown.name.clone()?;
     let words = unknown.words.clone()?;

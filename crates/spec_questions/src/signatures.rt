@@ -27,7 +27,6 @@ impl<'a, 'b> Maker<'a, 'b> {
         }
     }
 
-    // The places of the signatures that fit values.
     fn fitting_places(
         &self,
         signatures: &[Signature],

@@ -48,7 +48,6 @@ pub(crate) struct Sites<'b> {
     pub(crate) bindings: &'b [Binding],
     held: Vec<Held>,
     words: Vec<String>,
-    // The rule's variables.
     variables: &'b [Variable<'b>],
 }
 
@@ -157,7 +156,6 @@ impl<'b> Sites<'b> {
         }
     }
 
-    // The same as another site.
     fn same_as(&self, source: BindingId) -> Result<Held, NoCondition> {
         match self.held.get(source.index()) {
             Some(Held::Value(value)) => Ok(Held::Value(*value)),
@@ -166,7 +164,6 @@ impl<'b> Sites<'b> {
         }
     }
 
-    // One of the outputs that a site holds.
     fn output_at(&self, source: BindingId, place: usize) -> Result<ValueId, NoCondition> {
         match self.held.get(source.index()) {
             Some(Held::Outputs(outputs)) => match outputs.get(place) {
@@ -201,7 +198,6 @@ impl<'b> Sites<'b> {
         Ok(())
     }
 
-    // What a site holds.
     fn held_by(
         &self,
         builder: &mut Builder<'_>,
@@ -320,7 +316,6 @@ impl<'b> Sites<'b> {
         }
     }
 
-    // What a site is, in words.
     fn words_of(&self, lowered: &Lowered, binding: &Binding) -> Result<String, AllocError> {
         match binding {
             Binding::ConstBool { .. }
@@ -351,7 +346,6 @@ impl<'b> Sites<'b> {
         }
     }
 
-    // What a call is, in words.
     fn call_words(
         &self,
         lowered: &Lowered,
@@ -364,7 +358,6 @@ impl<'b> Sites<'b> {
         Ok(words)
     }
 
-    // Adds what a call is, in words.
     fn push_call(
         &self,
         words: &mut String,
@@ -401,7 +394,6 @@ impl<'b> Sites<'b> {
     }
 }
 
-// The value that a constraint asks for, if it asks for one.
 fn asked_by(
     builder: &mut Builder<'_>,
     constraint: Constraint,
@@ -435,7 +427,6 @@ fn words_of_leaf(
     }
 }
 
-// What a part of a value is, in words.
 fn part_words(alloc: Global, words: &str, place: usize) -> Result<String, AllocError> {
     format!(in alloc; "{words}.{place}")
 }
@@ -449,7 +440,6 @@ fn push_argument(words: &mut String, part: &str) -> Result<(), AllocError> {
     words.push_str(part)
 }
 
-// A truth value.
 fn truth_of(builder: &mut Builder<'_>, value: bool) -> Result<ValueId, NoCondition> {
     let term = builder.terms.truth(value)?;
     Ok(builder.term_value(term)?)
@@ -480,7 +470,6 @@ fn check_own_type(builder: &Builder<'_>, ty: TypeId) -> Result<(), NoCondition> 
     )))
 }
 
-// Any value of a type at a site.
 fn any_at(
     builder: &mut Builder<'_>,
     ty: TypeId,
@@ -519,7 +508,6 @@ fn constant_of(
     }
 }
 
-// The outputs of an extractor.
 fn outputs_of(
     builder: &mut Builder<'_>,
     id: TermId,
@@ -553,7 +541,6 @@ fn part_output(
     output_of(builder, ty, site, place, &words)
 }
 
-// An output of an extractor, with its words.
 fn output_of(
     builder: &mut Builder<'_>,
     ty: TypeId,
@@ -567,7 +554,6 @@ fn output_of(
     builder.any_of_type(ty, name, words, DEEPEST_VALUE)
 }
 
-// That there is no such term.
 fn no_term(alloc: Global) -> NoCondition {
     missing(String::from_str(alloc, "a term isn't known"))
 }

@@ -54,7 +54,6 @@ struct Reader {
 }
 
 impl Reader {
-    // Reads a character.
     fn read(&mut self, c: char) -> Result<(), AllocError> {
         match self.inside {
             Inside::Nothing => self.read_plain(c),

@@ -25,7 +25,6 @@ impl<'a> Builder<'a> {
         }
     }
 
-    // That two values are equal, as a value.
     fn apply_equality(
         &mut self,
         operator: Operator,
@@ -53,7 +52,6 @@ impl<'a> Builder<'a> {
         Ok(self.term_value(term)?)
     }
 
-    // The formulas that operands are.
     fn operands(
         &mut self,
         values: &[ValueId],
@@ -76,7 +74,6 @@ impl<'a> Builder<'a> {
         )
     }
 
-    // The formula that an operand is.
     fn operand(
         &mut self,
         value: ValueId,
@@ -103,7 +100,6 @@ impl<'a> Builder<'a> {
         }
     }
 
-    // What an operator gives on formulas.
     fn applied(
         &mut self,
         operator: Operator,
@@ -137,7 +133,6 @@ impl<'a> Builder<'a> {
         }
     }
 
-    // What an operator gives on one formula.
     fn made_of_one(
         &mut self,
         operator: Operator,
@@ -152,7 +147,6 @@ impl<'a> Builder<'a> {
         }
     }
 
-    // What an operator gives on two formulas.
     fn made_of_two(
         &mut self,
         operator: Operator,
@@ -172,7 +166,6 @@ impl<'a> Builder<'a> {
         }
     }
 
-    // What an operator gives on three formulas.
     fn made_of_three(
         &mut self,
         group: Group,
@@ -202,17 +195,14 @@ impl<'a> Builder<'a> {
         Ok(Some(self.terms.implies(a, b)?))
     }
 
-    // Whether a formula is a truth value.
     fn is_truth(&self, a: NodeId) -> bool {
         self.terms.sort(a) == Sort::Truth
     }
 
-    // Whether a formula is an integer.
     fn is_integer(&self, a: NodeId) -> bool {
         self.terms.sort(a) == Sort::Integer
     }
 
-    // Whether a formula is a word.
     fn is_word(&self, a: NodeId) -> bool {
         match self.terms.sort(a) {
             Sort::Word(_) => true,
@@ -232,7 +222,6 @@ impl<'a> Builder<'a> {
         Ok(Some(term))
     }
 
-    // Whether each of these is a truth value.
     fn are_truths(&self, of: &[NodeId]) -> bool {
         for part in of {
             if !self.is_truth(*part) {
@@ -343,7 +332,6 @@ impl<'a> Builder<'a> {
         Ok(Some(whole))
     }
 
-    // A word above another one.
     fn above(&mut self, high: NodeId, low: NodeId) -> Result<Option<NodeId>, NoCondition> {
         match (self.terms.sort(high), self.terms.sort(low)) {
             (Sort::Word(upper), Sort::Word(lower)) => {
@@ -433,7 +421,6 @@ impl<'a> Builder<'a> {
         }
     }
 
-    // A word of another width.
     fn resize(
         &mut self,
         operator: Operator,

@@ -28,7 +28,6 @@ pub struct Builder<'a> {
     pub terms: Terms,
     /// The terms that are taken as unknown functions, by the functions' numbers.
     pub functions: Vec<TermId>,
-    // The values.
     values: Vec<SymbolicValue>,
     // What stands for a value that there isn't.
     unit: SymbolicValue,
@@ -181,7 +180,6 @@ impl<'a> Builder<'a> {
         }
     }
 
-    // That a type has no model.
     fn modelless(&self, ty: TypeId) -> NoCondition {
         missing(without_model(self.alloc, &self.lowered.tyenv, ty))
     }
@@ -258,7 +256,6 @@ impl<'a> Builder<'a> {
         Ok(values)
     }
 
-    // What a field of a value is, in words.
     fn field_words(
         &self,
         fields: &Fields,
@@ -272,7 +269,6 @@ impl<'a> Builder<'a> {
         }
     }
 
-    // The name of a field, if it has one.
     fn field_name(&self, fields: &Fields, place: usize) -> Option<&'a str> {
         let lowered = self.lowered;
         match fields {
@@ -363,7 +359,6 @@ impl<'a> Builder<'a> {
         }
     }
 
-    // The enum that two values are of.
     fn common_enum(&self, a: ValueId, b: ValueId) -> Option<TypeId> {
         let ty = self.enum_of(a)?;
         if self.enum_of(b)? == ty {
@@ -409,7 +404,6 @@ impl<'a> Builder<'a> {
         Ok(Some(made))
     }
 
-    // A variant of an enum.
     pub(crate) fn variant_at(&self, ty: TypeId, variant: VariantId) -> Option<&'a Variant> {
         let lowered = self.lowered;
         match lowered.tyenv.types.get(ty.index()) {
@@ -463,7 +457,6 @@ impl<'a> Builder<'a> {
         }
     }
 
-    // Keeps the fields of a variant of an unknown value.
     fn keep_fields(&mut self, id: ValueId, variant: VariantId, made: Vec<ValueId>) {
         if let Some(SymbolicValue::Enum { fields, .. }) = self.values.get_mut(id.0) {
             if let Some(entry) = fields.get_mut(variant.index()) {
@@ -564,7 +557,6 @@ impl<'a> Builder<'a> {
         }
     }
 
-    // One of two formulas.
     fn choose_term(
         &mut self,
         condition: NodeId,
@@ -578,7 +570,6 @@ impl<'a> Builder<'a> {
         Ok(self.term_value(term)?)
     }
 
-    // One of two values of a struct.
     #[cycle(choose)]
     fn choose_struct(
         &mut self,
@@ -594,7 +585,6 @@ impl<'a> Builder<'a> {
         Ok(self.add(SymbolicValue::Struct { ty, fields })?)
     }
 
-    // One of two values of an enum.
     fn choose_variant(
         &mut self,
         condition: NodeId,

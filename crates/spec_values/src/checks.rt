@@ -41,7 +41,6 @@ struct Checker<'c, 's> {
 }
 
 impl<'c, 's> Checker<'c, 's> {
-    // Checks what is said of a term.
     fn check_said(
         &self,
         spec: Option<&Spec>,
@@ -239,14 +238,12 @@ impl<'c, 's> Checker<'c, 's> {
         }
     }
 
-    // Notes what is wrong at a place.
     fn report(&self, pos: Pos, why: &str, errors: &mut Vec<SpecError>) -> Result<(), AllocError> {
         let message = String::from_str(self.alloc, why)?;
         note(errors, pos, message)
     }
 }
 
-// Notes what is wrong at a place.
 fn note(errors: &mut Vec<SpecError>, pos: Pos, message: String) -> Result<(), AllocError> {
     errors.push(SpecError {
         pos,
@@ -256,7 +253,6 @@ fn note(errors: &mut Vec<SpecError>, pos: Pos, message: String) -> Result<(), Al
     Ok(())
 }
 
-// Names as texts.
 fn names_of<'e>(alloc: Global, names: &'e [Ident]) -> Result<Vec<&'e str>, AllocError> {
     let mut texts = Vec::new(alloc);
     for name in names {
@@ -265,7 +261,6 @@ fn names_of<'e>(alloc: Global, names: &'e [Ident]) -> Result<Vec<&'e str>, Alloc
     Ok(texts)
 }
 
-// Whether a name is one of these.
 fn is_bound(scope: &[&str], name: &str) -> bool {
     for known in scope {
         if *known == name {
@@ -275,7 +270,6 @@ fn is_bound(scope: &[&str], name: &str) -> bool {
     false
 }
 
-// Adds the names that a pattern binds.
 fn bind<'e>(scope: &mut Vec<&'e str>, pattern: &'e SpecExpr) -> Result<(), AllocError> {
     match pattern {
         SpecExpr::Var { var, .. } => scope.push(var.0.as_str())?,

@@ -77,7 +77,6 @@ impl<'a> Builder<'a> {
         Ok(Some(self.terms.choice(is, term, other)?))
     }
 
-    // The number that a variant is said to stand for.
     fn number_said(&mut self, said: &VariantValue) -> Result<Option<NodeId>, NoCondition> {
         match &said.value {
             Some(SpecExpr::ConstInt { val, .. }) => Ok(Some(self.terms.integer(*val)?)),

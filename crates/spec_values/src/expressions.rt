@@ -12,7 +12,6 @@ use spec_formulas::terms::{NodeId, Sort};
 use std::alloc::{AllocError, Global};
 use text_reader::syntax::{Macro, ModelType, SpecExpr};
 
-// A name, and what it stands for.
 #[derive(Clone, Copy)]
 struct Named<'e> {
     name: &'e str,
@@ -45,7 +44,6 @@ impl<'e> Scope<'e> {
         Ok(())
     }
 
-    // How many names there are.
     fn len(&self) -> usize {
         self.names.len()
     }
@@ -127,7 +125,6 @@ impl<'a> Builder<'a> {
         }
     }
 
-    // That a form isn't supported.
     fn unsupported(&self, what: &str, pos: Pos) -> NoCondition {
         let alloc = self.alloc;
         wrong(pos, format!(in alloc; "`{what}` isn't supported"))
@@ -141,19 +138,16 @@ impl<'a> Builder<'a> {
         )
     }
 
-    // An integer that is written.
     fn says_integer(&mut self, val: i128) -> Result<ValueId, NoCondition> {
         let term = self.terms.integer(val)?;
         Ok(self.term_value(term)?)
     }
 
-    // A truth value that is written.
     fn says_truth(&mut self, val: bool) -> Result<ValueId, NoCondition> {
         let term = self.terms.truth(val)?;
         Ok(self.term_value(term)?)
     }
 
-    // An expression that is said to be of a model.
     #[cycle(says)]
     fn says_as<'e>(
         &mut self,
@@ -168,7 +162,6 @@ impl<'a> Builder<'a> {
         Ok(value)
     }
 
-    // A word that is written.
     fn says_word(&mut self, val: u128, width: usize) -> Result<ValueId, NoCondition> {
         let term = self.terms.word(val.cast_signed(), width)?;
         Ok(self.term_value(term)?)
@@ -194,20 +187,17 @@ impl<'a> Builder<'a> {
         }
     }
 
-    // What the constant of a name stands for.
     fn constant_called(&self, name: &Ident) -> Option<&'a SpecExpr> {
         let (lowered, specs) = (self.lowered, self.specs);
         specs.constant(lowered.tyenv.intern(name)?)
     }
 
-    // The term of a name.
     fn term_called(&self, name: &Ident) -> Option<TermId> {
         let lowered = self.lowered;
         let sym = lowered.tyenv.intern(name)?;
         lowered.termenv.term_map.get(&sym).copied()
     }
 
-    // That a name stands for nothing.
     fn unknown_name(&self, name: &Ident) -> NoCondition {
         let alloc = self.alloc;
         wrong(
@@ -226,7 +216,6 @@ impl<'a> Builder<'a> {
         self.says(&mut scope, expr, fuel - 1)
     }
 
-    // A list with this head.
     #[cycle(says)]
     fn says_list<'e>(
         &mut self,
@@ -297,7 +286,6 @@ impl<'a> Builder<'a> {
         }
     }
 
-    // That a head is no operator's.
     fn unknown_operator(&self, op: &Ident) -> NoCondition {
         let alloc = self.alloc;
         wrong(
@@ -306,7 +294,6 @@ impl<'a> Builder<'a> {
         )
     }
 
-    // What a macro comes to.
     #[cycle(says)]
     fn says_macro(
         &mut self,
@@ -464,7 +451,6 @@ impl<'a> Builder<'a> {
         }
     }
 
-    // Whether a type is a built-in one.
     fn is_builtin(&self, ty: TypeId) -> bool {
         match self.lowered.tyenv.types.get(ty.index()) {
             Some(Type::Builtin(_)) => true,
@@ -482,7 +468,6 @@ impl<'a> Builder<'a> {
         }
     }
 
-    // A field by its name.
     fn says_field(
         &mut self,
         field: &str,
@@ -512,7 +497,6 @@ impl<'a> Builder<'a> {
         self.value(value).parts().get(place).copied()
     }
 
-    // The fields of a struct's type.
     fn fields_of_struct(&self, ty: TypeId) -> Option<&'a Fields> {
         let lowered = self.lowered;
         match lowered.tyenv.types.get(ty.index()) {
@@ -521,7 +505,6 @@ impl<'a> Builder<'a> {
         }
     }
 
-    // The place of a field by its name.
     fn field_place(&self, fields: &Fields, name: &str) -> Option<usize> {
         match fields {
             Fields::Struct(named) => {
@@ -536,7 +519,6 @@ impl<'a> Builder<'a> {
         }
     }
 
-    // An expression under definitions.
     #[cycle(says)]
     fn says_let<'e>(
         &mut self,
@@ -555,7 +537,6 @@ impl<'a> Builder<'a> {
         value
     }
 
-    // Adds the names of definitions.
     #[cycle(says)]
     fn define<'e>(
         &mut self,
@@ -569,7 +550,6 @@ impl<'a> Builder<'a> {
         Ok(())
     }
 
-    // Adds the name of a definition.
     #[cycle(says)]
     fn define_one<'e>(
         &mut self,
@@ -694,7 +674,6 @@ impl<'a> Builder<'a> {
         }
     }
 
-    // The variant that a pattern names.
     fn variant_in(&self, value: ValueId, pattern: &SpecExpr) -> Option<VariantId> {
         match pattern {
             SpecExpr::Var { var, .. } => self.variant_called(value, var),
@@ -790,7 +769,6 @@ impl<'a> Builder<'a> {
         }
     }
 
-    // A value, or what is wrong at this place.
     fn placed_value(
         &self,
         outcome: Result<ValueId, NoCondition>,
@@ -1008,7 +986,6 @@ impl<'a> Builder<'a> {
         self.bind_fields(scope, fields, args)
     }
 
-    // Binds names to fields.
     fn bind_fields<'e>(
         &self,
         scope: &mut Scope<'e>,
@@ -1027,7 +1004,6 @@ impl<'a> Builder<'a> {
         Ok(())
     }
 
-    // That an enum has no variant of a name.
     fn no_variant(&self, name: &Ident) -> NoCondition {
         let alloc = self.alloc;
         wrong(
@@ -1073,7 +1049,6 @@ impl<'a> Builder<'a> {
     }
 }
 
-// The name that an expression is.
 fn name_in(expr: &SpecExpr) -> Option<&str> {
     match expr {
         SpecExpr::Var { var, .. } => Some(var.0.as_str()),
@@ -1104,7 +1079,6 @@ fn all_give(arms: &[Arm]) -> bool {
     true
 }
 
-// Whether the variant of a number is among these.
 fn is_among(variants: &[VariantId], number: usize) -> bool {
     for variant in variants {
         if variant.index() == number {

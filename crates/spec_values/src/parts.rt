@@ -31,7 +31,6 @@ impl<'a> Builder<'a> {
         }
     }
 
-    // One of some fields.
     fn field_among(&self, fields: &[ValueId], place: usize) -> Result<ValueId, NoCondition> {
         match fields.get(place) {
             Some(field) => Ok(*field),

@@ -247,7 +247,6 @@ impl<'r> Reader<'r> {
         note(errors, name.1, message, first)
     }
 
-    // Adds a macro.
     fn add_macro<'a>(
         &self,
         specs: &mut Specs<'a>,
@@ -263,7 +262,6 @@ impl<'r> Reader<'r> {
         }
     }
 
-    // Adds a form of signatures.
     fn add_form<'a>(
         &self,
         specs: &mut Specs<'a>,
@@ -292,7 +290,6 @@ impl<'r> Reader<'r> {
         }
     }
 
-    // Adds what a constant stands for.
     fn add_constant<'a>(
         &self,
         specs: &mut Specs<'a>,
@@ -310,7 +307,6 @@ impl<'r> Reader<'r> {
         Ok(())
     }
 
-    // The name of a constant.
     fn constant_called(&self, ident: &Ident) -> Option<Sym> {
         let sym = self.lowered.tyenv.intern(ident)?;
         if self.lowered.tyenv.const_types.contains_key(&sym) {
@@ -320,7 +316,6 @@ impl<'r> Reader<'r> {
         }
     }
 
-    // Adds the model of a type.
     fn add_type_model<'a>(
         &self,
         specs: &mut Specs<'a>,
@@ -348,7 +343,6 @@ impl<'r> Reader<'r> {
         }
     }
 
-    // The term of a name.
     fn term_called(&self, name: &Ident) -> Option<TermId> {
         let sym = self.lowered.tyenv.intern(name)?;
         self.lowered.termenv.term_map.get(&sym).copied()
@@ -370,7 +364,6 @@ impl<'r> Reader<'r> {
         }
     }
 
-    // Adds a spec.
     fn add_spec<'a>(
         &self,
         specs: &mut Specs<'a>,
@@ -429,7 +422,6 @@ impl<'r> Reader<'r> {
         }
     }
 
-    // Adds these signatures to a term.
     fn add_signatures_of<'a>(
         &self,
         specs: &mut Specs<'a>,
@@ -451,26 +443,22 @@ impl<'r> Reader<'r> {
 }
 
 impl<'a> Specs<'a> {
-    // Where the model of a type was said.
     fn modelled_at(&self, ty: TypeId) -> Option<Pos> {
         *self.modelled.get(ty.index())?
     }
 
-    // Notes where the model of a type was said.
     fn note_modelled(&mut self, ty: TypeId, pos: Pos) {
         if let Some(entry) = self.modelled.get_mut(ty.index()) {
             *entry = Some(pos);
         }
     }
 
-    // Notes what the variants of an enum stand for.
     fn note_variants(&mut self, ty: TypeId, values: &'a [VariantValue]) {
         if let Some(entry) = self.variants.get_mut(ty.index()) {
             *entry = values;
         }
     }
 
-    // Notes the spec of a term.
     fn note_spec(&mut self, term: TermId, said: &'a Spec) {
         if let Some(entry) = self.terms.get_mut(term.index()) {
             entry.spec = Some(said);
@@ -482,7 +470,6 @@ impl<'a> Specs<'a> {
         self.terms.get(term.index())?.instantiated
     }
 
-    // Notes the signatures of a term.
     fn note_signatures(&mut self, term: TermId, pos: Pos, signatures: &'a [Signature]) {
         if let Some(entry) = self.terms.get_mut(term.index()) {
             entry.instantiated = Some(pos);
@@ -506,7 +493,6 @@ fn note(
     Ok(())
 }
 
-// Notes the model of a type, or what is wrong with it.
 fn note_model(
     specs: &mut Specs<'_>,
     ty: TypeId,
@@ -548,7 +534,6 @@ fn macro_called<'a>(macros: &[&'a Macro], name: &str) -> Option<&'a Macro> {
     None
 }
 
-// The form of a name.
 fn form_of<'a>(forms: &[&'a Form], name: &Ident) -> Option<&'a Form> {
     for form in forms {
         if form.name.0.as_str() == name.0.as_str() {

@@ -95,7 +95,6 @@ impl Walk {
         Some(self.place)
     }
 
-    // Goes past a character.
     fn past(self, c: char) -> Walk
         requires line { self.place.line < usize.MAX }
         requires character { self.place.character + units c ≤ usize.MAX }

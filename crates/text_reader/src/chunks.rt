@@ -108,7 +108,6 @@ fn longer(mut chunk: Chunk, c: char, end: usize) -> Result<Chunk, AllocError>
     Ok(chunk)
 }
 
-// Whether a character begins a chunk.
 fn begins_chunk(place: CharacterPlace, c: char) -> bool
     ensures { result ≡ begins_chunk place c }
 {

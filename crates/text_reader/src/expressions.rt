@@ -71,7 +71,6 @@ fn let_expression(at: Source, forms: &[TextForm], pos: Pos, end: Pos) -> Result<
     }
 }
 
-// The definitions of a let.
 #[cycle(expression)]
 fn let_definitions(at: Source, form: &TextForm) -> Result<Vec<LetDef>, ReadFault>
     requires { FormIsWithin at.file at.len form.now }
@@ -88,7 +87,6 @@ fn let_definitions(at: Source, form: &TextForm) -> Result<Vec<LetDef>, ReadFault
     }
 }
 
-// The definitions of a let that forms are.
 #[cycle(expression)]
 fn let_definitions_of(at: Source, forms: &[TextForm]) -> Result<Vec<LetDef>, ReadFault>
     requires { FormsAreWithin at.file at.len forms.now }
@@ -102,7 +100,6 @@ fn let_definitions_of(at: Source, forms: &[TextForm]) -> Result<Vec<LetDef>, Rea
     Ok(defs)
 }
 
-// One definition of a let.
 #[cycle(expression)]
 fn let_definition(at: Source, form: &TextForm) -> Result<LetDef, ReadFault>
     requires { FormIsWithin at.file at.len form.now }
@@ -153,7 +150,6 @@ fn arguments(at: Source, parts: &[TextForm]) -> Result<Vec<Expr>, ReadFault>
     Ok(expressions)
 }
 
-// A term's call.
 fn call(at: Source, sym: Ident, args: Vec<Expr>, pos: Pos) -> Expr
     requires sym { IdentIsWithin at.file at.len sym }
     requires args { All (λ e. ExprIsWithin at.file at.len (expr_view e)) args.items }
@@ -164,7 +160,6 @@ fn call(at: Source, sym: Ident, args: Vec<Expr>, pos: Pos) -> Expr
     Expr::Term { sym, args, pos }
 }
 
-// An expression under definitions.
 fn let_in(at: Source, defs: Vec<LetDef>, body: Expr, pos: Pos) -> Result<Expr, ReadFault>
     requires defs { All (LetIsWithin at.file at.len) defs.items }
     requires body { ExprIsWithin at.file at.len (expr_view body) }
@@ -189,7 +184,6 @@ fn defined(at: Source, var: Ident, ty: Ident, val: Expr, pos: Pos) -> Result<Let
     Ok(LetDef { var, ty, val, pos })
 }
 
-// A word as an expression.
 fn word_expression(at: Source, word: &Ident) -> Result<Expr, ReadFault>
     requires { IdentIsWithin at.file at.len word.now }
     ensures read { Gives expr_view result (Ok (word_expr_of (name_view word.now))) }

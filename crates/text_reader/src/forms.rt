@@ -105,7 +105,6 @@ fn unclosed(at: Source, begin: Pos) -> ReadFault
     })
 }
 
-// Reads one more token.
 fn add(
     at: Source,
     token: Token,

@@ -46,7 +46,6 @@ fn model_value(at: Source, form: &TextForm) -> Result<ModelValue, ReadFault>
     }
 }
 
-// What variants stand for.
 fn variant_values(at: Source, forms: &[TextForm]) -> Result<Vec<VariantValue>, ReadFault>
     requires { FormsAreWithin at.file at.len forms.now }
     ensures { Gives (λ vs. map variant_value_view vs.items) result (variant_values_of (all_view forms.now)) }

@@ -25,7 +25,6 @@ pub fn number(at: Source, word: &[u8], pos: Pos) -> Result<i128, ReadFault>
     }
 }
 
-// The number, or what is wrong with it.
 #[tactic(auto, unfolding(crate::specs::Numbers::number_of))]
 fn number_or_mistake(word: &[u8]) -> Result<i128, Mistake>
     ensures { result ≡ number_of word.now }

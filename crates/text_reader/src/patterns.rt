@@ -113,7 +113,6 @@ fn term(at: Source, sym: Ident, args: Vec<Pattern>, pos: Pos) -> Pattern
     Pattern::Term { sym, args, pos }
 }
 
-// A word as a pattern.
 fn word_pattern(at: Source, word: &Ident) -> Result<Pattern, ReadFault>
     requires { IdentIsWithin at.file at.len word.now }
     ensures read { Gives pattern_view result (Ok (word_pattern_of (name_view word.now))) }

@@ -51,7 +51,6 @@ fn push_said(
     }
 }
 
-// What a form says, if it is for a verifier.
 fn said_by(at: Source, form: &TextForm) -> Result<Option<VerificationForm>, ReadFault>
     requires { FormIsWithin at.file at.len form.now }
     ensures { Gives (option_map verification_view) result (said_of (form_view form.now)) }
@@ -75,7 +74,6 @@ fn is_passed_over(form: &TextForm) -> bool
     }
 }
 
-// What a form says for a verifier.
 fn verification(at: Source, form: &TextForm) -> Result<VerificationForm, ReadFault>
     requires { FormIsWithin at.file at.len form.now }
     ensures { Gives verification_view result (verification_of (form_view form.now)) }

@@ -56,7 +56,6 @@ pub fn recover(alloc: Global, file: usize, text: &str) -> Result<Recovered, Allo
     }
 }
 
-// What the chunks of a text give.
 fn in_chunks(alloc: Global, file: usize, text: &str) -> Result<Recovered, AllocError>
     ensures { IfOk result (λ r. recovery_view r ≡ of_parts file (chunks_of (chars text.now))) }
 {
@@ -64,7 +63,6 @@ fn in_chunks(alloc: Global, file: usize, text: &str) -> Result<Recovered, AllocE
     of_chunks(alloc, file, chunks.as_slice())
 }
 
-// What chunks give.
 fn of_chunks(alloc: Global, file: usize, chunks: &[Chunk]) -> Result<Recovered, AllocError>
     requires { All Ends chunks.now }
     ensures { IfOk result (λ r. recovery_view r ≡ of_parts file (part_views chunks.now)) }
@@ -85,7 +83,6 @@ fn of_chunks(alloc: Global, file: usize, chunks: &[Chunk]) -> Result<Recovered, 
 }
 
 impl Recovered {
-    // Adds what a chunk gives.
     fn read_chunk(&mut self, at: Source, chunk: &Chunk) -> Result<(), AllocError>
         requires end { at.len ≡ chunk.now.end }
         requires ends { Ends chunk.now }
@@ -112,7 +109,6 @@ impl Recovered {
         Ok(())
     }
 
-    // Adds a definition, or what is wrong with it.
     fn add(&mut self, found: Result<Def, ReadFault>) -> Result<(), AllocError>
         ensures { IfOk result (λ _. (read : Result Definition Wrong) → Gives definition_view found read → recovery_view self.new ≡ beside (recovery_view self.old) (one_of read)) }
     {
@@ -130,7 +126,6 @@ impl Recovered {
     }
 }
 
-// The forms of a chunk.
 fn forms_in(at: Source, chunk: &Chunk) -> Result<Vec<TextForm>, ReadFault>
     requires end { at.len ≡ chunk.now.end }
     requires ends { Ends chunk.now }

@@ -100,7 +100,6 @@ fn parted<'a>(
     }
 }
 
-// The conditions that forms are.
 fn iflets(at: Source, forms: &[TextForm]) -> Result<Vec<IfLet>, ReadFault>
     requires { FormsAreWithin at.file at.len forms.now }
     ensures read { Gives (λ ls. map iflet_view ls.items) result (statements_of (all_view forms.now)) }
@@ -113,7 +112,6 @@ fn iflets(at: Source, forms: &[TextForm]) -> Result<Vec<IfLet>, ReadFault>
     Ok(iflets)
 }
 
-// The condition that a form is.
 fn statement(at: Source, form: &TextForm) -> Result<IfLet, ReadFault>
     requires { FormIsWithin at.file at.len form.now }
     ensures read { Gives iflet_view result (statement_of (form_view form.now)) }

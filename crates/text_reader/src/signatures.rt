@@ -52,7 +52,6 @@ pub fn instantiation(at: Source, parts: Parts<'_>) -> Result<Instantiation, Read
     })
 }
 
-// Whether a word comes next.
 fn begins_with_word(forms: &[TextForm]) -> bool
     ensures { result ≡ begins_with_word (all_view forms.now) }
 {
@@ -74,7 +73,6 @@ fn by_form(at: Source, term: Ident, parts: Parts<'_>, pos: Pos) -> Result<Instan
     })
 }
 
-// The signatures that forms are.
 fn signatures(at: Source, forms: &[TextForm]) -> Result<Vec<Signature>, ReadFault>
     requires { FormsAreWithin at.file at.len forms.now }
     ensures { Gives (λ ss. map signature_view ss.items) result (signatures_of (all_view forms.now)) }
@@ -122,7 +120,6 @@ pub fn attributes(at: Source, parts: Parts<'_>) -> Result<Attr, ReadFault>
     })
 }
 
-// The attributes that forms are.
 fn attribute_kinds(at: Source, forms: &[TextForm]) -> Result<Vec<AttrKind>, ReadFault>
     requires { FormsAreWithin at.file at.len forms.now }
     ensures { Gives (λ ks. map attr_kind_view ks.items) result (attr_kinds_of (all_view forms.now)) }

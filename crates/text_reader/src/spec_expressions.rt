@@ -43,7 +43,6 @@ pub fn expressions(at: Source, forms: &[TextForm]) -> Result<Vec<SpecExpr>, Read
     Ok(expressions)
 }
 
-// The expression that a form is.
 #[cycle(expression)]
 fn expression(at: Source, form: &TextForm) -> Result<SpecExpr, ReadFault>
     requires { FormIsWithin at.file at.len form.now }
@@ -65,7 +64,6 @@ fn expression(at: Source, form: &TextForm) -> Result<SpecExpr, ReadFault>
     }
 }
 
-// The expression that the list with these parts is.
 #[cycle(expression)]
 fn list_expression(
     at: Source,
@@ -161,7 +159,6 @@ fn let_in(
     }
 }
 
-// The definitions that a form is.
 #[cycle(expression)]
 fn definitions(at: Source, form: &TextForm) -> Result<Vec<SpecExpr>, ReadFault>
     requires { FormIsWithin at.file at.len form.now }
@@ -253,7 +250,6 @@ fn pairs(at: Source, parts: &[TextForm], from: usize) -> Result<Vec<SpecExpr>, R
     Ok(pairs)
 }
 
-// The pair that a form is.
 #[cycle(expression)]
 fn pair(at: Source, form: &TextForm) -> Result<SpecExpr, ReadFault>
     requires { FormIsWithin at.file at.len form.now }
@@ -269,7 +265,6 @@ fn pair(at: Source, form: &TextForm) -> Result<SpecExpr, ReadFault>
     }
 }
 
-// The pair with these parts.
 #[cycle(expression)]
 fn pair_in(at: Source, parts: &[TextForm], pos: Pos) -> Result<SpecExpr, ReadFault>
     requires { FormsAreWithin at.file at.len parts.now }
@@ -296,14 +291,12 @@ pub fn is_empty(parts: &[TextForm]) -> bool
     }
 }
 
-// An operator on arguments.
 fn operation(op: Ident, args: Vec<SpecExpr>, pos: Pos) -> SpecExpr
     ensures { spec_expr_view result ≡ spec_op (name_view op) (spec_expr_views args.items) (position pos) }
 {
     SpecExpr::Op { op, args, pos }
 }
 
-// A value and its cases.
 fn with_cases(
     at: Source,
     op: Ident,
@@ -322,7 +315,6 @@ fn with_cases(
     })
 }
 
-// An expression under definitions.
 fn under_definitions(
     at: Source,
     defs: Vec<SpecExpr>,
@@ -335,7 +327,6 @@ fn under_definitions(
     Ok(SpecExpr::Let { defs, body, pos })
 }
 
-// An expression under names.
 fn under_names(
     at: Source,
     names: Vec<Ident>,
@@ -348,7 +339,6 @@ fn under_names(
     Ok(SpecExpr::With { names, body, pos })
 }
 
-// An expression of a type.
 fn of_type(at: Source, value: SpecExpr, ty: ModelType, pos: Pos) -> Result<SpecExpr, ReadFault>
     ensures { Gives spec_expr_view result (Ok (spec_as (spec_expr_view value) (model_type_view ty) (position pos))) }
 {
@@ -467,7 +457,6 @@ fn are_few(count: usize, each: usize) -> bool
     }
 }
 
-// Whether all bytes are digits of a base.
 fn are_digits(digits: &[u8], radix: u32) -> bool
     ensures { result ≡ are_digits radix digits.now }
 {

@@ -37,7 +37,6 @@ pub fn spec(at: Source, parts: Parts<'_>) -> Result<Spec, ReadFault>
     with_parts(at, begun, rest.forms)
 }
 
-// A spec with the parts that forms are.
 fn with_parts(at: Source, begun: Spec, forms: &[TextForm]) -> Result<Spec, ReadFault>
     requires { FormsAreWithin at.file at.len forms.now }
     ensures { Gives spec_view result (with_parts_of (spec_view begun) (all_view forms.now)) }
@@ -49,7 +48,6 @@ fn with_parts(at: Source, begun: Spec, forms: &[TextForm]) -> Result<Spec, ReadF
     Ok(spec)
 }
 
-// Adds the part that a form is.
 fn add_part(at: Source, spec: &mut Spec, form: &TextForm) -> Result<(), ReadFault>
     requires { FormIsWithin at.file at.len form.now }
     ensures { Gives (λ _. spec_view spec.new) result (with_part_of (spec_view spec.old) (form_view form.now)) }
@@ -58,7 +56,6 @@ fn add_part(at: Source, spec: &mut Spec, form: &TextForm) -> Result<(), ReadFaul
     add_section(at, spec, head, rest)
 }
 
-// Adds the part with this head.
 fn add_section(at: Source, spec: &mut Spec, head: &Ident, parts: Parts<'_>) -> Result<(), ReadFault>
     requires { PartsAreWithin at.file at.len parts }
     ensures { Gives (λ _. spec_view spec.new) result (with_section (spec_view spec.old) (name_view head.now) (parts_view parts.entry)) }

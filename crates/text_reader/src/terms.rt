@@ -93,7 +93,6 @@ fn read_flags(at: Source, forms: &[TextForm]) -> Result<Flags, ReadFault>
     Ok(flags)
 }
 
-// The flags with one more.
 fn with_flag(at: Source, flags: Flags, form: &TextForm) -> Result<Flags, ReadFault>
     requires { FormIsWithin at.file at.len form.now }
     ensures read { Gives flags_view result (with_flag_of (flags_view flags) (form_view form.now)) }

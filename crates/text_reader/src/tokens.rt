@@ -237,7 +237,6 @@ fn pop_word(at: Source, tokens: &mut Vec<Token>) -> Option<Ident>
     }
 }
 
-// The name that a token is.
 fn as_word(at: Source, token: Token) -> Option<Ident>
     requires { TokenIsWithin at.file at.len token }
     ensures bound { binder_of (token_view token) ≡ option_map (λ i. binder (name_view i) ∷ []) result }
@@ -275,7 +274,6 @@ fn finish(at: Source, state: LexerState, tokens: &mut Vec<Token>) -> Result<(), 
     }
 }
 
-// Adds a token.
 fn add(at: Source, token: Token, tokens: &mut Vec<Token>) -> Result<(), ReadFault>
     requires token { TokenIsWithin at.file at.len token }
     requires tokens { TokensAreWithin at.file at.len tokens.old.items }
@@ -302,7 +300,6 @@ fn word_or_number(at: Source, name: Ident) -> Result<Token, ReadFault>
     Ok(Token::Word(name))
 }
 
-// A word of one character.
 fn word_of(at: Source, pos: Pos, c: char) -> Result<Ident, ReadFault>
     requires { PosIsWithin at.file at.len pos }
     ensures read { Gives name_view result (Ok (record { text = encode_utf8 c; at = position pos })) }
@@ -313,7 +310,6 @@ fn word_of(at: Source, pos: Pos, c: char) -> Result<Ident, ReadFault>
     Ok(Ident(text, pos))
 }
 
-// Whether a word begins like a number.
 fn begins_number(word: &[u8]) -> bool
     ensures { result ≡ begins_number word.now }
 {
@@ -324,7 +320,6 @@ fn begins_number(word: &[u8]) -> bool
     }
 }
 
-// Whether a word begins with `-`.
 fn begins_with_dash(word: &[u8]) -> bool
     ensures { result ≡ (slice_index word.now 0 == 45) }
 {

@@ -40,7 +40,6 @@ pub fn type_definition(at: Source, parts: Parts<'_>) -> Result<Def, ReadFault>
     }))
 }
 
-// What a type is.
 fn type_value(at: Source, form: &TextForm) -> Result<TypeValue, ReadFault>
     requires { FormIsWithin at.file at.len form.now }
     ensures read { Gives type_value_view result (type_value_of (form_view form.now)) }
@@ -76,7 +75,6 @@ fn primitive(at: Source, parts: Parts<'_>) -> Result<TypeValue, ReadFault>
     Ok(TypeValue::Primitive(name, parts.pos))
 }
 
-// The variants that forms are.
 fn variants(at: Source, forms: &[TextForm]) -> Result<Vec<Variant>, ReadFault>
     requires { FormsAreWithin at.file at.len forms.now }
     ensures read { Gives (λ vs. map variant_view vs.items) result (variants_of (all_view forms.now)) }
@@ -134,7 +132,6 @@ fn fields(at: Source, forms: &[TextForm]) -> Result<Fields, ReadFault>
     }
 }
 
-// Fields with names.
 fn named_fields(at: Source, forms: &[TextForm]) -> Result<Fields, ReadFault>
     requires { FormsAreWithin at.file at.len forms.now }
     ensures read { Gives fields_view result (with_names_of (all_view forms.now)) }

@@ -31,7 +31,6 @@ pub fn expr_is_spellable(expr: &Expr, room: usize) -> bool
     }
 }
 
-// Whether several expressions can be spelled.
 #[cycle(spellable)]
 fn exprs_are_spellable(exprs: &[Expr], room: usize) -> bool
     ensures { result ≡ exprs_are_spellable (expr_views exprs.now) room }
@@ -44,7 +43,6 @@ fn exprs_are_spellable(exprs: &[Expr], room: usize) -> bool
     true
 }
 
-// Whether the definitions of a let can be spelled.
 #[cycle(spellable)]
 fn lets_are_spellable(defs: &[LetDef], room: usize) -> bool
     ensures { result ≡ lets_are_spellable (let_views defs.now) room }
@@ -57,7 +55,6 @@ fn lets_are_spellable(defs: &[LetDef], room: usize) -> bool
     true
 }
 
-// Whether one of them can be spelled.
 #[cycle(spellable)]
 fn let_is_spellable(def: &LetDef, room: usize) -> bool
     ensures { result ≡ lets_are_spellable (let_views (def.now ∷ [])) room }
@@ -140,7 +137,6 @@ fn push_lets(out: &mut String, defs: &[LetDef]) -> Result<(), AllocError>
     Ok(())
 }
 
-// Adds one definition of a let.
 #[cycle(expression)]
 fn push_let_def(out: &mut String, def: &LetDef) -> Result<(), AllocError>
     ensures { OnOk result (string_bytes out.new ≡ string_bytes out.old ++ parted (let_forms (let_views (def.now ∷ [])))) }

@@ -38,7 +38,6 @@ pub fn formatted(alloc: Global, file: usize, text: &str) -> Result<String, ReadF
     Ok(made)
 }
 
-// A text, laid out.
 fn laid_out_text(alloc: Global, text: &str) -> Result<String, AllocError>
     ensures { IfOk result (λ new. (ps : List Piece) → AreIn 0 (chars text.now) ps → chars (string_bytes new) ≡ text_of (laid ps)) }
 {

@@ -206,7 +206,6 @@ fn past(at: LineColumn, c: char) -> Result<LineColumn, AllocError>
     })
 }
 
-// Writes a character so many times.
 fn push_times(text: &mut String, c: char, times: usize) -> Result<(), AllocError>
     ensures { IfOk result (λ _. chars (string_bytes text.new) ≡ chars (string_bytes text.old) ++ replicate times c) }
 {

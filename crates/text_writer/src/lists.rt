@@ -40,7 +40,6 @@ struct Head {
     line: usize,
 }
 
-// A list that is open.
 #[derive(Clone, Copy)]
 struct OpenList {
     // the column of its parenthesis

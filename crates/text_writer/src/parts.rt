@@ -111,7 +111,6 @@ fn scanned(alloc: Global, text: &str) -> Result<Vec<PlacedPart>, AllocError>
 }
 
 impl Scan {
-    // Reads one more character.
     fn next(&mut self, state: State, c: char) -> Result<State, AllocError>
         ensures { IfOk result (λ after. (mode_view after, placing_view self.new) ≡ step with_piece (mode_view state) (placing_view self.old) c) }
     {
@@ -204,7 +203,6 @@ impl Scan {
         Ok(())
     }
 
-    // Adds a part.
     fn add(&mut self, part: Part) -> Result<State, AllocError>
         ensures { IfOk result (λ after. (mode_view after, placing_view self.new) ≡ resting (with_kept (part_view part) (placing_view self.old))) }
     {
@@ -230,21 +228,18 @@ fn sign_part(name: String) -> Part
     }
 }
 
-// The empty text.
 fn empty(alloc: Global) -> String
     ensures { chars (string_bytes result) ≡ [] }
 {
     String::new(alloc)
 }
 
-// A text of one character.
 fn char_text(alloc: Global, c: char) -> Result<String, AllocError>
     ensures { IfOk result (λ made. chars (string_bytes made) ≡ c ∷ []) }
 {
     with_char(empty(alloc), c)
 }
 
-// A text with one more character.
 fn with_char(mut text: String, c: char) -> Result<String, AllocError>
     ensures { IfOk result (λ made. chars (string_bytes made) ≡ chars (string_bytes text) ++ c ∷ []) }
 {
@@ -269,7 +264,6 @@ fn without_returns(mut comment: String) -> Result<String, AllocError>
     }
 }
 
-// Whether a character may stand in a word.
 fn is_in_word(c: char) -> bool
     ensures { result ≡ is_in_word c }
 {

@@ -37,7 +37,6 @@ pub fn pattern_is_spellable(pattern: &Pattern, room: usize) -> bool
     }
 }
 
-// Whether several patterns can be spelled.
 #[cycle(spellable)]
 fn patterns_are_spellable(patterns: &[Pattern], room: usize) -> bool
     ensures { result ≡ patterns_are_spellable (pattern_views patterns.now) room }
@@ -96,7 +95,6 @@ pub fn push_pattern(out: &mut String, pattern: &Pattern) -> Result<(), AllocErro
     }
 }
 
-// Adds a list of a word and patterns.
 #[cycle(pattern)]
 fn push_pattern_list(out: &mut String, head: &str, patterns: &[Pattern]) -> Result<(), AllocError>
     ensures { OnOk result (string_bytes out.new

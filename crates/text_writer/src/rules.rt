@@ -56,7 +56,6 @@ fn begins_with_pattern(name: &Option<Ident>, prio: Option<i64>, pattern: &Patter
     !is_written_as_number(pattern) && (name.is_some() || !is_written_as_word(pattern))
 }
 
-// Whether all conditions can be spelled.
 fn if_lets_are_spellable(if_lets: &[IfLet]) -> bool
     ensures { result ≡ list_all if_let_is_spellable (map iflet_view if_lets.now) }
 {
@@ -68,7 +67,6 @@ fn if_lets_are_spellable(if_lets: &[IfLet]) -> bool
     true
 }
 
-// Whether a condition can be spelled.
 fn if_let_is_spellable(if_let: &IfLet) -> bool
     ensures { result ≡ if_let_is_spellable (iflet_view if_let.now) }
 {
@@ -137,7 +135,6 @@ fn push_if_lets(out: &mut String, if_lets: &[IfLet]) -> Result<(), AllocError>
     Ok(())
 }
 
-// Adds a condition.
 fn push_if_let(out: &mut String, if_let: &IfLet) -> Result<(), AllocError>
     ensures { OnOk result (string_bytes out.new ≡ string_bytes out.old ++ written (if_let_form (iflet_view if_let.now))) }
 {

@@ -62,7 +62,6 @@ fn push_signatures(out: &mut String, signatures: &[Signature]) -> Result<(), All
     Ok(())
 }
 
-// Adds a signature.
 fn push_signature(out: &mut String, signature: &Signature) -> Result<(), AllocError>
     ensures { OnOk result (string_bytes out.new ≡ string_bytes out.old ++ written (signature_form (signature_view signature.now))) }
 {
@@ -107,7 +106,6 @@ fn push_kinds(out: &mut String, kinds: &[AttrKind]) -> Result<(), AllocError>
     Ok(())
 }
 
-// Adds an attribute.
 fn push_kind(out: &mut String, kind: &AttrKind) -> Result<(), AllocError>
     ensures { OnOk result (string_bytes out.new ≡ string_bytes out.old ++ written (attr_kind_form (attr_kind_view kind.now))) }
 {

@@ -108,7 +108,6 @@ fn push_rest(out: &mut String, exprs: &[SpecExpr]) -> Result<(), AllocError>
     out.push_str(")")
 }
 
-// Adds names and what is under them.
 #[cycle(printing)]
 fn push_with(out: &mut String, names: &[Ident], body: &SpecExpr) -> Result<(), AllocError>
     ensures { OnOk result (string_bytes out.new
@@ -120,7 +119,6 @@ fn push_with(out: &mut String, names: &[Ident], body: &SpecExpr) -> Result<(), A
     push_last(out, body)
 }
 
-// Adds a value and its type.
 #[cycle(printing)]
 fn push_as(out: &mut String, value: &SpecExpr, ty: &ModelType) -> Result<(), AllocError>
     ensures { OnOk result (string_bytes out.new
@@ -146,7 +144,6 @@ fn push_exprs(out: &mut String, exprs: &[SpecExpr]) -> Result<(), AllocError>
     Ok(())
 }
 
-// Adds a list of expressions.
 #[cycle(printing)]
 fn push_group(out: &mut String, exprs: &[SpecExpr]) -> Result<(), AllocError>
     ensures { OnOk result (string_bytes out.new ≡ string_bytes out.old ++ written (list_form (spec_expr_forms (spec_expr_views exprs.now)))) }

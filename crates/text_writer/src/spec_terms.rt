@@ -123,7 +123,6 @@ fn push_variants(out: &mut String, values: &[VariantValue]) -> Result<(), AllocE
     Ok(())
 }
 
-// Adds what a variant stands for.
 fn push_variant(out: &mut String, variant: &VariantValue) -> Result<(), AllocError>
     ensures { OnOk result (string_bytes out.new ≡ string_bytes out.old ++ written (variant_value_form (variant_value_view variant.now))) }
 {

@@ -60,7 +60,6 @@ pub fn can_be_spelled(form: &VerificationForm) -> bool
     }
 }
 
-// Whether a spec can be spelled.
 fn spec_is_spellable(spec: &Spec) -> bool
     ensures { result ≡ spec_is_spellable (spec_view spec.now) }
 {
@@ -72,7 +71,6 @@ fn spec_is_spellable(spec: &Spec) -> bool
         && states_are_spellable(&spec.modifies)
 }
 
-// Whether a part of a spec can be spelled, if it is there.
 fn part_is_spellable(part: &Option<Vec<SpecExpr>>) -> bool
     ensures { result ≡ part_is_spellable (exprs_view part.now) }
 {
@@ -101,7 +99,6 @@ fn modifies_is_spellable(modifies: &Modifies) -> bool
     is_any_word(&modifies.state) && is_no_name_or_any_word(&modifies.cond)
 }
 
-// Whether a model can be spelled.
 fn model_is_spellable(model: &Model) -> bool
     ensures { result ≡ model_is_spellable (model_view model.now) }
 {
@@ -119,7 +116,6 @@ fn value_is_spellable(value: &ModelValue) -> bool
     }
 }
 
-// Whether what variants stand for can be spelled.
 fn variants_are_spellable(values: &[VariantValue]) -> bool
     ensures { result ≡ list_all variant_value_is_spellable (map variant_value_view values.now) }
 {
@@ -131,14 +127,12 @@ fn variants_are_spellable(values: &[VariantValue]) -> bool
     true
 }
 
-// Whether what a variant stands for can be spelled.
 fn variant_is_spellable(variant: &VariantValue) -> bool
     ensures { result ≡ variant_value_is_spellable (variant_value_view variant.now) }
 {
     is_any_word(&variant.name) && is_no_value_or_spellable(&variant.value)
 }
 
-// Whether a value can be spelled, if it is there.
 fn is_no_value_or_spellable(value: &Option<SpecExpr>) -> bool
     ensures { result ≡ is_no_value_or_spellable (option_map spec_expr_view value.now) }
 {
@@ -148,14 +142,12 @@ fn is_no_value_or_spellable(value: &Option<SpecExpr>) -> bool
     }
 }
 
-// Whether a form of signatures can be spelled.
 fn form_is_spellable(form: &Form) -> bool
     ensures { result ≡ can_be_spelled (a_form (signatures_view form.now)) }
 {
     is_any_word(&form.name) && signatures_are_spellable(&form.signatures)
 }
 
-// Whether all signatures can be spelled.
 fn signatures_are_spellable(signatures: &[Signature]) -> bool
     ensures { result ≡ signatures_are_spellable (map signature_view signatures.now) }
 {
@@ -167,7 +159,6 @@ fn signatures_are_spellable(signatures: &[Signature]) -> bool
     true
 }
 
-// Whether a signature can be spelled.
 fn signature_is_spellable(signature: &Signature) -> bool
     ensures { result ≡ signature_is_spellable (signature_view signature.now) }
 {
@@ -188,7 +179,6 @@ fn types_are_spellable(types: &[ModelType]) -> bool
     true
 }
 
-// Whether the signatures of a term can be spelled.
 fn instantiation_is_spellable(instantiation: &Instantiation) -> bool
     ensures { result ≡ can_be_spelled (an_instantiation (instantiation_view instantiation.now)) }
 {
@@ -234,7 +224,6 @@ fn kinds_are_spellable(kinds: &[AttrKind]) -> bool
     true
 }
 
-// Whether an attribute can be spelled.
 fn kind_is_spellable(kind: &AttrKind) -> bool
     ensures { result ≡ attr_kind_is_spellable (attr_kind_view kind.now) }
 {
@@ -244,7 +233,6 @@ fn kind_is_spellable(kind: &AttrKind) -> bool
     }
 }
 
-// Whether a state can be spelled.
 fn state_is_spellable(state: &State) -> bool
     ensures { result ≡ state_is_spellable (state_view state.now) }
 {
@@ -253,7 +241,6 @@ fn state_is_spellable(state: &State) -> bool
         && expr_is_spellable(&state.default, 998)
 }
 
-// Whether a macro can be spelled.
 fn macro_is_spellable(definition: &Macro) -> bool
     ensures { result ≡ macro_is_spellable (macro_view definition.now) }
 {

@@ -76,7 +76,6 @@ pub fn exprs_are_spellable(exprs: &[SpecExpr], room: usize) -> bool
     true
 }
 
-// Whether an operator and its arguments can be spelled.
 #[cycle(spellable)]
 fn operation_is_spellable(op: &Ident, args: &[SpecExpr], room: usize) -> bool
     ensures { result ≡ (nat_lt 0 room && is_operator (name_view op.now) && spec_exprs_are_spellable (spec_expr_views args.now) (room - 1)) }
@@ -92,7 +91,6 @@ fn value_is_spellable(op: &Ident, value: &SpecExpr, room: usize) -> bool
     room > 0 && has_cases(op) && expr_is_spellable(value, room - 1)
 }
 
-// Whether the definitions of a let can be spelled.
 #[cycle(spellable)]
 fn defs_are_spellable(defs: &[SpecExpr], room: usize) -> bool
     ensures { result ≡ (nat_lt 1 room && pairs_are_spellable (spec_expr_views defs.now) (room - 2)) }
@@ -100,7 +98,6 @@ fn defs_are_spellable(defs: &[SpecExpr], room: usize) -> bool
     room > 1 && pairs_are_spellable(defs, room - 2)
 }
 
-// Whether names and what is under them can be spelled.
 #[cycle(spellable)]
 fn with_is_spellable(names: &[Ident], body: &SpecExpr, room: usize) -> bool
     ensures { result
@@ -109,7 +106,6 @@ fn with_is_spellable(names: &[Ident], body: &SpecExpr, room: usize) -> bool
     room > 1 && are_any_words(names) && expr_is_spellable(body, room - 1)
 }
 
-// Whether a value and its type can be spelled.
 #[cycle(spellable)]
 fn as_is_spellable(value: &SpecExpr, ty: &ModelType, room: usize) -> bool
     ensures { result
@@ -118,7 +114,6 @@ fn as_is_spellable(value: &SpecExpr, ty: &ModelType, room: usize) -> bool
     room > 0 && expr_is_spellable(value, room - 1) && type_is_spellable(ty, room - 1)
 }
 
-// Whether several pairs can be spelled.
 #[cycle(spellable)]
 fn pairs_are_spellable(exprs: &[SpecExpr], room: usize) -> bool
     ensures { result ≡ pairs_are_spellable (spec_expr_views exprs.now) room }

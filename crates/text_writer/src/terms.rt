@@ -132,7 +132,6 @@ fn push_constructor(out: &mut String, term: &Ident, func: &Ident) -> Result<(), 
     out.push_str(")")
 }
 
-// Adds an extractor that is defined outside.
 #[tactic(auto, unfolding(crate::specs::Forms::flag_before))]
 fn push_external_extractor(
     out: &mut String,
@@ -151,7 +150,6 @@ fn push_external_extractor(
     out.push_str(")")
 }
 
-// Adds a constant that is defined outside.
 fn push_external_constant(out: &mut String, name: &Ident, ty: &Ident) -> Result<(), AllocError>
     ensures { OnOk result (string_bytes out.new
         ≡ string_bytes out.old ++ written (extern_form (extern_const (name_view name.now) (name_view ty.now) nowhere))) }

@@ -20,7 +20,6 @@ pub fn type_is_spellable(ty: &Type) -> bool
     is_word(&ty.name) && value_is_spellable(&ty.ty)
 }
 
-// Whether what a type is can be spelled.
 fn value_is_spellable(value: &TypeValue) -> bool
     ensures { result ≡ value_is_spellable (type_value_view value.now) }
 {
@@ -31,7 +30,6 @@ fn value_is_spellable(value: &TypeValue) -> bool
     }
 }
 
-// Whether all variants can be spelled.
 fn are_spellable(variants: &[Variant]) -> bool
     ensures { result ≡ list_all variant_is_spellable (map variant_view variants.now) }
 {
@@ -43,7 +41,6 @@ fn are_spellable(variants: &[Variant]) -> bool
     true
 }
 
-// Whether a variant can be spelled.
 fn variant_is_spellable(variant: &Variant) -> bool
     ensures { result ≡ variant_is_spellable (variant_view variant.now) }
 {
@@ -61,7 +58,6 @@ fn fields_are_spellable(fields: &Fields) -> bool
     }
 }
 
-// Whether fields with names can be spelled.
 fn named_are_spellable(fields: &[StructField]) -> bool
     ensures { result ≡ list_all field_is_spellable (map field_view fields.now) }
 {
@@ -73,7 +69,6 @@ fn named_are_spellable(fields: &[StructField]) -> bool
     true
 }
 
-// Whether a field with a name can be spelled.
 fn field_is_spellable(field: &StructField) -> bool
     ensures { result ≡ field_is_spellable (field_view field.now) }
 {

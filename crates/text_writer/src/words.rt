@@ -97,7 +97,6 @@ fn begins_word(text: &[u8]) -> bool
     }
 }
 
-// Whether there is some text.
 fn is_some_text(text: &[u8]) -> bool
     ensures { result ≡ is_some_text text.now }
 {

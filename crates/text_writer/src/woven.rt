@@ -76,7 +76,6 @@ fn push_item(
     }
 }
 
-// Adds a definition that stands there.
 fn push_defined(out: &mut String, def: &Def, place: Pos) -> Result<(), SpecPrintFault>
     ensures added { OnOk result (added (string_bytes out.old) (defined_item (definition_view def.now) (position place)) ≡ Ok (string_bytes out.new)) }
     ensures trouble { IfErr result (λ e. IsTrouble e (defined_item (definition_view def.now) (position place))) }

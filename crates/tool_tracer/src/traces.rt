@@ -37,7 +37,6 @@ fn answer_to_defs(alloc: Global, text: &str, defs: &[Def]) -> Result<TreesOrErro
     }
 }
 
-// The traces of all terms.
 fn traces(alloc: Global, lowered: &Lowered, places: Places<'_>) -> Result<String, AllocError> {
     let mut out = String::new(alloc);
     for term in &lowered.terms {
@@ -67,14 +66,12 @@ fn push_term(
     Ok(())
 }
 
-// Adds a rule with its result's site.
 fn push_rule(out: &mut String, lowered: &Lowered, rule: &Rule) -> Result<(), AllocError> {
     let name = name_of(lowered, rule.id);
     let number = rule.result.index();
     write!(out, "  rule {name} returns b{number}, at ")
 }
 
-// The name of a rule.
 fn name_of(lowered: &Lowered, id: RuleId) -> &str {
     or_nameless(rule_name(&lowered.tyenv, &lowered.termenv, id))
 }

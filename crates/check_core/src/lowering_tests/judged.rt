@@ -239,7 +239,6 @@ fn refuses_changed_trees(rt: HostRuntime) -> Result<(), Fail> {
     Ok(())
 }
 
-// A match with one arm.
 fn match_one(alloc: Global, source: u16, val: i128, body: Block) -> Result<Block, AllocError> {
     let ty = TypeId::U8;
     let arm = MatchArm {

@@ -39,7 +39,6 @@ fn gives_its_argument(rt: HostRuntime) {
     assert!(rt; none.ending == Ending::Stuck);
 }
 
-// A tree that returns a site.
 fn returning(alloc: Global, site: u16) -> Result<Block, AllocError> {
     let step = EvalStep {
         bind_order: Vec::new(alloc),

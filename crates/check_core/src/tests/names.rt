@@ -48,7 +48,6 @@ fn what_a_rule_is_called(rt: HostRuntime) -> Result<(), Fail> {
     Ok(())
 }
 
-// A clone of an environment shows the same.
 #[test]
 fn a_clone_shows_the_same(rt: HostRuntime) -> Result<(), Fail> {
     let alloc = rt.alloc();

@@ -101,7 +101,6 @@ impl Counts {
     }
 }
 
-// Compares a rule with those behind it in its set.
 fn compare(
     rt: &impl Abort,
     alloc: Global,
@@ -121,7 +120,6 @@ fn compare(
     Ok(counts)
 }
 
-// Compares all pairs of a set.
 fn compare_all(
     rt: &impl Abort,
     alloc: Global,

@@ -175,7 +175,6 @@ fn prints_each_binding(rt: HostRuntime) -> Result<(), Fail> {
     Ok(())
 }
 
-// A block of one step.
 fn one(alloc: Global, bind_order: Vec<BindingId>, check: ControlFlow) -> Result<Block, AllocError> {
     let steps = vec![in alloc; EvalStep { bind_order, check }]?;
     Ok(Block { steps })

@@ -108,7 +108,6 @@ fn has_term_if_made(tyenv: &TypeEnv, env: &TermEnv, site: &Binding) -> bool
     }
 }
 
-// The term that a site speaks of, by its name.
 fn term_name<'a>(
     tyenv: &'a TypeEnv,
     env: &'a TermEnv,

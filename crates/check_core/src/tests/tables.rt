@@ -22,7 +22,6 @@ fn ident(alloc: Global, text: &str) -> Result<Ident, AllocError> {
     Ok(Ident(String::from_str(alloc, text)?, at(9)))
 }
 
-// The type table of a text.
 fn type_env(alloc: Global, text: &str) -> Result<TypeEnv, Fail> {
     Ok(TypeEnv::from_ast(alloc, &read(alloc, 0, text)?)?)
 }

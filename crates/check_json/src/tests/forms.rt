@@ -20,7 +20,6 @@ fn has_keys(value: &Value, keys: &[&str]) -> bool {
     object.len() == keys.len()
 }
 
-// The list behind a key.
 fn list<'a>(value: &'a Value, key: &str) -> Result<&'a [Value], Fail> {
     match value.get(key).and_then(Value::as_array) {
         Some(items) => Ok(items.as_slice()),
@@ -137,7 +136,6 @@ fn check_types(types: &[Value]) -> Result<(), Fail> {
     Ok(())
 }
 
-// The keys of a type, by its kind.
 fn type_keys(ty: &Value) -> Result<&'static [&'static str], Fail> {
     Ok(match word(ty, "kind")? {
         "primitive" => &[

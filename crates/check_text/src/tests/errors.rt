@@ -4,13 +4,11 @@ use std::alloc::{AllocError, Global};
 use std::process::Abort;
 use std::test::Fail;
 
-// One place.
 fn at(file: usize, offset: usize) -> Span {
     let pos = Pos { file, offset };
     Span { from: pos, to: pos }
 }
 
-// What an error says.
 fn message(alloc: Global) -> Result<String, AllocError> {
     String::from_str(alloc, "why")
 }

@@ -8,7 +8,6 @@ use text_reader::{read, verification};
 use text_writer::spec_faults::SpecPrintFault;
 use text_writer::verification::{print, print_all};
 
-// The forms of a text for a verifier.
 fn forms_of(rt: &impl Abort, alloc: Global, text: &str) -> Result<Vec<VerificationForm>, Fail> {
     let Ok(found) = verification(alloc, 0, text) else {
         panic!(rt; "not read: {text}");

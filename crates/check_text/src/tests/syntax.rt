@@ -18,7 +18,6 @@ fn ident(alloc: Global, text: &str, offset: usize) -> Result<Ident, AllocError> 
     Ok(Ident(String::from_str(alloc, text)?, at(offset)))
 }
 
-// The rule that a text spells.
 fn rule(alloc: Global, text: &str) -> Result<Rule, Fail> {
     match read(alloc, 0, text)?.first() {
         Some(Def::Rule(rule)) => Ok(rule.clone()?),

@@ -232,7 +232,6 @@ impl TermEnv {
     }
 }
 
-// One more expression, where there is one.
 fn push_expr(out: &mut Vec<Expr>, made: Option<Expr>) -> Result<(), AllocError>
     ensures { OnOk result (out.new.items ≡ out.old.items ++ option_to_list made) }
 {

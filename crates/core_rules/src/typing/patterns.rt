@@ -172,7 +172,6 @@ impl TermEnv {
     }
 }
 
-// One more pattern, where there is one.
 fn push_part(out: &mut Vec<Pattern>, made: Option<Pattern>) -> Result<(), AllocError>
     ensures { OnOk result (out.new.items ≡ out.old.items ++ option_to_list made) }
 {

@@ -77,7 +77,6 @@ impl TermEnv {
     }
 }
 
-// The patterns of a rule's arguments.
 fn args_of(rule: &syntax::Rule) -> &[syntax::Pattern]
     ensures { root_parts (S.rule_view rule.now).pattern ≡ S.pattern_views result.now }
 {

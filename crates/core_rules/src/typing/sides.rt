@@ -181,7 +181,6 @@ impl TermEnv {
     }
 }
 
-// One more if-let, where there is one.
 fn push_iflet(out: &mut Vec<IfLet>, made: Option<IfLet>) -> Result<(), AllocError>
     ensures { OnOk result (out.new.items ≡ out.old.items ++ option_to_list made) }
 {

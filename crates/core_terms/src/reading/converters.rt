@@ -19,7 +19,6 @@ use core_types::{TypeEnv, report};
 use std::alloc::AllocError;
 
 impl TermTable {
-    // Reads all converters.
     pub(crate) fn read_converters(
         &mut self,
         tyenv: &TypeEnv,
@@ -44,7 +43,6 @@ impl TermTable {
         Ok(())
     }
 
-    // Reads a definition, if it is a converter.
     #[tactic(auto, using(core_syntax::proofs::Positioned::notes_nothing))]
     fn read_if_converter(
         &mut self,

@@ -20,7 +20,6 @@ use core_types::{TypeEnv, report};
 use std::alloc::AllocError;
 
 impl TermTable {
-    // Reads all declarations.
     pub(crate) fn read_declarations(
         &mut self,
         tyenv: &mut TypeEnv,
@@ -43,7 +42,6 @@ impl TermTable {
         Ok(())
     }
 
-    // Reads a definition, if it is a declaration.
     #[tactic(auto, using(core_syntax::proofs::Positioned::notes_nothing))]
     fn read_if_declared(
         &mut self,

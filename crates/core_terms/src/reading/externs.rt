@@ -107,7 +107,6 @@ impl TermTable {
         }
     }
 
-    // Reads the external constructor of a term.
     #[tactic(auto, using(core_syntax::proofs::Positioned::notes_nothing))]
     fn read_constructor(
         &mut self,
@@ -134,7 +133,6 @@ impl TermTable {
         Ok(())
     }
 
-    // Reads the external extractor of a term.
     #[tactic(auto, using(core_syntax::proofs::Positioned::notes_nothing))]
     fn read_extractor(
         &mut self,

@@ -203,7 +203,6 @@ impl Search {
     }
 }
 
-// Where the template of a term stands, if it has one.
 fn template_pos(term: &Term) -> Option<Pos>
     ensures has { is_some result ≡ has_template (term_view term.now).kind }
     ensures place { option_map position result ≡ template_place (term_view term.now).kind }

@@ -287,7 +287,6 @@ fn set_callees(callees: &mut Vec<Vec<TermId>>, term: TermId, mut named: Vec<Term
     callees[term.index()] = named;
 }
 
-// The template that the pattern of an extractor is.
 fn template_of(alloc: Global, extractor: &Extractor) -> Result<Pattern, AllocError>
     ensures { IfOk result (λ t. pattern_view t ≡ extractor_template (extractor_view extractor.now)) }
 {
@@ -394,7 +393,6 @@ fn check_arguments(
     report(errors, pos, msg.as_str())
 }
 
-// The argument of the greatest number, if there is any.
 fn greatest_argument(arguments: &[(Pos, usize)]) -> Option<&(Pos, usize)>
     ensures { MatchOption result (arguments.now ≡ [])
         (λ g. Contains arguments.now g.now × All (λ a. a.1 ≤ g.now.1) arguments.now) }

@@ -19,7 +19,6 @@ use core_types::{Fields, Sym, TermId, Type, TypeEnv, TypeId, Variant, report};
 use std::alloc::AllocError;
 
 impl TermTable {
-    // Adds the terms that all types make.
     pub(crate) fn add_made_terms(
         &mut self,
         tyenv: &TypeEnv,
@@ -37,7 +36,6 @@ impl TermTable {
         Ok(())
     }
 
-    // Adds the terms that a type makes.
     #[tactic(auto, using(core_syntax::proofs::Positioned::notes_nothing))]
     fn add_terms_of(
         &mut self,

@@ -14,7 +14,6 @@ use core_syntax::syntax::{Def, Error, Extern, Ident, Pos};
 use std::alloc::AllocError;
 
 impl TypeEnv {
-    // Reads the types of all constants.
     pub(crate) fn read_constants(
         &mut self,
         errors: &mut Vec<Error>,

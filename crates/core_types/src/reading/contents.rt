@@ -201,7 +201,6 @@ impl TypeEnv {
         Ok(())
     }
 
-    // Reads what all types are.
     pub(crate) fn fill_types(
         &mut self,
         errors: &mut Vec<Error>,

@@ -120,7 +120,6 @@ impl TypeEnv {
         Ok(Some(TupleFields { fields: read }))
     }
 
-    // The field of this id.
     fn read_tuple_field(
         &self,
         errors: &mut Vec<Error>,

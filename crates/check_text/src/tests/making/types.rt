@@ -62,7 +62,6 @@ impl Maker {
         Ok(Fields::Tuple(TupleFields { fields: made }))
     }
 
-    // A field with a name.
     fn field(&self, name: &str, ty: &str) -> Result<StructField, AllocError> {
         Ok(StructField {
             name: self.name(name)?,
@@ -71,7 +70,6 @@ impl Maker {
         })
     }
 
-    // A type with this name and value.
     fn type_of(&mut self, name: Ident, ty: TypeValue) -> Type {
         Type {
             name,
