@@ -294,7 +294,7 @@ fn run_each<E: Externs>(
 /// in order, and how it ends. `block` is a tree whose sites are those of `set`, `args` has one value for each argument, and
 /// `multi` says whether the term is multi. A site that holds nothing of the form that is used ends it as stuck. No tree that
 /// `lower` gives of a term that isn't multi is stuck on well-typed arguments, by well-typed functions that tell constants apart
-/// (`runs_by_functions_as_chosen` of `laws_matching`).
+/// (`runs_by_functions_as_chosen` of `laws_trees`).
 ///
 /// # Errors
 ///
