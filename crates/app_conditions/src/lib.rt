@@ -6,6 +6,7 @@ mod chosen;
 mod documents;
 mod forms;
 mod help;
+mod judging;
 mod reading;
 pub mod run;
 mod told;

@@ -16,20 +16,20 @@ use text_reader::{read, verification};
 pub(crate) struct Texts {
     /// The files.
     pub(crate) files: Files,
-    /// What a solver said, where it is asked what that means.
-    pub(crate) answer: Option<String>,
+    /// What solvers answered, as records; nothing where no file of them is named.
+    pub(crate) answers: String,
 }
 
-/// The names and texts of the files that are asked for, and what a solver said. `-` is `input`, by the name `<stdin>`.
+/// The names and texts of the files that are asked for, and what solvers answered. `-` is `input`, by the name `<stdin>`.
 pub(crate) fn texts_of<R: std::rt::Files + AllocGlobal, I: Read + Drop>(
     rt: &R,
     asked: &ConditionsRequest<'_>,
     input: I,
 ) -> Result<Texts, Unread> {
     let standard = standard_text(rt.alloc(), wants_standard(asked), input)?;
-    let answer = answer_of(rt, asked, &standard)?;
+    let answers = answers_of(rt, asked, &standard)?;
     let files = files_of(rt, asked, &standard)?;
-    Ok(Texts { files, answer })
+    Ok(Texts { files, answers })
 }
 
 // Whether standard input is asked for.
@@ -37,15 +37,15 @@ fn wants_standard(asked: &ConditionsRequest<'_>) -> bool {
     asked.answers == Some("-") || asked.files.iter().any(|name| *name == "-")
 }
 
-// What a solver said, where that is asked for.
-fn answer_of<R: std::rt::Files + AllocGlobal>(
+// What solvers answered, where a file of that is named.
+fn answers_of<R: std::rt::Files + AllocGlobal>(
     rt: &R,
     asked: &ConditionsRequest<'_>,
     standard: &str,
-) -> Result<Option<String>, Unread> {
+) -> Result<String, Unread> {
     match asked.answers {
-        Some(name) => Ok(Some(text_called(rt, asked.folder, name, standard)?)),
-        None => Ok(None),
+        Some(name) => text_called(rt, asked.folder, name, standard),
+        None => Ok(String::new(rt.alloc())),
     }
 }
 

@@ -3,11 +3,12 @@
 ghost use Rattle.std.specs.Prelude.{◌≡◌, ◌≢◌, ◌≤◌, ◌⊎◌};
 
 use crate::chosen::{Chosen, only_question};
-use crate::documents::document_of_questions;
+use crate::documents::{document_of_questions, document_of_verdicts};
 use crate::help::HELP;
+use crate::judging::{Judge, wrong_places};
 use crate::reading::{Said, Texts, said_in, texts_of};
-use crate::told::{Teller, Told, text_for_solver};
-use crate::words::{ConditionsRequest, ask_for_help, conditions_by};
+use crate::told::{Teller, text_for_solver};
+use crate::words::{ConditionsRequest, QuestionFormat, ask_for_help, conditions_by};
 use app_command::run::cannot_read;
 use app_command::words::Unasked;
 use cranelift_isle::lower::{Lowered, lower};
@@ -18,15 +19,16 @@ use report_print::layout::{Layout, push_reports};
 use report_print::report::{Level, Report};
 use report_queries::answers::{end, no_memory, write_text};
 use spec_formulas::faults::SpecError;
-use spec_questions::questions::{Question, QuestionFault, Questions, Wanted, questions_about};
+use spec_questions::answers::{Answer, answers_in};
+use spec_questions::questions::{QuestionFault, Questions, Wanted, questions_about};
 use std::alloc::{AllocError, Global};
 use std::io::{Read, Write};
 use text_reader::syntax::VerificationForm;
 
 /// Runs `isle conditions`: `words` are the words behind it, `input` is standard input, and the answer is the status.
 ///
-/// 0: what is asked is on `out`: questions, or that a rule is right. 1: a text, a definition or a spec is wrong, or there isn't one
-/// question where one is asked about, as `err` says; or a rule isn't shown to be right, as `out` says. 2: the words ask nothing,
+/// 0: what is asked is on `out`: questions, or what is told of rules, none of which is wrong. 1: a text, a definition or a spec is
+/// wrong, or there isn't one question where one is asked about, as `err` says; or a rule is wrong, as `out` says. 2: the words ask nothing,
 /// and `err` says why. 3: memory was refused. 4: a file can't be read, or `out` can't be written.
 pub fn run<R: std::rt::Files + AllocGlobal, I: Read + Drop, O: Write, E: Write>(
     rt: &R,
@@ -77,9 +79,9 @@ fn run_conditions<R: std::rt::Files + AllocGlobal, I: Read + Drop, O: Write, E: 
 // What comes of files.
 #[derive(Drop)]
 enum Made {
-    // Questions, or that a rule is right.
+    // Questions, or what is told of rules of which none is wrong.
     Text(String),
-    // That a rule isn't shown to be right.
+    // What is told of rules, where one is wrong or isn't shown to be right.
     Unshown(String),
     // Why there is no such text.
     Wrong(String),
@@ -104,7 +106,7 @@ fn answer<O: Write, E: Write>(
     }
 }
 
-// Writes that a rule isn't shown to be right.
+// Writes what is told of rules of which one is wrong or isn't shown to be right.
 fn write_unshown<O: Write, E: Write>(text: &str, out: &mut O, err: &mut E) -> u8
     ensures { (result ≡ 1) ⊎ (result ≡ 4) }
 {
@@ -218,7 +220,7 @@ fn made_for(
     }
 }
 
-// What is made of questions: their document, or what is asked about a single one.
+// What is made of questions: what answers say of their rules, a text for a solver, or their document.
 fn made_with(
     alloc: Global,
     asked: &ConditionsRequest<'_>,
@@ -228,34 +230,94 @@ fn made_with(
     found: &Questions,
 ) -> Result<Made, AllocError> {
     let files = &texts.files;
-    if !asked.is_of_one() {
-        return Ok(Made::Text(document_of_questions(alloc, files, lowered, forms, found)?));
-    }
     let teller = Teller {
         alloc,
         files,
         lowered,
     };
+    match (asked.answers, asked.format) {
+        (None, Some(QuestionFormat::Smt)) => made_of_one(teller, asked, found),
+        (None, None | Some(QuestionFormat::Json)) => {
+            Ok(Made::Text(document_of_questions(alloc, files, lowered, forms, found)?))
+        }
+        _ => made_by_answers(teller, asked, &texts.answers, forms, found),
+    }
+}
+
+// The text of a question for a solver.
+fn made_of_one(
+    teller: Teller<'_>,
+    asked: &ConditionsRequest<'_>,
+    found: &Questions,
+) -> Result<Made, AllocError> {
     match only_question(teller, asked.rule.unwrap_or("_"), found)? {
-        Chosen::Only(question) => made_of_one(teller, question, &texts.answer),
+        Chosen::Only(question) => Ok(Made::Text(text_for_solver(teller.alloc, question)?)),
         Chosen::Not(why) => Ok(Made::Wrong(why)),
     }
 }
 
-// The text of a question for a solver, or what a solver said of it.
-fn made_of_one(
+// What these records of answers say of rules, or the texts that are asked.
+fn made_by_answers(
     teller: Teller<'_>,
-    question: &Question,
-    answer: &Option<String>,
+    asked: &ConditionsRequest<'_>,
+    records: &str,
+    forms: &[VerificationForm],
+    found: &Questions,
 ) -> Result<Made, AllocError> {
-    let Some(answer) = answer else {
-        return Ok(Made::Text(text_for_solver(teller.alloc, question)?));
+    let answers = answers_in(teller.alloc, records)?;
+    let above = above_wrong(teller, asked, forms, found, &answers)?;
+    let judge = Judge {
+        teller,
+        answers: &answers,
+        asked: found,
+        above: &above,
     };
-    let Told { is_right, line } = teller.told(question, answer)?;
-    Ok(if is_right {
-        Made::Text(line)
+    judged(judge, asked)
+}
+
+// What is asked of rules that are wrong by themselves, where no rule of greater priority matches.
+fn above_wrong(
+    teller: Teller<'_>,
+    asked: &ConditionsRequest<'_>,
+    forms: &[VerificationForm],
+    found: &Questions,
+    answers: &[Answer],
+) -> Result<Questions, AllocError> {
+    let alloc = teller.alloc;
+    let none = Questions {
+        rules: Vec::new(alloc),
+        without: Vec::new(alloc),
+    };
+    let places = wrong_places(teller, found, answers)?;
+    if asked.above || places.is_empty() {
+        return Ok(none);
+    }
+    let wanted = Wanted {
+        above: true,
+        only: Some(&places),
+    };
+    match questions_about(alloc, teller.lowered, forms, wanted) {
+        Ok(above) => Ok(above),
+        Err(QuestionFault::Wrong(_)) => Ok(none),
+        Err(QuestionFault::Memory) => Err(AllocError),
+    }
+}
+
+// What is written of rules that are judged.
+fn judged(judge: Judge<'_>, asked: &ConditionsRequest<'_>) -> Result<Made, AllocError> {
+    let mut text = String::new(judge.teller.alloc);
+    if let Some(format @ (QuestionFormat::Open | QuestionFormat::Asked)) = asked.format {
+        judge.push_texts(&mut text, format == QuestionFormat::Asked)?;
+        return Ok(Made::Text(text));
+    }
+    let counts = match asked.format {
+        Some(QuestionFormat::Json) => document_of_verdicts(judge, &mut text)?,
+        _ => judge.push_lines(&mut text)?,
+    };
+    Ok(if counts.is_pass(asked.deny) {
+        Made::Text(text)
     } else {
-        Made::Unshown(line)
+        Made::Unshown(text)
     })
 }
 
@@ -271,11 +333,12 @@ fn spec_reports(alloc: Global, errors: Vec<SpecError>) -> Result<Vec<Report>, Al
 // The report of a wrong spec.
 fn spec_report(alloc: Global, error: SpecError) -> Result<Report, AllocError> {
     let SpecError {
+        code,
         pos,
         message,
         other,
     } = error;
-    let mut report = Report::new(alloc, Level::Error, "spec", message);
+    let mut report = Report::new(alloc, Level::Error, code, message);
     report.add_label(pos, String::new(alloc))?;
     if let Some(other) = other {
         report.add_label(other, String::from_str(alloc, "the other place")?)?;

@@ -1,8 +1,4 @@
-//! A single question: its text for a solver, and what the solver's answer says of its rule.
-
-ghost use Rattle.std.specs.Prelude.{◌≡◌, IfOk, codes, true};
-ghost use Rattle.std.specs.Str.{trim_start};
-ghost use Rattle.spec_questions.specs.Replies.{BeginsText};
+//! A single question: its text for a solver, and the values that a solver gave, in the words of its rule.
 
 use cranelift_isle::lower::Lowered;
 use cranelift_isle::sema::{RuleId, TermId};
@@ -10,7 +6,6 @@ use cranelift_isle::syntax::{Files, Pos};
 use report_print::lines::{file_name, file_text, line_at};
 use report_queries::names::{rule_name, term_name};
 use spec_questions::questions::Question;
-use spec_questions::replies::{Reply, reply_in};
 use std::alloc::{AllocError, Global};
 
 /// A question as a solver reads it: the values of its formulas are asked for behind it.
@@ -30,15 +25,6 @@ pub(crate) fn text_for_solver(alloc: Global, question: &Question) -> Result<Stri
     Ok(text)
 }
 
-/// What an answer says of a rule.
-#[derive(Drop)]
-pub(crate) struct Told {
-    /// Whether the rule is right.
-    pub(crate) is_right: bool,
-    /// The same in a line.
-    pub(crate) line: String,
-}
-
 /// How rules are told.
 #[derive(Clone, Copy)]
 pub(crate) struct Teller<'a> {
@@ -48,21 +34,6 @@ pub(crate) struct Teller<'a> {
 }
 
 impl<'a> Teller<'a> {
-    /// What a solver said of a question, in the words of its rule.
-    pub(crate) fn told(self, question: &Question, answer: &str) -> Result<Told, AllocError>
-        ensures right { IfOk result (λ told. told.is_right ≡ true → BeginsText (codes "unsat") (trim_start answer.now)) }
-    {
-        let reply = reply_in(self.alloc, answer, question.values.len())?;
-        let mut line = String::from_str(self.alloc, verdict(&reply))?;
-        self.push_rule(&mut line, question.rule, question.pos, question.term)?;
-        push_reply(&mut line, question, &reply)?;
-        line.push('\n')?;
-        Ok(Told {
-            is_right: matches!(&reply, Reply::Unsat),
-            line,
-        })
-    }
-
     /// Adds which rule this is.
     pub(crate) fn push_rule(
         self,
@@ -97,26 +68,8 @@ impl<'a> Teller<'a> {
     }
 }
 
-// The first word of what is told.
-fn verdict(reply: &Reply) -> &'static str {
-    match reply {
-        Reply::Unsat => "right: ",
-        Reply::Sat(_) => "wrong: ",
-        Reply::Other(_) => "unknown: ",
-    }
-}
-
-// Adds why a rule isn't right.
-fn push_reply(out: &mut String, question: &Question, reply: &Reply) -> Result<(), AllocError> {
-    match reply {
-        Reply::Unsat => Ok(()),
-        Reply::Sat(values) => push_values(out, &question.values, values),
-        Reply::Other(said) => write!(out, ": the solver says {said}"),
-    }
-}
-
-// Adds the values of a rule's variables, what it gives, and what its spec wants.
-fn push_values(
+/// Adds the values of a rule's variables, what it gives, and what its spec wants.
+pub(crate) fn push_values(
     out: &mut String,
     rows: &[(String, String)],
     values: &[String],

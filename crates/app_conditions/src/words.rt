@@ -13,6 +13,10 @@ pub enum QuestionFormat {
     Json,
     /// The only one that is asked about, as a text for a solver.
     Smt,
+    /// The texts that lack an answer, as lines of a file of records.
+    Open,
+    /// All texts that verdicts rest on, in the same form.
+    Asked,
 }
 
 /// What `conditions` is asked.
@@ -25,9 +29,10 @@ pub struct ConditionsRequest<'a> {
     pub rule: Option<&'a str>,
     /// The form that questions are written in, where it is said.
     pub format: Option<QuestionFormat>,
-    /// The file with what a solver said of the only question that is asked about, or `-`; questions are written where there is
-    /// none.
+    /// The file of records with what solvers answered, or `-`: what that says of rules is written then.
     pub answers: Option<&'a str>,
+    /// Whether each rule has to be right.
+    pub deny: bool,
     /// The files, where `-` is standard input.
     pub files: Vec<&'a str>,
 }
@@ -40,6 +45,7 @@ impl<'a> Drop for ConditionsRequest<'a> {
             rule: _,
             format: _,
             answers: _,
+            deny: _,
             files: _,
         } = self;
     }
@@ -63,8 +69,8 @@ pub fn ask_for_help(words: &[String]) -> bool {
         .any(|word| word.as_str() == "--help" || word.as_str() == "-h")
 }
 
-/// What the words behind `conditions` ask: `-C FOLDER`, `--above`, `--rule RULE`, `--format FORMAT`, `--answers FILE`, and files.
-/// A text for a solver and what a solver said are of one rule, so they go with `--rule`.
+/// What the words behind `conditions` ask: `-C FOLDER`, `--above`, `--rule RULE`, `--format FORMAT`, `--answers FILE`, `--deny`, and
+/// files. A text for a solver is of one rule, so it goes with `--rule`.
 ///
 /// # Errors
 ///
@@ -82,6 +88,7 @@ pub fn conditions_by<'a>(
         rule: None,
         format: None,
         answers: None,
+        deny: false,
         files: Vec::new(alloc),
     };
     let mut awaited = Awaited::Any;
@@ -107,7 +114,11 @@ fn format_of(alloc: Global, word: &str) -> Result<QuestionFormat, Unasked> {
     match word {
         "json" => Ok(QuestionFormat::Json),
         "smt" => Ok(QuestionFormat::Smt),
-        _ => Err(wrong(format!(in alloc; "conditions has no format '{word}', but json and smt"))),
+        "open" => Ok(QuestionFormat::Open),
+        "asked" => Ok(QuestionFormat::Asked),
+        _ => Err(wrong(format!(in alloc;
+            "conditions has no format '{word}', but json, smt, open and asked"
+        ))),
     }
 }
 
@@ -134,8 +145,8 @@ impl<'a> ConditionsRequest<'a> {
         if self.files.is_empty() {
             return Some("no file");
         }
-        if self.answers.is_some() && self.format.is_some() {
-            return Some("'--answers' and '--format' don't go together");
+        if self.answers.is_some() && self.is_of_one() {
+            return Some("'--answers' and '--format smt' don't go together");
         }
         if self.is_of_one() && self.rule.is_none() {
             return Some("no rule to ask about, by '--rule'");
@@ -147,7 +158,7 @@ impl<'a> ConditionsRequest<'a> {
     pub fn is_of_one(&self) -> bool
         ensures { IsTrue result ↔ IsOfOne self.now }
     {
-        self.answers.is_some() || self.format == Some(QuestionFormat::Smt)
+        self.format == Some(QuestionFormat::Smt)
     }
 
     // Reads a word, and answers what is awaited then.
@@ -170,6 +181,7 @@ impl<'a> ConditionsRequest<'a> {
             "--format" => return Ok(Awaited::Format),
             "--answers" => return Ok(Awaited::Answers),
             "--above" => self.above = true,
+            "--deny" => self.deny = true,
             "" => return Err(wrong(String::from_str(alloc, "a file without a name"))),
             _ if word != "-" && word.starts_with('-') => {
                 return Err(wrong(format!(in alloc; "conditions has no option '{word}'")));

@@ -1,6 +1,6 @@
 //! Formulas: truth values, integers and words, each made of earlier ones.
 
-use crate::faults::NoCondition;
+use crate::faults::{NoCondition, missing};
 use crate::operators::Operator;
 use crate::widths::{WidthId, Widths};
 use std::alloc::{AllocError, Global};
@@ -118,8 +118,8 @@ pub struct Terms {
     pub widths: Widths,
     // The integers that formulas are known to be.
     numbers: Vec<Option<i128>>,
-    // Widths that follow from others, or from integers.
-    rules: Vec<(WidthId, WidthRule)>,
+    // Widths that follow from others, or from integers, and whether the rule demands it.
+    rules: Vec<(WidthId, WidthRule, bool)>,
     // Words that others extend: the width that is no less, the other one, and whether the rule demands it.
     extended: Vec<Extension>,
     /// Whether what is said now is demanded by the rule: where widths don't fit that, the rule isn't taken.
@@ -425,7 +425,8 @@ impl Terms {
         };
         let width = self.widths.add(known)?;
         if known.is_none() {
-            self.rules.push((width, WidthRule::Number(number)))?;
+            self.rules
+                .push((width, WidthRule::Number(number), self.is_demanded))?;
         }
         Ok(width)
     }
@@ -433,7 +434,8 @@ impl Terms {
     /// A width that is the sum of two.
     pub fn width_sum(&mut self, a: WidthId, b: WidthId) -> Result<WidthId, NoCondition> {
         let width = self.widths.add(None)?;
-        self.rules.push((width, WidthRule::Sum(a, b)))?;
+        self.rules
+            .push((width, WidthRule::Sum(a, b), self.is_demanded))?;
         self.settle()?;
         Ok(width)
     }
@@ -491,6 +493,14 @@ impl Terms {
         self.check_extensions()
     }
 
+    // That widths don't fit: where the rule demands them, it isn't taken.
+    fn unfit(&self, is_demanded: bool) -> NoCondition {
+        if is_demanded {
+            return NoCondition::Untaken;
+        }
+        missing(String::from_str(self.alloc, "a width follows that doesn't fit"))
+    }
+
     // Whether words that extend others are as wide as these, as far as that is known.
     fn check_extensions(&self) -> Result<(), NoCondition> {
         for extension in &self.extended {
@@ -498,11 +508,7 @@ impl Terms {
             let old = self.widths.known(extension.old);
             if let (Some(width), Some(old)) = (width, old) {
                 if width < old {
-                    return Err(if extension.is_demanded {
-                        NoCondition::Untaken
-                    } else {
-                        NoCondition::Unfit
-                    });
+                    return Err(self.unfit(extension.is_demanded));
                 }
             }
         }
@@ -559,8 +565,11 @@ impl Terms {
     fn settle_widths(&mut self) -> Result<bool, NoCondition> {
         let mut more = false;
         for i in 0..self.rules.len() {
-            if let Some((width, rule)) = self.rules.get(i).copied() {
-                more = self.settle_width(width, rule)? || more;
+            if let Some((width, rule, is_demanded)) = self.rules.get(i).copied() {
+                match self.settle_width(width, rule) {
+                    Ok(is_new) => more = is_new || more,
+                    Err(_) => return Err(self.unfit(is_demanded)),
+                }
             }
         }
         Ok(more)

@@ -79,7 +79,7 @@ pub(crate) struct Choice<'c> {
 ///
 /// # Errors
 ///
-/// Why there is none.
+/// Why there is none. The widths of the arguments are added that are known by then.
 pub(crate) fn condition_of(
     alloc: Global,
     lowered: &Lowered,
@@ -87,6 +87,7 @@ pub(crate) fn condition_of(
     term: &LoweredTerm,
     rule: &Rule,
     choice: Choice<'_>,
+    widths: &mut Vec<(String, usize)>,
 ) -> Result<Condition, NoCondition> {
     let Some(root) = lowered.termenv.terms.get(term.id.index()) else {
         return Err(missing(String::from_str(alloc, "a term isn't known")));
@@ -101,8 +102,14 @@ pub(crate) fn condition_of(
         steps: Vec::new(alloc),
         is_certain: true,
     };
-    maker.make(&term.rules.rules, choice.above)?;
-    let outcome = maker.outcome(choice.variables)?;
-    let (terms, steps) = maker.into_parts();
-    Ok(outcome.into_condition(terms, steps))
+    match maker.made(&term.rules.rules, choice) {
+        Ok(outcome) => {
+            let (terms, steps) = maker.into_parts();
+            Ok(outcome.into_condition(terms, steps))
+        }
+        Err(fault) => {
+            maker.add_argument_widths(widths)?;
+            Err(fault)
+        }
+    }
 }

@@ -55,11 +55,11 @@ impl<'a, 'b> Maker<'a, 'b> {
         (builder.into_terms(), steps)
     }
 
-    /// Assumes a fact, unless it is plain.
+    /// Assumes a fact, unless it is plain. Where it is plainly false, the rule isn't taken; after a step nothing more is to be shown.
     pub(crate) fn assume(&mut self, fact: NodeId) -> Result<(), NoCondition> {
         match self.builder.terms.literal(fact) {
             Some(true) => Ok(()),
-            Some(false) if self.builder.terms.is_demanded => Err(NoCondition::Untaken),
+            Some(false) if self.steps.is_empty() => Err(NoCondition::Untaken),
             _ => self.note_assumed(fact),
         }
     }

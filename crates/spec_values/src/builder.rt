@@ -93,6 +93,31 @@ impl<'a> Builder<'a> {
         }
     }
 
+    /// Takes each word of an open width at each of the listed widths.
+    pub fn split_open(&mut self) -> Result<(), NoCondition> {
+        self.terms.settle()?;
+        let open = self.terms.open_unknowns()?;
+        for word in open {
+            self.split(word)?;
+        }
+        Ok(())
+    }
+
+    // Takes a word at each of the listed widths, if its width is open.
+    fn split(&mut self, word: NodeId) -> Result<(), NoCondition> {
+        let specs = self.specs;
+        match self.terms.sort(word) {
+            Sort::Word(width) if self.terms.widths.known(width).is_none() => {
+                let place = self.decide(specs.widths.len())?;
+                if let Some(bits) = specs.widths.get(place) {
+                    let _ = self.terms.widths.set(width, *bits);
+                }
+                self.terms.settle()
+            }
+            _ => Ok(()),
+        }
+    }
+
     /// A new value.
     pub fn add(&mut self, value: SymbolicValue) -> Result<ValueId, AllocError> {
         let id = ValueId(self.values.len());
@@ -571,11 +596,24 @@ impl<'a> Builder<'a> {
         a: NodeId,
         b: NodeId,
     ) -> Result<ValueId, NoCondition> {
-        if !self.terms.join_sorts(a, b)? {
-            return Err(NoCondition::Unsorted);
+        self.split(a)?;
+        self.split(b)?;
+        match self.terms.join_sorts(a, b) {
+            Ok(true) => {}
+            Ok(false) => return Err(NoCondition::Unsorted),
+            Err(NoCondition::Unfit) => return Err(self.of_other_widths()),
+            Err(fault) => return Err(fault),
         }
         let term = self.terms.choice(condition, a, b)?;
         Ok(self.term_value(term)?)
+    }
+
+    // That one of two values is taken, nobody knows which, and they are of different widths isn't supported.
+    fn of_other_widths(&self) -> NoCondition {
+        missing(String::from_str(
+            self.alloc,
+            "a spec chooses between words of different widths",
+        ))
     }
 
     // One of two values of a struct.
@@ -657,9 +695,21 @@ impl<'a> Builder<'a> {
     ) -> Result<NodeId, NoCondition> {
         let mut parts = Vec::new(self.alloc);
         for (a, b) in a.iter().zip(b) {
-            parts.push(self.equal(*a, *b, fuel)?)?;
+            // words of different widths are other values, which decides no width
+            self.split_value(*a)?;
+            self.split_value(*b)?;
+            let equal = self.equal(*a, *b, fuel);
+            parts.push(self.or_false(equal)?)?;
         }
         Ok(self.terms.all(&parts)?)
+    }
+
+    /// Takes a value at each of the listed widths, if it is a word whose width is open.
+    pub fn split_value(&mut self, id: ValueId) -> Result<(), NoCondition> {
+        match self.term_of(id) {
+            Some(word) => self.split(word),
+            None => Ok(()),
+        }
     }
 
     // That two values of an enum are equal.
@@ -739,8 +789,7 @@ impl<'a> Builder<'a> {
         let (Some(first), Some(second)) = (first, second) else {
             return Ok(self.terms.truth(true)?);
         };
-        let equal = self.equal_each(&first, &second, fuel);
-        let equal = self.or_false(equal)?;
+        let equal = self.equal_each(&first, &second, fuel)?;
         Ok(self.terms.implies(condition, equal)?)
     }
 
