@@ -56,5 +56,5 @@ Status: 0 success, 1 errors, 2 wrong use, 3 out of memory, 4 a file cannot be re
 script ./isle adds 70: no program gave an answer.
 ";
 
-/// Which program this is.
-pub(crate) const VERSION: &str = "isle of joshuapool, after cranelift-isle 0.137.1\n";
+/// Which program this is. Its version is that of the archive and of the Rust crates: `tools/release` compares them.
+pub(crate) const VERSION: &str = "isle 0.1.0 of joshuapool, after cranelift-isle 0.137.1\n";
