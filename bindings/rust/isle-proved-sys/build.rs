@@ -4,8 +4,9 @@ use std::env;
 use std::path::{Path, PathBuf};
 use std::process::Command;
 
-const WHAT_TO_DO: &str = "prove and build the compiler, by `rt lib` in crates/isle_capi or by `rt ci` at the top of joshuapool, \
-    or set ISLE_CAPI to the folder that has libisle_capi.a, or ISLE_PROGRAM to a program isle";
+const WHAT_TO_DO: &str = "set ISLE_PROGRAM to the command isle at the top of joshuapool, by its whole path, which needs no proof; \
+    or prove and build the compiler, by `rt ci` at the top of joshuapool or by `rt lib` in crates/isle_capi; \
+    or set ISLE_CAPI to the folder that has libisle_capi.a";
 
 fn main() {
     for name in ["ISLE_CAPI", "ISLE_PROGRAM", "RATTLE_KIT", "PATH"] {
@@ -17,8 +18,8 @@ fn main() {
     }
 }
 
-// Links the archive, or says where the program is. What a variable names comes first, then the archive, then the program that
-// was proved and built here.
+// Links the archive, or says where the program is. What a variable names comes first, then what stands in the folder lib of a
+// release, then the archive and the program that were proved and built here.
 fn find() -> Result<(), String> {
     if let Some(program) = env::var_os("ISLE_PROGRAM") {
         return take_program(Path::new(&program));
@@ -30,13 +31,22 @@ fn find() -> Result<(), String> {
         .ancestors()
         .nth(3)
         .ok_or("isle-proved-sys is in no copy of joshuapool")?;
-    let folder = top.join("crates/isle_capi/out");
-    if folder.join("libisle_capi.a").is_file() {
-        return link(&folder);
+    for folder in ["lib", "crates/isle_capi/out"] {
+        let folder = top.join(folder);
+        if folder.join("libisle_capi.a").is_file() {
+            return link(&folder);
+        }
     }
-    let program =
-        proved_program(top).ok_or_else(|| format!("there is no compiler: {WHAT_TO_DO}"))?;
+    let program = released_program(top)
+        .or_else(|| proved_program(top))
+        .ok_or_else(|| format!("there is no compiler: {WHAT_TO_DO}"))?;
     take_program(&program)
+}
+
+// The program of a release.
+fn released_program(top: &Path) -> Option<PathBuf> {
+    let program = top.join("lib/isle");
+    program.is_file().then_some(program)
 }
 
 // The program that was proved and built of the sources as they are now.
@@ -62,6 +72,14 @@ fn take_program(program: &Path) -> Result<(), String> {
     let program = program
         .canonicalize()
         .map_err(|error| format!("{}: {error}", program.display()))?;
+    // The script isle of a clone builds an unproved program first, if there is none.
+    let answered = Command::new(&program).arg("--version").output();
+    if !answered.is_ok_and(|answer| answer.status.success()) {
+        return Err(format!(
+            "{} --version gives no answer: run it to see why",
+            program.display()
+        ));
+    }
     println!("cargo::rerun-if-changed={}", program.display());
     println!("cargo::rustc-cfg=isle_program");
     println!("cargo::rustc-env=ISLE_PROGRAM_FOUND={}", program.display());
