@@ -10,7 +10,7 @@ ghost use Rattle.app_command.specs.TaskAnswers.{lowered_terms, AsksForAll, IsAns
 ghost use Rattle.app_command.specs.Statuses.{IsStatusOfReading};
 
 use crate::calls::{Told, ran, told_why};
-use crate::code::{Code, code_of_lowered};
+use crate::code::{Code, code_of_lowered, stubs_of_lowered};
 use crate::comparison::{difference, differences};
 use crate::graphs::graph_of;
 use crate::printing::printed_texts;
@@ -239,7 +239,7 @@ fn answer_to_lowered<E: Write>(
     }
 }
 
-// The Rust code of lowered definitions, or why there is none.
+// The Rust code of lowered definitions, or the stubs of what it asks for; or why there is no code.
 fn coded(
     alloc: Global,
     asked: &Request<'_>,
@@ -248,7 +248,11 @@ fn coded(
 ) -> Result<Answer, AllocError>
     ensures { IfOk result (λ a. (code : Code) × IsCode code × IsAnswerOfCode code a) }
 {
-    let code = code_of_lowered(alloc, files, lowered, &asked.code)?;
+    let code = if asked.stubs {
+        stubs_of_lowered(alloc, files, lowered, &asked.code)?
+    } else {
+        code_of_lowered(alloc, files, lowered, &asked.code)?
+    };
     Ok(answer_of_code(alloc, code))
 }
 

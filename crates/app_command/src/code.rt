@@ -9,7 +9,7 @@ ghost use Rattle.app_command.specs.Codes.{IsCode, IsCodedBy, IsCodeOf, IsNames};
 use crate::reading::Reading;
 use cranelift_isle::lower::{Lowered, lower};
 use cranelift_isle::syntax::{Def, Fault, Files};
-use rust_text::code::{CodeError, CodegenOptions, rust_code_with};
+use rust_text::code::{CodeError, CodegenOptions, rust_code_with, stubs_with};
 use std::alloc::{AllocError, Global};
 
 /// What comes of accepted definitions whose Rust code is wanted.
@@ -73,6 +73,22 @@ pub fn code_of_lowered(
     ensures { IfOk result IsCode }
 {
     code_by(alloc, rust_code_with(alloc, lowered, files, options))
+}
+
+/// The stubs of what the code of lowered definitions asks of the module above it, in place of the code.
+///
+/// # Errors
+///
+/// Where memory is refused.
+pub fn stubs_of_lowered(
+    alloc: Global,
+    files: &Files,
+    lowered: &Lowered,
+    options: &CodegenOptions,
+) -> Result<Code, AllocError>
+    ensures { IfOk result IsCode }
+{
+    code_by(alloc, stubs_with(alloc, lowered, files, options))
 }
 
 // What comes of making code.

@@ -31,6 +31,7 @@ Options:
   --terms NAME,..        lower, compare: only these terms
   --prefix FROM=TO       rust: shows TO in place of FROM where a file name begins with FROM. May be given many times.
   --log                  rust: the code logs each result, by the crate log
+  --stubs                rust: prints what the code asks of the module above it, as stubs (docs/RUST-CODE.md)
   --with-allows          rust: the code begins with attributes #![allow(..)], so it can be a file of its own
   --answers FILE         run, why: takes the answers to calls from a file, and runs called terms with rules (docs/RUNNING.md)
   --trace                run: shows each test that is made, and the rule of each return

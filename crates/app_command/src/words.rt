@@ -148,6 +148,8 @@ pub struct Request<'a> {
     pub rule: &'a str,
     /// How Rust code is written.
     pub code: CodegenOptions,
+    /// Whether stubs are wanted of what Rust code asks of the module above it, in place of the code.
+    pub stubs: bool,
     /// Whether it is told what is being done.
     pub progress: bool,
     /// The file that has the answers to what a call calls, where there is one. It is the last of `files`.
@@ -177,6 +179,7 @@ impl<'a> Drop for Request<'a> {
             folder: _,
             rule: _,
             code: _,
+            stubs: _,
             progress: _,
             answers: _,
             trace: _,
@@ -336,6 +339,7 @@ fn request_by<'a>(given: Given, words: &'a [String]) -> Result<Request<'a>, Unas
         folder: "",
         rule: "",
         code: CodegenOptions::included(given.alloc),
+        stubs: false,
         progress: false,
         answers: None,
         trace: false,
@@ -561,6 +565,7 @@ impl<'a> Request<'a> {
             }
             "--with-allows" => self.read_with_allows(alloc),
             "--log" => self.read_log(alloc),
+            "--stubs" => self.read_stubs(alloc),
             "--prefix" => self.begin_prefix(alloc),
             "--answers" => self.begin_answers(alloc),
             "--trace" => self.read_trace(alloc),
@@ -593,6 +598,13 @@ impl<'a> Request<'a> {
     fn read_log(&mut self, alloc: Global) -> Result<Awaited, Unasked> {
         self.needs_code(alloc)?;
         self.code.emit_logging = true;
+        Ok(Awaited::Any)
+    }
+
+    // In place of code there may be stubs of what it asks for.
+    fn read_stubs(&mut self, alloc: Global) -> Result<Awaited, Unasked> {
+        self.needs_code(alloc)?;
+        self.stubs = true;
         Ok(Awaited::Any)
     }
 

@@ -35,12 +35,18 @@ pub fn push_context(out: &mut String, program: Program<'_>) -> Result<(), CodeEr
     out.push_str(OWED)?;
     out.push_str(ALLOWED)?;
     out.push_str("pub trait Context {\n")?;
+    push_functions(out, program)?;
+    out.push_str("}\n")?;
+    Ok(())
+}
+
+/// Adds the trait's functions, each name once: in stubs with bodies that are yet to be written.
+pub(crate) fn push_functions(out: &mut String, program: Program<'_>) -> Result<(), CodeError> {
     let mut added = HashMap::new(program.alloc);
     for term in program.terms {
         push_extractor(out, program, &mut added, term)?;
         push_constructor(out, program, &mut added, term)?;
     }
-    out.push_str("}\n")?;
     Ok(())
 }
 
@@ -122,16 +128,40 @@ fn push_signature(
     if sig.ret_kind == ReturnKind::Iterator {
         out.push_str("    type ")?;
         push_part(out, &sig.func_name)?;
-        out.push_str("_returns: Default + IntoContextIter<Context = Self, Output = ")?;
-        program.push_outputs(out, &sig.ret_tys)?;
-        out.push_str(">;\n")?;
+        push_returns(out, program, sig)?;
     }
     out.push_str("    fn ")?;
     push_name(out, &sig.func_name)?;
     out.push_str("(&mut self")?;
     program.push_parameters(out, &sig.param_tys)?;
     push_result(out, program, sig)?;
-    out.push_str(";\n")
+    out.push_str(if program.is_stub {
+        " {\n        todo!()\n    }\n"
+    } else {
+        ";\n"
+    })
+}
+
+// Adds what values are put into: what is asked of the type, or in stubs a list.
+fn push_returns(
+    out: &mut String,
+    program: Program<'_>,
+    sig: &ExternalSig,
+) -> Result<(), AllocError> {
+    let (before, behind) = if program.is_stub {
+        (
+            "_returns = ContextIterWrapper<::std::vec::Vec<",
+            ">, Self>;\n",
+        )
+    } else {
+        (
+            "_returns: Default + IntoContextIter<Context = Self, Output = ",
+            ">;\n",
+        )
+    };
+    out.push_str(before)?;
+    program.push_outputs(out, &sig.ret_tys)?;
+    out.push_str(behind)
 }
 
 // Adds the rest of a signature: what a function gives, or puts its values into.

@@ -237,7 +237,7 @@ fn is_path_keyword(name: &str) -> bool
 }
 
 // Whether a name is a constant of the language.
-fn is_truth(name: &str) -> bool
+pub(crate) fn is_truth(name: &str) -> bool
     ensures { result ≡ is_among truths name.now }
 {
     is_among(name, &TRUTHS)

@@ -16,7 +16,8 @@ use cranelift_isle::sema::{Term, Type, TypeEnv, TypeId};
 use cranelift_isle::syntax::Pos;
 use std::alloc::{AllocError, Global};
 
-/// A program: its names, types and terms, the lines of its files, and whether its results are logged.
+/// A program: its names, types and terms, the lines of its files, whether its results are logged, and whether what is written are
+/// stubs of what its code asks of the module above it.
 #[derive(Clone, Copy)]
 pub struct Program<'a> {
     pub alloc: Global,
@@ -24,6 +25,7 @@ pub struct Program<'a> {
     pub terms: &'a [Term],
     pub lines: &'a Lines<'a>,
     pub is_logged: bool,
+    pub is_stub: bool,
 }
 
 /// The attribute that keeps lints from an item.

@@ -1,4 +1,4 @@
-//! The types that the code declares.
+//! The types that the code declares, and stubs of those that are declared outside.
 
 use crate::names::push_name;
 use crate::program::{ALLOWED, Program};
@@ -6,7 +6,7 @@ use cranelift_isle::sema::{Fields, StructField, Sym, TupleField, Type, Variant};
 use cranelift_isle::syntax::Pos;
 use std::alloc::AllocError;
 
-/// Adds the enums and structs that aren't declared outside.
+/// Adds the enums and structs that aren't declared outside; or in stubs those that are.
 pub fn push_types(out: &mut String, program: Program<'_>) -> Result<(), AllocError> {
     for ty in &program.tyenv.types {
         push_declaration(out, program, ty)?;
@@ -14,37 +14,45 @@ pub fn push_types(out: &mut String, program: Program<'_>) -> Result<(), AllocErr
     Ok(())
 }
 
-// Adds a type, where the code declares it.
+// Adds a type, where it is declared here.
 fn push_declaration(out: &mut String, program: Program<'_>, ty: &Type) -> Result<(), AllocError> {
     match ty {
         Type::Enum {
             name,
-            is_extern: false,
+            is_extern,
             is_nodebug,
             variants,
             pos,
             ..
-        } => {
-            let has_fields = variants
-                .iter()
-                .any(|variant| !is_without_fields(&variant.fields));
-            push_attributes(out, program, has_fields, *is_nodebug, *pos)?;
+        } if *is_extern == program.is_stub => {
+            push_attributes(out, program, has_fields(ty), *is_nodebug, *pos)?;
             push_head(out, program, "enum ", *name)?;
             push_variants(out, program, variants)
         }
         Type::Struct {
             name,
-            is_extern: false,
+            is_extern,
             is_nodebug,
             fields,
             pos,
             ..
-        } => {
-            push_attributes(out, program, !is_without_fields(fields), *is_nodebug, *pos)?;
+        } if *is_extern == program.is_stub => {
+            push_attributes(out, program, has_fields(ty), *is_nodebug, *pos)?;
             push_head(out, program, "struct ", *name)?;
             push_struct(out, program, fields)
         }
         Type::Builtin(_) | Type::Primitive(..) | Type::Enum { .. } | Type::Struct { .. } => Ok(()),
+    }
+}
+
+/// Whether values of a type have fields.
+pub(crate) fn has_fields(ty: &Type) -> bool {
+    match ty {
+        Type::Builtin(_) | Type::Primitive(..) => false,
+        Type::Enum { variants, .. } => variants
+            .iter()
+            .any(|variant| !is_without_fields(&variant.fields)),
+        Type::Struct { fields, .. } => !is_without_fields(fields),
     }
 }
 
@@ -70,7 +78,12 @@ fn push_attributes(
     } else {
         "Copy, Clone, PartialEq, Eq"
     })?;
-    out.push_str(if is_nodebug { ")]\n" } else { ", Debug)]\n" })?;
+    // stubs have a `Debug` of their own: fields may have none
+    out.push_str(if is_nodebug || program.is_stub {
+        ")]\n"
+    } else {
+        ", Debug)]\n"
+    })?;
     out.push_str(ALLOWED)
 }
 

@@ -11,6 +11,7 @@ use rust_items::head::push_head;
 use rust_items::lines::Lines;
 pub use rust_items::options::{CodeError, CodegenOptions, Prefix};
 use rust_items::program::Program;
+use rust_items::stubs::push_stubs;
 use rust_items::taken::check_names;
 use rust_items::types::push_types;
 use std::alloc::Global;
@@ -53,10 +54,40 @@ pub fn rust_code_with(
         terms: &lowered.termenv.terms,
         lines: &lines,
         is_logged: options.emit_logging,
+        is_stub: false,
     };
     check_names(program, &lowered.terms)?;
     let items = items_of(program, options, lowered)?;
     headed(alloc, &items)
+}
+
+/// Stubs of what the code of a program asks of the module above it: a module with these items compiles with the code.
+/// `docs/RUST-CODE.md` has the form.
+///
+/// # Errors
+///
+/// Those of `rust_code`.
+pub fn stubs_with(
+    alloc: Global,
+    lowered: &Lowered,
+    files: &Files,
+    options: &CodegenOptions,
+) -> Result<String, CodeError>
+    ensures { IfOk result (λ code. string_bytes code ≢ []) }
+{
+    let lines = Lines::new(alloc, files, &options.prefixes)?;
+    let program = Program {
+        alloc,
+        tyenv: &lowered.tyenv,
+        terms: &lowered.termenv.terms,
+        lines: &lines,
+        is_logged: false,
+        is_stub: true,
+    };
+    check_names(program, &lowered.terms)?;
+    let mut items = String::new(alloc);
+    push_stubs(&mut items, program)?;
+    Ok(format!(in alloc; "// Stubs of what the code of these rules asks for:\n{items}")?)
 }
 
 // The code of a program's items, with what stands before them below the first line.
