@@ -4,7 +4,8 @@
 pub(crate) const HELP: &str = "usage: isle TASK [OPTIONS] FILE..
 
 Reads ISLE text (docs/NOTATION.md) from files. The file - is standard input. All files together are one list of
-definitions. Tasks:
+definitions. A task without a file takes those that the file isle.files names, in this folder or in one above it. There
+a line [NAME] begins a list of files, which the task takes too if NAME is its only file (docs/USING.md). Tasks:
   lower FILE..           prints the tree of each term. Each return names its rule.
   print FILE..           prints the definitions of all files as one text, each on a line. They need not be accepted.
   rust FILE..            prints the Rust code of the terms (docs/RUST-CODE.md)

@@ -111,6 +111,20 @@ fn text_at<R: std::rt::Files + AllocGlobal>(
     }
 }
 
+/// The text of the file at a path, or None where there is none.
+pub(crate) fn text_if_there<R: std::rt::Files + AllocGlobal>(
+    rt: &R,
+    path: &str,
+    name: &str,
+) -> Result<Option<String>, Unread> {
+    let alloc = rt.alloc();
+    match fs::read(rt, path) {
+        Ok(bytes) => Ok(Some(text_of(alloc, name, bytes)?)),
+        Err(error) if error.kind() == ErrorKind::NotFound => Ok(None),
+        Err(error) => Err(why_unread(alloc, name, &error)),
+    }
+}
+
 // Why files in a folder can't be read, where that is the folder.
 fn unread_folder<R: std::rt::Files + AllocGlobal>(rt: &R, folder: &str) -> Option<Unread> {
     let alloc = rt.alloc();

@@ -11,6 +11,7 @@ mod help;
 pub mod inputs;
 mod printing;
 pub mod progress;
+pub mod project;
 pub mod reading;
 pub mod run;
 mod unread;
