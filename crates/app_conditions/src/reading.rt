@@ -1,15 +1,26 @@
 //! What files have to say: definitions, what is said for a verifier, or what is wrong with their texts.
 
+ghost use Rattle.std.specs.Prelude.{◌≡◌, map, string_bytes, IfOk, None};
+ghost use Rattle.app_command.specs.Readings.{none_without, IsReadingOf};
+ghost use Rattle.cranelift_isle.specs.SyntaxViews.{definition_views};
+ghost use Rattle.app_command.specs.declared.words.Task.TheVariants.{Check};
+ghost use Rattle.app_conditions.specs.Accepted.{IsSaidBy, IsSaidWith};
+
 use crate::words::ConditionsRequest;
 use app_command::inputs::{Unread, file_text, standard_text};
+use app_command::progress::Teller;
+use app_command::reading::{Reading, reading_of};
+use app_command::words::{Format, Request, Task};
 use cranelift_isle::syntax::{Def, Files};
 use report_errors::syntax_report;
+use report_print::lines::file_text as text_of_file;
 use report_print::report::Report;
+use rust_text::code::CodegenOptions;
 use std::alloc::{AllocError, Global};
-use std::io::Read;
-use text_reader::errors::ReadFault;
+use std::io::{Read, sink};
+use text_reader::errors::{ReadFault, TextError};
 use text_reader::syntax::VerificationForm;
-use text_reader::{read, verification};
+use text_reader::verification;
 
 /// What is read.
 #[derive(Drop)]
@@ -86,46 +97,118 @@ fn text_called<R: std::rt::Files + AllocGlobal>(
 
 /// What files have to say.
 #[derive(Drop)]
-pub(crate) struct Said {
-    /// Their definitions.
-    pub(crate) defs: Vec<Def>,
-    /// What they say for a verifier.
-    pub(crate) forms: Vec<VerificationForm>,
+pub(crate) enum Said {
+    /// Their definitions, and what they say for a verifier.
+    All(Vec<Def>, Vec<VerificationForm>),
     /// What is wrong with their texts.
-    pub(crate) reports: Vec<Report>,
+    Unread(Vec<Report>),
 }
 
-/// What the texts of files say. A text that can't be read says nothing, and has a report.
-pub(crate) fn said_in(alloc: Global, files: &Files) -> Result<Said, AllocError> {
-    let mut said = Said {
-        defs: Vec::new(alloc),
-        forms: Vec::new(alloc),
-        reports: Vec::new(alloc),
-    };
-    for (number, text) in files.texts.iter().enumerate() {
-        add_text(alloc, number, text, &mut said)?;
+/// What the texts of files say, or the first mistake of each text that can't be read: of its definitions, else of what it says for a
+/// verifier.
+pub(crate) fn said_in(alloc: Global, files: &Files) -> Result<Said, AllocError>
+    ensures { IfOk result (IsSaidBy (map string_bytes files.now.texts.items)) }
+{
+    match definitions_in(alloc, files)? {
+        Reading::Defs(defs) => said_beside(alloc, files, defs),
+        Reading::Unread(mistakes) => Ok(Said::Unread(reports_of(alloc, files, &mistakes)?)),
     }
-    Ok(said)
 }
 
-// Adds what a text says, or why it can't be read.
-fn add_text(alloc: Global, number: usize, text: &str, said: &mut Said) -> Result<(), AllocError> {
-    match add_read(alloc, number, text, said) {
+// The definitions of files, or their mistakes. Nobody is told what is being done.
+fn definitions_in(alloc: Global, files: &Files) -> Result<Reading, AllocError>
+    ensures { IfOk result (IsReadingOf none_without (map string_bytes files.now.texts.items)) }
+{
+    let request = check_request(alloc);
+    let mut nobody = sink();
+    let mut teller = Teller::new(false, false, &mut nobody);
+    reading_of(alloc, &request, files, &mut teller)
+}
+
+// The request that files are checked, each of which has definitions.
+fn check_request<'a>(alloc: Global) -> Request<'a>
+    ensures task { result.task ≡ Check }
+    ensures answers { result.answers ≡ None }
+{
+    Request {
+        task: Task::Check,
+        expand: true,
+        deny: false,
+        denied: Vec::new(alloc),
+        allowed: Vec::new(alloc),
+        all: false,
+        format: Format::Text,
+        colored: false,
+        terms: None,
+        folder: "",
+        rule: "",
+        code: CodegenOptions::included(alloc),
+        progress: false,
+        answers: None,
+        trace: false,
+        files: Vec::new(alloc),
+        old: 0,
+        call: Vec::new(alloc),
+    }
+}
+
+// These definitions with what the texts say for a verifier, or what is wrong with that.
+fn said_beside(alloc: Global, files: &Files, defs: Vec<Def>) -> Result<Said, AllocError>
+    ensures { IfOk result (IsSaidWith (definition_views defs.items)) }
+{
+    let mut forms = Vec::new(alloc);
+    let mut reports = Vec::new(alloc);
+    for (number, text) in files.texts.iter().enumerate() {
+        add_text(alloc, number, text, &mut forms, &mut reports)?;
+    }
+    if reports.is_empty() {
+        Ok(Said::All(defs, forms))
+    } else {
+        Ok(Said::Unread(reports))
+    }
+}
+
+// Adds what a text says for a verifier, or why it can't be read.
+fn add_text(
+    alloc: Global,
+    number: usize,
+    text: &str,
+    forms: &mut Vec<VerificationForm>,
+    reports: &mut Vec<Report>,
+) -> Result<(), AllocError> {
+    match add_forms(alloc, number, text, forms) {
         Ok(()) => Ok(()),
         Err(ReadFault::Text(error)) => {
-            said.reports.push(syntax_report(alloc, text, &error)?)?;
+            reports.push(syntax_report(alloc, text, &error)?)?;
             Ok(())
         }
         Err(ReadFault::Memory(error)) => Err(error),
     }
 }
 
-// Adds what a text says.
-fn add_read(alloc: Global, number: usize, text: &str, said: &mut Said) -> Result<(), ReadFault> {
-    let mut defs = read(alloc, number, text)?;
-    said.defs.append(&mut defs)?;
+// Adds what a text says for a verifier.
+fn add_forms(
+    alloc: Global,
+    number: usize,
+    text: &str,
+    forms: &mut Vec<VerificationForm>,
+) -> Result<(), ReadFault> {
     for (_, form) in verification(alloc, number, text)? {
-        said.forms.push(form)?;
+        forms.push(form)?;
     }
     Ok(())
+}
+
+// Reports of mistakes.
+fn reports_of(
+    alloc: Global,
+    files: &Files,
+    mistakes: &[TextError],
+) -> Result<Vec<Report>, AllocError> {
+    let mut reports = Vec::new(alloc);
+    for mistake in mistakes {
+        let text = text_of_file(files, mistake.pos.file);
+        reports.push(syntax_report(alloc, text, mistake)?)?;
+    }
+    Ok(reports)
 }

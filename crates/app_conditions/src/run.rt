@@ -1,6 +1,9 @@
 //! What `conditions` does.
 
-ghost use Rattle.std.specs.Prelude.{◌≡◌, ◌≢◌, ◌≤◌, ◌⊎◌};
+ghost use Rattle.std.specs.Prelude.{◌≡◌, ◌≢◌, ◌≤◌, ◌⊎◌, map, string_bytes, IfOk};
+ghost use Rattle.app_conditions.specs.Accepted.{AreAcceptedTexts, IsMadeOf, IsRefusal};
+ghost use Rattle.app_command.specs.Readings.{none_without, AreOfTexts};
+ghost use Rattle.cranelift_isle.specs.SyntaxViews.{definition_views};
 
 use crate::chosen::{Chosen, only_question};
 use crate::documents::document_of_questions;
@@ -95,6 +98,8 @@ fn answer<O: Write, E: Write>(
 ) -> u8
     ensures known { result ≤ 4 }
     ensures used { result ≢ 2 }
+    // success means that the definitions are accepted
+    ensures accepted { result ≡ 0 → AreAcceptedTexts (map string_bytes texts.now.files.texts.items) }
 {
     match made_of(alloc, asked, texts) {
         Ok(Made::Text(text)) => write_text(&text, out, err),
@@ -115,30 +120,37 @@ fn write_unshown<O: Write, E: Write>(text: &str, out: &mut O, err: &mut E) -> u8
 }
 
 // What comes of files.
-fn made_of(
+fn made_of(alloc: Global, asked: &ConditionsRequest<'_>, texts: &Texts) -> Result<Made, AllocError>
+    ensures { IfOk result (IsMadeOf (map string_bytes texts.now.files.texts.items)) }
+{
+    match said_in(alloc, &texts.files)? {
+        Said::All(defs, forms) => made_of_all(alloc, asked, texts, &defs, &forms),
+        Said::Unread(reports) => Ok(Made::Wrong(text_of(alloc, &texts.files, &reports)?)),
+    }
+}
+
+// What comes of what files say.
+fn made_of_all(
     alloc: Global,
     asked: &ConditionsRequest<'_>,
     texts: &Texts,
-) -> Result<Made, AllocError> {
-    let files = &texts.files;
-    let said = said_in(alloc, files)?;
-    if !said.reports.is_empty() {
-        return Ok(Made::Wrong(text_of(alloc, files, &said.reports)?));
-    }
-    match lower(alloc, &said.defs, true) {
-        Ok(lowered) => asked_of(alloc, asked, texts, &said, &lowered),
-        Err(Fault::Errors(errors)) => refused(alloc, files, &said.defs, &errors),
+    defs: &[Def],
+    forms: &[VerificationForm],
+) -> Result<Made, AllocError>
+    requires said { AreOfTexts none_without 0 (map string_bytes texts.now.files.texts.items) (definition_views defs.now) }
+    ensures { IfOk result (IsMadeOf (map string_bytes texts.now.files.texts.items)) }
+{
+    match lower(alloc, defs, true) {
+        Ok(lowered) => asked_of(alloc, asked, texts, defs, forms, &lowered),
+        Err(Fault::Errors(errors)) => refused(alloc, &texts.files, defs, &errors),
         Err(Fault::Memory(error)) => Err(error),
     }
 }
 
 // What is wrong with definitions.
-fn refused(
-    alloc: Global,
-    files: &Files,
-    defs: &[Def],
-    errors: &[Error],
-) -> Result<Made, AllocError> {
+fn refused(alloc: Global, files: &Files, defs: &[Def], errors: &[Error]) -> Result<Made, AllocError>
+    ensures { IfOk result IsRefusal }
+{
     let found = reports_of(alloc, defs, true, errors, false)?;
     Ok(Made::Wrong(text_of(alloc, files, &found.reports)?))
 }
@@ -155,29 +167,23 @@ fn asked_of(
     alloc: Global,
     asked: &ConditionsRequest<'_>,
     texts: &Texts,
-    said: &Said,
+    defs: &[Def],
+    forms: &[VerificationForm],
     lowered: &Lowered,
 ) -> Result<Made, AllocError> {
     let above = asked.above;
     let Some(called) = asked.rule else {
         let wanted = Wanted { above, only: None };
-        return made_for(alloc, asked, texts, &said.forms, lowered, wanted);
+        return made_for(alloc, asked, texts, forms, lowered, wanted);
     };
-    let places = places_called(alloc, &texts.files, &said.defs, called)?;
+    let places = places_called(alloc, &texts.files, defs, called)?;
     if places.is_empty() {
         return Ok(Made::Wrong(format!(in alloc;
             "error: no rule or term with rules is called `{called}`\n"
         )?));
     }
     let only = Some(places.as_slice());
-    made_for(
-        alloc,
-        asked,
-        texts,
-        &said.forms,
-        lowered,
-        Wanted { above, only },
-    )
+    made_for(alloc, asked, texts, forms, lowered, Wanted { above, only })
 }
 
 // Where the rules stand that are so called.

@@ -1,0 +1,36 @@
+-- What is made of texts whose definitions are accepted.
+use Rattle.std.specs.Prelude.{◌≡◌, ℕ, true, List, ⊤, ⊥}
+use Rattle.cranelift_isle.specs.Lowerings.{AreAccepted}
+use Rattle.cranelift_isle.specs.Syntax.{Definition}
+use Rattle.cranelift_isle.specs.SyntaxViews.{definition_views}
+use Rattle.app_command.specs.Readings.{none_without, AreOfTexts}
+use Rattle.app_conditions.specs.declared.reading.Said.{Said}
+use Rattle.app_conditions.specs.declared.reading.Said.TheVariants as S
+use Rattle.app_conditions.specs.declared.run.Made.{Made}
+use Rattle.app_conditions.specs.declared.run.Made.TheVariants as M
+
+-- the definitions of texts, one text after another, are accepted
+abbrev pub AreAcceptedTexts : List (List ℕ) → Type 0
+AreAcceptedTexts texts = (defs : List Definition) × AreOfTexts none_without 0 texts defs × AreAccepted defs true
+
+-- the definitions that are said are those of the texts
+abbrev pub IsSaidBy : List (List ℕ) → Said → Type 0
+IsSaidBy texts (S.All defs forms) = AreOfTexts none_without 0 texts (definition_views defs.items)
+IsSaidBy texts (S.Unread reports) = ⊤
+
+-- the definitions that are said are these
+abbrev pub IsSaidWith : List Definition → Said → Type 0
+IsSaidWith these (S.All defs forms) = definition_views defs.items ≡ these
+IsSaidWith these (S.Unread reports) = ⊤
+
+-- what is wrong, and nothing else
+abbrev pub IsRefusal : Made → Type 0
+IsRefusal (M.Text text) = ⊥
+IsRefusal (M.Unshown text) = ⊥
+IsRefusal (M.Wrong text) = ⊤
+
+-- questions, and what is said of a rule, are made of accepted definitions alone
+abbrev pub IsMadeOf : List (List ℕ) → Made → Type 0
+IsMadeOf texts (M.Text text) = AreAcceptedTexts texts
+IsMadeOf texts (M.Unshown text) = AreAcceptedTexts texts
+IsMadeOf texts (M.Wrong text) = ⊤
