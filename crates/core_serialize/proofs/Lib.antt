@@ -1,6 +1,5 @@
 mod ArmRuns
 mod ArmSteps
-mod AroundSteps
 mod Ascents
 mod AvailableSites
 mod BarSteps

@@ -1,5 +1,5 @@
 -- Lists of what stands around a place that grow and are cut again.
-use Rattle.std.proofs.Common.{◌≡◌, ℕ, true, List, [], ◌++◌, Contains, length, map, take, refl, sym, ap, ◌∙◌, subst}
+use Rattle.std.proofs.Common.{◌≡◌, ℕ, true, List, [], ◌++◌, Contains, get_or, length, take, refl, sym, ap, ◌∙◌, subst}
 use Rattle.std.specs.List.{remove}
 use Rattle.std.proofs.lemmas.Bool.{or_left}
 use Rattle.std.proofs.lemmas.List.{append_assoc, append-nil, take_at}
@@ -8,7 +8,7 @@ use Rattle.model.specs.trees.Places.{class, is_in}
 use Rattle.core_containers.specs.Places.{Extends}
 use Rattle.core_serialize.specs.declared.around.Around.{Around}
 use Rattle.core_serialize.specs.declared.around.Mark.{Mark}
-use Rattle.core_serialize.specs.AroundViews.{around_view, Alike, after_uses, sites_of_pairs, where_emitted, where_joined, AreEmitted, NamesClasses}
+use Rattle.core_serialize.specs.AroundViews.{around_view, Alike, after_uses, where_emitted, where_joined, AreEmitted, NamesClasses}
 use Rattle.core_serialize.specs.Changes.{Emits, Goes, IsBack, IsCutBack, IsKept, IsMark, JoinsPair, TakesApart}
 use Rattle.core_serialize.proofs.Tables.{is_in_append}
 
@@ -88,11 +88,11 @@ goes_cut a b c d m k h r t = record {
 
 -- where nothing is joined, nothing is named
 pub no_names : (a : Around) → a.joined.items ≡ [] → a.names.items ≡ [] → NamesClasses a.joined.items a.names.items
-no_names a j n = n ∙ ap (λ ps. map (λ s. (s, class ps s)) (sites_of_pairs ps)) (sym j)
+no_names a j n s = ap (λ l. get_or l s s) n ∙ sym (ap (λ ps. class ps s) j)
 
 -- names stay those of the same pairs
 pub still_named : (a b : Around) → b.joined.items ≡ a.joined.items → b.names.items ≡ a.names.items → NamesClasses a.joined.items a.names.items → NamesClasses b.joined.items b.names.items
-still_named a b j n h = n ∙ h ∙ ap (λ ps. map (λ s. (s, class ps s)) (sites_of_pairs ps)) (sym j)
+still_named a b j n h s = ap (λ l. get_or l s s) n ∙ h s ∙ sym (ap (λ ps. class ps s) j)
 
 -- closed sites stay emitted
 pub kept_back : (sites : List Site) (a b : Around) → IsBack a b → IsKept sites a → IsKept sites b
@@ -145,7 +145,7 @@ kept_joined sites a b x y h k = record {
 }
 
 -- and taken apart again
-pub joined_back : (a b c d : Around) (x y : ℕ) (names : List (ℕ × ℕ)) → JoinsPair x y a b → IsBack b c → names ≡ a.names.items → TakesApart names c d → IsBack a d
+pub joined_back : (a b c d : Around) (x y : ℕ) (names : List ℕ) → JoinsPair x y a b → IsBack b c → names ≡ a.names.items → TakesApart names c d → IsBack a d
 joined_back a b c d x y names h k n t = record {
   sources = t.sources ∙ k.sources ∙ h.sources;
   joined = t.joined ∙ ap (λ l. remove l 0) (k.joined ∙ h.joined);

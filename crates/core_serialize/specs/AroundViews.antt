@@ -1,6 +1,5 @@
 -- What stands around a place, as it is kept: the sources of arms and loops in one list.
-use Rattle.std.specs.Prelude.{◌≡◌, ℕ, true, ◌==◌, if◌then◌else◌, List, [], ◌∷◌, ◌++◌, map}
-use Rattle.std.specs.List.{flat_map}
+use Rattle.std.specs.Prelude.{◌≡◌, ℕ, true, List, [], ◌∷◌, ◌++◌, get_or}
 use Rattle.model.specs.sites.Sites.{Site, SiteSet}
 use Rattle.model.specs.trees.Places as Places
 use Rattle.model.specs.trees.Places.{is_in, class, all_below, available}
@@ -11,18 +10,9 @@ use Rattle.core_serialize.specs.declared.around.Around.{Around}
 abbrev pub around_view : Around → Places.Around
 around_view a = record { tested = []; joined = a.joined.items; looped = a.sources; brought = a.brought; emitted = a.emitted }
 
--- the sites of pairs
-abbrev pub sites_of_pairs : List (ℕ × ℕ) → List ℕ
-sites_of_pairs pairs = flat_map (λ p. p.0 ∷ (p.1 ∷ [])) pairs
-
--- the name of a site by a table of names: a site that isn't in it is its own
-abbrev pub class_name_in : List (ℕ × ℕ) → ℕ → ℕ
-class_name_in [] s = s
-class_name_in (e ∷ es) s = if e.0 == s then e.1 else class_name_in es s
-
--- the table has the class of each site of pairs that are joined
-abbrev pub NamesClasses : List (ℕ × ℕ) → List (ℕ × ℕ) → Type 0
-NamesClasses pairs names = names ≡ map (λ s. (s, class pairs s)) (sites_of_pairs pairs)
+-- the table has the class of each site under pairs; a site behind its end is its own class
+abbrev pub NamesClasses : List (ℕ × ℕ) → List ℕ → Type 0
+NamesClasses pairs names = (s : ℕ) → get_or names s s ≡ class pairs s
 
 -- each of some sites is available
 abbrev pub AreAtHand : List Site → Places.Around → List ℕ → Type 0

@@ -82,7 +82,7 @@ pub record JoinsPair (a b : ℕ) (old new : Around) : Type 0 where
   pub named : NamesClasses new.joined.items new.names.items
 
 -- the last pair isn't joined any more, and classes have these names again
-pub record TakesApart (before : List (ℕ × ℕ)) (old new : Around) : Type 0 where
+pub record TakesApart (before : List ℕ) (old new : Around) : Type 0 where
   pub sources : new.sources ≡ old.sources
   pub joined : new.joined.items ≡ remove old.joined.items 0
   pub brought : new.brought ≡ old.brought

@@ -1,9 +1,9 @@
 //! What stands around a place of a tree.
 
-ghost use Rattle.std.specs.Prelude.{◌≡◌, ◌<◌, ◌==◌, ◌∷◌, [], ℕ, List, if◌then◌else◌, Some, IfOk, OnOk, length};
+ghost use Rattle.std.specs.Prelude.{◌≡◌, ◌<◌, ◌==◌, ◌∷◌, [], ℕ, List, if◌then◌else◌, Some, IfOk, OnOk, get_or, length, map};
 ghost use Rattle.model.specs.trees.Places.{nothing_around, class, is_in, joins, waits};
 ghost use Rattle.core_rule_sets.specs.SiteViews.{site_view};
-ghost use Rattle.core_serialize.specs.AroundViews.{around_view, class_name_in, NamesClasses};
+ghost use Rattle.core_serialize.specs.AroundViews.{around_view, NamesClasses};
 ghost use Rattle.core_serialize.specs.Changes.{IsCutBack, IsMark, JoinsPair, TakesApart};
 ghost use Rattle.core_serialize.specs.PlaceViews.{around_at};
 
@@ -28,8 +28,8 @@ pub struct Around {
     /// Emitted sites below which all is emitted. What a loop brought isn't among them before it is used: its call may be
     /// bound again.
     pub closed: Stack,
-    /// The name of each joined site's class.
-    pub names: Vec<(BindingId, BindingId)>,
+    /// By sites, the name of each one's class. A site behind the end is its own class.
+    pub names: Vec<BindingId>,
 }
 
 /// How far the lists of what stands around a place go.
@@ -151,16 +151,14 @@ pub fn must_wait(binding: &Binding) -> bool
     }
 }
 
-// The name of a site's class, by the names of all sites that are joined: any other site is its own class.
-fn name_of(site: BindingId, names: &[(BindingId, BindingId)]) -> BindingId
-    ensures { result ≡ class_name_in names.now site }
+// The name of a site's class, by the table of names: a site behind its end is its own class.
+fn name_of(site: BindingId, names: &[BindingId]) -> BindingId
+    ensures { result ≡ get_or names.now site site }
 {
-    for (named, name) in names {
-        if *named == site {
-            return *name;
-        }
+    match names.get(site.index()) {
+        Some(name) => *name,
+        None => site,
     }
-    site
 }
 
 // The name of a class after the classes of these two names were joined.
@@ -170,22 +168,48 @@ fn renamed(name: BindingId, from: BindingId, to: BindingId) -> BindingId
     if name == from { to } else { name }
 }
 
+// The names in a table after the classes of these two names were joined.
+fn all_renamed(
+    alloc: Global,
+    names: &[BindingId],
+    from: BindingId,
+    to: BindingId,
+) -> Result<Vec<BindingId>, AllocError>
+    ensures { IfOk result (λ v. v.items ≡ map (λ n. if n == from then to else n) names.now) }
+{
+    let mut all = Vec::with_capacity(alloc, names.len())?;
+    for name in names {
+        all.push(renamed(*name, from, to))?;
+    }
+    Ok(all)
+}
+
+// Makes a table of names go as far as a site: the sites that it had no name for are their own classes.
+fn grow_to(names: &mut Vec<BindingId>, site: BindingId) -> Result<(), AllocError>
+    ensures names { OnOk result ((s : ℕ) → get_or names.new.items s s ≡ get_or names.old.items s s) }
+    ensures reached { OnOk result (site < length names.new.items) }
+{
+    while names.len() <= site.index() {
+        names.push(site_at(names.len()))?;
+    }
+    Ok(())
+}
+
 // The names of the classes of joined sites after two sites were joined.
 fn joining(
     alloc: Global,
-    names: &[(BindingId, BindingId)],
+    names: &[BindingId],
     a: BindingId,
     b: BindingId,
-) -> Result<Vec<(BindingId, BindingId)>, AllocError>
+) -> Result<Vec<BindingId>, AllocError>
     ensures { IfOk result (λ v. (pairs : List (ℕ × ℕ)) → NamesClasses pairs names.now → NamesClasses ((a, b) ∷ pairs) v.items) }
 {
     let from = name_of(a, names);
     let to = name_of(b, names);
-    let mut joined = Vec::new(alloc);
-    joined.push((a, to))?;
-    joined.push((b, to))?;
-    for entry in names {
-        joined.push((entry.0, renamed(entry.1, from, to)))?;
+    let mut joined = all_renamed(alloc, names, from, to)?;
+    if joined.len() <= from.index() {
+        grow_to(&mut joined, from)?;
+        joined[from.index()] = to;
     }
     Ok(joined)
 }
@@ -196,7 +220,7 @@ pub fn join(
     around: &mut Around,
     a: BindingId,
     b: BindingId,
-) -> Result<Vec<(BindingId, BindingId)>, AllocError>
+) -> Result<Vec<BindingId>, AllocError>
     requires { NamesClasses around.old.joined.items around.old.names.items }
     ensures before { IfOk result (λ v. v.items ≡ around.old.names.items) }
     ensures joins { OnOk result (JoinsPair a b around.old around.new) }
@@ -207,7 +231,7 @@ pub fn join(
 }
 
 /// Takes the pair that was joined last apart, where the names of classes were these before.
-pub fn take_apart(around: &mut Around, names: Vec<(BindingId, BindingId)>)
+pub fn take_apart(around: &mut Around, names: Vec<BindingId>)
     requires { 0 < length around.old.joined.items }
     ensures { TakesApart names.items around.old around.new }
 {

@@ -19,16 +19,19 @@ use crate::place::IndexedSet;
 use crate::serialize::{Block, ControlFlow, EvalStep, MatchArm};
 use crate::steps::{bind_test, next_test, pick_of};
 use crate::tests::Test;
+use core_containers::stacks::Stack;
 use core_rule_sets::trie_again::BindingId;
 use std::alloc::{AllocError, Global};
 
 /// The best steps from a place on, whose rules stand in order: tests while some open test covers a rule, then the
-/// returns of the rules that are left. What stands around the place is there again afterwards.
+/// returns of the rules that are left. What stands around the place is there again afterwards. `found` is room that all places
+/// share: what it holds counts at none.
 #[cycle(grow)]
 pub fn block_of(
     alloc: Global,
     indexed: &IndexedSet<'_>,
     around: &mut Around,
+    found: &mut Stack,
     here: Vec<usize>,
 ) -> Result<Block, AllocError>
     requires order { IsTrue (descend (set_in indexed.now).rules here.items) }
@@ -39,9 +42,9 @@ pub fn block_of(
     let start = around.mark();
     let mut steps = Vec::new(alloc);
     let mut left = here;
-    while let Some(next) = next_test(alloc, indexed, around, &left)? {
+    while let Some(next) = next_test(alloc, indexed, around, found, &left)? {
         let bind_order = bind_test(alloc, indexed, around, &next.test)?;
-        let check = check_of(alloc, indexed, around, next.test, next.covered)?;
+        let check = check_of(alloc, indexed, around, found, next.test, next.covered)?;
         steps.push(EvalStep { bind_order, check })?;
         left = next.others;
     }
@@ -57,6 +60,7 @@ fn check_of(
     alloc: Global,
     indexed: &IndexedSet<'_>,
     around: &mut Around,
+    found: &mut Stack,
     test: Test,
     here: Vec<usize>,
 ) -> Result<ControlFlow, AllocError>
@@ -68,17 +72,17 @@ fn check_of(
 {
     match test {
         Test::Match { source } => {
-            let arms = arms_of(alloc, indexed, around, source, here)?;
+            let arms = arms_of(alloc, indexed, around, found, source, here)?;
             Ok(ControlFlow::Match { source, arms })
         }
         Test::Equal { a, b } => {
-            let body = joined_body(alloc, indexed, around, a, b, here)?;
+            let body = joined_body(alloc, indexed, around, found, a, b, here)?;
             Ok(ControlFlow::Equal { a, b, body })
         }
         Test::Loop { source } => {
             let result = pick_of(indexed, source);
             let sites = [number_of(result)];
-            let body = body_of(alloc, indexed, around, source, &sites, here)?;
+            let body = body_of(alloc, indexed, around, found, source, &sites, here)?;
             Ok(ControlFlow::Loop { result, body })
         }
     }
@@ -90,6 +94,7 @@ fn arms_of(
     alloc: Global,
     indexed: &IndexedSet<'_>,
     around: &mut Around,
+    found: &mut Stack,
     source: BindingId,
     here: Vec<usize>,
 ) -> Result<Vec<MatchArm>, AllocError>
@@ -105,7 +110,7 @@ fn arms_of(
     while let Some(next) = next_arm(alloc, indexed, source, left)? {
         let asking = next.asking.len();
         let sites = field_sites(alloc, &next.fields)?;
-        let body = body_of(alloc, indexed, around, source, &sites, next.asking)?;
+        let body = body_of(alloc, indexed, around, found, source, &sites, next.asking)?;
         arms.push(MatchArm {
             constraint: next.constraint,
             bindings: next.fields,
@@ -122,6 +127,7 @@ fn body_of(
     alloc: Global,
     indexed: &IndexedSet<'_>,
     around: &mut Around,
+    found: &mut Stack,
     source: BindingId,
     sites: &[u16],
     here: Vec<usize>,
@@ -134,7 +140,7 @@ fn body_of(
 {
     let start = around.mark();
     go_in(around, source, sites)?;
-    let body = block_of(alloc, indexed, around, here)?;
+    let body = block_of(alloc, indexed, around, found, here)?;
     around.go_back(start);
     Ok(body)
 }
@@ -145,6 +151,7 @@ fn joined_body(
     alloc: Global,
     indexed: &IndexedSet<'_>,
     around: &mut Around,
+    found: &mut Stack,
     a: BindingId,
     b: BindingId,
     here: Vec<usize>,
@@ -156,7 +163,7 @@ fn joined_body(
     ensures back { OnOk result (IsBack around.old around.new) }
 {
     let names = join(alloc, around, a, b)?;
-    let body = block_of(alloc, indexed, around, here)?;
+    let body = block_of(alloc, indexed, around, found, here)?;
     take_apart(around, names);
     Ok(body)
 }

@@ -18,6 +18,7 @@ use crate::tests::{
 use core_containers::stacks::Stack;
 use core_rule_sets::trie_again::{Binding, BindingId, Rule, RuleSet};
 use std::alloc::{AllocError, Global};
+use std::mem;
 
 /// What is kept while the tests of a place are tried.
 #[derive(Drop)]
@@ -31,13 +32,14 @@ pub struct BestSearch {
 }
 
 impl BestSearch {
-    fn new(alloc: Global) -> BestSearch
+    fn new(alloc: Global, mut found: Stack) -> BestSearch
         ensures found { result.found ≡ [] }
         ensures scored { result.scored.items ≡ [] }
         ensures best { result.best ≡ None }
     {
+        found.truncate(0);
         BestSearch {
-            found: Stack::new(alloc),
+            found,
             scored: Vec::new(alloc),
             best: None,
         }
@@ -410,14 +412,20 @@ fn try_all_wanted(
 }
 
 /// The best open test of a place that some of its highest rules need, with its score: an open test that none of these needs
-/// covers no rule.
-pub fn best_open(alloc: Global, place: &Place<'_>) -> Result<Option<Scored>, AllocError>
+/// covers no rule. Sites that are found to be available are noted in `found`, whatever it holds: a table that was made once serves
+/// all places.
+pub fn best_open(
+    alloc: Global,
+    place: &Place<'_>,
+    found: &mut Stack,
+) -> Result<Option<Scored>, AllocError>
     ensures { IfOk result (λ o. IsBestOpen (set_at place.now) (around_at place.now) (here_at place.now) o) }
 {
     let count = reach_count(place.indexed.set, place.here, place.here.first().copied());
     let highest = &place.here[..count];
-    let mut search = BestSearch::new(alloc);
+    let mut search = BestSearch::new(alloc, mem::replace(found, Stack::new(alloc)));
     try_all_wanted(place, &mut search, highest)?;
     try_loops(place, &mut search, highest)?;
+    *found = search.found;
     Ok(search.best)
 }

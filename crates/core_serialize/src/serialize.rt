@@ -16,6 +16,7 @@ use crate::best::block_of;
 use crate::fields::fields_by_source;
 use crate::place::IndexedSet;
 use crate::tests::priority;
+use core_containers::stacks::Stack;
 use core_rule_sets::trie_again::{BindingId, Constraint, RuleSet};
 use core_syntax::syntax::Pos;
 use laws_trees::{best_trees_mean_their_sets, built_sets_have_one_best_tree};
@@ -171,7 +172,8 @@ pub fn serialize(alloc: Global, set: &RuleSet) -> Result<Block, AllocError>
         fields: &fields,
     };
     let mut around = Around::new(alloc);
-    block_of(alloc, &indexed, &mut around, here)
+    let mut found = Stack::new(alloc);
+    block_of(alloc, &indexed, &mut around, &mut found, here)
 }
 
 // The numbers of all rules of a set, ascending.

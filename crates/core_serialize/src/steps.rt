@@ -16,6 +16,7 @@ use crate::fields::iterator_of;
 use crate::open_tests::best_open;
 use crate::place::{IndexedSet, Place};
 use crate::tests::{Scored, Test, parted};
+use core_containers::stacks::Stack;
 use core_rule_sets::trie_again::BindingId;
 use std::alloc::{AllocError, Global};
 
@@ -78,18 +79,23 @@ fn chosen_of(place: &Place<'_>, best: Option<Scored>) -> Option<Test>
 }
 
 // The test that is made at a place: the greatest one, where it covers some rule.
-fn chosen_test(alloc: Global, place: &Place<'_>) -> Result<Option<Test>, AllocError>
+fn chosen_test(
+    alloc: Global,
+    place: &Place<'_>,
+    found: &mut Stack,
+) -> Result<Option<Test>, AllocError>
     ensures { IfOk result (λ o. IsChosen (set_at place.now) (around_at place.now) (here_at place.now) (option_map test_view o)) }
 {
-    let best = best_open(alloc, place)?;
+    let best = best_open(alloc, place, found)?;
     Ok(chosen_of(place, best))
 }
 
-/// The test that is made next at a place with these rules, and none where the place is an end.
+/// The test that is made next at a place with these rules, and none where the place is an end. `found` is room for the search.
 pub fn next_test(
     alloc: Global,
     indexed: &IndexedSet<'_>,
     around: &Around,
+    found: &mut Stack,
     here: &[usize],
 ) -> Result<Option<NextTest>, AllocError>
     requires order { IsTrue (descend (set_in indexed.now).rules here.now) }
@@ -104,7 +110,7 @@ pub fn next_test(
         around,
         here,
     };
-    let Some(test) = chosen_test(alloc, &place)? else {
+    let Some(test) = chosen_test(alloc, &place, found)? else {
         return Ok(None);
     };
     let (covered, others) = parted(alloc, indexed.set, here, &test)?;

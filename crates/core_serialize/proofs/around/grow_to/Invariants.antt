@@ -1,0 +1,8 @@
+use Rattle.std.proofs.Common.{◌≡◌, ℕ, ◌+◌, ◌-◌, get_or, length}
+use Rattle.core_serialize.proofs.around.grow_to.Given as goal
+
+abbrev pub invariant-loop-site : goal.invariant-loop-site
+invariant-loop-site l = (s : ℕ) → get_or l.names.items s s ≡ get_or l.initial.names.items s s
+
+abbrev pub decreases-loop-site : goal.decreases-loop-site
+decreases-loop-site l = (l.site + 1) - length l.names.items
