@@ -1,13 +1,13 @@
 -- The impure calls of a run are those that were made before, and others after them, whatever bound of results there is.
-use Rattle.std.proofs.Common.{◌≡◌, ℕ, zero, suc, Bool, true, false, if◌then◌else◌, List, [], ◌∷◌, ◌++◌, length, Option, Some, None, refl, sym, ap, ◌∙◌}
-use Rattle.std.proofs.lemmas.List.{append_assoc, append-nil}
-use Rattle.model.specs.rules.Values.{Value, Values, value_eq}
-use Rattle.model.specs.rules.Meaning.{Content, one, parts, nothing, just, many, contents, pure_answer, impure_answer}
+use Rattle.std.proofs.Common.{◌≡◌, ℕ, Bool, true, false, if◌then◌else◌, List, [], ◌∷◌, ◌++◌, length, Option, Some, None, refl, ◌∙◌}
+use Rattle.model.specs.rules.Values.{Value, value_eq}
+use Rattle.model.specs.rules.Meaning.{Content, one, parts, nothing, just, many, contents}
 use Rattle.model.specs.rules.Outcome.{Call}
-use Rattle.model.specs.trees.Run.{World, Env, bound_to, Bound, all_bound, unwrap_failed, no_content_there, now_bound, unwrapped, constructed, Trace, content_fields, bind_fields}
-use Rattle.model_code.specs.Code.{Expr, truth_written, read, extraction, call, variant_of, struct_of, some_of, Block, no_statement, statement, Statement, bind, bind_some, no_way, match_on, if_equal, for_each_of, give, labelled, unless_let, unless_equal, CodeArms, no_code_arm, code_arm}
-use Rattle.model_code.specs.CodeRuns.{held, held_value, held_values, bind_expr, Flow, goes_on, leaves, returns, fails, sticks, then_flow, in_braces, in_label, flow_of_bound, is_full, with_result, give_content, with_bindings, where_met, on_content, where_equal, each_flow, on_answers, run_block, run_statement, run_code_arms}
+use Rattle.model.specs.trees.Run.{World, Env, bound_to, Bound, all_bound, unwrap_failed, no_content_there, unwrapped, Trace, content_fields, bind_fields}
+use Rattle.model_code.specs.Code.{Block, no_statement, statement, Statement, bind, bind_some, no_way, match_on, if_equal, for_each_of, give, labelled, unless_let, unless_equal, CodeArms, no_code_arm, code_arm}
+use Rattle.model_code.specs.CodeRuns.{held, held_value, bind_expr, Flow, goes_on, leaves, returns, fails, sticks, then_flow, in_braces, in_label, flow_of_bound, is_full, with_result, give_content, with_bindings, where_met, on_content, where_equal, each_flow, on_answers, run_block, run_statement, run_code_arms}
 use Rattle.model_code.specs.CodeLaws.{IsBeginning}
+use Rattle.model_code.proofs.CodeCut.{beginning_self, beginning_over, calls_of, unwrapped_calls, expr_calls}
 
 abbrev pub calls_in : Flow → List Call
 calls_in (goes_on env t) = t.calls
@@ -19,18 +19,12 @@ calls_in (sticks t) = t.calls
 abbrev pub Grows : Trace → Flow → Type 0
 Grows t f = IsBeginning t.calls (calls_in f)
 
-pub self : {X : Type 0} (xs : List X) → IsBeginning xs xs
-self xs = ([], sym (append-nil xs))
-
-pub over : {X : Type 0} (xs ys zs : List X) → IsBeginning xs ys → IsBeginning ys zs → IsBeginning xs zs
-over xs ys zs b c = (b.0 ++ c.0, c.1 ∙ ap (λ l. l ++ c.0) b.1 ∙ append_assoc xs b.0 c.0)
-
 pub then_grows : (f : Flow) (go : Env → Trace → Flow) → ((env : Env) (t : Trace) → Grows t (go env t)) → IsBeginning (calls_in f) (calls_in (then_flow f go))
 then_grows (goes_on env t) go h = h env t
-then_grows (leaves t) go h = self t.calls
-then_grows (returns t) go h = self t.calls
-then_grows (fails t) go h = self t.calls
-then_grows (sticks t) go h = self t.calls
+then_grows (leaves t) go h = beginning_self t.calls
+then_grows (returns t) go h = beginning_self t.calls
+then_grows (fails t) go h = beginning_self t.calls
+then_grows (sticks t) go h = beginning_self t.calls
 
 pub braces_calls : (env : Env) (f : Flow) → calls_in (in_braces env f) ≡ calls_in f
 braces_calls env (goes_on env' t) = refl
@@ -49,50 +43,17 @@ label_grows t env (returns u) g = g
 label_grows t env (fails u) g = g
 label_grows t env (sticks u) g = g
 
-abbrev pub calls_of : Bound → List Call
-calls_of (all_bound env calls) = calls
-calls_of (unwrap_failed calls) = calls
-calls_of (no_content_there calls) = calls
-
-pub now_calls : (env : Env) (calls : List Call) (s : ℕ) (o : Option Content) → IsBeginning calls (calls_of (now_bound env calls s o))
-now_calls env calls s None = self calls
-now_calls env calls s (Some c) = self calls
-
-pub unwrapped_calls : (env : Env) (calls : List Call) (s : ℕ) (o : Option Content) → IsBeginning calls (calls_of (unwrapped env calls s o))
-unwrapped_calls env calls s None = self calls
-unwrapped_calls env calls s (Some (one v)) = self calls
-unwrapped_calls env calls s (Some (parts vs)) = self calls
-unwrapped_calls env calls s (Some nothing) = self calls
-unwrapped_calls env calls s (Some (just c)) = self calls
-unwrapped_calls env calls s (Some (many cs)) = self calls
-
-constructed_calls : (w : World) (env : Env) (calls : List Call) (s term instance : ℕ) (o : Option Values) → IsBeginning calls (calls_of (constructed w env calls s term instance o))
-constructed_calls w env calls s term instance None = self calls
-constructed_calls w env calls s term zero (Some vs) = now_calls env calls s (pure_answer w.meaning term vs)
-constructed_calls w env calls s term (suc n) (Some vs) =
-    let made : List Call = calls ++ record { term = term; args = vs } ∷ [] in
-    over calls made (calls_of (now_bound env made s (impure_answer w.meaning term (length calls)))) (record { term = term; args = vs } ∷ [], refl) (now_calls env made s (impure_answer w.meaning term (length calls)))
-
-pub expr_calls : (w : World) (env : Env) (calls : List Call) (s : ℕ) (e : Expr) → IsBeginning calls (calls_of (bind_expr w env calls s e))
-expr_calls w env calls s (truth_written b ty) = now_calls env calls s _
-expr_calls w env calls s (read u) = now_calls env calls s _
-expr_calls w env calls s (extraction term u) = now_calls env calls s _
-expr_calls w env calls s (call term us instance) = constructed_calls w env calls s term instance (held_values w env us)
-expr_calls w env calls s (variant_of ty variant us) = now_calls env calls s _
-expr_calls w env calls s (struct_of ty us) = now_calls env calls s _
-expr_calls w env calls s (some_of u) = now_calls env calls s _
-
 pub bound_grows : (b : Bound) (t : Trace) → IsBeginning t.calls (calls_of b) → Grows t (flow_of_bound b t)
 bound_grows (all_bound env calls) t h = h
 bound_grows (unwrap_failed calls) t h = h
 bound_grows (no_content_there calls) t h = h
 
 pub content_grows : (o : Option Content) (t : Trace) (go : Content → Flow) → ((c : Content) → Grows t (go c)) → Grows t (on_content o t go)
-content_grows None t go h = self t.calls
+content_grows None t go h = beginning_self t.calls
 content_grows (Some c) t go h = h c
 
 pub bindings_grow : (o : Option Env) (t : Trace) (go : Env → Flow) → ((env : Env) → Grows t (go env)) → Grows t (with_bindings o t go)
-bindings_grow None t go h = self t.calls
+bindings_grow None t go h = beginning_self t.calls
 bindings_grow (Some env) t go h = h env
 
 pub met_grows : (o : Option (List Content)) (fields : List (Option ℕ)) (env : Env) (t : Trace) (go : Env → Flow) (other : Flow)
@@ -105,54 +66,54 @@ if_grows true t f g h k = h
 if_grows false t f g h k = k
 
 pub equal_grows : (a b : Option Value) (t : Trace) (f g : Flow) → Grows t f → Grows t g → Grows t (where_equal a b t f g)
-equal_grows None b t f g h k = self t.calls
-equal_grows (Some v) None t f g h k = self t.calls
+equal_grows None b t f g h k = beginning_self t.calls
+equal_grows (Some v) None t f g h k = beginning_self t.calls
 equal_grows (Some v) (Some u) t f g h k = if_grows (value_eq v u) t f g h k
 
 pub each_grows : (cs : List Content) (go : Content → Trace → Flow) (env : Env) → ((c : Content) (t : Trace) → Grows t (go c t)) → (t : Trace) → Grows t (each_flow cs go env t)
-each_grows [] go env h t = self t.calls
+each_grows [] go env h t = beginning_self t.calls
 each_grows (c ∷ cs) go env h t =
-    over t.calls (calls_in (in_braces env (go c t))) (calls_in (then_flow (in_braces env (go c t)) (λ env' t'. each_flow cs go env t')))
+    beginning_over t.calls (calls_in (in_braces env (go c t))) (calls_in (then_flow (in_braces env (go c t)) (λ env' t'. each_flow cs go env t')))
     (braces_grow t env (go c t) (h c t)) (then_grows (in_braces env (go c t)) (λ env' t'. each_flow cs go env t') (λ env' t'. each_grows cs go env h t'))
 
 pub answers_grow : (o : Option Content) (go : Content → Trace → Flow) (env : Env) (t : Trace) → ((c : Content) (t : Trace) → Grows t (go c t)) → Grows t (on_answers o go env t)
-answers_grow None go env t h = self t.calls
-answers_grow (Some (one v)) go env t h = self t.calls
-answers_grow (Some (parts vs)) go env t h = self t.calls
-answers_grow (Some nothing) go env t h = self t.calls
-answers_grow (Some (just c)) go env t h = self t.calls
+answers_grow None go env t h = beginning_self t.calls
+answers_grow (Some (one v)) go env t h = beginning_self t.calls
+answers_grow (Some (parts vs)) go env t h = beginning_self t.calls
+answers_grow (Some nothing) go env t h = beginning_self t.calls
+answers_grow (Some (just c)) go env t h = beginning_self t.calls
 answers_grow (Some (many cs)) go env t h = each_grows (contents cs) go env h t
 
 pub give_grows : (o : Option Content) (multi : Bool) (most : Option ℕ) (env : Env) (t : Trace) → Grows t (give_content o multi most env t)
-give_grows None multi most env t = self t.calls
-give_grows (Some c) true most env t = if_grows (is_full most (length (t.results ++ c ∷ []))) t (returns (with_result t c)) (goes_on env (with_result t c)) (self t.calls) (self t.calls)
-give_grows (Some c) false most env t = self t.calls
+give_grows None multi most env t = beginning_self t.calls
+give_grows (Some c) true most env t = if_grows (is_full most (length (t.results ++ c ∷ []))) t (returns (with_result t c)) (goes_on env (with_result t c)) (beginning_self t.calls) (beginning_self t.calls)
+give_grows (Some c) false most env t = beginning_self t.calls
 
 module _ (w : World) (most : Option ℕ) where
   mutual
     pub block_grows : (b : Block) (env : Env) (t : Trace) → Grows t (run_block b w most env t)
-    block_grows no_statement env t = self t.calls
+    block_grows no_statement env t = beginning_self t.calls
     block_grows (statement s rest) env t =
-        over t.calls (calls_in (run_statement s w most env t)) (calls_in (then_flow (run_statement s w most env t) (run_block rest w most)))
+        beginning_over t.calls (calls_in (run_statement s w most env t)) (calls_in (then_flow (run_statement s w most env t) (run_block rest w most)))
         (statement_grows s env t) (then_grows (run_statement s w most env t) (run_block rest w most) (block_grows rest))
 
     pub statement_grows : (s : Statement) (env : Env) (t : Trace) → Grows t (run_statement s w most env t)
     statement_grows (bind v e) env t = bound_grows (bind_expr w env t.calls v e) t (expr_calls w env t.calls v e)
     statement_grows (bind_some v u) env t = bound_grows (unwrapped env t.calls v (held w env u.place)) t (unwrapped_calls env t.calls v (held w env u.place))
-    statement_grows no_way env t = self t.calls
+    statement_grows no_way env t = beginning_self t.calls
     statement_grows (match_on u arms) env t =
         braces_grow t env (on_content (held w env u.place) t (λ c. run_code_arms arms w most c env t)) (content_grows (held w env u.place) t (λ c. run_code_arms arms w most c env t) (λ c. arms_grow arms c env t))
     statement_grows (if_equal a b body) env t =
         braces_grow t env (where_equal (held_value w env a) (held_value w env b) t (run_block body w most env t) (goes_on env t))
-        (equal_grows (held_value w env a) (held_value w env b) t (run_block body w most env t) (goes_on env t) (block_grows body env t) (self t.calls))
+        (equal_grows (held_value w env a) (held_value w env b) t (run_block body w most env t) (goes_on env t) (block_grows body env t) (beginning_self t.calls))
     statement_grows (for_each_of v from body) env t = answers_grow (bound_to env from) (λ c t'. run_block body w most ((v, c) ∷ env) t') env t (λ c t'. block_grows body ((v, c) ∷ env) t')
     statement_grows (give at u) env t = give_grows (held w env u.place) w.multi most env t
     statement_grows (labelled body) env t = label_grows t env (run_block body w most env t) (block_grows body env t)
     statement_grows (unless_let u pattern fields) env t =
-        content_grows (held w env u.place) t (λ c. where_met (content_fields w.meaning pattern c) fields env t (λ env'. goes_on env' t) (leaves t)) (λ c. met_grows (content_fields w.meaning pattern c) fields env t (λ env'. goes_on env' t) (leaves t) (λ env'. self t.calls) (self t.calls))
-    statement_grows (unless_equal a b) env t = equal_grows (held_value w env a) (held_value w env b) t (goes_on env t) (leaves t) (self t.calls) (self t.calls)
+        content_grows (held w env u.place) t (λ c. where_met (content_fields w.meaning pattern c) fields env t (λ env'. goes_on env' t) (leaves t)) (λ c. met_grows (content_fields w.meaning pattern c) fields env t (λ env'. goes_on env' t) (leaves t) (λ env'. beginning_self t.calls) (beginning_self t.calls))
+    statement_grows (unless_equal a b) env t = equal_grows (held_value w env a) (held_value w env b) t (goes_on env t) (leaves t) (beginning_self t.calls) (beginning_self t.calls)
 
     pub arms_grow : (arms : CodeArms) (c : Content) (env : Env) (t : Trace) → Grows t (run_code_arms arms w most c env t)
-    arms_grow no_code_arm c env t = self t.calls
+    arms_grow no_code_arm c env t = beginning_self t.calls
     arms_grow (code_arm pattern fields body rest) c env t =
         met_grows (content_fields w.meaning pattern c) fields env t (λ env'. run_block body w most env' t) (run_code_arms rest w most c env t) (λ env'. block_grows body env' t) (arms_grow rest c env t)

@@ -14,16 +14,18 @@ use Rattle.model_code.specs.Written.{shown_code}
 use Rattle.laws_code.specs.ShownRuns.{ShownExterns, ShownWorld, world_of_shown, answered, called, bind_shown, run_shown, run_shown_at, run_shown_arms, shown_run}
 use Rattle.laws_code.specs.ShownLaws.{by_number, SaysWhatIsAround, ShownCodeRunsAsCode}
 use Rattle.laws_code.specs.Meanings.{answer_behind, world_around, ShownCodeRunsUnderItsMeaning}
-use Rattle.laws_code.proofs.Growing.{calls_in, Grows, self, over, then_grows, braces_grow, braces_calls, label_grows, calls_of, now_calls, unwrapped_calls, expr_calls, bound_grows, content_grows, met_grows, equal_grows, each_grows, answers_grow, give_grows}
+use Rattle.model_code.proofs.CodeCut.{beginning_self, beginning_over, calls_of, now_calls, unwrapped_calls, expr_calls}
+use Rattle.laws_code.proofs.ShownRuns.{calls_made}
+use Rattle.laws_code.proofs.Growing.{calls_in, Grows, then_grows, braces_grow, braces_calls, label_grows, bound_grows, content_grows, met_grows, equal_grows, each_grows, answers_grow, give_grows}
 
 -- 1. calls grow
 answered_calls : (impure : Bool) (a : ShownExterns) (env : Env) (calls : List Call) (v : ℕ) (c : Call) → IsBeginning calls (calls_of (answered impure a env calls v c))
 answered_calls false a env calls v c = now_calls env calls v (a.pures c.term c.args)
 answered_calls true a env calls v c =
-    let made : List Call = calls ++ c ∷ [] in over calls made (calls_of (now_bound env made v (a.impures calls c))) (c ∷ [], refl) (now_calls env made v (a.impures calls c))
+    let made : List Call = calls ++ c ∷ [] in beginning_over calls made (calls_of (now_bound env made v (a.impures calls c))) (c ∷ [], refl) (now_calls env made v (a.impures calls c))
 
 called_calls : (a : ShownExterns) (env : Env) (calls : List Call) (v f : ℕ) (o : Option Values) → IsBeginning calls (calls_of (called a env calls v f o))
-called_calls a env calls v f None = self calls
+called_calls a env calls v f None = beginning_self calls
 called_calls a env calls v f (Some vs) = answered_calls (a.is_impure f) a env calls v (record { term = f; args = vs })
 
 module _ (w : ShownWorld) (most : Option ℕ) where
@@ -41,30 +43,30 @@ module _ (w : ShownWorld) (most : Option ℕ) where
 
   mutual
     block_grows : (b : Block) (env : Env) (t : Trace) → Grows t (run_shown b w most env t)
-    block_grows no_statement env t = self t.calls
+    block_grows no_statement env t = beginning_self t.calls
     block_grows (statement s rest) env t =
-        over t.calls (calls_in (run_shown_at s w most env t)) (calls_in (then_flow (run_shown_at s w most env t) (run_shown rest w most)))
+        beginning_over t.calls (calls_in (run_shown_at s w most env t)) (calls_in (then_flow (run_shown_at s w most env t) (run_shown rest w most)))
         (statement_grows s env t) (then_grows (run_shown_at s w most env t) (run_shown rest w most) (block_grows rest))
 
     statement_grows : (s : Statement) (env : Env) (t : Trace) → Grows t (run_shown_at s w most env t)
     statement_grows (bind v e) env t = bound_grows (bind_shown w env t.calls v e) t (shown_calls env t.calls v e)
     statement_grows (bind_some v u) env t = bound_grows (taken_out env t.calls v (held ws env u.place)) t (unwrapped_calls env t.calls v (held ws env u.place))
-    statement_grows no_way env t = self t.calls
+    statement_grows no_way env t = beginning_self t.calls
     statement_grows (match_on u arms) env t =
         braces_grow t env (on_content (held ws env u.place) t (λ c. run_shown_arms arms w most c env t)) (content_grows (held ws env u.place) t (λ c. run_shown_arms arms w most c env t) (λ c. arms_grow arms c env t))
     statement_grows (if_equal a b body) env t =
         braces_grow t env (where_equal (held_value ws env a) (held_value ws env b) t (run_shown body w most env t) (goes_on env t))
-        (equal_grows (held_value ws env a) (held_value ws env b) t (run_shown body w most env t) (goes_on env t) (block_grows body env t) (self t.calls))
+        (equal_grows (held_value ws env a) (held_value ws env b) t (run_shown body w most env t) (goes_on env t) (block_grows body env t) (beginning_self t.calls))
     statement_grows (for_each_of v from body) env t = answers_grow (bound_to env from) (λ c t'. run_shown body w most ((v, c) ∷ env) t') env t (λ c t'. block_grows body ((v, c) ∷ env) t')
     statement_grows (give at u) env t = give_grows (held ws env u.place) w.multi most env t
     statement_grows (labelled body) env t = label_grows t env (run_shown body w most env t) (block_grows body env t)
     statement_grows (unless_let u pattern fields) env t =
         content_grows (held ws env u.place) t (λ c. where_met (content_fields ws.meaning pattern c) fields env t (λ env'. goes_on env' t) (leaves t))
-        (λ c. met_grows (content_fields ws.meaning pattern c) fields env t (λ env'. goes_on env' t) (leaves t) (λ env'. self t.calls) (self t.calls))
-    statement_grows (unless_equal a b) env t = equal_grows (held_value ws env a) (held_value ws env b) t (goes_on env t) (leaves t) (self t.calls) (self t.calls)
+        (λ c. met_grows (content_fields ws.meaning pattern c) fields env t (λ env'. goes_on env' t) (leaves t) (λ env'. beginning_self t.calls) (beginning_self t.calls))
+    statement_grows (unless_equal a b) env t = equal_grows (held_value ws env a) (held_value ws env b) t (goes_on env t) (leaves t) (beginning_self t.calls) (beginning_self t.calls)
 
     arms_grow : (arms : CodeArms) (c : Content) (env : Env) (t : Trace) → Grows t (run_shown_arms arms w most c env t)
-    arms_grow no_code_arm c env t = self t.calls
+    arms_grow no_code_arm c env t = beginning_self t.calls
     arms_grow (code_arm pattern fields body rest) c env t =
         met_grows (content_fields ws.meaning pattern c) fields env t (λ env'. run_shown body w most env' t) (run_shown_arms rest w most c env t) (λ env'. block_grows body env' t) (arms_grow rest c env t)
 
@@ -126,7 +128,7 @@ module _ (w : ShownWorld) (most : Option ℕ) (others : List Call → Call → O
   each_same [] go go' env grow h t k = refl
   each_same (c ∷ cs) go go' env grow h t k =
       then_same (in_braces env (go c t)) (in_braces env (go' c t)) (λ env' t'. each_flow cs go env t') (λ env' t'. each_flow cs go' env t')
-      (ap (in_braces env) (h c t (braces_within env (go c t) (over (calls_in (in_braces env (go c t))) (calls_in (then_flow (in_braces env (go c t)) (λ env' t'. each_flow cs go env t'))) all
+      (ap (in_braces env) (h c t (braces_within env (go c t) (beginning_over (calls_in (in_braces env (go c t))) (calls_in (then_flow (in_braces env (go c t)) (λ env' t'. each_flow cs go env t'))) all
       (then_grows (in_braces env (go c t)) (λ env' t'. each_flow cs go env t') (λ env' t'. each_grows cs go env grow t')) k))))
       k (λ env' t' l. each_same cs go go' env grow h t' l)
 
@@ -167,7 +169,7 @@ module _ (w : ShownWorld) (most : Option ℕ) (others : List Call → Call → O
     block_same no_statement env t k = refl
     block_same (statement s rest) env t k =
         then_same (run_shown_at s w most env t) (run_shown_at s v' most env t) (run_shown rest w most) (run_shown rest v' most)
-        (statement_same s env t (over (calls_in (run_shown_at s w most env t)) (calls_in (then_flow (run_shown_at s w most env t) (run_shown rest w most))) all (then_grows (run_shown_at s w most env t) (run_shown rest w most) (block_grows w most rest)) k))
+        (statement_same s env t (beginning_over (calls_in (run_shown_at s w most env t)) (calls_in (then_flow (run_shown_at s w most env t) (run_shown rest w most))) all (then_grows (run_shown_at s w most env t) (run_shown rest w most) (block_grows w most rest)) k))
         k (λ env' t' l. block_same rest env' t' l)
 
     statement_same : (s : Statement) (env : Env) (t : Trace) → Within (run_shown_at s w most env t) → run_shown_at s v' most env t ≡ run_shown_at s w most env t
@@ -201,13 +203,6 @@ at_place (x ∷ xs) y ys = at_place xs y ys
 by_place : (a : ShownExterns) (before after : List Call) (c : Call) → answer_behind a (before ++ c ∷ after) (length before) ≡ a.impures before c
 by_place a before after c =
     (λ i. then_option (at_place before c after i) (a.impures (take (length before) (before ++ c ∷ after)))) ∙ (λ i. a.impures (take_at before (c ∷ after) (length before) refl i) c)
-
-calls_made : (f : Flow) → (outcome_of f).calls ≡ calls_in f
-calls_made (goes_on env t) = refl
-calls_made (leaves t) = refl
-calls_made (returns t) = refl
-calls_made (fails t) = refl
-calls_made (sticks t) = refl
 
 pub shown_code_runs_under_its_meaning_lem : ShownCodeRunsAsCode → ShownCodeRunsUnderItsMeaning
 shown_code_runs_under_its_meaning_lem law p code w sites most wr ca kind unstuck =

@@ -22,7 +22,9 @@ use Rattle.model_code.specs.ReadsBack.{takes, expr_writable, pattern_writable, m
 use Rattle.model_code.proofs.Written.{written_writable}
 use Rattle.laws_code.specs.ShownRuns.{ShownExterns, ShownWorld, world_of_shown, answered, called, bind_shown, run_shown, run_shown_at, run_shown_arms}
 use Rattle.laws_code.specs.ShownLaws.{impure_call, expr_calls_as, calls_as, calls_as_at, arms_call_as, by_number, outcome_by_number, SaysWhatIsAround, shown_world, ShownCodeRunsAsCode}
-use Rattle.laws_code.proofs.Growing.{calls_in, Grows, over, each_grows, block_grows}
+use Rattle.model_code.proofs.CodeCut.{beginning_over}
+use Rattle.model_code.proofs.Opening.{alone}
+use Rattle.laws_code.proofs.Growing.{calls_in, Grows, each_grows, block_grows}
 use Rattle.laws_code.proofs.WrittenRuns.{ends_there, written_runs}
 
 -- 1. the code that is written calls as the code does
@@ -56,13 +58,6 @@ module _ (p : Notation) (is_impure : ℕ → Bool) where
 abbrev is_stuck : Flow → Bool
 is_stuck (sticks t) = true
 is_stuck f = false
-
-alone : (f : Flow) → then_flow f goes_on ≡ f
-alone (goes_on env t) = refl
-alone (leaves t) = refl
-alone (returns t) = refl
-alone (fails t) = refl
-alone (sticks t) = refl
 
 value_back : (o : Option Value) → then_option (from_value o) as_value ≡ o
 value_back None = refl
@@ -100,7 +95,7 @@ module _ (p : Notation) (w : World) (around : ShownExterns) (most : Option ℕ) 
 
   -- 2. how flows are made
   then_fine : (f : Flow) (go : Env → Trace → Flow) → ((env : Env) (t : Trace) → Grows t (go env t)) → Fine (then_flow f go) → Fine f
-  then_fine (goes_on env t) go grow h = (over t.calls (calls_in (go env t)) all (grow env t) h.0, refl)
+  then_fine (goes_on env t) go grow h = (beginning_over t.calls (calls_in (go env t)) all (grow env t) h.0, refl)
   then_fine (leaves t) go grow h = h
   then_fine (returns t) go grow h = h
   then_fine (fails t) go grow h = h
@@ -478,7 +473,7 @@ module _ (p : Notation) (w : World) (around : ShownExterns) (most : Option ℕ) 
   outcome_numbered (fails t) = refl
   outcome_numbered (sticks t) = refl
 
-calls_made : (f : Flow) → (outcome_of f).calls ≡ calls_in f
+pub calls_made : (f : Flow) → (outcome_of f).calls ≡ calls_in f
 calls_made (goes_on env t) = refl
 calls_made (leaves t) = refl
 calls_made (returns t) = refl

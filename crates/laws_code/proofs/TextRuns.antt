@@ -152,7 +152,7 @@ text_of_accepted_says_its_source_lem laws defs expand rules l accepted built bes
     }
 
 -- each term with rules has its tree
-lowered_there : (p : Program) (terms : List LoweredTerm) (t : ℕ) → AreLowered p terms → Contains (terms_with_rules p) t → (l : LoweredTerm) × Contains terms l × (l.term ≡ t)
+pub lowered_there : (p : Program) (terms : List LoweredTerm) (t : ℕ) → AreLowered p terms → Contains (terms_with_rules p) t → (l : LoweredTerm) × Contains terms l × (l.term ≡ t)
 lowered_there p terms t low known =
     let i = in_map (λ (l : LoweredTerm). l.term) terms t (in_from_contains (map (λ (l : LoweredTerm). l.term) terms) t (subst (λ ts. Contains ts t) (sym low.each) known)) in
     (i.0, contains_from_in terms i.0 i.1, i.2)

@@ -1,6 +1,6 @@
 -- The code that is written runs as the code: braces that no test leaves change nothing around a body.
-use Rattle.std.proofs.Common.{◌≡◌, ◌||◌, ℕ, Bool, true, false, not, List, [], ◌∷◌, Option, Some, None, if◌then◌else◌, refl, sym, ap, ◌∙◌, subst}
-use Rattle.std.proofs.lemmas.Bool.{false≢true, true≢false}
+use Rattle.std.proofs.Common.{◌≡◌, ℕ, Bool, true, false, not, List, [], ◌∷◌, Option, Some, None, if◌then◌else◌, refl, sym, ap, ◌∙◌, subst}
+use Rattle.std.proofs.lemmas.Bool.{false≢true, true≢false, or_parts}
 use Rattle.model.specs.rules.Values.{Value, value_eq}
 use Rattle.model.specs.rules.Meaning.{Content, one, parts, nothing, just, many, contents}
 use Rattle.model.specs.trees.Run.{World, Env, bound_to, Bound, all_bound, unwrap_failed, no_content_there, Trace, content_fields, bind_fields}
@@ -10,16 +10,13 @@ use Rattle.model_code.specs.CodeRuns.{held, held_value, bind_expr, Flow, goes_on
 use Rattle.model_code.specs.Notation.{Notation}
 use Rattle.model_code.specs.Pieces.{is_left, leaves_at, leaves_arms, result_ends, is_end, unless_end}
 use Rattle.model_code.specs.Written.{is_bare, unwrapped, written, written_at, written_arms}
+use Rattle.model_code.proofs.Flattening.{same_content, same_met, same_equal, same_answers}
 use Rattle.model_code.proofs.Written.{left_written}
 
 -- 1. a block that no test leaves stays
 abbrev stays : Flow → Bool
 stays (leaves t) = false
 stays f = true
-
-or_parts : (a b : Bool) → (a || b) ≡ false → (a ≡ false) × (b ≡ false)
-or_parts false b h = (refl, h)
-or_parts true b h = absurd (true≢false h)
 
 then_stays : (f : Flow) (go : Env → Trace → Flow) → stays f ≡ true → ((env : Env) (t : Trace) → stays (go env t) ≡ true) → stays (then_flow f go) ≡ true
 then_stays (goes_on env t) go h k = k env t
@@ -159,51 +156,17 @@ module _ (p : Notation) (w : World) (most : Option ℕ) (kind : w.multi ≡ not 
   body_same (statement (labelled body) (statement s later)) e env t h = ap (in_braces e) (h env t)
   body_same (statement s later) e env t h = ap (in_braces e) (h env t)
 
-  braces_content : (e : Env) (o : Option Content) (t : Trace) (f g : Content → Flow) → ((c : Content) → in_braces e (f c) ≡ in_braces e (g c)) → in_braces e (on_content o t f) ≡ in_braces e (on_content o t g)
-  braces_content e None t f g h = refl
-  braces_content e (Some c) t f g h = h c
-
-  braces_bindings : (e : Env) (o : Option Env) (t : Trace) (f g : Env → Flow) → ((env : Env) → in_braces e (f env) ≡ in_braces e (g env)) → in_braces e (with_bindings o t f) ≡ in_braces e (with_bindings o t g)
-  braces_bindings e None t f g h = refl
-  braces_bindings e (Some env) t f g h = h env
-
-  braces_met : (e : Env) (o : Option (List Content)) (fields : List (Option ℕ)) (env : Env) (t : Trace) (f g : Env → Flow) (x y : Flow) → ((env' : Env) → in_braces e (f env') ≡ in_braces e (g env')) → in_braces e x ≡ in_braces e y
-      → in_braces e (where_met o fields env t f x) ≡ in_braces e (where_met o fields env t g y)
-  braces_met e None fields env t f g x y h k = k
-  braces_met e (Some cs) fields env t f g x y h k = braces_bindings e (bind_fields fields cs env) t f g h
-
-  braces_if : (e : Env) (b : Bool) (f g x : Flow) → in_braces e f ≡ in_braces e g → in_braces e (if b then f else x) ≡ in_braces e (if b then g else x)
-  braces_if e true f g x h = h
-  braces_if e false f g x h = refl
-
-  braces_equal : (e : Env) (a b : Option Value) (t : Trace) (f g x : Flow) → in_braces e f ≡ in_braces e g → in_braces e (where_equal a b t f x) ≡ in_braces e (where_equal a b t g x)
-  braces_equal e None b t f g x h = refl
-  braces_equal e (Some v) None t f g x h = refl
-  braces_equal e (Some v) (Some u) t f g x h = braces_if e (value_eq v u) f g x h
-
-  each_same : (cs : List Content) (f g : Content → Trace → Flow) (env : Env) → ((c : Content) (t : Trace) → in_braces env (f c t) ≡ in_braces env (g c t)) → (t : Trace) → each_flow cs f env t ≡ each_flow cs g env t
-  each_same [] f g env h t = refl
-  each_same (c ∷ cs) f g env h t = λ i. then_flow (h c t i) (λ env' t'. each_same cs f g env h t' i)
-
-  answers_same : (o : Option Content) (f g : Content → Trace → Flow) (env : Env) (t : Trace) → ((c : Content) (t : Trace) → in_braces env (f c t) ≡ in_braces env (g c t)) → on_answers o f env t ≡ on_answers o g env t
-  answers_same None f g env t h = refl
-  answers_same (Some (one v)) f g env t h = refl
-  answers_same (Some (parts vs)) f g env t h = refl
-  answers_same (Some nothing) f g env t h = refl
-  answers_same (Some (just c)) f g env t h = refl
-  answers_same (Some (many cs)) f g env t h = each_same (contents cs) f g env h t
-
   mutual
     pub written_runs : (b : Block) (env : Env) (t : Trace) → run_block (written p b) w most env t ≡ run_block b w most env t
     written_runs no_statement env t = refl
     written_runs (statement s rest) env t = λ i. then_flow (statement_runs s env t i) (λ env' t'. written_runs rest env' t' i)
 
     statement_runs : (s : Statement) (env : Env) (t : Trace) → run_statement (written_at p s) w most env t ≡ run_statement s w most env t
-    statement_runs (match_on u arms) env t = braces_content env (held w env u.place) t (λ c. run_code_arms (written_arms p arms) w most c env t) (λ c. run_code_arms arms w most c env t) (λ c. arms_run arms env c env t)
+    statement_runs (match_on u arms) env t = same_content env (held w env u.place) t (λ c. run_code_arms (written_arms p arms) w most c env t) (λ c. run_code_arms arms w most c env t) (λ c. arms_run arms env c env t)
     statement_runs (if_equal a b body) env t =
-        braces_equal env (held_value w env a) (held_value w env b) t (run_block (unwrapped (is_bare p body) (written p body)) w most env t) (run_block body w most env t) (goes_on env t) (body_same body env env t (written_runs body))
+        same_equal env (held_value w env a) (held_value w env b) t (run_block (unwrapped (is_bare p body) (written p body)) w most env t) (run_block body w most env t) (goes_on env t) (body_same body env env t (written_runs body))
     statement_runs (for_each_of v from body) env t =
-        answers_same (bound_to env from) (λ c t'. run_block (unwrapped (is_bare p body) (written p body)) w most ((v, c) ∷ env) t') (λ c t'. run_block body w most ((v, c) ∷ env) t') env t (λ c t'. body_same body env ((v, c) ∷ env) t' (written_runs body))
+        same_answers (bound_to env from) (λ c t'. run_block (unwrapped (is_bare p body) (written p body)) w most ((v, c) ∷ env) t') (λ c t'. run_block body w most ((v, c) ∷ env) t') env t (λ c t'. body_same body env ((v, c) ∷ env) t' (written_runs body))
     statement_runs (labelled body) env t = ap (in_label env) (written_runs body env t)
     statement_runs (bind v e) env t = refl
     statement_runs (bind_some v u) env t = refl
@@ -215,5 +178,5 @@ module _ (p : Notation) (w : World) (most : Option ℕ) (kind : w.multi ≡ not 
     arms_run : (arms : CodeArms) (e : Env) (c : Content) (env : Env) (t : Trace) → in_braces e (run_code_arms (written_arms p arms) w most c env t) ≡ in_braces e (run_code_arms arms w most c env t)
     arms_run no_code_arm e c env t = refl
     arms_run (code_arm pattern fields body rest) e c env t =
-        braces_met e (content_fields w.meaning pattern c) fields env t (λ env'. run_block (unwrapped (is_bare p body) (written p body)) w most env' t) (λ env'. run_block body w most env' t)
+        same_met e (content_fields w.meaning pattern c) fields env t (λ env'. run_block (unwrapped (is_bare p body) (written p body)) w most env' t) (λ env'. run_block body w most env' t)
         (run_code_arms (written_arms p rest) w most c env t) (run_code_arms rest w most c env t) (λ env'. body_same body e env' t (written_runs body)) (arms_run rest e c env t)

@@ -1,10 +1,13 @@
 mod Collected
 mod Followed
 mod LikeRuns
+mod ListRuns
+mod SaidLists
 mod SaidRuns
 mod SampleAnswers
 mod SampleBelow
 mod SampleConditions
+mod SampleListRuns
 mod SampleLists
 mod SampleNumbers
 mod SampleOperators

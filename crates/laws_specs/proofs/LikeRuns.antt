@@ -1,14 +1,14 @@
 -- Functions that do the same have the same whole runs: by the depth to which calls nest.
-use Rattle.std.proofs.Common.{◌≡◌, ℕ, zero, suc, Bool, true, false, List, [], ◌∷◌, map, Contains, sym, subst, ◌∙◌, inl, inr}
+use Rattle.std.proofs.Common.{◌≡◌, ℕ, zero, suc, Bool, true, false, List, [], ◌∷◌, sym, subst, ◌∙◌, inl, inr}
 use Rattle.std.proofs.lemmas.List.Elements.{All-contains}
 use Rattle.model.specs.rules.Values.{listed}
 use Rattle.model.specs.rules.Meaning.{Content, Meaning}
 use Rattle.model.specs.rules.Outcome.{Call, Outcome}
-use Rattle.model.specs.rules.Program.{Program, is_multi, is_partial, terms_with_rules}
+use Rattle.model.specs.rules.Program.{Program, is_multi, is_partial}
 use Rattle.model.specs.claims.Layers.{AreLowered, LoweredTerm, IsLoweredTerm}
-use Rattle.model.proofs.Elements.{in_from_contains, contains_from_in, in_map}
 use Rattle.laws_code.specs.CodeChoices.{OnServed}
-use Rattle.laws_specs.specs.WholeRuns.{Outside, Functions, by_rules, has_rules, IsAnswer, Either, AreMadeCalls, IsRun, WholeRun}
+use Rattle.laws_code.proofs.TextRuns.{lowered_there}
+use Rattle.laws_specs.specs.WholeRuns.{Outside, Functions, by_rules, has_rules, IsAnswer, Either, AreMadeCalls, IsAround, IsRun, WholeRun}
 use Rattle.laws_specs.specs.ProgramLaws.{DoTheSame, RunTrees, RunCode, LikeFunctionsHaveLikeRuns, LoweredProgramsRunAsTheirSource}
 
 either : (b : Bool) (A B C : Type 0) → (A → B) → Either b A C → Either b B C
@@ -22,11 +22,8 @@ module _ (N M : Call → List Call → Content → List Call → Type 0) (p : Pr
   made m n (call ∷ rest) before after a =
       (a.0, a.1, a.2, either (has_rules p call.term) _ _ _ (so call before a.0 a.1) a.3, made m (suc n) rest a.1 after a.4)
 
-  within : (f g : Functions) (call : Call) (before : List Call) (c : Content) (after : List Call) → DoTheSame p f g → IsRun N p o f call before c after → IsRun M p o g call before c after
-  within f g call before c after same r = record {
-    known = r.known;
-    single = r.single;
-    meaning = r.meaning;
+  pub around : (call : Call) (m : Meaning) → IsAround N p o call m → IsAround M p o call m
+  around call m r = record {
     literals = r.literals;
     constants = r.constants;
     extractors = r.extractors;
@@ -34,12 +31,20 @@ module _ (N M : Call → List Call → Content → List Call → Type 0) (p : Pr
     typed = r.typed;
     serves = r.serves;
     apart = r.apart;
+  }
+
+  pub within : (f g : Functions) (call : Call) (before : List Call) (c : Content) (after : List Call) → DoTheSame p f g → IsRun N p o f call before c after → IsRun M p o g call before c after
+  within f g call before c after same r = record {
+    known = r.known;
+    single = r.single;
+    meaning = r.meaning;
+    around = around call r.meaning r.around;
     calls = subst (λ (x : Outcome). AreMadeCalls M p o r.meaning 0 x.calls before after) is (made r.meaning 0 _ before after r.calls);
     answer = subst (λ x. IsAnswer (is_partial p call.term) x c) is r.answer;
   }
     where
       is : f call.term r.meaning (listed call.args) ≡ g call.term r.meaning (listed call.args)
-      is = same call.term r.known r.single r.meaning (listed call.args) r.typed r.serves r.apart
+      is = same call.term r.known r.single r.meaning (listed call.args) r.around.typed r.around.serves r.around.apart
 
 same_runs : (p : Program) (f g : Functions) (o : Outside) → DoTheSame p f g → (n : ℕ) (call : Call) (before : List Call) (c : Content) (after : List Call)
     → WholeRun f p o n call before c after → WholeRun g p o n call before c after
@@ -47,27 +52,21 @@ same_runs p f g o same zero call before c after r = r
 same_runs p f g o same (suc n) call before c after r =
     within (WholeRun f p o n) (WholeRun g p o n) p o (same_runs p f g o same n) f g call before c after same r
 
-turned : (p : Program) (f g : Functions) → DoTheSame p f g → DoTheSame p g f
+pub turned : (p : Program) (f g : Functions) → DoTheSame p f g → DoTheSame p g f
 turned p f g same t known single m args typed serves apart = sym (same t known single m args typed serves apart)
 
 pub like_functions_have_like_runs_lem : LikeFunctionsHaveLikeRuns
 like_functions_have_like_runs_lem p f g same o n call before c after =
     (same_runs p f g o same n call before c after, same_runs p g f o (turned p f g same) n call before c after)
 
--- each term with rules has its tree
-lowered_there : (p : Program) (terms : List LoweredTerm) (t : ℕ) → AreLowered p terms → Contains (terms_with_rules p) t → (l : LoweredTerm) × Contains terms l × (l.term ≡ t)
-lowered_there p terms t low known =
-    let i = in_map (λ (l : LoweredTerm). l.term) terms t (in_from_contains (map (λ (l : LoweredTerm). l.term) terms) t (subst (λ ts. Contains ts t) (sym low.each) known)) in
-    (i.0, contains_from_in terms i.0 i.1, i.2)
-
 -- the headline of each, by its tree or its code
-trees_do : (p : Program) (terms : List LoweredTerm) (f : Functions) → AreLowered p terms → RunTrees p terms f → DoTheSame p f (by_rules p)
+pub trees_do : (p : Program) (terms : List LoweredTerm) (f : Functions) → AreLowered p terms → RunTrees p terms f → DoTheSame p f (by_rules p)
 trees_do p terms f low runs t known single m args typed serves apart =
     let l = lowered_there p terms t low known in
     subst (λ u. is_multi p u ≡ false → OnServed p u (λ m' args'. f u m' args' ≡ by_rules p u m' args')) l.2
     (λ one m' args' w s a. runs l.0 l.1 m' args' ∙ ((All-contains (IsLoweredTerm p) terms l.0 low.lowered l.1).headline.runs one m' args' w s a).0) single m args typed serves apart
 
-code_does : (p : Program) (terms : List LoweredTerm) (f : Functions) → AreLowered p terms → RunCode p terms f → DoTheSame p f (by_rules p)
+pub code_does : (p : Program) (terms : List LoweredTerm) (f : Functions) → AreLowered p terms → RunCode p terms f → DoTheSame p f (by_rules p)
 code_does p terms f low runs t known single m args typed serves apart =
     let l = lowered_there p terms t low known in
     subst (λ u. is_multi p u ≡ false → OnServed p u (λ m' args'. f u m' args' ≡ by_rules p u m' args')) l.2

@@ -1,6 +1,6 @@
 -- Whole runs answer as specs say: by the depth to which calls nest, each call is answered as its term's spec says, so that the law of
 -- one term speaks of the next call around it.
-use Rattle.std.proofs.Common.{◌≡◌, ◌⊎◌, ℕ, zero, suc, ◌+◌, Bool, true, false, Some, None, List, [], ◌∷◌, ◌++◌, slice_get, Contains, refl, sym, ap, subst, ◌∙◌, inl, inr, arith}
+use Rattle.std.proofs.Common.{◌≡◌, ℕ, zero, suc, ◌+◌, Bool, true, false, Some, None, List, [], ◌∷◌, ◌++◌, slice_get, Contains, refl, sym, ap, subst, ◌∙◌, inl, inr, arith}
 use Rattle.std.proofs.lemmas.List.{append_assoc, append-nil}
 use Rattle.model.specs.rules.Values.{Value, Values, no_value, value_and, listed, of_list}
 use Rattle.model.specs.rules.Meaning.{Content, one, nothing, just, Meaning, bool_literal, int_literal, impure_answer}
@@ -11,17 +11,18 @@ use Rattle.model.specs.rules.RightSide.{result_content}
 use Rattle.model.specs.claims.Layers.{own_program}
 use Rattle.model.specs.claims.Environments.{types_read}
 use Rattle.model.proofs.Elements.{In, in_from_contains, contains_from_in, in_either}
+use Rattle.laws_typing.specs.WellTypedPrograms.{IsWellTypedProgram}
 use Rattle.laws_typing.proofs.WellTypedRules.{elaborated_programs_are_well_typed_lem}
 use Rattle.laws_specs.specs.Words.{Denoted}
 use Rattle.laws_specs.specs.Specs.{Specs, IsRequired, IsProvided}
 use Rattle.laws_specs.specs.Conditions.{result_as, IsConstructedAsSaid}
 use Rattle.laws_specs.specs.Meets.{Atoms, stands_for, stand_for, content_as, IsDenotation, answers_in, MeetsSpecs, AnswersAsSaid}
 use Rattle.laws_specs.specs.ConditionLaws.{IsCalled, ChoosesAsSaid, ChoosesAsSaidByPriority}
-use Rattle.laws_specs.specs.WholeRuns.{Outside, Functions, by_rules, has_rules, IsAnswer, a_result, no_result, Either, IsMadeCall, AreMadeCalls, IsRun, WholeRun}
-use Rattle.laws_specs.specs.ProgramLaws.{MeetsSpecsOutside, IsRunAsSaid, AllRunsAreAsSaid, AllChooseAsSaid, ProgramsComputeAsSaid, LoweredProgramsComputeAsSaid}
+use Rattle.laws_specs.specs.WholeRuns.{Outside, by_rules, has_rules, IsAnswer, a_result, no_result, Either, IsMadeCall, AreMadeCalls, IsAround, IsRun, WholeRun}
+use Rattle.laws_specs.specs.ProgramLaws.{MeetsSpecsOutside, IsRunAsSaid, AllAreValid, AllRunsAreAsSaid, AllChooseAsSaid, ProgramsComputeAsSaid, LoweredProgramsComputeAsSaid}
 use Rattle.laws_specs.proofs.LikeRuns.{lowered_programs_run_as_their_source_lem}
 
-back : (vs : Values) → of_list (listed vs) ≡ vs
+pub back : (vs : Values) → of_list (listed vs) ≡ vs
 back no_value = refl
 back (value_and v vs) = ap (value_and v) (back vs)
 
@@ -48,10 +49,6 @@ nothing_stands d c a x e i r =
 some_is : (x y : Denoted) → Some x ≡ Some y → x ≡ y
 some_is x y e = cc
 
-no_content : (partial : Bool) (v : Value) → nothing ≡ result_content partial v → ⊥
-no_content false v e = cc
-no_content true v e = cc
-
 -- 2. of two cases, one by whether a term has rules
 pick : (b : Bool) (A B : Type 0) (C : Type 0) → (b ≡ true → A → C) → (b ≡ false → B → C) → Either b A B → C
 pick true A B C f g x = f refl x
@@ -62,15 +59,10 @@ abbrev Follow : Specs → Atoms → List Call → List Call → Type 0
 Follow specs d before after = (made : List Call) × (after ≡ before ++ made) × ((k : Call) → In made k → IsRequired specs k.term (stand_for d k.args))
 
 module _ (p : Program) (specs : Specs) (d : Atoms) (o : Outside) (N : Call → List Call → Content → List Call → Type 0)
-    (said : (call : Call) (before : List Call) (c : Content) (after : List Call) → N call before c after → IsRequired specs call.term (stand_for d call.args) → IsRunAsSaid p specs d call before c after)
-    (formed : (call : Call) (before : List Call) (c : Content) (after : List Call) → N call before c after → ((v : Value) × (c ≡ result_content (is_partial p call.term) v)) ⊎ (c ≡ nothing))
+    (said : (call : Call) (before : List Call) (c : Content) (after : List Call) → N call before c after → IsRequired specs call.term (stand_for d call.args) → IsRunAsSaid specs d call before c after)
     (outside : MeetsSpecsOutside p specs d o) where
   nested_said : (call : Call) (before : List Call) (c a : Content) (after : List Call) → N call before c after → Contains (answers_in c) a → IsConstructedAsSaid specs call.term (stand_for d call.args) (content_as d a)
-  nested_said call before c a after n i required x r =
-      elim (formed call before c after n) [
-        | inl v ↦ subst (IsProvided specs call.term (stand_for d call.args)) (some_is _ _ (sym (result_stands d (is_partial p call.term) v.0 c a v.1 i) ∙ r)) ((said call before c after n required).provides v.0 v.1)
-        | inr e ↦ absurd (nothing_stands d c a x e i r)
-      ]
+  nested_said call before c a after n i required x r = (said call before c after n required).provides a x i r
 
   made_said : (call : Call) (before : List Call) (c a : Content) (after : List Call) → IsMadeCall N p o call before c after → Contains (answers_in c) a → IsConstructedAsSaid specs call.term (stand_for d call.args) (content_as d a)
   made_said call before c a after k i =
@@ -118,72 +110,67 @@ module _ (p : Program) (specs : Specs) (d : Atoms) (o : Outside) (N : Call → L
       )
 
   -- a meaning of a whole run meets specs
-  meets : (calls before after : List Call) (call : Call) (c : Content) (r : IsRun N p o (by_rules p) call before c after) → AreMadeCalls N p o r.meaning 0 calls before after → MeetsSpecs specs d r.meaning calls
-  meets calls before after call c r are = record {
+  pub meets : (calls before after : List Call) (call : Call) (m : Meaning) → IsAround N p o call m → AreMadeCalls N p o m 0 calls before after → MeetsSpecs specs d m calls
+  meets calls before after call m r are = record {
     bools = λ b ty v e. outside.bools b ty v (sym (r.literals (bool_literal b ty)) ∙ e);
     ints = λ z ty v x e l. outside.ints z ty v x (sym (r.literals (int_literal z ty)) ∙ e) l;
     constants = λ name v x e l. outside.constants name v x (sym (r.constants name) ∙ e) l;
     extractors = λ t v b a e i. outside.extractors t v b a (sym (r.extractors t v) ∙ e) i;
     pures = λ t vs b a e i. pick (has_rules p t) _ _ _ (λ h n. nested_said (record { term = t; args = vs }) [] b a [] (n []) i) (λ h g. outside.pures t vs b a h g i) (r.pures t vs b e);
-    impures = λ k call' b a e q i. made_at r.meaning 0 k calls before after call' b a are e (subst (λ x. impure_answer r.meaning call'.term x ≡ Some b) (omega arith) q) i;
+    impures = λ k call' b a e q i. made_at m 0 k calls before after call' b a are e (subst (λ x. impure_answer m call'.term x ≡ Some b) (omega arith) q) i;
   }
 
 -- 4. by the depth
-answer_formed : (partial : Bool) (o : Outcome) (c : Content) → IsAnswer partial o c → ((v : Value) × (c ≡ result_content partial v)) ⊎ (c ≡ nothing)
-answer_formed partial o c (a_result v is results ended) = inl (v, is)
-answer_formed partial o c (no_result partially is results ending) = inr is
-
-run_formed : (p : Program) (o : Outside) (f : Functions) (n : ℕ) (call : Call) (before : List Call) (c : Content) (after : List Call) → WholeRun f p o n call before c after
-    → ((v : Value) × (c ≡ result_content (is_partial p call.term) v)) ⊎ (c ≡ nothing)
-run_formed p o f zero call before c after r = absurd r
-run_formed p o f (suc n) call before c after r = answer_formed (is_partial p call.term) (f call.term r.meaning (listed call.args)) c r.answer
-
-results_are : (partial : Bool) (o : Outcome) (c : Content) (v : Value) → IsAnswer partial o c → c ≡ result_content partial v → o.results ≡ result_content partial v ∷ []
-results_are partial o c v (a_result w is results ended) e = results ∙ ap (λ x. x ∷ []) e
-results_are partial o c v (no_result partially is results ending) e = absurd (no_content partial v (sym is ∙ e))
+-- an answer that stands for something is the result
+answered_by : (d : Atoms) (partial : Bool) (o : Outcome) (c a : Content) (x : Denoted) → IsAnswer partial o c → Contains (answers_in c) a → result_as (content_as d a) ≡ Some x → (v : Value) × (o.results ≡ result_content partial v ∷ []) × (stands_for d v ≡ x)
+answered_by d partial o c a x (a_result v is results ended) i e = (v, results ∙ ap (λ y. y ∷ []) is, some_is _ _ (sym (result_stands d partial v c a is i) ∙ e))
+answered_by d partial o c a x (no_result partially is results ending) i e = absurd (nothing_stands d c a x is i e)
 
 module _ (p : Program) (specs : Specs) (d : Atoms) (denotes : IsDenotation p specs d) (choose : AllChooseAsSaid p specs d) (o : Outside) (outside : MeetsSpecsOutside p specs d o) where
   -- one function, where what it calls is as said
-  one_run : (N : Call → List Call → Content → List Call → Type 0)
-      → ((call : Call) (before : List Call) (c : Content) (after : List Call) → N call before c after → IsRequired specs call.term (stand_for d call.args) → IsRunAsSaid p specs d call before c after)
-      → ((call : Call) (before : List Call) (c : Content) (after : List Call) → N call before c after → ((v : Value) × (c ≡ result_content (is_partial p call.term) v)) ⊎ (c ≡ nothing))
-      → (call : Call) (before : List Call) (c : Content) (after : List Call) → IsRun N p o (by_rules p) call before c after → IsRequired specs call.term (stand_for d call.args) → IsRunAsSaid p specs d call before c after
-  one_run N said formed call before c after r required =
+  pub one_run : (N : Call → List Call → Content → List Call → Type 0)
+      → ((call : Call) (before : List Call) (c : Content) (after : List Call) → N call before c after → IsRequired specs call.term (stand_for d call.args) → IsRunAsSaid specs d call before c after)
+      → (call : Call) (before : List Call) (c : Content) (after : List Call) → IsRun N p o (by_rules p) call before c after → IsRequired specs call.term (stand_for d call.args) → IsRunAsSaid specs d call before c after
+  one_run N said call before c after r required =
       let args = listed call.args in
       let out = choice p r.meaning (rules_of p call.term) args in
       let called : IsCalled p specs call.term d r.meaning args out.calls = record {
         denotes = denotes;
-        typed = r.typed;
-        serves = r.serves;
-        meets = meets p specs d o N said formed outside out.calls before after call c r r.calls;
+        typed = r.around.typed;
+        serves = r.around.serves;
+        meets = meets p specs d o N said outside out.calls before after call r.meaning r.around r.calls;
         required = subst (λ vs. IsRequired specs call.term (stand_for d vs)) (sym (back call.args)) required;
       } in
       let answers : AnswersAsSaid p specs call.term d args out = choose call.term r.known r.single r.meaning args called in
-      let follows = follow_all p specs d o N said formed outside r.meaning 0 out.calls before after r.calls (λ k i. answers.calls k (contains_from_in out.calls k i)) in
+      let follows = follow_all p specs d o N said outside r.meaning 0 out.calls before after r.calls (λ k i. answers.calls k (contains_from_in out.calls k i)) in
       record {
-        provides = λ v e.
-            subst (λ vs. IsProvided specs call.term (stand_for d vs) (stands_for d v)) (back call.args)
-            (answers.result v (results_are (is_partial p call.term) out c v r.answer e));
+        provides = λ a x i e.
+            (let w = answered_by d (is_partial p call.term) out c a x r.answer i e in
+            subst (IsProvided specs call.term (stand_for d call.args)) w.2
+            (subst (λ vs. IsProvided specs call.term (stand_for d vs) (stands_for d w.0)) (back call.args) (answers.result w.0 w.1)));
         made = follows.0;
         after_those = follows.1;
         required = λ k i. follows.2 k (in_from_contains follows.0 k i);
       }
 
-  whole_run : (n : ℕ) (call : Call) (before : List Call) (c : Content) (after : List Call) → WholeRun (by_rules p) p o n call before c after → IsRequired specs call.term (stand_for d call.args) → IsRunAsSaid p specs d call before c after
+  whole_run : (n : ℕ) (call : Call) (before : List Call) (c : Content) (after : List Call) → WholeRun (by_rules p) p o n call before c after → IsRequired specs call.term (stand_for d call.args) → IsRunAsSaid specs d call before c after
   whole_run zero call before c after r required = absurd r
-  whole_run (suc n) call before c after r required = one_run (WholeRun (by_rules p) p o n) (whole_run n) (run_formed p o (by_rules p) n) call before c after r required
+  whole_run (suc n) call before c after r required = one_run (WholeRun (by_rules p) p o n) (whole_run n) call before c after r required
 
 -- where each choice answers as said, whole runs do
 pub runs_are_said : (p : Program) (specs : Specs) (d : Atoms) → IsDenotation p specs d → AllChooseAsSaid p specs d → AllRunsAreAsSaid p specs d (by_rules p)
 runs_are_said p specs d denotes choose o n call before c after outside r required = whole_run p specs d denotes choose o outside n call before c after r required
 
-pub programs_compute_as_said_lem : ChoosesAsSaid → ChoosesAsSaidByPriority → ProgramsComputeAsSaid
-programs_compute_as_said_lem chooses by_priority p specs d well denotes valid =
-    runs_are_said p specs d denotes
-    (λ t known single m args called. elim (valid t known single) [
+-- conditions that are valid
+pub all_choose : ChoosesAsSaid → ChoosesAsSaidByPriority → (p : Program) (specs : Specs) (d : Atoms) → IsWellTypedProgram p → AllAreValid p specs d → AllChooseAsSaid p specs d
+all_choose chooses by_priority p specs d well valid t known single m args called =
+    elim (valid t known single) [
       | inl v ↦ chooses p specs t d m args well single v called
       | inr v ↦ by_priority p specs t d m args well single v.0 v.1 called
-    ])
+    ]
+
+pub programs_compute_as_said_lem : ChoosesAsSaid → ChoosesAsSaidByPriority → ProgramsComputeAsSaid
+programs_compute_as_said_lem chooses by_priority p specs d well denotes valid = runs_are_said p specs d denotes (all_choose chooses by_priority p specs d well valid)
 
 pub lowered_programs_compute_as_said_lem : ProgramsComputeAsSaid → LoweredProgramsComputeAsSaid
 lowered_programs_compute_as_said_lem said defs expand rules terms f specs d accepted low runs denotes valid o n call before c after outside r required =

@@ -86,7 +86,7 @@ lists_are_said_lem = (like_right, alone_wrong)
 abbrev hundreds : Values
 hundreds = value_and (a_byte 100) no_value
 
-answered : (t : ℕ) (vs : Values) (c : Content) → pure_answer liking_100 t vs ≡ Some c → (1 ≡ t) × (hundreds ≡ vs) × (many twice_200 ≡ c)
+pub answered : (t : ℕ) (vs : Values) (c : Content) → pure_answer liking_100 t vs ≡ Some c → (1 ≡ t) × (hundreds ≡ vs) × (many twice_200 ≡ c)
 answered t vs c e =
     elim (cases_Bool ((1 == t) && values_eq hundreds vs)) [
       | inl b ↦
@@ -170,7 +170,7 @@ one_call t n ss (inr (inr (inr none))) = absurd none
 call_term : (t n : ℕ) (ss : SiteTerms) → like_call ≡ constructor_call t ss n → (1 ≡ t) × (like_args ≡ ss) × (0 ≡ n)
 call_term t n ss e = (cc, cc, cc)
 
-serves : Serves (lists_with liking) liking_100 hundred (rules_of (lists_with liking) 0)
+pub serves : Serves (lists_with liking) liking_100 hundred (rules_of (lists_with liking) 0)
 serves = record {
   bools = λ b ty i. absurd (no_bool b ty i);
   ints = λ z ty i. absurd (no_int z ty i);

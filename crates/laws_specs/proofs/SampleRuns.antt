@@ -8,7 +8,7 @@ use Rattle.model.specs.rules.Values.{Value, Values, no_value, value_and, values_
 use Rattle.model.specs.rules.Meaning.{Content, one, Meaning, pure_answer, impure_answer}
 use Rattle.model.specs.rules.Outcome.{Call}
 use Rattle.model.specs.rules.Picks.{Pick, site_values}
-use Rattle.model.specs.rules.Program.{kind, rules_of, terms_with_rules}
+use Rattle.model.specs.rules.Program.{Program, kind, rules_of, terms_with_rules}
 use Rattle.model.specs.rules.Typed.{TypedRule}
 use Rattle.model.specs.sites.Serves.{asked, tested_constants, fits_constructor, Serves, TellsConstantsApart}
 use Rattle.model.specs.sites.Sites.{is_prim, SiteTerm, bool_term, int_term, prim_term, argument, extractor_call, constructor_call, SiteTerms, site_term_and, no_site_term}
@@ -108,9 +108,9 @@ module _ (m : Meaning) (args : List Value) where
       only : (u : SiteTerm) → Contains (asked noting_program (rules_of noting_program t)) u → IsServed m args u
       only u i = All-contains (IsServed m args) (asked noting_program (rules_of noting_program t)) u (All-from_recursion (IsServed m args) (asked noting_program (rules_of noting_program t)) sites) i
 
--- its rules name no constant
-apart_of : (m : Meaning) (t : ℕ) → tested_constants noting_program (rules_of noting_program t) ≡ [] → ((r : TypedRule) → Contains (rules_of noting_program t) r → (demands_of noting_program r).constraints ≡ []) → TellsConstantsApart noting_program m (rules_of noting_program t)
-apart_of m t none bare = record {
+-- rules that name no constant
+pub apart_of : (p : Program) (m : Meaning) (t : ℕ) → tested_constants p (rules_of p t) ≡ [] → ((r : TypedRule) → Contains (rules_of p t) r → (demands_of p r).constraints ≡ []) → TellsConstantsApart p m (rules_of p t)
+apart_of p m t none bare = record {
   different = λ a b ty v i j open_ s w e f. absurd (in_from_contains [] a (subst (λ xs. Contains xs a) none i));
   without_parts = λ r s name ty i j e. absurd (in_from_contains [] (s, is_prim name) (subst (λ xs. Contains xs (s, is_prim name)) (bare r i) j));
 }
@@ -145,14 +145,16 @@ twice_run before = record {
   known = contains_from_in (terms_with_rules noting_program) 0 (inl refl);
   single = refl;
   meaning = twice_meaning;
-  literals = λ l. refl;
-  constants = λ name. refl;
-  extractors = λ t v. refl;
-  pures = λ t vs a e. added (WholeRun (by_rules noting_program) noting_program adds_and_notes 0) t vs a e;
-  typed = refl;
-  serves = serves_by twice_meaning (a_byte 100 ∷ []) 0
-      (inl refl, (inr (inl (1, site_term_and (argument 0) (site_term_and (argument 0) no_site_term), hundreds, one (a_byte 200), refl, λ k. refl, refl, refl)), tt));
-  apart = apart_of twice_meaning 0 refl (λ r i. only_rule 0 (rule_of (adding x x)) r refl refl i);
+  around = record {
+    literals = λ l. refl;
+    constants = λ name. refl;
+    extractors = λ t v. refl;
+    pures = λ t vs a e. added (WholeRun (by_rules noting_program) noting_program adds_and_notes 0) t vs a e;
+    typed = refl;
+    serves = serves_by twice_meaning (a_byte 100 ∷ []) 0
+        (inl refl, (inr (inl (1, site_term_and (argument 0) (site_term_and (argument 0) no_site_term), hundreds, one (a_byte 200), refl, λ k. refl, refl, refl)), tt));
+    apart = apart_of noting_program twice_meaning 0 refl (λ r i. only_rule 0 (rule_of (adding x x)) r refl refl i);
+  };
   calls = refl;
   answer = a_result (a_byte 200) refl refl refl;
 }
@@ -180,19 +182,21 @@ noted_run = record {
   known = contains_from_in (terms_with_rules noting_program) 3 (inr (inl refl));
   single = refl;
   meaning = noted_meaning;
-  literals = λ l. refl;
-  constants = λ name. refl;
-  extractors = λ t v. refl;
-  pures = doubled_within;
-  typed = refl;
-  serves = serves_by noted_meaning (a_byte 100 ∷ []) 3 (
-    inl refl,
-    (
-      inr (inl (0, site_term_and (argument 0) no_site_term, value_and (a_byte 100) no_value, one (a_byte 200), refl, λ k. refl, refl, refl)),
-      (inr (inr (2, site_term_and (constructor_call 0 (site_term_and (argument 0) no_site_term) 0) no_site_term, 0, one (a_byte 7), refl, refl, refl)), tt),
-    ),
-  );
-  apart = apart_of noted_meaning 3 refl (λ r i. only_rule 3 noted_rule r refl refl i);
+  around = record {
+    literals = λ l. refl;
+    constants = λ name. refl;
+    extractors = λ t v. refl;
+    pures = doubled_within;
+    typed = refl;
+    serves = serves_by noted_meaning (a_byte 100 ∷ []) 3 (
+      inl refl,
+      (
+        inr (inl (0, site_term_and (argument 0) no_site_term, value_and (a_byte 100) no_value, one (a_byte 200), refl, λ k. refl, refl, refl)),
+        (inr (inr (2, site_term_and (constructor_call 0 (site_term_and (argument 0) no_site_term) 0) no_site_term, 0, one (a_byte 7), refl, refl, refl)), tt),
+      ),
+    );
+    apart = apart_of noting_program noted_meaning 3 refl (λ r i. only_rule 3 noted_rule r refl refl i);
+  };
   calls = (one (a_byte 7), call_of 2 200 ∷ [], refl, (refl, refl), refl);
   answer = a_result (a_byte 7) refl refl refl;
 }
@@ -202,11 +206,11 @@ twice_site = constructor_call 0 (site_term_and (argument 0) no_site_term) 0
 
 -- 4. the rules of `noted` ask for a call of `twice`, which nests one deeper
 no_deeper : (before after : List Call) (c : Content) → WholeRun (by_rules noting_program) noting_program adds_and_notes 1 (call_of 3 100) before c after → ⊥
-no_deeper before after c r = answered (pure_answer r.meaning 0 (value_and (a_byte 100) no_value)) refl (r.serves.pures [] 0 (site_term_and (argument 0) no_site_term) (value_and (a_byte 100) no_value) (contains_from_in (asked noting_program (rules_of noting_program 3)) twice_site (inr (inl refl))) refl)
+no_deeper before after c r = answered (pure_answer r.meaning 0 (value_and (a_byte 100) no_value)) refl (r.around.serves.pures [] 0 (site_term_and (argument 0) no_site_term) (value_and (a_byte 100) no_value) (contains_from_in (asked noting_program (rules_of noting_program 3)) twice_site (inr (inl refl))) refl)
   where
     answered : (o : Option Content) → o ≡ pure_answer r.meaning 0 (value_and (a_byte 100) no_value) → IsSomeAnd o (λ a. IsTrue (fits_constructor noting_program 0 (kind noting_program 0) a)) → ⊥
     answered None e h = absurd h
-    answered (Some a) e h = r.pures 0 (value_and (a_byte 100) no_value) a (sym e) []
+    answered (Some a) e h = r.around.pures 0 (value_and (a_byte 100) no_value) a (sym e) []
 
 pub runs_are_whole_lem : RunsAreWhole
 runs_are_whole_lem = record { whole = noted_run; nested = twice_run; too_deep = no_deeper }

@@ -1,10 +1,13 @@
 pub mod CollectLaws
 pub mod ConditionLaws
 pub mod Conditions
+pub mod ListLaws
+pub mod ListRuns
 pub mod Meets
 pub mod ProgramLaws
 pub mod SampleBelow
 pub mod SampleCalls
+pub mod SampleListRuns
 pub mod SampleLists
 pub mod SampleNumbers
 pub mod SampleOperators

@@ -6,8 +6,7 @@ use Rattle.model.specs.rules.Values.{Value, Values}
 use Rattle.model.specs.rules.Meaning.{Content, Meaning, bool_literal, int_literal}
 use Rattle.model.specs.rules.Outcome.{Call}
 use Rattle.model.specs.rules.Choice.{choice}
-use Rattle.model.specs.rules.Program.{Program, is_multi, is_partial, rules_of, terms_with_rules}
-use Rattle.model.specs.rules.RightSide.{result_content}
+use Rattle.model.specs.rules.Program.{Program, is_multi, rules_of, terms_with_rules}
 use Rattle.model.specs.trees.Run.{run, world_of}
 use Rattle.model.specs.claims.Layers.{own_program, IsAccepted, AreLowered, LoweredTerm}
 use Rattle.model_code.specs.Code.{Block}
@@ -16,7 +15,7 @@ use Rattle.laws_code.specs.CodeChoices.{OnServed, MeansItsSource}
 use Rattle.laws_typing.specs.WellTypedPrograms.{IsWellTypedProgram}
 use Rattle.laws_specs.specs.Specs.{Specs, constant_of, literal_of, IsRequired, IsProvided}
 use Rattle.laws_specs.specs.Words.{Denoted, a_truth}
-use Rattle.laws_specs.specs.Conditions.{IsExtractedAsSaid, IsConstructedAsSaid}
+use Rattle.laws_specs.specs.Conditions.{result_as, IsExtractedAsSaid, IsConstructedAsSaid}
 use Rattle.laws_specs.specs.Meets.{Atoms, stands_for, stand_for, content_as, IsDenotation, AreNumbers, AnswersAsSaid, answers_in}
 use Rattle.laws_specs.specs.ConditionLaws.{AreValid, AreValidBelow, IsCalled}
 use Rattle.laws_specs.specs.WholeRuns.{Outside, Functions, by_rules, has_rules, WholeRun}
@@ -25,11 +24,13 @@ use Rattle.laws_specs.specs.WholeRuns.{Outside, Functions, by_rules, has_rules, 
 abbrev pub DoTheSame : Program → Functions → Functions → Type 0
 DoTheSame p f g = (t : ℕ) → Contains (terms_with_rules p) t → is_multi p t ≡ false → OnServed p t (λ m args. f t m args ≡ g t m args)
 
+-- runs, by how deep calls nest, are the same
+abbrev pub SameRuns : (f g : ℕ → Call → List Call → Content → List Call → Type 0) → Type 0
+SameRuns f g = (n : ℕ) (call : Call) (before : List Call) (c : Content) (after : List Call) → (f n call before c after → g n call before c after) × (g n call before c after → f n call before c after)
+
 -- they have the same whole runs: with the same answers, and the same impure calls outside in the same order
 abbrev pub HaveTheSameRuns : Program → Functions → Functions → Type 0
-HaveTheSameRuns p f g =
-    (o : Outside) (n : ℕ) (call : Call) (before : List Call) (c : Content) (after : List Call)
-    → (WholeRun f p o n call before c after → WholeRun g p o n call before c after) × (WholeRun g p o n call before c after → WholeRun f p o n call before c after)
+HaveTheSameRuns p f g = (o : Outside) → SameRuns (WholeRun f p o) (WholeRun g p o)
 
 abbrev pub LikeFunctionsHaveLikeRuns : Type 0
 LikeFunctionsHaveLikeRuns = (p : Program) (f g : Functions) → DoTheSame p f g → HaveTheSameRuns p f g
@@ -68,18 +69,22 @@ AllChooseAsSaid p specs d =
     (t : ℕ) → Contains (terms_with_rules p) t → is_multi p t ≡ false → (m : Meaning) (args : List Value)
     → IsCalled p specs t d m args (choice p m (rules_of p t) args).calls → AnswersAsSaid p specs t d args (choice p m (rules_of p t) args)
 
--- a call that meets its term's require is answered by what the term's spec provides, and each impure call that is made outside meets its
--- require
-pub record IsRunAsSaid (p : Program) (specs : Specs) (d : Atoms) (call : Call) (before : List Call) (c : Content) (after : List Call) : Type 0 where
-  pub provides : (v : Value) → c ≡ result_content (is_partial p call.term) v → IsProvided specs call.term (stand_for d call.args) (stands_for d v)
+-- a call that meets its term's require is answered by what the term's spec provides, also each element of a list, and each impure call that
+-- is made outside meets its require
+pub record IsRunAsSaid (specs : Specs) (d : Atoms) (call : Call) (before : List Call) (c : Content) (after : List Call) : Type 0 where
+  pub provides : (a : Content) (x : Denoted) → Contains (answers_in c) a → result_as (content_as d a) ≡ Some x → IsProvided specs call.term (stand_for d call.args) x
   pub made : List Call
   pub after_those : after ≡ before ++ made
   pub required : (k : Call) → Contains made k → IsRequired specs k.term (stand_for d k.args)
 
-abbrev pub AllRunsAreAsSaid : Program → Specs → Atoms → Functions → Type 0
-AllRunsAreAsSaid p specs d f =
+-- so is each run among what is outside as specs say
+abbrev pub AllAreAsSaid : Program → Specs → Atoms → (Outside → ℕ → Call → List Call → Content → List Call → Type 0) → Type 0
+AllAreAsSaid p specs d Run =
     (o : Outside) (n : ℕ) (call : Call) (before : List Call) (c : Content) (after : List Call)
-    → MeetsSpecsOutside p specs d o → WholeRun f p o n call before c after → IsRequired specs call.term (stand_for d call.args) → IsRunAsSaid p specs d call before c after
+    → MeetsSpecsOutside p specs d o → Run o n call before c after → IsRequired specs call.term (stand_for d call.args) → IsRunAsSaid specs d call before c after
+
+abbrev pub AllRunsAreAsSaid : Program → Specs → Atoms → Functions → Type 0
+AllRunsAreAsSaid p specs d f = AllAreAsSaid p specs d (WholeRun f p)
 
 -- so a program whose rules are valid computes what its specs say: that rules take it of the terms which they call is no circle
 abbrev pub ProgramsComputeAsSaid : Type 0

@@ -58,12 +58,9 @@ module _ (Nested : Call → List Call → Content → List Call → Type 0) (p :
   abbrev pub IsPureAnswer : ℕ → Values → Content → Type 0
   IsPureAnswer t vs c = Either (has_rules p t) ((before : List Call) → Nested (record { term = t; args = vs }) before c before) (o.pures t vs ≡ Some c)
 
-  -- the function of a term is called, under a meaning that says of constants and extractors what is said outside, and of pure calls
-  -- what they come to; it has an answer to each call that the term's rules ask, and tells constants apart
-  pub record IsRun (f : Functions) (call : Call) (before : List Call) (c : Content) (after : List Call) : Type 0 where
-    pub known : Contains (terms_with_rules p) call.term
-    pub single : is_multi p call.term ≡ false
-    pub meaning : Meaning
+  -- a meaning is what is around the function of a term that is called: it says of constants and extractors what is said outside, and of
+  -- pure calls what they come to; it has an answer to each call that the term's rules ask, and tells constants apart
+  pub record IsAround (call : Call) (meaning : Meaning) : Type 0 where
     pub literals : (l : Literal) → meaning.literals l ≡ o.literals l
     pub constants : (name : ℕ) → meaning.constants name ≡ o.constants name
     pub extractors : (t : ℕ) (v : Value) → meaning.extractors t v ≡ o.extractors t v
@@ -71,6 +68,13 @@ module _ (Nested : Call → List Call → Content → List Call → Type 0) (p :
     pub typed : IsTrue (args_well_typed p.types (arg_types p call.term) (listed call.args))
     pub serves : Serves p meaning (listed call.args) (rules_of p call.term)
     pub apart : TellsConstantsApart p meaning (rules_of p call.term)
+
+  -- the function of a term that isn't multi is called
+  pub record IsRun (f : Functions) (call : Call) (before : List Call) (c : Content) (after : List Call) : Type 0 where
+    pub known : Contains (terms_with_rules p) call.term
+    pub single : is_multi p call.term ≡ false
+    pub meaning : Meaning
+    pub around : IsAround call meaning
     pub calls : AreMadeCalls meaning 0 (f call.term meaning (listed call.args)).calls before after
     pub answer : IsAnswer (is_partial p call.term) (f call.term meaning (listed call.args)) c
 

@@ -7,6 +7,8 @@
 
 ghost use Rattle.laws_specs.specs.CollectLaws.{BagsAreAsSaid, CollectsAsSaid, LoweredTermsCollectAsSaid};
 ghost use Rattle.laws_specs.specs.ConditionLaws.{ChoosesAsSaid, ComputesAsSaid, ChoosesAsSaidByPriority, ComputesAsSaidByPriority, LoweredTermsComputeAsSaid};
+ghost use Rattle.laws_specs.specs.ListLaws.{ListProgramsComputeAsSaid, LoweredListProgramsComputeAsSaid};
+ghost use Rattle.laws_specs.specs.ListRuns.{LikeFunctionsHaveLikeListRuns, LoweredProgramsCollectAsTheirSource, WholeRunsAreListRuns};
 ghost use Rattle.laws_specs.specs.SampleCalls.{PremisesHold, OthersAreRefused};
 ghost use Rattle.laws_specs.specs.SampleBelow.{PriorityPremisesHold};
 ghost use Rattle.laws_specs.specs.SampleLists.{ListsAreSaid, BagPremisesHold};
@@ -19,6 +21,7 @@ ghost use Rattle.laws_specs.specs.SampleWidths.{WidthsAreListed};
 ghost use Rattle.laws_specs.specs.Samples.{SumsAreSaid, WordsAreFormed, SumsAreRight, CallsAreRequired};
 ghost use Rattle.laws_specs.specs.TotalLaws.{TotalMeaningsAnswerAsSaid};
 ghost use Rattle.laws_specs.specs.ProgramLaws.{LikeFunctionsHaveLikeRuns, LoweredProgramsComputeAsSaid, LoweredProgramsRunAsTheirSource, ProgramsComputeAsSaid};
+ghost use Rattle.laws_specs.specs.SampleListRuns.{ListRunsAreJudged};
 ghost use Rattle.laws_specs.specs.SampleRuns.{RunsAreWhole};
 ghost use Rattle.laws_specs.specs.SampleSets.{SetsAreAsked};
 ghost use Rattle.laws_specs.specs.SetConditions.{LoweredSetsComputeAsSaid, ProgramsOfSetsComputeAsSaid, SetsAskEnough, TermsOfValidSetsAreValid};
@@ -169,6 +172,26 @@ pub fn lowered_programs_run_as_their_source()
     ensures { LoweredProgramsRunAsTheirSource }
 {}
 
+/// Functions that do the same, and in multi terms collect the same bags, have the same runs also where multi terms with rules are called:
+/// the same answers, lists up to the order of their elements, and the same impure calls outside in the same order.
+#[tactic(auto, using(crate::proofs::ListRuns::like_functions_have_like_list_runs_lem))]
+pub fn like_functions_have_like_list_runs()
+    ensures { LikeFunctionsHaveLikeListRuns }
+{}
+
+/// A whole run in which no multi term with rules is called is such a run.
+#[tactic(auto, using(crate::proofs::ListRuns::whole_runs_are_list_runs_lem))]
+pub fn whole_runs_are_list_runs()
+    ensures { WholeRunsAreListRuns }
+{}
+
+/// So the trees that lowering gives, and their code without a bound of results, have the runs of the source rules, where multi terms call one
+/// another too.
+#[tactic(auto, using(crate::proofs::ListRuns::lowered_programs_collect_as_their_source_lem))]
+pub fn lowered_programs_collect_as_their_source()
+    ensures { LoweredProgramsCollectAsTheirSource }
+{}
+
 /// Where the condition of each rule is valid, whole runs by source rules answer as specs say: what rules take of the terms that they call
 /// is shown by the rules of those.
 pub fn programs_compute_as_said()
@@ -185,10 +208,33 @@ pub fn lowered_programs_compute_as_said()
     programs_compute_as_said();
 }
 
+/// Where the conditions of multi terms' rules are valid too, runs in which such terms are called answer as specs say, each element of a list
+/// too.
+pub fn list_programs_compute_as_said()
+    ensures { ListProgramsComputeAsSaid }
+{
+    chooses_as_said();
+    chooses_as_said_by_priority();
+    bags_are_as_said();
+}
+
+/// So do such runs of the trees that lowering gives of accepted definitions, and of their code without a bound of results.
+pub fn lowered_list_programs_compute_as_said()
+    ensures { LoweredListProgramsComputeAsSaid }
+{
+    list_programs_compute_as_said();
+}
+
 /// A term with rules calls another one, and what is outside, in a run that nests two deep.
 #[tactic(auto, using(crate::proofs::SampleRuns::runs_are_whole_lem))]
 pub fn runs_are_whole()
     ensures { RunsAreWhole }
+{}
+
+/// A multi term runs, and its caller gets all results, in any order.
+#[tactic(auto, using(crate::proofs::SampleListRuns::list_runs_are_judged_lem))]
+pub fn list_runs_are_judged()
+    ensures { ListRunsAreJudged }
 {}
 
 /// What a rule of a term's set asks is enough: where its condition is valid, so is the condition of its source rule.

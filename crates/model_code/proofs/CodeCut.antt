@@ -22,10 +22,10 @@ record Begins (t u : Trace) : Type 0 where
   results : IsBeginning t.results u.results
   calls : IsBeginning t.calls u.calls
 
-beginning_self : {X : Type 0} (xs : List X) → IsBeginning xs xs
+pub beginning_self : {X : Type 0} (xs : List X) → IsBeginning xs xs
 beginning_self xs = ([], sym (append-nil xs))
 
-beginning_over : {X : Type 0} (xs ys zs : List X) → IsBeginning xs ys → IsBeginning ys zs → IsBeginning xs zs
+pub beginning_over : {X : Type 0} (xs ys zs : List X) → IsBeginning xs ys → IsBeginning ys zs → IsBeginning xs zs
 beginning_over xs ys zs b c = (b.0 ++ c.0, c.1 ∙ ap (λ l. l ++ c.0) b.1 ∙ append_assoc xs b.0 c.0)
 
 begins_self : (t : Trace) → Begins t t
@@ -58,16 +58,16 @@ label_begin t env (returns u) b = b
 label_begin t env (fails u) b = b
 label_begin t env (sticks u) b = b
 
-abbrev calls_of : Bound → List Call
+abbrev pub calls_of : Bound → List Call
 calls_of (all_bound env calls) = calls
 calls_of (unwrap_failed calls) = calls
 calls_of (no_content_there calls) = calls
 
-now_calls : (env : Env) (calls : List Call) (s : ℕ) (o : Option Content) → IsBeginning calls (calls_of (now_bound env calls s o))
+pub now_calls : (env : Env) (calls : List Call) (s : ℕ) (o : Option Content) → IsBeginning calls (calls_of (now_bound env calls s o))
 now_calls env calls s None = beginning_self calls
 now_calls env calls s (Some c) = beginning_self calls
 
-unwrapped_calls : (env : Env) (calls : List Call) (s : ℕ) (o : Option Content) → IsBeginning calls (calls_of (unwrapped env calls s o))
+pub unwrapped_calls : (env : Env) (calls : List Call) (s : ℕ) (o : Option Content) → IsBeginning calls (calls_of (unwrapped env calls s o))
 unwrapped_calls env calls s None = beginning_self calls
 unwrapped_calls env calls s (Some (one v)) = beginning_self calls
 unwrapped_calls env calls s (Some (parts vs)) = beginning_self calls
@@ -82,7 +82,7 @@ constructed_calls w env calls s term (suc n) (Some vs) =
     let made : List Call = calls ++ record { term = term; args = vs } ∷ [] in
     beginning_over calls made (calls_of (now_bound env made s (impure_answer w.meaning term (length calls)))) (record { term = term; args = vs } ∷ [], refl) (now_calls env made s (impure_answer w.meaning term (length calls)))
 
-expr_calls : (w : World) (env : Env) (calls : List Call) (s : ℕ) (e : Expr) → IsBeginning calls (calls_of (bind_expr w env calls s e))
+pub expr_calls : (w : World) (env : Env) (calls : List Call) (s : ℕ) (e : Expr) → IsBeginning calls (calls_of (bind_expr w env calls s e))
 expr_calls w env calls s (truth_written b ty) = now_calls env calls s _
 expr_calls w env calls s (read u) = now_calls env calls s _
 expr_calls w env calls s (extraction term u) = now_calls env calls s _

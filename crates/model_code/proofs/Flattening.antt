@@ -87,11 +87,11 @@ braces_over_braces e env (fails t) = refl
 braces_over_braces e env (sticks t) = refl
 
 -- 2. the same in braces
-same_content : (e : Env) (o : Option Content) (t : Trace) (go ho : Content → Flow) → ((c : Content) → in_braces e (go c) ≡ in_braces e (ho c)) → in_braces e (on_content o t go) ≡ in_braces e (on_content o t ho)
+pub same_content : (e : Env) (o : Option Content) (t : Trace) (go ho : Content → Flow) → ((c : Content) → in_braces e (go c) ≡ in_braces e (ho c)) → in_braces e (on_content o t go) ≡ in_braces e (on_content o t ho)
 same_content e None t go ho h = refl
 same_content e (Some c) t go ho h = h c
 
-same_met : (e : Env) (o : Option (List Content)) (fields : List (Option ℕ)) (env : Env) (t : Trace) (go ho : Env → Flow) (f g : Flow)
+pub same_met : (e : Env) (o : Option (List Content)) (fields : List (Option ℕ)) (env : Env) (t : Trace) (go ho : Env → Flow) (f g : Flow)
     → ((env' : Env) → in_braces e (go env') ≡ in_braces e (ho env')) → in_braces e f ≡ in_braces e g → in_braces e (where_met o fields env t go f) ≡ in_braces e (where_met o fields env t ho g)
 same_met e None fields env t go ho f g h k = k
 same_met e (Some cs) fields env t go ho f g h k = on (bind_fields fields cs env)
@@ -104,7 +104,7 @@ same_if : (e : Env) (b : Bool) (f g x : Flow) → in_braces e f ≡ in_braces e 
 same_if e true f g x h = h
 same_if e false f g x h = refl
 
-same_equal : (e : Env) (a b : Option Value) (t : Trace) (f g x : Flow) → in_braces e f ≡ in_braces e g → in_braces e (where_equal a b t f x) ≡ in_braces e (where_equal a b t g x)
+pub same_equal : (e : Env) (a b : Option Value) (t : Trace) (f g x : Flow) → in_braces e f ≡ in_braces e g → in_braces e (where_equal a b t f x) ≡ in_braces e (where_equal a b t g x)
 same_equal e None b t f g x h = refl
 same_equal e (Some v) None t f g x h = refl
 same_equal e (Some v) (Some y) t f g x h = same_if e (value_eq v y) f g x h
@@ -122,7 +122,7 @@ same_each (c ∷ cs) go ho env h t =
     ap (λ f. then_flow f (λ env' t'. each_flow cs go env t')) (h c t)
     ∙ same_then (in_braces env (ho c t)) (λ env' t'. each_flow cs go env t') (λ env' t'. each_flow cs ho env t') (λ env' t'. same_each cs go ho env h t')
 
-same_answers : (o : Option Content) (go ho : Content → Trace → Flow) (env : Env) (t : Trace) → ((c : Content) (t : Trace) → in_braces env (go c t) ≡ in_braces env (ho c t)) → on_answers o go env t ≡ on_answers o ho env t
+pub same_answers : (o : Option Content) (go ho : Content → Trace → Flow) (env : Env) (t : Trace) → ((c : Content) (t : Trace) → in_braces env (go c t) ≡ in_braces env (ho c t)) → on_answers o go env t ≡ on_answers o ho env t
 same_answers None go ho env t h = refl
 same_answers (Some (one v)) go ho env t h = refl
 same_answers (Some (parts vs)) go ho env t h = refl

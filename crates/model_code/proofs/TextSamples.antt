@@ -16,6 +16,14 @@ texts_are_judged_lem = record {
   escape_open = refl;
   quote_not_whole = λ h. let e : 1 ≡ 2 = ap length (h (34 ∷ []) refl) in omega (arith, e);
   slash_not_whole = λ h. let e : 0 ≡ 2 = ap length (h (47 ∷ []) refl) in omega (arith, e);
+  dot_open = refl;
+  colon_no_name = refl;
+  raw_name = refl;
+  colon_not_whole = λ h. let e : 1 ≡ 2 = ap length (h (58 ∷ []) refl) in omega (arith, e);
+  marks_read = refl;
+  marks_apart = refl;
+  longest_first = refl;
+  words_read = refl;
   words_there = refl;
   words_lost = refl;
   code_read = refl;

@@ -1,5 +1,6 @@
--- Texts that are read by themselves: what is in quotes ends in them, and no comment begins. One behind another is such a text too.
-use Rattle.std.specs.Prelude.{◌≡◌, ◌≢◌, ◌&&◌, ◌==◌, ◌++◌, ◌∷◌, [], ℕ, ℤ, Bool, true, false, not, Option, List, All, if◌then◌else◌}
+-- Texts that are read by themselves: what is in quotes ends in them, and outside quotes there is no `/`, which may begin a comment, and
+-- no `.`, which a `.` may follow. One behind another is such a text too.
+use Rattle.std.specs.Prelude.{◌≡◌, ◌≢◌, ◌&&◌, ◌||◌, ◌==◌, ◌++◌, ◌∷◌, [], ℕ, ℤ, Bool, true, false, not, Option, List, All, if◌then◌else◌}
 use Rattle.model.specs.lists.Syntax.{Position}
 use Rattle.model_code.specs.Tokens.{Owner}
 use Rattle.model_code.specs.Spelling.{Names}
@@ -8,7 +9,7 @@ use Rattle.model_code.specs.Lexing.{is_letter, IsWholeText, AreWhole}
 abbrev mutual
   pub is_closed : List ℕ → Bool
   is_closed [] = true
-  is_closed (c ∷ cs) = if c == 34 then quotes_close cs else not (c == 47) && is_closed cs
+  is_closed (c ∷ cs) = if c == 34 then quotes_close cs else (not (c == 47) && not (c == 46)) && is_closed cs
 
   -- behind the first quote, and behind a backslash there
   pub quotes_close : List ℕ → Bool
@@ -37,13 +38,18 @@ abbrev pub all_letters : List ℕ → Bool
 all_letters [] = true
 all_letters (c ∷ cs) = is_letter c && all_letters cs
 
--- neither a quote nor a slash
+-- no quote, no slash and no dot
 abbrev pub is_plain_mark : ℕ → Bool
-is_plain_mark c = not (c == 34) && not (c == 47)
+is_plain_mark c = not (c == 34) && (not (c == 47) && not (c == 46))
 
 abbrev pub all_plain : List ℕ → Bool
 all_plain [] = true
 all_plain (c ∷ cs) = is_plain_mark c && all_plain cs
+
+-- letters and `#`: an identifier, as it is or behind `r#`
+abbrev pub all_named : List ℕ → Bool
+all_named [] = true
+all_named (c ∷ cs) = (is_letter c || c == 35) && all_named cs
 
 -- which texts are closed
 pub record ClosedTexts : Type 0 where
@@ -57,7 +63,7 @@ pub record ClosedTexts : Type 0 where
 -- names that are closed, and places that stay on their line
 pub record AreClosedNames (names : Names) : Type 0 where
   pub owner : (o : Owner) → is_closed (names.owner o) ≡ true
-  pub field : (o : Owner) (i : ℕ) → is_closed (names.field o i) ≡ true
+  pub field : (o : Owner) (i : ℕ) → all_named (names.field o i) ≡ true
   pub function : (f : ℕ) → is_closed (names.function f) ≡ true
   pub list : (l : Option ℕ) → is_closed (names.list l) ≡ true
   pub constant : (name : ℕ) → is_closed (names.constant name) ≡ true

@@ -8,9 +8,9 @@ use Rattle.model_code.specs.Notation.{gives_one, gives_option, gives_many}
 use Rattle.model_code.specs.Pieces.{tokens_of}
 use Rattle.model_code.specs.Written.{code_tokens, shown_code, function_body}
 use Rattle.model_code.specs.Spelling.{Names, spelled}
-use Rattle.model_code.specs.Lexing.{lexed, IsWholeText, pieces_lexed}
+use Rattle.model_code.specs.Lexing.{lexed, IsWholeText, IsWholeWord, pieces_lexed}
 use Rattle.model_code.specs.ReadsBack.{writable, read_function}
-use Rattle.model_code.specs.Closed.{is_closed, stays_quoted, in_quotation}
+use Rattle.model_code.specs.Closed.{is_closed, all_named, stays_quoted, in_quotation}
 use Rattle.model_code.specs.CodeTextSamples.{notation, names, below, text_of, many, leaving, read_as, words, wholly, called}
 
 -- `a \" // b`, and the same without the backslash
@@ -72,6 +72,16 @@ pub record TextsAreJudged : Type 0 where
   -- they aren't read by themselves
   pub quote_not_whole : IsWholeText (34 ∷ []) → ⊥
   pub slash_not_whole : IsWholeText (47 ∷ []) → ⊥
+  -- a name that ends with a dot runs together with `.clone()`, and a field that ends with a colon with its `:`
+  pub dot_open : is_closed (codes "S.") ≡ false
+  pub colon_no_name : all_named (codes "x:") ≡ false
+  pub raw_name : all_named (codes "r#type") ≡ true
+  pub colon_not_whole : IsWholeWord (58 ∷ []) → ⊥
+  -- `==` is one mark, and neither `= =` nor `===`; so are `=>`, `..` and `::`; labels and `r#type` are words
+  pub marks_read : lexed (codes "if v2==*v3 => ..E::A{") ≡ codes "if" ∷ (codes "v2" ∷ (codes "==" ∷ (codes "*" ∷ (codes "v3" ∷ (codes "=>" ∷ (codes ".." ∷ (codes "E" ∷ (codes "::" ∷ (codes "A" ∷ (codes "{" ∷ []))))))))))
+  pub marks_apart : lexed (codes "= =") ≡ codes "=" ∷ (codes "=" ∷ [])
+  pub longest_first : lexed (codes "===.. .") ≡ codes "==" ∷ (codes "=" ∷ (codes ".." ∷ (codes "." ∷ [])))
+  pub words_read : lexed (codes "break 'at12; v2.1.clone() r#type") ≡ codes "break" ∷ (codes "'at12" ∷ (codes ";" ∷ (codes "v2" ∷ (codes "." ∷ (codes "1" ∷ (codes "." ∷ (codes "clone" ∷ (codes "(" ∷ (codes ")" ∷ (codes "r#type" ∷ []))))))))))
   -- with such a name the text of a function hasn't the words and marks of its pieces
   pub words_there : as_many_words names (called 0 0) ≡ true
   pub words_lost : as_many_words quoting (called 0 0) ≡ false

@@ -18,7 +18,7 @@ ghost use Rattle.model_code.specs.TypeSamples.{TypesAreThose};
 ghost use Rattle.model_code.specs.CodeLaws.{BestTreesBindNoneInPlace, CodeOfBestTreesRuns, CodeRunsAsTree, CodeStopsAtBound};
 ghost use Rattle.model_code.specs.Alike.{ShownIsAll};
 ghost use Rattle.model_code.specs.Closed.{ClosedNamesAreWhole, ClosedTexts};
-ghost use Rattle.model_code.specs.Lexing.{TextHasTokens};
+ghost use Rattle.model_code.specs.Lexing.{OwnTokensAreWords, TextHasTokens};
 ghost use Rattle.model_code.specs.Parted.{TokensAreParted};
 ghost use Rattle.model_code.specs.ReadsBack.{CodeIsRead, FlatKeepsWritable, FunctionIsRead, MovesKeepWritable, ReadsBack, TextShowsCode};
 ghost use Rattle.model_code.specs.ReadTexts.{TextIsReadBack, UnloggedTextIsItsTokens};
@@ -190,7 +190,13 @@ pub fn moves_keep_writable()
     ensures { MovesKeepWritable }
 {}
 
-/// No two words of a function's body run together.
+/// The code's own tokens are a word or a mark each, but for `unreachable!` and `.1`, which are two.
+#[tactic(auto, using(crate::proofs::Lexing::own_tokens_are_words_lem))]
+pub fn own_tokens_are_words()
+    ensures { OwnTokensAreWords }
+{}
+
+/// No two words and no two marks of a function's body run together.
 #[tactic(auto, using(crate::proofs::Parted::tokens_are_parted_lem))]
 pub fn tokens_are_parted()
     ensures { TokensAreParted }
