@@ -1,9 +1,10 @@
 //! Errors as lines of text.
 
-use crate::places::{Marked, Places};
+use crate::places::Places;
 use core_syntax::syntax::{Error, Span};
 use std::alloc::{AllocError, Global};
 use std::slice;
+use text_lines::LineTable;
 
 /// One line for each error, in order. A place is shown as `places` says, and a span stands for the place
 /// where it begins.
@@ -15,8 +16,8 @@ pub fn error_lines(
     let Places::Lines(text) = places else {
         return lines_at(alloc, errors, places);
     };
-    let marked = Marked::new(alloc, text)?;
-    lines_at(alloc, errors, Places::Marked(&marked))
+    let table = LineTable::new(alloc, text)?;
+    lines_at(alloc, errors, Places::Table(&table))
 }
 
 // The lines of errors whose places are shown so.

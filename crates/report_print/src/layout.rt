@@ -2,7 +2,7 @@
 
 ghost use Rattle.std.specs.Prelude.{◌≡◌, ◌≢◌, [], OnOk, string_bytes};
 
-use crate::lines::{Line, file_name, file_text, line_at, push_spaces, push_times};
+use crate::lines::{FileLines, Line, file_name, push_spaces, push_times};
 use crate::report::{Label, Level, Note, Report};
 use crate::wrapping::{has_room, push_wrapped, room_before};
 use core_syntax::syntax::{Files, Pos};
@@ -30,35 +30,31 @@ pub fn push_reports(
     ensures none { reports.now ≡ [] → OnOk result (string_bytes out.new ≡ string_bytes out.old) }
     ensures some { reports.now ≢ [] → OnOk result (string_bytes out.new ≢ []) }
 {
+    let lines = FileLines::new(*out.allocator(), files)?;
     for report in reports {
         match layout {
-            Layout::Text => push_text(out, files, report, false)?,
-            Layout::Colored => push_text(out, files, report, true)?,
-            Layout::Line => push_line(out, files, report)?,
+            Layout::Text => push_text(out, &lines, report, false)?,
+            Layout::Colored => push_text(out, &lines, report, true)?,
+            Layout::Line => push_line(out, &lines, report)?,
         }
     }
     Ok(())
 }
 
 /// Adds a place: the file's name, the line and the column.
-pub fn push_place(out: &mut String, files: &Files, pos: Pos) -> Result<(), AllocError> {
-    let line = line_of(files, pos);
-    let name = file_name(files, pos.file);
-    let number = line.number;
-    let column = line.column();
-    write!(out, "{name}:{number}:{column}")
+pub fn push_place(out: &mut String, lines: &FileLines<'_>, pos: Pos) -> Result<(), AllocError> {
+    let name = file_name(lines.files(), pos.file);
+    let place = lines.place(pos);
+    let (line, column) = (place.line, place.column);
+    write!(out, "{name}:{line}:{column}")
 }
 
-fn line_of(files: &Files, pos: Pos) -> Line<'_> {
-    line_at(file_text(files, pos.file), pos.offset)
-}
-
-fn push_line(out: &mut String, files: &Files, report: &Report) -> Result<(), AllocError>
+fn push_line(out: &mut String, lines: &FileLines<'_>, report: &Report) -> Result<(), AllocError>
     ensures { OnOk result (string_bytes out.new ≢ []) }
 {
     for (i, label) in report.labels.iter().enumerate() {
         if i == 0 {
-            push_place(out, files, label.pos)?;
+            push_place(out, lines, label.pos)?;
             out.push_str(": ")?;
         }
     }
@@ -66,7 +62,7 @@ fn push_line(out: &mut String, files: &Files, report: &Report) -> Result<(), All
     out.push_str(&report.message)?;
     for (i, label) in report.labels.iter().enumerate() {
         if i > 0 {
-            push_further(out, files, label)?;
+            push_further(out, lines, label)?;
         }
     }
     for note in &report.notes {
@@ -76,11 +72,11 @@ fn push_line(out: &mut String, files: &Files, report: &Report) -> Result<(), All
     out.push('\n')
 }
 
-fn push_further(out: &mut String, files: &Files, label: &Label) -> Result<(), AllocError> {
+fn push_further(out: &mut String, lines: &FileLines<'_>, label: &Label) -> Result<(), AllocError> {
     out.push_str("; ")?;
     out.push_str(&label.text)?;
     out.push_str(" at ")?;
-    push_place(out, files, label.pos)
+    push_place(out, lines, label.pos)
 }
 
 // The codes of a terminal: bold red for errors, bold yellow for warnings, bold blue for further places, bold, and none.
@@ -135,13 +131,13 @@ fn push_head(out: &mut String, report: &Report, colored: bool) -> Result<(), All
 fn push_note(out: &mut String, note: &Note) -> Result<(), AllocError> {
     out.push_str(note.word)?;
     out.push_str(": ")?;
-    out.push_str(&note.text)
+    out.push_str(&note.told()?)
 }
 
 // Adds a report with the lines that it speaks of, and an empty line.
 fn push_text(
     out: &mut String,
-    files: &Files,
+    lines: &FileLines<'_>,
     report: &Report,
     colored: bool,
 ) -> Result<(), AllocError>
@@ -149,8 +145,8 @@ fn push_text(
 {
     push_head(out, report, colored)?;
     out.push('\n')?;
-    let width = number_width(files, report);
-    push_labels(out, files, report, width, colored)?;
+    let width = number_width(lines, report);
+    push_labels(out, lines, report, width, colored)?;
     for note in &report.notes {
         push_spaces(out, width)?;
         out.push_str(" = ")?;
@@ -166,7 +162,7 @@ fn push_note_lines(out: &mut String, note: &Note, width: u64) -> Result<(), Allo
     let column = (note.word.len() as u64)
         .saturating_add(width)
         .saturating_add(5);
-    push_wrapped(out, column, column, &note.text)?;
+    push_wrapped(out, column, column, &note.told()?)?;
     out.push('\n')
 }
 
@@ -180,7 +176,7 @@ const MOST_INDENT: u64 = 40;
 // place in words before its lines, and a line that has several places is shown once.
 fn push_labels(
     out: &mut String,
-    files: &Files,
+    lines: &FileLines<'_>,
     report: &Report,
     width: u64,
     colored: bool,
@@ -188,11 +184,11 @@ fn push_labels(
     let Some(first) = report.labels.first() else {
         return Ok(());
     };
-    push_arrow(out, files, first.pos, "-->", width)?;
+    push_arrow(out, lines, first.pos, "-->", width)?;
     let mut last = (first.pos.file, 0, 0);
     for label in &in_order(*out.allocator(), report, first.pos.file)? {
-        let line = line_of(files, label.pos);
-        push_source(out, files, label.pos, line, last, width)?;
+        let line = lines.line(label.pos);
+        push_source(out, lines, label.pos, line, last, width)?;
         let (mark, code) = if label.pos == first.pos {
             ('^', code_of(report.level))
         } else {
@@ -227,7 +223,7 @@ fn in_order(alloc: Global, report: &Report, file: usize) -> Result<Vec<&Label>, 
 // last line is 0. A long line is shown again where another part of it is shown.
 fn push_source(
     out: &mut String,
-    files: &Files,
+    lines: &FileLines<'_>,
     pos: Pos,
     line: Line<'_>,
     last: (usize, u64, u64),
@@ -235,7 +231,7 @@ fn push_source(
 ) -> Result<(), AllocError> {
     let (file, number, begin) = last;
     if file != pos.file {
-        push_arrow(out, files, pos, ":::", width)?;
+        push_arrow(out, lines, pos, ":::", width)?;
     } else if number == line.number {
         if begin == line.part().begin {
             return Ok(());
@@ -249,7 +245,7 @@ fn push_source(
 // Adds the line that names a place, and an empty one.
 fn push_arrow(
     out: &mut String,
-    files: &Files,
+    lines: &FileLines<'_>,
     pos: Pos,
     arrow: &str,
     width: u64,
@@ -257,7 +253,7 @@ fn push_arrow(
     push_spaces(out, width)?;
     out.push_str(arrow)?;
     out.push(' ')?;
-    push_place(out, files, pos)?;
+    push_place(out, lines, pos)?;
     out.push('\n')?;
     push_bar(out, width, "\n")
 }
@@ -308,10 +304,10 @@ fn push_bar(out: &mut String, width: u64, end: &str) -> Result<(), AllocError> {
 }
 
 // How many digits the greatest line number of a report's places has.
-fn number_width(files: &Files, report: &Report) -> u64 {
+fn number_width(lines: &FileLines<'_>, report: &Report) -> u64 {
     let mut width = 1u64;
     for label in &report.labels {
-        width = width.max(digits(line_of(files, label.pos).number));
+        width = width.max(digits(lines.place(label.pos).line as u64));
     }
     width
 }

@@ -1,7 +1,8 @@
 //! Lines of text, and the columns that characters take.
 
-use core_syntax::syntax::Files;
-use std::alloc::AllocError;
+use core_syntax::syntax::{Files, Pos};
+use std::alloc::{AllocError, Global};
+use text_lines::{LinePlace, LineTable};
 use unicode_width::UnicodeWidthChar;
 
 // How many columns a tab takes. Lines are shown with spaces in its place, so that what is below stands below.
@@ -48,39 +49,74 @@ pub fn file_text(files: &Files, file: usize) -> &str {
     }
 }
 
-/// The line of a text that an offset lies in. An offset past the end lies in the last one.
-pub fn line_at(text: &str, offset: usize) -> Line<'_> {
-    let mut found = Line {
-        number: 1,
-        text: "",
-        at: 0,
-    };
-    let mut begin = 0usize;
-    let mut number = 1u64;
-    for text in text.split('\n') {
-        if begin > offset {
-            break;
-        }
-        let at = offset.saturating_sub(begin);
-        found = Line { number, text, at };
-        begin = begin.saturating_add(text.len()).saturating_add(1);
-        number = number.saturating_add(1);
+/// Files, with a table of the lines of each.
+pub struct FileLines<'a> {
+    files: &'a Files,
+    tables: Vec<LineTable<'a>>,
+}
+
+impl<'a> Drop for FileLines<'a> {
+    fn drop(self) {
+        let FileLines {
+            files: _,
+            tables: _,
+        } = self;
     }
-    found
+}
+
+impl<'a> FileLines<'a> {
+    /// The tables of some files.
+    ///
+    /// # Errors
+    ///
+    /// If memory is refused.
+    pub fn new(alloc: Global, files: &'a Files) -> Result<FileLines<'a>, AllocError> {
+        let mut tables = Vec::new(alloc);
+        for text in &files.texts {
+            tables.push(LineTable::new(alloc, text)?)?;
+        }
+        Ok(FileLines { files, tables })
+    }
+
+    /// The files.
+    pub fn files(&self) -> &'a Files {
+        self.files
+    }
+
+    /// The line and the column of a position, both from 1, the column in characters. A byte order mark at the beginning of the
+    /// file is none. In a file that isn't there each position is at its beginning.
+    pub fn place(&self, pos: Pos) -> LinePlace {
+        let Some(table) = self.tables.get(pos.file) else {
+            return LinePlace { line: 1, column: 1 };
+        };
+        let place = table.place(pos.offset);
+        if place.line > 1 || !table.text().starts_with(BYTE_ORDER_MARK) {
+            return place;
+        }
+        LinePlace {
+            line: 1,
+            column: place.column.saturating_sub(1).max(1),
+        }
+    }
+
+    /// The line that a position lies in. An offset past the end lies in the last one.
+    pub fn line(&self, pos: Pos) -> Line<'a> {
+        let text = file_text(self.files, pos.file);
+        let before = text.get(..pos.offset).unwrap_or(text);
+        let begin = match before.rfind('\n') {
+            Some(feed) => feed.saturating_add(1),
+            None => 0,
+        };
+        let rest = text.get(begin..).unwrap_or("");
+        Line {
+            number: self.place(pos).line as u64,
+            text: rest.split('\n').next().unwrap_or(""),
+            at: pos.offset.saturating_sub(begin),
+        }
+    }
 }
 
 impl<'a> Line<'a> {
-    /// The column of the offset, from 1, in characters.
-    pub fn column(self) -> u64 {
-        let mut column = 1u64;
-        for (at, c) in self.text.char_indices() {
-            if at < self.at && c != BYTE_ORDER_MARK {
-                column = column.saturating_add(1);
-            }
-        }
-        column
-    }
-
     // How many columns of the whole line stand before a character that begins at this offset or behind it.
     fn columns_before(self, offset: usize) -> u64 {
         let mut columns = 0u64;

@@ -1,7 +1,8 @@
 //! How the places of errors are shown.
 
 use core_syntax::syntax::{Def, Pos};
-use std::alloc::{AllocError, Global};
+use std::alloc::AllocError;
+use text_lines::LineTable;
 
 /// How places are shown: two numbers with a colon between them.
 #[derive(Clone, Copy)]
@@ -11,8 +12,8 @@ pub enum Places<'a> {
     /// The line and the column in this text, which is the only file. Both count from 1, a column in
     /// characters.
     Lines(&'a str),
-    /// The same, in a text with marks.
-    Marked(&'a Marked<'a>),
+    /// The same, in the text of a table.
+    Table(&'a LineTable<'a>),
     /// 0, and the number from 0 of the definition that the place lies in. These are the definitions of the
     /// only file, in its order.
     Definitions(&'a [Def]),
@@ -24,96 +25,17 @@ impl<'a> Places<'a> {
         let (first, second) = match self {
             Places::Files => (pos.file, pos.offset),
             Places::Lines(text) => {
-                let at = FIRST.up_to(text, pos.offset);
-                (at.line, at.column)
+                let table = LineTable::new(*out.allocator(), text)?;
+                let place = table.place(pos.offset);
+                (place.line, place.column)
             }
-            Places::Marked(text) => text.line_and_column(pos.offset),
+            Places::Table(table) => {
+                let place = table.place(pos.offset);
+                (place.line, place.column)
+            }
             Places::Definitions(defs) => (0, definition_at(defs, pos.offset)),
         };
         write!(out, "{first}:{second}")
-    }
-}
-
-// A character of a text: its offset, line and column.
-#[derive(Clone, Copy)]
-struct Mark {
-    offset: usize,
-    line: usize,
-    column: usize,
-}
-
-const FIRST: Mark = Mark {
-    offset: 0,
-    line: 1,
-    column: 1,
-};
-
-impl Mark {
-    // The next character, after this one.
-    fn after(self, c: char) -> Mark {
-        let offset = self.offset.saturating_add(c.len_utf8());
-        if c == '\n' {
-            return Mark {
-                offset,
-                line: self.line.saturating_add(1),
-                column: 1,
-            };
-        }
-        Mark {
-            offset,
-            line: self.line,
-            column: self.column.saturating_add(1),
-        }
-    }
-
-    // The character at an offset of the text, or the first one behind it, from this one on.
-    fn up_to(self, text: &str, offset: usize) -> Mark {
-        let mut at = self;
-        for c in text.get(self.offset..).unwrap_or("").chars() {
-            if at.offset >= offset {
-                break;
-            }
-            at = at.after(c);
-        }
-        at
-    }
-}
-
-/// A text with a mark at each 1,024th of its characters, from which a place in it is found without the text being read
-/// from its beginning.
-#[derive(Drop)]
-pub struct Marked<'a> {
-    text: &'a str,
-    // ascending by their offsets
-    marks: Vec<Mark>,
-}
-
-impl<'a> Marked<'a> {
-    /// The text with its marks.
-    ///
-    /// # Errors
-    ///
-    /// Where memory is refused.
-    pub fn new(alloc: Global, text: &'a str) -> Result<Self, AllocError> {
-        let mut marks = Vec::new(alloc);
-        let mut at = FIRST;
-        for (number, c) in text.chars().enumerate() {
-            if number % 1024 == 0 {
-                marks.push(at)?;
-            }
-            at = at.after(c);
-        }
-        Ok(Marked { text, marks })
-    }
-
-    fn line_and_column(&self, offset: usize) -> (usize, usize) {
-        let before = self.marks.partition_point(|mark| mark.offset <= offset);
-        let from = match self.marks.get(before.saturating_sub(1)) {
-            Some(mark) => *mark,
-            None => FIRST,
-        };
-        let at = from.up_to(self.text, offset);
-        (at.line, at.column)
     }
 }
 

@@ -4,5 +4,6 @@ mod LineLemmas
 mod OffsetLemmas
 mod PlaceLemmas
 mod SizeLemmas
+mod TableLemmas
 mod UnitLemmas
 mod Walking

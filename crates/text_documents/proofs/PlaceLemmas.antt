@@ -14,7 +14,7 @@ abbrev pub at : ℕ → ℕ → DocumentPosition
 at line character = record { line = line; character = character }
 
 -- ---- one character
-place_step : (p : DocumentPosition) (r : Bool) (left c : ℕ) (cs : List ℕ) → place_after p r (width c + left) (c ∷ cs) ≡ place_after (place_past p r c) (c == 13) left cs
+pub place_step : (p : DocumentPosition) (r : Bool) (left c : ℕ) (cs : List ℕ) → place_after p r (width c + left) (c ∷ cs) ≡ place_after (place_past p r c) (c == 13) left cs
 place_step p r left c cs =
     let e : ((width c + left) == 0) ≡ false = ne_eqb (width c + left) 0 (λ k. omega (arith, width_pos c, k)) in
     let f : nat_lt (width c + left) (width c) ≡ false = le-ltb (width c + left) (width c) (omega arith) in

@@ -1,12 +1,15 @@
 //! Places in a text and its byte offsets, each from the other.
 
-ghost use Rattle.std.specs.Prelude.{◌≡◌, ◌+◌, ◌<◌, ◌≤◌, ◌⊎◌, ◌&&◌, ◌==◌, ℕ, List, IfNone, IfSome, option_map, if◌then◌else◌};
+ghost use Rattle.std.specs.Prelude.{◌≡◌, ◌+◌, ◌∷◌, ◌<◌, ◌≤◌, ◌⊎◌, ◌&&◌, ◌==◌, ℕ, All, List, IfNone, IfOk, IfSome, option_map, if◌then◌else◌};
+ghost use Rattle.std.specs.Char.{len_utf8};
 ghost use Rattle.std.specs.Str.{chars, IsUtf8};
 ghost use Rattle.text_documents.specs.declared.places.DocumentPosition.{DocumentPosition};
 ghost use Rattle.text_documents.specs.Places.{IsCutAt, IsInEnd, IsInPair, IsOffsetOf, IsPlaceAt, LacksLine, units};
+ghost use Rattle.text_documents.specs.Tables.{IsMark};
 ghost use Rattle.text_documents.specs.Walks.{back_at, place_after, place_past};
 
 use crate::lines::{after_lines, after_units};
+use std::alloc::{AllocError, Global};
 
 /// A place in a text: LSP 3.17's `Position`.
 #[derive(Clone, Copy, PartialEq, Eq, Debug)]
@@ -25,6 +28,14 @@ struct Walk {
     // whether it is behind `\r`
     after_return: bool,
 }
+
+const START: Walk = Walk {
+    place: DocumentPosition {
+        line: 0,
+        character: 0,
+    },
+    after_return: false,
+};
 
 /// The byte offset of a place, from 0 to the text's length. Past the end of its line that is the line's end, before the
 /// characters that end it (LSP 3.17: a greater character "defaults back to the line length").
@@ -47,14 +58,7 @@ pub fn place_at(text: &str, offset: usize) -> Option<DocumentPosition>
     ensures only { (p : DocumentPosition) → IsPlaceAt (chars text.now) offset p → result ≡ Some p }
     ensures none { IfNone result ((front back : List ℕ) → IsCutAt (chars text.now) offset front back → IsInEnd front back) }
 {
-    let start = Walk {
-        place: DocumentPosition {
-            line: 0,
-            character: 0,
-        },
-        after_return: false,
-    };
-    start.over(text, offset)
+    START.over(text, offset)
 }
 
 // What follows a place.
@@ -115,6 +119,102 @@ impl Walk {
         Walk {
             place,
             after_return: c == '\r',
+        }
+    }
+}
+
+// How far a text is walked over, and what follows.
+#[derive(Clone, Copy)]
+struct Mark<'a> {
+    offset: usize,
+    walk: Walk,
+    rest: &'a str,
+}
+
+impl<'a> Mark<'a> {
+    // The mark behind a character, which the rest follows.
+    fn past(self, c: char, rest: &'a str) -> Mark<'a>
+        requires offset { self.offset + 4 ≤ usize.MAX }
+        requires line { self.walk.place.line ≤ self.offset }
+        requires character { self.walk.place.character ≤ self.offset }
+        ensures mark { (text : List ℕ) → IsMark text self.entry → chars self.entry.rest.now ≡ c ∷ chars rest.now → IsMark text result }
+        ensures rest { result.rest.now ≡ rest.now }
+        ensures offset { result.offset ≡ self.entry.offset + len_utf8 c }
+    {
+        Mark {
+            offset: self.offset + c.len_utf8(),
+            walk: self.walk.past(c),
+            rest,
+        }
+    }
+}
+
+// A table has marks at about each so many bytes.
+const STEP: usize = 256;
+
+/// A text with marks, by which the place of an offset is found without the text being read from its beginning.
+pub struct PlaceTable<'a> {
+    text: &'a str,
+    marks: Vec<Mark<'a>>,
+    ghost marked: { All (IsMark (chars text.now)) marks.items },
+}
+
+impl<'a> Drop for PlaceTable<'a> {
+    fn drop(self) {
+        let PlaceTable { text: _, marks: _ } = self;
+    }
+}
+
+impl<'a> PlaceTable<'a> {
+    /// The table of a text.
+    ///
+    /// # Errors
+    ///
+    /// If memory is refused.
+    pub fn new(alloc: Global, text: &'a str) -> Result<PlaceTable<'a>, AllocError>
+        ensures { IfOk result (λ table. table.text.now ≡ text.now) }
+    {
+        let mut marks = Vec::new(alloc);
+        let mut next = 0usize;
+        let mut mark = Mark {
+            offset: 0,
+            walk: START,
+            rest: text,
+        };
+        let mut rest = text.chars();
+        while let Some(c) = rest.next() {
+            if mark.offset >= next {
+                marks.push(mark)?;
+                next = next.saturating_add(STEP);
+            }
+            mark = mark.past(c, rest.as_str());
+        }
+        Ok(PlaceTable { text, marks })
+    }
+
+    /// The place of a byte offset in the text, as `place_at` gives it.
+    pub fn place_at(&self, offset: usize) -> Option<DocumentPosition>
+        ensures place { IfSome result (IsPlaceAt (chars self.now.text.now) offset) }
+        ensures only { (p : DocumentPosition) → IsPlaceAt (chars self.now.text.now) offset p → result ≡ Some p }
+        ensures none { IfNone result ((front back : List ℕ) → IsCutAt (chars self.now.text.now) offset front back → IsInEnd front back) }
+    {
+        let mark = self.mark_before(offset);
+        mark.walk.over(mark.rest, offset - mark.offset)
+    }
+
+    // The last mark that is at an offset or before it, or the beginning.
+    fn mark_before(&self, offset: usize) -> Mark<'a>
+        ensures mark { IsMark (chars self.now.text.now) result }
+        ensures before { result.offset ≤ offset }
+    {
+        let count = self.marks.partition_point(|mark| mark.offset <= offset);
+        match self.marks.get(count.saturating_sub(1)) {
+            Some(mark) if mark.offset <= offset => *mark,
+            _ => Mark {
+                offset: 0,
+                walk: START,
+                rest: self.text,
+            },
         }
     }
 }
