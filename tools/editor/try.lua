@@ -84,6 +84,26 @@ local function try()
     return #diagnostics() == 0
   end), diagnostics())
 
+  check('an action is linked to its diagnostic', actions and actions[1] and actions[1].diagnostics[1].code == 'type', actions)
+  check('and preferred', actions and actions[1] and actions[1].isPreferred, actions)
+
+  -- A name is replaced where it stands, and not in a comment before it.
+  replace('(rule 0 (add', '(rule (; addd ;) 0 (addd')
+  check('a wrong term is shown', comes(function()
+    return #diagnostics() == 1 and diagnostics()[1].code == 'type'
+  end), diagnostics())
+  range = { start = { line = 4, character = 0 }, ['end'] = { line = 4, character = 20 } }
+  actions = ask('textDocument/codeAction', { range = range, context = { diagnostics = {} } })
+  check('an action is offered', actions and #actions == 1, actions)
+  if actions and actions[1] then
+    vim.lsp.util.apply_workspace_edit(actions[1].edit, 'utf-16')
+  end
+  check('it leaves the comment', lines():find('(rule (; addd ;) 0 (add a b) (Inst.Add a b))', 1, true) ~= nil, lines())
+  replace('(rule (; addd ;) 0 (add', '(rule 0 (add')
+  check('and the rules are right', comes(function()
+    return #diagnostics() == 0
+  end), diagnostics())
+
   replace('(Inst.Add a b))', '(Inst.Add a b)')
   check('a missing parenthesis is shown', comes(function()
     return #diagnostics() == 1 and diagnostics()[1].code == 'syntax'

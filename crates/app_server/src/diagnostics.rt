@@ -1,10 +1,10 @@
 //! Reports as diagnostics of the protocol.
 
 use crate::analysis::Analysis;
-use crate::ranges::{form_range, location_value};
+use crate::ranges::Ranges;
 use crate::replies::{Unsent, send_notification};
 use crate::session::Session;
-use report_print::lines::{file_name, line_at};
+use report_print::lines::{FileLines, file_name};
 use report_print::report::{Label, Level, Report};
 use serde_json::{Value, json};
 use std::alloc::{AllocError, Global};
@@ -17,8 +17,9 @@ pub fn publish<W: Write>(
     analysis: &Analysis,
     session: &Session,
 ) -> Result<(), Unsent> {
+    let shown = Shown::new(alloc, analysis)?;
     for file in 0..analysis.sources.uris.len() {
-        let found = diagnostics_in(alloc, analysis, file)?;
+        let found = diagnostics_in(alloc, &shown, file)?;
         let is_wanted = !found.is_empty() || session.shows(analysis, file);
         if is_wanted {
             publish_file(
@@ -83,27 +84,58 @@ fn file_of(report: &Report) -> usize {
     }
 }
 
-fn diagnostics_in(
-    alloc: Global,
-    analysis: &Analysis,
-    file: usize,
-) -> Result<Vec<Value>, AllocError> {
+/// How places in the files of an analysis are shown.
+pub struct Shown<'a> {
+    pub(crate) analysis: &'a Analysis,
+    ranges: Ranges<'a>,
+    lines: FileLines<'a>,
+}
+
+impl<'a> Drop for Shown<'a> {
+    fn drop(self) {
+        let Shown {
+            analysis: _,
+            ranges: _,
+            lines: _,
+        } = self;
+    }
+}
+
+impl<'a> Shown<'a> {
+    /// The lines of all files are found here, once.
+    pub fn new(alloc: Global, analysis: &'a Analysis) -> Result<Shown<'a>, AllocError> {
+        let ranges = Ranges::new(alloc, analysis)?;
+        let lines = FileLines::new(alloc, &analysis.sources.files)?;
+        Ok(Shown {
+            analysis,
+            ranges,
+            lines,
+        })
+    }
+}
+
+fn diagnostics_in(alloc: Global, shown: &Shown<'_>, file: usize) -> Result<Vec<Value>, AllocError> {
     let mut found = Vec::new(alloc);
-    for report in &analysis.reports {
+    for report in &shown.analysis.reports {
         if file_of(report) == file {
-            found.push(diagnostic_of(alloc, analysis, report)?)?;
+            found.push(diagnostic_of(alloc, shown, report)?)?;
         }
     }
     Ok(found)
 }
 
-fn diagnostic_of(alloc: Global, analysis: &Analysis, report: &Report) -> Result<Value, AllocError> {
+/// A report as a diagnostic. Where `--all` shows more is left out: an editor hasn't it.
+pub fn diagnostic_of(
+    alloc: Global,
+    shown: &Shown<'_>,
+    report: &Report,
+) -> Result<Value, AllocError> {
     let range = match report.labels.first() {
-        Some(label) => form_range(alloc, analysis, label.pos)?,
-        None => crate::ranges::range_value(alloc, "", 0, 0)?,
+        Some(label) => shown.ranges.of_form(label.pos)?,
+        None => shown.ranges.between(0, 0, 0)?,
     };
-    let message = message_of(alloc, analysis, report)?;
-    let related = related_to(alloc, analysis, report)?;
+    let message = message_of(alloc, &shown.lines, report)?;
+    let related = related_to(alloc, &shown.ranges, report)?;
     json!(in alloc; {
         "range": range,
         "severity": severity_of(report),
@@ -124,13 +156,13 @@ fn severity_of(report: &Report) -> u8 {
 
 // What a report says: its message, what is said of its places, and its notes. Some editors show no related information, so the
 // further places stand here too.
-fn message_of(alloc: Global, analysis: &Analysis, report: &Report) -> Result<String, AllocError> {
+fn message_of(alloc: Global, lines: &FileLines<'_>, report: &Report) -> Result<String, AllocError> {
     let mut text = report.message.clone()?;
     if let Some(label) = report.labels.first() {
         push_line(&mut text, "", &label.text)?;
     }
     for label in report.labels.iter().skip(1) {
-        push_place(&mut text, analysis, label)?;
+        push_place(&mut text, lines, label)?;
     }
     for note in &report.notes {
         push_line(&mut text, note.word, &note.text)?;
@@ -148,13 +180,13 @@ fn push_line(out: &mut String, word: &str, text: &str) -> Result<(), AllocError>
         out.push_str(word)?;
         out.push_str(": ")?;
     }
-    out.push_str(without_option(text))
+    out.push_str(text)
 }
 
 // Adds a line on a further place: its file and line, and what is said of it.
-fn push_place(out: &mut String, analysis: &Analysis, label: &Label) -> Result<(), AllocError> {
-    let name = file_name(&analysis.sources.files, label.pos.file);
-    let line = line_at(analysis.text(label.pos.file), label.pos.offset).number;
+fn push_place(out: &mut String, lines: &FileLines<'_>, label: &Label) -> Result<(), AllocError> {
+    let name = file_name(lines.files(), label.pos.file);
+    let line = lines.place(label.pos).line;
     let said = said_of(label);
     write!(out, "\n{name}:{line}: {said}")
 }
@@ -164,24 +196,19 @@ fn said_of(label: &Label) -> &str {
     if label.text.is_empty() {
         return "here";
     }
-    without_option(&label.text)
-}
-
-// A text without the option of the command that shows more, which an editor hasn't.
-fn without_option(text: &str) -> &str {
-    text.strip_suffix(", shown by `--all`").unwrap_or(text)
+    label.text.as_str()
 }
 
 // The further places of a report.
 fn related_to(
     alloc: Global,
-    analysis: &Analysis,
+    ranges: &Ranges<'_>,
     report: &Report,
 ) -> Result<Vec<Value>, AllocError> {
     let mut related = Vec::new(alloc);
     for label in report.labels.iter().skip(1) {
-        let range = form_range(alloc, analysis, label.pos)?;
-        let location = location_value(alloc, analysis, label.pos.file, range)?;
+        let range = ranges.of_form(label.pos)?;
+        let location = ranges.location(label.pos.file, range)?;
         let said = said_of(label);
         related.push(json!(in alloc; {"location": location, "message": said})?)?;
     }

@@ -1,7 +1,7 @@
 //! Edits of files.
 
 use crate::analysis::Analysis;
-use crate::ranges::range_value;
+use crate::ranges::Ranges;
 use serde_json::{Value, json};
 use std::alloc::{AllocError, Global};
 
@@ -24,9 +24,10 @@ pub fn changes_value(
     analysis: &Analysis,
     edits: &[Edit<'_>],
 ) -> Result<Value, AllocError> {
+    let ranges = Ranges::new(alloc, analysis)?;
     let mut changes = json!(in alloc; {})?;
     for file in 0..analysis.sources.uris.len() {
-        let found = edits_in(alloc, analysis, edits, file)?;
+        let found = edits_in(alloc, &ranges, edits, file)?;
         if let (false, Some(object)) = (found.is_empty(), changes.as_object_mut()) {
             serde_json::put(object, alloc, analysis.uri(file), Value::Array(found))?;
         }
@@ -36,15 +37,14 @@ pub fn changes_value(
 
 fn edits_in(
     alloc: Global,
-    analysis: &Analysis,
+    ranges: &Ranges<'_>,
     edits: &[Edit<'_>],
     file: usize,
 ) -> Result<Vec<Value>, AllocError> {
-    let text = analysis.text(file);
     let mut found = Vec::new(alloc);
     for edit in edits {
         if edit.file == file {
-            let range = range_value(alloc, text, edit.begin, edit.end)?;
+            let range = ranges.between(file, edit.begin, edit.end)?;
             found.push(json!(in alloc; {"range": range, "newText": edit.text})?)?;
         }
     }

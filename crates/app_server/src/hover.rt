@@ -2,7 +2,7 @@
 
 use crate::analysis::Analysis;
 use crate::mentions::Mention;
-use crate::ranges::{form_range, name_range};
+use crate::ranges::Ranges;
 use crate::references::position_in;
 use crate::refusals::Refusal;
 use crate::symbols::{Symbol, mention_at, names_of, symbol_of, type_named};
@@ -12,7 +12,7 @@ use cranelift_isle::syntax::{Def, Extern, Extractor, Ident, Pos, Rule};
 use report_errors::definitions::{declaration_of, definition_around, variant_with_type};
 use report_errors::explanation::explanation;
 use report_errors::extents::end_of_form;
-use report_print::lines::line_at;
+use report_print::lines::FileLines;
 use report_witness::conditions::{conditions_of, given_of};
 use serde_json::{Value, json};
 use std::alloc::{AllocError, Global};
@@ -32,7 +32,7 @@ pub fn hover_at(
     match rule_headed_at(analysis, pos) {
         Some(rule) => {
             let text = rule_text(alloc, analysis, rule)?;
-            let range = form_range(alloc, analysis, rule.pos)?;
+            let range = Ranges::new(alloc, analysis)?.of_form(rule.pos)?;
             Ok(hover_value(alloc, &text, range)?)
         }
         None => Ok(Value::Null),
@@ -61,7 +61,7 @@ fn hover_on_name(
     if text.is_empty() {
         return Ok(Value::Null);
     }
-    let range = name_range(alloc, analysis, mention.name)?;
+    let range = Ranges::new(alloc, analysis)?.of_name(mention.name)?;
     hover_value(alloc, &text, range)
 }
 
@@ -258,11 +258,11 @@ fn rule_text(alloc: Global, analysis: &Analysis, rule: &Rule) -> Result<String, 
         let told = demands_text(alloc, rule)?;
         return code(alloc, "text", &told);
     };
-    let files = &analysis.sources.files;
-    let line = line_at(analysis.text(rule.pos.file), rule.pos.offset).number;
-    let name = report_print::lines::file_name(files, rule.pos.file);
+    let lines = FileLines::new(alloc, &analysis.sources.files)?;
+    let line = lines.place(rule.pos).line;
+    let name = report_print::lines::file_name(lines.files(), rule.pos.file);
     let called = format!(in alloc; "{name}:{line}")?;
-    let told = explanation(alloc, files, &analysis.defs, lowered, &called)?;
+    let told = explanation(alloc, &lines, &analysis.defs, lowered, &called)?;
     code(alloc, "text", told.trim_end())
 }
 

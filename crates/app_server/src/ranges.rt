@@ -5,60 +5,88 @@ use cranelift_isle::syntax::{Ident, Pos};
 use report_errors::extents::end_of_form;
 use serde_json::{Value, json};
 use std::alloc::{AllocError, Global};
-use text_documents::places::{DocumentPosition, place_at};
+use text_documents::places::{DocumentPosition, PlaceTable};
+
+/// The ranges in the files of an analysis, found by tables of their texts.
+pub struct Ranges<'a> {
+    alloc: Global,
+    analysis: &'a Analysis,
+    tables: Vec<PlaceTable<'a>>,
+}
+
+impl<'a> Drop for Ranges<'a> {
+    fn drop(self) {
+        let Ranges {
+            alloc: _,
+            analysis: _,
+            tables: _,
+        } = self;
+    }
+}
+
+impl<'a> Ranges<'a> {
+    /// The ranges in the files of an analysis.
+    pub fn new(alloc: Global, analysis: &'a Analysis) -> Result<Ranges<'a>, AllocError> {
+        let mut tables = Vec::new(alloc);
+        for text in &analysis.sources.files.texts {
+            tables.push(PlaceTable::new(alloc, text)?)?;
+        }
+        Ok(Ranges {
+            alloc,
+            analysis,
+            tables,
+        })
+    }
+
+    /// The range between two offsets of a file.
+    pub fn between(&self, file: usize, begin: usize, end: usize) -> Result<Value, AllocError> {
+        let begin = place_value(self.alloc, self.place_near(file, begin))?;
+        let end = place_value(self.alloc, self.place_near(file, end))?;
+        json!(in self.alloc; {"start": begin, "end": end})
+    }
+
+    /// The range of the form at a position.
+    pub fn of_form(&self, pos: Pos) -> Result<Value, AllocError> {
+        self.between(pos.file, pos.offset, self.end_of_form(pos))
+    }
+
+    /// Where the form at a position ends.
+    pub fn end_of_form(&self, pos: Pos) -> usize {
+        end_of_form(self.analysis.text(pos.file), pos.offset)
+    }
+
+    /// The range of a name.
+    pub fn of_name(&self, name: &Ident) -> Result<Value, AllocError> {
+        self.between(name.1.file, name.1.offset, end_of_name(name))
+    }
+
+    /// A range with the document that it is in.
+    pub fn location(&self, file: usize, range: Value) -> Result<Value, AllocError> {
+        json!(in self.alloc; {"uri": self.analysis.uri(file), "range": range})
+    }
+
+    // The place of an offset. Between `\r` and `\n` that is the end of the line, before both. Where it is no place, this is the
+    // beginning of the text.
+    fn place_near(&self, file: usize, offset: usize) -> DocumentPosition {
+        let begin = DocumentPosition {
+            line: 0,
+            character: 0,
+        };
+        let Some(table) = self.tables.get(file) else {
+            return begin;
+        };
+        match table.place_at(offset) {
+            Some(place) => place,
+            None => table.place_at(offset.saturating_sub(1)).unwrap_or(begin),
+        }
+    }
+}
 
 fn place_value(alloc: Global, place: DocumentPosition) -> Result<Value, AllocError> {
     json!(in alloc; {"line": place.line, "character": place.character})
 }
 
-// The place of an offset. Between `\r` and `\n` that is the end of the line, before both. Where it is no place, this is the beginning of
-// the text.
-fn place_near(text: &str, offset: usize) -> DocumentPosition {
-    let begin = DocumentPosition {
-        line: 0,
-        character: 0,
-    };
-    match place_at(text, offset) {
-        Some(place) => place,
-        None => place_at(text, offset.saturating_sub(1)).unwrap_or(begin),
-    }
-}
-
-/// The range between two offsets of a text.
-pub fn range_value(
-    alloc: Global,
-    text: &str,
-    begin: usize,
-    end: usize,
-) -> Result<Value, AllocError> {
-    let begin = place_value(alloc, place_near(text, begin))?;
-    let end = place_value(alloc, place_near(text, end))?;
-    json!(in alloc; {"start": begin, "end": end})
-}
-
-/// The range of the form at a position.
-pub fn form_range(alloc: Global, analysis: &Analysis, pos: Pos) -> Result<Value, AllocError> {
-    let text = analysis.text(pos.file);
-    range_value(alloc, text, pos.offset, end_of_form(text, pos.offset))
-}
-
-/// The range of a name.
-pub fn name_range(alloc: Global, analysis: &Analysis, name: &Ident) -> Result<Value, AllocError> {
-    let text = analysis.text(name.1.file);
-    range_value(alloc, text, name.1.offset, end_of_name(name))
-}
-
 /// Where a name ends.
 pub fn end_of_name(name: &Ident) -> usize {
     name.1.offset.saturating_add(name.0.len())
-}
-
-/// A range with the document that it is in.
-pub fn location_value(
-    alloc: Global,
-    analysis: &Analysis,
-    file: usize,
-    range: Value,
-) -> Result<Value, AllocError> {
-    json!(in alloc; {"uri": analysis.uri(file), "range": range})
 }

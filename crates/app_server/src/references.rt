@@ -3,7 +3,7 @@
 use crate::analysis::Analysis;
 use crate::mentions::Mention;
 use crate::messages::{member, place_of};
-use crate::ranges::{location_value, name_range};
+use crate::ranges::Ranges;
 use crate::refusals::Refusal;
 use crate::symbols::{mention_at, names_of, symbol_of};
 use cranelift_isle::syntax::Pos;
@@ -28,10 +28,11 @@ pub fn definition_at(
     params: &Value,
 ) -> Result<Value, Refusal> {
     let pos = position_in(analysis, file, params)?;
+    let ranges = Ranges::new(alloc, analysis)?;
     let mut found = Vec::new(alloc);
     for mention in &same_names(alloc, analysis, pos)? {
         if mention.defines {
-            found.push(location_of(alloc, analysis, mention)?)?;
+            found.push(location_of(&ranges, mention)?)?;
         }
     }
     Ok(Value::Array(found))
@@ -46,10 +47,11 @@ pub fn references_at(
 ) -> Result<Value, Refusal> {
     let pos = position_in(analysis, file, params)?;
     let with_definitions = wants_definitions(params).unwrap_or(true);
+    let ranges = Ranges::new(alloc, analysis)?;
     let mut found = Vec::new(alloc);
     for mention in &same_names(alloc, analysis, pos)? {
         if with_definitions || !mention.defines {
-            found.push(location_of(alloc, analysis, mention)?)?;
+            found.push(location_of(&ranges, mention)?)?;
         }
     }
     Ok(Value::Array(found))
@@ -76,11 +78,7 @@ fn same_names<'a>(
     }
 }
 
-fn location_of(
-    alloc: Global,
-    analysis: &Analysis,
-    mention: &Mention<'_>,
-) -> Result<Value, AllocError> {
-    let range = name_range(alloc, analysis, mention.name)?;
-    location_value(alloc, analysis, mention.name.1.file, range)
+fn location_of(ranges: &Ranges<'_>, mention: &Mention<'_>) -> Result<Value, AllocError> {
+    let range = ranges.of_name(mention.name)?;
+    ranges.location(mention.name.1.file, range)
 }

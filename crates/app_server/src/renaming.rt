@@ -4,7 +4,7 @@ use crate::analysis::Analysis;
 use crate::edits::{Edit, changes_value};
 use crate::mentions::{Mention, MentionKind};
 use crate::messages::text_of;
-use crate::ranges::{end_of_name, name_range};
+use crate::ranges::{Ranges, end_of_name};
 use crate::references::position_in;
 use crate::refusals::Refusal;
 use crate::symbols::{has_rule, has_variable, mention_at, names_of, symbol_of};
@@ -22,7 +22,7 @@ pub fn prepared_at(
 ) -> Result<Value, Refusal> {
     let pos = position_in(analysis, file, params)?;
     let mention = renamed_mention(alloc, analysis, pos)?;
-    let range = name_range(alloc, analysis, mention.name)?;
+    let range = Ranges::new(alloc, analysis)?.of_name(mention.name)?;
     Ok(json!(in alloc; {"range": range, "placeholder": mention.text()})?)
 }
 

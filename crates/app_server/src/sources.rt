@@ -4,7 +4,9 @@ use crate::documents::{Documents, OpenDocument};
 use crate::uris::uri_of;
 use cranelift_isle::syntax::Files;
 use std::alloc::{AllocError, Global};
+use std::convert::AsStr;
 use std::fs;
+use text_documents::projects::{PROJECT_FILE, files_in, lists_in};
 
 /// Where the files are that the client works on, and what it says of their order.
 pub struct Workspace {
@@ -40,10 +42,7 @@ impl Drop for Sources {
     }
 }
 
-// The file of a workspace that names its rule files, one in each line.
-const LIST: &str = "isle.files";
-
-/// The files of a workspace: those that its list names, or else the client, and then other documents that are open, in the
+/// The files of a workspace: those that its project file names, or else the client, and then other documents that are open, in the
 /// order in which they were opened. The text of a file that isn't open is read. One that can't be read is left out.
 pub fn sources_of<R: std::rt::Files + AllocGlobal>(
     rt: &R,
@@ -59,7 +58,7 @@ pub fn sources_of<R: std::rt::Files + AllocGlobal>(
         uris: Vec::new(alloc),
         paths: Vec::new(alloc),
     };
-    for path in &paths_of(rt, workspace)? {
+    for path in &paths_of(rt, workspace, documents)? {
         add_path(rt, &mut sources, workspace, documents, path)?;
     }
     for open in &documents.open {
@@ -71,43 +70,49 @@ pub fn sources_of<R: std::rt::Files + AllocGlobal>(
 fn paths_of<R: std::rt::Files + AllocGlobal>(
     rt: &R,
     workspace: &Workspace,
+    documents: &Documents,
 ) -> Result<Vec<String>, AllocError> {
     let alloc = rt.alloc();
-    let list = text_at(rt, &in_folder(alloc, workspace, LIST)?)?;
-    let mut paths = Vec::new(alloc);
-    match &list {
-        Some(text) => push_listed(alloc, workspace, text, &mut paths)?,
-        None => push_named(alloc, workspace, &mut paths)?,
+    match text_at(rt, &in_folder(alloc, workspace, PROJECT_FILE)?)? {
+        Some(text) => paths_of_project(alloc, workspace, documents, &text),
+        None => paths_named(alloc, workspace, &workspace.named),
     }
-    Ok(paths)
 }
 
-// Adds the paths that a list of files names. `#` begins a comment.
-fn push_listed(
+// The paths of a project's files: of several lists, those of the list of which most files are open.
+fn paths_of_project(
     alloc: Global,
     workspace: &Workspace,
+    documents: &Documents,
     text: &str,
-    paths: &mut Vec<String>,
-) -> Result<(), AllocError> {
-    for line in text.lines() {
-        let name = line.trim();
-        if !name.is_empty() && !name.starts_with('#') {
-            paths.push(in_folder(alloc, workspace, name)?)?;
+) -> Result<Vec<String>, AllocError> {
+    let mut chosen = paths_named(alloc, workspace, &files_in(alloc, text, "")?)?;
+    let mut most = None;
+    for list in &lists_in(alloc, text)? {
+        let paths = paths_named(alloc, workspace, &files_in(alloc, text, list)?)?;
+        let open = paths
+            .iter()
+            .filter(|path| documents.named(path).is_some())
+            .count();
+        if most.is_none_or(|most| open > most) {
+            chosen = paths;
+            most = Some(open);
         }
     }
-    Ok(())
+    Ok(chosen)
 }
 
-// Adds the paths that the client names.
-fn push_named(
+// The paths of the files of these names.
+fn paths_named<S: AsStr>(
     alloc: Global,
     workspace: &Workspace,
-    paths: &mut Vec<String>,
-) -> Result<(), AllocError> {
-    for name in &workspace.named {
-        paths.push(in_folder(alloc, workspace, name)?)?;
+    names: &[S],
+) -> Result<Vec<String>, AllocError> {
+    let mut paths = Vec::new(alloc);
+    for name in names {
+        paths.push(in_folder(alloc, workspace, name.as_str())?)?;
     }
-    Ok(())
+    Ok(paths)
 }
 
 // The path of a file of the workspace.

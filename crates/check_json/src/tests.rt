@@ -129,3 +129,107 @@ fn what_a_document_says(rt: HostRuntime) -> Result<(), Fail> {
     );
     Ok(())
 }
+
+// Texts with something to mend, and the code of the report whose first fix mends it.
+const TO_MEND: [(&str, &str); 17] = [
+    (
+        "unknown-constant",
+        "(extern const $ZERO u8) (decl f (u8) u8) (rule 1 (f $ZER) 1) (rule (f x) x)",
+    ),
+    (
+        "unknown-term",
+        "(decl fox (u8) u8) (extern extractor fox fox) (decl f (u8) u8) (rule ; foy\n (f (foy x)) x)",
+    ),
+    (
+        "unknown-type",
+        "(decl f (u8) bool) (rule (f _) (let ((boool boool true)) boool))",
+    ),
+    (
+        "unknown-type",
+        "(decl boool (boool) bool) (rule (boool x) x)",
+    ),
+    (
+        "unknown-variable",
+        "(decl f (u8) u8) (rule (f value) valeu)",
+    ),
+    (
+        "undeclared-term",
+        "(decl one (u8) u8) (extern constructor oen f)",
+    ),
+    ("unknown-definition", "(rul (f x) x)(decl f (u8) u8)"),
+    ("syntax", "(decl prue f (u8) u8) (rule (f x) x)"),
+    ("syntax", "(decl f (u8) u8) (rule (f x) (iflet y x) y)"),
+    (
+        "overlap",
+        "(decl f (u8 u8) u8) (rule (f x _) x) (rule (f 1 _) 10)",
+    ),
+    (
+        "shadow",
+        "(decl f (u8) u8) (rule 1 (f x) x) (rule ; 0\n -1 (f 1) 10)",
+    ),
+    (
+        "priority",
+        "(decl partial f (u8) u8) (rule ; 1\n 2 (f 1) 10)",
+    ),
+    ("recursion", "(decl ;rec\n rec f (u8) u8) (rule (f x) x)"),
+    (
+        "recursion",
+        "(decl f (u8) u8) (decl g (u8) u8) (rule (f x) (g x)) (rule (g x) (f x))",
+    ),
+    ("uncovered", "(decl f (u8) u8) (rule (f 1) 2)"),
+    ("unused", "(decl partial f (u8) u8) (rule (f y @ 1) 2)"),
+    (
+        "name",
+        "(type C (enum A B)) (decl partial f (C) u8) (rule (f C.A) 1)",
+    ),
+];
+
+// The first report of a code among the errors and the warnings of a document.
+fn report_of<'a>(value: &'a Value, code: &str) -> Option<&'a Value> {
+    for key in ["errors", "warnings"] {
+        for report in value.get(key).and_then(Value::as_array)? {
+            if text_at(report, "/code") == Some(code) {
+                return Some(report);
+            }
+        }
+    }
+    None
+}
+
+// What the first fix of a report makes of a text. Its edits stand in the order of the text.
+fn mended(alloc: Global, text: &str, report: &Value) -> Result<String, Fail> {
+    let mut made = String::new(alloc);
+    let mut at = 0usize;
+    let edits = report.pointer("/fixes/0/edits").and_then(Value::as_array);
+    for edit in edits.ok_or(Fail::from("no edits"))? {
+        let (Some(offset), Some(end), Some(new)) = (
+            number_at(edit, "/offset"),
+            number_at(edit, "/end"),
+            text_at(edit, "/text"),
+        ) else {
+            return Err(Fail::from("no edit"));
+        };
+        made.push_str(text.get(at..offset as usize).unwrap_or(""))?;
+        made.push_str(new)?;
+        at = end as usize;
+    }
+    made.push_str(text.get(at..).unwrap_or(""))?;
+    Ok(made)
+}
+
+// What a fix makes is accepted, and its report is gone.
+#[test]
+fn fixes_mend(rt: HostRuntime) -> Result<(), Fail> {
+    let alloc = rt.alloc();
+    for (code, text) in TO_MEND {
+        let value = document(&rt, alloc, "check --format json a.isle", text)?;
+        let report = report_of(&value, code).ok_or(Fail::from("no report"))?;
+        let made = mended(alloc, text, report)?;
+        let value = document(&rt, alloc, "check --format json a.isle", &made)?;
+        assert!(&rt;
+            is_accepted(&value) && report_of(&value, code).is_none(),
+            "{made}"
+        );
+    }
+    Ok(())
+}

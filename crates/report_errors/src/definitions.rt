@@ -108,19 +108,39 @@ pub fn place_of_template(defs: &[Def], term: &str) -> Option<Pos> {
     None
 }
 
-/// The definition that a place lies in: the last one of its file that begins there or before.
+/// The definition that a place lies in: the last one of its file that begins there or before. The definitions stand in the order
+/// of their places.
 pub fn definition_around(defs: &[Def], pos: Pos) -> Option<&Def> {
-    let mut found = None;
-    let mut begin = 0;
-    for def in defs {
-        if let Some(at) = def.place() {
-            if at.file == pos.file && at.offset <= pos.offset && at.offset >= begin {
-                found = Some(def);
-                begin = at.offset;
-            }
+    let before = defs.get(..count_up_to(defs, pos))?;
+    let def = before.iter().rev().find(|def| def.place().is_some())?;
+    match def.place() {
+        Some(place) if place.file == pos.file => Some(def),
+        _ => None,
+    }
+}
+
+// How many of the first definitions begin at a place or before it: found by halving.
+fn count_up_to(defs: &[Def], pos: Pos) -> usize {
+    let mut count = 0usize;
+    let mut end = defs.len();
+    for _ in 0..usize::BITS {
+        let middle = count.saturating_add(end) / 2;
+        match first_placed(defs, middle, end) {
+            Some((number, place)) if place <= pos => count = number.saturating_add(1),
+            _ => end = middle,
         }
     }
-    found
+    count
+}
+
+// The first definition with a place from a number on up to another one.
+fn first_placed(defs: &[Def], from: usize, end: usize) -> Option<(usize, Pos)> {
+    for number in from..end {
+        if let Some(place) = defs.get(number)?.place() {
+            return Some((number, place));
+        }
+    }
+    None
 }
 
 /// The rule that a place lies in.

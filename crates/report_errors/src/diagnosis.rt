@@ -7,7 +7,7 @@ use crate::reports::report_of as report_of_type_error;
 use crate::undefined_terms::add_uses;
 use crate::unmatched_templates::{Templates, report_of_template};
 use cranelift_isle::syntax::{Def, Error, Limit, Pos, Span};
-use report_print::report::{Level, Report};
+use report_print::report::{Level, Place, Report, Word};
 use report_witness::forms::{ValueForm, push_form};
 use report_witness::witness::{Conflict, conflict_in, left_side, witness};
 use std::alloc::{AllocError, Global};
@@ -358,14 +358,47 @@ fn add_way_out(
     if alike > 0 {
         add_help(source.alloc, report, ONE_OF_ALIKE)?;
     }
+    let Some(first) = rules.first() else {
+        return Ok(());
+    };
     if alike.saturating_add(1) < rules.len() {
-        let above = priority_above(source.defs, rules);
+        let above = priority_above(source.defs, first.from);
         let help = format!(in source.alloc;
             "give one of the rules a greater priority, as (rule {above} ..), or make one pattern narrower"
         )?;
         report.add_note("help", help)?;
+        for rule in rules.iter().take(2) {
+            add_priority(source.alloc, report, source.defs, rule.from, above)?;
+        }
     }
     Ok(())
+}
+
+/// Adds that the rule at a position is given a priority.
+pub fn add_priority(
+    alloc: Global,
+    report: &mut Report,
+    defs: &[Def],
+    pos: Pos,
+    priority: i64,
+) -> Result<(), AllocError> {
+    let Some(rule) = rule_at(defs, pos) else {
+        return Ok(());
+    };
+    let place = match rule.prio {
+        Some(_) => Place::Between(rule.pos, rule.pattern.pos(), Word::Priority),
+        None => Place::Before(rule.pattern.pos()),
+    };
+    let name = match &rule.name {
+        Some(name) => name.0.clone()?,
+        None => left_side(alloc, rule)?,
+    };
+    let title = if name.is_empty() {
+        format!(in alloc; "Give this rule the priority {priority}")?
+    } else {
+        format!(in alloc; "Give the rule `{name}` the priority {priority}")?
+    };
+    report.add_fix(title, place, format!(in alloc; "{priority} ")?)
 }
 
 /// What to do about rules that have the same pattern.
@@ -391,16 +424,13 @@ fn add_rest(alloc: Global, report: &mut Report, count: usize) -> Result<(), Allo
     if count == 0 {
         return Ok(());
     }
-    let text = format!(in alloc; "it overlaps {count} more, shown by `--all`")?;
-    report.add_note("help", text)
+    let text = format!(in alloc; "it overlaps {count} more")?;
+    report.add_counted("help", text)
 }
 
-// A priority above that of rules of one priority, where there is one.
-fn priority_above(defs: &[Def], rules: &[Span]) -> i64 {
-    let Some(first) = rules.first() else {
-        return 1;
-    };
-    match rule_at(defs, first.from) {
+/// A priority above that of the rule at a position, where there is one.
+pub fn priority_above(defs: &[Def], pos: Pos) -> i64 {
+    match rule_at(defs, pos) {
         Some(rule) => priority_of(rule).saturating_add(1),
         None => 1,
     }
@@ -436,8 +466,25 @@ fn shadow(source: Source<'_>, shadowed: &[Span], mask: Span) -> Result<Report, A
     }
     if alike < shadowed.len() {
         add_help(alloc, &mut report, FIRST_TAKEN)?;
+        add_first(alloc, &mut report, source.defs, mask.from)?;
     }
     Ok(report)
+}
+
+/// Adds that the rule at a report's place is given a priority above that of another rule.
+pub fn add_first(
+    alloc: Global,
+    report: &mut Report,
+    defs: &[Def],
+    other: Pos,
+) -> Result<(), AllocError> {
+    match report.labels.first() {
+        Some(label) => {
+            let pos = label.pos;
+            add_priority(alloc, report, defs, pos, priority_above(defs, other))
+        }
+        None => Ok(()),
+    }
 }
 
 // What to do about a rule that another one is taken before.

@@ -5,6 +5,7 @@ use crate::scopes::binding_at;
 use crate::terms_in_errors::{between, path_in, undefined_in, unusable_in};
 use core_syntax::syntax::{Def, Error, Pos};
 use std::alloc::{AllocError, Global};
+use std::collections::BTreeMap;
 
 /// Which errors are shown, by their numbers.
 pub struct Order {
@@ -97,10 +98,12 @@ pub(crate) fn place_of(error: &Error) -> Option<Pos> {
 
 // The errors that others may be told with.
 struct Causes<'a> {
-    // The terms that aren't defined, and the errors that say so.
-    terms: Vec<(&'a str, usize)>,
-    // The cycles of internal extractors.
-    cycles: Vec<Cycle<'a>>,
+    // The terms that aren't defined, each with the first error that says so.
+    terms: BTreeMap<&'a str, usize>,
+    // The cycles of internal extractors that errors tell: of each error the number of its cycle.
+    cycles: Vec<Option<usize>>,
+    // The errors that tell the cycles.
+    leaders: Vec<Leader>,
 }
 
 impl<'a> Drop for Causes<'a> {
@@ -108,100 +111,87 @@ impl<'a> Drop for Causes<'a> {
         let Causes {
             terms: _,
             cycles: _,
+            leaders: _,
         } = self;
     }
+}
+
+// The error that tells a cycle: the first that begins with one of the cycle's extractors, or else the first.
+#[derive(Clone, Copy)]
+struct Leader {
+    number: usize,
+    closed: bool,
 }
 
 // A cycle that an error tells.
+#[derive(Drop)]
 struct Cycle<'a> {
-    // The error.
-    number: usize,
     // Whether the error begins with one of the cycle's extractors.
     closed: bool,
-    // The extractors, each of which names the next.
+    // The extractors, sorted.
     members: Vec<&'a str>,
-}
-
-impl<'a> Drop for Cycle<'a> {
-    fn drop(self) {
-        let Cycle {
-            number: _,
-            closed: _,
-            members: _,
-        } = self;
-    }
 }
 
 impl<'a> Causes<'a> {
     fn new(alloc: Global, errors: &'a [Error]) -> Result<Causes<'a>, AllocError> {
-        let mut terms = Vec::new(alloc);
-        let mut cycles = Vec::new(alloc);
+        let mut causes = Causes {
+            terms: BTreeMap::new(alloc),
+            cycles: Vec::new(alloc),
+            leaders: Vec::new(alloc),
+        };
+        // the numbers of cycles, by their extractors
+        let mut numbers = BTreeMap::new(alloc);
         for (number, error) in errors.iter().enumerate() {
             let words = words_of(error);
             if let Some(term) = undefined_in(words) {
-                terms.push((term, number))?;
+                if !causes.terms.contains_key(&term) {
+                    causes.terms.insert(term, number)?;
+                }
             }
-            if let Some(cycle) = cycle_in(alloc, words, number)? {
-                cycles.push(cycle)?;
-            }
+            let cycle = match cycle_in(alloc, words)? {
+                Some(cycle) => Some(causes.number_of(&mut numbers, cycle, number)?),
+                None => None,
+            };
+            causes.cycles.push(cycle)?;
         }
-        Ok(Causes { terms, cycles })
+        Ok(causes)
+    }
+
+    // The number of a cycle that the error of a number tells.
+    fn number_of(
+        &mut self,
+        numbers: &mut BTreeMap<Vec<&'a str>, usize>,
+        cycle: Cycle<'a>,
+        number: usize,
+    ) -> Result<usize, AllocError> {
+        let Cycle { closed, members } = cycle;
+        let leader = Leader { number, closed };
+        if let Some(known) = numbers.get(&members).copied() {
+            if let Some(first) = self.leaders.get_mut(known) {
+                if closed && !first.closed {
+                    *first = leader;
+                }
+            }
+            return Ok(known);
+        }
+        let known = self.leaders.len();
+        self.leaders.push(leader)?;
+        numbers.insert(members, known)?;
+        Ok(known)
     }
 
     // The error that one is told with, where it is told with a cause.
-    fn of(&self, error: &Error, number: usize) -> Option<usize> {
+    fn of(&self, error: &'a Error, number: usize) -> Option<usize> {
         if let Some(term) = unusable_in(words_of(error)) {
-            return self.cause_of_term(term);
+            return self.terms.get(&term).copied();
         }
-        for cycle in &self.cycles {
-            if cycle.number == number {
-                return Some(self.leader_of_cycle(cycle));
-            }
-        }
-        None
+        let cycle = (*self.cycles.get(number)?)?;
+        Some(self.leaders.get(cycle)?.number)
     }
-
-    // The error that says that a term isn't defined.
-    fn cause_of_term(&self, term: &str) -> Option<usize> {
-        for (name, number) in &self.terms {
-            if *name == term {
-                return Some(*number);
-            }
-        }
-        None
-    }
-
-    // The error that tells a cycle: the first that begins in it, or else the first.
-    fn leader_of_cycle(&self, cycle: &Cycle<'_>) -> usize {
-        let mut first = cycle.number;
-        for other in &self.cycles {
-            if are_one(other, cycle) {
-                if other.closed {
-                    return other.number;
-                }
-                first = first.min(other.number);
-            }
-        }
-        first
-    }
-}
-
-// Whether two cycles have the same extractors.
-fn are_one(left: &Cycle<'_>, right: &Cycle<'_>) -> bool {
-    left.members.len() == right.members.len()
-        && left.members.iter().all(|name| has(&right.members, name))
-}
-
-fn has(names: &[&str], name: &str) -> bool {
-    names.iter().any(|other| *other == name)
 }
 
 // The cycle that an error tells.
-fn cycle_in<'a>(
-    alloc: Global,
-    words: &'a str,
-    number: usize,
-) -> Result<Option<Cycle<'a>>, AllocError> {
+fn cycle_in<'a>(alloc: Global, words: &'a str) -> Result<Option<Cycle<'a>>, AllocError> {
     let Some(path) = path_in(words) else {
         return Ok(None);
     };
@@ -216,12 +206,9 @@ fn cycle_in<'a>(
             members.push(name)?;
         }
     }
+    members.sort()?;
     let closed = way.split(" -> ").next() == Some(last);
-    Ok(Some(Cycle {
-        number,
-        closed,
-        members,
-    }))
+    Ok(Some(Cycle { closed, members }))
 }
 
 // The error that one is told with by what stands before it or behind it. Else itself.

@@ -7,11 +7,13 @@ use crate::tree_sizes::push_returns;
 use crate::way_text::Sites;
 use crate::ways::Search;
 use cranelift_isle::lower::{Lowered, LoweredTerm};
-use cranelift_isle::syntax::{self, Def, Files, Pos};
+use cranelift_isle::syntax::{self, Def, Pos};
 use cranelift_isle::trie_again::{Overlap, Rule};
 use report_print::layout::push_place;
+use report_print::lines::FileLines;
 use report_witness::conditions::{Conditions, conditions_of, given_of};
 use std::alloc::{AllocError, Global};
+use std::collections::BTreeMap;
 
 /// What is said of a rule that is called by its name, by that of its term, by the number of a line that it stands in, or by
 /// the end of its file's path, a colon and that number: its place, what it demands of the term's arguments, in its own words,
@@ -19,18 +21,19 @@ use std::alloc::{AllocError, Global};
 /// match. Of several rules that are so called each is told. The empty text where there is none.
 pub fn explanation(
     alloc: Global,
-    files: &Files,
+    lines: &FileLines<'_>,
     defs: &[Def],
     lowered: &Lowered,
     called: &str,
 ) -> Result<String, AllocError> {
+    let files = lines.files();
     let called = Called::new(alloc, files, called)?;
     let mut out = String::new(alloc);
     for term in &lowered.terms {
         for rule in &term.rules.rules {
             if let Some(written) = rule_at(defs, rule.pos) {
                 if called.is(files, written) {
-                    push_rule(alloc, files, lowered, (term, rule, written), &mut out)?;
+                    push_rule(alloc, lines, lowered, (term, rule, written), &mut out)?;
                 }
             }
         }
@@ -48,7 +51,7 @@ fn rule_name<'a>(lowered: &'a Lowered, rule: &Rule) -> &'a str {
 
 fn push_rule(
     alloc: Global,
-    files: &Files,
+    lines: &FileLines<'_>,
     lowered: &Lowered,
     (term, rule, written): (&LoweredTerm, &Rule, &syntax::Rule),
     out: &mut String,
@@ -57,7 +60,7 @@ fn push_rule(
         tyenv: &lowered.tyenv,
         terms: &lowered.termenv.terms,
     };
-    push_title(files, lowered, rule, out)?;
+    push_title(lines, lowered, rule, out)?;
     push_two(out, " of term ", names.term(term.id))?;
     out.push('\n')?;
     let conditions = conditions_of(alloc, written)?;
@@ -78,7 +81,7 @@ fn push_rule(
         rule: rule.pos,
     };
     search.push_ways(&term.block, out)?;
-    push_firsts(files, lowered, term, rule, out)
+    push_firsts(lines, lowered, term, rule, out)
 }
 
 // Adds what a rule demands, a line each.
@@ -101,19 +104,19 @@ fn push_conditions(
 
 /// Adds a rule's name, place and priority.
 pub fn push_title(
-    files: &Files,
+    lines: &FileLines<'_>,
     lowered: &Lowered,
     rule: &Rule,
     out: &mut String,
 ) -> Result<(), AllocError> {
-    push_rule_place(files, lowered, rule, out)?;
+    push_rule_place(lines, lowered, rule, out)?;
     let priority = rule.prio;
     write!(out, " (priority {priority})")
 }
 
 /// Adds a rule's name and place.
 pub fn push_rule_place(
-    files: &Files,
+    lines: &FileLines<'_>,
     lowered: &Lowered,
     rule: &Rule,
     out: &mut String,
@@ -124,7 +127,7 @@ pub fn push_rule_place(
         write!(out, "`{name}` ")?;
     }
     out.push_str("at ")?;
-    push_place(out, files, rule.pos)
+    push_place(out, lines, rule.pos)
 }
 
 fn push_two(out: &mut String, first: &str, second: &str) -> Result<(), AllocError> {
@@ -134,7 +137,7 @@ fn push_two(out: &mut String, first: &str, second: &str) -> Result<(), AllocErro
 
 // Adds the rules of a term that come first where both they and this rule match.
 fn push_firsts(
-    files: &Files,
+    lines: &FileLines<'_>,
     lowered: &Lowered,
     term: &LoweredTerm,
     rule: &Rule,
@@ -145,14 +148,14 @@ fn push_firsts(
     }
     out.push_str("  these rules come first where they match too\n")?;
     for other in &term.rules.rules {
-        push_first(files, lowered, rule, other, out)?;
+        push_first(lines, lowered, rule, other, out)?;
     }
     Ok(())
 }
 
 // Adds a rule, if it comes first where both it and this rule match.
 fn push_first(
-    files: &Files,
+    lines: &FileLines<'_>,
     lowered: &Lowered,
     rule: &Rule,
     other: &Rule,
@@ -162,7 +165,7 @@ fn push_first(
         return Ok(());
     }
     out.push_str("    ")?;
-    push_title(files, lowered, other, out)?;
+    push_title(lines, lowered, other, out)?;
     out.push('\n')
 }
 
@@ -192,7 +195,7 @@ fn overlaps(rule: &Rule, other: &Rule) -> bool {
 /// place.
 pub fn with_rules(
     alloc: Global,
-    files: &Files,
+    lines: &FileLines<'_>,
     lowered: &Lowered,
     term: &LoweredTerm,
     printed: &str,
@@ -200,12 +203,13 @@ pub fn with_rules(
     let mut places = Vec::new(alloc);
     push_returns(&term.block, &mut places)?;
     let mut places = places.into_iter();
+    let names = rule_names(alloc, lowered, term)?;
     let mut out = String::new(alloc);
     for line in printed.lines() {
         out.push_str(line)?;
         if line.trim_start().starts_with("return ") {
             if let Some(pos) = places.next() {
-                push_origin(&mut out, files, lowered, term, pos)?;
+                push_origin(&mut out, lines, names.get(&pos).copied(), pos)?;
             }
         }
         out.push('\n')?;
@@ -213,19 +217,32 @@ pub fn with_rules(
     Ok(out)
 }
 
-// Adds the name and the place of a rule.
+// The names of the rules of a term that have one, by their positions.
+fn rule_names<'a>(
+    alloc: Global,
+    lowered: &'a Lowered,
+    term: &LoweredTerm,
+) -> Result<BTreeMap<Pos, &'a str>, AllocError> {
+    let mut names = BTreeMap::new(alloc);
+    for rule in &term.rules.rules {
+        let name = rule_name(lowered, rule);
+        if !name.is_empty() {
+            names.insert(rule.pos, name)?;
+        }
+    }
+    Ok(names)
+}
+
+// Adds the name of a rule, where it has one, and its place.
 fn push_origin(
     out: &mut String,
-    files: &Files,
-    lowered: &Lowered,
-    term: &LoweredTerm,
+    lines: &FileLines<'_>,
+    name: Option<&str>,
     pos: Pos,
 ) -> Result<(), AllocError> {
     out.push_str("  ; ")?;
-    for rule in &term.rules.rules {
-        if rule.pos == pos && !rule_name(lowered, rule).is_empty() {
-            push_two(out, rule_name(lowered, rule), " at ")?;
-        }
+    if let Some(name) = name {
+        push_two(out, name, " at ")?;
     }
-    push_place(out, files, pos)
+    push_place(out, lines, pos)
 }

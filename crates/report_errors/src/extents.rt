@@ -1,6 +1,66 @@
-//! Where forms end in their texts.
+//! Where forms end in their texts, and where the pieces are that fixes replace.
 
 use report_print::lines::depth_after;
+use report_print::report::{Place, Word};
+use std::alloc::{AllocError, Global};
+use text_reader::errors::ReadFault;
+use text_reader::source::Source;
+use text_reader::tokens::{Token, tokens};
+
+/// The piece of a file's text that a fix replaces, by where it begins and ends; None where the text has no such piece.
+///
+/// # Errors
+///
+/// Where memory is refused.
+pub fn piece_of(
+    alloc: Global,
+    text: &str,
+    place: Place,
+) -> Result<Option<(usize, usize)>, AllocError> {
+    Ok(match place {
+        Place::Before(pos) => Some((pos.offset, pos.offset)),
+        Place::Name(pos, length) => Some((pos.offset, pos.offset.saturating_add(length))),
+        Place::UpTo(from, to) => Some((from.offset, to.offset)),
+        Place::Form(pos) => Some((pos.offset, end_of_form(text, pos.offset))),
+        Place::Between(from, to, word) => {
+            let between = text.get(from.offset..to.offset).unwrap_or("");
+            match offset_in(alloc, between, word)? {
+                Some(at) => Some(with_blanks(text, from.offset.saturating_add(at))),
+                None => None,
+            }
+        }
+    })
+}
+
+// Where a word stands in a part of a text.
+fn offset_in(alloc: Global, part: &str, word: Word) -> Result<Option<usize>, AllocError> {
+    let source = Source {
+        alloc,
+        file: 0,
+        len: part.len(),
+    };
+    let read = match tokens(source, part) {
+        Ok(read) => read,
+        Err(ReadFault::Memory(error)) => return Err(error),
+        Err(ReadFault::Text(_)) => return Ok(None),
+    };
+    for token in &read {
+        match (token, word) {
+            (Token::Word(name), Word::Rec) if name.0.as_str() == "rec" => {
+                return Ok(Some(name.1.offset));
+            }
+            (Token::Number(_, pos), Word::Priority) => return Ok(Some(pos.offset)),
+            _ => {}
+        }
+    }
+    Ok(None)
+}
+
+// The word that begins at an offset of a text, with the blanks behind it.
+fn with_blanks(text: &str, begin: usize) -> (usize, usize) {
+    let rest = text.get(end_of_form(text, begin)..).unwrap_or("");
+    (begin, text.len().saturating_sub(rest.trim_start().len()))
+}
 
 // Where a walk over a form is.
 #[derive(Clone, Copy, PartialEq, Eq)]

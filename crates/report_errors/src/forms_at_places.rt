@@ -21,8 +21,10 @@ pub(crate) enum Need<'a> {
 /// A form at a place.
 #[derive(Clone, Copy)]
 pub(crate) struct Form<'a> {
-    /// The name of the term, the variable or the constant; else the empty text.
-    pub name: &'a str,
+    /// The name of the term, the variable or the constant.
+    pub name: Option<&'a Ident>,
+    /// The definitions of the let that it is.
+    pub lets: &'a [LetDef],
     /// What needs a type there.
     pub need: Need<'a>,
 }
@@ -41,15 +43,12 @@ pub(crate) fn form_at(defs: &[Def], pos: Pos) -> Option<Form<'_>> {
 
 /// The name that an error at a place speaks of: at the beginning of a definition the term that it is of, or a constant's type;
 /// else the name of the form there.
-pub(crate) fn subject_at(defs: &[Def], pos: Pos) -> Option<&str> {
+pub(crate) fn subject_at(defs: &[Def], pos: Pos) -> Option<&Ident> {
     match definition_around(defs, pos)? {
-        Def::Rule(rule) if rule.pos == pos => Some(root_of(rule)),
-        Def::Extractor(extractor) if extractor.pos == pos => Some(extractor.term.0.as_str()),
-        Def::Extern(external) => Some(subject_of(external).0.as_str()),
-        _ => match form_at(defs, pos) {
-            Some(form) => Some(form.name),
-            None => None,
-        },
+        Def::Rule(rule) if rule.pos == pos => rule.pattern.root_term(),
+        Def::Extractor(extractor) if extractor.pos == pos => Some(&extractor.term),
+        Def::Extern(external) => Some(subject_of(external)),
+        _ => form_at(defs, pos)?.name,
     }
 }
 
@@ -112,6 +111,7 @@ fn in_pattern<'a>(pattern: &'a Pattern, pos: Pos, need: Need<'a>) -> Option<Form
     if pattern.pos() == pos {
         return Some(Form {
             name: name_of_pattern(pattern),
+            lets: &[],
             need,
         });
     }
@@ -149,17 +149,17 @@ fn in_each<'a>(patterns: &'a [Pattern], pos: Pos, need: Need<'a>) -> Option<Form
 }
 
 // The name of the term, the variable or the constant that a pattern begins with.
-fn name_of_pattern(pattern: &Pattern) -> &str {
+fn name_of_pattern(pattern: &Pattern) -> Option<&Ident> {
     match pattern {
         Pattern::Var { var: name, .. }
         | Pattern::BindPattern { var: name, .. }
         | Pattern::ConstPrim { val: name, .. }
-        | Pattern::Term { sym: name, .. } => name.0.as_str(),
+        | Pattern::Term { sym: name, .. } => Some(name),
         Pattern::ConstBool { .. }
         | Pattern::ConstInt { .. }
         | Pattern::Wildcard { .. }
         | Pattern::And { .. }
-        | Pattern::MacroArg { .. } => "",
+        | Pattern::MacroArg { .. } => None,
     }
 }
 
@@ -168,6 +168,7 @@ fn in_expr<'a>(expr: &'a Expr, pos: Pos, need: Need<'a>) -> Option<Form<'a>> {
     if expr.pos() == pos {
         return Some(Form {
             name: name_of_expr(expr),
+            lets: lets_of(expr),
             need,
         });
     }
@@ -207,10 +208,17 @@ fn in_lets(defs: &[LetDef], pos: Pos) -> Option<Form<'_>> {
 }
 
 // The name of the term, the variable or the constant that an expression is.
-fn name_of_expr(expr: &Expr) -> &str {
+fn name_of_expr(expr: &Expr) -> Option<&Ident> {
     match expr {
         Expr::Term { sym: name, .. } | Expr::Var { name, .. } | Expr::ConstPrim { val: name, .. } =>
-            name.0.as_str(),
-        Expr::ConstBool { .. } | Expr::ConstInt { .. } | Expr::Let { .. } => "",
+            { Some(name) }
+        Expr::ConstBool { .. } | Expr::ConstInt { .. } | Expr::Let { .. } => None,
+    }
+}
+
+fn lets_of(expr: &Expr) -> &[LetDef] {
+    match expr {
+        Expr::Let { defs, .. } => defs.as_slice(),
+        _ => &[],
     }
 }

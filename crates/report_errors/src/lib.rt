@@ -7,13 +7,15 @@ ghost use Rattle.std.specs.Prelude.{◌≡◌, ◌++◌, ◌∷◌, [], IfOk, Li
 ghost use Rattle.core_syntax.specs.declared.syntax.Pos.{Pos};
 ghost use Rattle.report_errors.specs.Places.{AreAtError, IsAtError, begin_of, places_of};
 
-use crate::misspelled::question_at;
+use crate::misspelled::add_question_at;
 use crate::unclosed::line_with_list;
 use core_syntax::syntax::Pos;
-use report_print::report::{Label, Level, Note, Report};
+use report_print::report::{Label, Level, Place, Report};
 use std::alloc::{AllocError, Global};
 use text_reader::errors::{Mistake, Problem, TextError};
+use text_reader::heads::nearest;
 
+mod codes;
 pub mod definitions;
 pub mod diagnosis;
 pub mod error_order;
@@ -50,16 +52,9 @@ pub mod ways;
 pub fn syntax_report(alloc: Global, text: &str, error: &TextError) -> Result<Report, AllocError>
     ensures { IfOk result (IsAtError error.now) }
 {
-    let message = format!(in alloc; "{error}")?;
-    let labels = labels_of(alloc, text, error)?;
-    let notes = notes_of(alloc, text, error)?;
-    Ok(Report {
-        level: Level::Error,
-        kind: "syntax",
-        message,
-        labels,
-        notes,
-    })
+    let mut report = meant(alloc, text, error)?;
+    report.labels = labels_of(alloc, text, error)?;
+    Ok(report)
 }
 
 // The places of what is wrong with a text.
@@ -131,17 +126,28 @@ const FLAGS: [&str; 4] = ["pure", "multi", "partial", "rec"];
 // The words that a further condition of a rule may begin with.
 const STATEMENTS: [&str; 2] = ["if-let", "if"];
 
-// The word that may be meant where one of a few is expected.
-fn notes_of(alloc: Global, text: &str, error: &TextError) -> Result<Vec<Note>, AllocError> {
-    let offset = error.pos.offset;
-    let question = match &error.problem {
-        Problem::Expected(Mistake::Flag) => question_at(alloc, text, offset, &FLAGS)?,
-        Problem::Expected(Mistake::Statement) => question_at(alloc, text, offset, &STATEMENTS)?,
-        _ => None,
-    };
-    let mut notes = Vec::new(alloc);
-    if let Some(text) = question {
-        notes.push(Note { word: "help", text })?;
+// What is said of a mistake, without its places: with the word that may be meant where one of a few is expected.
+fn meant(alloc: Global, text: &str, error: &TextError) -> Result<Report, AllocError> {
+    let message = format!(in alloc; "{error}")?;
+    let mut report = Report::new(alloc, Level::Error, "syntax", message);
+    let pos = error.pos;
+    match &error.problem {
+        Problem::Expected(Mistake::Flag) => {
+            add_question_at(alloc, &mut report, text, pos, &FLAGS)?;
+        }
+        Problem::Expected(Mistake::Statement) => {
+            add_question_at(alloc, &mut report, text, pos, &STATEMENTS)?;
+        }
+        Problem::UnknownDefinition(word) => {
+            report.code = "unknown-definition";
+            if let Some(known) = nearest(word) {
+                let title = format!(in alloc; "Write `{known}`")?;
+                let known = String::from_str(alloc, known)?;
+                report.add_fix(title, Place::Name(pos, word.len()), known)?;
+            }
+        }
+        Problem::Unclosed(_) => report.code = "unclosed-list",
+        Problem::Expected(_) => {}
     }
-    Ok(notes)
+    Ok(report)
 }

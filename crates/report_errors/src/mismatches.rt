@@ -88,7 +88,10 @@ fn add_own(
     msg: &str,
     pos: Pos,
 ) -> Result<(), AllocError> {
-    let name = form.name;
+    let Some(name) = form.name else {
+        return Ok(());
+    };
+    let name = name.0.as_str();
     if msg.contains(" but term has return type '") {
         return add_result(alloc, report, defs, name);
     }

@@ -1,35 +1,34 @@
 //! Words that stand where only a few are known.
 
+use crate::extents::end_of_form;
 use crate::nearest::Nearest;
+use core_syntax::syntax::Pos;
+use report_print::report::Report;
 use std::alloc::{AllocError, Global};
 
-/// The question whether one of the words that are known at a place of a text is meant there, or None if none is near. If a list
+/// Adds the question whether one of the words that are known at a place of a text is meant there, where one is near. If a list
 /// begins at the place, it is its first word.
 ///
 /// # Errors
 ///
 /// Where memory is refused.
-pub fn question_at(
+pub fn add_question_at(
     alloc: Global,
+    report: &mut Report,
     text: &str,
-    offset: usize,
+    pos: Pos,
     known: &[&str],
-) -> Result<Option<String>, AllocError> {
-    let mut nearest = Nearest::new(alloc, "", word_at(text, offset))?;
+) -> Result<(), AllocError> {
+    let rest = text.get(pos.offset..).unwrap_or("");
+    let word = rest.strip_prefix("(").unwrap_or(rest).trim_start();
+    let pos = Pos {
+        file: pos.file,
+        offset: text.len().saturating_sub(word.len()),
+    };
+    let end = end_of_form(word, 0);
+    let mut nearest = Nearest::new(alloc, "", word.get(..end).unwrap_or(""))?;
     for word in known {
         nearest.offer(word)?;
     }
-    nearest.question()
-}
-
-// The word that begins at a place of a text, or the first one of the list that does.
-fn word_at(text: &str, offset: usize) -> &str {
-    let rest = text.get(offset..).unwrap_or("");
-    let rest = rest.strip_prefix("(").unwrap_or(rest).trim_start();
-    for (at, c) in rest.char_indices() {
-        if c.is_whitespace() || matches!(c, '(' | ')' | ';') {
-            return rest.get(..at).unwrap_or("");
-        }
-    }
-    rest
+    nearest.add_to(report, pos)
 }

@@ -1,5 +1,6 @@
 //! What names, types, terms and rules are called.
 
+use crate::definitions::rule_around;
 use cranelift_isle::sema::{Sym, Term, TermId, Type, TypeEnv, TypeId, VariantId};
 use cranelift_isle::syntax::{Def, Pos, Rule};
 
@@ -57,16 +58,9 @@ impl<'a> NameTables<'a> {
     }
 }
 
-/// The rule that is defined at a position.
+/// The rule that is defined at a position. The definitions stand in the order of their places.
 pub fn rule_at(defs: &[Def], pos: Pos) -> Option<&Rule> {
-    for def in defs {
-        if let Def::Rule(rule) = def {
-            if rule.pos == pos {
-                return Some(rule);
-            }
-        }
-    }
-    None
+    rule_around(defs, pos).filter(|rule| rule.pos == pos)
 }
 
 /// The name that a rule is given, or the empty text.

@@ -77,12 +77,12 @@ fn repeat_in<'a>(defs: &'a [Def], msg: &'a str, pos: Pos) -> Option<Repeat<'a>> 
     }
     match msg {
         "Duplicate external constructor definition" => {
-            Some(Repeat::Constructor(subject_at(defs, pos)?))
+            Some(Repeat::Constructor(subject_at(defs, pos)?.0.as_str()))
         }
         "Duplicate extractor definition"
         | "Duplicate external extractor definition"
         | "Cannot define external extractor for term that already has an internal extractor macro body defined" =>
-            { Some(Repeat::Extractor(subject_at(defs, pos)?)) }
+            { Some(Repeat::Extractor(subject_at(defs, pos)?.0.as_str())) }
         _ => named_in(msg),
     }
 }

@@ -1,11 +1,12 @@
 //! The reports of type errors.
 
+use crate::codes::code_of;
 use crate::definitions::{place_of_template, place_of_term};
 use crate::forms_at_places::subject_at;
 use crate::mismatches::{add_binding, add_types};
 use crate::repeats::other_places;
 use crate::terms_in_errors::{between, path_in, term_in};
-use crate::unknown::{question, unknown_in};
+use crate::unknown::{add_question, unknown_in};
 use core_syntax::syntax::{Def, Pos};
 use report_print::report::{Level, Report};
 use std::alloc::{AllocError, Global};
@@ -58,13 +59,16 @@ const NAMELESS: [(&str, &str, &str); 8] = [
 pub fn report_of(alloc: Global, defs: &[Def], msg: &str, pos: Pos) -> Result<Report, AllocError> {
     let message = worded(alloc, defs, msg, pos)?;
     let mut report = Report::new(alloc, Level::Error, "type", message);
+    report.code = code_of(msg);
     report.add_label(pos, String::new(alloc))?;
     add_repeats(alloc, &mut report, defs, msg, pos)?;
     add_term(alloc, &mut report, defs, msg, pos)?;
     add_types(alloc, &mut report, defs, msg, pos)?;
     add_first_binding(alloc, &mut report, defs, msg, pos)?;
     add_cycle(alloc, &mut report, defs, msg)?;
-    add_question(alloc, &mut report, defs, msg, pos)?;
+    if let Some(unknown) = unknown_in(defs, msg, pos) {
+        add_question(alloc, &mut report, defs, unknown)?;
+    }
     Ok(report)
 }
 
@@ -73,6 +77,7 @@ fn worded(alloc: Global, defs: &[Def], msg: &str, pos: Pos) -> Result<String, Al
     for (words, begin, end) in NAMELESS {
         if msg == words {
             if let Some(name) = subject_at(defs, pos) {
+                let name = &name.0;
                 return format!(in alloc; "{begin}{name}{end}");
             }
         }
@@ -148,21 +153,4 @@ fn add_cycle(
         }
     }
     Ok(())
-}
-
-// Adds the names that may be meant in place of an unknown one.
-fn add_question(
-    alloc: Global,
-    report: &mut Report,
-    defs: &[Def],
-    msg: &str,
-    pos: Pos,
-) -> Result<(), AllocError> {
-    let Some(unknown) = unknown_in(defs, msg, pos) else {
-        return Ok(());
-    };
-    match question(alloc, defs, unknown, pos)? {
-        Some(text) => report.add_note("help", text),
-        None => Ok(()),
-    }
 }

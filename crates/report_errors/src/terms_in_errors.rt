@@ -51,7 +51,7 @@ const OF_ROOTS: [&str; 7] = [
 pub(crate) fn term_in<'a>(defs: &'a [Def], msg: &'a str, pos: Pos) -> Option<&'a str> {
     for begin in OF_ROOTS {
         if msg.starts_with(begin) {
-            return subject_at(defs, pos);
+            return Some(subject_at(defs, pos)?.0.as_str());
         }
     }
     for (begin, end) in OF_TERMS {
@@ -86,12 +86,13 @@ pub(crate) fn path_in(msg: &str) -> Option<&str> {
     Some(path)
 }
 
-/// What stands between a beginning and an end in a text that begins so; all that follows where the end is empty.
+/// What stands between a beginning and the last such end in a text that begins so; all that follows where the end is empty. A
+/// name may have quotes.
 pub(crate) fn between<'a>(text: &'a str, begin: &str, end: &str) -> Option<&'a str> {
     let rest = text.strip_prefix(begin)?;
     if end.is_empty() {
         return Some(rest);
     }
-    let (found, _) = rest.split_once(end)?;
+    let (found, _) = rest.rsplit_once(end)?;
     Some(found)
 }

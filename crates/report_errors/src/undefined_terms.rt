@@ -33,8 +33,8 @@ pub fn add_uses(
     let count = users.len();
     let word = word_for(&users);
     let ending = if count == 1 { "" } else { "s" };
-    let text = format!(in alloc; "used by {count} {word}{ending}, shown by `--all`")?;
-    report.add_note("note", text)
+    let text = format!(in alloc; "used by {count} {word}{ending}")?;
+    report.add_counted("note", text)
 }
 
 // The places of the errors that are told with one.

@@ -1,11 +1,12 @@
 //! The names that errors say aren't known, and those that may be meant.
 
 use crate::definitions::rule_around;
-use crate::forms_at_places::subject_at;
+use crate::forms_at_places::{form_at, subject_at};
 use crate::nearest::Nearest;
 use crate::scopes::variables_at;
-use core_syntax::syntax::{Def, Extern, Pos, Type, TypeValue, Variant};
+use core_syntax::syntax::{Def, Extern, LetDef, Pos, Type, TypeValue, Variant};
 use core_types::BuiltinType;
+use report_print::report::Report;
 use std::alloc::{AllocError, Global};
 
 /// What a name stands for.
@@ -26,6 +27,8 @@ pub(crate) struct Unknown<'a> {
     pub kind: Kind,
     /// The name.
     pub name: &'a str,
+    /// Where it stands.
+    pub pos: Pos,
 }
 
 // How errors begin whose words have the unknown name in quotes.
@@ -47,18 +50,41 @@ const QUOTED: [(&str, Kind); 11] = [
 pub(crate) fn unknown_in<'a>(defs: &'a [Def], msg: &'a str, pos: Pos) -> Option<Unknown<'a>> {
     if let Some(kind) = kind_without_name(msg) {
         let name = subject_at(defs, pos)?;
-        return Some(Unknown { kind, name });
+        return Some(Unknown {
+            kind,
+            name: name.0.as_str(),
+            pos: name.1,
+        });
     }
     if let Some(name) = type_of_let(msg) {
         let kind = Kind::Type;
-        return Some(Unknown { kind, name });
+        let pos = place_in_lets(form_at(defs, pos)?.lets, name)?;
+        return Some(Unknown { kind, name, pos });
     }
-    if let Some((_, name)) = msg.split_once("` extractor definition references unknown term `") {
-        let kind = Kind::Term;
-        let name = name.strip_suffix("`")?;
-        return Some(Unknown { kind, name });
+    let (name, kind) = match msg.split_once("` extractor definition references unknown term `") {
+        Some((_, name)) => (name.strip_suffix("`")?, Kind::Term),
+        None => quoted_in(msg)?,
+    };
+    let pos = place_of_name(defs, name, pos);
+    Some(Unknown { kind, name, pos })
+}
+
+// Where the name stands that an error at a place speaks of: in the form there, or at the place itself.
+fn place_of_name(defs: &[Def], name: &str, pos: Pos) -> Pos {
+    match subject_at(defs, pos) {
+        Some(subject) if subject.0.as_str() == name => subject.1,
+        _ => pos,
     }
-    quoted_in(msg)
+}
+
+// Where a type stands in the definitions of a let.
+fn place_in_lets(lets: &[LetDef], name: &str) -> Option<Pos> {
+    for def in lets {
+        if def.ty.0.as_str() == name {
+            return Some(def.ty.1);
+        }
+    }
+    None
 }
 
 // What is unknown, by an error's words that have no name.
@@ -81,11 +107,10 @@ fn type_of_let(msg: &str) -> Option<&str> {
 }
 
 // The unknown name, by an error's words that have it in quotes.
-fn quoted_in(msg: &str) -> Option<Unknown<'_>> {
+fn quoted_in(msg: &str) -> Option<(&str, Kind)> {
     for (begin, kind) in QUOTED {
         if let Some(rest) = msg.strip_prefix(begin) {
-            let name = before_quote(rest);
-            return Some(Unknown { kind, name });
+            return Some((before_quote(rest), kind));
         }
     }
     None
@@ -105,13 +130,13 @@ fn before_quote(words: &str) -> &str {
     }
 }
 
-/// The question whether another name is meant than one that isn't known at a place, or None where no name is near.
-pub(crate) fn question(
+/// Adds the question whether another name is meant than one that isn't known, where one is near.
+pub(crate) fn add_question(
     alloc: Global,
+    report: &mut Report,
     defs: &[Def],
     unknown: Unknown<'_>,
-    pos: Pos,
-) -> Result<Option<String>, AllocError> {
+) -> Result<(), AllocError> {
     let sign = if unknown.kind == Kind::Constant {
         "$"
     } else {
@@ -120,13 +145,13 @@ pub(crate) fn question(
     let mut nearest = Nearest::new(alloc, sign, unknown.name)?;
     match unknown.kind {
         Kind::Type => offer_builtins(&mut nearest)?,
-        Kind::Variable => offer_variables(alloc, &mut nearest, defs, pos)?,
+        Kind::Variable => offer_variables(alloc, &mut nearest, defs, unknown.pos)?,
         Kind::Term | Kind::Declared | Kind::Constant => {}
     }
     for def in defs {
         offer_definition(&mut nearest, def, unknown.kind)?;
     }
-    nearest.question()
+    nearest.add_to(report, unknown.pos)
 }
 
 // Offers the names of the built-in types.

@@ -149,7 +149,7 @@ pub(crate) fn report_of_template(
     add_form(alloc, &mut report, "must be ", one.conflict.first)?;
     add_form(alloc, &mut report, "must be ", one.conflict.second)?;
     let count = count_users(alloc, defs, one.extractor)?;
-    report.add_note("note", users_text(alloc, count)?)?;
+    report.add_counted("note", users_text(alloc, count)?)?;
     add_help(
         alloc,
         &mut report,
@@ -161,7 +161,7 @@ pub(crate) fn report_of_template(
 // How many rules use an extractor, and so can't match.
 fn users_text(alloc: Global, count: usize) -> Result<String, AllocError> {
     if count == 1 {
-        return String::from_str(alloc, "1 rule uses it and can't match, shown by `--all`");
+        return String::from_str(alloc, "1 rule uses it and can't match");
     }
-    format!(in alloc; "{count} rules use it and can't match, shown by `--all`")
+    format!(in alloc; "{count} rules use it and can't match")
 }

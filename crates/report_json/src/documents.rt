@@ -160,7 +160,7 @@ fn push_empty(json: &mut Json, key: &str) -> Result<(), AllocError> {
 
 fn push_terms(
     json: &mut Json,
-    shown: &Shown<'_>,
+    shown: &Shown<'_, '_>,
     terms: &[&LoweredTerm],
 ) -> Result<(), AllocError> {
     json.begin_at("terms", '[')?;

@@ -2,7 +2,9 @@
 
 use crate::places::LinePlaces;
 use crate::writer::Json;
-use report_print::report::{Label, Note, Report};
+use report_errors::extents::piece_of;
+use report_print::lines::{file_name, file_text};
+use report_print::report::{Edit, Fix, Label, Note, Report};
 use std::alloc::AllocError;
 
 /// Adds reports at a key, in order.
@@ -26,10 +28,43 @@ fn push_report(
 ) -> Result<(), AllocError> {
     json.begin('{')?;
     json.key_string("kind", report.kind)?;
+    json.key_string("code", report.code)?;
     json.key_string("message", &report.message)?;
     push_labels(json, places, &report.labels)?;
     push_notes(json, "help", "help", &report.notes)?;
     push_notes(json, "witness", "note", &report.notes)?;
+    push_fixes(json, places, &report.fixes)?;
+    json.end('}')
+}
+
+// Adds fixes, the most likely first.
+fn push_fixes(json: &mut Json, places: &LinePlaces<'_>, fixes: &[Fix]) -> Result<(), AllocError> {
+    json.begin_at("fixes", '[')?;
+    for fix in fixes {
+        json.begin('{')?;
+        json.key_string("title", &fix.title)?;
+        json.begin_at("edits", '[')?;
+        for edit in &fix.edits {
+            push_edit(json, places, edit)?;
+        }
+        json.end(']')?;
+        json.end('}')?;
+    }
+    json.end(']')
+}
+
+// Adds an edit: its file, the offsets where it begins and ends, and the new text.
+fn push_edit(json: &mut Json, places: &LinePlaces<'_>, edit: &Edit) -> Result<(), AllocError> {
+    let file = edit.place.pos().file;
+    let text = file_text(places.files(), file);
+    let Some((begin, end)) = piece_of(*edit.text.allocator(), text, edit.place)? else {
+        return Ok(());
+    };
+    json.begin('{')?;
+    json.key_string("file", file_name(places.files(), file))?;
+    json.key_number("offset", begin)?;
+    json.key_number("end", end)?;
+    json.key_string("text", &edit.text)?;
     json.end('}')
 }
 
@@ -54,7 +89,7 @@ fn push_notes(json: &mut Json, key: &str, word: &str, notes: &[Note]) -> Result<
     json.begin_at(key, '[')?;
     for note in notes {
         if note.word == word {
-            json.string(&note.text)?;
+            json.string(&note.told()?)?;
         }
     }
     json.end(']')

@@ -10,21 +10,21 @@ use crate::typed_rules::TypedForms;
 use crate::writer::Json;
 use cranelift_isle::lower::LoweredTerm;
 use cranelift_isle::sema::TypeId;
+use cranelift_isle::serialize::{Block, ControlFlow};
 use cranelift_isle::trie_again::{BindingId, Rule, RuleSet};
 use report_errors::explanation::comes_first;
 use report_errors::names::NameTables;
 use report_queries::variable_sites::KnownSites;
-use report_queries::walk::steps;
 use std::alloc::{AllocError, Global};
 
 /// What terms are shown with.
 #[derive(Clone, Copy)]
-pub(crate) struct Shown<'a> {
+pub(crate) struct Shown<'a, 'f> {
     pub(crate) alloc: Global,
     /// What names are looked up in.
     pub(crate) names: NameTables<'a>,
     /// The places of files.
-    pub(crate) places: &'a LinePlaces<'a>,
+    pub(crate) places: &'a LinePlaces<'f>,
     /// The typed rules.
     pub(crate) typed: &'a TypedForms<'a>,
 }
@@ -32,7 +32,7 @@ pub(crate) struct Shown<'a> {
 /// Adds a term with rules.
 pub(crate) fn push_term(
     json: &mut Json,
-    shown: &Shown<'_>,
+    shown: &Shown<'_, '_>,
     term: &LoweredTerm,
 ) -> Result<(), AllocError> {
     json.begin('{')?;
@@ -51,7 +51,7 @@ pub(crate) fn push_term(
 
 fn push_all_sites(
     json: &mut Json,
-    shown: &Shown<'_>,
+    shown: &Shown<'_, '_>,
     arguments: &[TypeId],
     term: &LoweredTerm,
 ) -> Result<(), AllocError> {
@@ -61,7 +61,7 @@ fn push_all_sites(
 }
 
 // Adds the rules of a set, in the order of their numbers.
-fn push_rules(json: &mut Json, shown: &Shown<'_>, set: &RuleSet) -> Result<(), AllocError> {
+fn push_rules(json: &mut Json, shown: &Shown<'_, '_>, set: &RuleSet) -> Result<(), AllocError> {
     let sites = KnownSites::new(shown.alloc, shown.names.terms, &set.bindings)?;
     json.begin_at("rules", '[')?;
     for rule in &set.rules {
@@ -91,10 +91,31 @@ fn marked_sites(alloc: Global, term: &LoweredTerm) -> Result<Vec<bool>, AllocErr
     for _ in &term.rules.bindings {
         marked.push(false)?;
     }
-    for visit in &steps(alloc, &term.block)? {
-        mark(&mut marked, &visit.step.bind_order);
-    }
+    mark_block(&mut marked, &term.block);
     Ok(marked)
+}
+
+#[cycle(marks)]
+fn mark_block(marked: &mut Vec<bool>, block: &Block) {
+    for step in &block.steps {
+        mark(marked, &step.bind_order);
+        mark_inside(marked, &step.check);
+    }
+}
+
+#[cycle(marks)]
+fn mark_inside(marked: &mut Vec<bool>, check: &ControlFlow) {
+    match check {
+        ControlFlow::Match { arms, .. } => {
+            for arm in arms {
+                mark_block(marked, &arm.body);
+            }
+        }
+        ControlFlow::Equal { body, .. } | ControlFlow::Loop { body, .. } => mark_block(
+            marked, body,
+        ),
+        ControlFlow::Return { .. } => {}
+    }
 }
 
 fn mark(marked: &mut Vec<bool>, sites: &[BindingId]) {

@@ -2,6 +2,7 @@
 
 use cranelift_isle::sema::{Expr, Rule, TermEnv, TermId};
 use std::alloc::{AllocError, Global};
+use std::collections::BTreeMap;
 
 /// The terms with rules that the rules of each term call, each once: by their numbers.
 pub(crate) fn calls_of(alloc: Global, termenv: &TermEnv) -> Result<Vec<Vec<usize>>, AllocError> {
@@ -71,10 +72,7 @@ pub(crate) fn cycle_of(
     if calls_none(calls, start) {
         return Ok(None);
     }
-    let mut callers: Vec<Option<usize>> = Vec::new(alloc);
-    for _ in calls {
-        callers.push(None)?;
-    }
+    let mut callers = BTreeMap::new(alloc);
     let mut reached = Vec::new(alloc);
     reached.push(start)?;
     for number in 0..calls.len() {
@@ -107,7 +105,7 @@ fn is_among(called: Option<&Vec<usize>>, term: usize) -> bool {
 
 // Notes the caller of each term that a caller is the first to call.
 fn reach(
-    callers: &mut Vec<Option<usize>>,
+    callers: &mut BTreeMap<usize, usize>,
     reached: &mut Vec<usize>,
     caller: usize,
     called: Option<&Vec<usize>>,
@@ -116,31 +114,26 @@ fn reach(
         return Ok(());
     };
     for term in called {
-        if let Some(place) = callers.get_mut(*term) {
-            if place.is_none() {
-                *place = Some(caller);
-                reached.push(*term)?;
-            }
+        if !callers.contains_key(term) {
+            callers.insert(*term, caller)?;
+            reached.push(*term)?;
         }
     }
     Ok(())
 }
 
-fn caller_of(callers: &[Option<usize>], term: usize) -> Option<usize> {
-    match callers.get(term) {
-        Some(caller) => *caller,
-        None => None,
-    }
-}
-
 // The terms from the one without a caller to this one.
-fn way_to(alloc: Global, callers: &[Option<usize>], last: usize) -> Result<Vec<usize>, AllocError> {
+fn way_to(
+    alloc: Global,
+    callers: &BTreeMap<usize, usize>,
+    last: usize,
+) -> Result<Vec<usize>, AllocError> {
     let mut way = Vec::new(alloc);
     let mut next = Some(last);
-    for _ in callers {
+    for _ in 0..callers.len().saturating_add(1) {
         if let Some(term) = next {
             way.push(term)?;
-            next = caller_of(callers, term);
+            next = callers.get(&term).copied();
         }
     }
     way.reverse();

@@ -29,11 +29,11 @@ impl<'a> Drop for Told<'a> {
 
 // The rules of a term in two versions.
 #[derive(Clone, Copy)]
-struct Rules<'a> {
+struct Rules<'a, 'f> {
     alloc: Global,
     term: &'a str,
-    old: Version<'a>,
-    new: Version<'a>,
+    old: Version<'a, 'f>,
+    new: Version<'a, 'f>,
     before: &'a [Told<'a>],
     now: &'a [Told<'a>],
 }
@@ -44,7 +44,11 @@ struct Rules<'a> {
 /// # Errors
 ///
 /// Where memory is refused.
-pub fn changes(alloc: Global, old: Version<'_>, new: Version<'_>) -> Result<String, AllocError> {
+pub fn changes(
+    alloc: Global,
+    old: Version<'_, '_>,
+    new: Version<'_, '_>,
+) -> Result<String, AllocError> {
     let mut out = String::new(alloc);
     for term in &new.lowered.terms {
         push_term(alloc, old, new, term, &mut out)?;
@@ -61,8 +65,8 @@ pub fn changes(alloc: Global, old: Version<'_>, new: Version<'_>) -> Result<Stri
 // Adds what changed of a term of the new version.
 fn push_term(
     alloc: Global,
-    old: Version<'_>,
-    new: Version<'_>,
+    old: Version<'_, '_>,
+    new: Version<'_, '_>,
     term: &LoweredTerm,
     out: &mut String,
 ) -> Result<(), AllocError> {
@@ -92,8 +96,8 @@ fn tree_text(alloc: Global, lowered: &Lowered, term: &LoweredTerm) -> Result<Str
 
 fn changes_of_rules(
     alloc: Global,
-    old: Version<'_>,
-    new: Version<'_>,
+    old: Version<'_, '_>,
+    new: Version<'_, '_>,
     term: &str,
 ) -> Result<String, AllocError> {
     let before = rules_of(alloc, old.defs, term)?;
@@ -126,7 +130,7 @@ fn rules_of<'a>(alloc: Global, defs: &'a [Def], term: &str) -> Result<Vec<Told<'
     Ok(rules)
 }
 
-impl<'a> Rules<'a> {
+impl<'a, 'f> Rules<'a, 'f> {
     // Adds the rules that the old version doesn't have.
     fn push_came(self, out: &mut String) -> Result<(), AllocError> {
         let mut count = 0usize;
@@ -195,8 +199,8 @@ impl<'a> Rules<'a> {
     // Adds which rule of another version takes what a rule matches, where its own version takes this rule for it.
     fn push_taker(
         self,
-        version: Version<'_>,
-        other: Version<'_>,
+        version: Version<'_, '_>,
+        other: Version<'_, '_>,
         rule: &Rule,
         before: &str,
         out: &mut String,
@@ -242,18 +246,22 @@ fn is_same(left: &Told<'_>, right: &Told<'_>) -> bool {
 }
 
 // Begins a line with a rule.
-fn push_rule(out: &mut String, version: Version<'_>, rule: &Rule) -> Result<(), AllocError> {
+fn push_rule(out: &mut String, version: Version<'_, '_>, rule: &Rule) -> Result<(), AllocError> {
     out.push_str("  ")?;
     push_rule_name(out, version, rule)
 }
 
 // Adds a rule's name, where it has one, and its place.
-fn push_rule_name(out: &mut String, version: Version<'_>, rule: &Rule) -> Result<(), AllocError> {
+fn push_rule_name(
+    out: &mut String,
+    version: Version<'_, '_>,
+    rule: &Rule,
+) -> Result<(), AllocError> {
     let name = name_of(rule);
     out.push_str("rule ")?;
     if !name.is_empty() {
         write!(out, "`{name}` ")?;
     }
     out.push_str("at ")?;
-    push_place(out, version.files, rule.pos)
+    push_place(out, version.lines, rule.pos)
 }

@@ -1,8 +1,6 @@
 //! Which values constraints leave over.
 
-use cranelift_isle::sema::{
-    BuiltinType, Fields, IntType, Type, TypeEnv, TypeId, Variant, VariantId,
-};
+use cranelift_isle::sema::{BuiltinType, Fields, IntType, Type, TypeEnv, TypeId, Variant};
 use cranelift_isle::serialize::{Block, ControlFlow, MatchArm};
 use cranelift_isle::trie_again::{Constraint, TupleIndex};
 use std::alloc::{AllocError, Global};
@@ -44,7 +42,7 @@ fn arms_end(alloc: Global, tyenv: &TypeEnv, arms: &[MatchArm]) -> Result<bool, A
 // Whether each value has an arm.
 fn are_total(alloc: Global, tyenv: &TypeEnv, arms: &[MatchArm]) -> Result<bool, AllocError> {
     let constraints = constraints_of(alloc, arms)?;
-    Ok(cover(tyenv, &constraints))
+    cover(alloc, tyenv, &constraints)
 }
 
 /// The constraints of arms.
@@ -60,54 +58,73 @@ pub(crate) fn constraints_of(
 }
 
 /// Whether each value meets one of these constraints, which are all of one type. Of a named constant no value is known.
-pub(crate) fn cover(tyenv: &TypeEnv, constraints: &[Constraint]) -> bool {
-    match known(constraints) {
+pub(crate) fn cover(
+    alloc: Global,
+    tyenv: &TypeEnv,
+    constraints: &[Constraint],
+) -> Result<bool, AllocError> {
+    let asked = Asked::by(alloc, constraints)?;
+    Ok(match known(constraints) {
         Some(Constraint::Struct { .. }) => true,
-        Some(Constraint::Variant { ty, .. }) => free_variant(tyenv, ty, constraints).is_none(),
-        Some(Constraint::ConstBool { .. }) => free_bool(constraints).is_none(),
+        Some(Constraint::Variant { ty, .. }) => asked.free_variant(tyenv, ty).is_none(),
+        Some(Constraint::ConstBool { .. }) => asked.free_bool().is_none(),
         Some(Constraint::ConstInt { ty, .. }) => match int_type(tyenv, ty) {
-            Some(int) => free_int(int, constraints).is_none(),
+            Some(int) => asked.free_int(int).is_none(),
             None => false,
         },
         Some(Constraint::ConstPrim { .. } | Constraint::Some) | None => false,
-    }
+    })
 }
 
 /// A constraint that a value meets that meets none of these, if one is known.
-pub(crate) fn left_over(tyenv: &TypeEnv, constraints: &[Constraint]) -> Option<Constraint> {
-    match known(constraints)? {
-        Constraint::Variant { ty, .. } => {
-            let variant = free_variant(tyenv, ty, constraints)?;
-            constraint_of(ty, variant)
-        }
-        Constraint::ConstBool { ty, .. } => {
-            let val = free_bool(constraints)?;
-            Some(Constraint::ConstBool { val, ty })
-        }
-        Constraint::ConstInt { ty, .. } => {
-            let val = free_int(int_type(tyenv, ty)?, constraints)?;
-            Some(Constraint::ConstInt { val, ty })
-        }
-        Constraint::Struct { .. } | Constraint::ConstPrim { .. } | Constraint::Some => None,
-    }
+pub(crate) fn left_over(
+    alloc: Global,
+    tyenv: &TypeEnv,
+    constraints: &[Constraint],
+) -> Result<Option<Constraint>, AllocError> {
+    let asked = Asked::by(alloc, constraints)?;
+    Ok(match known(constraints) {
+        Some(Constraint::Variant { ty, .. }) => match asked.free_variant(tyenv, ty) {
+            Some(variant) => constraint_of(ty, variant),
+            None => None,
+        },
+        Some(Constraint::ConstInt { ty, .. }) => match int_type(tyenv, ty) {
+            Some(int) => asked
+                .free_int(int)
+                .map(|val| Constraint::ConstInt { val, ty }),
+            None => None,
+        },
+        Some(Constraint::ConstBool { ty, .. }) => asked
+            .free_bool()
+            .map(|val| Constraint::ConstBool { val, ty }),
+        Some(Constraint::Struct { .. } | Constraint::ConstPrim { .. } | Constraint::Some) | None =>
+            None,
+    })
 }
 
 /// The constraint that each value meets that meets none of these, if one is known.
-pub(crate) fn only_left(tyenv: &TypeEnv, constraints: &[Constraint]) -> Option<Constraint> {
-    match known(constraints)? {
-        Constraint::Variant { ty, .. } => {
-            let variant = only_variant(tyenv, ty, constraints)?;
-            constraint_of(ty, variant)
-        }
-        Constraint::ConstBool { ty, .. } => {
-            let val = free_bool(constraints)?;
-            Some(Constraint::ConstBool { val, ty })
-        }
-        Constraint::ConstInt { .. }
-        | Constraint::Struct { .. }
-        | Constraint::ConstPrim { .. }
-        | Constraint::Some => None,
-    }
+pub(crate) fn only_left(
+    alloc: Global,
+    tyenv: &TypeEnv,
+    constraints: &[Constraint],
+) -> Result<Option<Constraint>, AllocError> {
+    let asked = Asked::by(alloc, constraints)?;
+    Ok(match known(constraints) {
+        Some(Constraint::Variant { ty, .. }) => match asked.only_variant(tyenv, ty) {
+            Some(variant) => constraint_of(ty, variant),
+            None => None,
+        },
+        Some(Constraint::ConstBool { ty, .. }) => asked
+            .free_bool()
+            .map(|val| Constraint::ConstBool { val, ty }),
+        Some(
+            Constraint::ConstInt { .. }
+            | Constraint::Struct { .. }
+            | Constraint::ConstPrim { .. }
+            | Constraint::Some,
+        )
+        | None => None,
+    })
 }
 
 // The first of these constraints that isn't a named constant.
@@ -128,55 +145,6 @@ pub(crate) fn int_type(tyenv: &TypeEnv, ty: TypeId) -> Option<IntType> {
     }
 }
 
-// The first variant of an enum that none of these asks for.
-fn free_variant<'a>(
-    tyenv: &'a TypeEnv,
-    ty: TypeId,
-    constraints: &[Constraint],
-) -> Option<&'a Variant> {
-    let Some(Type::Enum { variants, .. }) = tyenv.types.get(ty.index()) else {
-        return None;
-    };
-    for variant in variants {
-        if !asks_variant(constraints, variant.id) {
-            return Some(variant);
-        }
-    }
-    None
-}
-
-// The variant of an enum that none of these asks for, if there is just one.
-fn only_variant<'a>(
-    tyenv: &'a TypeEnv,
-    ty: TypeId,
-    constraints: &[Constraint],
-) -> Option<&'a Variant> {
-    let Some(Type::Enum { variants, .. }) = tyenv.types.get(ty.index()) else {
-        return None;
-    };
-    let mut only = None;
-    for variant in variants {
-        if !asks_variant(constraints, variant.id) {
-            if only.is_some() {
-                return None;
-            }
-            only = Some(variant);
-        }
-    }
-    only
-}
-
-fn asks_variant(constraints: &[Constraint], id: VariantId) -> bool {
-    constraints.iter().any(|asked| is_variant(*asked, id))
-}
-
-fn is_variant(constraint: Constraint, id: VariantId) -> bool {
-    match constraint {
-        Constraint::Variant { variant, .. } => variant == id,
-        _ => false,
-    }
-}
-
 fn constraint_of(ty: TypeId, variant: &Variant) -> Option<Constraint> {
     let count = match &variant.fields {
         Fields::Unit => 0,
@@ -191,52 +159,95 @@ fn constraint_of(ty: TypeId, variant: &Variant) -> Option<Constraint> {
     })
 }
 
-// The first truth value that none of these asks for.
-fn free_bool(constraints: &[Constraint]) -> Option<bool> {
-    if !asks_bool(constraints, true) {
-        return Some(true);
-    }
-    if !asks_bool(constraints, false) {
-        return Some(false);
-    }
-    None
+// What constraints of one type ask for, sorted: integers, the numbers of variants, 0 for false and 1 for true.
+struct Asked {
+    numbers: Vec<i128>,
 }
 
-fn asks_bool(constraints: &[Constraint], val: bool) -> bool {
-    constraints.iter().any(|asked| is_bool(*asked, val))
-}
-
-fn is_bool(constraint: Constraint, value: bool) -> bool {
-    match constraint {
-        Constraint::ConstBool { val, .. } => val == value,
-        _ => false,
+impl Drop for Asked {
+    fn drop(self) {
+        let Asked { numbers: _ } = self;
     }
 }
 
-// A number of the type that none of these asks for: the one nearest to 0.
-fn free_int(int: IntType, constraints: &[Constraint]) -> Option<i128> {
-    let mut number = 0i128;
-    for _ in 0..constraints.len().saturating_add(1) {
-        if is_free(int, constraints, number) {
-            return Some(number);
+impl Asked {
+    fn by(alloc: Global, constraints: &[Constraint]) -> Result<Asked, AllocError> {
+        let mut numbers = Vec::new(alloc);
+        for constraint in constraints {
+            match constraint {
+                Constraint::Variant { variant, .. } => numbers.push(variant.index() as i128)?,
+                Constraint::ConstBool { val, .. } => numbers.push(if *val { 1 } else { 0 })?,
+                Constraint::ConstInt { val, .. } => numbers.push(*val)?,
+                Constraint::Struct { .. } | Constraint::ConstPrim { .. } | Constraint::Some => {}
+            }
         }
-        let below = 0i128.saturating_sub(number);
-        if is_free(int, constraints, below) {
-            return Some(below);
-        }
-        number = number.saturating_add(1);
+        numbers.sort()?;
+        Ok(Asked { numbers })
     }
-    None
-}
 
-// Whether a number is of the type and none of these asks for it.
-fn is_free(int: IntType, constraints: &[Constraint], number: i128) -> bool {
-    int.reduce(number) == number && !constraints.iter().any(|asked| is_int(*asked, number))
-}
+    fn has(&self, number: i128) -> bool {
+        self.numbers.binary_search(&number).is_ok()
+    }
 
-fn is_int(constraint: Constraint, number: i128) -> bool {
-    match constraint {
-        Constraint::ConstInt { val, .. } => val == number,
-        _ => false,
+    // The first variant of an enum that isn't asked for.
+    fn free_variant<'a>(&self, tyenv: &'a TypeEnv, ty: TypeId) -> Option<&'a Variant> {
+        let Some(Type::Enum { variants, .. }) = tyenv.types.get(ty.index()) else {
+            return None;
+        };
+        for variant in variants {
+            if !self.has(variant.id.index() as i128) {
+                return Some(variant);
+            }
+        }
+        None
+    }
+
+    // The variant of an enum that isn't asked for, if there is just one.
+    fn only_variant<'a>(&self, tyenv: &'a TypeEnv, ty: TypeId) -> Option<&'a Variant> {
+        let Some(Type::Enum { variants, .. }) = tyenv.types.get(ty.index()) else {
+            return None;
+        };
+        let mut only = None;
+        for variant in variants {
+            if !self.has(variant.id.index() as i128) {
+                if only.is_some() {
+                    return None;
+                }
+                only = Some(variant);
+            }
+        }
+        only
+    }
+
+    // The first truth value that isn't asked for.
+    fn free_bool(&self) -> Option<bool> {
+        if !self.has(1) {
+            return Some(true);
+        }
+        if !self.has(0) {
+            return Some(false);
+        }
+        None
+    }
+
+    // A number of the type that isn't asked for: the one nearest to 0.
+    fn free_int(&self, int: IntType) -> Option<i128> {
+        let mut number = 0i128;
+        for _ in 0..self.numbers.len().saturating_add(1) {
+            if self.is_free(int, number) {
+                return Some(number);
+            }
+            let below = 0i128.saturating_sub(number);
+            if self.is_free(int, below) {
+                return Some(below);
+            }
+            number = number.saturating_add(1);
+        }
+        None
+    }
+
+    // Whether a number is of the type and isn't asked for.
+    fn is_free(&self, int: IntType, number: i128) -> bool {
+        int.reduce(number) == number && !self.has(number)
     }
 }

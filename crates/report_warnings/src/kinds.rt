@@ -84,13 +84,7 @@ pub fn is_one_of(report: &Report, kinds: &[Warning]) -> bool {
 
 // A warning with these words and places to come.
 pub(crate) fn begun(alloc: Global, kind: Warning, message: String) -> Report {
-    Report {
-        level: Level::Warning,
-        kind: kind.name(),
-        message,
-        labels: Vec::new(alloc),
-        notes: Vec::new(alloc),
-    }
+    Report::new(alloc, Level::Warning, kind.name(), message)
 }
 
 pub(crate) fn add_place(

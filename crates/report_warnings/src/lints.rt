@@ -11,7 +11,6 @@ use cranelift_isle::lower::{Lowered, LoweredTerm};
 use cranelift_isle::syntax::Def;
 use report_print::report::Report;
 use report_queries::premises::is_multi;
-use report_queries::walk::steps;
 use std::alloc::{AllocError, Global};
 
 /// The warnings of accepted definitions, without those of the kinds that are `allowed`: first what is said of each term with
@@ -30,7 +29,7 @@ pub fn warnings(
     for term in &lowered.terms {
         add_of_term(alloc, &mut reports, defs, lowered, term)?;
     }
-    add_recursion(alloc, &mut reports, lowered)?;
+    add_recursion(alloc, &mut reports, defs, lowered)?;
     for def in defs {
         add_of_definition(alloc, &mut reports, lowered, def)?;
     }
@@ -60,9 +59,9 @@ fn add_of_term(
     term: &LoweredTerm,
 ) -> Result<(), AllocError> {
     if !is_multi(&lowered.termenv, term.id) {
-        add_dead(alloc, reports, defs, &steps(alloc, &term.block)?)?;
+        add_dead(alloc, reports, defs, &term.block, None)?;
         add_idle_priorities(alloc, reports, defs, &term.rules.rules)?;
-        add_uncovered(alloc, reports, lowered, term)?;
+        add_uncovered(alloc, reports, defs, lowered, term)?;
     }
     add_beside(alloc, reports, defs, lowered, term)
 }

@@ -6,7 +6,7 @@ use cranelift_isle::lower::Lowered;
 use cranelift_isle::sema::{IntType, TermId, TypeId};
 use cranelift_isle::syntax::{Def, Expr, Ident, IfLet, Pattern, Pos, Rule};
 use report_errors::diagnosis::add_help;
-use report_print::report::Report;
+use report_print::report::{Place, Report};
 use std::alloc::{AllocError, Global};
 
 /// Adds a warning for each integer literal of a definition that is outside the range of its built-in type: it stands for
@@ -174,6 +174,8 @@ fn add_literal(
     add_place(alloc, &mut report, pos, &means)?;
     let help = format!(in alloc; "write {number} if you mean that")?;
     add_help(alloc, &mut report, &help)?;
+    let title = format!(in alloc; "Write `{number}`")?;
+    report.add_fix(title, Place::Form(pos), format!(in alloc; "{number}")?)?;
     reports.push(report)?;
     Ok(())
 }

@@ -18,36 +18,67 @@ pub(crate) enum Possible {
 // What to write where nothing else can be meant.
 const ANY_VALUE: &str = "choose another name, or write _ if the value isn't needed";
 
-/// What to write in place of a variable's name that looks like a variant, an integer, a truth value or a comparison, where these
-/// literals may stand; the empty text for any other name.
+/// What is meant by a variable's name that looks like something else.
+pub(crate) struct Meant {
+    /// What to do, in words.
+    pub help: String,
+    /// What to write in place of the name; the empty text where that isn't known.
+    pub written: String,
+}
+
+impl Drop for Meant {
+    fn drop(self) {
+        let Meant {
+            help: _,
+            written: _,
+        } = self;
+    }
+}
+
+/// What is meant by a variable's name that looks like a variant, an integer, a truth value or a comparison, where these literals
+/// may stand; None for any other name.
 pub(crate) fn meant_by(
     alloc: Global,
     name: &str,
     possible: Possible,
-) -> Result<String, AllocError> {
+) -> Result<Option<Meant>, AllocError> {
+    let written = format!(in alloc; "({name})")?;
     if name.contains('.') {
-        return format!(in alloc; "a variant without fields is written ({name})");
+        return written_so(alloc, "a variant without fields is written ", &written);
     }
     if let Some(number) = number_in(name) {
         return match possible {
             Possible::Unknown | Possible::Integers => {
-                format!(in alloc; "the integer is written {number}")
+                written_so(alloc, "the integer is written ", number)
             }
-            Possible::Truths | Possible::Nothing => String::from_str(alloc, ANY_VALUE),
+            Possible::Truths | Possible::Nothing => written_so(alloc, ANY_VALUE, ""),
         };
     }
     if let Some(value) = truth_in(name) {
         return match possible {
             Possible::Unknown | Possible::Truths => {
-                format!(in alloc; "the truth value is written {value}")
+                written_so(alloc, "the truth value is written ", value)
             }
-            Possible::Integers | Possible::Nothing => String::from_str(alloc, ANY_VALUE),
+            Possible::Integers | Possible::Nothing => written_so(alloc, ANY_VALUE, ""),
         };
     }
-    if let Some(variable) = compared_in(name) {
-        return format!(in alloc; "an equal value is asked for by the name alone, as {variable}");
+    match compared_in(name) {
+        Some(variable) => {
+            written_so(
+                alloc,
+                "an equal value is asked for by the name alone, as ",
+                variable,
+            )
+        }
+        None => Ok(None),
     }
-    Ok(String::new(alloc))
+}
+
+fn written_so(alloc: Global, words: &str, written: &str) -> Result<Option<Meant>, AllocError> {
+    Ok(Some(Meant {
+        help: format!(in alloc; "{words}{written}")?,
+        written: String::from_str(alloc, written)?,
+    }))
 }
 
 // The number behind a plus sign.

@@ -251,7 +251,7 @@ impl<'a> Search<'a> {
     ) -> Result<(), AllocError> {
         let mut constraints = constraints_of(self.alloc, arms)?;
         constraints.extend_from_slice(&denied)?;
-        if cover(self.tyenv, &constraints) {
+        if cover(self.alloc, self.tyenv, &constraints)? {
             return Ok(());
         }
         let mut last = behind.last;
@@ -308,7 +308,7 @@ impl<'a> Search<'a> {
             return Ok(Some(constraint));
         }
         let denied = denied_by(self.alloc, facts, site)?;
-        Ok(only_left(self.tyenv, &denied))
+        only_left(self.alloc, self.tyenv, &denied)
     }
 
     fn made(&self, site: BindingId) -> Option<Constraint> {

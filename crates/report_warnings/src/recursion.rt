@@ -4,31 +4,41 @@ use crate::calls::{calls_of, cycle_of};
 use crate::kinds::{Warning, add_place, begun};
 use cranelift_isle::lower::Lowered;
 use cranelift_isle::sema::Term;
+use cranelift_isle::syntax::Def;
+use report_errors::definitions::declaration_of;
 use report_errors::diagnosis::add_help;
-use report_print::report::Report;
+use report_print::report::{Edit, Fix, Place, Report, Word};
 use std::alloc::{AllocError, Global};
+use std::collections::BTreeSet;
 
 /// Adds a warning for each cycle of terms that call one another without `rec`, and one for each term that has `rec` and doesn't
 /// call itself.
 pub(crate) fn add_recursion(
     alloc: Global,
     reports: &mut Vec<Report>,
+    defs: &[Def],
     lowered: &Lowered,
 ) -> Result<(), AllocError> {
-    let calls = calls_of(alloc, &lowered.termenv)?;
+    let mut calls = calls_of(alloc, &lowered.termenv)?;
     // The terms of the cycles that are reported.
-    let mut told: Vec<usize> = Vec::new(alloc);
+    let mut told: BTreeSet<usize> = BTreeSet::new(alloc);
     for (number, term) in lowered.termenv.terms.iter().enumerate() {
+        if told.contains(&number) && !term.is_recursive() {
+            continue;
+        }
         match cycle_of(alloc, &calls, number)? {
             Some(cycle) => {
-                if !term.is_recursive() && !told.contains(&number) {
-                    reports.push(recursive(alloc, lowered, term, &cycle)?)?;
-                    told.extend_from_slice(&cycle)?;
+                if !term.is_recursive() {
+                    reports.push(recursive(alloc, defs, lowered, term, &cycle)?)?;
+                    for member in cycle {
+                        told.insert(member)?;
+                    }
                 }
             }
             None => {
+                forget(&mut calls, number);
                 if term.is_recursive() {
-                    reports.push(needless(alloc, lowered, term)?)?;
+                    reports.push(needless(alloc, defs, lowered, term)?)?;
                 }
             }
         }
@@ -36,9 +46,17 @@ pub(crate) fn add_recursion(
     Ok(())
 }
 
+// Forgets what a term calls that doesn't call itself: no cycle goes by way of it.
+fn forget(calls: &mut Vec<Vec<usize>>, number: usize) {
+    if let Some(called) = calls.get_mut(number) {
+        called.clear();
+    }
+}
+
 // The warning of a term that calls itself by way of these terms.
 fn recursive(
     alloc: Global,
+    defs: &[Def],
     lowered: &Lowered,
     term: &Term,
     cycle: &[usize],
@@ -50,9 +68,12 @@ fn recursive(
         push_name(&mut message, lowered, *number)?;
     }
     let mut report = begun(alloc, Warning::Recursion, message);
+    let mut edits = Vec::new(alloc);
     for number in cycle {
-        add_term(alloc, &mut report, lowered, *number)?;
+        add_term(alloc, &mut report, &mut edits, defs, lowered, *number)?;
     }
+    let title = String::from_str(alloc, "Add `rec`")?;
+    report.fixes.push(Fix { title, edits })?;
     add_help(
         alloc,
         &mut report,
@@ -69,15 +90,22 @@ fn push_name(out: &mut String, lowered: &Lowered, number: usize) -> Result<(), A
     Ok(())
 }
 
-// Adds the place of a term, if that has no `rec`.
+// Adds the place of a term, and the edit that gives it `rec`, if it has none.
 fn add_term(
     alloc: Global,
     report: &mut Report,
+    edits: &mut Vec<Edit>,
+    defs: &[Def],
     lowered: &Lowered,
     number: usize,
 ) -> Result<(), AllocError> {
     match lowered.termenv.terms.get(number) {
         Some(term) if !term.is_recursive() => {
+            if let Some(decl) = declaration_of(defs, lowered.tyenv.text_of(term.name)) {
+                let place = Place::Before(decl.term.1);
+                let text = String::from_str(alloc, "rec ")?;
+                edits.push(Edit { place, text })?;
+            }
             add_place(alloc, report, term.decl_pos, "declared without rec")
         }
         _ => Ok(()),
@@ -85,11 +113,21 @@ fn add_term(
 }
 
 // The warning of a term that has `rec` and doesn't call itself.
-fn needless(alloc: Global, lowered: &Lowered, term: &Term) -> Result<Report, AllocError> {
+fn needless(
+    alloc: Global,
+    defs: &[Def],
+    lowered: &Lowered,
+    term: &Term,
+) -> Result<Report, AllocError> {
     let name = lowered.tyenv.text_of(term.name);
     let message = format!(in alloc; "`{name}` has rec, but never calls itself")?;
     let mut report = begun(alloc, Warning::Recursion, message);
     add_place(alloc, &mut report, term.decl_pos, "declared with rec")?;
     add_help(alloc, &mut report, "remove rec")?;
+    if let Some(decl) = declaration_of(defs, name) {
+        let title = String::from_str(alloc, "Remove `rec`")?;
+        let place = Place::Between(decl.pos, decl.term.1, Word::Rec);
+        report.add_fix(title, place, String::new(alloc))?;
+    }
     Ok(report)
 }

@@ -1,50 +1,67 @@
 //! Rules that never run, and priorities that have no effect.
 
 use crate::kinds::{Warning, begun};
-use cranelift_isle::serialize::ControlFlow;
+use cranelift_isle::serialize::{Block, ControlFlow};
 use cranelift_isle::syntax::{Def, Pos};
-use cranelift_isle::trie_again::{Overlap, Rule};
-use report_errors::diagnosis::{ONE_OF_ALIKE, add_help, add_rule, are_alike};
-use report_print::report::Report;
-use report_queries::walk::Visit;
+use cranelift_isle::trie_again::{BindingId, Constraint, Overlap, Rule};
+use report_errors::diagnosis::{ONE_OF_ALIKE, add_first, add_help, add_rule, are_alike};
+use report_errors::names::rule_at;
+use report_print::report::{Place, Report, Word};
 use std::alloc::{AllocError, Global};
+use std::collections::BTreeMap;
 
-/// Adds a warning for each rule of a term that never runs, where these are the steps of its tree. A return ends its block: what
-/// stands after it in the block, and inside these steps, is told by the tests around it.
+/// Adds a warning for each rule of a term that never runs, in a block of its tree. A return ends its block: what stands behind it
+/// in the block, and inside that, never runs. Where the whole block never runs, the rule of the return before it is given.
+#[cycle(dead)]
 pub(crate) fn add_dead(
     alloc: Global,
     reports: &mut Vec<Report>,
     defs: &[Def],
-    visits: &[Visit<'_>],
+    block: &Block,
+    before: Option<Pos>,
 ) -> Result<(), AllocError> {
-    let mut ended: Option<(&Visit<'_>, Pos)> = None;
-    for visit in visits {
-        let pos = return_of(visit);
-        match ended {
-            Some((before, first)) if visit.path.starts_with(&before.path) => {
-                if let Some(pos) = pos {
-                    reports.push(dead(alloc, defs, pos, first)?)?;
-                }
+    let mut before = before;
+    for step in &block.steps {
+        match (&step.check, before) {
+            (ControlFlow::Return { pos, .. }, Some(first)) => {
+                reports.push(dead(alloc, defs, *pos, first)?)?
             }
-            _ => ended = pos.map(|pos| (visit, pos)),
+            (ControlFlow::Return { pos, .. }, None) => before = Some(*pos),
+            (check, _) => add_dead_inside(alloc, reports, defs, check, before)?,
         }
     }
     Ok(())
 }
 
-// The position of the rule that a step returns for, where it is a return.
-fn return_of(visit: &Visit<'_>) -> Option<Pos> {
-    if let ControlFlow::Return { pos, .. } = &visit.step.check {
-        return Some(*pos);
+// Adds those inside a test.
+#[cycle(dead)]
+fn add_dead_inside(
+    alloc: Global,
+    reports: &mut Vec<Report>,
+    defs: &[Def],
+    check: &ControlFlow,
+    before: Option<Pos>,
+) -> Result<(), AllocError> {
+    match check {
+        ControlFlow::Match { arms, .. } => {
+            for arm in arms {
+                add_dead(alloc, reports, defs, &arm.body, before)?;
+            }
+            Ok(())
+        }
+        ControlFlow::Equal { body, .. } | ControlFlow::Loop { body, .. } => {
+            add_dead(alloc, reports, defs, body, before)
+        }
+        ControlFlow::Return { .. } => Ok(()),
     }
-    None
 }
 
 // The warning of a rule that never runs, since another one returns first.
 fn dead(alloc: Global, defs: &[Def], pos: Pos, first: Pos) -> Result<Report, AllocError> {
     let message = String::from_str(alloc, "a rule never runs")?;
     let mut report = begun(alloc, Warning::NeverRun, message);
-    let (after, help) = if are_alike(alloc, defs, pos, first)? {
+    let is_alike = are_alike(alloc, defs, pos, first)?;
+    let (after, help) = if is_alike {
         (" has the same pattern, and never runs", ONE_OF_ALIKE)
     } else {
         (" never runs", FIRST_RETURN)
@@ -59,6 +76,9 @@ fn dead(alloc: Global, defs: &[Def], pos: Pos, first: Pos) -> Result<Report, All
         " matches these values too, and returns first",
     )?;
     add_help(alloc, &mut report, help)?;
+    if !is_alike {
+        add_first(alloc, &mut report, defs, first)?;
+    }
     Ok(report)
 }
 
@@ -72,12 +92,89 @@ pub(crate) fn add_idle_priorities(
     defs: &[Def],
     rules: &[Rule],
 ) -> Result<(), AllocError> {
+    let groups = Groups::of(alloc, rules)?;
     for rule in rules {
-        if rule.prio != 0 && !rules.iter().any(|other| meet(rule, other)) {
+        if rule.prio != 0 && !groups.have_met(rule) {
             reports.push(idle(alloc, defs, rule.pos)?)?;
         }
     }
     Ok(())
+}
+
+// Rules by what they ask of one site: rules that ask for different things there never match together.
+struct Groups<'a> {
+    rules: &'a [Rule],
+    site: Option<BindingId>,
+    // none for those that ask for nothing there
+    groups: BTreeMap<Option<Constraint>, Vec<&'a Rule>>,
+}
+
+impl<'a> Drop for Groups<'a> {
+    fn drop(self) {
+        let Groups {
+            rules: _,
+            site: _,
+            groups: _,
+        } = self;
+    }
+}
+
+impl<'a> Groups<'a> {
+    // The rules by what they ask of the first site of which one asks something.
+    fn of(alloc: Global, rules: &'a [Rule]) -> Result<Groups<'a>, AllocError> {
+        let mut groups = Groups {
+            rules,
+            site: first_site(rules),
+            groups: BTreeMap::new(alloc),
+        };
+        for rule in rules {
+            groups.add(alloc, rule)?;
+        }
+        Ok(groups)
+    }
+
+    fn add(&mut self, alloc: Global, rule: &'a Rule) -> Result<(), AllocError> {
+        let asked = self.asked_by(rule);
+        if let Some(group) = self.groups.get_mut(&asked) {
+            group.push(rule)?;
+            return Ok(());
+        }
+        let mut group = Vec::new(alloc);
+        group.push(rule)?;
+        self.groups.insert(asked, group)?;
+        Ok(())
+    }
+
+    // What a rule asks of the site.
+    fn asked_by(&self, rule: &Rule) -> Option<Constraint> {
+        rule.get_constraint(self.site?)
+    }
+
+    // Whether a rule may match together with another one of these.
+    fn have_met(&self, rule: &Rule) -> bool {
+        let asked = self.asked_by(rule);
+        if asked.is_none() {
+            return self.rules.iter().any(|other| meet(rule, other));
+        }
+        self.group_meets(asked, rule) || self.group_meets(None, rule)
+    }
+
+    fn group_meets(&self, asked: Option<Constraint>, rule: &Rule) -> bool {
+        match self.groups.get(&asked) {
+            Some(group) => group.iter().any(|other| meet(rule, other)),
+            None => false,
+        }
+    }
+}
+
+// The first site of which some rule asks something.
+fn first_site(rules: &[Rule]) -> Option<BindingId> {
+    for rule in rules {
+        if let Some((site, _)) = rule.constraints().first() {
+            return Some(*site);
+        }
+    }
+    None
 }
 
 // Whether two different rules may match together.
@@ -92,5 +189,10 @@ fn idle(alloc: Global, defs: &[Def], pos: Pos) -> Result<Report, AllocError> {
     let after = " never matches together with another rule of its term";
     add_rule(alloc, &mut report, defs, pos, "", after)?;
     add_help(alloc, &mut report, "remove the priority")?;
+    if let Some(rule) = rule_at(defs, pos) {
+        let title = String::from_str(alloc, "Remove the priority")?;
+        let place = Place::Between(rule.pos, rule.pattern.pos(), Word::Priority);
+        report.add_fix(title, place, String::new(alloc))?;
+    }
     Ok(report)
 }

@@ -29,8 +29,8 @@ pub enum Taker<'a> {
 pub fn taker_of<'a>(
     alloc: Global,
     term: &str,
-    own: Version<'_>,
-    other: Version<'a>,
+    own: Version<'_, '_>,
+    other: Version<'a, '_>,
     rule: &Rule,
 ) -> Result<Taker<'a>, AllocError> {
     if !is_comparable(own.lowered, other.lowered, term) || !knows(alloc, other.lowered, rule)? {

@@ -5,14 +5,17 @@ use crate::passing::{Fact, passing};
 use crate::untaken::push_untaken;
 use cranelift_isle::lower::{Lowered, LoweredTerm};
 use cranelift_isle::sema::Term;
+use cranelift_isle::syntax::Def;
+use report_errors::definitions::declaration_of;
 use report_errors::diagnosis::add_help;
-use report_print::report::Report;
+use report_print::report::{Place, Report};
 use std::alloc::{AllocError, Global};
 
 /// Adds a warning if no rule of a term takes some value, and the term isn't `partial`. It must not be `multi`.
 pub(crate) fn add_uncovered(
     alloc: Global,
     reports: &mut Vec<Report>,
+    defs: &[Def],
     lowered: &Lowered,
     lowered_term: &LoweredTerm,
 ) -> Result<(), AllocError> {
@@ -25,7 +28,7 @@ pub(crate) fn add_uncovered(
     let bindings = &lowered_term.rules.bindings;
     match passing(alloc, &lowered.tyenv, bindings, &lowered_term.block)? {
         Some(facts) => {
-            let report = uncovered(alloc, lowered, lowered_term, term, &facts)?;
+            let report = uncovered(alloc, defs, lowered, lowered_term, term, &facts)?;
             reports.push(report)?;
             Ok(())
         }
@@ -36,6 +39,7 @@ pub(crate) fn add_uncovered(
 // The warning of a term, with a call that no rule takes, by what a run of it found.
 fn uncovered(
     alloc: Global,
+    defs: &[Def],
     lowered: &Lowered,
     lowered_term: &LoweredTerm,
     term: &Term,
@@ -55,5 +59,11 @@ fn uncovered(
         &mut report,
         "add a rule that takes it, or declare the term partial",
     )?;
+    if let Some(decl) = declaration_of(defs, lowered.tyenv.text_of(term.name)) {
+        let name = &decl.term.0;
+        let title = format!(in alloc; "Declare `{name}` partial")?;
+        let place = Place::Before(decl.term.1);
+        report.add_fix(title, place, String::from_str(alloc, "partial ")?)?;
+    }
     Ok(report)
 }

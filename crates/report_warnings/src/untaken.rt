@@ -174,13 +174,16 @@ impl<'a> Writing<'a> {
             return Ok(Some(constraint));
         }
         let denied = denied_by(self.alloc, self.facts, site)?;
-        Ok(left_over(self.tyenv, &denied))
+        left_over(self.alloc, self.tyenv, &denied)
     }
 
     // Adds what was found and the call doesn't tell: each thing once, and only the first ones.
     fn push_conditions(&self, out: &mut String) -> Result<(), AllocError> {
         let mut conditions: Vec<String> = Vec::new(self.alloc);
         for fact in self.facts.iter().rev() {
+            if conditions.len() > MOST_CONDITIONS {
+                break;
+            }
             let condition = self.condition(fact)?;
             let text = condition.as_str();
             if !text.is_empty() && !conditions.iter().any(|other| other.as_str() == text) {

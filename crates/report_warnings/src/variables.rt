@@ -2,18 +2,18 @@
 
 use crate::kinds::{Warning, add_place, begun};
 use crate::literals::{argument_of, term_of, type_of_expr};
-use crate::meanings::{Possible, meant_by};
+use crate::meanings::{Meant, Possible, meant_by};
 use cranelift_isle::lower::Lowered;
 use cranelift_isle::sema::{BuiltinType, TermKind, Type, TypeEnv, TypeId};
 use cranelift_isle::syntax::{Expr, Ident, IfLet, Pattern, Pos, Rule};
 use report_errors::diagnosis::add_help;
-use report_print::report::Report;
+use report_print::report::{Place, Report};
 use std::alloc::{AllocError, Global};
 use std::collections::BTreeMap;
 
 // How a name stands somewhere.
 #[derive(Clone, Copy, PartialEq, Eq)]
-enum Place {
+enum Standing {
     // In a pattern.
     Pattern,
     // In a pattern, as the name of a value that an extractor tests and gives on.
@@ -27,11 +27,11 @@ enum Place {
 struct Use {
     // Where it stands first.
     pos: Pos,
-    place: Place,
+    place: Standing,
     // The type of its value, where it is known.
     ty: Option<TypeId>,
-    // Whether a pattern stands behind it, as in `x @ (f _)`.
-    bound: bool,
+    // The pattern that stands behind it, as in `x @ (f _)`.
+    behind: Option<Pos>,
     // Whether it stands there alone.
     alone: bool,
 }
@@ -58,23 +58,23 @@ impl<'a> Names<'a> {
     fn note(
         &mut self,
         name: &Ident,
-        place: Place,
+        place: Standing,
         ty: Option<TypeId>,
-        bound: bool,
+        behind: Option<Pos>,
     ) -> Result<(), AllocError> {
         let first = match self.uses.get(&name.0) {
             Some(first) => Use {
                 pos: first.pos,
                 place: first.place,
                 ty: first.ty,
-                bound: first.bound,
+                behind: first.behind,
                 alone: false,
             },
             None => Use {
                 pos: name.1,
                 place,
                 ty,
-                bound,
+                behind,
                 alone: true,
             },
         };
@@ -94,22 +94,22 @@ impl<'a> Names<'a> {
 
     // How the variables stand that are arguments of a term in a pattern: as tested, if the term is an extractor that takes a
     // value and gives one of the same type.
-    fn place_in(&self, name: &Ident) -> Place {
+    fn place_in(&self, name: &Ident) -> Standing {
         let Some(id) = self
             .lowered
             .termenv
             .get_term_by_name(&self.lowered.tyenv, name)
         else {
-            return Place::Pattern;
+            return Standing::Pattern;
         };
         match self.lowered.termenv.terms.get(id.index()) {
             Some(term) if matches!(term.kind, TermKind::Decl { .. }) => {
                 match term.arg_tys.as_slice() {
-                    [ty] if *ty == term.ret_ty => Place::Tested,
-                    _ => Place::Pattern,
+                    [ty] if *ty == term.ret_ty => Standing::Tested,
+                    _ => Standing::Pattern,
                 }
             }
-            _ => Place::Pattern,
+            _ => Standing::Pattern,
         }
     }
 }
@@ -147,14 +147,13 @@ fn add_name(
     name: &str,
     used: &Use,
 ) -> Result<(), AllocError> {
-    if used.place != Place::Expr {
-        let meant = meant_by(alloc, name, possible_at(tyenv, used.ty))?;
-        if !meant.is_empty() {
+    if used.place != Standing::Expr {
+        if let Some(meant) = meant_by(alloc, name, possible_at(tyenv, used.ty))? {
             reports.push(unlike(alloc, name, used.pos, &meant)?)?;
             return Ok(());
         }
     }
-    if used.alone && used.place != Place::Tested && !name.starts_with('_') {
+    if used.alone && used.place != Standing::Tested && !name.starts_with('_') {
         reports.push(unused(alloc, name, used)?)?;
     }
     Ok(())
@@ -175,11 +174,14 @@ fn possible_at(tyenv: &TypeEnv, ty: Option<TypeId>) -> Possible {
 }
 
 // The warning of a variable that looks like something else, with what to write for that.
-fn unlike(alloc: Global, name: &str, pos: Pos, meant: &str) -> Result<Report, AllocError> {
+fn unlike(alloc: Global, name: &str, pos: Pos, meant: &Meant) -> Result<Report, AllocError> {
     let message = format!(in alloc; "`{name}` is a variable here, and matches any value")?;
     let mut report = begun(alloc, Warning::Name, message);
     add_place(alloc, &mut report, pos, "bound here")?;
-    add_help(alloc, &mut report, meant)?;
+    add_help(alloc, &mut report, &meant.help)?;
+    if !meant.written.is_empty() {
+        add_written(&mut report, name, pos, meant.written.clone()?)?;
+    }
     Ok(report)
 }
 
@@ -188,21 +190,40 @@ fn unused(alloc: Global, name: &str, used: &Use) -> Result<Report, AllocError> {
     let message = format!(in alloc; "`{name}` is never used")?;
     let mut report = begun(alloc, Warning::Unused, message);
     add_place(alloc, &mut report, used.pos, "bound here, and used nowhere")?;
-    let help = if used.bound {
-        format!(in alloc;
-            "leave out `{name} @` if the name isn't needed, or write _{name} to keep it"
-        )?
-    } else {
-        format!(in alloc; "write _ if the value isn't needed, or _{name} to keep the name")?
+    let help = match used.behind {
+        Some(behind) => {
+            let title = format!(in alloc; "Leave out `{name} @`")?;
+            report.add_fix(title, Place::UpTo(used.pos, behind), String::new(alloc))?;
+            format!(in alloc;
+                "leave out `{name} @` if the name isn't needed, or write _{name} to keep it"
+            )?
+        }
+        None => {
+            add_written(&mut report, name, used.pos, String::from_str(alloc, "_")?)?;
+            format!(in alloc; "write _ if the value isn't needed, or _{name} to keep the name")?
+        }
     };
-    add_help(alloc, &mut report, &help)?;
+    report.add_note("help", help)?;
+    add_written(&mut report, name, used.pos, format!(in alloc; "_{name}")?)?;
     Ok(report)
+}
+
+// Adds that something else is written in place of a variable.
+fn add_written(
+    report: &mut Report,
+    name: &str,
+    pos: Pos,
+    written: String,
+) -> Result<(), AllocError> {
+    let alloc = *written.allocator();
+    let title = format!(in alloc; "Write `{written}`")?;
+    report.add_fix(title, Place::Name(pos, name.len()), written)
 }
 
 // The names in the left side of a rule. The rule's own term is no extractor there.
 fn note_root(names: &mut Names<'_>, pattern: &Pattern) -> Result<(), AllocError> {
     match pattern {
-        Pattern::Term { sym, args, .. } => note_arguments(names, sym, args, Place::Pattern),
+        Pattern::Term { sym, args, .. } => note_arguments(names, sym, args, Standing::Pattern),
         _ => Ok(()),
     }
 }
@@ -210,7 +231,7 @@ fn note_root(names: &mut Names<'_>, pattern: &Pattern) -> Result<(), AllocError>
 // The names in a further condition. Its expression says of which type its pattern is.
 fn note_iflet(names: &mut Names<'_>, iflet: &IfLet) -> Result<(), AllocError> {
     let ty = names.type_given_by(&iflet.expr);
-    note_pattern(names, &iflet.pattern, Place::Pattern, ty)?;
+    note_pattern(names, &iflet.pattern, Standing::Pattern, ty)?;
     note_expr(names, &iflet.expr)
 }
 
@@ -218,13 +239,13 @@ fn note_iflet(names: &mut Names<'_>, iflet: &IfLet) -> Result<(), AllocError> {
 fn note_pattern(
     names: &mut Names<'_>,
     pattern: &Pattern,
-    place: Place,
+    place: Standing,
     ty: Option<TypeId>,
 ) -> Result<(), AllocError> {
     match pattern {
-        Pattern::Var { var, pos: _ } => names.note(var, place, ty, false),
+        Pattern::Var { var, pos: _ } => names.note(var, place, ty, None),
         Pattern::BindPattern { var, subpat, .. } => {
-            names.note(var, place, ty, true)?;
+            names.note(var, place, ty, Some(subpat.pos()))?;
             note_pattern(names, subpat, place, ty)
         }
         Pattern::Term { sym, args, .. } => {
@@ -250,7 +271,7 @@ fn note_arguments(
     names: &mut Names<'_>,
     sym: &Ident,
     args: &[Pattern],
-    place: Place,
+    place: Standing,
 ) -> Result<(), AllocError> {
     for (number, arg) in args.iter().enumerate() {
         let ty = names.type_of_argument(sym, number);
@@ -268,10 +289,10 @@ fn note_expr(names: &mut Names<'_>, expr: &Expr) -> Result<(), AllocError> {
             }
             Ok(())
         }
-        Expr::Var { name, pos: _ } => names.note(name, Place::Expr, None, false),
+        Expr::Var { name, pos: _ } => names.note(name, Standing::Expr, None, None),
         Expr::Let { defs, body, .. } => {
             for def in defs {
-                names.note(&def.var, Place::Expr, None, false)?;
+                names.note(&def.var, Standing::Expr, None, None)?;
                 note_expr(names, &def.val)?;
             }
             note_expr(names, body)

@@ -1,14 +1,15 @@
 //! Versions of definitions, and their terms.
 
 use cranelift_isle::lower::{Lowered, LoweredTerm};
-use cranelift_isle::syntax::{Def, Files};
+use cranelift_isle::syntax::Def;
+use report_print::lines::FileLines;
 use report_queries::names;
 
 /// A version of definitions, and what comes of lowering them.
 #[derive(Clone, Copy)]
-pub struct Version<'a> {
+pub struct Version<'a, 'f> {
     /// The files that have them.
-    pub files: &'a Files,
+    pub lines: &'a FileLines<'f>,
     /// The definitions.
     pub defs: &'a [Def],
     /// Their trees.

@@ -55,12 +55,21 @@ pub fn check_document(alloc: Global, value: &Value, keys: &[&str]) -> Result<(),
 
 fn check_reports(reports: &[Value]) -> Result<(), Fail> {
     for report in reports {
-        let keys = ["kind", "message", "places", "help", "witness"];
+        let keys = [
+            "kind", "code", "message", "places", "help", "witness", "fixes",
+        ];
         expect(has_keys(report, &keys), "keys of a report")?;
         for place in list(report, "places")? {
             let keys = ["file", "line", "column", "offset", "end", "text"];
             expect(has_keys(place, &keys), "keys of a place")?;
             check_end(place)?;
+        }
+        for fix in list(report, "fixes")? {
+            expect(has_keys(fix, &["title", "edits"]), "keys of a fix")?;
+            for edit in list(fix, "edits")? {
+                let keys = ["file", "offset", "end", "text"];
+                expect(has_keys(edit, &keys), "keys of an edit")?;
+            }
         }
     }
     Ok(())
