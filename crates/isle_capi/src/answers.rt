@@ -165,6 +165,7 @@ fn request_of<'a>(alloc: Global, asked: CallRequest) -> Request<'a>
         folder: "",
         rule: "",
         code: CodegenOptions::included(alloc),
+        stubs: false,
         progress: false,
         answers: None,
         trace: false,

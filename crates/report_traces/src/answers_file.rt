@@ -4,9 +4,9 @@ use crate::asked::{Count, Side, count_of, has_constructor, has_extractor};
 use crate::values::{Unanswered, term_of, value_of};
 use cranelift_isle::lower::Lowered;
 use cranelift_isle::sema::{Term, TermId, TypeId};
-use cranelift_isle::syntax::{Def, Expr, Files, Ident, Pos};
+use cranelift_isle::syntax::{Def, Expr, Ident, Pos};
 use report_print::layout::push_place;
-use report_print::lines::file_text;
+use report_print::lines::{FileLines, file_text};
 use run_terms::values::Value;
 use std::alloc::{AllocError, AllocFailed, Global};
 use text_reader::errors::ReadFault;
@@ -69,10 +69,10 @@ pub enum ReadAnswers {
 pub fn read_answers(
     alloc: Global,
     lowered: &Lowered,
-    files: &Files,
+    lines: &FileLines<'_>,
     (file, expand): (usize, bool),
 ) -> Result<ReadAnswers, AllocError> {
-    let mut lines = Vec::new(alloc);
+    let mut read = Vec::new(alloc);
     let mut wrong = String::new(alloc);
     let mut begin = 0usize;
     let at = Place {
@@ -80,8 +80,8 @@ pub fn read_answers(
         lowered,
         expand,
     };
-    for text in file_text(files, file).split('\n') {
-        match at.push_line(text, &mut lines) {
+    for text in file_text(lines.files(), file).split('\n') {
+        match at.push_line(text, &mut read) {
             Ok(()) => {}
             Err(Wrong::Memory) => return Err(AllocError),
             Err(Wrong::At(offset, why)) => {
@@ -89,23 +89,28 @@ pub fn read_answers(
                     file,
                     offset: begin.saturating_add(offset.min(text.len())),
                 };
-                push_wrong(&mut wrong, files, pos, &why)?;
+                push_wrong(&mut wrong, lines, pos, &why)?;
             }
         }
         begin = begin.saturating_add(text.len()).saturating_add(1);
     }
     if wrong.is_empty() {
-        Ok(ReadAnswers::Lines(lines))
+        Ok(ReadAnswers::Lines(read))
     } else {
         Ok(ReadAnswers::Wrong(wrong))
     }
 }
 
-fn push_wrong(out: &mut String, files: &Files, pos: Pos, why: &str) -> Result<(), AllocError> {
+fn push_wrong(
+    out: &mut String,
+    lines: &FileLines<'_>,
+    pos: Pos,
+    why: &str,
+) -> Result<(), AllocError> {
     if !out.is_empty() {
         out.push('\n')?;
     }
-    push_place(out, files, pos)?;
+    push_place(out, lines, pos)?;
     out.push_str(": error[answer]: ")?;
     out.push_str(why)
 }

@@ -9,7 +9,8 @@ use crate::trace_text::{push_events, push_title};
 use crate::walk::{Event, Walked, walk_over};
 use cranelift_isle::lower::{Lowered, LoweredTerm};
 use cranelift_isle::sema::{TermId, TypeId};
-use cranelift_isle::syntax::{Files, Pos};
+use cranelift_isle::syntax::Pos;
+use report_print::lines::FileLines;
 use report_queries::premises::is_multi;
 use report_queries::rules::lowered_term;
 use run_terms::run::run;
@@ -90,10 +91,10 @@ impl Ended {
 }
 
 /// Runs, with the answers that are known by now.
-pub struct Runs<'a> {
+pub struct Runs<'a, 'f> {
     alloc: Global,
     lowered: &'a Lowered,
-    files: &'a Files,
+    lines: &'a FileLines<'f>,
     replies: &'a Replies,
     extracted: Vec<Known>,
     called: Vec<Known>,
@@ -103,12 +104,12 @@ pub struct Runs<'a> {
     told: String,
 }
 
-impl<'a> Drop for Runs<'a> {
+impl<'a, 'f> Drop for Runs<'a, 'f> {
     fn drop(self) {
         let Self {
             alloc: _,
             lowered: _,
-            files: _,
+            lines: _,
             replies: _,
             extracted: _,
             called: _,
@@ -119,19 +120,19 @@ impl<'a> Drop for Runs<'a> {
     }
 }
 
-impl<'a> Runs<'a> {
+impl<'a, 'f> Runs<'a, 'f> {
     /// No run. If `tells` is true, `told` will say what happens in runs.
     pub fn new(
         alloc: Global,
         lowered: &'a Lowered,
-        files: &'a Files,
+        lines: &'a FileLines<'f>,
         replies: &'a Replies,
         tells: bool,
-    ) -> Runs<'a> {
+    ) -> Runs<'a, 'f> {
         Runs {
             alloc,
             lowered,
-            files,
+            lines,
             replies,
             extracted: Vec::new(alloc),
             called: Vec::new(alloc),
@@ -377,7 +378,7 @@ impl<'a> Runs<'a> {
         push_title(&mut self.told, &title)?;
         push_events(
             alloc,
-            (self.files, self.lowered),
+            (self.lines, self.lowered),
             frame.entry,
             walked,
             &mut self.told,

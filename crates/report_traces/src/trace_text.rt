@@ -4,13 +4,14 @@ use crate::outcomes::push_content;
 use crate::walk::{Event, Walked};
 use cranelift_isle::lower::{Lowered, LoweredTerm};
 use cranelift_isle::serialize::{Block, ControlFlow, MatchArm};
-use cranelift_isle::syntax::{Files, Pos};
+use cranelift_isle::syntax::Pos;
 use cranelift_isle::trie_again::{Binding, BindingId};
 use report_errors::explanation::push_rule_place;
 use report_errors::indented_lines::push_line;
 use report_errors::names::NameTables;
 use report_errors::way_text::{Sites, Way, WayTest};
 use report_errors::ways::test_of;
+use report_print::lines::FileLines;
 use report_queries::rules::rule_behind;
 use run_terms::values::Content;
 use std::alloc::{AllocError, Global};
@@ -21,9 +22,9 @@ pub fn push_title(out: &mut String, call: &str) -> Result<(), AllocError> {
 }
 
 /// Adds a line for each thing that happened in the run of a term.
-pub fn push_events<'x>(
+pub fn push_events<'x, 'f>(
     alloc: Global,
-    (files, lowered): (&'x Files, &'x Lowered),
+    (lines, lowered): (&'x FileLines<'f>, &'x Lowered),
     entry: &'x LoweredTerm,
     walked: &'x Walked,
     out: &mut String,
@@ -44,7 +45,7 @@ pub fn push_events<'x>(
     let way = Way::new(&sites)?;
     let mut retold = Retold {
         alloc,
-        files,
+        lines,
         lowered,
         entry,
         shown: &shown,
@@ -56,9 +57,9 @@ pub fn push_events<'x>(
 }
 
 // A run that is told again along its tree.
-struct Retold<'a, 's> {
+struct Retold<'a, 's, 'f> {
     alloc: Global,
-    files: &'a Files,
+    lines: &'a FileLines<'f>,
     lowered: &'a Lowered,
     entry: &'a LoweredTerm,
     shown: &'a [String],
@@ -68,11 +69,11 @@ struct Retold<'a, 's> {
     way: Way<'s, 'a>,
 }
 
-impl<'a, 's> Drop for Retold<'a, 's> {
+impl<'a, 's, 'f> Drop for Retold<'a, 's, 'f> {
     fn drop(self) {
         let Retold {
             alloc: _,
-            files: _,
+            lines: _,
             lowered: _,
             entry: _,
             shown: _,
@@ -83,7 +84,7 @@ impl<'a, 's> Drop for Retold<'a, 's> {
     }
 }
 
-impl<'a, 's> Retold<'a, 's> {
+impl<'a, 's, 'f> Retold<'a, 's, 'f> {
     // What comes next is told.
     fn pass(&mut self) {
         self.next = self.next.saturating_add(1);
@@ -212,7 +213,7 @@ impl<'a, 's> Retold<'a, 's> {
         self.pass();
         push_return(
             self.alloc,
-            self.files,
+            self.lines,
             self.lowered,
             self.entry,
             (pos, site),
@@ -303,7 +304,7 @@ fn push_failure(
 
 fn push_return(
     alloc: Global,
-    files: &Files,
+    lines: &FileLines<'_>,
     lowered: &Lowered,
     entry: &LoweredTerm,
     (pos, site): (Pos, BindingId),
@@ -311,7 +312,7 @@ fn push_return(
 ) -> Result<(), AllocError> {
     let mut line = String::from_str(alloc, "returns by ")?;
     if let Some(rule) = rule_behind(&entry.rules, pos, site) {
-        push_rule_place(files, lowered, rule, &mut line)?;
+        push_rule_place(lines, lowered, rule, &mut line)?;
     }
     push_line(out, 2, &line)
 }

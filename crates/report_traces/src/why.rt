@@ -8,12 +8,13 @@ use crate::runs::Runs;
 use crate::templates::Sight;
 use cranelift_isle::lower::{Lowered, LoweredTerm};
 use cranelift_isle::sema;
-use cranelift_isle::syntax::{self, Def, Files, Pos};
+use cranelift_isle::syntax::{self, Def, Pos};
 use cranelift_isle::trie_again::Rule;
 use report_errors::explanation::{comes_first, push_title};
 use report_errors::indented_lines::push_line;
 use report_errors::meant_rules::Called;
 use report_errors::names::rule_at;
+use report_print::lines::FileLines;
 use report_queries::names::term_name;
 use report_queries::premises::is_multi;
 use report_witness::conditions::{Conditions, conditions_of};
@@ -27,11 +28,11 @@ const MOST_ANSWERS: usize = 20000;
 
 /// What rules are looked for in, and what answers their calls.
 #[derive(Clone, Copy)]
-pub struct Asking<'a> {
+pub struct Asking<'a, 'f> {
     /// Where memory is asked of.
     pub alloc: Global,
     /// The files of the definitions.
-    pub files: &'a Files,
+    pub lines: &'a FileLines<'f>,
     /// The definitions.
     pub defs: &'a [Def],
     /// Their trees.
@@ -48,18 +49,18 @@ pub struct Asking<'a> {
 /// # Errors
 ///
 /// There is no such rule, or a call that a demand needs has no answer.
-pub fn why<'a>(
-    asking: Asking<'a>,
+pub fn why<'a, 'f>(
+    asking: Asking<'a, 'f>,
     called: &str,
     call: &ReadCall<'a>,
 ) -> Result<String, TraceFault> {
     let alloc = asking.alloc;
-    let found = Called::new(alloc, asking.files, called)?;
-    let mut runs = Runs::new(alloc, asking.lowered, asking.files, asking.replies, false);
+    let found = Called::new(alloc, asking.lines.files(), called)?;
+    let mut runs = Runs::new(alloc, asking.lowered, asking.lines, asking.replies, false);
     let mut out = String::new(alloc);
     for rule in &call.entry.rules.rules {
         if let Some(written) = rule_at(asking.defs, rule.pos) {
-            if found.is(asking.files, written) {
+            if found.is(asking.lines.files(), written) {
                 push_answer(asking, &mut runs, call, (rule, written), &mut out)?;
             }
         }
@@ -75,14 +76,14 @@ pub fn why<'a>(
 }
 
 // Adds whether a rule is taken.
-fn push_answer<'a>(
-    asking: Asking<'a>,
-    runs: &mut Runs<'a>,
+fn push_answer<'a, 'f>(
+    asking: Asking<'a, 'f>,
+    runs: &mut Runs<'a, 'f>,
     call: &ReadCall<'a>,
     (rule, written): (&Rule, &syntax::Rule),
     out: &mut String,
 ) -> Result<(), TraceFault> {
-    push_title(asking.files, asking.lowered, rule, out)?;
+    push_title(asking.lines, asking.lowered, rule, out)?;
     if is_multi(&asking.lowered.termenv, call.entry.id) {
         let args = value_clones(asking.alloc, &call.args)?;
         let ended = runs.run(call.entry, args)?;
@@ -134,9 +135,9 @@ fn push_unmet(
 }
 
 // Adds that a rule that matches is taken, or the rule that comes first.
-fn push_first<'a>(
-    asking: Asking<'a>,
-    runs: &mut Runs<'a>,
+fn push_first<'a, 'f>(
+    asking: Asking<'a, 'f>,
+    runs: &mut Runs<'a, 'f>,
     call: &ReadCall<'a>,
     rule: &Rule,
     out: &mut String,
@@ -153,7 +154,7 @@ fn push_first<'a>(
     match first_above(asking, runs, call.entry, rule, &call.args)? {
         Some(first) => {
             out.push_str(": not taken\n  ")?;
-            push_title(asking.files, asking.lowered, first, out)?;
+            push_title(asking.lines, asking.lowered, first, out)?;
             out.push_str(" matches too, and comes first\n")?;
         }
         None => out.push_str(": taken\n")?,
@@ -162,9 +163,9 @@ fn push_first<'a>(
 }
 
 // The matching rule of greatest priority among those that come before a rule.
-fn first_above<'a>(
-    asking: Asking<'a>,
-    runs: &mut Runs<'a>,
+fn first_above<'a, 'f>(
+    asking: Asking<'a, 'f>,
+    runs: &mut Runs<'a, 'f>,
     entry: &'a LoweredTerm,
     rule: &Rule,
     args: &[Value],
@@ -188,9 +189,9 @@ fn is_higher(rule: &Rule, other: Option<&Rule>) -> bool {
     }
 }
 
-fn matches<'a>(
-    asking: Asking<'a>,
-    runs: &mut Runs<'a>,
+fn matches<'a, 'f>(
+    asking: Asking<'a, 'f>,
+    runs: &mut Runs<'a, 'f>,
     rule: &Rule,
     args: &[Value],
 ) -> Result<bool, TraceFault> {
@@ -205,9 +206,9 @@ fn matches<'a>(
 }
 
 // Whether values meet the demands of the rule at a place: all answers that this needs are made known.
-fn settled<'a>(
-    asking: Asking<'a>,
-    runs: &mut Runs<'a>,
+fn settled<'a, 'f>(
+    asking: Asking<'a, 'f>,
+    runs: &mut Runs<'a, 'f>,
     conditions: &Conditions<'_>,
     pos: Pos,
     args: &[Value],
@@ -231,8 +232,8 @@ fn settled<'a>(
 
 // Whether values meet demands, by the answers that are known.
 fn judged(
-    asking: Asking<'_>,
-    runs: &Runs<'_>,
+    asking: Asking<'_, '_>,
+    runs: &Runs<'_, '_>,
     conditions: &Conditions<'_>,
     args: &[Value],
 ) -> Result<Verdict, AllocError> {
@@ -248,8 +249,8 @@ fn judged(
 
 // Compares a verdict with that of the typed rule, unless the rule's term is multi.
 fn check(
-    asking: Asking<'_>,
-    runs: &Runs<'_>,
+    asking: Asking<'_, '_>,
+    runs: &Runs<'_, '_>,
     pos: Pos,
     args: &[Value],
     met: bool,
