@@ -13,5 +13,6 @@ pub mod names;
 pub mod options;
 pub mod own;
 pub mod program;
+pub mod stubs;
 pub mod taken;
 pub mod types;

@@ -48,13 +48,13 @@ fn push_declaration(out: &mut String, program: Program<'_>, ty: &Type) -> Result
     }
 }
 
-fn is_without_fields(fields: &Fields) -> bool {
+pub(crate) fn is_without_fields(fields: &Fields) -> bool {
     matches!(fields, Fields::Unit)
 }
 
 // Adds what stands above a type: where it is defined, and what is derived. Nothing else may be: the types of fields may lack
 // it, and what is written outside would be there twice.
-fn push_attributes(
+pub(crate) fn push_attributes(
     out: &mut String,
     program: Program<'_>,
     has_fields: bool,
@@ -74,7 +74,7 @@ fn push_attributes(
 }
 
 // Adds the name of a type, after what it is.
-fn push_head(
+pub(crate) fn push_head(
     out: &mut String,
     program: Program<'_>,
     word: &str,
@@ -86,7 +86,7 @@ fn push_head(
 }
 
 // Adds the variants of an enum, each on its line.
-fn push_variants(
+pub(crate) fn push_variants(
     out: &mut String,
     program: Program<'_>,
     variants: &[Variant],
@@ -102,7 +102,11 @@ fn push_variants(
 }
 
 // Adds the fields of a struct, and ends it.
-fn push_struct(out: &mut String, program: Program<'_>, fields: &Fields) -> Result<(), AllocError> {
+pub(crate) fn push_struct(
+    out: &mut String,
+    program: Program<'_>,
+    fields: &Fields,
+) -> Result<(), AllocError> {
     push_fields(out, program, fields, "pub ")?;
     match fields {
         Fields::Struct(_) => out.push('\n'),

@@ -7,9 +7,9 @@ use Rattle.std.specs.Str.{bytes_eq, chars}
 use Rattle.std.proofs.lemmas.Bool.{and_parts, and_from, false≢true, not-true}
 use Rattle.model.proofs.Bytes.{same_bytes}
 use Rattle.rust_items.specs.RustNames.{raw_keywords, path_keywords, is_among, is_word, needs_front, is_identifier, word_for, front, part, is_blank, raw_mark, end_mark, spelled, segments, is_path, joined, raw_segment, spelled_path, truths, spelled_constant, escaped, quoted, are_several}
-use Rattle.model_code.specs.Closed.{is_closed, stays_quoted, all_letters, is_plain_mark, all_plain}
+use Rattle.model_code.specs.Closed.{is_closed, stays_quoted, all_letters, is_plain_mark, all_plain, all_named}
 use Rattle.model_code.proofs.Lexing.{letters_before, decimal_letters, hexadecimal_letters}
-use Rattle.model_code.proofs.Closed.{closed_plain, letters_plain, closed_quoted, stays_together}
+use Rattle.model_code.proofs.Closed.{closed_plain, letters_plain, closed_quoted, stays_together, letters_named, named_before}
 use Rattle.rust_text.specs.ClosedNames.{WrittenNamesAreClosed}
 
 -- 1. texts without quotes and slashes, one behind another
@@ -44,6 +44,17 @@ spelled_plain : (name : List ℕ) → all_plain (spelled name) ≡ true
 spelled_plain name =
     plain_before (raw_mark name ++ part name) (end_mark name) (plain_before (raw_mark name) (part name) (mark_plain name) (letters_plain (part name) (part_letters name)))
     (either_plain (is_among path_keywords name || is_blank (chars name)) (codes "_") [] refl refl)
+
+-- so they are letters and `#`
+either_named : (b : Bool) (x y : List ℕ) → all_named x ≡ true → all_named y ≡ true → all_named (cond b x y) ≡ true
+either_named true x y h k = h
+either_named false x y h k = k
+
+pub spelled_named : (name : List ℕ) → all_named (spelled name) ≡ true
+spelled_named name =
+    named_before (raw_mark name ++ part name) (end_mark name)
+    (named_before (raw_mark name) (part name) (either_named (is_among raw_keywords name) (codes "r#") [] refl refl) (letters_named (part name) (part_letters name)))
+    (either_named (is_among path_keywords name || is_blank (chars name)) (codes "_") [] refl refl)
 
 -- 3. paths
 identifier_plain : (name : List ℕ) → list_all is_word name ≡ true → all_letters name ≡ true

@@ -17,11 +17,11 @@ use Rattle.model_code.specs.Notation.{Callee}
 use Rattle.model_code.specs.Alike.{term_of}
 use Rattle.model_code.specs.ProgramNotation.{callees, fields_of, outside_of}
 use Rattle.model_code.specs.Lexing.{is_letter}
-use Rattle.model_code.specs.Closed.{is_closed, all_letters}
+use Rattle.model_code.specs.Closed.{is_closed, all_letters, all_named}
 use Rattle.model_code.proofs.Lexing.{decimal_letters, hexadecimal_letters}
 use Rattle.model_code.proofs.Closed.{closed_together, closed_letters, closed_names_are_whole_lem}
 use Rattle.rust_items.specs.RustNames.{part, quoted, spelled, spelled_path}
-use Rattle.rust_text.proofs.ClosedNames.{encoded_pass, other_number, written_names_are_closed_lem as written}
+use Rattle.rust_text.proofs.ClosedNames.{encoded_pass, other_number, spelled_named, written_names_are_closed_lem as written}
 use Rattle.rust_items.specs.FilePlaces.{Beginning, Sources, on_line_char, on_line_bytes, on_line, file_written, file_or_unknown, line_number, place_written}
 use Rattle.rust_items.specs.WrittenTypes.{type_written}
 use Rattle.rust_text.specs.ProgramNames.{NameSetting, program_in, variant_in, variant_written, owner_written, one_field_written, field_written, term_part, function_text, function_or_none, list_text, list_or_none, list_at, digits_written, integer_written, int_at, told, names_of}
@@ -122,14 +122,14 @@ owner_closed s (variant_owner ty variant) =
     (variant_closed s.names (variant_in (slice_get s.types ty) variant))
 owner_closed s (struct_owner ty) = type_closed s.names (slice_get s.types ty)
 
-one_field_closed : (names : List (List ℕ)) (o : Option FieldEntry) → is_closed (one_field_written names o) ≡ true
-one_field_closed names None = refl
-one_field_closed names (Some f) = written.name (text_of names f.name)
+one_field_named : (names : List (List ℕ)) (o : Option FieldEntry) → all_named (one_field_written names o) ≡ true
+one_field_named names None = refl
+one_field_named names (Some f) = spelled_named (text_of names f.name)
 
-field_closed : (names : List (List ℕ)) (fields : FieldEntries) (i : ℕ) → is_closed (field_written names fields i) ≡ true
-field_closed names unit_entries i = refl
-field_closed names (struct_entries fields) i = one_field_closed names (slice_get fields i)
-field_closed names (tuple_entries fields) i = refl
+field_named : (names : List (List ℕ)) (fields : FieldEntries) (i : ℕ) → all_named (field_written names fields i) ≡ true
+field_named names unit_entries i = refl
+field_named names (struct_entries fields) i = one_field_named names (slice_get fields i)
+field_named names (tuple_entries fields) i = refl
 
 term_closed : (names : List (List ℕ)) (o : Option TermEntry) → is_closed (term_part names o) ≡ true
 term_closed names None = refl
@@ -191,7 +191,7 @@ told_closed macro message name place h =
 pub names_are_closed_lem : NamesAreClosed
 names_are_closed_lem s = record {
   owner = owner_closed s;
-  field = λ o i. field_closed s.names (fields_of (program_in s) o) i;
+  field = λ o i. field_named s.names (fields_of (program_in s) o) i;
   function = λ n. known_closed s (slice_get (callees (program_in s)) n);
   list = list_at_closed s;
   constant = λ name. written.constant (text_of s.names name);

@@ -1,4 +1,4 @@
--- What is written of names and texts is read by itself: no quotes begin in it that don't end in it, and no comment begins.
+-- What is written of names and texts is read by itself: no quotes begin in it that don't end in it, no comment begins, and no dot stands outside quotes.
 use Rattle.std.specs.Prelude.{◌≡◌, ℕ, true, false, List, decimal}
 use Rattle.std.specs.Fmt.{digits}
 use Rattle.model_code.specs.Closed.{is_closed, all_letters}

@@ -41,6 +41,7 @@ mod pieces;
 mod places;
 pub mod spelling;
 mod statements;
+pub mod stubs;
 pub mod tokens;
 
 /// Names as they are written in Rust, quoted texts and numbers are texts whose quotes end in them, and in which no comment begins.
